@@ -1,0 +1,79 @@
+//! Laws of the book, each the contract of a function that does nothing.
+ghost use Rattle.std.specs.Prelude.{◌≡◌, ℕ, Ok};
+ghost use Rattle.mcs_types.specs.declared.cap.Cap.{Cap};
+ghost use Rattle.mcs_types.specs.declared.id.ObjId.{ObjId};
+ghost use Rattle.mcs_types.specs.declared.record.Queue.{Queue};
+ghost use Rattle.mcs_book.specs.Logs.{Log};
+ghost use Rattle.mcs_book.specs.Queues.{line_of};
+ghost use Rattle.mcs_book.specs.Chains.{chain_of};
+ghost use Rattle.mcs_book.specs.Lookup.{capability};
+ghost use Rattle.mcs_book.specs.Messages.{open_of};
+ghost use Rattle.mcs_book.specs.Notifications.{pending};
+ghost use Rattle.mcs_book.specs.Paths.{IsNamed};
+ghost use Rattle.mcs_book.specs.Growing.{growing_line, threads_in, growing_chain, growing_open, growing_word};
+ghost use Rattle.mcs_book.specs.Sound.{Sound};
+ghost use Rattle.mcs_book.specs.History.{Book, IsLegal, steps_of, book_of};
+ghost use Rattle.mcs_book.specs.Each.{EachRecord, AfterEachLine};
+ghost use Rattle.mcs_book.specs.Fair.{EndsOpen, NoneWaitBeside, SendersAreOpen};
+
+/// A legal book takes or drops each message at most once.
+pub fn taken_once()
+    ghost book: { Book }
+    requires { IsLegal book }
+    ensures { EachRecord EndsOpen book }
+{}
+
+/// After each line of a legal book no sender waits beside a waiting receiver.
+pub fn none_beside()
+    ghost book: { Book }
+    requires { IsLegal book }
+    ensures { AfterEachLine NoneWaitBeside book }
+{}
+
+/// After each line of a legal book a thread stands among the senders of an endpoint exactly where a message of it is open there, and no thread has two.
+pub fn not_cancelled()
+    ghost book: { Book }
+    requires { IsLegal book }
+    ensures { AfterEachLine SendersAreOpen book }
+{}
+
+/// The steps of a legal book, taken again after its boot, make the book.
+pub fn replayed()
+    ghost book: { Book }
+    requires { IsLegal book }
+    ensures { book_of book.boot (steps_of book) ≡ book }
+{}
+
+/// The line that joins, parts and priorities build is the line in order.
+pub fn line_in_order()
+    ghost at: { Log × Queue }
+    requires { Sound at.0 }
+    ensures { line_of at.0 at.1 ≡ threads_in (growing_line at.0 at.1) }
+{}
+
+/// The word that signals build is the bits of the badges raised since it was heard.
+pub fn word_joined()
+    ghost at: { Log × ObjId }
+    ensures { pending at.0 at.1 ≡ growing_word at.0 at.1 }
+{}
+
+/// The open message that records leave to a thread is the one found among those sent.
+pub fn open_found()
+    ghost at: { Log × ObjId }
+    requires { Sound at.0 }
+    ensures { open_of at.0 at.1 ≡ growing_open at.0 at.1 }
+{}
+
+/// A capability that lookup finds at an address is the one that a path names.
+pub fn found_named()
+    ghost at: { Log × ObjId × ℕ × Cap }
+    requires { capability at.0 at.1 at.2 ≡ Ok at.3 }
+    ensures { IsNamed at.0 at.1 at.2 at.3 }
+{}
+
+/// The chain that debts push and endings cut is the chain of the debts that are kept.
+pub fn chain_kept()
+    ghost at: { Log × ObjId }
+    requires { Sound at.0 }
+    ensures { chain_of at.0 at.1 ≡ growing_chain at.0 at.1 }
+{}

@@ -1,0 +1,176 @@
+ghost use Rattle.std.specs.Prelude.{◌≡◌, ◌<◌, ◌≤◌, position, vec_len, vec_capacity, nat_lt, ◌&&◌, is_none};
+ghost use Rattle.mcs_types.specs.Waiters.{first_waiter};
+ghost use Rattle.mcs_queues.specs.Numbers.{thread_number, line_number};
+ghost use Rattle.mcs_queues.specs.Rows.{is_of, is_lower, enters, leaves, line_in, place_in};
+
+use crate::lines::{LineNo, Lines, ThreadNo};
+use mcs_types::{OutOfMemory, Prio};
+use std::alloc::Global;
+use std::marker::Model;
+
+/// A thread in its line.
+#[derive(Clone, Copy)]
+struct Row {
+    thread: ThreadNo,
+    line: LineNo,
+    priority: Prio,
+}
+
+/// All lines in one list of rows: a row for each thread that stands in a line, and the rows of a line in that line's order.
+/// One list, so that nothing in it can disagree and its text is short enough to read; each call walks it for that. `new`
+/// takes room for a row of every thread.
+#[derive(Drop)]
+pub struct PlainLines {
+    rows: Vec<Row>,
+    threads: u16,
+    lines: u16,
+}
+
+impl Model for PlainLines {
+    ghost use Rattle.std.specs.Prelude.{ℕ, ◌≤◌, vec_capacity, vec_len};
+    ghost use Rattle.mcs_types.specs.Waiters.{NeverRises};
+    ghost use Rattle.mcs_queues.specs.Rows.{Rows, Kept, line_in};
+
+    ghost Value = { Rows };
+
+    ghost view = { λ s. record { rows = s.rows.items; threads = s.threads; lines = s.lines } };
+
+    ghost invariant = { λ s. (s.threads ≤ vec_capacity s.rows) × Kept s.threads s.lines s.rows.items × ((k : ℕ) → NeverRises (line_in s.rows.items k)) };
+}
+
+/// Where the row of a thread stands.
+fn row_of(rows: &[Row], t: ThreadNo) -> Option<usize>
+    ensures { result ≡ position (is_of t.0) rows.now }
+{
+    rows.iter().position(|row| row.thread.0 == t.0)
+}
+
+/// Where the first row of a lower priority stands in a line.
+fn first_lower(rows: &[Row], q: LineNo, p: Prio) -> Option<usize>
+    ensures { result ≡ position (is_lower q.0 p.0) rows.now }
+{
+    rows.iter()
+        .position(|row| row.line.0 == q.0 && row.priority.0 < p.0)
+}
+
+/// The line of a thread.
+fn line_of(rows: &[Row], t: ThreadNo) -> Option<LineNo>
+    ensures { line_number result ≡ place_in rows.now t.0 }
+{
+    for row in rows {
+        if row.thread.0 == t.0 {
+            return Some(row.line);
+        }
+    }
+    None
+}
+
+/// Whether a thread may join a line.
+fn may_enter(rows: &[Row], threads: u16, lines: u16, t: ThreadNo, q: LineNo) -> bool
+    ensures { result ≡ (nat_lt t.0 threads && nat_lt q.0 lines && is_none (place_in rows.now t.0)) }
+{
+    t.0 < threads && q.0 < lines && line_of(rows, t).is_none()
+}
+
+/// Puts a row behind all of its line with its priority or a greater one. There is room for it.
+fn enter(rows: &mut Vec<Row>, row: Row)
+    requires { vec_len rows.old < vec_capacity rows.old }
+    ensures items { rows.new.items ≡ enters row rows.old.items }
+    ensures capacity { vec_capacity rows.old ≤ vec_capacity rows.new }
+{
+    let place = first_lower(rows, row.line, row.priority).unwrap_or(rows.len());
+    match rows.insert(place, row) {
+        Ok(()) => {}
+        Err(_) => unreachable!(),
+    }
+}
+
+/// Takes out the row of a thread, and gives its line.
+fn leave(rows: &mut Vec<Row>, t: ThreadNo) -> Option<LineNo>
+    ensures items { rows.new.items ≡ leaves t.0 rows.old.items }
+    ensures capacity { vec_capacity rows.new ≡ vec_capacity rows.old }
+    ensures line { line_number result ≡ place_in rows.old.items t.0 }
+{
+    let place = row_of(rows, t)?;
+    let row = rows.remove(place);
+    Some(row.line)
+}
+
+/// The first thread of a line.
+fn first_in(rows: &[Row], q: LineNo) -> Option<ThreadNo>
+    ensures { thread_number result ≡ first_waiter (line_in rows.now q.0) }
+{
+    for row in rows {
+        if row.line.0 == q.0 {
+            return Some(row.thread);
+        }
+    }
+    None
+}
+
+impl Lines for PlainLines {
+    ghost use Rattle.std.specs.Prelude.{◌≡◌};
+    ghost use Rattle.mcs_queues.specs.Rows.{Rows, line_in, place_in};
+
+    ghost line = { λ s. line_in s.rows };
+
+    ghost place = { λ s. place_in s.rows };
+
+    ghost thread_room = { λ s. s.threads };
+
+    ghost line_room = { λ s. s.lines };
+
+    fn new(alloc: Global, threads: u16, lines: u16) -> Result<PlainLines, OutOfMemory> {
+        Ok(PlainLines {
+            rows: Vec::with_capacity(alloc, threads as usize)?,
+            threads,
+            lines,
+        })
+    }
+
+    fn join(&mut self, t: ThreadNo, q: LineNo, p: Prio) -> bool {
+        let may = may_enter(&self.rows, self.threads, self.lines, t, q);
+        if may {
+            let row = Row {
+                thread: t,
+                line: q,
+                priority: p,
+            };
+            enter(&mut self.rows, row);
+        }
+        may
+    }
+
+    fn first(&self, q: LineNo) -> Option<ThreadNo> {
+        first_in(&self.rows, q)
+    }
+
+    fn next(&self, t: ThreadNo) -> Option<ThreadNo> {
+        let place = row_of(&self.rows, t)?;
+        let line = self.rows[place].line;
+        first_in(&self.rows[place + 1..], line)
+    }
+
+    fn part(&mut self, t: ThreadNo) -> Option<LineNo> {
+        leave(&mut self.rows, t)
+    }
+
+    fn shift(&mut self, t: ThreadNo, p: Prio) -> bool {
+        match leave(&mut self.rows, t) {
+            None => false,
+            Some(line) => {
+                let row = Row {
+                    thread: t,
+                    line,
+                    priority: p,
+                };
+                enter(&mut self.rows, row);
+                true
+            }
+        }
+    }
+
+    fn where_is(&self, t: ThreadNo) -> Option<LineNo> {
+        line_of(&self.rows, t)
+    }
+}

@@ -1,0 +1,11 @@
+pub mod Columns
+pub mod Numbering
+pub mod Turning
+pub mod Lining
+pub mod Lettering
+pub mod Making
+pub mod Naming
+pub mod Bits
+pub mod Opening
+pub mod Answering
+pub mod Looking

@@ -1,0 +1,153 @@
+-- The tables of a state in which nothing is made, and after the records in hand moved to the book.
+use Rattle.std.specs.Prelude.{ℕ, ◌≡◌, ◌≢◌, ◌<◌, ◌≤◌, ◌+◌, ◌-◌, ◌*◌, ◌∷◌, ◌==◌, ◌&&◌, Bool, true, false, cond, if◌then◌else◌, List, [], map, length, slice_index_or, slice_set, Option, Some, None, is_none, is_some, unwrap_or, nat_lt}
+use Rattle.std.proofs.Common.{refl, ap, sym, ◌∙◌, subst, arith, append_assoc}
+use Rattle.std.proofs.lemmas.Bool.{eqb-true, eq-eqb}
+use Rattle.std.proofs.lemmas.Grind.{common_steps}
+use Rattle.mcs_types.specs.Views.{Content}
+use Rattle.mcs_types.specs.declared.id.ObjId.{ObjId}
+use Rattle.mcs_types.specs.declared.id.Kind.{Kind}
+use Rattle.mcs_types.specs.declared.id.Kind.TheVariants as kind
+use Rattle.mcs_types.specs.declared.id.Prio.{Prio}
+use Rattle.mcs_types.specs.declared.id.Badge.{Badge}
+use Rattle.mcs_types.specs.declared.cap.Cap.{Cap}
+use Rattle.mcs_types.specs.declared.record.Form.{Form}
+use Rattle.mcs_types.specs.declared.record.Form.TheVariants as form
+use Rattle.mcs_types.specs.declared.record.Letter.{Letter}
+use Rattle.mcs_types.specs.declared.record.SendMode.{SendMode}
+use Rattle.mcs_types.specs.declared.record.Mode.{Mode}
+use Rattle.mcs_types.specs.declared.record.Queue.{Queue}
+use Rattle.mcs_types.specs.declared.record.Queue.TheVariants.{Senders, Receivers, Waiters}
+use Rattle.mcs_types.specs.declared.record.Rec.{Rec}
+use Rattle.mcs_types.specs.declared.record.Rec.TheVariants as rec
+use Rattle.mcs_types.specs.Waiters.{Waiter, insert_behind, without}
+use Rattle.mcs_book.specs.Logs.{Log, counted, given, same}
+use Rattle.mcs_book.specs.Objects.{was_made, is_alive, makes_kind, next_id, form_of}
+use Rattle.mcs_book.specs.Queues.{queue_of, same_queue, is_queue}
+use Rattle.mcs_book.specs.Growing.{Waiter as Standing, insert_behind as put_behind, without as all_but, shifted, is_among, growing_line, growing_open, unless_number}
+use Rattle.mcs_book.specs.Sound.{Allowed, Sound, IsThere, IsLineThere}
+use Rattle.mcs_book.specs.Messages.{is_sent, next_message, letter, open_of}
+use Rattle.mcs_book.specs.Served.{IsServedRecord}
+use Rattle.mcs_state.specs.declared.rows.ThreadRow.{ThreadRow}
+use Rattle.mcs_state.specs.declared.rows.ContextRow.{ContextRow}
+use Rattle.mcs_state.specs.declared.rows.Counts.{Counts}
+use Rattle.mcs_state.specs.Numbers.{thread_at, context_at, object_at, the_cnode, IsName, IsLineName, line_number, number_of_line, standing}
+use Rattle.mcs_state.specs.Tables.{ROOM, HAND, LINES, CountsAgree, ThreadsAgree, LettersAgree, ContextsAgree, SlotsAgree, LinesAgree, LogAgrees, Agrees}
+use Rattle.mcs_state.proofs.Columns.{column-set, column-kept, given-here, given-other}
+use Rattle.std.specs.Prelude.{zero, suc, replicate, ◌++◌, reverse}
+use Rattle.std.proofs.lemmas.List.{get_or-replicate, reverse-append}
+use Rattle.mcs_types.specs.declared.boot.BootLine.{BootLine}
+use Rattle.mcs_types.specs.declared.boot.BootLine.TheVariants as boot
+use Rattle.mcs_book.specs.Logs.{onto}
+use Rattle.mcs_book.specs.Boots.{boot_line, boot_log, begins_with}
+use Rattle.mcs_book.specs.History.{Line, past, Book, log_of}
+use Rattle.mcs_state.specs.Tables.{AreNone, blank_thread, blank_context}
+use Rattle.mcs_state.proofs.Naming.{counted-le}
+
+-- a book without lines has no records
+pub log-empty : (b : Book) → b.boot.lines ≡ [] → b.lines ≡ [] → log_of b ≡ []
+unfolding boot_log
+log-empty b e f = ap (λ ls. past (boot_log b.boot.lines) ls) f ∙ ap (λ ls. boot_log ls) e
+
+-- one place more with nothing in it
+pub none-more : {A : Type 0} (xs : List (Option A)) → AreNone xs → AreNone (xs ++ None ∷ [])
+none-more [] h = (refl, tt)
+none-more (x ∷ xs) h = (h.0, none-more xs h.1)
+
+none-at : {A : Type 0} (xs : List (Option A)) (i : ℕ) (d : Option A) → AreNone xs → i < length xs → slice_index_or xs i d ≡ None
+none-at [] i d h lt = absurd (omega (arith, lt))
+none-at (x ∷ xs) zero d h lt = h.0
+none-at (x ∷ xs) (suc i) d h lt = none-at xs i d h.1 (omega (arith, lt))
+
+pub blank-agrees : (line : ℕ → List Waiter) (place : ℕ → Option ℕ) (letters : List (Option Letter)) (slots : List (Option Cap)) (R : Log) → R ≡ []
+    → length letters ≡ ROOM → AreNone letters → length slots ≡ ROOM → AreNone slots → ((k : ℕ) → line k ≡ []) → ((u : ℕ) → place u ≡ None)
+    → Agrees (record { cnodes = 0; threads = 0; endpoints = 0; notifications = 0; replies = 0; contexts = 0 }) (replicate ROOM blank_thread) letters (replicate ROOM blank_context) None slots line place 0 0 [] R
+blank-agrees line place letters slots R none letters_len blank slots_len unfilled empty nowhere = rw none (record {
+  of_counts = record {
+    cnodes = refl;
+    threads = refl;
+    endpoints = refl;
+    notifications = refl;
+    replies = refl;
+    contexts = refl;
+    few_cnodes = omega arith;
+    few_threads = omega arith;
+    few_endpoints = omega arith;
+    few_notifications = omega arith;
+    few_replies = omega arith;
+    few_contexts = omega arith;
+  };
+  of_threads = record {
+    form = λ i d lt. ap (λ q. q.form) (get_or-replicate ROOM i blank_thread d lt);
+    priority = λ i d lt. ap (λ q. q.priority.0) (get_or-replicate ROOM i blank_thread d lt);
+    mode = λ i d lt. ap (λ q. q.mode) (get_or-replicate ROOM i blank_thread d lt);
+    queue = λ i d lt. ap (λ q. q.queue) (get_or-replicate ROOM i blank_thread d lt);
+    reply = λ i d lt. ap (λ q. q.reply) (get_or-replicate ROOM i blank_thread d lt);
+  };
+  of_letters = λ i d lt. none-at letters i d blank (omega (arith, lt, letters_len));
+  of_contexts = record {
+    form = λ i d lt. ap (λ q. q.form) (get_or-replicate ROOM i blank_context d lt);
+    holder = λ i d lt. ap (λ q. q.holder) (get_or-replicate ROOM i blank_context d lt);
+  };
+  of_slots = record {
+    form_is = refl;
+    slots_are = λ i d lt. none-at slots i d unfilled (omega (arith, lt, slots_len));
+  };
+  of_lines = record {
+    lines = λ q good. sym (ap (λ vs. map standing vs) (empty (line_number q)));
+    places = λ i lt. nowhere i;
+  };
+  of_log = record {
+    sent_are = refl;
+    sent_few = omega arith;
+    hand_few = omega arith;
+    served = tt;
+    sound = tt;
+  };
+})
+
+-- the records in hand are those of a log that moved elsewhere
+pub moved-agrees : {counts : Counts} {threads : List ThreadRow} {letters : List (Option Letter)} {contexts : List ContextRow} {cnode : Option Form} {slots : List (Option Cap)}
+    {line : ℕ → List Waiter} {place : ℕ → Option ℕ} {sent lines : ℕ} {hand R : Log} (lines' : ℕ) (R' : Log)
+    → R' ≡ R → sent ≤ HAND * lines'
+    → Agrees counts threads letters contexts cnode slots line place sent lines hand R
+    → Agrees counts threads letters contexts cnode slots line place sent lines' [] R'
+moved-agrees lines' R' e few a = rw e (record {
+  of_counts = a.of_counts;
+  of_threads = a.of_threads;
+  of_letters = a.of_letters;
+  of_contexts = a.of_contexts;
+  of_slots = a.of_slots;
+  of_lines = a.of_lines;
+  of_log = record {
+    sent_are = a.of_log.sent_are;
+    sent_few = omega (arith, few);
+    hand_few = omega arith;
+    served = a.of_log.served;
+    sound = a.of_log.sound;
+  };
+})
+
+-- records on top of others
+pub onto-top : (made hand R : Log) → onto made (hand ++ R) ≡ onto made hand ++ R
+onto-top [] hand R = refl
+onto-top (rec ∷ made) hand R = onto-top made (rec ∷ hand) R
+
+-- the records in hand, in the order in which they were made, on top of others
+pub onto-reverse : (rs R : List Rec) → onto rs R ≡ reverse rs ++ R
+onto-reverse [] R = refl
+onto-reverse (r ∷ rs) R = onto-reverse rs (r ∷ R) ∙ sym (append_assoc (reverse rs) (r ∷ []) R) ∙ ap (λ w. w ++ R) (sym (reverse-append (r ∷ []) rs))
+
+-- a line of the boot sends nothing
+pub boot-sends-none : (R : Log) (line : BootLine) → counted is_sent (onto (boot_line R line) []) ≡ 0
+boot-sends-none R (boot.Thread priority maximum root guard runs (Some s)) = refl
+boot-sends-none R (boot.Thread priority maximum root guard runs None) = refl
+boot-sends-none R _ = refl
+
+-- the records in hand are those of the line that the boot gets
+pub boot-moved : (bs : List BootLine) (ls : List Line) (line : BootLine) (hand : Log) → ls ≡ [] → hand ≡ onto (boot_line (past (boot_log bs) ls) line) []
+    → past (boot_log (line ∷ bs)) ls ≡ hand ++ past (boot_log bs) ls
+unfolding boot_log
+boot-moved bs ls line hand none is = go none is
+  where
+    go : ls ≡ [] → hand ≡ onto (boot_line (past (boot_log bs) ls) line) [] → past (boot_log (line ∷ bs)) ls ≡ hand ++ past (boot_log bs) ls
+    go n h = rw (h, n) (onto-top (boot_line (boot_log bs) line) [] (boot_log bs))

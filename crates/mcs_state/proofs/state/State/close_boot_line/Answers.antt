@@ -1,0 +1,47 @@
+use Rattle.std.proofs.Common.{◌≡◌, ◌≤◌, ◌<◌, ◌+◌, ◌*◌, ◌++◌, ◌∷◌, length, vec_len, vec_capacity, reverse, refl, sym, ◌∙◌, subst, ap, arith, Some, None, Option}
+use Rattle.std.proofs.lemmas.List.{reverse-append}
+use Rattle.mcs_types.specs.declared.id.ObjId.{ObjId}
+use Rattle.mcs_types.specs.declared.id.Kind.TheVariants as kind
+use Rattle.mcs_types.specs.declared.cap.Cap.{Cap}
+use Rattle.mcs_types.specs.declared.record.Form.{Form}
+use Rattle.mcs_types.specs.declared.record.Form.TheVariants as form
+use Rattle.mcs_types.specs.declared.record.Letter.{Letter}
+use Rattle.mcs_types.specs.declared.record.Rec.TheVariants as rec
+use Rattle.mcs_book.specs.Logs.{Log, counted}
+use Rattle.mcs_book.specs.Objects.{next_id, makes_kind}
+use Rattle.mcs_book.specs.Queues.{queue_of}
+use Rattle.mcs_book.specs.Messages.{open_of, is_sent}
+use Rattle.mcs_book.specs.History.{Book, Line, log_of}
+use Rattle.mcs_book.specs.Boots.{boot_line}
+use Rattle.mcs_book.specs.Logs.{onto}
+use Rattle.std.proofs.Common.{List, []}
+use Rattle.mcs_book.specs.Sound.{Allowed}
+use Rattle.mcs_book.proofs.OpenLaws.{open_of-growing}
+use Rattle.mcs_book.specs.Growing.{growing_open}
+use Rattle.mcs_state.specs.Numbers.{object_at, thread_at, context_at, the_cnode, IsLineName}
+use Rattle.mcs_state.specs.Now.{Now, so_far, IsNumberOf}
+use Rattle.mcs_state.specs.Tables.{HAND, ROOM}
+use Rattle.mcs_state.proofs.Opening.{moved-agrees, boot-moved, boot-sends-none}
+use Rattle.mcs_state.proofs.state.State.close_boot_line.Goals as goal
+
+pub invariant_of-self : goal.invariant_of-self
+invariant_of-self g c =
+    let i = c.self.invariant in
+    let hand : Log = reverse c.self.inside.hand.items in
+    let book : Book = c.self.inside.book.book in
+    let P : Now → Type 0 = λ n. (n.book.lines ≡ []) × (n.hand ≡ onto (boot_line (log_of n.book) c.args.line) []) in
+    let was : P (record { book = book; hand = hand; boot_room = c.self.inside.book.boot_room; room = c.self.inside.book.room }) = subst P (sym c.self.view_is) (c.requires.boot, c.requires.records) in
+    let none = ap (λ (h : Log). counted is_sent h) was.1 ∙ boot-sends-none (log_of book) c.args.line in
+    let empty = ap (λ (ls : List Line). length ls) was.0 in
+    let kept = ap (λ (b : Book). length b.lines) c.add_boot_line.ensures in
+    let few : c.self.inside.sent ≤ HAND * length c.add_boot_line.new.self.book.lines = omega (arith, i.7.of_log.sent_few, none, empty, kept) in
+    let same : log_of c.add_boot_line.new.self.book ≡ hand ++ log_of book = ap (λ (b : Book). log_of b) c.add_boot_line.ensures ∙ boot-moved book.boot.lines book.lines c.args.line hand was.0 was.1 in (
+      omega (arith, i.0, c.clear.ensures.capacity),
+      i.1,
+      i.2,
+      i.3,
+      i.4,
+      i.5,
+      i.6,
+      rw c.clear.ensures.items (moved-agrees (length c.add_boot_line.new.self.book.lines) (log_of c.add_boot_line.new.self.book) same few i.7),
+    )

@@ -1,0 +1,167 @@
+//! Questions to the tables: each answers its definition over all records so far.
+ghost use Rattle.std.specs.Prelude.{ℕ, ◌≡◌, ◌<◌, ◌≤◌, ◌&&◌, if◌then◌else◌, IfSome, IfOk, Some, None, Option, option_copied, length};
+ghost use Rattle.mcs_types.specs.declared.id.Kind.{Kind};
+ghost use Rattle.mcs_types.specs.declared.record.Queue.{Queue};
+ghost use Rattle.mcs_book.specs.Logs.{counted, same_kind};
+ghost use Rattle.mcs_book.specs.Objects.{makes_kind, was_made, form_of};
+ghost use Rattle.mcs_book.specs.Slots.{slot};
+ghost use Rattle.mcs_book.specs.Threads.{mode_of};
+ghost use Rattle.mcs_book.specs.Queues.{queue_of, first_in};
+ghost use Rattle.mcs_book.specs.Messages.{next_message, open_of};
+ghost use Rattle.mcs_book.specs.Contexts.{holder_of, context_of};
+ghost use Rattle.mcs_book.specs.Replies.{receiver_with};
+ghost use Rattle.mcs_book.specs.Standing.{status_of, is_on_core};
+ghost use Rattle.mcs_book.specs.Lookup.{radix_kept, capability};
+ghost use Rattle.mcs_book.specs.Sound.{Sound, IsLineThere};
+ghost use Rattle.mcs_book.specs.Served.{AreServed};
+ghost use Rattle.mcs_state.specs.Numbers.{thread_at, context_at, object_at, the_cnode, thread_of, IsName};
+ghost use Rattle.mcs_state.specs.Now.{so_far};
+ghost use Rattle.mcs_state.specs.Tables.{ROOM};
+
+use super::State;
+use crate::lookup::slot_index;
+use crate::numbers::{ContextNo, line_no, object_no, thread_named, thread_no};
+use crate::rows::{cap_in, is_on, last_held, last_receiver, radix_in, root_in};
+use mcs_queues::{Lines, ThreadNo};
+use mcs_types::{Cap, CoreId, Form, Kind, Letter, Mode, ObjId, Queue, Refusal, Status};
+
+impl<L: Lines> State<L> {
+    /// How many objects of a kind were made.
+    #[tactic(auto, using(crate::proofs::Answering::count_is, crate::proofs::Answering::count_few))]
+    pub fn made(&self, kind: Kind) -> u16
+        ensures count { result ≡ counted (makes_kind kind) (so_far self.now) }
+        ensures few { result ≤ ROOM }
+    {
+        self.counts.of(kind)
+    }
+
+    /// How many messages were accepted.
+    pub fn next_message(&self) -> u32
+        ensures { result ≡ next_message (so_far self.now) }
+    {
+        self.sent
+    }
+
+    /// The mode of a thread.
+    pub fn mode(&self, thread: ThreadNo) -> Mode
+        requires { thread.0 < ROOM }
+        ensures { result ≡ mode_of (so_far self.now) (thread_at thread.0) }
+    {
+        self.threads[thread.0 as usize].mode
+    }
+
+    /// The line in which a thread stands.
+    pub fn queue(&self, thread: ThreadNo) -> Option<Queue>
+        requires { thread.0 < ROOM }
+        ensures { result ≡ queue_of (so_far self.now) (thread_at thread.0) }
+    {
+        self.threads[thread.0 as usize].queue
+    }
+
+    /// The thread that holds a context.
+    pub fn holder(&self, context: ContextNo) -> Option<ObjId>
+        requires { context.0 < ROOM }
+        ensures { result ≡ holder_of (so_far self.now) (context_at context.0) }
+    {
+        self.contexts[context.0 as usize].holder
+    }
+
+    /// The capability in a slot of the CNode.
+    pub fn slot(&self, index: u8) -> Option<Cap>
+        ensures { result ≡ slot (so_far self.now) the_cnode index }
+    {
+        self.slots[index as usize]
+    }
+
+    /// How many bits name a slot of the CNode; 0 where it is not made.
+    pub fn radix(&self) -> u8
+        ensures { result ≡ radix_kept (form_of (so_far self.now) the_cnode) }
+    {
+        radix_in(self.cnode)
+    }
+
+    /// The open message of a thread.
+    #[tactic(auto, using(crate::proofs::Answering::open_is))]
+    pub fn letter(&self, thread: ThreadNo) -> Option<&Letter>
+        requires { thread.0 < ROOM }
+        ensures { option_copied result ≡ open_of (so_far self.now) (thread_at thread.0) }
+    {
+        self.letters[thread.0 as usize].as_ref()
+    }
+
+    /// Each record was allowed when it was made, and is of a kind that is served.
+    pub fn is_sound(&self)
+        ensures sound { Sound (so_far self.now) }
+        ensures served { AreServed (so_far self.now) }
+    {
+        let _ = &self.sent;
+    }
+
+    /// The number of a thread that was made.
+    pub fn thread(&self, id: ObjId) -> Option<ThreadNo>
+        ensures thread { thread_of result ≡ (if same_kind id.kind Kind.Thread && was_made (so_far self.now) id then Some id else None) }
+        ensures known { IfSome result (λ t. t.0 < ROOM) }
+    {
+        thread_named(id, self.counts.threads)
+    }
+
+    /// What a thread does; None for what is no thread or was never made.
+    pub fn status(&self, id: ObjId) -> Option<Status>
+        ensures { result ≡ status_of (so_far self.now) id }
+    {
+        match self.thread(id) {
+            None => None,
+            Some(thread) => Some(self.threads[thread.0 as usize].status()),
+        }
+    }
+
+    /// The context that a thread holds.
+    pub fn context(&self, thread: ObjId) -> Option<ObjId>
+        ensures { result ≡ context_of (so_far self.now) thread }
+    {
+        object_no(
+            Kind::Context,
+            last_held(&self.contexts, self.counts.contexts, thread),
+        )
+    }
+
+    /// Whether a context is of this core.
+    pub fn runs_on(&self, context: ObjId, core: CoreId) -> bool
+        requires { IsName Kind.Context context }
+        ensures { result ≡ is_on_core core (form_of (so_far self.now) context) }
+    {
+        is_on(self.contexts[(context.serial - 1) as usize].form, core)
+    }
+
+    /// The first thread of a line.
+    pub fn first(&self, queue: Queue) -> Option<ThreadNo>
+        requires { IsLineThere (so_far self.now) queue }
+        ensures first { thread_of result ≡ first_in (so_far self.now) queue }
+        ensures known { IfSome result (λ t. t.0 < ROOM) }
+    {
+        self.lines.first(line_no(queue))
+    }
+
+    /// The thread that receives with a reply object.
+    pub fn receiver_with(&self, reply: ObjId) -> Option<ThreadNo>
+        ensures receiver { thread_of result ≡ receiver_with (so_far self.now) reply }
+        ensures known { IfSome result (λ t. t.0 < ROOM) }
+    {
+        thread_no(last_receiver(&self.threads, self.counts.threads, reply))
+    }
+
+    /// The capability that a thread names by an address: Missing where there is none, GuardMismatch and DepthMismatch
+    /// where the address leads nowhere.
+    pub fn capability(&self, thread: ThreadNo, address: u64) -> Result<Cap, Refusal>
+        requires { thread.0 < ROOM }
+        ensures { result ≡ capability (so_far self.now) (thread_at thread.0) address }
+    {
+        match root_in(self.threads[thread.0 as usize].form) {
+            None => Err(Refusal::Missing),
+            Some(root) => match slot_index(root.guard, radix_in(self.cnode), address) {
+                Err(refusal) => Err(refusal),
+                Ok(index) => cap_in(self.slots[index as usize]),
+            },
+        }
+    }
+}
