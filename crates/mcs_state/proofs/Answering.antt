@@ -133,7 +133,7 @@ unfolding owing
 none-owing R x h = find-none (λ r. is_just (owed_by R r) x) (replies R) (λ r. ap (λ o. is_just o x) (none-owed R r h))
 
 -- an object was made exactly where its serial is one of those of its kind
-made-from : (R : Log) (o : ObjId) → Sound R → 1 ≤ o.serial → o.serial ≤ counted (makes_kind o.kind) R → was_made R o ≡ true
+pub made-from : (R : Log) (o : ObjId) → Sound R → 1 ≤ o.serial → o.serial ≤ counted (makes_kind o.kind) R → was_made R o ≡ true
 made-from [] o sound low high = absurd (omega (arith, low, high))
 made-from (Made u form ∷ R) o sound low high = go (same o u) refl (same_kind u.kind o.kind) refl high (made-from R o sound.1 low)
   where
@@ -257,3 +257,8 @@ none-given false x e = refl
 pub some-given : (b : Bool) (x y : ObjId) → Some y ≡ (if b then Some x else None) → (b ≡ true) × (y ≡ x)
 some-given true x y e = (refl, cc)
 some-given false x y e = absurd cc
+
+-- the object of a number below the room has a name
+pub name-below : (k : Kind) (m : Option ℕ) (n : ℕ) → n ≤ ROOM → IfSome m (λ i. i < n) → IfSome (object_of k m) (IsName k)
+name-below k None n few h = tt
+name-below k (Some i) n few h = (refl, omega arith, omega (arith, h, few))

@@ -6,5 +6,5 @@ mod numbers;
 mod rows;
 mod state;
 
-pub use numbers::ContextNo;
+pub use numbers::{ContextNo, is_same_kind, thread_id};
 pub use state::State;

@@ -16,7 +16,7 @@ ghost use Rattle.mcs_book.specs.Sound.{Sound, IsLineThere};
 ghost use Rattle.mcs_book.specs.Served.{AreServed};
 ghost use Rattle.mcs_state.specs.Numbers.{thread_at, context_at, object_at, the_cnode, thread_of, IsName};
 ghost use Rattle.mcs_state.specs.Now.{so_far};
-ghost use Rattle.mcs_state.specs.Tables.{ROOM};
+ghost use Rattle.mcs_state.specs.Tables.{HAND, ROOM};
 
 use super::State;
 use crate::lookup::slot_index;
@@ -89,10 +89,12 @@ impl<L: Lines> State<L> {
         self.letters[thread.0 as usize].as_ref()
     }
 
-    /// Each record was allowed when it was made, and is of a kind that is served.
+    /// Each record was allowed when it was made, and is of a kind that is served; there is at most one CNode.
     pub fn is_sound(&self)
+        ensures few { length self.now.hand ≤ HAND }
         ensures sound { Sound (so_far self.now) }
         ensures served { AreServed (so_far self.now) }
+        ensures cnodes { counted (makes_kind Kind.CNode) (so_far self.now) ≤ 1 }
     {
         let _ = &self.sent;
     }
@@ -117,7 +119,8 @@ impl<L: Lines> State<L> {
 
     /// The context that a thread holds.
     pub fn context(&self, thread: ObjId) -> Option<ObjId>
-        ensures { result ≡ context_of (so_far self.now) thread }
+        ensures context { result ≡ context_of (so_far self.now) thread }
+        ensures known { IfSome result (IsName Kind.Context) }
     {
         object_no(
             Kind::Context,

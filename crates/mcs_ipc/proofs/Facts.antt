@@ -1,0 +1,193 @@
+-- What holds of a thread that enters, and of one that is first in a line.
+use Rattle.std.specs.Option.{IfSome}
+use Rattle.std.specs.Prelude.{ℕ, ◌==◌, ◌||◌, unwrap_or, Ok, Err, ◌≡◌, ◌≢◌, ◌<◌, ◌≤◌, ◌+◌, ◌&&◌, Bool, true, false, not, cond, List, [], ◌∷◌, Option, Some, None, IsTrue}
+use Rattle.std.proofs.Common.{refl, ap, sym, ◌∙◌, subst, arith}
+use Rattle.mcs_types.specs.Views.{Content}
+use Rattle.mcs_types.specs.declared.id.ObjId.{ObjId}
+use Rattle.mcs_types.specs.declared.id.Badge.{Badge}
+use Rattle.mcs_types.specs.declared.id.Kind.{Kind}
+use Rattle.mcs_types.specs.declared.id.Kind.TheVariants as kind
+use Rattle.mcs_types.specs.declared.cap.Cap.{Cap}
+use Rattle.mcs_types.specs.declared.record.Letter.{Letter}
+use Rattle.mcs_types.specs.declared.record.Mode.{Mode}
+use Rattle.mcs_types.specs.declared.record.Mode.TheVariants.{Running, Restart, Inactive}
+use Rattle.mcs_types.specs.declared.record.Queue.{Queue}
+use Rattle.mcs_types.specs.declared.record.Queue.TheVariants.{Senders, Receivers, Waiters}
+use Rattle.mcs_types.specs.declared.record.SendMode.{SendMode}
+use Rattle.mcs_types.specs.declared.record.SendMode.TheVariants as how
+use Rattle.mcs_types.specs.declared.record.Rec.{Rec}
+use Rattle.mcs_types.specs.declared.record.Rec.TheVariants as rec
+use Rattle.mcs_types.specs.declared.entry.Answer.TheVariants.{Done, Waits}
+use Rattle.mcs_book.specs.Logs.{Log, onto, same, counted, given}
+use Rattle.mcs_book.specs.Slots.{slot}
+use Rattle.mcs_book.specs.Checks.{Checked}
+use Rattle.mcs_book.specs.Rights.{is_kind, may_write, may_read}
+use Rattle.mcs_book.specs.Lookup.{capability}
+use Rattle.mcs_book.specs.Paths.{IsNamed}
+use Rattle.mcs_book.proofs.PathLaws.{capability-named}
+use Rattle.mcs_types.specs.declared.entry.Refusal.TheVariants.{WrongKind, NoRight}
+use Rattle.mcs_ipc.specs.declared.checks.Receiving.{Receiving}
+use Rattle.mcs_book.specs.Objects.{was_made, was_closed, is_alive, makes_kind}
+use Rattle.mcs_book.specs.Threads.{threads, mode_of}
+use Rattle.mcs_book.specs.Queues.{queue_of, first_in}
+use Rattle.mcs_book.specs.Messages.{next_message, is_open, open_of}
+use Rattle.mcs_book.specs.Pieces.{Outcome, ◌then◌}
+use Rattle.mcs_book.specs.Taking.{handed}
+use Rattle.mcs_book.specs.Sending.{sends_to, sends, queues}
+use Rattle.mcs_book.specs.Table.{wakes}
+use Rattle.mcs_book.specs.Sound.{Sound, Allowed, IsThere, IsIdle, HasNoneOpen}
+use Rattle.mcs_book.specs.Served.{AreServed}
+use Rattle.mcs_book.proofs.Same.{same-self, same_kind-equal, both, parts}
+use Rattle.mcs_book.proofs.LineLaws.{first-stands, standing-made}
+use Rattle.mcs_book.proofs.MadeLaws.{serial-below}
+use Rattle.mcs_book.proofs.MessageLaws.{sent-open}
+use Rattle.mcs_book.proofs.OpenLaws.{sound-ends, open_of-growing}
+use Rattle.mcs_state.specs.Numbers.{thread_at}
+use Rattle.mcs_state.specs.Now.{IsNumberOf}
+use Rattle.mcs_state.proofs.Answering.{none-closed, none-owed, made-from}
+use Rattle.mcs_ipc.specs.Rows.{kinded, writable, readable, with_reply, sendable, receivable, send_act}
+use Rattle.mcs_ipc.specs.Entering.{IsEntering, IsActing, OpenStand}
+
+-- who stands in no line is idle
+pub idle : (R : Log) (t : ObjId) → AreServed R → queue_of R t ≡ None → IsIdle R t
+idle R t served none = (none, λ r owes. let no : None ≡ Some t = sym (none-owed R r served) ∙ owes in absurd cc)
+
+-- who stands in no line has no open message
+pub none-open : (R : Log) (t : ObjId) → OpenStand R → queue_of R t ≡ None → HasNoneOpen R t
+none-open R t stand none e m still = let no : None ≡ Some (Senders e) = sym none ∙ stand t e m still in absurd cc
+
+-- a thread whose serial is one of those made is there
+pub number-there : (R : Log) (i : ℕ) → Sound R → AreServed R → i < counted (makes_kind kind.Thread) R → IsThere R kind.Thread (thread_at i)
+number-there R i sound served lt = (refl, rw (made-from R (thread_at i) sound (omega arith) (omega (arith, lt)), none-closed R (thread_at i) served) refl)
+
+-- a thread that stands in a line is there
+pub stands-there : (R : Log) (q : Queue) (i : ℕ) → Sound R → AreServed R → queue_of R (thread_at i) ≡ Some q → IsThere R kind.Thread (thread_at i)
+stands-there R q i sound served stands =
+    let below = serial-below R (thread_at i) kind.Thread sound (standing-made R (thread_at i) q sound stands) in
+    number-there R i sound served (omega (arith, below))
+
+-- who is first in a line is a thread that is there, and stands in that line
+pub first-there : (R : Log) (q : Queue) (i : ℕ) → Sound R → AreServed R → first_in R q ≡ Some (thread_at i) → IsThere R kind.Thread (thread_at i) × (queue_of R (thread_at i) ≡ Some q)
+first-there R q i sound served first =
+    let stands : queue_of R (thread_at i) ≡ Some q = first-stands R q (thread_at i) first in
+    (stands-there R q i sound served stands, stands)
+
+-- a thread that enters may send on an endpoint that is there
+pub may-send : (R : Log) (t e : ObjId) (mode : SendMode) (badge : Badge) (message : Content) → AreServed R → IsActing R t → OpenStand R → IsThere R kind.Endpoint e → Allowed R (rec.Sent t e mode badge message)
+may-send R t e mode badge message served acts stand there = (acts.there, idle R t served acts.idle, there, none-open R t stand acts.idle)
+
+-- the message that is just sent is the open one of its sender
+pub sent-is : (R : Log) (t e : ObjId) (mode : SendMode) (badge : Badge) (message : Content) → Sound R → Allowed R (rec.Sent t e mode badge message) → IsNumberOf (next_message R) (open_of (rec.Sent t e mode badge message ∷ R) t)
+sent-is R t e mode badge message sound ok = rw (open_of-growing (rec.Sent t e mode badge message ∷ R) t (ok, sound), same-self t) refl
+
+-- and it is open
+pub sent-opens : (R : Log) (t e : ObjId) (mode : SendMode) (badge : Badge) (message : Content) → Sound R → IsTrue (is_open (rec.Sent t e mode badge message ∷ R) (next_message R))
+sent-opens R t e mode badge message sound = sent-open R (record { number = next_message R; sender = t; endpoint = e; mode = mode; badge = badge; message = message }) (sound-ends R sound)
+
+-- a send where nobody receives
+pub send-waits : (R : Log) (t : ObjId) (cap : Cap) (message : Content) → first_in R (Receivers cap.obj) ≡ None
+    → send_act t cap message R ≡ record { answer = Waits; records = rec.Sent t cap.obj how.Plain cap.badge message ∷ rec.Joins t (Senders cap.obj) None ∷ [] }
+unfolding send_act sends sends_to queues ◌then◌
+send-waits R t cap message none = rw none refl
+
+-- a send where somebody receives
+pub send-hands : (R : Log) (t : ObjId) (cap : Cap) (message : Content) (p : ObjId) → first_in R (Receivers cap.obj) ≡ Some p
+    → send_act t cap message R ≡ record { answer = Done; records = rec.Sent t cap.obj how.Plain cap.badge message ∷ rec.Took (next_message R) p ∷ rec.Parts p (Receivers cap.obj) ∷ rec.Turns p Running ∷ [] }
+unfolding send_act sends sends_to handed ◌then◌
+send-hands R t cap message p first = rw first refl
+
+-- who was woken acts
+pub woken : (R : Log) (t : ObjId) → IsEntering R t → IsActing (onto (wakes (mode_of R t) t R) R) t
+woken R t enters = go (mode_of R t) refl
+  where
+    go : (m : Mode) → mode_of R t ≡ m → IsActing (onto (wakes m t R) R) t
+    go Running e = record { there = enters.there; idle = enters.idle; runs = e }
+    go Restart e = record { there = enters.there; idle = enters.idle; runs = rw (same-self t) refl }
+    go Inactive e = absurd (enters.awake e)
+
+-- and whoever has an open message stands in line still
+pub woken-stand : (R : Log) (t : ObjId) → OpenStand R → OpenStand (onto (wakes (mode_of R t) t R) R)
+woken-stand R t stand = go (mode_of R t)
+  where
+    go : (m : Mode) → OpenStand (onto (wakes m t R) R)
+    go Restart x e m still = stand x e m (record { sent = still.sent; is_letter = still.is_letter; is_open = still.is_open; of_sender = still.of_sender; on_endpoint = still.on_endpoint })
+    go Running x e m still = stand x e m still
+    go Inactive x e m still = stand x e m still
+
+-- who left its line is idle
+pub parted : (R : Log) (x : ObjId) (q : Queue) → AreServed R → IsIdle (rec.Parts x q ∷ R) x
+parted R x q served = (rw (same-self x) refl, λ r owes. let no : None ≡ Some x = sym (none-owed R r served) ∙ owes in absurd cc)
+
+-- what stands in a slot is there
+slot-alive : (R : Log) (u : ObjId) (i : ℕ) (c : Cap) → Sound R → AreServed R → slot R u i ≡ Some c → is_alive R c.obj ≡ true
+slot-alive [] u i c sound served e = absurd cc
+slot-alive (rec.Slot v j held ∷ R) u i c sound served e = go (same u v && (i == j)) e (slot-alive R u i c sound.1 served.1)
+  where
+    go : (b : Bool) → unwrap_or (given b held) (slot R u i) ≡ Some c → (slot R u i ≡ Some c → is_alive R c.obj ≡ true) → is_alive R c.obj ≡ true
+    go true k later = subst (λ (o : Option Cap). IfSome o (λ a. is_alive R a.obj ≡ true)) k sound.0.2
+    go false k later = later k
+slot-alive (rec.Made o form ∷ R) u i c sound served e =
+    let a : (was_made R c.obj ≡ true) × (not (was_closed R c.obj) ≡ true) = parts (was_made R c.obj) (not (was_closed R c.obj)) (slot-alive R u i c sound.1 served.1 e) in
+    both (same c.obj o || was_made R c.obj) (not (was_closed R c.obj)) (or-right (same c.obj o) (was_made R c.obj) a.0) a.1
+  where
+    or-right : (a b : Bool) → b ≡ true → (a || b) ≡ true
+    or-right true b h = refl
+    or-right false b h = h
+slot-alive (rec.Closed o ∷ R) u i c sound served e = absurd served.0
+slot-alive (_ ∷ R) u i c sound served e = slot-alive R u i c sound.1 served.1 e
+
+-- what was found is there
+pub found-alive : (R : Log) (t : ObjId) (a : ℕ) (c : Cap) → Sound R → AreServed R → capability R t a ≡ Ok c → is_alive R c.obj ≡ true
+found-alive R t a c sound served e =
+    let named : IsNamed R t a c = capability-named R t a c e in
+    slot-alive R named.at.cnode named.at.index c sound served named.there
+
+-- a capability of a kind that was found
+kinded-ok : (k : Kind) (m : Checked Cap) (c : Cap) → kinded k m ≡ Ok c → (m ≡ Ok c) × (c.obj.kind ≡ k)
+kinded-ok k (Err why) c e = absurd cc
+kinded-ok k (Ok x) c e = let g = go (is_kind k x) refl e in (ap (λ y. Ok y) g.0, g.1)
+  where
+    go : (b : Bool) → is_kind k x ≡ b → cond b (Ok x) (Err WrongKind) ≡ Ok c → (x ≡ c) × (c.obj.kind ≡ k)
+    go true is h = let it : x ≡ c = cc in (it, ap (λ (y : Cap). y.obj.kind) (sym it) ∙ same_kind-equal x.obj.kind k is)
+    go false is h = absurd cc
+
+writable-ok : (m : Checked Cap) (c : Cap) → writable m ≡ Ok c → m ≡ Ok c
+writable-ok (Err why) c e = absurd cc
+writable-ok (Ok x) c e = ap (λ y. Ok y) (go (may_write x) e)
+  where
+    go : (b : Bool) → cond b (Ok x) (Err NoRight) ≡ Ok c → x ≡ c
+    go true h = cc
+    go false h = absurd cc
+
+readable-ok : (m : Checked Cap) (c : Cap) → readable m ≡ Ok c → m ≡ Ok c
+readable-ok (Err why) c e = absurd cc
+readable-ok (Ok x) c e = ap (λ y. Ok y) (go (may_read x) e)
+  where
+    go : (b : Bool) → cond b (Ok x) (Err NoRight) ≡ Ok c → x ≡ c
+    go true h = cc
+    go false h = absurd cc
+
+-- the endpoint over which t sends is there
+pub sendable-there : (R : Log) (t : ObjId) (a : ℕ) (c : Cap) → Sound R → AreServed R → sendable R t a ≡ Ok c → IsThere R kind.Endpoint c.obj
+sendable-there R t a c sound served e =
+    let k = kinded-ok kind.Endpoint (capability R t a) c (writable-ok (kinded kind.Endpoint (capability R t a)) c e) in
+    (k.1, found-alive R t a c sound served k.0)
+
+-- the objects with which t receives are there
+pub receivable-there : (R : Log) (t : ObjId) (a r : ℕ) (at : Receiving) → Sound R → AreServed R → receivable R t a r ≡ Ok at → IsThere R kind.Endpoint at.endpoint × IsThere R kind.Reply at.reply
+receivable-there R t a r at sound served e = go (readable (kinded kind.Endpoint (capability R t a))) refl (kinded kind.Reply (capability R t r)) refl e
+  where
+    go : (m : Checked Cap) → readable (kinded kind.Endpoint (capability R t a)) ≡ m → (n : Checked Cap) → kinded kind.Reply (capability R t r) ≡ n → with_reply m n ≡ Ok at → IsThere R kind.Endpoint at.endpoint × IsThere R kind.Reply at.reply
+    go (Err why) p n q h = absurd cc
+    go (Ok c) p (Err why) q h = absurd cc
+    go (Ok c) p (Ok d) q h =
+        let it : record { endpoint = c.obj; reply = d.obj } ≡ at = cc in
+        let k = kinded-ok kind.Endpoint (capability R t a) c (readable-ok (kinded kind.Endpoint (capability R t a)) c p) in
+        let l = kinded-ok kind.Reply (capability R t r) d q in
+        subst (λ (x : Receiving). IsThere R kind.Endpoint x.endpoint × IsThere R kind.Reply x.reply) it ((k.1, found-alive R t a c sound served k.0), (l.1, found-alive R t r d sound served l.0))
+
+-- what is there is there still when a thread was woken
+pub woken-there : (R : Log) (t : ObjId) (m : Mode) (k : Kind) (o : ObjId) → IsThere R k o → IsThere (onto (wakes m t R) R) k o
+woken-there R t Running k o there = there
+woken-there R t Restart k o there = there
+woken-there R t Inactive k o there = there

@@ -1,0 +1,4 @@
+pub mod Facts
+pub mod Composing
+pub mod Rows
+pub mod Freeing

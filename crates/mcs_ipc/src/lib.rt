@@ -1,0 +1,11 @@
+//! Sending and receiving on endpoints. Each call adds the records of its row of the table, and gives that row's answer
+//! (manual: Message Passing).
+#![tactic(auto)]
+
+mod checks;
+mod receiving;
+mod sending;
+mod wake;
+
+pub use receiving::receive;
+pub use sending::send;

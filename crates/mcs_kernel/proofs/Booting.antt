@@ -1,0 +1,254 @@
+-- What the checks of a line of the boot say of the log.
+use Rattle.std.specs.Prelude.{ℕ, suc, ◌≡◌, ◌<◌, ◌≤◌, ◌+◌, ◌||◌, Bool, true, false, cond, not, nat_lt, List, [], ◌∷◌, ◌++◌, length, Option, Some, None, Result, Ok, Err, IsTrue, IfErr, is_ok, is_none, is_some, unwrap_or, reverse}
+use Rattle.std.specs.Option.{IfSome}
+use Rattle.std.proofs.lemmas.Grind.{common_steps}
+use Rattle.std.specs.Prelude.{take, drop, get_or}
+use Rattle.std.proofs.lemmas.List.{reverse-append, reverse-reverse, take-append-drop, take_more}
+use Rattle.std.proofs.Common.{refl, ap, sym, ◌∙◌, subst, arith, inl, inr}
+use Rattle.mcs_types.specs.declared.id.ObjId.{ObjId}
+use Rattle.mcs_types.specs.declared.id.Kind.{Kind}
+use Rattle.mcs_types.specs.declared.id.Kind.TheVariants as kind
+use Rattle.mcs_types.specs.declared.cap.Cap.{Cap}
+use Rattle.mcs_types.specs.declared.boot.BootLine.{BootLine}
+use Rattle.mcs_types.specs.declared.boot.BootFault.{BootFault}
+use Rattle.mcs_types.specs.declared.boot.BootFault.TheVariants as fault
+use Rattle.mcs_types.specs.declared.record.Form.{Form}
+use Rattle.mcs_types.specs.declared.record.Queue.{Queue}
+use Rattle.mcs_types.specs.declared.record.Rec.TheVariants as rec
+use Rattle.mcs_book.specs.Logs.{Log, counted, same, same_kind, given}
+use Rattle.mcs_book.specs.Objects.{made_of, makes_kind, was_made, is_alive, number_of, next_id}
+use Rattle.mcs_book.specs.Queues.{queue_of}
+use Rattle.mcs_book.specs.Contexts.{holder_of}
+use Rattle.mcs_book.specs.Checks.{Passed, ◌>>◌, need}
+use Rattle.mcs_book.specs.Boots.{is_object, has_numbers, has_objects, has_room, is_free, boot_check, boot_log, is_context_any, fits_kind, AreFaultless}
+use Rattle.mcs_book.specs.Served.{AreServed}
+use Rattle.mcs_book.specs.Lookup.{cnode_cap}
+use Rattle.mcs_book.specs.History.{Line, past}
+use Rattle.mcs_state.specs.Now.{Now, so_far}
+use Rattle.mcs_types.specs.declared.record.Mode.{Mode}
+use Rattle.mcs_types.specs.declared.id.Prio.{Prio}
+use Rattle.mcs_book.specs.Sound.{Sound, Allowed, IsThere, HoldsNone}
+use Rattle.mcs_book.proofs.Same.{both, parts, same-self, same_kind-equal}
+use Rattle.mcs_book.proofs.Sorted.{In}
+use Rattle.mcs_book.proofs.LineLaws.{standing-made}
+use Rattle.mcs_state.specs.Numbers.{the_cnode, IsName}
+use Rattle.mcs_state.specs.Tables.{ROOM}
+use Rattle.mcs_state.proofs.Naming.{made-serial, there-name}
+use Rattle.mcs_state.proofs.Answering.{none-closed}
+
+-- as many objects of a kind stand in its list as were made
+length-made : (R : Log) (k : Kind) → length (made_of R k) ≡ counted (makes_kind k) R
+length-made [] k = refl
+length-made (rec.Made o form ∷ R) k = go (same_kind o.kind k) (length-made R k)
+  where
+    go : (b : Bool) → length (made_of R k) ≡ counted (makes_kind k) R → length (cond b (o ∷ made_of R k) (made_of R k)) ≡ cond b (counted (makes_kind k) R + 1) (counted (makes_kind k) R)
+    go true e = omega (arith, e)
+    go false e = e
+length-made (_ ∷ R) k = length-made R k
+
+-- all of a list pass a test
+counted-all : (p : ObjId → Bool) (xs : List ObjId) → ((x : ObjId) → In x xs → p x ≡ true) → counted p xs ≡ length xs
+counted-all p [] h = refl
+counted-all p (x ∷ xs) h = go (p x) (h x (inl refl)) (counted-all p xs (λ y i. h y (inr i)))
+  where
+    go : (b : Bool) → b ≡ true → counted p xs ≡ length xs → cond b (counted p xs + 1) (counted p xs) ≡ suc (length xs)
+    go true e later = omega (arith, later)
+    go false e later = absurd cc
+
+-- what stands in the list of a kind was made
+listed-made : (R : Log) (k : Kind) (o : ObjId) → In o (made_of R k) → was_made R o ≡ true
+listed-made [] k o i = absurd i
+listed-made (rec.Made u form ∷ R) k o i = go (same_kind u.kind k) i (listed-made R k o)
+  where
+    more : (b : Bool) → was_made R o ≡ true → (b || was_made R o) ≡ true
+    more true h = refl
+    more false h = h
+
+    go : (b : Bool) → In o (cond b (u ∷ made_of R k) (made_of R k)) → (In o (made_of R k) → was_made R o ≡ true) → (same o u || was_made R o) ≡ true
+    go true (inl e) later = rw (ap (λ (x : ObjId). same o x) (sym e) ∙ same-self o) refl
+    go true (inr j) later = more (same o u) (later j)
+    go false j later = more (same o u) (later j)
+listed-made (_ ∷ R) k o i = listed-made R k o i
+
+-- what was made is there
+pub made-alive : (R : Log) (o : ObjId) → AreServed R → was_made R o ≡ true → is_alive R o ≡ true
+made-alive R o served h = both _ _ h (ap (λ b. not b) (none-closed R o served))
+
+-- as many of a kind are there as were made
+pub number-made : (R : Log) (k : Kind) → AreServed R → number_of R k ≡ counted (makes_kind k) R
+number-made R k served = counted-all (is_alive R) (made_of R k) (λ x i. made-alive R x served (listed-made R k x i)) ∙ length-made R k
+
+-- an object that was made is there
+pub object-there : (R : Log) (k : Kind) (o : ObjId) → AreServed R → is_object R k o ≡ true → IsThere R k o
+object-there R k o served h =
+    let p : (same_kind o.kind k ≡ true) × (was_made R o ≡ true) = parts _ _ h in
+    (same_kind-equal o.kind k p.0, made-alive R o served p.1)
+
+-- an object that was made has a name of its kind
+pub object-name : (R : Log) (k : Kind) (o : ObjId) → Sound R → AreServed R → counted (makes_kind k) R ≤ ROOM → is_object R k o ≡ true → IsName k o
+object-name R k o sound served few h = there-name R k o sound few (object-there R k o served h)
+
+-- a CNode that was made is the one
+pub cnode-is : (R : Log) (o : ObjId) → Sound R → counted (makes_kind kind.CNode) R ≤ 1 → is_object R kind.CNode o ≡ true → o ≡ the_cnode
+cnode-is R o sound few h =
+    let p : (same_kind o.kind kind.CNode ≡ true) × (was_made R o ≡ true) = parts _ _ h in
+    let kinds : o.kind ≡ kind.CNode = same_kind-equal o.kind kind.CNode p.0 in
+    let s = made-serial R o sound p.1 in
+    let count : counted (makes_kind o.kind) R ≡ counted (makes_kind kind.CNode) R = ap (λ j. counted (makes_kind j) R) kinds in
+    let serial : o.serial ≡ 1 = omega (arith, s.0, s.1, count, few) in
+    λ i. record { kind = kinds i; serial = serial i }
+
+-- the next object of a kind was not made
+pub next-unmade : (R : Log) (k : Kind) → Sound R → was_made R (next_id R k) ≡ true → ⊥
+next-unmade R k sound h =
+    let s = made-serial R (next_id R k) sound h in
+    let le : counted (makes_kind k) R + 1 ≤ counted (makes_kind k) R = s.1 in
+    absurd (omega (arith, le))
+
+-- who holds a context was made
+holder-made : (R : Log) (s t : ObjId) → Sound R → holder_of R s ≡ Some t → was_made R t ≡ true
+holder-made [] s t sound h = absurd cc
+holder-made (rec.Holds c None ∷ R) s t sound h = go (same s c) h (holder-made R s t sound.1)
+  where
+    go : (v : Bool) → unwrap_or (given v None) (holder_of R s) ≡ Some t → (holder_of R s ≡ Some t → was_made R t ≡ true) → was_made R t ≡ true
+    go true k later = absurd cc
+    go false k later = later k
+holder-made (rec.Holds c (Some u) ∷ R) s t sound h = go (same s c) h (holder-made R s t sound.1)
+  where
+    go : (v : Bool) → unwrap_or (given v (Some u)) (holder_of R s) ≡ Some t → (holder_of R s ≡ Some t → was_made R t ≡ true) → was_made R t ≡ true
+    go true k later = let it : u ≡ t = cc in subst (λ (x : ObjId). was_made R x ≡ true) it (parts _ _ sound.0.1.1).0
+    go false k later = later k
+holder-made (rec.Made o form ∷ R) s t sound h = more (same t o) (holder-made R s t sound.1 h)
+  where
+    more : (b : Bool) → was_made R t ≡ true → (b || was_made R t) ≡ true
+    more true i = refl
+    more false i = i
+holder-made (_ ∷ R) s t sound h = holder-made R s t sound.1 h
+
+-- the next thread holds no context
+pub next-holds-none : (R : Log) → Sound R → HoldsNone R (next_id R kind.Thread)
+next-holds-none R sound s h = next-unmade R kind.Thread sound (holder-made R s (next_id R kind.Thread) sound h)
+
+-- the next thread stands in no line
+pub next-stands-none : (R : Log) → Sound R → queue_of R (next_id R kind.Thread) ≡ None
+next-stands-none R sound = go (queue_of R (next_id R kind.Thread)) refl
+  where
+    go : (o : Option Queue) → queue_of R (next_id R kind.Thread) ≡ o → o ≡ None
+    go None e = refl
+    go (Some q) e = absurd (next-unmade R kind.Thread sound (listed-made R kind.Thread (next_id R kind.Thread) (standing-made R (next_id R kind.Thread) q sound e)))
+
+-- a thread that was just made is there
+pub new-there : (R : Log) (form : Form) → AreServed R → IsThere (rec.Made (next_id R kind.Thread) form ∷ R) kind.Thread (next_id R kind.Thread)
+new-there R form served = let t : ObjId = next_id R kind.Thread in (refl, both _ _ (rw (same-self t) refl) (ap (λ b. not b) (none-closed R t served)))
+
+-- the checks of a line that has no fault
+pub record AreHeld (cores : ℕ) (R : Log) (line : BootLine) : Type 0 where
+  pub numbers : has_numbers cores R line ≡ true
+  pub objects : has_objects R line ≡ true
+  pub room : has_room R line ≡ true
+  pub free : is_free R line ≡ true
+
+-- a line without fault passed each check
+pub held : (cores : ℕ) (R : Log) (line : BootLine) → IsTrue (is_ok (boot_check cores R line)) → AreHeld cores R line
+unfolding boot_check ◌>>◌ need
+held cores R line h = go (has_numbers cores R line) refl (has_objects R line) refl (has_room R line) refl (is_free R line) refl h
+  where
+    go : (a : Bool) → has_numbers cores R line ≡ a → (b : Bool) → has_objects R line ≡ b → (c : Bool) → has_room R line ≡ c → (d : Bool) → is_free R line ≡ d
+        → IsTrue (is_ok (need a fault.Number >> (need b fault.NoObject >> (need c fault.Limit >> need d fault.Taken)))) → AreHeld cores R line
+    go true e true f true k true l h = record { numbers = e; objects = f; room = k; free = l }
+    go true e true f true k false l h = absurd cc
+    go true e true f false k d l h = absurd cc
+    go true e false f c k d l h = absurd cc
+    go false e b f c k d l h = absurd cc
+
+-- what each check that fails gives, where those before it were passed
+pub wrong-number : (cores : ℕ) (R : Log) (line : BootLine) → has_numbers cores R line ≡ false → boot_check cores R line ≡ Err fault.Number
+unfolding boot_check ◌>>◌ need
+wrong-number cores R line e = rw e refl
+
+pub wrong-object : (cores : ℕ) (R : Log) (line : BootLine) → has_numbers cores R line ≡ true → has_objects R line ≡ false → boot_check cores R line ≡ Err fault.NoObject
+unfolding boot_check ◌>>◌ need
+wrong-object cores R line e f = rw (e, f) refl
+
+pub wrong-room : (cores : ℕ) (R : Log) (line : BootLine) → has_numbers cores R line ≡ true → has_objects R line ≡ true → has_room R line ≡ false → boot_check cores R line ≡ Err fault.Limit
+unfolding boot_check ◌>>◌ need
+wrong-room cores R line e f k = rw (e, f, k) refl
+
+pub wrong-place : (cores : ℕ) (R : Log) (line : BootLine) → has_numbers cores R line ≡ true → has_objects R line ≡ true → has_room R line ≡ true → is_free R line ≡ false → boot_check cores R line ≡ Err fault.Taken
+unfolding boot_check ◌>>◌ need
+wrong-place cores R line e f k l = rw (e, f, k, l) refl
+
+-- a line that passed each check has no fault
+pub nothing-wrong : (cores : ℕ) (R : Log) (line : BootLine) → has_numbers cores R line ≡ true → has_objects R line ≡ true → has_room R line ≡ true → is_free R line ≡ true → IsTrue (is_ok (boot_check cores R line))
+unfolding boot_check ◌>>◌ need
+nothing-wrong cores R line e f k l = rw (e, f, k, l) refl
+
+-- what is said of the fault of checks that were passed
+pub if-passed : (m : Result Passed BootFault) (P : BootFault → Type 0) → IsTrue (is_ok m) → IfErr m P
+if-passed (Ok x) P h = tt
+if-passed (Err f) P h = absurd cc
+
+-- what is said of the fault that checks gave
+pub if-wrong : (m : Result Passed BootFault) (P : BootFault → Type 0) (f : BootFault) → m ≡ Err f → P f → IfErr m P
+if-wrong m P f e h = rw e h
+
+-- what a test for nothing answers
+pub none-is : {A : Type 0} (o : Option A) (b : Bool) → is_some o ≡ not b → b ≡ is_none o
+none-is None true h = refl
+none-is None false h = absurd cc
+none-is (Some x) true h = absurd cc
+none-is (Some x) false h = refl
+
+-- fewer are there than a limit, so fewer were made
+pub few-made : (R : Log) (k : Kind) (limit : ℕ) → AreServed R → nat_lt (number_of R k) limit ≡ true → counted (makes_kind k) R < limit
+few-made R k limit served h =
+    let lt : nat_lt (counted (makes_kind k) R) limit ≡ true = ap (λ n. nat_lt n limit) (sym (number-made R k served)) ∙ h in
+    grind (arith, common_steps, lt)
+
+-- a capability whose numbers fit leads to no CNode
+pub fits-leaf : (cap : Cap) → fits_kind cap.obj.kind cap ≡ true → cnode_cap (Some cap) ≡ None
+fits-leaf cap h = go cap.obj.kind refl h
+  where
+    go : (k : Kind) → cap.obj.kind ≡ k → fits_kind k cap ≡ true → cnode_cap (Some cap) ≡ None
+    go kind.CNode e f = absurd cc
+    go kind.Thread e f = rw e refl
+    go kind.Endpoint e f = rw e refl
+    go kind.Notification e f = rw e refl
+    go kind.Reply e f = rw e refl
+    go kind.Context e f = rw e refl
+
+-- a context that a line names may be given to the thread that the line makes
+pub gives-allowed : (R : Log) (form : Form) (p : Prio) (mode : Mode) (context : Option ObjId) → Sound R → AreServed R → is_context_any R context ≡ true
+    → IfSome context (λ s. Allowed (rec.Turns (next_id R kind.Thread) mode ∷ rec.Prio (next_id R kind.Thread) p ∷ rec.Made (next_id R kind.Thread) form ∷ R) (rec.Holds s (Some (next_id R kind.Thread))))
+gives-allowed R form p mode None sound served h = tt
+gives-allowed R form p mode (Some s) sound served h =
+    let there = object-there R kind.Context s served h in
+    ((there.0, both _ _ (more (same s (next_id R kind.Thread)) (parts _ _ there.1).0) (parts _ _ there.1).1), new-there R form served, next-holds-none R sound)
+  where
+    more : (b : Bool) → was_made R s ≡ true → (b || was_made R s) ≡ true
+    more true i = refl
+    more false i = i
+
+-- a context that a line names has a name
+pub context-name : (R : Log) (context : Option ObjId) → Sound R → AreServed R → counted (makes_kind kind.Context) R ≤ ROOM → is_context_any R context ≡ true → IfSome context (λ s. IsName kind.Context s)
+context-name R None sound served few h = tt
+context-name R (Some s) sound served few h = object-name R kind.Context s sound served few h
+
+-- while only the boot was taken, its log is all there is
+pub so-far-boot : (n : Now) → n.hand ≡ [] → n.book.lines ≡ [] → so_far n ≡ boot_log n.book.boot.lines
+so-far-boot n h l = ap (λ (w : Log). w ++ past (boot_log n.book.boot.lines) n.book.lines) h ∙ ap (λ (ls : List Line). past (boot_log n.book.boot.lines) ls) l
+
+-- the older lines of a boot without fault have none
+pub faultless-older : (cores : ℕ) (newer older : List BootLine) → AreFaultless cores (newer ++ older) → AreFaultless cores older
+faultless-older cores [] older h = h
+faultless-older cores (line ∷ newer) older h = faultless-older cores newer older h.1
+
+-- in a boot without fault nothing is wrong with a line after those before it
+pub faultless-at : (cores : ℕ) (lines inside : List BootLine) (i : ℕ) (d : BootLine) → inside ≡ reverse lines → AreFaultless cores lines → i < length inside
+    → IsTrue (is_ok (boot_check cores (boot_log (reverse (take i inside))) (get_or inside i d)))
+faultless-at cores lines inside i d e h lt =
+    let x : BootLine = get_or inside i d in
+    let whole : inside ≡ (take i inside ++ x ∷ []) ++ drop (i + 1) inside = sym (take-append-drop (i + 1) inside) ∙ ap (λ xs. xs ++ drop (i + 1) inside) (take_more inside i d lt) in
+    let back : lines ≡ reverse (drop (i + 1) inside) ++ (x ∷ reverse (take i inside)) =
+    sym (reverse-reverse lines) ∙ ap (λ xs. reverse xs) (sym e ∙ whole) ∙ reverse-append (take i inside ++ x ∷ []) (drop (i + 1) inside) ∙ ap (λ xs. reverse (drop (i + 1) inside) ++ xs) (reverse-append (take i inside) (x ∷ [])) in
+    (faultless-older cores (reverse (drop (i + 1) inside)) (x ∷ reverse (take i inside)) (subst (λ xs. AreFaultless cores xs) back h)).0

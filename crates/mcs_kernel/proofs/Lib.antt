@@ -1,0 +1,3 @@
+pub mod Booting
+pub mod Serving
+pub mod Stepping

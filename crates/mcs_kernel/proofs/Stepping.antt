@@ -1,0 +1,71 @@
+-- What a step that is taken or turned away does to the book, and a run of steps cut at one of them.
+use Rattle.std.specs.Prelude.{ℕ, zero, suc, ◌≡◌, ◌≢◌, ◌<◌, ◌≤◌, ◌+◌, ◌&&◌, Bool, true, false, cond, List, [], ◌∷◌, length, drop, fold, slice_index_or, Option, Some, None, Result, Ok, Err, option_and_then}
+use Rattle.std.specs.Option.{IfSome, IfNone}
+use Rattle.std.specs.Result.{IfErr}
+use Rattle.std.proofs.Common.{refl, ap, sym, ◌∙◌, subst, arith}
+use Rattle.mcs_types.specs.declared.id.ObjId.{ObjId}
+use Rattle.mcs_types.specs.declared.id.CoreId.{CoreId}
+use Rattle.mcs_types.specs.declared.entry.Answer.{Answer}
+use Rattle.mcs_types.specs.declared.entry.Step.{Step}
+use Rattle.mcs_book.specs.Objects.{form_of}
+use Rattle.mcs_book.specs.Contexts.{context_of}
+use Rattle.mcs_book.specs.Standing.{status_of, is_ready, is_on_core, may_enter}
+use Rattle.mcs_book.specs.History.{Book, log_of, with_step, book_of}
+use Rattle.mcs_book.specs.Boots.{Boot}
+use Rattle.mcs_book.specs.Served.{IsServed}
+use Rattle.mcs_kernel.specs.declared.fault.EnterFault.{EnterFault}
+use Rattle.mcs_kernel.specs.declared.fault.EnterFault.TheVariants.{NotRunning, NoContext, WrongCore, BookFull, OutOfMemory}
+use Rattle.mcs_kernel.specs.Faults.{has_room, context_fault, fault_of, entered}
+use Rattle.mcs_kernel.specs.Runs.{is_book_full, full_after, AreServed}
+use Rattle.mcs_kernel.proofs.Serving.{fault-none}
+
+-- who is turned away for another reason than a full book may not enter
+pub turned-away : (b : Book) (core : CoreId) (t : ObjId) (f : EnterFault) → fault_of b core t ≡ Some f → is_book_full (Some f) ≡ false → may_enter (log_of b) core t ≡ false
+unfolding fault_of may_enter
+turned-away b core t f h other = go (is_ready (status_of (log_of b) t)) (context_of (log_of b) t) h
+  where
+    room : (w : Bool) → cond w None (Some BookFull) ≡ Some f → false ≡ true
+    room true k = absurd cc
+    room false k = let it : BookFull ≡ f = cc in sym other ∙ ap (λ x. is_book_full (Some x)) (sym it)
+
+    on : (v : Bool) → cond v (cond (has_room b) None (Some BookFull)) (Some WrongCore) ≡ Some f → v ≡ false
+    on true k = sym (room (has_room b) k)
+    on false k = refl
+
+    go : (r : Bool) (o : Option ObjId) → cond r (context_fault b core o) (Some NotRunning) ≡ Some f → r && is_on_core core (option_and_then (form_of (log_of b)) o) ≡ false
+    go false o k = refl
+    go true None k = refl
+    go true (Some s) k = on (is_on_core core (form_of (log_of b) s)) k
+
+-- the fault that an answer shows
+pub fault-shown : (o : Option EnterFault) (r : Result Answer EnterFault) (f : EnterFault) → r ≡ Err f → IfSome o (λ g. r ≡ Err g) → IfNone o (IfErr r (λ g. g ≡ OutOfMemory)) → f ≢ OutOfMemory → o ≡ Some f
+fault-shown (Some g) r f is some none other = let it : Err g ≡ Err f = sym some ∙ is in ap (λ x. Some x) cc
+fault-shown None r f is some none other = absurd (other (subst (λ x. IfErr x (λ g. g ≡ OutOfMemory)) is none))
+
+-- a book after a step, where it may enter or not
+abbrev stepped : Book → Step → Bool → Book
+stepped b s v = elim v [ true ↦ entered b s | false ↦ b ]
+
+-- a step that is let in, and one that is turned away
+pub step-taken : (b : Book) (s : Step) → fault_of b s.core s.thread ≡ None → with_step b s ≡ entered b s
+step-taken b s none = ap (λ v. stepped b s v) ((fault-none b s.core s.thread none).0)
+
+pub step-skipped : (b : Book) (s : Step) (f : EnterFault) → fault_of b s.core s.thread ≡ Some f → is_book_full (Some f) ≡ false → with_step b s ≡ b
+step-skipped b s f h other = ap (λ v. stepped b s v) (turned-away b s.core s.thread f h other)
+
+-- the steps that are left begin with the next one
+pub drop-next : (ss : List Step) (i : ℕ) (s : Step) → i < length ss → s ≡ slice_index_or ss i s → drop i ss ≡ s ∷ drop (i + 1) ss
+drop-next [] i s lt e = absurd (omega (arith, lt))
+drop-next (x ∷ xs) zero s lt e = ap (λ y. y ∷ xs) (sym e)
+drop-next (x ∷ xs) (suc i) s lt e = let later = drop-next xs i s (omega (arith, lt)) e in let same : suc i + 1 ≡ suc (i + 1) = omega arith in rw same later
+
+pub drop-none : (ss : List Step) (i : ℕ) → length ss ≤ i → drop i ss ≡ []
+drop-none [] zero past = refl
+drop-none [] (suc i) past = refl
+drop-none (x ∷ xs) zero past = absurd (omega (arith, past))
+drop-none (x ∷ xs) (suc i) past = drop-none xs i (omega (arith, past))
+
+-- the book of all steps, begun on the boot alone
+pub book-begun : (boot : Boot) (b : Book) (ss : List Step) → b ≡ record { boot = boot; lines = [] } → fold with_step b ss ≡ book_of boot ss
+unfolding book_of
+book-begun boot b ss is = ap (λ x. fold with_step x ss) is

@@ -1,0 +1,7 @@
+use Rattle.std.proofs.Common.{◌≡◌, [], take, reverse}
+use Rattle.mcs_kernel.proofs.boot.boot_state.Given as goal
+
+abbrev pub invariant-loop-line : goal.invariant-loop-line
+invariant-loop-line g l =
+    (l.line-items ≡ reverse l.boot.lines) × (l.state.hand ≡ [])
+    × (l.state.book ≡ record { boot = record { cores = l.boot.cores; lines = reverse (take l.line-index l.line-items) }; lines = [] })

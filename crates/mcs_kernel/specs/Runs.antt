@@ -1,0 +1,30 @@
+-- Runs of steps: where the book is full for one that would be let in.
+use Rattle.std.specs.Prelude.{ℕ, ◌≡◌, ◌+◌, Bool, true, false, cond, Option, Some, None, List, [], ◌∷◌}
+use Rattle.mcs_types.specs.declared.entry.Step.{Step}
+use Rattle.mcs_book.specs.History.{Book, with_step}
+use Rattle.mcs_book.specs.Served.{IsServed}
+use Rattle.mcs_kernel.specs.Faults.{fault_of}
+use Rattle.mcs_kernel.specs.declared.fault.ReplayFault.{ReplayFault}
+use Rattle.mcs_kernel.specs.declared.fault.ReplayFault.TheVariants as ended
+use Rattle.mcs_kernel.specs.declared.fault.EnterFault.{EnterFault}
+use Rattle.mcs_kernel.specs.declared.fault.EnterFault.TheVariants.{NotRunning, NoContext, WrongCore, BookFull, OutOfMemory}
+
+-- whether it is that the book is full
+abbrev pub is_book_full : Option EnterFault → Bool
+is_book_full (Some BookFull) = true
+is_book_full _ = false
+
+-- the number of the first of these steps that would be let in and for which the book is full; n were taken before
+abbrev pub full_after : ℕ → Book → List Step → Option ℕ
+full_after n b [] = None
+full_after n b (s ∷ ss) = cond (is_book_full (fault_of b s.core s.thread)) (Some (n + 1)) (full_after (n + 1) (with_step b s) ss)
+
+-- each step is of a kind that the kernel takes
+abbrev pub AreServed : List Step → Type 0
+AreServed [] = Unit {0}
+AreServed (s ∷ ss) = IsServed s.entry × AreServed ss
+
+-- a fault of a replay whose first step with a full book has this number: BookFull comes at that step alone
+abbrev pub EndsAt : Option ℕ → ReplayFault → Type 0
+EndsAt full (ended.BookFull n) = full ≡ Some n
+EndsAt full (ended.OutOfMemory n) = Unit {0}

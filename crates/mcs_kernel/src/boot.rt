@@ -1,0 +1,131 @@
+//! The boot: how a machine begins (own).
+ghost use Rattle.std.specs.Prelude.{◌≡◌, ◌≤◌, ◌<◌, ◌≢◌, ◌⊎◌, ◌↔◌, ◌∷◌, [], if◌then◌else◌, IsTrue, IfOk, IfErr, OnOk, OnErr, Some, None, Err, is_ok, reverse};
+ghost use Rattle.mcs_types.specs.declared.id.Kind.{Kind};
+ghost use Rattle.mcs_types.specs.declared.boot.BootFault.{BootFault};
+ghost use Rattle.mcs_book.specs.Logs.{counted};
+ghost use Rattle.mcs_book.specs.Objects.{makes_kind, form_of};
+ghost use Rattle.mcs_book.specs.Lookup.{radix_kept};
+ghost use Rattle.mcs_book.specs.Served.{core_limit};
+ghost use Rattle.mcs_book.specs.Boots.{boot_check, boot_log, is_object, IsFaultless};
+
+mod checks;
+mod taking;
+#[cfg(test)]
+mod tests;
+
+use checks::{check, exists_as};
+use mcs_queues::{Lines, PlainLines};
+use mcs_state::State;
+use mcs_types::{BootFault, BootLine, Kind, ObjId, OutOfMemory};
+use std::alloc::Global;
+use std::marker::Model;
+use taking::takes_line;
+
+/// How many cores a boot may have so far.
+const SERVED_CORES: u8 = 1;
+
+/// How a machine begins: the number of cores, and lines with which nothing is wrong (own). Clauses see the lines newest
+/// first.
+#[derive(Drop)]
+pub struct Boot {
+    state: State<PlainLines>,
+}
+
+impl Model for Boot {
+    ghost use Rattle.std.specs.Prelude.{◌≡◌, []};
+    ghost use Rattle.mcs_book.specs.Boots.{Boot, IsFaultless};
+
+    ghost Value = { Boot };
+
+    ghost view = { λ b. b.state.book.boot };
+
+    ghost invariant = { λ b. (b.state.hand ≡ []) × (b.state.book.lines ≡ []) × IsFaultless b.state.book.boot };
+}
+
+impl Boot {
+    /// A boot with this number of cores and no other line. Number (3) exactly where there is no core, or there are more
+    /// than are served so far (1); otherwise it fails only out of memory (10).
+    pub fn new(alloc: Global, cores: u8) -> Result<Boot, BootFault>
+        ensures cores { IfOk result (λ b. b.cores ≡ cores) }
+        ensures lines { IfOk result (λ b. b.lines ≡ []) }
+        ensures number { (result ≡ Err BootFault.Number) ↔ ((cores < 1) ⊎ (core_limit < cores)) }
+        ensures fault { IfErr result (λ f. (f ≡ BootFault.Number) ⊎ (f ≡ BootFault.OutOfMemory)) }
+    {
+        if cores < 1 || cores > SERVED_CORES {
+            return Err(BootFault::Number);
+        }
+        match State::new(alloc, cores) {
+            Ok(state) => Ok(Boot { state }),
+            Err(OutOfMemory) => Err(BootFault::OutOfMemory),
+        }
+    }
+
+    /// Adds a line. The boot is as it was where a number is out of its range (3), an object that the line names was not
+    /// made (4), there are too many objects (5), a slot is filled or a context is held already (6): the first of these;
+    /// or where memory is refused (10).
+    pub fn add(&mut self, line: BootLine) -> Result<(), BootFault>
+        ensures ok { OnOk result (self.new ≡ record self.old { lines = line ∷ self.old.lines }) }
+        ensures err { OnErr result (self.new ≡ self.old) }
+        ensures passed { OnOk result (IsTrue (is_ok (boot_check self.old.cores (boot_log self.old.lines) line))) }
+        ensures wrong { IfErr (boot_check self.old.cores (boot_log self.old.lines) line) (λ f. result ≡ Err f) }
+        ensures fault { IfErr result (λ f. f ≢ BootFault.OutOfMemory → boot_check self.old.cores (boot_log self.old.lines) line ≡ Err f) }
+    {
+        check(&self.state, &line)?;
+        match takes_line(&mut self.state, line) {
+            Ok(()) => Ok(()),
+            Err(OutOfMemory) => Err(BootFault::OutOfMemory),
+        }
+    }
+
+    /// The number of cores.
+    pub fn cores(&self) -> u8
+        ensures { result ≡ self.now.cores }
+    {
+        self.state.book().cores()
+    }
+
+    /// The lines after that of the cores, in order.
+    pub fn lines(&self) -> &[BootLine]
+        ensures { result.now ≡ reverse self.now.lines }
+    {
+        self.state.book().boot()
+    }
+
+    /// How many objects of a kind were made.
+    pub fn made(&self, kind: Kind) -> u32
+        ensures { result ≡ counted (makes_kind kind) (boot_log self.now.lines) }
+    {
+        self.state.made(kind) as u32
+    }
+
+    /// How many bits name a slot of a CNode; None where it was not made.
+    pub fn radix(&self, cnode: ObjId) -> Option<u8>
+        ensures { result ≡ (if is_object (boot_log self.now.lines) Kind.CNode cnode then Some (radix_kept (form_of (boot_log self.now.lines) cnode)) else None) }
+    {
+        if !exists_as(&self.state, Kind::CNode, cnode) {
+            return None;
+        }
+        self.state.is_sound();
+        Some(self.state.radix())
+    }
+
+    /// Nothing is wrong with the boot.
+    pub fn is_faultless(&self)
+        ensures { IsFaultless self.now }
+    {
+        let _ = &self.state;
+    }
+}
+
+/// A state after the lines of a boot.
+pub(crate) fn boot_state<L: Lines>(alloc: Global, boot: &Boot) -> Result<State<L>, OutOfMemory>
+    ensures book { IfOk result (λ s. s.book ≡ record { boot = boot.now; lines = [] }) }
+    ensures hand { IfOk result (λ s. s.hand ≡ []) }
+{
+    boot.is_faultless();
+    let mut state = State::new(alloc, boot.cores())?;
+    for line in boot.lines() {
+        takes_line(&mut state, *line)?;
+    }
+    Ok(state)
+}

@@ -1,0 +1,210 @@
+//! What may be wrong with a line of the boot (own).
+ghost use Rattle.std.specs.Prelude.{◌≡◌, ◌≤◌, ◌<◌, ◌^◌, ◌&&◌, nat_le, nat_lt, IsTrue, OnOk, IfErr, is_ok, Err};
+ghost use Rattle.mcs_types.specs.declared.id.Kind.{Kind};
+ghost use Rattle.mcs_book.specs.Objects.{was_made, number_of};
+ghost use Rattle.mcs_book.specs.Boots.{is_object, fits_guard, has_no_guard, has_no_rights, fits_kind, fits_cnode, has_numbers, is_context_any, has_objects, has_room, is_free_any, is_free, boot_check};
+ghost use Rattle.mcs_state.specs.Numbers.{context_at, IsName};
+ghost use Rattle.mcs_state.specs.Now.{so_far};
+
+use mcs_queues::Lines;
+use mcs_state::{ContextNo, State, is_same_kind};
+use mcs_types::{BootFault, BootLine, Cap, Guard, Kind, OBJECTS, ObjId, Prio, RADIX};
+
+/// How many CNodes a boot may have so far.
+const SERVED_CNODES: u16 = 1;
+
+/// Whether a serial is one of so many.
+fn is_serial(serial: u32, count: u16) -> bool
+    ensures { result ≡ (nat_le 1 serial && nat_le serial count) }
+{
+    1 <= serial && serial <= count as u32
+}
+
+/// Whether an object was made.
+fn exists<L: Lines>(state: &State<L>, object: ObjId) -> bool
+    ensures { result ≡ was_made (so_far state.now) object }
+{
+    state.is_sound();
+    is_serial(object.serial, state.made(object.kind))
+}
+
+/// Whether an object of this kind was made.
+pub(crate) fn exists_as<L: Lines>(state: &State<L>, kind: Kind, object: ObjId) -> bool
+    ensures { result ≡ is_object (so_far state.now) kind object }
+{
+    is_same_kind(object.kind, kind) && exists(state, object)
+}
+
+/// Whether fewer objects of a kind are there than this.
+fn are_fewer<L: Lines>(state: &State<L>, kind: Kind, limit: u16) -> bool
+    ensures { result ≡ nat_lt (number_of (so_far state.now) kind) limit }
+{
+    state.is_sound();
+    state.made(kind) < limit
+}
+
+/// Whether a guard's value fits its size.
+fn guard_fits(guard: Guard) -> bool
+    ensures { result ≡ fits_guard guard }
+{
+    guard.bits <= 63 && guard.value < 1 << guard.bits
+}
+
+/// Whether there is no guard.
+fn is_unguarded(cap: &Cap) -> bool
+    ensures { result ≡ has_no_guard cap.now }
+{
+    cap.guard.bits == 0 && cap.guard.value == 0
+}
+
+/// Whether there are no rights and no badge.
+fn is_bare(cap: &Cap) -> bool
+    ensures { result ≡ has_no_rights cap.now }
+{
+    cap.rights.bits() == 0 && cap.badge.0 == 0
+}
+
+/// Whether the numbers of a capability are such as its kind carries.
+fn kind_fits(cap: Cap) -> bool
+    ensures { result ≡ fits_kind cap.obj.kind cap }
+{
+    match cap.obj.kind {
+        Kind::CNode => false,
+        Kind::Endpoint | Kind::Notification => is_unguarded(&cap),
+        Kind::Thread | Kind::Reply | Kind::Context => is_bare(&cap) && is_unguarded(&cap),
+    }
+}
+
+/// Whether an index has no more than so many bits.
+fn has_bits(index: u8, bits: u8) -> bool
+    requires { bits ≤ 8 }
+    ensures { result ≡ nat_lt index (2 ^ bits) }
+{
+    let end: u32 = 1 << bits;
+    (index as u32) < end
+}
+
+/// Whether the index is below the CNode's number of slots, where the CNode was made.
+fn index_fits<L: Lines>(state: &State<L>, cnode: ObjId, index: u8) -> bool
+    ensures { result ≡ fits_cnode (so_far state.now) cnode index }
+{
+    if !exists_as(state, Kind::CNode, cnode) {
+        return true;
+    }
+    state.is_sound();
+    has_bits(index, state.radix())
+}
+
+/// Whether the numbers of a line are in their ranges.
+fn numbers_fit<L: Lines>(state: &State<L>, line: BootLine) -> bool
+    ensures { result ≡ has_numbers state.now.book.boot.cores (so_far state.now) line }
+{
+    match line {
+        BootLine::CNode { radix } => 1 <= radix && radix <= RADIX,
+        BootLine::Context { core } => core.0 < state.book().cores(),
+        BootLine::Thread { guard, .. } => guard_fits(guard),
+        BootLine::Slot { cnode, index, cap } => index_fits(state, cnode, index) && kind_fits(cap),
+        BootLine::Endpoint | BootLine::Notification | BootLine::Reply => true,
+    }
+}
+
+/// Whether a context that is named was made.
+fn context_exists<L: Lines>(state: &State<L>, context: Option<ObjId>) -> bool
+    ensures { result ≡ is_context_any (so_far state.now) context }
+{
+    match context {
+        None => true,
+        Some(context) => exists_as(state, Kind::Context, context),
+    }
+}
+
+/// Whether the objects that a line names were made.
+fn objects_exist<L: Lines>(state: &State<L>, line: &BootLine) -> bool
+    ensures { result ≡ has_objects (so_far state.now) line.now }
+{
+    match *line {
+        BootLine::Thread { root, context, .. } => {
+            exists_as(state, Kind::CNode, root) && context_exists(state, context)
+        }
+        BootLine::Slot { cnode, cap, .. } => {
+            exists_as(state, Kind::CNode, cnode) && exists(state, cap.obj)
+        }
+        _ => true,
+    }
+}
+
+/// Whether there is room for the object that a line makes.
+fn is_room<L: Lines>(state: &State<L>, line: &BootLine) -> bool
+    ensures { result ≡ has_room (so_far state.now) line.now }
+{
+    match *line {
+        BootLine::CNode { .. } => are_fewer(state, Kind::CNode, SERVED_CNODES),
+        BootLine::Endpoint => are_fewer(state, Kind::Endpoint, OBJECTS),
+        BootLine::Notification => are_fewer(state, Kind::Notification, OBJECTS),
+        BootLine::Reply => are_fewer(state, Kind::Reply, OBJECTS),
+        BootLine::Context { .. } => are_fewer(state, Kind::Context, OBJECTS),
+        BootLine::Thread { .. } => are_fewer(state, Kind::Thread, OBJECTS),
+        BootLine::Slot { .. } => true,
+    }
+}
+
+/// The number of a context.
+pub(crate) fn context_no(context: ObjId) -> ContextNo
+    requires { IsName Kind.Context context }
+    ensures context { context_at result.0 ≡ context }
+    ensures known { result.0 < 256 }
+{
+    ContextNo((context.serial - 1) as u16)
+}
+
+/// Whether a context that is named is held by nobody.
+fn context_is_free<L: Lines>(state: &State<L>, context: Option<ObjId>) -> bool
+    requires { IsTrue (is_context_any (so_far state.now) context) }
+    ensures { result ≡ is_free_any (so_far state.now) context }
+{
+    match context {
+        None => true,
+        Some(context) => {
+            state.is_sound();
+            let _made = state.made(Kind::Context);
+            state.holder(context_no(context)).is_none()
+        }
+    }
+}
+
+/// Whether what a line fills, gives or binds is free.
+fn place_is_free<L: Lines>(state: &State<L>, line: &BootLine) -> bool
+    requires { IsTrue (has_objects (so_far state.now) line.now) }
+    ensures { result ≡ is_free (so_far state.now) line.now }
+{
+    match *line {
+        BootLine::Thread { context, .. } => context_is_free(state, context),
+        BootLine::Slot { index, .. } => {
+            state.is_sound();
+            state.slot(index).is_none()
+        }
+        _ => true,
+    }
+}
+
+/// What is wrong with a line of the boot: Number where a number is out of its range, NoObject where an object that it
+/// names was not made, Limit where there are too many objects, and Taken where a slot is filled or a context is held;
+/// the first of these.
+pub(crate) fn check<L: Lines>(state: &State<L>, line: &BootLine) -> Result<(), BootFault>
+    ensures ok { OnOk result (IsTrue (is_ok (boot_check state.now.book.boot.cores (so_far state.now) line.now))) }
+    ensures fault { IfErr result (λ f. boot_check state.now.book.boot.cores (so_far state.now) line.now ≡ Err f) }
+{
+    if !numbers_fit(state, *line) {
+        return Err(BootFault::Number);
+    }
+    if !objects_exist(state, line) {
+        return Err(BootFault::NoObject);
+    }
+    if !is_room(state, line) {
+        return Err(BootFault::Limit);
+    }
+    if !place_is_free(state, line) {
+        return Err(BootFault::Taken);
+    }
+    Ok(())
+}

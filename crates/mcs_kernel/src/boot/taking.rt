@@ -1,0 +1,127 @@
+//! How a line of the boot is taken (own).
+ghost use Rattle.std.specs.Prelude.{◌≡◌, ◌≤◌, ◌<◌, ◌∷◌, [], IsTrue, OnOk, OnErr, IfSome, Some, None, is_ok, length};
+ghost use Rattle.mcs_types.specs.declared.id.Kind.{Kind};
+ghost use Rattle.mcs_types.specs.declared.record.Rec.{Rec};
+ghost use Rattle.mcs_types.specs.declared.record.Form.{Form};
+ghost use Rattle.mcs_book.specs.Logs.{counted, onto};
+ghost use Rattle.mcs_book.specs.Objects.{next_id, makes_kind};
+ghost use Rattle.mcs_book.specs.Boots.{begins, begins_with, root_cap, boot_line, boot_check};
+ghost use Rattle.mcs_book.specs.Served.{IsServedForm, core_limit};
+ghost use Rattle.mcs_book.specs.Sound.{Allowed};
+ghost use Rattle.mcs_state.specs.Numbers.{thread_at, IsName};
+ghost use Rattle.mcs_state.specs.Now.{so_far, adds, adds_all};
+ghost use Rattle.mcs_state.specs.Tables.{HAND, ROOM};
+
+use super::checks::context_no;
+use mcs_queues::{Lines, ThreadNo};
+use mcs_state::{State, thread_id};
+use mcs_types::{Badge, BootLine, Cap, Guard, Kind, Mode, ObjId, OutOfMemory, Prio, Rights};
+
+/// A capability to a CNode, with a guard.
+fn cap_to(cnode: ObjId, guard: Guard) -> Cap
+    ensures { result ≡ root_cap cnode guard }
+{
+    match Rights::new(0) {
+        Some(rights) => Cap {
+            obj: cnode,
+            rights,
+            badge: Badge(0),
+            guard,
+        },
+        None => unreachable!(),
+    }
+}
+
+/// The mode in which a thread begins.
+fn first_mode(runs: bool) -> Mode
+    ensures { result ≡ begins runs }
+{
+    if runs { Mode::Running } else { Mode::Inactive }
+}
+
+/// Makes a thread, which begins with this priority and in this mode.
+fn takes_thread<L: Lines>(
+    state: &mut State<L>,
+    priority: Prio,
+    maximum: Prio,
+    root: Cap,
+    mode: Mode,
+) -> ThreadNo
+    requires served { IsServedForm (Form.Runner maximum root) }
+    requires few { counted (makes_kind Kind.Thread) (so_far state.old) < ROOM }
+    requires room { state.old.hand ≡ [] }
+    ensures thread { thread_at result.0 ≡ next_id (so_far state.old) Kind.Thread }
+    ensures known { result.0 < ROOM }
+    ensures made { state.new ≡ adds_all (Rec.Made (next_id (so_far state.old) Kind.Thread) (Form.Runner maximum root) ∷ Rec.Prio (next_id (so_far state.old) Kind.Thread) priority ∷ Rec.Turns (next_id (so_far state.old) Kind.Thread) mode ∷ []) state.old }
+{
+    state.is_sound();
+    let thread = ThreadNo(state.made(Kind::Thread));
+    state.makes_thread(maximum, root);
+    state.prio(thread, priority);
+    state.turns(thread, mode);
+    thread
+}
+
+/// Gives a thread the context with which it begins, if there is one.
+fn takes_context<L: Lines>(state: &mut State<L>, thread: ThreadNo, context: Option<ObjId>)
+    requires allowed { IfSome context (λ s. Allowed (so_far state.old) (Rec.Holds s (Some (thread_at thread.0)))) }
+    requires named { IfSome context (λ s. IsName Kind.Context s) }
+    requires room { length state.old.hand < HAND }
+    ensures { state.new ≡ adds_all (begins_with context (thread_at thread.0)) state.old }
+{
+    if let Some(context) = context {
+        state.holds(context_no(context), Some(thread_id(thread)));
+    }
+}
+
+/// Makes the records of a line, which nothing is wrong with.
+fn takes_records<L: Lines>(state: &mut State<L>, line: &BootLine)
+    requires cores { state.old.book.boot.cores ≤ core_limit }
+    requires faultless { IsTrue (is_ok (boot_check state.old.book.boot.cores (so_far state.old) line.now)) }
+    requires hand { state.old.hand ≡ [] }
+    ensures { state.new ≡ adds_all (boot_line (so_far state.old) line.now) state.old }
+{
+    state.is_sound();
+    let _contexts = state.made(Kind::Context);
+    match *line {
+        BootLine::CNode { radix } => state.makes_cnode(radix),
+        BootLine::Endpoint => state.makes_endpoint(),
+        BootLine::Notification => state.makes_notification(),
+        BootLine::Reply => state.makes_reply(),
+        BootLine::Context { core } => state.makes_context(core),
+        BootLine::Thread {
+            priority,
+            maximum,
+            root,
+            guard,
+            runs,
+            context,
+        } => {
+            let thread = takes_thread(
+                state,
+                priority,
+                maximum,
+                cap_to(root, guard),
+                first_mode(runs),
+            );
+            takes_context(state, thread, context);
+        }
+        BootLine::Slot { index, cap, .. } => state.fills(index, Some(cap)),
+    }
+}
+
+/// Takes a line of the boot, which nothing is wrong with: the boot has it, or is as it was.
+pub(crate) fn takes_line<L: Lines>(state: &mut State<L>, line: BootLine) -> Result<(), OutOfMemory>
+    requires cores { state.old.book.boot.cores ≤ core_limit }
+    requires faultless { IsTrue (is_ok (boot_check state.old.book.boot.cores (so_far state.old) line)) }
+    requires hand { state.old.hand ≡ [] }
+    requires boot { state.old.book.lines ≡ [] }
+    ensures ok { OnOk result (state.new.book ≡ record state.old.book { boot = record state.old.book.boot { lines = line ∷ state.old.book.boot.lines } }) }
+    ensures unchanged { OnErr result (state.new.book ≡ state.old.book) }
+    ensures hand { state.new.hand ≡ [] }
+{
+    state.reserve_boot_line()?;
+    takes_records(state, &line);
+    state.close_boot_line(line);
+    Ok(())
+}

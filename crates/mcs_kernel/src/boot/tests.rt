@@ -1,0 +1,98 @@
+use super::{Boot, boot_state};
+use mcs_queues::PlainLines;
+use mcs_types::{Badge, BootFault, BootLine, Cap, CoreId, Guard, Kind, ObjId, Prio, Rights};
+use std::alloc::Global;
+
+const CNODE: ObjId = ObjId {
+    kind: Kind::CNode,
+    serial: 1,
+};
+
+const CONTEXT: ObjId = ObjId {
+    kind: Kind::Context,
+    serial: 1,
+};
+
+fn object(kind: Kind, serial: u32) -> ObjId {
+    ObjId { kind, serial }
+}
+
+fn thread(root: ObjId, context: Option<ObjId>) -> BootLine {
+    BootLine::Thread {
+        priority: Prio(5),
+        maximum: Prio(9),
+        root,
+        guard: Guard { bits: 56, value: 0 },
+        runs: true,
+        context,
+    }
+}
+
+fn slot(cnode: ObjId) -> BootLine {
+    let rights = match Rights::new(3) {
+        Some(rights) => rights,
+        None => unreachable!(),
+    };
+    BootLine::Slot {
+        cnode,
+        index: 7,
+        cap: Cap {
+            obj: object(Kind::Endpoint, 1),
+            rights,
+            badge: Badge(40),
+            guard: Guard { bits: 0, value: 0 },
+        },
+    }
+}
+
+fn booted(alloc: Global) -> Result<Boot, BootFault> {
+    let mut boot = Boot::new(alloc, 1)?;
+    boot.add(BootLine::CNode { radix: 8 })?;
+    boot.add(BootLine::Endpoint)?;
+    boot.add(slot(CNODE))?;
+    boot.add(BootLine::Context { core: CoreId(0) })?;
+    boot.add(thread(CNODE, Some(CONTEXT)))?;
+    Ok(boot)
+}
+
+#[test]
+fn lines_are_taken(rt: HostRuntime) {
+    let Ok(boot) = booted(rt.alloc()) else {
+        assert!(rt; false, "there is memory");
+        return;
+    };
+    assert_eq!(rt; boot.lines().len(), 5);
+    assert_eq!(rt; boot.radix(CNODE), Some(8));
+    let Ok(state) = boot_state::<PlainLines>(rt.alloc(), &boot) else {
+        assert!(rt; false, "there is memory");
+        return;
+    };
+    assert_eq!(rt; state.context(object(Kind::Thread, 1)), Some(CONTEXT));
+}
+
+#[test]
+fn faults_are_told(rt: HostRuntime) {
+    let Ok(mut boot) = booted(rt.alloc()) else {
+        assert!(rt; false, "there is memory");
+        return;
+    };
+    assert_eq!(rt;
+        boot.add(BootLine::CNode { radix: 9 }),
+        Err(BootFault::Number)
+    );
+    assert_eq!(rt;
+        boot.add(thread(object(Kind::CNode, 2), None)),
+        Err(BootFault::NoObject)
+    );
+    assert_eq!(rt;
+        boot.add(BootLine::CNode { radix: 8 }),
+        Err(BootFault::Limit)
+    );
+    assert_eq!(rt; boot.add(slot(CNODE)), Err(BootFault::Taken));
+}
+
+#[test]
+fn cores_are_limited(rt: HostRuntime) {
+    assert_eq!(rt; Boot::new(rt.alloc(), 0).err(), Some(BootFault::Number));
+    assert_eq!(rt; Boot::new(rt.alloc(), 2).err(), Some(BootFault::Number));
+}

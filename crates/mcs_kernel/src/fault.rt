@@ -1,0 +1,33 @@
+//! Why an entry is turned away, and why a replay ends.
+use thiserror::Error;
+
+/// Why an entry was turned away: the numbers 1 to 5, tested in this order. The kernel is as it was.
+#[derive(Clone, Copy, PartialEq, Eq, Debug, Error)]
+pub enum EnterFault {
+    /// The thread is unknown, closed, or neither running nor in restart.
+    #[error("the thread does not run")]
+    NotRunning = 1,
+    /// The thread holds no scheduling context.
+    #[error("the thread holds no scheduling context")]
+    NoContext = 2,
+    /// Its scheduling context is another core's.
+    #[error("the scheduling context is of another core")]
+    WrongCore = 3,
+    /// The book has 1,000,000 lines.
+    #[error("the book is full")]
+    BookFull = 4,
+    /// A growth was refused.
+    #[error("out of memory")]
+    OutOfMemory = 5,
+}
+
+/// Why a replay ended: the numbers 1 and 2, with the number of the step from 1 (0 for the boot). Nothing is handed back.
+#[derive(Clone, Copy, PartialEq, Eq, Debug, Error)]
+pub enum ReplayFault {
+    /// The first step that was let in for which the book is full.
+    #[error("the book is full at step {step}")]
+    BookFull { step: usize },
+    /// A growth was refused.
+    #[error("out of memory at step {step}")]
+    OutOfMemory { step: usize },
+}

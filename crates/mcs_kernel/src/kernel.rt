@@ -1,0 +1,186 @@
+//! The kernel.
+ghost use Rattle.std.specs.Prelude.{◌≡◌, ◌<◌, ◌+◌, ◌∷◌, [], IfOk, OnOk, OnErr, IfErr, IfSome, IfNone, IsTrue, length, Err, Some, None, ◌⊎◌};
+ghost use Rattle.mcs_types.specs.declared.id.CoreId.{CoreId};
+ghost use Rattle.mcs_types.specs.declared.entry.Entry.{Entry};
+ghost use Rattle.mcs_book.specs.History.{IsLegal, log_of};
+ghost use Rattle.mcs_book.specs.Standing.{may_enter};
+ghost use Rattle.mcs_book.specs.Served.{IsServed};
+ghost use Rattle.mcs_book.specs.Ranges.{InRange};
+ghost use Rattle.mcs_book.specs.Table.{does};
+ghost use Rattle.mcs_state.specs.Numbers.{thread_at};
+ghost use Rattle.mcs_state.specs.Now.{so_far, adds_all};
+ghost use Rattle.mcs_state.specs.Tables.{HAND, ROOM};
+ghost use Rattle.mcs_ipc.specs.Entering.{IsEntering, OpenStand};
+ghost use Rattle.mcs_kernel.specs.declared.fault.EnterFault.{EnterFault};
+ghost use Rattle.mcs_kernel.specs.Faults.{fault_of, entered};
+
+use crate::boot::{Boot, boot_state};
+use crate::fault::EnterFault;
+use mcs_book::Book;
+use mcs_ipc::{receive, send};
+use mcs_queues::{Lines, ThreadNo};
+use mcs_state::State;
+use mcs_types::{Answer, BOOK_LINES, CoreId, Entry, ObjId, OutOfMemory, Status, Step};
+use std::alloc::Global;
+use std::marker::Model;
+
+/// The kernel. Clauses see its book.
+#[derive(Drop)]
+pub struct Kernel<L: Lines> {
+    state: State<L>,
+}
+
+impl<L: Lines> Model for Kernel<L> {
+    ghost use Rattle.std.specs.Prelude.{◌≡◌, ◌<◌, [], length};
+    ghost use Rattle.mcs_book.specs.History.{Book, IsLegal, line_limit};
+
+    ghost Value = { Book };
+
+    ghost view = { λ k. k.state.book };
+
+    ghost invariant = { λ k. (k.state.hand ≡ []) × IsLegal k.state.book × (length k.state.book.lines < line_limit) };
+}
+
+/// The numbers of an entry are in their ranges.
+fn is_in_range(entry: &Entry)
+    requires { IsServed entry.now }
+    ensures { InRange entry.now }
+{
+    match entry {
+        Entry::Send { cap, message } => {
+            let _cap = *cap;
+            message.is_in_range();
+        }
+        Entry::Recv { cap, reply } => {
+            let _cap = *cap;
+            let _reply = *reply;
+        }
+        _ => unreachable!(),
+    }
+}
+
+/// Does an entry of a thread that may enter.
+fn operate<L: Lines>(state: &mut State<L>, thread: ThreadNo, entry: &Entry) -> Answer
+    requires served { IsServed entry.now }
+    requires entering { IsEntering (so_far state.old) (thread_at thread.0) }
+    requires stand { OpenStand (so_far state.old) }
+    requires known { thread.0 < ROOM }
+    requires few { length state.old.book.lines < BOOK_LINES }
+    requires room { length state.old.hand + 10 < HAND }
+    ensures records { (core : CoreId) → state.new ≡ adds_all (does (so_far state.old) core (thread_at thread.0) entry.now).records state.old }
+    ensures answer { (core : CoreId) → result ≡ (does (so_far state.old) core (thread_at thread.0) entry.now).answer }
+{
+    match entry {
+        Entry::Send { cap, message } => send(state, thread, *cap, message.copy()),
+        Entry::Recv { cap, reply } => receive(state, thread, *cap, *reply),
+        _ => unreachable!(),
+    }
+}
+
+impl<L: Lines> Kernel<L> {
+    /// A kernel whose book has line 0 alone: the boot with the records of its lines. It makes the room of all tables.
+    pub fn new(alloc: Global, boot: &Boot) -> Result<Kernel<L>, OutOfMemory>
+        ensures { IfOk result (λ k. k ≡ record { boot = boot.now; lines = [] }) }
+    {
+        boot.is_faultless();
+        Ok(Kernel {
+            state: boot_state(alloc, boot)?,
+        })
+    }
+
+    /// The book of all entries that were let in.
+    pub fn book(&self) -> &Book
+        ensures { result.now.book ≡ self.now }
+    {
+        self.state.book()
+    }
+
+    /// The book is legal, and has at most 1,000,000 lines.
+    pub fn is_legal(&self)
+        ensures legal { IsLegal self.now }
+        ensures few { length self.now.lines < BOOK_LINES }
+    {
+        let _ = &self.state;
+    }
+
+    /// Why an entry of a thread on a core would be turned away now, memory aside.
+    #[tactic(auto, unfolding(crate::specs::Faults::fault_of))]
+    pub fn fault(&self, core: CoreId, thread: ObjId) -> Option<EnterFault>
+        ensures { result ≡ fault_of self.now core thread }
+    {
+        match self.state.status(thread) {
+            Some(Status::Running | Status::Restart) => {}
+            _ => return Some(EnterFault::NotRunning),
+        }
+        let context = match self.state.context(thread) {
+            None => return Some(EnterFault::NoContext),
+            Some(context) => context,
+        };
+        if !self.state.runs_on(context, core) {
+            return Some(EnterFault::WrongCore);
+        }
+        if self.state.book().lines() < BOOK_LINES {
+            None
+        } else {
+            Some(EnterFault::BookFull)
+        }
+    }
+
+    /// Does an entry that is let in: its line is added. OutOfMemory where the room for it is refused.
+    fn serve(
+        &mut self,
+        core: CoreId,
+        thread: ObjId,
+        entry: Entry,
+    ) -> Result<Answer, OutOfMemory>
+        requires served { IsServed entry }
+        requires let_in { fault_of self.old core thread ≡ None }
+        ensures line { OnOk result (self.new ≡ entered self.old (record { core = core; thread = thread; entry = entry })) }
+        ensures answer { IfOk result (λ a. a ≡ (does (log_of self.old) core thread entry).answer) }
+        ensures err { OnErr result (self.new ≡ self.old) }
+    {
+        let number = match self.state.thread(thread) {
+            None => unreachable!(),
+            Some(number) => number,
+        };
+        self.state.reserve()?;
+        is_in_range(&entry);
+        let answer = operate(&mut self.state, number, &entry);
+        let told = answer.copy();
+        self.state.is_sound();
+        let step = Step {
+            core,
+            thread,
+            entry,
+        };
+        self.state.close(step, told);
+        Ok(answer)
+    }
+
+    /// Lets in an entry of a thread on a core, and adds its line to the book, also where the answer is a refusal; or turns it
+    /// away for the first of EnterFault's reasons, and then nothing has changed. OutOfMemory comes only where the others do
+    /// not. The thread need not be the one of greatest priority.
+    pub fn enter(
+        &mut self,
+        _alloc: Global,
+        core: CoreId,
+        thread: ObjId,
+        entry: Entry,
+    ) -> Result<Answer, EnterFault>
+        requires served { IsServed entry }
+        ensures turned { IfSome (fault_of self.old core thread) (λ f. result ≡ Err f) }
+        ensures let_in { OnOk result (fault_of self.old core thread ≡ None) }
+        ensures memory { IfNone (fault_of self.old core thread) (IfErr result (λ f. f ≡ EnterFault.OutOfMemory)) }
+        ensures line { OnOk result (self.new ≡ entered self.old (record { core = core; thread = thread; entry = entry })) }
+        ensures answer { IfOk result (λ a. a ≡ (does (log_of self.old) core thread entry).answer) }
+        ensures err { OnErr result (self.new ≡ self.old) }
+    {
+        match self.fault(core, thread) {
+            Some(fault) => Err(fault),
+            None => match self.serve(core, thread, entry) {
+                Ok(answer) => Ok(answer),
+                Err(OutOfMemory) => Err(EnterFault::OutOfMemory),
+            },
+        }
+    }
+}

@@ -1,0 +1,13 @@
+//! The kernel: one entry that is let in is one line of the book.
+#![tactic(auto)]
+
+mod boot;
+mod fault;
+mod kernel;
+mod replaying;
+
+pub use boot::Boot;
+pub use fault::{EnterFault, ReplayFault};
+pub use kernel::Kernel;
+pub use mcs_types::Step;
+pub use replaying::replay;
