@@ -15,6 +15,7 @@ struct Entered {
 }
 
 /// A line of the book: an entry by a thread on a core, its answer, and its records.
+#[derive(Drop)]
 pub struct Line<'a> {
     step: &'a Step,
     answer: &'a Answer,

@@ -1,10 +1,10 @@
 -- Acts after one another, on a state.
-use Rattle.std.specs.Prelude.{◌≡◌, ◌++◌, List, [], ◌∷◌}
-use Rattle.std.proofs.Common.{refl, ap, sym, ◌∙◌}
+use Rattle.std.specs.Prelude.{◌≡◌, ◌++◌, List}
+use Rattle.std.proofs.Common.{ap, sym, ◌∙◌}
 use Rattle.mcs_types.specs.declared.record.Rec.{Rec}
 use Rattle.mcs_book.specs.Logs.{Log, onto}
 use Rattle.mcs_book.specs.History.{log_of}
-use Rattle.mcs_book.specs.Pieces.{Piece, Act, Outcome, before}
+use Rattle.mcs_book.specs.Pieces.{Piece, Act, before}
 use Rattle.mcs_book.proofs.Keeping.{onto-append}
 use Rattle.mcs_state.proofs.Opening.{onto-top}
 use Rattle.mcs_state.specs.Now.{Now, so_far, adds_all}

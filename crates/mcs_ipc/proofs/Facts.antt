@@ -1,6 +1,6 @@
 -- What holds of a thread that enters, and of one that is first in a line.
 use Rattle.std.specs.Option.{IfSome}
-use Rattle.std.specs.Prelude.{ℕ, ◌==◌, ◌||◌, unwrap_or, Ok, Err, ◌≡◌, ◌≢◌, ◌<◌, ◌≤◌, ◌+◌, ◌&&◌, Bool, true, false, not, cond, List, [], ◌∷◌, Option, Some, None, IsTrue}
+use Rattle.std.specs.Prelude.{ℕ, ◌==◌, ◌||◌, unwrap_or, Ok, Err, ◌≡◌, ◌<◌, ◌&&◌, Bool, true, false, not, cond, [], ◌∷◌, Option, Some, None, IsTrue}
 use Rattle.std.proofs.Common.{refl, ap, sym, ◌∙◌, subst, arith}
 use Rattle.mcs_types.specs.Views.{Content}
 use Rattle.mcs_types.specs.declared.id.ObjId.{ObjId}
@@ -8,14 +8,12 @@ use Rattle.mcs_types.specs.declared.id.Badge.{Badge}
 use Rattle.mcs_types.specs.declared.id.Kind.{Kind}
 use Rattle.mcs_types.specs.declared.id.Kind.TheVariants as kind
 use Rattle.mcs_types.specs.declared.cap.Cap.{Cap}
-use Rattle.mcs_types.specs.declared.record.Letter.{Letter}
 use Rattle.mcs_types.specs.declared.record.Mode.{Mode}
 use Rattle.mcs_types.specs.declared.record.Mode.TheVariants.{Running, Restart, Inactive}
 use Rattle.mcs_types.specs.declared.record.Queue.{Queue}
-use Rattle.mcs_types.specs.declared.record.Queue.TheVariants.{Senders, Receivers, Waiters}
+use Rattle.mcs_types.specs.declared.record.Queue.TheVariants.{Senders, Receivers}
 use Rattle.mcs_types.specs.declared.record.SendMode.{SendMode}
 use Rattle.mcs_types.specs.declared.record.SendMode.TheVariants as how
-use Rattle.mcs_types.specs.declared.record.Rec.{Rec}
 use Rattle.mcs_types.specs.declared.record.Rec.TheVariants as rec
 use Rattle.mcs_types.specs.declared.entry.Answer.TheVariants.{Done, Waits}
 use Rattle.mcs_book.specs.Logs.{Log, onto, same, counted, given}
@@ -28,10 +26,10 @@ use Rattle.mcs_book.proofs.PathLaws.{capability-named}
 use Rattle.mcs_types.specs.declared.entry.Refusal.TheVariants.{WrongKind, NoRight}
 use Rattle.mcs_ipc.specs.declared.checks.Receiving.{Receiving}
 use Rattle.mcs_book.specs.Objects.{was_made, was_closed, is_alive, makes_kind}
-use Rattle.mcs_book.specs.Threads.{threads, mode_of}
+use Rattle.mcs_book.specs.Threads.{mode_of}
 use Rattle.mcs_book.specs.Queues.{queue_of, first_in}
 use Rattle.mcs_book.specs.Messages.{next_message, is_open, open_of}
-use Rattle.mcs_book.specs.Pieces.{Outcome, ◌then◌}
+use Rattle.mcs_book.specs.Pieces.{◌then◌}
 use Rattle.mcs_book.specs.Taking.{handed}
 use Rattle.mcs_book.specs.Sending.{sends_to, sends, queues}
 use Rattle.mcs_book.specs.Table.{wakes}

@@ -1,33 +1,29 @@
 -- A reply object whose present user is cancelled, and what a receive then finds.
-use Rattle.std.specs.Prelude.{ℕ, ◌≡◌, ◌≢◌, ◌==◌, Bool, true, false, cond, List, [], ◌∷◌, Option, Some, None, find, unwrap_or, IsTrue}
+use Rattle.std.specs.Prelude.{ℕ, ◌≡◌, ◌==◌, Bool, true, false, cond, [], ◌∷◌, Option, Some, None, unwrap_or, IsTrue}
 use Rattle.std.specs.Option.{option_or}
 use Rattle.std.proofs.Common.{refl, ap, sym, ◌∙◌, subst}
 use Rattle.mcs_types.specs.declared.id.ObjId.{ObjId}
 use Rattle.mcs_types.specs.declared.id.Kind.TheVariants as kind
 use Rattle.mcs_types.specs.declared.record.Letter.{Letter}
-use Rattle.mcs_types.specs.declared.record.Mode.{Mode}
-use Rattle.mcs_types.specs.declared.record.Mode.TheVariants.{Running, Restart, Inactive}
+use Rattle.mcs_types.specs.declared.record.Mode.TheVariants.{Running, Inactive}
 use Rattle.mcs_types.specs.declared.record.Queue.{Queue}
 use Rattle.mcs_types.specs.declared.record.Queue.TheVariants.{Senders, Receivers}
 use Rattle.mcs_types.specs.declared.record.SendMode.TheVariants as how
-use Rattle.mcs_types.specs.declared.record.Rec.{Rec}
 use Rattle.mcs_types.specs.declared.record.Rec.TheVariants as rec
 use Rattle.mcs_types.specs.declared.entry.Answer.TheVariants.{Got, Waits}
 use Rattle.mcs_book.specs.Logs.{Log, onto, same, given}
-use Rattle.mcs_book.specs.Threads.{mode_of}
-use Rattle.mcs_book.specs.Queues.{queue_of, first_in, reply_with}
-use Rattle.mcs_book.specs.Messages.{letter, letters, next_message, is_open, open_of}
+use Rattle.mcs_book.specs.Queues.{queue_of, first_in}
+use Rattle.mcs_book.specs.Messages.{letter, next_message, is_open, open_of}
 use Rattle.mcs_state.specs.Now.{IsNumberOf}
-use Rattle.mcs_book.specs.Replies.{owed_by, receiver_with, user_of}
-use Rattle.mcs_book.specs.Notifications.{bound_of}
-use Rattle.mcs_book.specs.Pieces.{Outcome, ◌then◌, before, with_any}
+use Rattle.mcs_book.specs.Replies.{receiver_with}
+use Rattle.mcs_book.specs.Pieces.{◌then◌, with_any}
 use Rattle.mcs_book.specs.Taking.{taken}
 use Rattle.mcs_book.specs.Cancelling.{cancel}
-use Rattle.mcs_book.specs.Receiving.{free, hear, take_open, joins_or, open_of_any, pending_of_any, receive_message}
+use Rattle.mcs_book.specs.Receiving.{free, hear, take_open, joins_or, open_of_any, receive_message}
 use Rattle.mcs_book.specs.Fair.{IsOpenOf}
-use Rattle.mcs_book.specs.Sound.{Sound, IsThere, IsFreeReply}
+use Rattle.mcs_book.specs.Sound.{Sound, IsThere}
 use Rattle.mcs_book.specs.Served.{AreServed}
-use Rattle.mcs_book.proofs.Same.{same-self, same-equal}
+use Rattle.mcs_book.proofs.Same.{same-equal}
 use Rattle.mcs_book.proofs.LineLaws.{first-stands}
 use Rattle.mcs_book.proofs.MessageLaws.{open_of-open, open_of-letter}
 use Rattle.mcs_book.proofs.UserLaws.{receiver_with-named, unattended-none, unattended-parted}

@@ -1,6 +1,6 @@
 -- The rows of the table are what the code does.
-use Rattle.std.specs.Prelude.{ℕ, ◌≡◌, Bool, true, false, cond, Option, Some, None, Result, Ok, Err, []}
-use Rattle.std.proofs.Common.{refl, ap, sym, ◌∙◌, subst}
+use Rattle.std.specs.Prelude.{ℕ, ◌≡◌, Bool, true, false, cond, Option, Some, Result, Ok, Err, []}
+use Rattle.std.proofs.Common.{refl, ap, ◌∙◌}
 use Rattle.mcs_types.specs.Views.{Content}
 use Rattle.mcs_types.specs.declared.id.ObjId.{ObjId}
 use Rattle.mcs_types.specs.declared.id.CoreId.{CoreId}
@@ -18,7 +18,7 @@ use Rattle.mcs_book.specs.Checks.{Checked, ◌>>=◌, ◌>>◌, need}
 use Rattle.mcs_book.specs.Rights.{may_write, may_read, is_kind}
 use Rattle.mcs_book.specs.Threads.{mode_of}
 use Rattle.mcs_book.specs.Lookup.{capability, of_kind}
-use Rattle.mcs_book.specs.Pieces.{Act, Outcome, before}
+use Rattle.mcs_book.specs.Pieces.{Act, before}
 use Rattle.mcs_book.specs.Served.{serves_kind}
 use Rattle.mcs_book.specs.Sending.{letter_over, sends, queues, send_by, send_over}
 use Rattle.mcs_book.specs.Receiving.{receive_by, receive_over, reply_at, receive_on, free, receive_message}

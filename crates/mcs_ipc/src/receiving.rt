@@ -107,12 +107,7 @@ fn receive_over<L: Lines>(state: &mut State<L>, thread: ThreadNo, at: Receiving)
 /// Recv: over an endpoint the message of the first sender is taken, or else the thread waits among the receivers, with the
 /// reply object, whose present user is cancelled first. The refusals are 1 to 3 of the lookups, 4 for a capability of
 /// another kind, and 5 where Read is missing; they change nothing.
-pub fn receive<L: Lines>(
-    state: &mut State<L>,
-    thread: ThreadNo,
-    address: u64,
-    reply: u64,
-) -> Answer
+pub fn receive<L: Lines>(state: &mut State<L>, thread: ThreadNo, address: u64, reply: u64) -> Answer
     requires entering { IsEntering (so_far state.old) (thread_at thread.0) }
     requires stand { OpenStand (so_far state.old) }
     requires known { thread.0 < ROOM }

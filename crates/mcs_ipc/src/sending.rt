@@ -65,12 +65,7 @@ fn send_to<L: Lines>(
 }
 
 /// Sends over a capability to an endpoint: the first receiver takes the message, or else the thread waits.
-fn send_over<L: Lines>(
-    state: &mut State<L>,
-    thread: ThreadNo,
-    cap: Cap,
-    message: Message,
-) -> Answer
+fn send_over<L: Lines>(state: &mut State<L>, thread: ThreadNo, cap: Cap, message: Message) -> Answer
     requires acting { IsActing (so_far state.old) (thread_at thread.0) }
     requires stand { OpenStand (so_far state.old) }
     requires there { IsThere (so_far state.old) Kind.Endpoint cap.obj }

@@ -161,19 +161,22 @@ held cores R line h = go (has_numbers cores R line) refl (has_objects R line) re
     go true e false f c k d l h = absurd cc
     go false e b f c k d l h = absurd cc
 
--- what each check that fails gives, where those before it were passed
+-- a number out of its range is the first fault
 pub wrong-number : (cores : ℕ) (R : Log) (line : BootLine) → has_numbers cores R line ≡ false → boot_check cores R line ≡ Err fault.Number
 unfolding boot_check ◌>>◌ need
 wrong-number cores R line e = rw e refl
 
+-- an object that was not made is the fault where the numbers fit
 pub wrong-object : (cores : ℕ) (R : Log) (line : BootLine) → has_numbers cores R line ≡ true → has_objects R line ≡ false → boot_check cores R line ≡ Err fault.NoObject
 unfolding boot_check ◌>>◌ need
 wrong-object cores R line e f = rw (e, f) refl
 
+-- too many objects are the fault where those named were made
 pub wrong-room : (cores : ℕ) (R : Log) (line : BootLine) → has_numbers cores R line ≡ true → has_objects R line ≡ true → has_room R line ≡ false → boot_check cores R line ≡ Err fault.Limit
 unfolding boot_check ◌>>◌ need
 wrong-room cores R line e f k = rw (e, f, k) refl
 
+-- what is taken is the fault where there is room
 pub wrong-place : (cores : ℕ) (R : Log) (line : BootLine) → has_numbers cores R line ≡ true → has_objects R line ≡ true → has_room R line ≡ true → is_free R line ≡ false → boot_check cores R line ≡ Err fault.Taken
 unfolding boot_check ◌>>◌ need
 wrong-place cores R line e f k l = rw (e, f, k, l) refl

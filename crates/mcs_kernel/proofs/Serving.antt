@@ -1,12 +1,11 @@
 -- What is known of an entry that is let in, and of the book after it.
-use Rattle.std.specs.Prelude.{ℕ, ◌≡◌, ◌≢◌, ◌<◌, ◌+◌, ◌++◌, ◌&&◌, Bool, true, false, cond, nat_lt, List, [], ◌∷◌, length, reverse, Option, Some, None, option_and_then}
-use Rattle.std.proofs.Common.{refl, ap, sym, ◌∙◌, subst, arith}
+use Rattle.std.specs.Prelude.{◌≡◌, ◌≢◌, ◌<◌, ◌+◌, ◌++◌, ◌&&◌, Bool, true, false, cond, List, [], length, reverse, Option, Some, None, option_and_then}
+use Rattle.std.proofs.Common.{refl, ap, ◌∙◌, arith}
 use Rattle.std.proofs.lemmas.Grind.{common_steps}
 use Rattle.std.proofs.lemmas.List.{reverse-reverse, append-nil}
 use Rattle.mcs_types.specs.declared.id.ObjId.{ObjId}
 use Rattle.mcs_types.specs.declared.id.CoreId.{CoreId}
 use Rattle.mcs_types.specs.declared.id.Kind.TheVariants as kind
-use Rattle.mcs_types.specs.declared.entry.Entry.{Entry}
 use Rattle.mcs_types.specs.declared.record.Mode.{Mode}
 use Rattle.mcs_types.specs.declared.record.Mode.TheVariants.{Running, Restart, Inactive}
 use Rattle.mcs_types.specs.declared.record.Queue.{Queue}
@@ -19,13 +18,12 @@ use Rattle.mcs_book.specs.Queues.{queue_of}
 use Rattle.mcs_book.specs.Contexts.{context_of}
 use Rattle.mcs_book.specs.Replies.{owing}
 use Rattle.mcs_book.specs.Standing.{status_of, status_by, is_ready, is_on_core, may_enter}
-use Rattle.mcs_book.specs.History.{Book, IsLegal, log_of, line_limit, Follows}
+use Rattle.mcs_book.specs.History.{Book, IsLegal, log_of, line_limit}
 use Rattle.mcs_book.specs.Ranges.{InRange}
-use Rattle.mcs_book.specs.Table.{does}
 use Rattle.mcs_book.proofs.Same.{parts, both}
 use Rattle.mcs_book.proofs.EntersLaws.{enters-ready}
 use Rattle.mcs_state.proofs.Opening.{onto-reverse}
-use Rattle.mcs_ipc.specs.Entering.{IsEntering, OpenStand}
+use Rattle.mcs_ipc.specs.Entering.{IsEntering}
 use Rattle.mcs_types.specs.declared.entry.Step.{Step}
 use Rattle.mcs_state.specs.Now.{Now, so_far}
 use Rattle.mcs_kernel.specs.declared.fault.EnterFault.TheVariants.{NotRunning, WrongCore, BookFull}

@@ -1,5 +1,5 @@
 -- What a step that is taken or turned away does to the book, and a run of steps cut at one of them.
-use Rattle.std.specs.Prelude.{ℕ, zero, suc, ◌≡◌, ◌≢◌, ◌<◌, ◌≤◌, ◌+◌, ◌&&◌, Bool, true, false, cond, List, [], ◌∷◌, length, drop, fold, slice_index_or, Option, Some, None, Result, Ok, Err, option_and_then}
+use Rattle.std.specs.Prelude.{ℕ, zero, suc, ◌≡◌, ◌≢◌, ◌<◌, ◌≤◌, ◌+◌, ◌&&◌, Bool, true, false, cond, List, [], ◌∷◌, length, drop, fold, slice_index_or, Option, Some, None, Result, Err, option_and_then}
 use Rattle.std.specs.Option.{IfSome, IfNone}
 use Rattle.std.specs.Result.{IfErr}
 use Rattle.std.proofs.Common.{refl, ap, sym, ◌∙◌, subst, arith}
@@ -12,11 +12,10 @@ use Rattle.mcs_book.specs.Contexts.{context_of}
 use Rattle.mcs_book.specs.Standing.{status_of, is_ready, is_on_core, may_enter}
 use Rattle.mcs_book.specs.History.{Book, log_of, with_step, book_of}
 use Rattle.mcs_book.specs.Boots.{Boot}
-use Rattle.mcs_book.specs.Served.{IsServed}
 use Rattle.mcs_kernel.specs.declared.fault.EnterFault.{EnterFault}
-use Rattle.mcs_kernel.specs.declared.fault.EnterFault.TheVariants.{NotRunning, NoContext, WrongCore, BookFull, OutOfMemory}
+use Rattle.mcs_kernel.specs.declared.fault.EnterFault.TheVariants.{NotRunning, WrongCore, BookFull, OutOfMemory}
 use Rattle.mcs_kernel.specs.Faults.{has_room, context_fault, fault_of, entered}
-use Rattle.mcs_kernel.specs.Runs.{is_book_full, full_after, AreServed}
+use Rattle.mcs_kernel.specs.Runs.{is_book_full, full_after}
 use Rattle.mcs_kernel.proofs.Serving.{fault-none}
 
 -- who is turned away for another reason than a full book may not enter
@@ -69,3 +68,13 @@ drop-none (x ∷ xs) (suc i) past = drop-none xs i (omega (arith, past))
 pub book-begun : (boot : Boot) (b : Book) (ss : List Step) → b ≡ record { boot = boot; lines = [] } → fold with_step b ss ≡ book_of boot ss
 unfolding book_of
 book-begun boot b ss is = ap (λ x. fold with_step x ss) is
+
+-- the first step with a full book comes after those that were taken before
+pub full-later : (n : ℕ) (b : Book) (ss : List Step) → IfSome (full_after n b ss) (λ m. n + 1 ≤ m)
+full-later n b [] = tt
+full-later n b (s ∷ ss) = go (is_book_full (fault_of b s.core s.thread)) (full_after (n + 1) (with_step b s) ss) (full-later (n + 1) (with_step b s) ss)
+  where
+    go : (v : Bool) (o : Option ℕ) → IfSome o (λ m. n + 1 + 1 ≤ m) → IfSome (cond v (Some (n + 1)) o) (λ m. n + 1 ≤ m)
+    go true o h = omega arith
+    go false None h = tt
+    go false (Some m) h = omega (arith, h)

@@ -1,5 +1,5 @@
 -- Why an entry is turned away, memory aside.
-use Rattle.std.specs.Prelude.{ℕ, ◌+◌, Bool, cond, nat_lt, Option, Some, None, length, ◌∷◌}
+use Rattle.std.specs.Prelude.{◌+◌, Bool, cond, nat_lt, Option, Some, None, length, ◌∷◌}
 use Rattle.mcs_types.specs.declared.id.ObjId.{ObjId}
 use Rattle.mcs_types.specs.declared.id.CoreId.{CoreId}
 use Rattle.mcs_types.specs.declared.entry.Step.{Step}

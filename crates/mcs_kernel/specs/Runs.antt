@@ -1,5 +1,6 @@
 -- Runs of steps: where the book is full for one that would be let in.
-use Rattle.std.specs.Prelude.{ℕ, ◌≡◌, ◌+◌, Bool, true, false, cond, Option, Some, None, List, [], ◌∷◌}
+use Rattle.std.specs.Prelude.{ℕ, ◌≡◌, ◌≤◌, ◌+◌, Bool, true, false, cond, Option, Some, None, List, [], ◌∷◌}
+use Rattle.std.specs.Option.{IfSome}
 use Rattle.mcs_types.specs.declared.entry.Step.{Step}
 use Rattle.mcs_book.specs.History.{Book, with_step}
 use Rattle.mcs_book.specs.Served.{IsServed}
@@ -7,7 +8,7 @@ use Rattle.mcs_kernel.specs.Faults.{fault_of}
 use Rattle.mcs_kernel.specs.declared.fault.ReplayFault.{ReplayFault}
 use Rattle.mcs_kernel.specs.declared.fault.ReplayFault.TheVariants as ended
 use Rattle.mcs_kernel.specs.declared.fault.EnterFault.{EnterFault}
-use Rattle.mcs_kernel.specs.declared.fault.EnterFault.TheVariants.{NotRunning, NoContext, WrongCore, BookFull, OutOfMemory}
+use Rattle.mcs_kernel.specs.declared.fault.EnterFault.TheVariants.{BookFull}
 
 -- whether it is that the book is full
 abbrev pub is_book_full : Option EnterFault → Bool
@@ -24,7 +25,8 @@ abbrev pub AreServed : List Step → Type 0
 AreServed [] = Unit {0}
 AreServed (s ∷ ss) = IsServed s.entry × AreServed ss
 
--- a fault of a replay whose first step with a full book has this number: BookFull comes at that step alone
-abbrev pub EndsAt : Option ℕ → ReplayFault → Type 0
-EndsAt full (ended.BookFull n) = full ≡ Some n
-EndsAt full (ended.OutOfMemory n) = Unit {0}
+-- a fault of a replay of so many steps, whose first step with a full book has this number: BookFull comes at that step alone,
+-- and OutOfMemory at one of the steps before or at it, or at the boot, which has the number 0
+abbrev pub EndsAt : ℕ → Option ℕ → ReplayFault → Type 0
+EndsAt count full (ended.BookFull n) = full ≡ Some n
+EndsAt count full (ended.OutOfMemory n) = (n ≤ count) × IfSome full (λ m. n ≤ m)

@@ -127,12 +127,7 @@ impl<L: Lines> Kernel<L> {
     }
 
     /// Does an entry that is let in: its line is added. OutOfMemory where the room for it is refused.
-    fn serve(
-        &mut self,
-        core: CoreId,
-        thread: ObjId,
-        entry: Entry,
-    ) -> Result<Answer, OutOfMemory>
+    fn serve(&mut self, core: CoreId, thread: ObjId, entry: Entry) -> Result<Answer, OutOfMemory>
         requires served { IsServed entry }
         requires let_in { fault_of self.old core thread ≡ None }
         ensures line { OnOk result (self.new ≡ entered self.old (record { core = core; thread = thread; entry = entry })) }

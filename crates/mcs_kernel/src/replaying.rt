@@ -1,5 +1,5 @@
 //! A whole run of steps.
-ghost use Rattle.std.specs.Prelude.{◌≡◌, ◌⊎◌, [], true, false, IfOk, OnOk, IfErr, Err, None};
+ghost use Rattle.std.specs.Prelude.{◌≡◌, ◌⊎◌, length, [], true, false, IfOk, OnOk, IfErr, Err, None};
 ghost use Rattle.mcs_book.specs.History.{book_of, with_step};
 ghost use Rattle.mcs_book.specs.Served.{IsServed};
 ghost use Rattle.mcs_kernel.specs.declared.fault.EnterFault.{EnterFault};
@@ -32,15 +32,11 @@ fn take<L: Lines>(kernel: &mut Kernel<L>, alloc: Global, step: &Step) -> Result<
 
 /// Takes the steps one after another on a kernel with this boot: steps that are turned away leave no line. BookFull comes
 /// exactly at the first step that would be let in and for which the book is full, unless memory was refused before.
-pub fn replay<L: Lines>(
-    alloc: Global,
-    boot: Boot,
-    steps: &[Step],
-) -> Result<Kernel<L>, ReplayFault>
+pub fn replay<L: Lines>(alloc: Global, boot: Boot, steps: &[Step]) -> Result<Kernel<L>, ReplayFault>
     requires served { AreServed steps.now }
     ensures book { IfOk result (λ k. k ≡ book_of boot steps.now) }
     ensures room { OnOk result (full_after 0 (record { boot = boot; lines = [] }) steps.now ≡ None) }
-    ensures full { IfErr result (EndsAt (full_after 0 (record { boot = boot; lines = [] }) steps.now)) }
+    ensures full { IfErr result (EndsAt (length steps.now) (full_after 0 (record { boot = boot; lines = [] }) steps.now)) }
 {
     let mut kernel = match Kernel::new(alloc, &boot) {
         Ok(kernel) => kernel,

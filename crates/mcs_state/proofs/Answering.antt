@@ -1,16 +1,15 @@
 -- What the tables answer is what the definitions say.
-use Rattle.std.specs.Prelude.{ℕ, zero, suc, ◌≡◌, ◌<◌, ◌≤◌, ◌+◌, ◌-◌, ◌==◌, ◌&&◌, ◌||◌, Bool, true, false, cond, if◌then◌else◌, not, List, [], ◌∷◌, map, find, filter, Option, Some, None, slice_index_or, length}
+use Rattle.std.specs.Prelude.{ℕ, zero, suc, ◌≡◌, ◌<◌, ◌≤◌, ◌+◌, ◌-◌, ◌&&◌, ◌||◌, Bool, true, false, cond, if◌then◌else◌, List, [], ◌∷◌, map, find, filter, Option, Some, None, slice_index_or}
 use Rattle.std.specs.Prelude.{nat_le}
 use Rattle.std.specs.Option.{IfSome}
 use Rattle.mcs_queues.specs.declared.lines.ThreadNo.{ThreadNo}
 use Rattle.mcs_queues.specs.Numbers.{thread_number}
 use Rattle.std.proofs.lemmas.Grind.{common_steps}
-use Rattle.std.proofs.lemmas.Bool.{eqb-true, eq-eqb}
-use Rattle.std.proofs.Common.{refl, ap, sym, ◌∙◌, subst, arith, inl, inr}
+use Rattle.std.proofs.lemmas.Bool.{eq-eqb}
+use Rattle.std.proofs.Common.{refl, ap, sym, ◌∙◌, arith, inl}
 use Rattle.mcs_types.specs.declared.id.ObjId.{ObjId}
 use Rattle.mcs_types.specs.declared.id.Kind.{Kind}
 use Rattle.mcs_types.specs.declared.id.Kind.TheVariants as kind
-use Rattle.mcs_types.specs.declared.record.Letter.{Letter}
 use Rattle.mcs_state.specs.declared.rows.Counts.{Counts}
 use Rattle.mcs_state.specs.declared.rows.ThreadRow.{ThreadRow}
 use Rattle.mcs_state.specs.declared.rows.ContextRow.{ContextRow}
@@ -18,7 +17,6 @@ use Rattle.mcs_state.specs.Numbers.{object_at, thread_at, context_at, objects_be
 use Rattle.mcs_state.specs.Tables.{ROOM, CountsAgree, ThreadsAgree, ContextsAgree, LinesAgree, count_in, last_below, receives_with, is_held_by, blank_thread, blank_context}
 use Rattle.mcs_state.proofs.Naming.{made-serial}
 use Rattle.mcs_types.specs.declared.record.Status.TheVariants as status
-use Rattle.mcs_types.specs.declared.record.Rec.{Rec}
 use Rattle.mcs_types.specs.declared.record.Rec.TheVariants.{Made, Closed, Owes, Paid, Void, Tied}
 use Rattle.mcs_book.specs.Logs.{Log, counted, same, same_kind, is_just}
 use Rattle.mcs_book.specs.Objects.{made_of, makes_kind, was_made, was_closed, form_of}
@@ -26,12 +24,12 @@ use Rattle.mcs_book.specs.Threads.{threads, prio_of, mode_of}
 use Rattle.mcs_types.specs.declared.record.Queue.{Queue}
 use Rattle.mcs_types.specs.Waiters.{Waiter, first_waiter}
 use Rattle.mcs_book.specs.Queues.{queue_of, reply_with, is_receiving, receives_at, first_in, line_of, head_of, stands_in, is_ahead}
-use Rattle.mcs_book.specs.Contexts.{contexts, holder_of, context_of}
+use Rattle.mcs_book.specs.Contexts.{holder_of, context_of}
 use Rattle.mcs_book.specs.Replies.{replies, owed_by, owing, receiver_with}
 use Rattle.mcs_book.specs.Notifications.{bound_of}
 use Rattle.mcs_book.specs.Standing.{status_of, status_by}
 use Rattle.mcs_book.specs.Served.{AreServed}
-use Rattle.mcs_book.proofs.Same.{same-self, same_kind-equal, same_kind-self, is_queue-some}
+use Rattle.mcs_book.proofs.Same.{same_kind-equal, same_kind-self, is_queue-some}
 use Rattle.mcs_book.proofs.Sorted.{In, filter-in, sort-in}
 use Rattle.mcs_book.proofs.MadeLaws.{serial-below}
 use Rattle.mcs_book.proofs.LineLaws.{line_of-growing, ahead-irreflexive, ahead-transitive}

@@ -1,12 +1,10 @@
 -- Bits of an address as numbers: what shifts and remainders give is what the lists of bits say.
-use Rattle.std.specs.Prelude.{ℕ, zero, suc, ◌≡◌, ◌<◌, ◌≤◌, ◌+◌, ◌-◌, ◌*◌, ◌/◌, ◌%◌, ◌^◌, ◌==◌, ◌&&◌, Bool, true, false, cond, not, List, [], ◌∷◌, length, take, drop, fold}
-use Rattle.std.specs.List.{starts_with}
+use Rattle.std.specs.Prelude.{ℕ, zero, suc, ◌≡◌, ◌<◌, ◌+◌, ◌*◌, ◌/◌, ◌%◌, ◌^◌, ◌==◌, ◌&&◌, cond, length, take, drop, fold}
 use Rattle.std.specs.Cmp.Lexicographic.{pointwise}
-use Rattle.std.proofs.lemmas.Bool.{eqb-true, eq-eqb}
 use Rattle.std.proofs.Common.{refl, ap, sym, ◌∙◌, arith}
 use Rattle.std.proofs.lemmas.Nat.{mod-pow-add, pow-add, pow_pos}
 use Rattle.std.proofs.Math.Nat.{mod-lt, mod-one, div-div-eq-div-mul, add-mul, mul_comm, mul_assoc}
-use Rattle.mcs_book.specs.Lookup.{bits_of, number_of_bits, same_bit}
+use Rattle.mcs_book.specs.Lookup.{bits_of, same_bit}
 use Rattle.mcs_state.proofs.Numbering.{same-test, different}
 
 pub length-bits : (n a : ℕ) → length (bits_of n a) ≡ n

@@ -1,6 +1,6 @@
 -- One column of a table after a row was written.
-use Rattle.std.specs.Prelude.{ℕ, ◌≡◌, ◌≢◌, ◌<◌, ◌+◌, ◌==◌, List, length, slice_index_or, slice_set, Option, Some, None, unwrap_or, cond}
-use Rattle.std.proofs.Common.{refl, ap, sym, ◌∙◌, arith}
+use Rattle.std.specs.Prelude.{ℕ, ◌≡◌, ◌≢◌, ◌<◌, ◌+◌, ◌==◌, List, length, slice_index_or, slice_set, unwrap_or}
+use Rattle.std.proofs.Common.{refl, ap, ◌∙◌, arith}
 use Rattle.std.proofs.lemmas.Grind.{common_steps}
 use Rattle.mcs_book.specs.Logs.{given}
 use Rattle.mcs_state.specs.Tables.{ROOM}

@@ -1,40 +1,28 @@
 -- The tables after a message was sent or taken.
-use Rattle.std.specs.Prelude.{ℕ, ◌≡◌, ◌≢◌, ◌<◌, ◌≤◌, ◌+◌, ◌-◌, ◌*◌, ◌∷◌, ◌==◌, ◌&&◌, Bool, true, false, cond, if◌then◌else◌, List, [], map, length, slice_index_or, slice_set, Option, Some, None, is_none, is_some, unwrap_or, nat_lt}
+use Rattle.std.specs.Prelude.{ℕ, ◌≡◌, ◌≢◌, ◌<◌, ◌+◌, ◌∷◌, ◌==◌, Bool, true, false, cond, List, length, slice_set, Option, Some, None}
 use Rattle.std.proofs.Common.{refl, ap, sym, ◌∙◌, subst, arith}
 use Rattle.std.proofs.lemmas.Bool.{eqb-true, eq-eqb}
-use Rattle.std.proofs.lemmas.Grind.{common_steps}
 use Rattle.mcs_types.specs.Views.{Content}
 use Rattle.mcs_types.specs.declared.id.ObjId.{ObjId}
-use Rattle.mcs_types.specs.declared.id.Kind.{Kind}
-use Rattle.mcs_types.specs.declared.id.Kind.TheVariants as kind
-use Rattle.mcs_types.specs.declared.id.Prio.{Prio}
 use Rattle.mcs_types.specs.declared.id.Badge.{Badge}
 use Rattle.mcs_types.specs.declared.cap.Cap.{Cap}
 use Rattle.mcs_types.specs.declared.record.Form.{Form}
-use Rattle.mcs_types.specs.declared.record.Form.TheVariants as form
 use Rattle.mcs_types.specs.declared.record.Letter.{Letter}
 use Rattle.mcs_types.specs.declared.record.SendMode.{SendMode}
 use Rattle.mcs_types.specs.declared.record.SendMode.TheVariants.{Plain}
-use Rattle.mcs_types.specs.declared.record.Mode.{Mode}
-use Rattle.mcs_types.specs.declared.record.Queue.{Queue}
-use Rattle.mcs_types.specs.declared.record.Queue.TheVariants.{Senders, Receivers, Waiters}
-use Rattle.mcs_types.specs.declared.record.Rec.{Rec}
 use Rattle.mcs_types.specs.declared.record.Rec.TheVariants as rec
-use Rattle.mcs_types.specs.Waiters.{Waiter, insert_behind, without}
-use Rattle.mcs_book.specs.Logs.{Log, counted, given, same}
-use Rattle.mcs_book.specs.Objects.{was_made, is_alive, makes_kind, next_id, form_of}
-use Rattle.mcs_book.specs.Queues.{queue_of, same_queue, is_queue}
-use Rattle.mcs_book.specs.Growing.{Waiter as Standing, insert_behind as put_behind, without as all_but, shifted, is_among, growing_line, growing_open, unless_number}
-use Rattle.mcs_book.specs.Sound.{Allowed, Sound, IsThere, IsLineThere}
-use Rattle.mcs_book.specs.Messages.{is_sent, next_message, letter, open_of}
-use Rattle.mcs_book.specs.Served.{IsServedRecord}
+use Rattle.mcs_types.specs.Waiters.{Waiter}
+use Rattle.mcs_book.specs.Logs.{Log}
+use Rattle.mcs_book.specs.Growing.{growing_open, unless_number}
+use Rattle.mcs_book.specs.Sound.{Allowed, Sound}
+use Rattle.mcs_book.specs.Messages.{letter, open_of}
 use Rattle.mcs_state.specs.declared.rows.ThreadRow.{ThreadRow}
 use Rattle.mcs_state.specs.declared.rows.ContextRow.{ContextRow}
 use Rattle.mcs_state.specs.declared.rows.Counts.{Counts}
-use Rattle.mcs_state.specs.Numbers.{thread_at, context_at, object_at, the_cnode, IsName, IsLineName, line_number, number_of_line, standing}
+use Rattle.mcs_state.specs.Numbers.{thread_at}
 use Rattle.mcs_state.specs.Now.{IsNumberOf}
-use Rattle.mcs_state.specs.Tables.{ROOM, HAND, LINES, CountsAgree, ThreadsAgree, LettersAgree, ContextsAgree, SlotsAgree, LinesAgree, LogAgrees, Agrees}
-use Rattle.mcs_state.proofs.Columns.{column-set, column-kept, given-here, given-other}
+use Rattle.mcs_state.specs.Tables.{ROOM, HAND, Agrees}
+use Rattle.mcs_state.proofs.Columns.{column-set}
 use Rattle.mcs_book.proofs.OpenLaws.{open_of-growing}
 use Rattle.mcs_book.proofs.MessageLaws.{open_of-letter, open_of-open}
 use Rattle.mcs_book.proofs.Same.{same-equal}

@@ -1,41 +1,30 @@
 -- The tables after a thread joined or left a line, or got its priority.
-use Rattle.std.specs.Prelude.{ℕ, ◌≡◌, ◌≢◌, ◌<◌, ◌≤◌, ◌+◌, ◌-◌, ◌*◌, ◌∷◌, ◌==◌, ◌&&◌, Bool, true, false, cond, if◌then◌else◌, List, [], map, length, slice_index_or, slice_set, Option, Some, None, is_none, is_some, unwrap_or, nat_lt}
+use Rattle.std.specs.Prelude.{ℕ, ◌≡◌, ◌<◌, ◌+◌, ◌∷◌, ◌==◌, ◌&&◌, Bool, true, false, cond, if◌then◌else◌, List, map, length, slice_index_or, slice_set, Option, Some, None, is_none, unwrap_or, nat_lt}
 use Rattle.std.proofs.Common.{refl, ap, sym, ◌∙◌, subst, arith}
 use Rattle.std.proofs.lemmas.Bool.{eqb-true, eq-eqb}
 use Rattle.std.proofs.lemmas.Grind.{common_steps}
-use Rattle.mcs_types.specs.Views.{Content}
 use Rattle.mcs_types.specs.declared.id.ObjId.{ObjId}
-use Rattle.mcs_types.specs.declared.id.Kind.{Kind}
-use Rattle.mcs_types.specs.declared.id.Kind.TheVariants as kind
 use Rattle.mcs_types.specs.declared.id.Prio.{Prio}
-use Rattle.mcs_types.specs.declared.id.Badge.{Badge}
 use Rattle.mcs_types.specs.declared.cap.Cap.{Cap}
 use Rattle.mcs_types.specs.declared.record.Form.{Form}
-use Rattle.mcs_types.specs.declared.record.Form.TheVariants as form
 use Rattle.mcs_types.specs.declared.record.Letter.{Letter}
-use Rattle.mcs_types.specs.declared.record.SendMode.{SendMode}
 use Rattle.mcs_types.specs.declared.record.Mode.{Mode}
 use Rattle.mcs_types.specs.declared.record.Queue.{Queue}
-use Rattle.mcs_types.specs.declared.record.Queue.TheVariants.{Senders, Receivers, Waiters}
-use Rattle.mcs_types.specs.declared.record.Rec.{Rec}
 use Rattle.mcs_types.specs.declared.record.Rec.TheVariants as rec
 use Rattle.mcs_types.specs.Waiters.{Waiter, insert_behind, without}
-use Rattle.mcs_book.specs.Logs.{Log, counted, given, same}
-use Rattle.mcs_book.specs.Objects.{was_made, is_alive, makes_kind, next_id, form_of}
+use Rattle.mcs_book.specs.Logs.{Log, given, same}
 use Rattle.mcs_book.specs.Threads.{prio_of}
-use Rattle.mcs_book.specs.Queues.{queue_of, same_queue, is_queue}
-use Rattle.mcs_book.specs.Growing.{Waiter as Standing, insert_behind as put_behind, without as all_but, shifted, is_among, growing_line, growing_open, unless_number}
-use Rattle.mcs_book.specs.Sound.{Allowed, Sound, IsThere, IsLineThere}
-use Rattle.mcs_book.specs.Messages.{is_sent, next_message, letter, open_of}
-use Rattle.mcs_book.specs.Served.{IsServedRecord}
+use Rattle.mcs_book.specs.Queues.{queue_of, same_queue}
+use Rattle.mcs_book.specs.Growing.{Waiter as Standing, insert_behind as put_behind, without as all_but, shifted, growing_line}
+use Rattle.mcs_book.specs.Sound.{Allowed, Sound}
 use Rattle.mcs_state.specs.declared.rows.ThreadRow.{ThreadRow}
 use Rattle.mcs_state.specs.declared.rows.ContextRow.{ContextRow}
 use Rattle.mcs_state.specs.declared.rows.Counts.{Counts}
-use Rattle.mcs_state.specs.Numbers.{thread_at, context_at, object_at, the_cnode, IsName, IsLineName, line_number, number_of_line, standing}
-use Rattle.mcs_state.specs.Tables.{ROOM, HAND, LINES, CountsAgree, ThreadsAgree, LettersAgree, ContextsAgree, SlotsAgree, LinesAgree, LogAgrees, Agrees}
+use Rattle.mcs_state.specs.Numbers.{thread_at, IsLineName, line_number, number_of_line, standing}
+use Rattle.mcs_state.specs.Tables.{ROOM, HAND, LINES, ThreadsAgree, LinesAgree, Agrees}
 use Rattle.mcs_state.proofs.Columns.{column-set, column-kept, given-here, given-other}
 use Rattle.mcs_book.proofs.LineLaws.{among-line}
-use Rattle.mcs_state.proofs.Numbering.{same-test, number-same, number-below, map-insert, map-without}
+use Rattle.mcs_state.proofs.Numbering.{number-same, number-below, map-insert, map-without}
 use Rattle.mcs_state.proofs.Turning.{log-more, ranked}
 
 -- the row of the thread has the line and the reply object
@@ -56,9 +45,9 @@ queued rows forms prios modes queues replies i q reply r len lt rs a =
 
 -- the row of the thread has no line
 left : (rows : List ThreadRow) (forms : ℕ → Option Form) (prios : ObjId → ℕ) (modes : ObjId → Mode) (queues : ObjId → Option Queue) (replies : ObjId → Option ObjId)
-    (i : ℕ)  (r : ThreadRow) → length rows ≡ ROOM → i < ROOM → r ≡ slice_index_or rows i r
+    (i : ℕ) (r : ThreadRow) → length rows ≡ ROOM → i < ROOM → r ≡ slice_index_or rows i r
     → ThreadsAgree rows forms prios modes queues replies → ThreadsAgree (slice_set rows i (record r { queue = None })) forms prios modes (λ t. unwrap_or (given (same t (thread_at i)) None) (queues t)) replies
-left rows forms prios modes queues replies i  r len lt rs a =
+left rows forms prios modes queues replies i r len lt rs a =
     let row : ThreadRow = record r { queue = None } in
     record {
       form = column-kept (λ q. q.form) forms rows i r row len lt a.form rs refl;
@@ -78,9 +67,9 @@ lines-joined : (line line' : ℕ → List Waiter) (place place' : ℕ → Option
     → LinesAgree line place waiters queues
     → LinesAgree line' place' (λ q. cond (same_queue k q) (put_behind (record { thread = thread_at i; priority = p }) (waiters q)) (waiters q)) (λ t. unwrap_or (given (same t (thread_at i)) (Some k)) (queues t))
 lines-joined line line' place place' waiters queues i p k done name lt idle is joined placed a = record {
-    lines = λ q good. rw (joined (line_number q), yes, number-same k q name good) (at_line q (same_queue k q) (a.lines q good));
-    places = λ u below. rw (placed u, yes) (at_place u (i == u) refl (a.places u below));
-  }
+  lines = λ q good. rw (joined (line_number q), yes, number-same k q name good) (at_line q (same_queue k q) (a.lines q good));
+  places = λ u below. rw (placed u, yes) (at_place u (i == u) refl (a.places u below));
+}
   where
     free : place i ≡ None
     free = a.places i lt ∙ ap (λ o. number_of_line o) idle
@@ -105,9 +94,9 @@ lines-left : (line line' : ℕ → List Waiter) (place place' : ℕ → Option �
     → LinesAgree line place waiters queues
     → LinesAgree line' place' (λ q. all_but (thread_at i) (waiters q)) (λ t. unwrap_or (given (same t (thread_at i)) None) (queues t))
 lines-left line line' place place' waiters queues i left placed a = record {
-    lines = λ q good. rw (left (line_number q)) (ap (λ vs. all_but (thread_at i) vs) (a.lines q good) ∙ sym (map-without i (line (line_number q))));
-    places = λ u below. rw (placed u) (at_place u (i == u) refl (a.places u below));
-  }
+  lines = λ q good. rw (left (line_number q)) (ap (λ vs. all_but (thread_at i) vs) (a.lines q good) ∙ sym (map-without i (line (line_number q))));
+  places = λ u below. rw (placed u) (at_place u (i == u) refl (a.places u below));
+}
   where
     at_place : (u : ℕ) (b : Bool) → (i == u) ≡ b → place u ≡ number_of_line (queues (thread_at u))
         → cond b None (place u) ≡ number_of_line (unwrap_or (given (u + 1 == i + 1) None) (queues (thread_at u)))
@@ -128,17 +117,17 @@ pub joins-agrees : {counts : Counts} {threads : List ThreadRow} {letters : List 
     → ((u : ℕ) → place' u ≡ (if done && (i == u) then Some (line_number k) else place u))
     → Agrees counts threads letters contexts cnode slots line place sent lines hand R
     → Agrees counts (slice_set threads i (record r { queue = Some k; reply = reply })) letters contexts cnode slots line' place' sent lines (rec.Joins (thread_at i) k reply ∷ hand) (rec.Joins (thread_at i) k reply ∷ R)
-joins-agrees {counts = counts} {threads = threads} {letters = letters} {contexts = contexts} {cnode = cnode} {slots = slots} {line = line} {place = place} {sent = sent} {lines = lines} {hand = hand} {R = R} {line' = line'} {place' = place'} i p k reply r done len lt rs room ok name ps is joined placed a = 
+joins-agrees {counts = counts} {threads = threads} {letters = letters} {contexts = contexts} {cnode = cnode} {slots = slots} {line = line} {place = place} {sent = sent} {lines = lines} {hand = hand} {R = R} {line' = line'} {place' = place'} i p k reply r done len lt rs room ok name ps is joined placed a =
     let prio : p ≡ prio_of R (thread_at i) = ps ∙ ap (λ (q : ThreadRow). q.priority.0) rs ∙ a.of_threads.priority i r lt in
     record {
-  of_counts = a.of_counts;
-  of_threads = queued threads _ _ _ _ _ i k reply r len lt rs a.of_threads;
-  of_letters = a.of_letters;
-  of_contexts = a.of_contexts;
-  of_slots = a.of_slots;
-  of_lines = subst (λ (n : ℕ). LinesAgree line' place' (λ q. cond (same_queue k q) (put_behind (record { thread = thread_at i; priority = n }) (growing_line R q)) (growing_line R q)) (λ t. queue_of (rec.Joins (thread_at i) k reply ∷ R) t)) prio (lines-joined line line' place place' _ _ i p k done name lt ok.1.0 is joined placed a.of_lines);
-  of_log = log-more sent lines hand R _ refl room ok tt a.of_log;
-}
+      of_counts = a.of_counts;
+      of_threads = queued threads _ _ _ _ _ i k reply r len lt rs a.of_threads;
+      of_letters = a.of_letters;
+      of_contexts = a.of_contexts;
+      of_slots = a.of_slots;
+      of_lines = subst (λ (n : ℕ). LinesAgree line' place' (λ q. cond (same_queue k q) (put_behind (record { thread = thread_at i; priority = n }) (growing_line R q)) (growing_line R q)) (λ t. queue_of (rec.Joins (thread_at i) k reply ∷ R) t)) prio (lines-joined line line' place place' _ _ i p k done name lt ok.1.0 is joined placed a.of_lines);
+      of_log = log-more sent lines hand R _ refl room ok tt a.of_log;
+    }
 
 -- after a thread left its line
 pub parts-agrees : {counts : Counts} {threads : List ThreadRow} {letters : List (Option Letter)} {contexts : List ContextRow} {cnode : Option Form} {slots : List (Option Cap)}

@@ -1,15 +1,13 @@
 -- Lookup by numbers is lookup by bits, where there is one CNode.
-use Rattle.std.specs.Prelude.{ℕ, zero, suc, ◌≡◌, ◌<◌, ◌≤◌, ◌+◌, ◌-◌, ◌*◌, ◌/◌, ◌%◌, ◌^◌, ◌==◌, ◌&&◌, Bool, true, false, cond, List, [], ◌∷◌, length, take, drop, fold, nat_le, Option, Some, None, Ok, Err, unwrap_or, option_and_then}
+use Rattle.std.specs.Prelude.{ℕ, ◌≡◌, ◌<◌, ◌≤◌, ◌+◌, ◌-◌, ◌*◌, ◌/◌, ◌%◌, ◌^◌, ◌==◌, ◌&&◌, Bool, true, false, cond, List, [], ◌∷◌, length, take, drop, nat_le, Option, Some, None, Ok, Err, unwrap_or, option_and_then}
 use Rattle.std.specs.List.{starts_with}
 use Rattle.std.specs.Cmp.Lexicographic.{pointwise}
 use Rattle.std.proofs.Common.{refl, ap, sym, ◌∙◌, subst, arith}
 use Rattle.std.proofs.lemmas.Grind.{common_steps}
-use Rattle.std.proofs.lemmas.Nat.{pow-add}
 use Rattle.std.proofs.Math.Pow.{shr_mod}
 use Rattle.std.proofs.Math.Nat.{mod-eq_of_lt}
 use Rattle.mcs_types.specs.declared.id.ObjId.{ObjId}
 use Rattle.mcs_types.specs.declared.cap.Cap.{Cap}
-use Rattle.mcs_types.specs.declared.cap.Guard.{Guard}
 use Rattle.mcs_types.specs.declared.entry.Refusal.TheVariants.{Missing, DepthMismatch, GuardMismatch}
 use Rattle.mcs_types.specs.declared.record.Form.{Form}
 use Rattle.mcs_types.specs.declared.record.Form.TheVariants as form
@@ -20,7 +18,7 @@ use Rattle.mcs_book.specs.Objects.{form_of}
 use Rattle.mcs_book.specs.Slots.{slot}
 use Rattle.mcs_book.specs.Threads.{root_of, root_kept}
 use Rattle.mcs_book.specs.Checks.{Checked, ◌>>=◌, ◌>>◌, need, needed}
-use Rattle.mcs_book.specs.Lookup.{bits_of, number_of_bits, same_bit, is_none_left, Reached, radix_kept, level, cnode_cap, goes_on, walk, capability}
+use Rattle.mcs_book.specs.Lookup.{bits_of, number_of_bits, same_bit, is_none_left, Reached, radix_kept, level, cnode_cap, walk, capability}
 use Rattle.mcs_book.specs.Served.{AreServed, IsServedForm, first_cnode}
 use Rattle.mcs_state.specs.Addresses.{index_at}
 use Rattle.mcs_state.proofs.Numbering.{same-test}
@@ -60,7 +58,7 @@ two-tests false c x y f e = refl
 -- one level by numbers
 level-is : (R : Log) (cap : Cap) (a : ℕ) → a < 2 ^ 64 → cap.guard.bits ≤ 63 → cap.guard.value < 2 ^ cap.guard.bits
     → level R cap (bits_of 64 a) ≡ (index_at cap.guard (radix_kept (form_of R cap.obj)) a
-        >>= λ i. Ok (record { cnode = cap.obj; index = i; left = drop (radix_kept (form_of R cap.obj)) (drop (length (bits_of cap.guard.bits cap.guard.value)) (bits_of 64 a)) }))
+    >>= λ i. Ok (record { cnode = cap.obj; index = i; left = drop (radix_kept (form_of R cap.obj)) (drop (length (bits_of cap.guard.bits cap.guard.value)) (bits_of 64 a)) }))
 unfolding level index_at ◌>>=◌ ◌>>◌ need
 level-is R cap a ha hg hv =
     rw (starts, longer) (two-tests (a / 2 ^ m == v) (nat_le radix m) (number_of_bits (take radix (drop (length (bits_of g v)) (bits_of 64 a)))) (a / 2 ^ (m - radix) % 2 ^ radix)
@@ -99,7 +97,6 @@ level-is R cap a ha hg hv =
     index le =
         let few : m ≡ radix + (m - radix) = grind (arith, common_steps, le) in
         ap (λ bs. number_of_bits (take radix bs)) rest ∙ number-bits radix (m - radix) m a 0 few ∙ none-before (2 ^ radix) (a / 2 ^ (m - radix) % 2 ^ radix)
-
 
 -- checks that go on with what they gave
 bind-ok : (m : Checked Reached) (f : Reached → Checked Reached) → ((at : Reached) → f at ≡ Ok at) → (m >>= f) ≡ m

@@ -1,17 +1,16 @@
 -- Numbers of lines and of threads name them.
-use Rattle.std.specs.Prelude.{ℕ, ◌≡◌, ◌<◌, ◌≤◌, ◌+◌, ◌-◌, ◌*◌, ◌==◌, ◌&&◌, Bool, true, false, cond, nat_lt, List, [], ◌∷◌, map}
+use Rattle.std.specs.Prelude.{ℕ, ◌≡◌, ◌<◌, ◌+◌, ◌==◌, Bool, true, false, cond, nat_lt, List, [], ◌∷◌, map}
 use Rattle.std.proofs.Common.{refl, ap, sym, ◌∙◌, arith}
 use Rattle.std.proofs.lemmas.Bool.{eqb-true, eq-eqb}
-use Rattle.std.proofs.lemmas.Grind.{common_steps}
 use Rattle.mcs_types.specs.declared.id.ObjId.{ObjId}
 use Rattle.mcs_types.specs.declared.id.Kind.{Kind}
 use Rattle.mcs_types.specs.declared.id.Kind.TheVariants as kind
 use Rattle.mcs_types.specs.declared.record.Queue.{Queue}
 use Rattle.mcs_types.specs.declared.record.Queue.TheVariants.{Senders, Receivers, Waiters}
 use Rattle.mcs_types.specs.Waiters.{Waiter, insert_behind, without}
-use Rattle.mcs_book.specs.Logs.{same, same_kind}
+use Rattle.mcs_book.specs.Logs.{same}
 use Rattle.mcs_book.specs.Queues.{same_queue}
-use Rattle.mcs_book.specs.Growing.{Waiter as Standing, insert_behind as put_behind, without as all_but}
+use Rattle.mcs_book.specs.Growing.{insert_behind as put_behind, without as all_but}
 use Rattle.mcs_book.proofs.Same.{same_kind-self}
 use Rattle.mcs_state.specs.Numbers.{thread_at, IsName, IsLineName, line_number, standing}
 

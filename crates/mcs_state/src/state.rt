@@ -23,7 +23,10 @@ use crate::numbers::{ContextNo, context_id, line_no, object_id, thread_id};
 use crate::rows::{ContextRow, Counts, ThreadRow};
 use mcs_book::Book;
 use mcs_queues::{Lines, ThreadNo};
-use mcs_types::{Answer, BOOK_LINES, Badge, BootLine, Cap, CoreId, Form, Kind, LINE_RECORDS, Letter, Message, Mode, OBJECTS, ObjId, OutOfMemory, Prio, Queue, Rec, SendMode, Step};
+use mcs_types::{
+    Answer, BOOK_LINES, Badge, BootLine, Cap, CoreId, Form, Kind, LINE_RECORDS, Letter, Message,
+    Mode, OBJECTS, ObjId, OutOfMemory, Prio, Queue, Rec, SendMode, Step,
+};
 use std::alloc::{AllocError, Global};
 use std::marker::Model;
 
@@ -203,7 +206,13 @@ impl<L: Lines> State<L> {
         ensures { self.new ≡ adds (Rec.Made (next_id (so_far self.old) Kind.Endpoint) Form.Plain) self.old }
     {
         let object = object_id(Kind::Endpoint, self.counts.endpoints);
-        note(&mut self.hand, Rec::Made { object, form: Form::Plain });
+        note(
+            &mut self.hand,
+            Rec::Made {
+                object,
+                form: Form::Plain,
+            },
+        );
         self.counts.endpoints += 1;
     }
 
@@ -215,7 +224,13 @@ impl<L: Lines> State<L> {
         ensures { self.new ≡ adds (Rec.Made (next_id (so_far self.old) Kind.Notification) Form.Plain) self.old }
     {
         let object = object_id(Kind::Notification, self.counts.notifications);
-        note(&mut self.hand, Rec::Made { object, form: Form::Plain });
+        note(
+            &mut self.hand,
+            Rec::Made {
+                object,
+                form: Form::Plain,
+            },
+        );
         self.counts.notifications += 1;
     }
 
@@ -227,7 +242,13 @@ impl<L: Lines> State<L> {
         ensures { self.new ≡ adds (Rec.Made (next_id (so_far self.old) Kind.Reply) Form.Plain) self.old }
     {
         let object = object_id(Kind::Reply, self.counts.replies);
-        note(&mut self.hand, Rec::Made { object, form: Form::Plain });
+        note(
+            &mut self.hand,
+            Rec::Made {
+                object,
+                form: Form::Plain,
+            },
+        );
         self.counts.replies += 1;
     }
 
@@ -369,7 +390,14 @@ impl<L: Lines> State<L> {
     }
 
     /// A thread sends a message on an endpoint.
-    pub fn sends(&mut self, sender: ThreadNo, endpoint: ObjId, mode: SendMode, badge: Badge, message: Message)
+    pub fn sends(
+        &mut self,
+        sender: ThreadNo,
+        endpoint: ObjId,
+        mode: SendMode,
+        badge: Badge,
+        message: Message,
+    )
         requires allowed { Allowed (so_far self.old) (Rec.Sent (thread_at sender.0) endpoint mode badge message) }
         requires plain { mode ≡ SendMode.Plain }
         requires known { sender.0 < ROOM }

@@ -1,7 +1,6 @@
-use Rattle.std.proofs.Common.{◌≡◌, ◌∷◌, refl, sym, ◌∙◌, ap, subst, Some, None, Ok, Err}
+use Rattle.std.proofs.Common.{sym, ◌∙◌, ap, subst}
 use Rattle.mcs_types.specs.declared.id.ObjId.{ObjId}
 use Rattle.mcs_types.specs.declared.id.Kind.TheVariants as kind
-use Rattle.mcs_book.specs.Logs.{Log}
 use Rattle.mcs_book.specs.Threads.{mode_of}
 use Rattle.mcs_book.specs.Pieces.{Outcome}
 use Rattle.mcs_book.specs.Sound.{IsThere}

@@ -1,5 +1,4 @@
-use Rattle.std.proofs.Common.{◌≡◌, ◌∷◌, refl, sym, ◌∙◌, ap, subst, Some, None}
-use Rattle.mcs_types.specs.declared.record.Queue.TheVariants.{Receivers}
+use Rattle.std.proofs.Common.{sym, ◌∙◌, ap}
 use Rattle.mcs_book.specs.Pieces.{Outcome}
 use Rattle.mcs_state.specs.Numbers.{thread_at, thread_of}
 use Rattle.mcs_state.specs.Now.{so_far, adds_all}

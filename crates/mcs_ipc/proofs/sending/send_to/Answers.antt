@@ -1,14 +1,12 @@
-use Rattle.std.proofs.Common.{◌≡◌, ◌∷◌, refl, sym, ◌∙◌, ap, subst, Some, None, IsTrue}
-use Rattle.mcs_types.specs.declared.id.Kind.TheVariants as kind
-use Rattle.mcs_types.specs.declared.record.Mode.TheVariants.{Running, Inactive}
-use Rattle.mcs_types.specs.declared.record.Queue.TheVariants.{Senders, Receivers}
+use Rattle.std.proofs.Common.{◌∷◌, sym, subst, IsTrue}
+use Rattle.mcs_types.specs.declared.record.Queue.TheVariants.{Receivers}
 use Rattle.mcs_types.specs.declared.record.SendMode.TheVariants as how
 use Rattle.mcs_types.specs.declared.record.Rec.TheVariants as rec
 use Rattle.mcs_book.specs.Logs.{Log}
-use Rattle.mcs_book.specs.Messages.{next_message, is_open, open_of}
+use Rattle.mcs_book.specs.Messages.{is_open, open_of}
 use Rattle.mcs_state.specs.Numbers.{thread_at}
 use Rattle.mcs_state.specs.Now.{so_far, IsNumberOf}
-use Rattle.mcs_ipc.proofs.Facts.{idle, first-there, may-send, sent-is, sent-opens, send-waits, send-hands, parted}
+use Rattle.mcs_ipc.proofs.Facts.{first-there, may-send, sent-is, sent-opens, parted}
 use Rattle.mcs_ipc.proofs.sending.send_to.Goals as goal
 
 pub sends-requires-clause-allowed : goal.sends-requires-clause-allowed

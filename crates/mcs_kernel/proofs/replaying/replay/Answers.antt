@@ -1,10 +1,8 @@
-use Rattle.std.proofs.Common.{◌≡◌, ◌+◌, ◌<◌, ◌∷◌, [], List, ℕ, length, drop, fold, true, false, cond, refl, sym, ◌∙◌, ap, subst, arith, Some, None, Err}
+use Rattle.std.proofs.Common.{◌+◌, ◌≤◌, IfSome, List, drop, fold, cond, refl, sym, ◌∙◌, ap, subst, arith, Some, Err}
 use Rattle.mcs_types.specs.declared.entry.Step.{Step}
-use Rattle.mcs_book.specs.History.{Book, book_of, with_step}
-use Rattle.mcs_book.specs.Served.{IsServed}
-use Rattle.mcs_kernel.specs.Faults.{fault_of}
-use Rattle.mcs_kernel.specs.Runs.{AreServed, is_book_full, full_after}
-use Rattle.mcs_kernel.proofs.Stepping.{drop-next, drop-none, book-begun}
+use Rattle.mcs_book.specs.History.{with_step}
+use Rattle.mcs_kernel.specs.Runs.{AreServed, full_after}
+use Rattle.mcs_kernel.proofs.Stepping.{drop-next, drop-none, book-begun, full-later}
 use Rattle.mcs_kernel.proofs.replaying.replay.Goals as goal
 
 pub loop-step-init : goal.loop-step-init
@@ -36,8 +34,8 @@ loop-step-preserved g c =
       (subst AreServed next i.1).1,
       ap (λ b. fold with_step b ss) taken.0 ∙ sym (ap (λ xs. fold with_step c.loop-step.kernel xs) next) ∙ i.2,
       ap (λ b. full_after (c.loop-step.taken + 1) b ss) taken.0
-      ∙ sym (ap (λ b. cond b (Some (c.loop-step.taken + 1)) (full_after (c.loop-step.taken + 1) (with_step c.loop-step.kernel c.step-item.result) ss)) taken.1)
-      ∙ sym (ap (λ xs. full_after c.loop-step.taken c.loop-step.kernel xs) next) ∙ i.3,
+          ∙ sym (ap (λ b. cond b (Some (c.loop-step.taken + 1)) (full_after (c.loop-step.taken + 1) (with_step c.loop-step.kernel c.step-item.result) ss)) taken.1)
+          ∙ sym (ap (λ xs. full_after c.loop-step.taken c.loop-step.kernel xs) next) ∙ i.3,
     )
 
 pub returns-clause-book : goal.returns-clause-book
@@ -49,3 +47,12 @@ pub returns-clause-room : goal.returns-clause-room
 returns-clause-room g c =
     let i = c.loop-step.invariant in
     sym i.3 ∙ ap (λ ss. full_after c.loop-step.taken c.loop-step.kernel ss) (drop-none c.args.steps.now c.loop-step.step-index c.loop-step-test.false)
+
+pub returns-in-Err-take : goal.returns-in-Err-take
+returns-in-Err-take g c =
+    let i = c.loop-step.invariant in
+    record {
+      book = tt;
+      room = tt;
+      full = (omega (arith, i.0, c.loop-step-test.true), subst (λ o. IfSome o (λ m. c.loop-step.taken + 1 ≤ m)) i.3 (full-later c.loop-step.taken c.loop-step.kernel (drop c.loop-step.step-index c.args.steps.now)));
+    }

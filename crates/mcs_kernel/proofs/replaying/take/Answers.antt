@@ -1,8 +1,7 @@
-use Rattle.std.proofs.Common.{◌≡◌, refl, sym, ◌∙◌, ap, subst, Some, None, Err}
+use Rattle.std.proofs.Common.{◌≡◌, refl, sym, ◌∙◌, ap, Some, Err}
 use Rattle.mcs_types.specs.declared.entry.Step.{Step}
 use Rattle.mcs_book.specs.History.{Book}
-use Rattle.mcs_kernel.specs.declared.fault.EnterFault.{EnterFault}
-use Rattle.mcs_kernel.specs.declared.fault.EnterFault.TheVariants.{NotRunning, NoContext, WrongCore, BookFull, OutOfMemory}
+use Rattle.mcs_kernel.specs.declared.fault.EnterFault.TheVariants.{NotRunning, NoContext, WrongCore}
 use Rattle.mcs_kernel.specs.Faults.{fault_of, entered}
 use Rattle.mcs_kernel.specs.Runs.{is_book_full}
 use Rattle.mcs_kernel.proofs.Stepping.{fault-shown, step-taken, step-skipped}

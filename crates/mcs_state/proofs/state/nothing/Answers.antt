@@ -1,4 +1,4 @@
-use Rattle.std.proofs.Common.{◌≡◌, ◌+◌, vec_len, arith}
+use Rattle.std.proofs.Common.{arith}
 use Rattle.mcs_state.proofs.Opening.{none-more}
 use Rattle.mcs_state.proofs.state.nothing.Goals as goal
 

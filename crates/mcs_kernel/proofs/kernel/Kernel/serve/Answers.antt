@@ -1,20 +1,19 @@
-use Rattle.std.proofs.Common.{List, ◌≡◌, ◌≤◌, ◌<◌, ◌+◌, ◌++◌, ◌∷◌, [], length, reverse, refl, sym, ◌∙◌, ap, subst, arith, Some, None, Bool, ◌&&◌, true, false}
+use Rattle.std.proofs.Common.{List, ◌≡◌, ◌∷◌, [], length, reverse, sym, ◌∙◌, ap, subst, arith, ◌&&◌, true, false}
 use Rattle.mcs_types.specs.declared.id.ObjId.{ObjId}
 use Rattle.mcs_types.specs.declared.id.Kind.TheVariants as kind
 use Rattle.mcs_types.specs.declared.entry.Step.{Step}
 use Rattle.mcs_types.specs.declared.entry.Answer.{Answer}
 use Rattle.mcs_types.specs.declared.record.Rec.{Rec}
-use Rattle.mcs_book.specs.Logs.{Log, same_kind, onto}
+use Rattle.mcs_book.specs.Logs.{same_kind}
 use Rattle.mcs_book.specs.Objects.{was_made}
 use Rattle.mcs_book.specs.Pieces.{Outcome}
 use Rattle.mcs_book.specs.Table.{does}
-use Rattle.mcs_book.specs.History.{Book, Line, IsLegal, log_of}
+use Rattle.mcs_book.specs.History.{Book, IsLegal, log_of}
 use Rattle.mcs_book.proofs.EntersLaws.{enters-made}
-use Rattle.mcs_book.proofs.Same.{same_kind-self, both}
+use Rattle.mcs_book.proofs.Same.{both}
 use Rattle.mcs_book.proofs.SendersOpen.{legal-senders}
 use Rattle.mcs_state.specs.Numbers.{thread_at, thread_of}
 use Rattle.mcs_state.specs.Now.{Now, so_far, adds_all}
-use Rattle.mcs_state.specs.Tables.{HAND}
 use Rattle.mcs_state.proofs.Answering.{none-given, some-given}
 use Rattle.mcs_ipc.specs.Entering.{IsEntering, OpenStand}
 use Rattle.mcs_kernel.specs.Faults.{entered}

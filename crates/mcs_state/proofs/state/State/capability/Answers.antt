@@ -1,29 +1,11 @@
-use Rattle.std.proofs.Common.{◌≡◌, ◌≤◌, ◌<◌, ◌+◌, ◌-◌, ◌++◌, ◌∷◌, length, vec_len, reverse, refl, sym, ◌∙◌, subst, ap, arith, Some, None, Option, IfSome, Bool, cond, ◌&&◌, if◌then◌else◌, ℕ}
+use Rattle.std.proofs.Common.{◌≡◌, ◌++◌, reverse, sym, ◌∙◌, subst, ap, Some, None}
 use Rattle.mcs_types.specs.declared.id.ObjId.{ObjId}
-use Rattle.mcs_types.specs.declared.id.Kind.TheVariants as kind
-use Rattle.mcs_types.specs.declared.record.Form.{Form}
-use Rattle.mcs_types.specs.declared.record.Queue.{Queue}
-use Rattle.mcs_types.specs.declared.record.Status.{Status}
-use Rattle.mcs_types.specs.declared.record.Mode.{Mode}
-use Rattle.mcs_types.specs.Waiters.{first_waiter}
-use Rattle.mcs_queues.specs.Numbers.{thread_number}
-use Rattle.mcs_book.specs.Logs.{Log, counted, same_kind}
-use Rattle.mcs_book.specs.Objects.{makes_kind, was_made, form_of}
-use Rattle.mcs_book.specs.Threads.{mode_of}
-use Rattle.mcs_book.specs.Queues.{queue_of, first_in}
-use Rattle.mcs_book.specs.Contexts.{context_of}
-use Rattle.mcs_book.specs.Replies.{receiver_with}
-use Rattle.mcs_book.specs.Standing.{status_of, status_by, is_on_core}
+use Rattle.mcs_book.specs.Logs.{Log}
+use Rattle.mcs_book.specs.Objects.{form_of}
 use Rattle.mcs_book.specs.History.{log_of}
-use Rattle.mcs_book.specs.Sound.{IsLineThere}
-use Rattle.mcs_state.specs.Numbers.{object_at, thread_at, context_at, object_of, thread_of, IsName, IsLineName, line_number}
+use Rattle.mcs_state.specs.Numbers.{thread_at}
 use Rattle.mcs_state.specs.Now.{Now, so_far}
-use Rattle.mcs_state.specs.Tables.{ROOM, last_below, is_held_by, receives_with, blank_context, blank_thread}
-use Rattle.mcs_state.proofs.Naming.{line-name}
-use Rattle.mcs_state.proofs.Answering.{context-below, receiver-below, status-made, status-unmade, thread-where, name-at, first-is, first-stands, last-below, known-number, number-object, known-first}
-use Rattle.std.proofs.Common.{option_and_then, Err, Ok, ◌^◌, Result}
-use Rattle.mcs_types.specs.declared.cap.Cap.{Cap}
-use Rattle.mcs_types.specs.declared.entry.Refusal.{Refusal}
+use Rattle.std.proofs.Common.{option_and_then, Err, Ok}
 use Rattle.mcs_types.specs.declared.entry.Refusal.TheVariants.{Missing}
 use Rattle.mcs_book.specs.Threads.{root_of, root_kept}
 use Rattle.mcs_book.specs.Slots.{slot}
@@ -91,4 +73,4 @@ returns-in-Ok g c =
     let at : index_at c.in-Some.root.guard (radix_kept (form_of R c.in-Some.root.obj)) c.args.address ≡ Ok c.in-Ok.index = ap (λ r. index_at c.in-Some.root.guard r c.args.address) (sym radix) ∙ sym c.slot_index.ensures.index ∙ c.in-Ok.is in
     let P : Now → Type 0 = λ n. c.cap_in.result ≡ capability (so_far n) t c.args.address in
     subst P c.self.view_is (sym (capability-is R t c.in-Some.root c.args.address i.7.of_log.served c.ranges.address.fits is good.1 good.2 ∙ after-ok _ c.in-Ok.index _ at
-        ∙ ap (λ o. needed (slot R o c.in-Ok.index) Missing) good.0 ∙ ap (λ o. needed o Missing) (sym (c.index-in-Ok.ensures ∙ i.7.of_slots.slots_are c.in-Ok.index c.index-in-Ok.result.now c.in-Ok.ensures.few)) ∙ sym c.cap_in.ensures))
+    ∙ ap (λ o. needed (slot R o c.in-Ok.index) Missing) good.0 ∙ ap (λ o. needed o Missing) (sym (c.index-in-Ok.ensures ∙ i.7.of_slots.slots_are c.in-Ok.index c.index-in-Ok.result.now c.in-Ok.ensures.few)) ∙ sym c.cap_in.ensures))

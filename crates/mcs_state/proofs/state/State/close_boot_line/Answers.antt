@@ -1,26 +1,12 @@
-use Rattle.std.proofs.Common.{◌≡◌, ◌≤◌, ◌<◌, ◌+◌, ◌*◌, ◌++◌, ◌∷◌, length, vec_len, vec_capacity, reverse, refl, sym, ◌∙◌, subst, ap, arith, Some, None, Option}
-use Rattle.std.proofs.lemmas.List.{reverse-append}
-use Rattle.mcs_types.specs.declared.id.ObjId.{ObjId}
-use Rattle.mcs_types.specs.declared.id.Kind.TheVariants as kind
-use Rattle.mcs_types.specs.declared.cap.Cap.{Cap}
-use Rattle.mcs_types.specs.declared.record.Form.{Form}
-use Rattle.mcs_types.specs.declared.record.Form.TheVariants as form
-use Rattle.mcs_types.specs.declared.record.Letter.{Letter}
-use Rattle.mcs_types.specs.declared.record.Rec.TheVariants as rec
+use Rattle.std.proofs.Common.{◌≡◌, ◌≤◌, ◌*◌, ◌++◌, length, reverse, sym, ◌∙◌, subst, ap, arith}
 use Rattle.mcs_book.specs.Logs.{Log, counted}
-use Rattle.mcs_book.specs.Objects.{next_id, makes_kind}
-use Rattle.mcs_book.specs.Queues.{queue_of}
-use Rattle.mcs_book.specs.Messages.{open_of, is_sent}
+use Rattle.mcs_book.specs.Messages.{is_sent}
 use Rattle.mcs_book.specs.History.{Book, Line, log_of}
 use Rattle.mcs_book.specs.Boots.{boot_line}
 use Rattle.mcs_book.specs.Logs.{onto}
 use Rattle.std.proofs.Common.{List, []}
-use Rattle.mcs_book.specs.Sound.{Allowed}
-use Rattle.mcs_book.proofs.OpenLaws.{open_of-growing}
-use Rattle.mcs_book.specs.Growing.{growing_open}
-use Rattle.mcs_state.specs.Numbers.{object_at, thread_at, context_at, the_cnode, IsLineName}
-use Rattle.mcs_state.specs.Now.{Now, so_far, IsNumberOf}
-use Rattle.mcs_state.specs.Tables.{HAND, ROOM}
+use Rattle.mcs_state.specs.Now.{Now}
+use Rattle.mcs_state.specs.Tables.{HAND}
 use Rattle.mcs_state.proofs.Opening.{moved-agrees, boot-moved, boot-sends-none}
 use Rattle.mcs_state.proofs.state.State.close_boot_line.Goals as goal
 

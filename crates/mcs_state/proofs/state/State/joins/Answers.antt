@@ -1,23 +1,12 @@
-use Rattle.std.proofs.Common.{◌≡◌, ◌≤◌, ◌<◌, ◌+◌, ◌*◌, ◌++◌, ◌∷◌, length, vec_len, vec_capacity, reverse, refl, sym, ◌∙◌, subst, ap, arith, Some, None, Option}
+use Rattle.std.proofs.Common.{◌<◌, ◌++◌, length, reverse, refl, sym, ◌∙◌, subst, arith}
 use Rattle.std.proofs.lemmas.List.{reverse-append}
-use Rattle.mcs_types.specs.declared.id.ObjId.{ObjId}
-use Rattle.mcs_types.specs.declared.id.Kind.TheVariants as kind
-use Rattle.mcs_types.specs.declared.cap.Cap.{Cap}
-use Rattle.mcs_types.specs.declared.record.Form.{Form}
-use Rattle.mcs_types.specs.declared.record.Form.TheVariants as form
-use Rattle.mcs_types.specs.declared.record.Letter.{Letter}
 use Rattle.mcs_types.specs.declared.record.Rec.TheVariants as rec
-use Rattle.mcs_book.specs.Logs.{Log, counted}
-use Rattle.mcs_book.specs.Objects.{next_id, makes_kind}
-use Rattle.mcs_book.specs.Queues.{queue_of}
-use Rattle.mcs_book.specs.Messages.{open_of, is_sent}
+use Rattle.mcs_book.specs.Logs.{Log}
 use Rattle.mcs_book.specs.History.{log_of}
 use Rattle.mcs_book.specs.Sound.{Allowed}
-use Rattle.mcs_book.proofs.OpenLaws.{open_of-growing}
-use Rattle.mcs_book.specs.Growing.{growing_open}
-use Rattle.mcs_state.specs.Numbers.{object_at, thread_at, context_at, the_cnode, IsLineName}
-use Rattle.mcs_state.specs.Now.{Now, so_far, IsNumberOf}
-use Rattle.mcs_state.specs.Tables.{HAND, ROOM}
+use Rattle.mcs_state.specs.Numbers.{thread_at, IsLineName}
+use Rattle.mcs_state.specs.Now.{Now, so_far}
+use Rattle.mcs_state.specs.Tables.{HAND}
 use Rattle.mcs_state.proofs.Lining.{joins-agrees}
 use Rattle.mcs_state.proofs.Naming.{line-name}
 use Rattle.mcs_state.proofs.state.State.joins.Goals as goal
@@ -40,8 +29,7 @@ invariant_of-self g c =
     let name : IsLineName c.args.queue = line-name c.self.inside.counts R c.args.queue i.7.of_log.sound i.7.of_counts was.1.3 in
     let done = rw c.line_no.ensures at rw i.6 at rw i.5 at c.join.ensures.answer in
     let joined = rw c.line_no.ensures at c.join.ensures.line in
-    let placed = rw c.line_no.ensures at c.join.ensures.place in
-    (
+    let placed = rw c.line_no.ensures at c.join.ensures.place in (
       omega (arith, i.0, c.note.ensures.capacity),
       i.1,
       i.2,

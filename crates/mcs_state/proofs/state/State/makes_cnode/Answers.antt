@@ -1,23 +1,15 @@
-use Rattle.std.proofs.Common.{◌≡◌, ◌≤◌, ◌<◌, ◌+◌, ◌*◌, ◌++◌, ◌∷◌, length, vec_len, vec_capacity, reverse, refl, sym, ◌∙◌, subst, ap, arith, Some, None, Option}
+use Rattle.std.proofs.Common.{◌≡◌, ◌<◌, ◌++◌, length, reverse, sym, ◌∙◌, subst, ap, arith}
 use Rattle.std.proofs.lemmas.List.{reverse-append}
-use Rattle.mcs_types.specs.declared.id.ObjId.{ObjId}
 use Rattle.mcs_types.specs.declared.id.Kind.TheVariants as kind
-use Rattle.mcs_types.specs.declared.cap.Cap.{Cap}
-use Rattle.mcs_types.specs.declared.record.Form.{Form}
 use Rattle.mcs_types.specs.declared.record.Form.TheVariants as form
-use Rattle.mcs_types.specs.declared.record.Letter.{Letter}
 use Rattle.mcs_types.specs.declared.record.Rec.TheVariants as rec
 use Rattle.mcs_book.specs.Logs.{Log, counted}
 use Rattle.mcs_book.specs.Objects.{next_id, makes_kind}
-use Rattle.mcs_book.specs.Queues.{queue_of}
-use Rattle.mcs_book.specs.Messages.{open_of, is_sent}
 use Rattle.mcs_book.specs.History.{log_of}
 use Rattle.mcs_book.specs.Sound.{Allowed}
-use Rattle.mcs_book.proofs.OpenLaws.{open_of-growing}
-use Rattle.mcs_book.specs.Growing.{growing_open}
-use Rattle.mcs_state.specs.Numbers.{object_at, thread_at, context_at, the_cnode, IsLineName}
-use Rattle.mcs_state.specs.Now.{Now, so_far, IsNumberOf}
-use Rattle.mcs_state.specs.Tables.{HAND, ROOM}
+use Rattle.mcs_state.specs.Numbers.{object_at}
+use Rattle.mcs_state.specs.Now.{Now, so_far}
+use Rattle.mcs_state.specs.Tables.{HAND}
 use Rattle.mcs_state.proofs.Making.{cnode-agrees}
 use Rattle.mcs_state.proofs.state.State.makes_cnode.Goals as goal
 
@@ -27,8 +19,7 @@ invariant_of-self g c =
     let R : Log = reverse c.self.inside.hand.items ++ log_of c.self.inside.book.book in
     let P : Now → Type 0 = λ n. (length n.hand < HAND) × Allowed (so_far n) (rec.Made (next_id (so_far n) kind.CNode) (form.Slots c.args.radix)) × (counted (makes_kind kind.CNode) (so_far n) < 1) in
     let was : P (record { book = c.self.inside.book.book; hand = reverse c.self.inside.hand.items; boot_room = c.self.inside.book.boot_room; room = c.self.inside.book.room }) = subst P (sym c.self.view_is) (c.requires.room, c.requires.allowed, c.requires.few) in
-    let id : c.object_id-object.result ≡ next_id R kind.CNode = c.object_id-object.ensures ∙ ap (λ n. object_at kind.CNode n) i.7.of_counts.cnodes in
-    (
+    let id : c.object_id-object.result ≡ next_id R kind.CNode = c.object_id-object.ensures ∙ ap (λ n. object_at kind.CNode n) i.7.of_counts.cnodes in (
       omega (arith, i.0, c.note.ensures.capacity),
       i.1,
       i.2,

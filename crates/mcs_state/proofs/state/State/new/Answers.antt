@@ -1,6 +1,5 @@
-use Rattle.std.proofs.Common.{List, ◌≡◌, ◌≤◌, length, vec_len, vec_capacity, reverse, refl, sym, ◌∙◌, ap, arith}
-use Rattle.mcs_book.specs.History.{Book, log_of}
-use Rattle.mcs_book.specs.History.{Line}
+use Rattle.std.proofs.Common.{List, ◌≡◌, length, ap, arith}
+use Rattle.mcs_book.specs.History.{log_of}
 use Rattle.mcs_state.specs.declared.rows.ThreadRow.{ThreadRow}
 use Rattle.mcs_state.specs.declared.rows.ContextRow.{ContextRow}
 use Rattle.mcs_state.specs.Tables.{ROOM}

@@ -1,26 +1,12 @@
-use Rattle.std.proofs.Common.{◌≡◌, ◌≤◌, ◌<◌, ◌+◌, ◌-◌, ◌++◌, ◌∷◌, length, vec_len, reverse, refl, sym, ◌∙◌, subst, ap, arith, Some, None, Option, IfSome, Bool, cond, ◌&&◌, if◌then◌else◌, ℕ}
-use Rattle.mcs_types.specs.declared.id.ObjId.{ObjId}
+use Rattle.std.proofs.Common.{◌≡◌, ◌-◌, ◌++◌, reverse, sym, ◌∙◌, subst, ap, arith}
 use Rattle.mcs_types.specs.declared.id.Kind.TheVariants as kind
-use Rattle.mcs_types.specs.declared.record.Form.{Form}
-use Rattle.mcs_types.specs.declared.record.Queue.{Queue}
-use Rattle.mcs_types.specs.declared.record.Status.{Status}
-use Rattle.mcs_types.specs.declared.record.Mode.{Mode}
-use Rattle.mcs_types.specs.Waiters.{first_waiter}
-use Rattle.mcs_queues.specs.Numbers.{thread_number}
-use Rattle.mcs_book.specs.Logs.{Log, counted, same_kind}
-use Rattle.mcs_book.specs.Objects.{makes_kind, was_made, form_of}
-use Rattle.mcs_book.specs.Threads.{mode_of}
-use Rattle.mcs_book.specs.Queues.{queue_of, first_in}
-use Rattle.mcs_book.specs.Contexts.{context_of}
-use Rattle.mcs_book.specs.Replies.{receiver_with}
-use Rattle.mcs_book.specs.Standing.{status_of, status_by, is_on_core}
+use Rattle.mcs_book.specs.Logs.{Log}
+use Rattle.mcs_book.specs.Objects.{form_of}
+use Rattle.mcs_book.specs.Standing.{is_on_core}
 use Rattle.mcs_book.specs.History.{log_of}
-use Rattle.mcs_book.specs.Sound.{IsLineThere}
-use Rattle.mcs_state.specs.Numbers.{object_at, thread_at, context_at, object_of, thread_of, IsName, IsLineName, line_number}
+use Rattle.mcs_state.specs.Numbers.{context_at}
 use Rattle.mcs_state.specs.Now.{Now, so_far}
-use Rattle.mcs_state.specs.Tables.{ROOM, last_below, is_held_by, receives_with, blank_context, blank_thread}
-use Rattle.mcs_state.proofs.Naming.{line-name}
-use Rattle.mcs_state.proofs.Answering.{context-below, receiver-below, status-made, status-unmade, thread-where, name-at, first-is, first-stands, last-below, known-number, number-object, known-first}
+use Rattle.mcs_state.proofs.Answering.{name-at}
 use Rattle.mcs_state.proofs.state.State.runs_on.Goals as goal
 
 pub returns : goal.returns

@@ -1,0 +1,164 @@
+-- How many lines begin in a text, and how long a text without fault is.
+use Rattle.std.proofs.Common.{◌≡◌, ℕ, suc, ◌+◌, ◌*◌, ◌<◌, ◌≤◌, ◌⊎◌, inl, inr, Bool, true, false, not, if◌then◌else◌, ltb, eqb, Option, Some, None, Result, Ok, Err, OnOk, List, [], ◌∷◌, ◌++◌, length, get_or, drop, refl, sym, ap, ◌∙◌, arith}
+use Rattle.std.proofs.Math.Seq.{drop-cons}
+use Rattle.std.proofs.lemmas.Bool.{ltb-false}
+use Rattle.std.specs.Io.KnownBytes.{Appends, Consumes, IsAtEnd}
+use Rattle.mcs_text.specs.declared.fault.LineFault.{LineFault}
+use Rattle.mcs_text.specs.declared.fault.LineFault.TheVariants.{LongLine, ManyLines}
+use Rattle.mcs_text.specs.Reading.{onto_first, lines_of}
+use Rattle.mcs_sim.specs.declared.fault.SimFault.{SimFault}
+use Rattle.mcs_sim.specs.declared.source.Begun.{Begun}
+use Rattle.mcs_sim.specs.Input.{none_begun, begun_with, begun_after, IsTooLong}
+use Rattle.mcs_sim.specs.Script.{Script, no_script, read_line, script_from, steps}
+use Rattle.mcs_sim.specs.Runs.{written, Finishes}
+use Rattle.mcs_sim.proofs.ScriptLaws.{script_from-ok, script_from-err}
+
+begun_after-append : (s : Begun) (xs ys : List ℕ) → begun_after s (xs ++ ys) ≡ begun_after (begun_after s xs) ys
+unfolding begun_after
+begun_after-append s [] ys = refl
+begun_after-append s (x ∷ xs) ys = begun_after-append (begun_with s x) xs ys
+
+-- a text that has grown by a piece
+pub begun_after-grown : (s t : Begun) (xs ys zs : List ℕ) → t ≡ begun_after s ys → s ≡ begun_after none_begun xs → zs ≡ xs ++ ys → t ≡ begun_after none_begun zs
+begun_after-grown s t xs ys zs more before grown =
+    more ∙ ap (λ (s : Begun). begun_after s ys) before ∙ sym (begun_after-append none_begun xs ys) ∙ ap (begun_after none_begun) (sym grown)
+
+length-onto_first : (b : ℕ) (ls : List (List ℕ)) → length (onto_first b ls) ≡ length (onto_first 0 ls)
+length-onto_first b [] = refl
+length-onto_first b (l ∷ ls) = refl
+
+length-onto_twice : (b : ℕ) (ls : List (List ℕ)) → length (onto_first 0 (onto_first b ls)) ≡ length (onto_first 0 ls)
+length-onto_twice b [] = refl
+length-onto_twice b (l ∷ ls) = refl
+
+-- the lines that begin in a text, where the line before is over and where it goes on
+Begins : ℕ → List ℕ → Type 0
+Begins n bs = ((begun_after (record { lines = n; is_open = false }) bs).lines ≡ n + length (lines_of bs))
+    × ((begun_after (record { lines = n; is_open = true }) bs).lines + 1 ≡ n + length (onto_first 0 (lines_of bs)))
+
+after-byte : (n b : ℕ) (o : Bool) (bs : List ℕ) (t : Bool) → eqb b 10 ≡ t
+    → begun_after (record { lines = n; is_open = o }) (b ∷ bs) ≡ begun_after (record { lines = if o then n else n + 1; is_open = not t }) bs
+unfolding begun_after
+after-byte n b o bs t e = ap (λ (t : Bool). begun_after (record { lines = if o then n else n + 1; is_open = not t }) bs) e
+
+lines-byte : (b : ℕ) (bs : List ℕ) (t : Bool) → eqb b 10 ≡ t → lines_of (b ∷ bs) ≡ (if t then [] ∷ lines_of bs else onto_first b (lines_of bs))
+lines-byte b bs t e = ap (λ (t : Bool). if t then [] ∷ lines_of bs else onto_first b (lines_of bs)) e
+
+begins-more : (b : ℕ) (bs : List ℕ) → ((n : ℕ) → Begins n bs) → (n : ℕ) → Begins n (b ∷ bs)
+unfolding Begins
+begins-more b bs more n = go (eqb b 10) refl
+  where
+    go : (t : Bool) → eqb b 10 ≡ t → Begins n (b ∷ bs)
+    go true e =
+        let over : (begun_after (record { lines = n; is_open = false }) (b ∷ bs)).lines ≡ n + length (lines_of (b ∷ bs))
+        = rw (after-byte n b false bs true e, lines-byte b bs true e) (omega (arith, (more (n + 1)).0)) in
+        let open_ : (begun_after (record { lines = n; is_open = true }) (b ∷ bs)).lines + 1 ≡ n + length (onto_first 0 (lines_of (b ∷ bs)))
+        = rw (after-byte n b true bs true e, lines-byte b bs true e) (omega (arith, (more n).0)) in
+        (over, open_)
+    go false e =
+        let over : (begun_after (record { lines = n; is_open = false }) (b ∷ bs)).lines ≡ n + length (lines_of (b ∷ bs))
+        = rw (after-byte n b false bs false e, lines-byte b bs false e) (omega (arith, (more (n + 1)).1, length-onto_first b (lines_of bs))) in
+        let open_ : (begun_after (record { lines = n; is_open = true }) (b ∷ bs)).lines + 1 ≡ n + length (onto_first 0 (lines_of (b ∷ bs)))
+        = rw (after-byte n b true bs false e, lines-byte b bs false e) (omega (arith, (more n).1, length-onto_twice b (lines_of bs))) in
+        (over, open_)
+
+begins : (bs : List ℕ) (n : ℕ) → Begins n bs
+unfolding Begins begun_after
+begins [] n = (omega arith, refl)
+begins (b ∷ bs) n = begins-more b bs (begins bs) n
+
+-- the lines that have begun are the lines of the text
+pub begun-lines : (bs : List ℕ) → (begun_after none_begun bs).lines ≡ length (lines_of bs)
+unfolding Begins
+begun-lines bs = omega (arith, (begins bs 0).0)
+
+-- the bytes of lines with a newline each
+total : List (List ℕ) → ℕ
+total [] = 0
+total (l ∷ ls) = length l + 1 + total ls
+
+total-onto_first : (b : ℕ) (ls : List (List ℕ)) → 1 + total ls ≤ total (onto_first b ls)
+unfolding total
+total-onto_first b [] = omega arith
+total-onto_first b (l ∷ ls) = omega arith
+
+length-total : (bs : List ℕ) → length bs ≤ total (lines_of bs)
+unfolding total
+length-total [] = omega arith
+length-total (b ∷ bs) = go (length-total bs) (eqb b 10) refl
+  where
+    go : length bs ≤ total (lines_of bs) → (t : Bool) → eqb b 10 ≡ t → length (b ∷ bs) ≤ total (lines_of (b ∷ bs))
+    go le true e = rw e (omega (arith, le))
+    go le false e = rw e (omega (arith, le, total-onto_first b (lines_of bs)))
+
+-- a line without fault is not beyond the last, and not too long
+within : (s t : Script) (n : ℕ) (line : List ℕ) → read_line s n line ≡ Ok t → (n ≤ 2000000) × (length line ≤ 4096)
+unfolding read_line
+within s t n line ok = go (ltb 2000000 n) refl
+  where
+    short : ltb 2000000 n ≡ false → (b : Bool) → ltb 4096 (length line) ≡ b → length line ≤ 4096
+    short few true e = absurd (let bad : read_line s n line ≡ Err LongLine = rw (few, e) refl in cc)
+    short few false e = ltb-false _ _ e
+
+    go : (b : Bool) → ltb 2000000 n ≡ b → (n ≤ 2000000) × (length line ≤ 4096)
+    go true e = absurd (let bad : read_line s n line ≡ Err ManyLines = rw e refl in cc)
+    go false e = (ltb-false _ _ e, short e (ltb 4096 (length line)) refl)
+
+-- lines without fault are few and short
+Fits : ℕ → List (List ℕ) → Type 0
+Fits n lines = (n + length lines ≤ 2000001) × (total lines ≤ 4097 * length lines)
+
+fits-more : (s : Script) (n : ℕ) (line : List ℕ) (lines : List (List ℕ))
+    → ((t : Script) → (script_from t (n + 1) lines).1 ≡ None → n + 1 ≤ 2000001 → Fits (n + 1) lines)
+    → (script_from s n (line ∷ lines)).1 ≡ None → Fits n (line ∷ lines)
+unfolding Fits total
+fits-more s n line lines more none = go (read_line s n line) refl
+  where
+    go : (r : Result Script LineFault) → read_line s n line ≡ r → Fits n (line ∷ lines)
+    go (Ok t) e =
+        let w = within s t n line e in
+        let rest = more t (ap (λ (r : Script × Option (ℕ × LineFault)). r.1) (sym (script_from-ok s t n line lines e)) ∙ none) (omega (arith, w.0)) in
+        (omega (arith, rest.0), omega (arith, rest.1, w.1))
+    go (Err why) e = absurd (let some : (script_from s n (line ∷ lines)).1 ≡ Some (n, why) = ap (λ (r : Script × Option (ℕ × LineFault)). r.1) (script_from-err s n line lines why e) in cc)
+
+fits : (lines : List (List ℕ)) (s : Script) (n : ℕ) → (script_from s n lines).1 ≡ None → n ≤ 2000001 → Fits n lines
+unfolding Fits total
+fits [] s n none le = (omega arith, omega arith)
+fits (line ∷ lines) s n none le = fits-more s n line lines (λ t. fits lines t (n + 1)) none
+
+-- a text without fault is not too long
+not-too-long : (text : List ℕ) → (steps text).1 ≡ None → IsTooLong text → ⊥
+unfolding Fits steps
+not-too-long text none long =
+    let f = fits (lines_of text) no_script 1 none (omega arith) in
+    elim long [
+      | inl bytes ↦ absurd (omega (arith, bytes, f.0, f.1, length-total text))
+      | inr lines ↦ absurd (omega (arith, lines, f.0))
+    ]
+
+-- a run without fault has read its input to the end
+pub OnOk-finishes : (r : Result (Unit {0}) SimFault) (left left' out out' : Option (List ℕ)) (text : List ℕ) → Consumes left left' text → (IsAtEnd left' ⊎ IsTooLong text)
+    → OnOk r (Appends out out' (written text)) → OnOk r ((steps text).1 ≡ None) → OnOk r (Finishes left left' out out')
+OnOk-finishes (Ok u) left left' out out' text read end wrote none =
+    record {
+      text = text;
+      read = read;
+      ended = elim end [ inl ended ↦ ended | inr long ↦ absurd (not-too-long text none long) ];
+      wrote = wrote;
+      faultless = none;
+    }
+OnOk-finishes (Err e) left left' out out' text read end wrote none = tt
+
+-- a byte of a text, and those behind it
+pub begun_after-next : (s : Begun) (w : List ℕ) (i : ℕ) → i < length w → begun_after (begun_with s (get_or w i 0)) (drop (i + 1) w) ≡ begun_after s (drop i w)
+unfolding begun_after
+begun_after-next s w i lt =
+    let next : i + 1 ≡ suc i = omega arith in
+    ap (λ (n : ℕ). begun_after (begun_with s (get_or w i 0)) (drop n w)) next ∙ sym (ap (begun_after s) (drop-cons w i 0 lt))
+
+pub lines-begun_with-le : (s : Begun) (b : ℕ) → (begun_with s b).lines ≤ s.lines + 1
+lines-begun_with-le s b = go s.is_open
+  where
+    go : (o : Bool) → (if o then s.lines else s.lines + 1) ≤ s.lines + 1
+    go true = omega arith
+    go false = omega arith

@@ -1,0 +1,66 @@
+-- What a run writes.
+use Rattle.std.proofs.Common.{◌≡◌, ℕ, true, false, eqb, length, Option, Some, None, Result, Ok, Err, IfErr, OnErr, List, [], ◌∷◌, arith, refl, sym, ap, subst, append-nil}
+use Rattle.std.specs.Prelude.{IsErrAnd}
+use Rattle.std.proofs.lemmas.Bool.{ne_eqb}
+use Rattle.std.specs.Io.KnownBytes.{Appends, Consumes}
+use Rattle.mcs_text.specs.declared.fault.LineFault.{LineFault}
+use Rattle.mcs_sim.specs.declared.fault.SimFault.{SimFault}
+use Rattle.mcs_sim.specs.declared.fault.SimFault.TheVariants as fault
+use Rattle.mcs_types.specs.declared.entry.Step.{Step}
+use Rattle.mcs_book.specs.Boots.{Boot}
+use Rattle.mcs_sim.specs.Script.{Script, steps}
+use Rattle.mcs_sim.specs.Runs.{script_trace, trace_before, told, written, Begins, Leaves, Stops}
+
+-- a writer that took nothing
+pub Appends-nil : (a : Option (List ℕ)) → Appends a a []
+Appends-nil None = tt
+Appends-nil (Some x) = sym (append-nil x)
+
+-- nothing is a beginning of any text
+pub Begins-nil : (a : Option (List ℕ)) (text : List ℕ) → Begins a a text
+Begins-nil a text = (text, record { sent = []; grown = Appends-nil a; split = refl })
+
+-- what is written of a text is told of its script
+pub written-is : (text : List ℕ) (s : Script) (f : Option (ℕ × LineFault)) → steps text ≡ (s, f) → written text ≡ told s f
+unfolding written
+written-is text s f e = ap (λ (r : Script × Option (ℕ × LineFault)). told r.0 r.1) e
+
+pub Leaves-stops : (e : SimFault) (a b : Option (List ℕ)) (text said : List ℕ) → written text ≡ said → Stops e a b said → Leaves e a b text
+Leaves-stops (fault.Script line why) a b text said same stops = absurd stops
+Leaves-stops fault.Read a b text said same stops = stops
+Leaves-stops fault.Write a b text said same stops = subst (Begins a b) (sym same) stops
+Leaves-stops fault.BookFull a b text said same stops = subst (Begins a b) (sym same) stops
+Leaves-stops fault.OutOfMemory a b text said same stops = subst (Begins a b) (sym same) stops
+
+pub IfErr-leaves : (r : Result (Unit {0}) SimFault) (a b : Option (List ℕ)) (text said : List ℕ) → written text ≡ said → IfErr r (λ e. Stops e a b said) → IfErr r (λ e. Leaves e a b text)
+IfErr-leaves (Ok u) a b text said same stops = tt
+IfErr-leaves (Err e) a b text said same stops = Leaves-stops e a b text said same stops
+
+-- where steps were read, all of the trace is written before a faulty line
+pub trace_before-some : (b : Option Boot) (ss : List Step) → eqb (length ss) 0 ≡ false → trace_before b ss ≡ script_trace b ss
+unfolding trace_before
+trace_before-some b [] some = absurd cc
+trace_before-some b (s ∷ ss) some = refl
+
+pub trace_before-none : (b : Option Boot) (ss : List Step) → eqb (length ss) 0 ≡ true → trace_before b ss ≡ []
+unfolding trace_before
+trace_before-none b [] none = refl
+trace_before-none b (s ∷ ss) none = absurd (let other : eqb (length (s ∷ ss)) 0 ≡ false = ne_eqb _ _ (λ e. omega arith) in cc)
+
+-- an error that is passed on
+pub IfErr-same : (r : Result (Unit {0}) SimFault) (e : SimFault) (Q : SimFault → Type 0) → IsErrAnd r (λ x. x ≡ e) → Q e → IfErr r Q
+IfErr-same (Ok u) e Q same q = tt
+IfErr-same (Err x) e Q same q = subst Q (sym same) q
+
+-- some bytes were read, whatever was answered
+pub OnErr-consumes : {T E : Type 0} (r : Result T E) (a b : Option (List ℕ)) (bytes : List ℕ) → Consumes a b bytes → OnErr r ((x : List ℕ) × Consumes a b x)
+OnErr-consumes (Ok x) a b bytes c = tt
+OnErr-consumes (Err e) a b bytes c = (bytes, c)
+
+-- no byte was read
+pub Consumes-nil : (a : Option (List ℕ)) (bytes : List ℕ) → bytes ≡ [] → Consumes a a bytes
+Consumes-nil a bytes none = subst (Consumes a a) (sym none) (go a)
+  where
+    go : (a : Option (List ℕ)) → Consumes a a []
+    go None = tt
+    go (Some xs) = refl

@@ -1,0 +1,57 @@
+-- The trace of one record and of one line more.
+use Rattle.std.proofs.Common.{◌≡◌, ℕ, ◌+◌, ◌<◌, ◌≤◌, List, [], ◌∷◌, ◌++◌, length, get_or, take, refl, sym, ap, ◌∙◌, append_assoc, append-nil, arith}
+use Rattle.std.proofs.lemmas.List.{take_more}
+use Rattle.mcs_types.specs.declared.record.Rec.{Rec}
+use Rattle.mcs_types.specs.declared.record.Rec.TheVariants.{Sent}
+use Rattle.mcs_book.specs.History.{Line}
+use Rattle.mcs_text.specs.Table.{record_text}
+use Rattle.mcs_sim.specs.Trace.{sent_with, sent_after, sent_in, records_trace, line_trace, lines_trace}
+
+pub sent_with-le : (n : ℕ) (r : Rec) → sent_with n r ≤ n + 1
+sent_with-le n (Sent x e mode badge message) = omega arith
+sent_with-le n r = omega arith
+
+pub sent_after-le : (n : ℕ) (rs : List Rec) → sent_after n rs ≤ n + length rs
+sent_after-le n [] = omega arith
+sent_after-le n (r ∷ rs) = omega (arith, sent_with-le n r, sent_after-le (sent_with n r) rs)
+
+sent_after-end : (n : ℕ) (rs : List Rec) (r : Rec) → sent_after n (rs ++ r ∷ []) ≡ sent_with (sent_after n rs) r
+sent_after-end n [] r = refl
+sent_after-end n (s ∷ rs) r = sent_after-end (sent_with n s) rs r
+
+records_trace-end : (n : ℕ) (rs : List Rec) (r : Rec) → records_trace n (rs ++ r ∷ []) ≡ records_trace n rs ++ record_text (sent_after n rs) r
+records_trace-end n [] r = append-nil (record_text n r)
+records_trace-end n (s ∷ rs) r =
+    ap (λ (l : List ℕ). record_text n s ++ l) (records_trace-end (sent_with n s) rs r) ∙ sym (append_assoc (record_text n s) _ _)
+
+-- a record more of a list
+pub records_trace-next : (n : ℕ) (rs : List Rec) (i : ℕ) (r : Rec) (m : ℕ) → i < length rs → r ≡ get_or rs i r → m ≡ sent_after n (take i rs)
+    → records_trace n (take i rs) ++ record_text m r ≡ records_trace n (take (i + 1) rs)
+records_trace-next n rs i r m lt here count =
+    ap (λ (m : ℕ). records_trace n (take i rs) ++ record_text m r) count
+    ∙ ap (λ (r : Rec). records_trace n (take i rs) ++ record_text (sent_after n (take i rs)) r) here
+    ∙ sym (ap (records_trace n) (take_more rs i r lt) ∙ records_trace-end n (take i rs) (get_or rs i r))
+
+pub sent_after-next : (n : ℕ) (rs : List Rec) (i : ℕ) (r : Rec) (m : ℕ) → i < length rs → r ≡ get_or rs i r → m ≡ sent_after n (take i rs)
+    → sent_with m r ≡ sent_after n (take (i + 1) rs)
+sent_after-next n rs i r m lt here count =
+    ap (λ (m : ℕ). sent_with m r) count ∙ ap (λ (r : Rec). sent_with (sent_after n (take i rs)) r) here
+    ∙ sym (ap (sent_after n) (take_more rs i r lt) ∙ sent_after-end n (take i rs) (get_or rs i r))
+
+sent_in-end : (n : ℕ) (ls : List Line) (l : Line) → sent_in n (ls ++ l ∷ []) ≡ sent_after (sent_in n ls) l.records
+sent_in-end n [] l = refl
+sent_in-end n (m ∷ ls) l = sent_in-end (sent_after n m.records) ls l
+
+lines_trace-end : (n : ℕ) (ls : List Line) (l : Line) → lines_trace n (ls ++ l ∷ []) ≡ lines_trace n ls ++ line_trace (sent_in n ls) l
+lines_trace-end n [] l = append-nil (line_trace n l)
+lines_trace-end n (m ∷ ls) l =
+    ap (λ (t : List ℕ). line_trace n m ++ t) (lines_trace-end (sent_after n m.records) ls l) ∙ sym (append_assoc (line_trace n m) _ _)
+
+-- a line more of a list
+pub lines_trace-next : (n : ℕ) (xs ys : List Line) (l : Line) (m : ℕ) → ys ≡ xs ++ l ∷ [] → m ≡ sent_in n xs → lines_trace n xs ++ line_trace m l ≡ lines_trace n ys
+lines_trace-next n xs ys l m more count =
+    ap (λ (m : ℕ). lines_trace n xs ++ line_trace m l) count ∙ sym (ap (lines_trace n) more ∙ lines_trace-end n xs l)
+
+pub sent_in-next : (n : ℕ) (xs ys : List Line) (l : Line) (m : ℕ) → ys ≡ xs ++ l ∷ [] → m ≡ sent_in n xs → sent_after m l.records ≡ sent_in n ys
+sent_in-next n xs ys l m more count =
+    ap (λ (m : ℕ). sent_after m l.records) count ∙ sym (ap (sent_in n) more ∙ sent_in-end n xs l)

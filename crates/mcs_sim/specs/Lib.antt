@@ -1,0 +1,5 @@
+pub mod Trace
+pub mod BootLines
+pub mod Script
+pub mod Input
+pub mod Runs

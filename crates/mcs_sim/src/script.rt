@@ -1,0 +1,302 @@
+//! What a script says.
+ghost use Rattle.std.specs.Prelude.{◌≡◌, ◌≤◌, Ok, Err, Some, OnOk, OnErr};
+ghost use Rattle.mcs_book.specs.Boots.{boot_log, is_object};
+ghost use Rattle.mcs_kernel.specs.Runs.{AreServed};
+ghost use Rattle.mcs_text.specs.Reading.{Gives, words_of};
+ghost use Rattle.mcs_text.specs.BootLines.{raw_line};
+ghost use Rattle.mcs_sim.specs.BootLines.{object_of, cores_of, cap_of, index_of, fitted, with_line};
+ghost use Rattle.mcs_sim.specs.Script.{Reads, is_skipped, boot_in, first_boot, next_boot, next_steps, later_line};
+
+use mcs_kernel::Boot;
+use mcs_text::{
+    Key, LineFault, RawBootLine, RawCap, RawNumber, Words, address, byte, find_boot_key,
+    read_boot_line, read_step,
+};
+use mcs_types::{
+    Badge, BootFault, BootLine, Cap, CoreId, Guard, Kind, ObjId, Prio, SCRIPT_LINE_BYTES,
+    SCRIPT_LINES, Step,
+};
+use std::alloc::Global;
+use std::marker::Model;
+
+/// The boot and the steps that the lines of a script have said so far.
+#[derive(Drop)]
+pub struct Script {
+    pub boot: Option<Boot>,
+    pub steps: Vec<Step>,
+}
+
+impl Model for Script {
+    ghost use Rattle.mcs_kernel.specs.Runs.{AreServed};
+    ghost use Rattle.mcs_sim.specs.Script.{Script};
+
+    ghost Value = { Script };
+
+    ghost view = { λ s. record { boot = s.boot; steps = s.steps.items } };
+
+    ghost invariant = { λ s. AreServed s.steps.items };
+}
+
+/// Why a line could not be taken.
+#[derive(Clone, Copy, PartialEq, Eq, Debug)]
+pub enum ReadFault {
+    Line(LineFault),
+    OutOfMemory,
+}
+
+impl From<LineFault> for ReadFault {
+    ghost use Rattle.std.specs.Prelude.{◌≡◌};
+    ghost use Rattle.mcs_sim.specs.declared.script.ReadFault.TheVariants.{Line};
+
+    ghost from_gives = { λ fault e. e ≡ Line fault };
+
+    fn from(fault: LineFault) -> ReadFault {
+        ReadFault::Line(fault)
+    }
+}
+
+impl From<BootFault> for ReadFault {
+    ghost use Rattle.std.specs.Prelude.{◌≡◌};
+    ghost use Rattle.mcs_sim.specs.Script.{read_fault_of};
+
+    ghost from_gives = { λ fault e. e ≡ read_fault_of fault };
+
+    fn from(fault: BootFault) -> ReadFault {
+        match fault {
+            BootFault::Number => ReadFault::Line(LineFault::Number),
+            BootFault::NoObject => ReadFault::Line(LineFault::NoObject),
+            BootFault::Limit => ReadFault::Line(LineFault::Limit),
+            BootFault::Taken => ReadFault::Line(LineFault::Taken),
+            BootFault::OutOfMemory => ReadFault::OutOfMemory,
+        }
+    }
+}
+
+/// The only number of cores that is served yet.
+const ONE_CORE: u64 = 1;
+
+/// Whether a line is skipped.
+fn is_skipped(line: &[u8]) -> bool
+    ensures { result ≡ is_skipped line.now }
+{
+    matches!(line, [] | [b'#' | b'=' | b'+', ..])
+}
+
+/// The object of a kind with this serial. One that is too large is never made, as 0 is not.
+fn object(kind: Kind, serial: RawNumber) -> ObjId
+    ensures { result ≡ object_of kind serial }
+{
+    let serial = match serial {
+        Some(n) if n <= u32::MAX as u64 => n as u32,
+        _ => 0,
+    };
+    ObjId { kind, serial }
+}
+
+/// The number of cores.
+#[tactic(auto, unfolding(crate::specs::BootLines::cores_of))]
+fn cores_of(cores: RawNumber) -> Result<u8, LineFault>
+    ensures { Gives (λ n. n) result (cores_of cores) }
+{
+    match cores {
+        Some(n) if n == ONE_CORE => Ok(ONE_CORE as u8),
+        _ => Err(LineFault::Number),
+    }
+}
+
+/// A capability of a slot.
+#[tactic(auto, unfolding(crate::specs::BootLines::cap_of))]
+fn cap_of(cap: RawCap) -> Result<Cap, LineFault>
+    ensures { Gives (λ c. c) result (cap_of cap) }
+{
+    Ok(Cap {
+        obj: object(cap.kind, cap.serial),
+        rights: cap.rights,
+        badge: Badge(address(cap.badge)?),
+        guard: Guard { bits: 0, value: 0 },
+    })
+}
+
+/// An index of a slot. That of a CNode that is not made is not tested.
+fn index_in(boot: &Boot, cnode: RawNumber, index: RawNumber) -> Result<u8, LineFault>
+    ensures { Gives (λ i. i) result (index_of (is_object (boot_log boot.now.lines) Kind.CNode (object_of Kind.CNode cnode)) index) }
+{
+    match boot.radix(object(Kind::CNode, cnode)) {
+        Some(_) => byte(index),
+        None => Ok(0),
+    }
+}
+
+/// The line of the boot that is spelled, where each number fits its type. Nothing else is tested.
+#[tactic(auto, unfolding(crate::specs::BootLines::fitted))]
+fn fitted(boot: &Boot, line: RawBootLine) -> Result<BootLine, LineFault>
+    ensures { Gives (λ l. l) result (fitted (boot_log boot.now.lines) line) }
+{
+    match line {
+        RawBootLine::Cores { cores } => {
+            cores_of(cores)?;
+            Err(LineFault::Taken)
+        }
+        RawBootLine::CNode { radix } => Ok(BootLine::CNode {
+            radix: byte(radix)?,
+        }),
+        RawBootLine::Endpoint => Ok(BootLine::Endpoint),
+        RawBootLine::Notification => Ok(BootLine::Notification),
+        RawBootLine::Reply => Ok(BootLine::Reply),
+        RawBootLine::Context { core } => Ok(BootLine::Context {
+            core: CoreId(byte(core)?),
+        }),
+        RawBootLine::Thread {
+            priority,
+            maximum,
+            root,
+            bits,
+            value,
+            runs,
+            context,
+        } => Ok(BootLine::Thread {
+            priority: Prio(byte(priority)?),
+            maximum: Prio(byte(maximum)?),
+            root: object(Kind::CNode, root),
+            guard: Guard {
+                bits: byte(bits)?,
+                value: address(value)?,
+            },
+            runs,
+            context: context.map(|serial| object(Kind::Context, serial)),
+        }),
+        RawBootLine::Slot { cnode, index, cap } => Ok(BootLine::Slot {
+            cnode: object(Kind::CNode, cnode),
+            index: index_in(boot, cnode, index)?,
+            cap: cap_of(cap)?,
+        }),
+    }
+}
+
+/// The boot that the first line begins, by the key of its first word and the words behind it.
+#[tactic(auto, unfolding(crate::specs::Script::first_boot))]
+fn first_boot(alloc: Global, key: Option<Key>, words: &mut Words<'_>) -> Result<Boot, ReadFault>
+    ensures { Reads (λ b. b) result (first_boot key words.old) }
+{
+    let Some(Key::Cores) = key else {
+        return Err(ReadFault::Line(LineFault::NoCores));
+    };
+    match read_boot_line(Key::Cores, words)? {
+        RawBootLine::Cores { cores } => {
+            let cores = cores_of(cores)?;
+            // the number was tested, so that only memory can be refused
+            Boot::new(alloc, cores).map_err(|_| ReadFault::OutOfMemory)
+        }
+        _ => Err(ReadFault::Line(LineFault::Form)),
+    }
+}
+
+/// Adds a line to the boot.
+#[tactic(auto, unfolding(crate::specs::BootLines::with_line))]
+fn add_line(boot: &mut Boot, line: BootLine) -> Result<(), ReadFault>
+    ensures reads { Reads (λ u. boot.new) result (with_line boot.old line) }
+    ensures unchanged { OnErr result (boot.new ≡ boot.old) }
+{
+    boot.add(line)?;
+    Ok(())
+}
+
+/// Adds the line that the words behind a key spell to the boot.
+#[tactic(auto, unfolding(crate::specs::Script::next_boot))]
+fn read_next_boot(boot: &mut Boot, key: Key, words: &mut Words<'_>) -> Result<(), ReadFault>
+    ensures reads { Reads (λ u. boot.new) result (next_boot boot.old key words.old) }
+    ensures unchanged { OnErr result (boot.new ≡ boot.old) }
+{
+    let spelled = read_boot_line(key, words)?;
+    let line = fitted(boot, spelled)?;
+    add_line(boot, line)
+}
+
+/// Adds the step that a line spells.
+#[tactic(auto, unfolding(crate::specs::Script::next_steps))]
+fn read_next_step(boot: &Boot, steps: &mut Vec<Step>, line: &[u8]) -> Result<(), ReadFault>
+    requires { AreServed steps.old.items }
+    ensures served { AreServed steps.new.items }
+    ensures reads { Reads (λ u. steps.new.items) result (next_steps boot.now steps.old.items line.now) }
+    ensures unchanged { OnErr result (steps.new.items ≡ steps.old.items) }
+{
+    let step = read_step(boot.cores(), boot.made(Kind::Thread), line)?;
+    match steps.push(step) {
+        Ok(()) => Ok(()),
+        Err(_) => Err(ReadFault::OutOfMemory),
+    }
+}
+
+/// Takes a line after the first: one of the boot, or a step.
+#[tactic(auto, unfolding(crate::specs::Script::later_line))]
+fn read_later_line(
+    boot: &mut Boot,
+    steps: &mut Vec<Step>,
+    line: &[u8],
+    key: Option<Key>,
+    words: &mut Words<'_>,
+) -> Result<(), ReadFault>
+    requires { AreServed steps.old.items }
+    ensures served { AreServed steps.new.items }
+    ensures reads { Reads (λ u. record { boot = Some boot.new; steps = steps.new.items }) result (later_line boot.old steps.old.items line.now key words.old) }
+    ensures boot_unchanged { OnErr result (boot.new ≡ boot.old) }
+    ensures steps_unchanged { OnErr result (steps.new.items ≡ steps.old.items) }
+{
+    match key {
+        Some(_) if !steps.is_empty() => Err(ReadFault::Line(LineFault::LateBoot)),
+        Some(key) => read_next_boot(boot, key, words),
+        None => read_next_step(boot, steps, line),
+    }
+}
+
+impl Script {
+    ghost use Rattle.mcs_sim.specs.Script.{no_script, read_line, spelled};
+
+    /// The script of no line.
+    pub fn new(alloc: Global) -> Script
+        ensures { result ≡ no_script }
+    {
+        Script {
+            boot: None,
+            steps: Vec::new(alloc),
+        }
+    }
+
+    /// Takes the line of this number. The faults are tested in the order 9, 7, 1, 8, 2, 3, 4, 5, 6, and a faulty line leaves
+    /// the script as it was.
+    #[tactic(auto, unfolding(crate::specs::Script::read_line))]
+    pub fn read_line(&mut self, alloc: Global, number: u64, line: &[u8]) -> Result<(), ReadFault>
+        ensures reads { Reads (λ u. self.new) result (read_line self.old number line.now) }
+        ensures numbered { OnOk result (number ≤ SCRIPT_LINES) }
+        ensures unchanged { OnErr result (self.new ≡ self.old) }
+    {
+        if number > SCRIPT_LINES {
+            return Err(ReadFault::Line(LineFault::ManyLines));
+        }
+        if line.len() > SCRIPT_LINE_BYTES {
+            return Err(ReadFault::Line(LineFault::LongLine));
+        }
+        if is_skipped(line) {
+            return Ok(());
+        }
+        self.read_words(alloc, line)
+    }
+
+    /// Takes a line that is not skipped.
+    #[tactic(auto, unfolding(crate::specs::Script::spelled, crate::specs::Script::by_boot))]
+    fn read_words(&mut self, alloc: Global, line: &[u8]) -> Result<(), ReadFault>
+        ensures reads { Reads (λ u. self.new) result (spelled self.old line.now (words_of line.now)) }
+        ensures unchanged { OnErr result (self.new ≡ self.old) }
+    {
+        let mut words = Words::new(line);
+        let first = words.next_word().ok_or(LineFault::Form)?;
+        let key = find_boot_key(first);
+        match &mut self.boot {
+            None => {
+                self.boot = Some(first_boot(alloc, key, &mut words)?);
+                Ok(())
+            }
+            Some(boot) => read_later_line(boot, &mut self.steps, line, key, &mut words),
+        }
+    }
+}

@@ -1,0 +1,299 @@
+use crate::{SimFault, Sink, Source, simulate};
+use mcs_text::LineFault;
+use std::alloc::Global;
+use std::io::{self, ErrorKind, Read, Write};
+use std::test::Fail;
+
+/// A CNode, two endpoints, five threads with a context each, and capabilities to them.
+const BOOT: &str = "\
+cores 1
+cnode 5
+endpoint
+endpoint
+notification
+reply
+reply
+context 0
+context 0
+context 0
+context 0
+context 0
+thread 10 255 c1 59 0 run s1
+thread 20 255 c1 59 0 run s2
+thread 10 255 c1 59 0 run s3
+thread 20 255 c1 59 0 run s4
+thread 30 255 c1 59 0 run s5
+slot c1 1 e1 w 9
+slot c1 2 e1 rwgp 0
+slot c1 3 e2 rwgp 0
+slot c1 4 n1 rw 0
+slot c1 5 n1 w 1
+slot c1 6 n1 w 2
+slot c1 7 n1 w 4
+slot c1 8 r1
+slot c1 9 r2
+slot c1 11 t1
+slot c1 12 t2
+slot c1 13 t3
+slot c1 14 t4
+slot c1 15 t5
+slot c1 21 s1
+slot c1 22 s2
+slot c1 23 s3
+slot c1 24 s4
+slot c1 25 s5
+";
+
+/// Steps after the boot, and what the trace has after it.
+const RUNS: [(&str, &str); 5] = [
+    // A message that waits for its receiver.
+    (
+        "\
+0 t1 send 1 7 5 6
+0 t2 recv 2 8
+",
+        "\
+0 t1 send 1 7 5 6
+= waits
++ sent m0 t1 e1 send 9 7 5 6
++ joins t1 e1.send
+0 t2 recv 2 8
+= got 9 7 5 6
++ took m0 t2
++ parts t1 e1.send
++ turns t1 running
+",
+    ),
+    // A receiver that waits for its message.
+    (
+        "\
+0 t2 recv 2 8
+0 t1 send 1 7 5 6
+",
+        "\
+0 t2 recv 2 8
+= waits
++ joins t2 e1.recv r1
+0 t1 send 1 7 5 6
+= done
++ sent m0 t1 e1 send 9 7 5 6
++ took m0 t2
++ parts t2 e1.recv
++ turns t2 running
+",
+    ),
+    // The greatest priority goes first, and then who came first.
+    (
+        "\
+0 t1 send 1 1
+0 t2 send 1 2
+0 t3 send 1 3
+0 t4 send 1 4
+0 t5 recv 2 8
+0 t5 recv 2 8
+0 t5 recv 2 8
+0 t5 recv 2 8
+",
+        "\
+0 t1 send 1 1
+= waits
++ sent m0 t1 e1 send 9 1
++ joins t1 e1.send
+0 t2 send 1 2
+= waits
++ sent m1 t2 e1 send 9 2
++ joins t2 e1.send
+0 t3 send 1 3
+= waits
++ sent m2 t3 e1 send 9 3
++ joins t3 e1.send
+0 t4 send 1 4
+= waits
++ sent m3 t4 e1 send 9 4
++ joins t4 e1.send
+0 t5 recv 2 8
+= got 9 2
++ took m1 t5
++ parts t2 e1.send
++ turns t2 running
+0 t5 recv 2 8
+= got 9 4
++ took m3 t5
++ parts t4 e1.send
++ turns t4 running
+0 t5 recv 2 8
+= got 9 1
++ took m0 t5
++ parts t1 e1.send
++ turns t1 running
+0 t5 recv 2 8
+= got 9 3
++ took m2 t5
++ parts t3 e1.send
++ turns t3 running
+",
+    ),
+    // Capabilities without the right to receive, and of the wrong kind.
+    (
+        "\
+0 t1 recv 1 8
+0 t1 recv 2 1
+0 t1 recv 2 10
+",
+        "\
+0 t1 recv 1 8
+= refused 5
+0 t1 recv 2 1
+= refused 4
+0 t1 recv 2 10
+= refused 1
+",
+    ),
+    // A receiver that takes the reply object of another.
+    (
+        "\
+0 t2 recv 2 8
+0 t3 recv 2 8
+",
+        "\
+0 t2 recv 2 8
+= waits
++ joins t2 e1.recv r1
+0 t3 recv 2 8
+= waits
++ parts t2 e1.recv
++ turns t2 inactive
++ joins t3 e1.recv r1
+",
+    ),
+];
+
+/// What a script gives, and the bytes that it writes.
+fn run<R: Read + Drop>(alloc: Global, reader: R) -> Result<(Result<(), SimFault>, Vec<u8>), Fail> {
+    let mut source = Source::new(reader);
+    let mut written = Vec::new(alloc);
+    let result = simulate(alloc, &mut source, &mut Sink::new(alloc, &mut written));
+    Ok((result, written))
+}
+
+#[test]
+fn runs_give_their_traces(rt: HostRuntime) -> Result<(), Fail> {
+    for (steps, trace) in RUNS {
+        let script = format!(in rt.alloc(); "{BOOT}{steps}")?;
+        let (result, written) = run(rt.alloc(), script.as_bytes())?;
+        assert_eq!(rt; result, Ok(()));
+        let want = format!(in rt.alloc(); "{BOOT}{trace}")?;
+        assert_eq!(rt; written.as_slice(), want.as_bytes());
+    }
+    Ok(())
+}
+
+#[test]
+fn faulty_lines_are_told(rt: HostRuntime) -> Result<(), Fail> {
+    let faults = [
+        ("", 1, LineFault::NoCores),
+        ("# nothing\n", 2, LineFault::NoCores),
+        ("cores 17\n", 1, LineFault::Number),
+        ("cores 1\ncores 1\n", 2, LineFault::Taken),
+        (
+            "cores 1\ncnode 5\nendpoint\nslot c1 3 e1 w 99999999999999999999\n",
+            4,
+            LineFault::Number,
+        ),
+        ("cores 1\nslot c1 300 e1 w 1\n", 2, LineFault::NoObject),
+        ("cores 1\n0 t1 recv 01 2\n", 2, LineFault::Form),
+        ("cores 1\n1 t1 recv 1 2\n", 2, LineFault::Number),
+    ];
+    for (script, line, why) in faults {
+        let (result, written) = run(rt.alloc(), script.as_bytes())?;
+        assert_eq!(rt; result, Err(SimFault::Script { line, why }), "{script}");
+        assert!(rt; written.is_empty());
+    }
+    let script = format!(in rt.alloc(); "{BOOT}0 t2 recv 2 8\nendpoint\n")?;
+    let (result, written) = run(rt.alloc(), script.as_bytes())?;
+    let why = LineFault::LateBoot;
+    assert_eq!(rt; result, Err(SimFault::Script { line: 38, why }));
+    assert!(rt; written.len() > BOOT.len());
+    Ok(())
+}
+
+/// Gives this text, then so many interruptions, then the end or a failure.
+#[derive(Drop)]
+struct Reader<'a> {
+    text: &'a [u8],
+    interruptions: u32,
+    fails: bool,
+}
+
+impl<'a> Read for Reader<'a> {
+    fn read(&mut self, buf: &mut [u8]) -> io::Result<usize> {
+        if !self.text.is_empty() {
+            return self.text.read(buf);
+        }
+        if self.interruptions > 0 {
+            self.interruptions -= 1;
+            return Err(io::Error::from(ErrorKind::Interrupted));
+        }
+        if self.fails {
+            return Err(io::Error::from(ErrorKind::TimedOut));
+        }
+        Ok(0)
+    }
+}
+
+#[test]
+fn failed_reads_are_told(rt: HostRuntime) -> Result<(), Fail> {
+    let ends = [
+        (0, true, Err(SimFault::Read)),
+        (999, false, Ok(())),
+        (1000, false, Err(SimFault::Read)),
+    ];
+    for (interruptions, fails, want) in ends {
+        let reader = Reader {
+            text: BOOT.as_bytes(),
+            interruptions,
+            fails,
+        };
+        let (result, written) = run(rt.alloc(), reader)?;
+        assert_eq!(rt; result, want);
+        let length = if want.is_ok() { BOOT.len() } else { 0 };
+        assert_eq!(rt; written.len(), length);
+    }
+    Ok(())
+}
+
+/// Takes so many bytes, a few at a time, and then fails.
+#[derive(Drop)]
+struct Writer {
+    taken: Vec<u8>,
+    room: usize,
+}
+
+impl Write for Writer {
+    fn write(&mut self, buf: &[u8]) -> io::Result<usize> {
+        let count = buf.len().min(self.room).min(7);
+        self.taken.extend_from_slice(&buf[..count])?;
+        self.room -= count;
+        Ok(count)
+    }
+
+    fn flush(&mut self) -> io::Result<()> {
+        Ok(())
+    }
+}
+
+#[test]
+fn a_failed_write_is_told(rt: HostRuntime) -> Result<(), Fail> {
+    let mut writer = Writer {
+        taken: Vec::new(rt.alloc()),
+        room: 100,
+    };
+    let result = {
+        let mut source = Source::new(BOOT.as_bytes());
+        let mut sink = Sink::new(rt.alloc(), &mut writer);
+        simulate(rt.alloc(), &mut source, &mut sink)
+    };
+    assert_eq!(rt; result, Err(SimFault::Write));
+    assert_eq!(rt; writer.taken.as_slice(), &BOOT.as_bytes()[..100]);
+    Ok(())
+}

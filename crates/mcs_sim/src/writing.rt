@@ -1,0 +1,97 @@
+//! The trace of a book.
+ghost use Rattle.std.specs.Prelude.{◌≡◌, ◌+◌, ◌^◌, List, ℕ, ◌<◌, ◌≤◌, OnOk, OnErr, length, reverse, Err};
+ghost use Rattle.std.specs.Io.KnownBytes.{Appends};
+ghost use Rattle.mcs_text.specs.Output.{Moves, Puts, Rose};
+ghost use Rattle.mcs_sim.specs.Trace.{sent_with, sent_after, boot_lines_trace, records_trace, line_trace, lines_trace, trace};
+
+use crate::fault::SimFault;
+use mcs_book::{Book, Line};
+use mcs_text::{Sink, put_answer, put_boot_line, put_cores, put_record, put_step};
+use mcs_types::{BootLine, Rec};
+use std::io::Write;
+
+fn put_boot<W: Write>(sink: &mut Sink<W>, lines: &[BootLine])
+    ensures { Puts W.contents sink.old sink.new (boot_lines_trace lines.now) }
+{
+    for line in lines {
+        put_boot_line(sink, line);
+    }
+}
+
+/// How many messages were sent with a record more.
+fn count_sent(sent: u128, fact: &Rec) -> u128
+    requires { sent + 1 < 2 ^ 128 }
+    ensures { result ≡ sent_with sent fact.now }
+{
+    match fact {
+        Rec::Sent { .. } => sent + 1,
+        _ => sent,
+    }
+}
+
+/// Writes records before which so many messages were sent, and answers how many were sent with them.
+fn put_records<W: Write>(sink: &mut Sink<W>, sent: u128, records: &[Rec]) -> u128
+    requires { sent + length records.now < 2 ^ 128 }
+    ensures puts { Puts W.contents sink.old sink.new (records_trace sent records.now) }
+    ensures sent { result ≡ sent_after sent records.now }
+{
+    let mut count = sent;
+    for fact in records {
+        put_record(sink, count, fact);
+        count = count_sent(count, fact);
+    }
+    count
+}
+
+/// Writes a line before which so many messages were sent, and answers how many were sent with it.
+fn put_book_line<W: Write>(sink: &mut Sink<W>, sent: u128, line: &Line<'_>) -> u128
+    requires { sent + 2 ^ 64 < 2 ^ 128 }
+    ensures puts { Puts W.contents sink.old sink.new (line_trace sent line.now) }
+    ensures sent { result ≡ sent_after sent line.now.records }
+    ensures few { result ≤ sent + 2 ^ 64 }
+{
+    put_step(sink, line.step());
+    put_answer(sink, line.answer());
+    put_records(sink, sent, line.records())
+}
+
+fn put_lines<W: Write>(sink: &mut Sink<W>, book: &Book)
+    ensures { Puts W.contents sink.old sink.new (lines_trace 0 (reverse book.now.book.lines)) }
+{
+    // a book of 2 to the 64 lines, with as many records in each, would fill this count
+    let mut sent = 0u128;
+    for i in 1..book.lines() {
+        match book.line(i) {
+            Some(line) => sent = put_book_line(sink, sent, &line),
+            None => unreachable!(),
+        }
+    }
+}
+
+/// The text of a book, piece by piece.
+#[tactic(auto, unfolding(crate::specs::Trace::trace))]
+fn put_book<W: Write>(sink: &mut Sink<W>, book: &Book)
+    ensures { Puts W.contents sink.old sink.new (trace book.now.book) }
+{
+    put_cores(sink, book.cores());
+    put_boot(sink, book.boot());
+    put_lines(sink, book);
+}
+
+/// Writes the trace of a book: its boot, and then for each line its step, its answer and its records. What the sink kept back
+/// is dropped first. Only the writer can fail it.
+pub fn trace<W: Write>(book: &Book, sink: &mut Sink<W>) -> Result<(), SimFault>
+    ensures ok { OnOk result (Appends (W.contents sink.old.writer) (W.contents sink.new.writer) (trace book.now.book)) }
+    ensures err { OnErr result ((rest : List ℕ) × Moves (W.contents sink.old.writer) (W.contents sink.new.writer) (trace book.now.book) rest) }
+    ensures fault { OnErr result (result ≡ Err SimFault.Write) }
+    ensures rose { OnErr result (Rose sink.old.failed sink.new.failed) }
+    ensures count { sink.old.failed ≤ sink.new.failed }
+{
+    sink.start();
+    put_book(sink, book);
+    sink.flush();
+    if sink.is_broken() {
+        return Err(SimFault::Write);
+    }
+    Ok(())
+}

@@ -1,0 +1,4 @@
+pub mod Outputs
+pub mod Pieces
+pub mod WordLaws
+pub mod RoundTrip

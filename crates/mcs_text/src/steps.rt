@@ -1,0 +1,73 @@
+//! The line of a step.
+ghost use Rattle.std.specs.Prelude.{◌≡◌, ◌<◌, Ok, Err, Some, None, [], IfOk};
+ghost use Rattle.mcs_text.specs.Reading.{Gives, IsRead, send_at, recv_at, entry_of, entry_at, step_of};
+
+use crate::fault::LineFault;
+use crate::fields::{address, at_end, in_range, made_serial, next_name, next_number};
+use crate::key::{Key, find_entry_key};
+use crate::message::{message_of, rest_numbers};
+use crate::words::Words;
+use mcs_types::{CoreId, Entry, Kind, ObjId, Step};
+
+#[tactic(auto, unfolding(crate::specs::Reading::recv_at))]
+fn read_recv(words: &mut Words<'_>) -> Result<Entry, LineFault>
+    ensures read { Gives (λ e. e) result (recv_at words.old) }
+    ensures served { IfOk result IsRead }
+{
+    let cap = next_number(words)?;
+    let reply = next_number(words)?;
+    at_end(words)?;
+    Ok(Entry::Recv {
+        cap: address(cap)?,
+        reply: address(reply)?,
+    })
+}
+
+#[tactic(auto, unfolding(crate::specs::Reading::send_at))]
+fn read_send(words: &mut Words<'_>) -> Result<Entry, LineFault>
+    ensures read { Gives (λ e. e) result (send_at words.old) }
+    ensures served { IfOk result IsRead }
+{
+    let cap = next_number(words)?;
+    let label = next_number(words)?;
+    let kept = rest_numbers(words)?;
+    let cap = address(cap)?;
+    let message = message_of(label, kept)?;
+    Ok(Entry::Send { cap, message })
+}
+
+#[tactic(auto, unfolding(crate::specs::Reading::entry_at))]
+fn read_entry(words: &mut Words<'_>) -> Result<Entry, LineFault>
+    ensures read { Gives (λ e. e) result (entry_at words.old) }
+    ensures served { IfOk result IsRead }
+{
+    let word = words.next_word().ok_or(LineFault::Form)?;
+    match find_entry_key(word) {
+        Some(Key::Send) => read_send(words),
+        Some(Key::Recv) => read_recv(words),
+        _ => Err(LineFault::Form),
+    }
+}
+
+/// The step that a line spells, where so many cores and threads are there. Fault Form where it spells none, or one that is
+/// not served; Number where a number is out of its range; NoObject where the thread is not there.
+#[tactic(auto, unfolding(crate::specs::Reading::step_of))]
+pub fn read_step(cores: u8, threads: u32, line: &[u8]) -> Result<Step, LineFault>
+    ensures read { Gives (λ s. s) result (step_of cores threads line.now) }
+    ensures served { IfOk result (λ s. IsRead s.entry) }
+{
+    let mut words = Words::new(line);
+    let core = next_number(&mut words)?;
+    let thread = next_name(&mut words, b't')?;
+    let entry = read_entry(&mut words)?;
+    let core = in_range(cores as u64, core)?;
+    let serial = made_serial(threads, thread)?;
+    Ok(Step {
+        core: CoreId(core as u8),
+        thread: ObjId {
+            kind: Kind::Thread,
+            serial,
+        },
+        entry,
+    })
+}
