@@ -1,5 +1,5 @@
 -- How many lines begin in a text, and how long a text without fault is.
-use Rattle.std.proofs.Common.{◌≡◌, ℕ, suc, ◌+◌, ◌*◌, ◌<◌, ◌≤◌, ◌⊎◌, inl, inr, Bool, true, false, not, if◌then◌else◌, ltb, eqb, Option, Some, None, Result, Ok, Err, OnOk, List, [], ◌∷◌, ◌++◌, length, get_or, drop, refl, sym, ap, ◌∙◌, arith}
+use Rattle.std.proofs.Common.{◌≡◌, ℕ, suc, ◌+◌, ◌*◌, ◌<◌, ◌≤◌, ◌⊎◌, inl, inr, Bool, true, false, not, if◌then◌else◌, ltb, eqb, Option, Some, None, Result, Ok, Err, IfErr, OnOk, List, [], ◌∷◌, ◌++◌, length, get_or, drop, refl, sym, ap, ◌∙◌, arith}
 use Rattle.std.proofs.Math.Seq.{drop-cons}
 use Rattle.std.proofs.lemmas.Bool.{ltb-false}
 use Rattle.std.specs.Io.KnownBytes.{Appends, Consumes, IsAtEnd}
@@ -7,10 +7,11 @@ use Rattle.mcs_text.specs.declared.fault.LineFault.{LineFault}
 use Rattle.mcs_text.specs.declared.fault.LineFault.TheVariants.{LongLine, ManyLines}
 use Rattle.mcs_text.specs.Reading.{onto_first, lines_of}
 use Rattle.mcs_sim.specs.declared.fault.SimFault.{SimFault}
+use Rattle.mcs_sim.specs.declared.fault.SimFault.TheVariants as fault
 use Rattle.mcs_sim.specs.declared.source.Begun.{Begun}
 use Rattle.mcs_sim.specs.Input.{none_begun, begun_with, begun_after, IsTooLong}
 use Rattle.mcs_sim.specs.Script.{Script, no_script, read_line, script_from, steps}
-use Rattle.mcs_sim.specs.Runs.{written, Finishes}
+use Rattle.mcs_sim.specs.Runs.{written, Finishes, Leaves, Ends}
 use Rattle.mcs_sim.proofs.ScriptLaws.{script_from-ok, script_from-err}
 
 begun_after-append : (s : Begun) (xs ys : List ℕ) → begun_after s (xs ++ ys) ≡ begun_after (begun_after s xs) ys
@@ -162,3 +163,13 @@ lines-begun_with-le s b = go s.is_open
     go : (o : Bool) → (if o then s.lines else s.lines + 1) ≤ s.lines + 1
     go true = omega arith
     go false = omega arith
+
+-- a run that read its input and stopped later
+pub IfErr-ends : (r : Result (Unit {0}) SimFault) (left left' out out' : Option (List ℕ)) (text : List ℕ) → Consumes left left' text → (IsAtEnd left' ⊎ IsTooLong text)
+    → IfErr r (λ e. Leaves e out out' text) → IfErr r (λ e. Ends e left left' out out')
+IfErr-ends (Ok u) left left' out out' text read end leaves = tt
+IfErr-ends (Err (fault.Script line why)) left left' out out' text read end leaves = (text, read, end, leaves)
+IfErr-ends (Err fault.Read) left left' out out' text read end leaves = absurd leaves
+IfErr-ends (Err fault.Write) left left' out out' text read end leaves = (text, read, end, leaves)
+IfErr-ends (Err fault.BookFull) left left' out out' text read end leaves = (text, read, end, leaves)
+IfErr-ends (Err fault.OutOfMemory) left left' out out' text read end leaves = (text, read, leaves)

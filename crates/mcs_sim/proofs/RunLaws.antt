@@ -9,7 +9,7 @@ use Rattle.mcs_sim.specs.declared.fault.SimFault.TheVariants as fault
 use Rattle.mcs_types.specs.declared.entry.Step.{Step}
 use Rattle.mcs_book.specs.Boots.{Boot}
 use Rattle.mcs_sim.specs.Script.{Script, steps}
-use Rattle.mcs_sim.specs.Runs.{script_trace, trace_before, told, written, Begins, Leaves, Stops}
+use Rattle.mcs_sim.specs.Runs.{script_trace, trace_before, told, written, Begins, Leaves, Stops, IsFull, IsRoomy}
 
 -- a writer that took nothing
 pub Appends-nil : (a : Option (List ℕ)) → Appends a a []
@@ -25,16 +25,30 @@ pub written-is : (text : List ℕ) (s : Script) (f : Option (ℕ × LineFault)) 
 unfolding written
 written-is text s f e = ap (λ (r : Script × Option (ℕ × LineFault)). told r.0 r.1) e
 
-pub Leaves-stops : (e : SimFault) (a b : Option (List ℕ)) (text said : List ℕ) → written text ≡ said → Stops e a b said → Leaves e a b text
-Leaves-stops (fault.Script line why) a b text said same stops = absurd stops
-Leaves-stops fault.Read a b text said same stops = stops
-Leaves-stops fault.Write a b text said same stops = subst (Begins a b) (sym same) stops
-Leaves-stops fault.BookFull a b text said same stops = subst (Begins a b) (sym same) stops
-Leaves-stops fault.OutOfMemory a b text said same stops = subst (Begins a b) (sym same) stops
+pub Leaves-stops : (e : SimFault) (a b : Option (List ℕ)) (text : List ℕ) (s : Script) → written text ≡ script_trace s.boot s.steps → (steps text).0 ≡ s → Stops e a b s → Leaves e a b text
+Leaves-stops (fault.Script line why) a b text s same is stops = absurd stops
+Leaves-stops fault.Read a b text s same is stops = stops
+Leaves-stops fault.Write a b text s same is stops = subst (Begins a b) (sym same) stops
+Leaves-stops fault.BookFull a b text s same is stops = (subst (Begins a b) (sym same) stops.0, subst (λ (t : Script). IsFull t.boot t.steps) (sym is) stops.1)
+Leaves-stops fault.OutOfMemory a b text s same is stops = subst (Begins a b) (sym same) stops
 
-pub IfErr-leaves : (r : Result (Unit {0}) SimFault) (a b : Option (List ℕ)) (text said : List ℕ) → written text ≡ said → IfErr r (λ e. Stops e a b said) → IfErr r (λ e. Leaves e a b text)
-IfErr-leaves (Ok u) a b text said same stops = tt
-IfErr-leaves (Err e) a b text said same stops = Leaves-stops e a b text said same stops
+pub IfErr-leaves : (r : Result (Unit {0}) SimFault) (a b : Option (List ℕ)) (text : List ℕ) (s : Script) → written text ≡ script_trace s.boot s.steps → (steps text).0 ≡ s
+    → IfErr r (λ e. Stops e a b s) → IfErr r (λ e. Leaves e a b text)
+IfErr-leaves (Ok u) a b text s same is stops = tt
+IfErr-leaves (Err e) a b text s same is stops = Leaves-stops e a b text s same is stops
+
+-- the writing of a trace stops by a write fault alone
+pub IfErr-write : (r : Result (Unit {0}) SimFault) (a b : Option (List ℕ)) (text : List ℕ) (s : Script) → text ≡ script_trace s.boot s.steps
+    → OnErr r (Begins a b text) → OnErr r (r ≡ Err fault.Write) → IfErr r (λ e. Stops e a b s)
+IfErr-write (Ok u) a b text s same begins is = tt
+IfErr-write (Err e) a b text s same begins is =
+    subst (λ (r : Result (Unit {0}) SimFault). IfErr r (λ e. Stops e a b s)) (sym is) (subst (Begins a b) same begins)
+
+-- no step fills a book
+pub IsRoomy-none : (b : Option Boot) (ss : List Step) → eqb (length ss) 0 ≡ true → IsRoomy b ss
+IsRoomy-none None ss none = tt
+IsRoomy-none (Some b) [] none = refl
+IsRoomy-none (Some b) (s ∷ ss) none = absurd (let other : eqb (length (s ∷ ss)) 0 ≡ false = ne_eqb _ _ (λ e. omega arith) in cc)
 
 -- where steps were read, all of the trace is written before a faulty line
 pub trace_before-some : (b : Option Boot) (ss : List Step) → eqb (length ss) 0 ≡ false → trace_before b ss ≡ script_trace b ss

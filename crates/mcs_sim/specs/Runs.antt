@@ -1,15 +1,17 @@
 -- What a run writes.
-use Rattle.std.specs.Prelude.{◌≡◌, ℕ, List, [], ◌∷◌, Option, Some, None}
+use Rattle.std.specs.Prelude.{◌≡◌, ◌⊎◌, ℕ, List, [], ◌∷◌, Option, Some, None}
 use Rattle.std.specs.Io.KnownBytes.{Appends, Consumes, IsAtEnd}
 use Rattle.mcs_types.specs.declared.entry.Step.{Step}
 use Rattle.mcs_book.specs.Boots.{Boot}
 use Rattle.mcs_book.specs.History.{book_of}
+use Rattle.mcs_kernel.specs.Runs.{full_after}
 use Rattle.mcs_text.specs.declared.fault.LineFault.{LineFault}
 use Rattle.mcs_text.specs.Output.{Moves}
 use Rattle.mcs_sim.specs.declared.fault.SimFault.{SimFault}
 use Rattle.mcs_sim.specs.declared.fault.SimFault.TheVariants as fault
 use Rattle.mcs_sim.specs.Trace.{trace}
 use Rattle.mcs_sim.specs.Script.{Script, steps}
+use Rattle.mcs_sim.specs.Input.{IsTooLong}
 
 -- the trace of the book that the steps make after a boot
 unfoldable pub script_trace : Option Boot → List Step → List ℕ
@@ -34,23 +36,33 @@ written text = told (steps text).0 (steps text).1
 abbrev pub Begins : (old new : Option (List ℕ)) (text : List ℕ) → Type 0
 Begins old new text = (rest : List ℕ) × Moves old new text rest
 
--- what was written of a text before this fault; only a source has a read fault
+-- the book is full at a step of this script
+abbrev pub IsFull : Option Boot → List Step → Type 0
+IsFull None ss = ⊥
+IsFull (Some b) ss = (n : ℕ) × (full_after 0 (record { boot = b; lines = [] }) ss ≡ Some n)
+
+-- the book is full at no step of this script
+abbrev pub IsRoomy : Option Boot → List Step → Type 0
+IsRoomy None ss = Unit {0}
+IsRoomy (Some b) ss = full_after 0 (record { boot = b; lines = [] }) ss ≡ None
+
+-- a fault of the replay of a script, or of the writing of its trace: it leaves a beginning of the trace
+abbrev pub Stops : SimFault → (old new : Option (List ℕ)) → Script → Type 0
+Stops (fault.Script line why) old new s = ⊥
+Stops fault.Read old new s = ⊥
+Stops fault.Write old new s = Begins old new (script_trace s.boot s.steps)
+Stops fault.BookFull old new s = Begins old new (script_trace s.boot s.steps) × IsFull s.boot s.steps
+Stops fault.OutOfMemory old new s = Begins old new (script_trace s.boot s.steps)
+
+-- what a run of a text leaves that ended early, but for a read fault: all that is told before a faulty line, or a beginning of that
 abbrev pub Leaves : SimFault → (old new : Option (List ℕ)) (text : List ℕ) → Type 0
-Leaves (fault.Script line why) old new text = Appends old new (written text) × ((steps text).1 ≡ Some (line, why))
+Leaves (fault.Script line why) old new text = Appends old new (written text) × ((steps text).1 ≡ Some (line, why)) × IsRoomy (steps text).0.boot (steps text).0.steps
 Leaves fault.Read old new text = ⊥
 Leaves fault.Write old new text = Begins old new (written text)
-Leaves fault.BookFull old new text = Begins old new (written text)
+Leaves fault.BookFull old new text = Begins old new (written text) × IsFull (steps text).0.boot (steps text).0.steps
 Leaves fault.OutOfMemory old new text = Begins old new (written text)
 
--- a fault of the replay of a script, or of the writing of its trace
-abbrev pub Stops : SimFault → (old new : Option (List ℕ)) (text : List ℕ) → Type 0
-Stops (fault.Script line why) old new text = ⊥
-Stops fault.Read old new text = ⊥
-Stops fault.Write old new text = Begins old new text
-Stops fault.BookFull old new text = Begins old new text
-Stops fault.OutOfMemory old new text = Begins old new text
-
--- what a run left behind that ended without fault: it read a text to the end of the input, in which nothing is wrong, and wrote all of it
+-- what a run leaves that ended without fault: it read a text to the end of the input, in which nothing is wrong, and wrote all of it
 pub record Finishes (left left' out out' : Option (List ℕ)) : Type 0 where
   pub text : List ℕ
   pub read : Consumes left left' text
@@ -58,7 +70,9 @@ pub record Finishes (left left' out out' : Option (List ℕ)) : Type 0 where
   pub wrote : Appends out out' (written text)
   pub faultless : (steps text).1 ≡ None
 
--- what a run left behind that ended early: it read a text, and wrote what is told before the fault, or a beginning of that
+-- what a run leaves that ended early. It read a text, to the end of the input or until that was too long for a script, and left what
+-- the text gives before the fault. Where a read failed or memory was refused, it may have read less; after a read fault it wrote nothing
 abbrev pub Ends : SimFault → (left left' out out' : Option (List ℕ)) → Type 0
-Ends (fault.Script line why) left left' out out' = (text : List ℕ) × Consumes left left' text × Appends out out' (written text) × ((steps text).1 ≡ Some (line, why))
-Ends e left left' out out' = (text : List ℕ) × Consumes left left' text × Begins out out' (written text)
+Ends fault.Read left left' out out' = (text : List ℕ) × Consumes left left' text × Appends out out' []
+Ends fault.OutOfMemory left left' out out' = (text : List ℕ) × Consumes left left' text × Begins out out' (written text)
+Ends e left left' out out' = (text : List ℕ) × Consumes left left' text × (IsAtEnd left' ⊎ IsTooLong text) × Leaves e out out' text
