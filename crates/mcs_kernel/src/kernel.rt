@@ -3,6 +3,8 @@ ghost use Rattle.std.specs.Prelude.{◌≡◌, ◌<◌, ◌+◌, ◌∷◌, [], 
 ghost use Rattle.mcs_types.specs.declared.id.CoreId.{CoreId};
 ghost use Rattle.mcs_types.specs.declared.entry.Entry.{Entry};
 ghost use Rattle.mcs_book.specs.History.{IsLegal, log_of};
+ghost use Rattle.mcs_book.specs.Each.{EachRecord, AfterEachLine};
+ghost use Rattle.mcs_book.specs.Fair.{EndsOpen, NoneWaitBeside, SendersAreOpen};
 ghost use Rattle.mcs_book.specs.Standing.{may_enter};
 ghost use Rattle.mcs_book.specs.Served.{IsServed};
 ghost use Rattle.mcs_book.specs.Ranges.{InRange};
@@ -95,10 +97,13 @@ impl<L: Lines> Kernel<L> {
         self.state.book()
     }
 
-    /// The book is legal, and has at most 1,000,000 lines.
+    /// The book is legal, has at most 1,000,000 lines, and meets the laws of legal books.
     pub fn is_legal(&self)
         ensures legal { IsLegal self.now }
         ensures few { length self.now.lines < BOOK_LINES }
+        ensures taken_once { EachRecord EndsOpen self.now }
+        ensures none_beside { AfterEachLine NoneWaitBeside self.now }
+        ensures not_cancelled { AfterEachLine SendersAreOpen self.now }
     {
         let _ = &self.state;
     }
@@ -169,13 +174,19 @@ impl<L: Lines> Kernel<L> {
         ensures line { OnOk result (self.new ≡ entered self.old (record { core = core; thread = thread; entry = entry })) }
         ensures answer { IfOk result (λ a. a ≡ (does (log_of self.old) core thread entry).answer) }
         ensures err { OnErr result (self.new ≡ self.old) }
+        ensures legal { IsLegal self.new }
+        ensures taken_once { EachRecord EndsOpen self.new }
+        ensures none_beside { AfterEachLine NoneWaitBeside self.new }
+        ensures not_cancelled { AfterEachLine SendersAreOpen self.new }
     {
-        match self.fault(core, thread) {
+        let result = match self.fault(core, thread) {
             Some(fault) => Err(fault),
             None => match self.serve(core, thread, entry) {
                 Ok(answer) => Ok(answer),
                 Err(OutOfMemory) => Err(EnterFault::OutOfMemory),
             },
-        }
+        };
+        self.is_legal();
+        result
     }
 }

@@ -1,6 +1,8 @@
 //! A whole run of steps.
 ghost use Rattle.std.specs.Prelude.{◌≡◌, ◌⊎◌, length, [], true, false, IfOk, OnOk, IfErr, Err, None};
-ghost use Rattle.mcs_book.specs.History.{book_of, with_step};
+ghost use Rattle.mcs_book.specs.History.{IsLegal, book_of, with_step};
+ghost use Rattle.mcs_book.specs.Each.{EachRecord, AfterEachLine};
+ghost use Rattle.mcs_book.specs.Fair.{EndsOpen, NoneWaitBeside, SendersAreOpen};
 ghost use Rattle.mcs_book.specs.Served.{IsServed};
 ghost use Rattle.mcs_kernel.specs.declared.fault.EnterFault.{EnterFault};
 ghost use Rattle.mcs_kernel.specs.Faults.{fault_of};
@@ -37,6 +39,10 @@ pub fn replay<L: Lines>(alloc: Global, boot: Boot, steps: &[Step]) -> Result<Ker
     ensures book { IfOk result (λ k. k ≡ book_of boot steps.now) }
     ensures room { OnOk result (full_after 0 (record { boot = boot; lines = [] }) steps.now ≡ None) }
     ensures full { IfErr result (EndsAt (length steps.now) (full_after 0 (record { boot = boot; lines = [] }) steps.now)) }
+    ensures legal { IfOk result (λ k. IsLegal k) }
+    ensures taken_once { IfOk result (λ k. EachRecord EndsOpen k) }
+    ensures none_beside { IfOk result (λ k. AfterEachLine NoneWaitBeside k) }
+    ensures not_cancelled { IfOk result (λ k. AfterEachLine SendersAreOpen k) }
 {
     let mut kernel = match Kernel::new(alloc, &boot) {
         Ok(kernel) => kernel,
@@ -51,5 +57,6 @@ pub fn replay<L: Lines>(alloc: Global, boot: Boot, steps: &[Step]) -> Result<Ker
             Err(_) => return Err(ReplayFault::OutOfMemory { step: taken }),
         }
     }
+    kernel.is_legal();
     Ok(kernel)
 }

@@ -1,7 +1,10 @@
+mod failing;
+mod limits;
+
 use crate::{SimFault, Sink, Source, simulate};
 use mcs_text::LineFault;
 use std::alloc::Global;
-use std::io::{self, ErrorKind, Read, Write};
+use std::io::Read;
 use std::test::Fail;
 
 /// A CNode, two endpoints, five threads with a context each, and capabilities to them.
@@ -214,86 +217,5 @@ fn faulty_lines_are_told(rt: HostRuntime) -> Result<(), Fail> {
     let why = LineFault::LateBoot;
     assert_eq!(rt; result, Err(SimFault::Script { line: 38, why }));
     assert!(rt; written.len() > BOOT.len());
-    Ok(())
-}
-
-/// Gives this text, then so many interruptions, then the end or a failure.
-#[derive(Drop)]
-struct Reader<'a> {
-    text: &'a [u8],
-    interruptions: u32,
-    fails: bool,
-}
-
-impl<'a> Read for Reader<'a> {
-    fn read(&mut self, buf: &mut [u8]) -> io::Result<usize> {
-        if !self.text.is_empty() {
-            return self.text.read(buf);
-        }
-        if self.interruptions > 0 {
-            self.interruptions -= 1;
-            return Err(io::Error::from(ErrorKind::Interrupted));
-        }
-        if self.fails {
-            return Err(io::Error::from(ErrorKind::TimedOut));
-        }
-        Ok(0)
-    }
-}
-
-#[test]
-fn failed_reads_are_told(rt: HostRuntime) -> Result<(), Fail> {
-    let ends = [
-        (0, true, Err(SimFault::Read)),
-        (999, false, Ok(())),
-        (1000, false, Err(SimFault::Read)),
-    ];
-    for (interruptions, fails, want) in ends {
-        let reader = Reader {
-            text: BOOT.as_bytes(),
-            interruptions,
-            fails,
-        };
-        let (result, written) = run(rt.alloc(), reader)?;
-        assert_eq!(rt; result, want);
-        let length = if want.is_ok() { BOOT.len() } else { 0 };
-        assert_eq!(rt; written.len(), length);
-    }
-    Ok(())
-}
-
-/// Takes so many bytes, a few at a time, and then fails.
-#[derive(Drop)]
-struct Writer {
-    taken: Vec<u8>,
-    room: usize,
-}
-
-impl Write for Writer {
-    fn write(&mut self, buf: &[u8]) -> io::Result<usize> {
-        let count = buf.len().min(self.room).min(7);
-        self.taken.extend_from_slice(&buf[..count])?;
-        self.room -= count;
-        Ok(count)
-    }
-
-    fn flush(&mut self) -> io::Result<()> {
-        Ok(())
-    }
-}
-
-#[test]
-fn a_failed_write_is_told(rt: HostRuntime) -> Result<(), Fail> {
-    let mut writer = Writer {
-        taken: Vec::new(rt.alloc()),
-        room: 100,
-    };
-    let result = {
-        let mut source = Source::new(BOOT.as_bytes());
-        let mut sink = Sink::new(rt.alloc(), &mut writer);
-        simulate(rt.alloc(), &mut source, &mut sink)
-    };
-    assert_eq!(rt; result, Err(SimFault::Write));
-    assert_eq!(rt; writer.taken.as_slice(), &BOOT.as_bytes()[..100]);
     Ok(())
 }

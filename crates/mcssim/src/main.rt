@@ -1,6 +1,7 @@
 //! The program: `mcssim replay` reads a script from standard input and writes its trace to standard output.
 #![tactic(auto)]
 
+use clap::error::ErrorKind;
 use mcs_sim::{Options, SimFault, Sink, Source, options, simulate};
 use std::alloc::AllocError;
 use std::process::ExitCode;
@@ -56,6 +57,9 @@ fn main(rt: HostRuntime) -> ExitCode {
             Ok(()) => ExitCode::SUCCESS,
             Err(fault) => report(&rt, fault),
         },
+        Err(error) if error.kind() == ErrorKind::OutOfMemory => {
+            report(&rt, SimFault::OutOfMemory)
+        }
         Err(error) => {
             let _ = error.print(&rt);
             ExitCode::from(if error.use_stderr() { 1 } else { 0 })

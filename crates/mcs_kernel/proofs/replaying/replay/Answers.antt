@@ -48,11 +48,7 @@ returns-clause-room g c =
     let i = c.loop-step.invariant in
     sym i.3 ∙ ap (λ ss. full_after c.loop-step.taken c.loop-step.kernel ss) (drop-none c.args.steps.now c.loop-step.step-index c.loop-step-test.false)
 
-pub returns-in-Err-take : goal.returns-in-Err-take
-returns-in-Err-take g c =
+pub returns-in-Err-take-clause-full : goal.returns-in-Err-take-clause-full
+returns-in-Err-take-clause-full g c =
     let i = c.loop-step.invariant in
-    record {
-      book = tt;
-      room = tt;
-      full = (omega (arith, i.0, c.loop-step-test.true), subst (λ o. IfSome o (λ m. c.loop-step.taken + 1 ≤ m)) i.3 (full-later c.loop-step.taken c.loop-step.kernel (drop c.loop-step.step-index c.args.steps.now)));
-    }
+    (omega (arith, i.0, c.loop-step-test.true), subst (λ o. IfSome o (λ m. c.loop-step.taken + 1 ≤ m)) i.3 (full-later c.loop-step.taken c.loop-step.kernel (drop c.loop-step.step-index c.args.steps.now)))

@@ -1,0 +1,103 @@
+use super::{BOOT, RUNS, run};
+use crate::SimFault;
+use mcs_text::LineFault;
+use std::test::Fail;
+
+#[test]
+fn a_script_cut_anywhere_is_read_or_faulty(rt: HostRuntime) -> Result<(), Fail> {
+    let (steps, _) = RUNS[0];
+    let script = format!(in rt.alloc(); "{BOOT}{steps}")?;
+    for end in 0..=script.len() {
+        let (result, _) = run(rt.alloc(), &script.as_bytes()[..end])?;
+        let is_told = matches!(result, Ok(()) | Err(SimFault::Script { .. }));
+        assert!(rt; is_told, "{end}");
+    }
+    Ok(())
+}
+
+#[test]
+fn lines_have_at_most_4096_bytes(rt: HostRuntime) -> Result<(), Fail> {
+    for (length, is_read) in [(4096, true), (4097, false)] {
+        let mut script = Vec::new(rt.alloc());
+        script.extend_from_slice(BOOT.as_bytes())?;
+        for _ in 0..length {
+            script.push(b'#')?;
+        }
+        script.extend_from_slice(b"\n0 t2 recv 2 8\n")?;
+        let (result, _) = run(rt.alloc(), script.as_slice())?;
+        let fault = SimFault::Script {
+            line: 37,
+            why: LineFault::LongLine,
+        };
+        assert_eq!(rt; result, if is_read { Ok(()) } else { Err(fault) });
+    }
+    Ok(())
+}
+
+/// Lines behind the boot with a number at the end of its range.
+const AT_END: [&str; 9] = [
+    "0 t1 send 18446744073709551615 0",
+    "0 t1 send 1 4503599627370495",
+    "0 t1 send 1 0 18446744073709551615 2 3 4",
+    "0 t1 recv 18446744073709551615 8",
+    "0 t1 recv 2 18446744073709551615",
+    "cnode 1",
+    "context 0",
+    "thread 255 255 c1 63 9223372036854775807 stop -",
+    "slot c1 31 e1 rwgp 18446744073709551615",
+];
+
+/// The same with a number over its range.
+const OVER_END: [&str; 15] = [
+    "0 t1 send 18446744073709551616 0",
+    "0 t1 send 1 4503599627370496",
+    "0 t1 send 1 0 18446744073709551616",
+    "0 t1 send 1 0 1 2 3 4 5",
+    "0 t1 recv 18446744073709551616 8",
+    "0 t1 recv 2 18446744073709551616",
+    "1 t1 recv 2 8",
+    "cnode 0",
+    "cnode 9",
+    "context 1",
+    "thread 256 255 c1 0 0 stop -",
+    "thread 255 256 c1 0 0 stop -",
+    "thread 0 0 c1 64 0 stop -",
+    "thread 0 0 c1 2 4 stop -",
+    "slot c1 31 e1 rwgp 18446744073709551616",
+];
+
+#[test]
+fn numbers_are_read_to_their_end(rt: HostRuntime) -> Result<(), Fail> {
+    for line in AT_END {
+        let script = format!(in rt.alloc(); "{BOOT}{line}\n")?;
+        let (result, _) = run(rt.alloc(), script.as_bytes())?;
+        let is_limit = line == "cnode 1";
+        let fault = SimFault::Script {
+            line: 37,
+            why: LineFault::Limit,
+        };
+        assert_eq!(rt; result, if is_limit { Err(fault) } else { Ok(()) }, "{line}");
+    }
+    for line in OVER_END {
+        let script = format!(in rt.alloc(); "{BOOT}{line}\n")?;
+        let (result, _) = run(rt.alloc(), script.as_bytes())?;
+        let why = LineFault::Number;
+        assert_eq!(rt; result, Err(SimFault::Script { line: 37, why }), "{line}");
+    }
+    Ok(())
+}
+
+#[test]
+fn the_longest_numbers_are_numbers(rt: HostRuntime) -> Result<(), Fail> {
+    let before = b"0 t1 recv 2 ";
+    let mut script = Vec::new(rt.alloc());
+    script.extend_from_slice(BOOT.as_bytes())?;
+    script.extend_from_slice(before)?;
+    for _ in before.len()..4096 {
+        script.push(b'9')?;
+    }
+    let (result, _) = run(rt.alloc(), script.as_slice())?;
+    let why = LineFault::Number;
+    assert_eq!(rt; result, Err(SimFault::Script { line: 37, why }));
+    Ok(())
+}

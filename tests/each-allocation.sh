@@ -1,0 +1,74 @@
+#!/bin/sh
+# Refuses each allocation in turn, and wants the trace all the same: crates/mcs_retries gives each call once more that memory
+# was refused to, and mcssim ends with status 6 and has written a beginning of the trace. Run it after `rt ci`, or alone: it
+# proves and builds what is not built yet. It needs a C compiler, for the library below that refuses.
+set -eu
+cd "$(dirname "$0")/.."
+work=$(mktemp -d)
+trap 'rm -rf "$work"' EXIT
+
+# The allocator of the program under test: the allocation of the number in REFUSED is refused, and the file in COUNTED is made
+# where it came to that.
+cat >"$work/refuse.c" <<'C'
+#define _GNU_SOURCE
+#include <dlfcn.h>
+#include <fcntl.h>
+#include <stdlib.h>
+#include <unistd.h>
+
+static long made;
+
+static int is_refused(void) {
+    const char *wanted = getenv("REFUSED");
+    if (!wanted || ++made != atol(wanted)) return 0;
+    close(open(getenv("COUNTED"), O_CREAT | O_WRONLY, 0600));
+    return 1;
+}
+
+void *malloc(size_t size) {
+    static void *(*real)(size_t);
+    if (!real) real = dlsym(RTLD_NEXT, "malloc");
+    return is_refused() ? NULL : real(size);
+}
+
+void *realloc(void *block, size_t size) {
+    static void *(*real)(void *, size_t);
+    if (!real) real = dlsym(RTLD_NEXT, "realloc");
+    return is_refused() ? NULL : real(block, size);
+}
+C
+cc -shared -fPIC -o "$work/refuse.so" "$work/refuse.c"
+
+(cd crates/mcs_retries && rt run) >"$work/built" 2>&1 || { cat "$work/built"; exit 1; }
+(cd crates/mcssim && rt run -- replay) <crates/mcssim/stdin >"$work/built" 2>&1 || { cat "$work/built"; exit 1; }
+
+# Runs a program with the allocation of this number refused: its output is in $work/out, its status in $status. It fails
+# where the program made fewer allocations.
+refuse() {
+    number=$1
+    shift
+    rm -f "$work/counted"
+    status=0
+    REFUSED=$number COUNTED=$work/counted LD_PRELOAD=$work/refuse.so "$@" >"$work/out" 2>"$work/err" <crates/mcssim/stdin || status=$?
+    [ -e "$work/counted" ]
+}
+
+number=1
+while refuse $number crates/mcs_retries/out/mcs_retries; do
+    cmp "$work/out" crates/mcs_retries/stdout
+    number=$((number + 1))
+done
+echo "mcs_retries: $((number - 1)) allocations, each refused in turn, and each call given again"
+[ $number -gt 1 ]
+
+number=1
+while refuse $number crates/mcssim/out/mcssim replay; do
+    # the program may do without what it asked for, and then writes the whole trace
+    [ $status -eq 0 ] || head -c "$(wc -c <"$work/out")" crates/mcssim/stdout >"$work/wanted"
+    [ $status -ne 0 ] || cp crates/mcssim/stdout "$work/wanted"
+    cmp "$work/wanted" "$work/out"
+    [ $status -eq 0 ] || [ $status -eq 6 ] || { echo "allocation $number: status $status"; exit 1; }
+    number=$((number + 1))
+done
+echo "mcssim: $((number - 1)) allocations, each refused in turn, and each told"
+[ $number -gt 1 ]
