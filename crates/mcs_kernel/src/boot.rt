@@ -10,8 +10,6 @@ ghost use Rattle.mcs_book.specs.Boots.{boot_check, boot_log, is_object, IsFaultl
 
 mod checks;
 mod taking;
-#[cfg(test)]
-mod tests;
 
 use checks::{check, exists_as};
 use mcs_queues::{Lines, PlainLines};

@@ -6,6 +6,3 @@ mod plain;
 
 pub use lines::{LineNo, Lines, ThreadNo};
 pub use plain::PlainLines;
-
-#[cfg(test)]
-mod tests;

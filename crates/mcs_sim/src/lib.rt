@@ -5,8 +5,6 @@ mod fault;
 mod run;
 mod script;
 mod source;
-#[cfg(test)]
-mod tests;
 mod writing;
 
 pub use fault::SimFault;

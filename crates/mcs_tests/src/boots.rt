@@ -1,4 +1,5 @@
-use super::{Boot, boot_state};
+//! Boots by calls.
+use mcs_kernel::{Boot, Kernel};
 use mcs_queues::PlainLines;
 use mcs_types::{Badge, BootFault, BootLine, Cap, CoreId, Guard, Kind, ObjId, Prio, Rights};
 use std::alloc::Global;
@@ -63,11 +64,12 @@ fn lines_are_taken(rt: HostRuntime) {
     };
     assert_eq!(rt; boot.lines().len(), 5);
     assert_eq!(rt; boot.radix(CNODE), Some(8));
-    let Ok(state) = boot_state::<PlainLines>(rt.alloc(), &boot) else {
+    let Ok(kernel) = Kernel::<PlainLines>::new(rt.alloc(), &boot) else {
         assert!(rt; false, "there is memory");
         return;
     };
-    assert_eq!(rt; state.context(object(Kind::Thread, 1)), Some(CONTEXT));
+    assert_eq!(rt; kernel.fault(CoreId(0), object(Kind::Thread, 1)), None);
+    assert_eq!(rt; kernel.book().lines(), 1);
 }
 
 #[test]

@@ -1,14 +1,12 @@
-mod failing;
-mod limits;
-
-use crate::{SimFault, Sink, Source, simulate};
+//! Scripts and their traces.
+use mcs_sim::{SimFault, Sink, Source, simulate};
 use mcs_text::LineFault;
 use std::alloc::Global;
 use std::io::Read;
 use std::test::Fail;
 
 /// A CNode, two endpoints, five threads with a context each, and capabilities to them.
-const BOOT: &str = "\
+pub const BOOT: &str = "\
 cores 1
 cnode 5
 endpoint
@@ -48,7 +46,7 @@ slot c1 25 s5
 ";
 
 /// Steps after the boot, and what the trace has after it.
-const RUNS: [(&str, &str); 5] = [
+pub const RUNS: [(&str, &str); 5] = [
     // A message that waits for its receiver.
     (
         "\
@@ -172,7 +170,10 @@ const RUNS: [(&str, &str); 5] = [
 ];
 
 /// What a script gives, and the bytes that it writes.
-fn run<R: Read + Drop>(alloc: Global, reader: R) -> Result<(Result<(), SimFault>, Vec<u8>), Fail> {
+pub fn run<R: Read + Drop>(
+    alloc: Global,
+    reader: R,
+) -> Result<(Result<(), SimFault>, Vec<u8>), Fail> {
     let mut source = Source::new(reader);
     let mut written = Vec::new(alloc);
     let result = simulate(alloc, &mut source, &mut Sink::new(alloc, &mut written));

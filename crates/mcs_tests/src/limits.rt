@@ -1,5 +1,6 @@
-use super::{BOOT, RUNS, run};
-use crate::SimFault;
+//! Scripts that are cut, long lines, and numbers at the ends of their ranges.
+use crate::runs::{BOOT, RUNS, run};
+use mcs_sim::SimFault;
 use mcs_text::LineFault;
 use std::test::Fail;
 
@@ -76,7 +77,11 @@ fn numbers_are_read_to_their_end(rt: HostRuntime) -> Result<(), Fail> {
             line: 37,
             why: LineFault::Limit,
         };
-        assert_eq!(rt; result, if is_limit { Err(fault) } else { Ok(()) }, "{line}");
+        assert_eq!(rt;
+            result,
+            if is_limit { Err(fault) } else { Ok(()) },
+            "{line}"
+        );
     }
     for line in OVER_END {
         let script = format!(in rt.alloc(); "{BOOT}{line}\n")?;

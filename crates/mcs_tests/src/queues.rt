@@ -1,4 +1,5 @@
-use crate::{LineNo, Lines, PlainLines, ThreadNo};
+//! Lines of threads.
+use mcs_queues::{LineNo, Lines, PlainLines, ThreadNo};
 use mcs_types::Prio;
 
 #[test]

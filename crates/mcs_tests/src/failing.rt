@@ -1,5 +1,6 @@
-use super::{BOOT, RUNS, run};
-use crate::{SimFault, Sink, Source, simulate};
+//! Reads and writes that fail.
+use crate::runs::{BOOT, RUNS, run};
+use mcs_sim::{SimFault, Sink, Source, simulate};
 use std::alloc::Global;
 use std::io::{self, ErrorKind, Read, Write};
 use std::test::Fail;

@@ -1,0 +1,15 @@
+-- The command line: the program's name, and then the one command that there is.
+use Rattle.std.specs.Prelude.{true, codes}
+use Rattle.clap.specs.Words.{App, new_app, with_subcommand}
+
+-- the command that takes the steps of a script one after the other
+abbrev pub replay_command : App
+replay_command = new_app (codes "replay")
+
+-- a command line that has to name a command
+abbrev pub with_command_required : App → App
+with_command_required a = record a { top = record a.top { subcommand_required = true } }
+
+-- the command line of the program
+abbrev pub mcssim_line : App
+mcssim_line = with_subcommand (with_command_required (new_app (codes "mcssim"))) replay_command.top
