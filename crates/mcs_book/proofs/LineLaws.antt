@@ -91,7 +91,7 @@ leads-later : (p q i j : ℕ) → p ≤ q → i < j → (p < q) ⊎ ((q ≡ p) �
 leads-later p q i j le lt = grind arith
 
 -- the test of "less", read
-below : (a b : ℕ) → nat_lt a b ≡ true → a < b
+pub below : (a b : ℕ) → nat_lt a b ≡ true → a < b
 below a b h = grind arith
 
 -- the same where it fails

@@ -34,15 +34,15 @@ starts-split (b ∷ bits) (g ∷ gs) h =
     λ i. bit i ∷ tail i
 
 -- what one level spells
-record Level (R : Log) (cap : Cap) (bits : List Bool) (at : Reached) : Type 0 where
-  index : List Bool
-  in_cnode : at.cnode ≡ cap.obj
-  at_index : at.index ≡ number_of_bits index
-  fits : length index ≡ radix_kept (form_of R cap.obj)
-  spells : bits ≡ guard_of cap ++ (index ++ at.left)
+pub record Level (R : Log) (cap : Cap) (bits : List Bool) (at : Reached) : Type 0 where
+  pub index : List Bool
+  pub in_cnode : at.cnode ≡ cap.obj
+  pub at_index : at.index ≡ number_of_bits index
+  pub fits : length index ≡ radix_kept (form_of R cap.obj)
+  pub spells : bits ≡ guard_of cap ++ (index ++ at.left)
 
 -- what one level of lookup spells
-level-spells : (R : Log) (cap : Cap) (bits : List Bool) (at : Reached) → level R cap bits ≡ Ok at → Level R cap bits at
+pub level-spells : (R : Log) (cap : Cap) (bits : List Bool) (at : Reached) → level R cap bits ≡ Ok at → Level R cap bits at
 unfolding level ◌>>◌ need
 level-spells R cap bits at h = go (starts_with same_bit bits (guard_of cap)) (nat_le (radix_kept (form_of R cap.obj)) (length (drop (length (guard_of cap)) bits))) refl refl h
   where
@@ -71,7 +71,7 @@ level-spells R cap bits at h = go (starts_with same_bit bits (guard_of cap)) (na
     go false c e e' k = absurd cc
 
 -- where lookup goes on, the slot holds a capability to a CNode; and where it ends, a path is complete
-goes-next : (R : Log) (at : Reached) (next : Cap) → goes_on R at ≡ Some next → cnode_cap (slot R at.cnode at.index) ≡ Some next
+pub goes-next : (R : Log) (at : Reached) (next : Cap) → goes_on R at ≡ Some next → cnode_cap (slot R at.cnode at.index) ≡ Some next
 goes-next R at next h = go (is_none_left at.left) h
   where
     go : (b : Bool) → cond b None (cnode_cap (slot R at.cnode at.index)) ≡ Some next → cnode_cap (slot R at.cnode at.index) ≡ Some next

@@ -66,7 +66,7 @@ open-sent_back R s x e m h = go (next_message R == m) refl h.is_letter p.0
     go false at is there = inr (record { sent = h.sent; is_letter = is; is_open = both _ _ there p.1; of_sender = h.of_sender; on_endpoint = h.on_endpoint })
 
 -- the open message that is found is open
-open_of-is : (R : Log) (x : ObjId) (s : Letter) → open_of R x ≡ Some s → IsOpenOf R x s.endpoint s.number
+pub open_of-is : (R : Log) (x : ObjId) (s : Letter) → open_of R x ≡ Some s → IsOpenOf R x s.endpoint s.number
 open_of-is R x s is = let o : (same s.sender x ≡ true) × (is_open R s.number ≡ true) = open_of-open R x s is in record { sent = s; is_letter = open_of-letter R x s is; is_open = o.1; of_sender = same-equal s.sender x o.0; on_endpoint = refl }
 
 -- a record that sends nothing and moves nobody
@@ -120,10 +120,10 @@ parts-none R t x q h = go (same t x)
     go false = h
 
 -- while t enters it stands nowhere, and so has no open message
-record Idle (t : ObjId) (R : Log) : Type 0 where
-  beside : Beside t R
-  opened : Opened R
-  stands_none : queue_of R t ≡ None
+pub record Idle (t : ObjId) (R : Log) : Type 0 where
+  pub beside : Beside t R
+  pub opened : Opened R
+  pub stands_none : queue_of R t ≡ None
 
 -- when it has ended
 record Ended (t : ObjId) (R : Log) : Type 0 where
@@ -132,7 +132,7 @@ record Ended (t : ObjId) (R : Log) : Type 0 where
 
 module _ (t : ObjId) where
   -- t has no open message
-  idle-none : (R : Log) → Idle t R → (e : ObjId) (m : ℕ) → IsOpenOf R t e m → ⊥
+  pub idle-none : (R : Log) → Idle t R → (e : ObjId) (m : ℕ) → IsOpenOf R t e m → ⊥
   idle-none R h = other-none R t None h.opened h.stands_none (λ e k. absurd cc)
 
   -- the open message of x is settled, and x leaves its line
@@ -153,7 +153,7 @@ module _ (t : ObjId) where
   }
 
   -- the steps that keep t idle
-  idle-steps : Steps (Idle t)
+  pub idle-steps : Steps (Idle t)
   idle-steps = record {
     aside = λ R r e h. record { beside = (beside-steps t).aside R r e h.beside; opened = opened-still R r (letters-aside R r e) (λ y. queue-aside R r y e) h.opened; stands_none = queue-aside R r t e ∙ h.stands_none };
     drops = λ R e x s at is h. idle-settled R (rec.Dropped s.number) x s (Senders e) refl (λ y. refl) (λ m. refl) is ((beside-steps t).drops R e x s at is h.beside) h;

@@ -19,7 +19,7 @@ use Rattle.mcs_book.proofs.NoneBeside.{left-queue}
 use Rattle.mcs_book.proofs.HoldingLaws.{find-alone}
 
 -- what is said of an option holds of its value
-if_some : {A : Type 0} (P : A → Type 0) (o : Option A) (x : A) → IfSome o P → o ≡ Some x → P x
+pub if_some : {A : Type 0} (P : A → Type 0) (o : Option A) (x : A) → IfSome o P → o ≡ Some x → P x
 if_some P (Some y) x h e = let it : y ≡ x = cc in subst P it h
 if_some P None x h e = absurd cc
 

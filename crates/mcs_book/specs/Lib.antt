@@ -28,6 +28,7 @@ pub mod History
 pub mod Each
 pub mod Fair
 pub mod Sound
+pub mod Serials
 pub mod Growing
 pub mod Pages
 pub mod WorkedBoots

@@ -11,10 +11,11 @@ ghost use Rattle.mcs_book.specs.Messages.{open_of};
 ghost use Rattle.mcs_book.specs.Notifications.{pending};
 ghost use Rattle.mcs_book.specs.Paths.{IsNamed};
 ghost use Rattle.mcs_book.specs.Growing.{growing_line, threads_in, growing_chain, growing_open, growing_word};
+ghost use Rattle.mcs_book.specs.Serials.{TakesNextId, MadeOnce};
 ghost use Rattle.mcs_book.specs.Sound.{Sound};
-ghost use Rattle.mcs_book.specs.History.{Book, IsLegal, steps_of, book_of};
-ghost use Rattle.mcs_book.specs.Each.{EachRecord, AfterEachLine};
-ghost use Rattle.mcs_book.specs.Fair.{EndsOpen, NoneWaitBeside, SendersAreOpen};
+ghost use Rattle.mcs_book.specs.History.{Book, IsLegal, log_of, steps_of, book_of};
+ghost use Rattle.mcs_book.specs.Each.{EachRecord, EachLine, AfterEachLine};
+ghost use Rattle.mcs_book.specs.Fair.{EndsOpen, NoneWaitBeside, SendersAreOpen, AnswersOwed, AnswersWhole, TakesAlive, TakesFirst, TakesInOrder};
 
 /// A legal book takes or drops each message at most once.
 pub fn taken_once()
@@ -35,6 +36,62 @@ pub fn not_cancelled()
     ghost book: { Book }
     requires { IsLegal book }
     ensures { AfterEachLine SendersAreOpen book }
+{}
+
+/// Each record of a legal book was allowed when it was made: what must hold before a record of its kind did hold.
+pub fn sound()
+    ghost book: { Book }
+    requires { IsLegal book }
+    ensures { Sound (log_of book) }
+{}
+
+/// In a legal book a reply object that is paid or void owed that caller, and one that comes to owe owed nobody.
+pub fn answered_once()
+    ghost book: { Book }
+    requires { IsLegal book }
+    ensures { EachRecord AnswersOwed book }
+{}
+
+/// After the line of an answer in a legal book the caller has the message of the line's entry as its mail, and, where the answer topped a chain and the caller held no context, the context that it brought.
+pub fn answered_whole()
+    ghost book: { Book }
+    requires { IsLegal book }
+    ensures { EachLine AnswersWhole book }
+{}
+
+/// In a legal book the endpoint of a message that is taken is there.
+pub fn not_deleted()
+    ghost book: { Book }
+    requires { IsLegal book }
+    ensures { EachRecord TakesAlive book }
+{}
+
+/// When a message of a legal book is taken, its sender is the first of the senders in line, or its taker the first of the receivers, never both.
+pub fn by_priority()
+    ghost book: { Book }
+    requires { IsLegal book }
+    ensures { EachRecord TakesFirst book }
+{}
+
+/// When a message of a legal book is taken, no later message of its sender was taken before.
+pub fn sent_in_order()
+    ghost book: { Book }
+    requires { IsLegal book }
+    ensures { EachRecord TakesInOrder book }
+{}
+
+/// In a legal book an object that is made has the next id of its kind.
+pub fn serials_counted()
+    ghost book: { Book }
+    requires { IsLegal book }
+    ensures { EachRecord TakesNextId book }
+{}
+
+/// In a legal book no object is made twice.
+pub fn made_once()
+    ghost book: { Book }
+    requires { IsLegal book }
+    ensures { EachRecord MadeOnce book }
 {}
 
 /// The steps of a legal book, taken again after its boot, make the book.

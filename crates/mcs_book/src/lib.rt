@@ -6,6 +6,7 @@ mod laws;
 
 pub use book::{Book, Line};
 pub use laws::{
-    chain_kept, found_named, line_in_order, none_beside, not_cancelled, open_found, replayed,
-    taken_once, word_joined,
+    answered_once, answered_whole, by_priority, chain_kept, found_named, line_in_order, made_once,
+    none_beside, not_cancelled, not_deleted, open_found, replayed, sent_in_order, serials_counted,
+    sound, taken_once, word_joined,
 };

@@ -1,0 +1,5 @@
+use Rattle.mcs_book.proofs.SoundBooks.{legal-answers_owed}
+use Rattle.mcs_book.proofs.laws.answered_once.Goals as goal
+
+pub returns : goal.returns
+returns g c = legal-answers_owed g.book c.requires

@@ -1,0 +1,5 @@
+use Rattle.mcs_book.proofs.SoundBooks.{legal-takes_first}
+use Rattle.mcs_book.proofs.laws.by_priority.Goals as goal
+
+pub returns : goal.returns
+returns g c = legal-takes_first g.book c.requires

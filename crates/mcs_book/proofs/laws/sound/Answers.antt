@@ -1,0 +1,5 @@
+use Rattle.mcs_book.proofs.SoundBooks.{legal-sound}
+use Rattle.mcs_book.proofs.laws.sound.Goals as goal
+
+pub returns : goal.returns
+returns g c = legal-sound g.book c.requires
