@@ -24,7 +24,7 @@ bit-equal true false e = absurd cc
 bit-equal false true e = absurd cc
 
 -- bits that start with a guard are the guard and the rest
-starts-split : (bits guard : List Bool) → starts_with same_bit bits guard ≡ true → bits ≡ guard ++ drop (length guard) bits
+pub starts-split : (bits guard : List Bool) → starts_with same_bit bits guard ≡ true → bits ≡ guard ++ drop (length guard) bits
 starts-split bits [] h = refl
 starts-split [] (g ∷ gs) h = absurd cc
 starts-split (b ∷ bits) (g ∷ gs) h =

@@ -32,3 +32,7 @@ pub mod Serials
 pub mod Growing
 pub mod Pages
 pub mod WorkedBoots
+pub mod Limits
+pub mod LookupEnds
+pub mod SmallBooks
+pub mod Merging

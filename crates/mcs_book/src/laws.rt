@@ -15,7 +15,7 @@ ghost use Rattle.mcs_book.specs.Serials.{TakesNextId, MadeOnce};
 ghost use Rattle.mcs_book.specs.Sound.{Sound};
 ghost use Rattle.mcs_book.specs.History.{Book, IsLegal, log_of, steps_of, book_of};
 ghost use Rattle.mcs_book.specs.Each.{EachRecord, EachLine, AfterEachLine};
-ghost use Rattle.mcs_book.specs.Fair.{EndsOpen, NoneWaitBeside, SendersAreOpen, AnswersOwed, AnswersWhole, TakesAlive, TakesFirst, TakesInOrder};
+ghost use Rattle.mcs_book.specs.Fair.{EndsOpen, NoneWaitBeside, SendersAreOpen, AnswersOwed, AnswersWhole, TakesAlive, TakesFirst, TakesInOrder, IsFair};
 
 /// A legal book takes or drops each message at most once.
 pub fn taken_once()
@@ -92,6 +92,13 @@ pub fn made_once()
     ghost book: { Book }
     requires { IsLegal book }
     ensures { EachRecord MadeOnce book }
+{}
+
+/// A legal book is fair: all its laws at once.
+pub fn fair()
+    ghost book: { Book }
+    requires { IsLegal book }
+    ensures { IsFair book }
 {}
 
 /// The steps of a legal book, taken again after its boot, make the book.

@@ -2,11 +2,25 @@
 #![tactic(auto)]
 
 mod book;
+mod broken;
+mod cores;
 mod laws;
+mod limits;
+mod lookup;
+mod whole;
 
 pub use book::{Book, Line};
-pub use laws::{
-    answered_once, answered_whole, by_priority, chain_kept, found_named, line_in_order, made_once,
-    none_beside, not_cancelled, not_deleted, open_found, replayed, sent_in_order, serials_counted,
-    sound, taken_once, word_joined,
+pub use broken::{
+    after_the_end_refused, answered_is_fair, both_wait_refused, kept_context_refused,
+    not_the_first_refused, nothing_sent_refused, out_of_order_refused, paid_twice_refused,
+    second_take_refused, taken_in_turn_is_fair, wrong_badge_refused,
 };
+pub use cores::{core_lines, known_cores, own_core};
+pub use laws::{
+    answered_once, answered_whole, by_priority, chain_kept, fair, found_named, line_in_order,
+    made_once, none_beside, not_cancelled, not_deleted, open_found, replayed, sent_in_order,
+    serials_counted, sound, taken_once, word_joined,
+};
+pub use limits::{entry_short, lines_short};
+pub use lookup::{capability_found, capability_refused, one_path, slot_found, slot_refused};
+pub use whole::{answers_whole, messages_whole};

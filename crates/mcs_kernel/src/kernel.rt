@@ -3,8 +3,8 @@ ghost use Rattle.std.specs.Prelude.{◌≡◌, ◌<◌, ◌+◌, ◌∷◌, [], 
 ghost use Rattle.mcs_types.specs.declared.id.CoreId.{CoreId};
 ghost use Rattle.mcs_types.specs.declared.entry.Entry.{Entry};
 ghost use Rattle.mcs_book.specs.History.{IsLegal, log_of};
-ghost use Rattle.mcs_book.specs.Each.{EachRecord, AfterEachLine};
-ghost use Rattle.mcs_book.specs.Fair.{EndsOpen, NoneWaitBeside, SendersAreOpen};
+ghost use Rattle.mcs_book.specs.Each.{EachRecord, EachLine, AfterEachLine};
+ghost use Rattle.mcs_book.specs.Fair.{EndsOpen, IsWholeLine, TakesFirst, TakesInOrder, TakesAlive, SendersAreOpen, AnswersOwed, AnswersWhole, NoneWaitBeside};
 ghost use Rattle.mcs_book.specs.Standing.{may_enter};
 ghost use Rattle.mcs_book.specs.Served.{IsServed};
 ghost use Rattle.mcs_book.specs.Ranges.{InRange};
@@ -97,13 +97,19 @@ impl<L: Lines> Kernel<L> {
         self.state.book()
     }
 
-    /// The book is legal, has at most 1,000,000 lines, and meets the laws of legal books.
-    pub fn is_legal(&self)
+    /// The book is legal and fair, and has at most 1,000,000 lines.
+    pub fn is_fair(&self)
         ensures legal { IsLegal self.now }
         ensures few { length self.now.lines < BOOK_LINES }
         ensures taken_once { EachRecord EndsOpen self.now }
-        ensures none_beside { AfterEachLine NoneWaitBeside self.now }
+        ensures whole { EachLine IsWholeLine self.now }
+        ensures by_priority { EachRecord TakesFirst self.now }
+        ensures in_order { EachRecord TakesInOrder self.now }
+        ensures not_deleted { EachRecord TakesAlive self.now }
         ensures not_cancelled { AfterEachLine SendersAreOpen self.now }
+        ensures answered_once { EachRecord AnswersOwed self.now }
+        ensures answered_whole { EachLine AnswersWhole self.now }
+        ensures none_beside { AfterEachLine NoneWaitBeside self.now }
     {
         let _ = &self.state;
     }
@@ -176,8 +182,14 @@ impl<L: Lines> Kernel<L> {
         ensures err { OnErr result (self.new ≡ self.old) }
         ensures legal { IsLegal self.new }
         ensures taken_once { EachRecord EndsOpen self.new }
-        ensures none_beside { AfterEachLine NoneWaitBeside self.new }
+        ensures whole { EachLine IsWholeLine self.new }
+        ensures by_priority { EachRecord TakesFirst self.new }
+        ensures in_order { EachRecord TakesInOrder self.new }
+        ensures not_deleted { EachRecord TakesAlive self.new }
         ensures not_cancelled { AfterEachLine SendersAreOpen self.new }
+        ensures answered_once { EachRecord AnswersOwed self.new }
+        ensures answered_whole { EachLine AnswersWhole self.new }
+        ensures none_beside { AfterEachLine NoneWaitBeside self.new }
     {
         let result = match self.fault(core, thread) {
             Some(fault) => Err(fault),
@@ -186,7 +198,7 @@ impl<L: Lines> Kernel<L> {
                 Err(OutOfMemory) => Err(EnterFault::OutOfMemory),
             },
         };
-        self.is_legal();
+        self.is_fair();
         result
     }
 }

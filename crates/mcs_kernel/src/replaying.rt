@@ -1,8 +1,8 @@
 //! A whole run of steps.
 ghost use Rattle.std.specs.Prelude.{◌≡◌, ◌⊎◌, length, [], true, false, IfOk, OnOk, IfErr, Err, None};
 ghost use Rattle.mcs_book.specs.History.{IsLegal, book_of, with_step};
-ghost use Rattle.mcs_book.specs.Each.{EachRecord, AfterEachLine};
-ghost use Rattle.mcs_book.specs.Fair.{EndsOpen, NoneWaitBeside, SendersAreOpen};
+ghost use Rattle.mcs_book.specs.Each.{EachRecord, EachLine, AfterEachLine};
+ghost use Rattle.mcs_book.specs.Fair.{EndsOpen, IsWholeLine, TakesFirst, TakesInOrder, TakesAlive, SendersAreOpen, AnswersOwed, AnswersWhole, NoneWaitBeside};
 ghost use Rattle.mcs_book.specs.Served.{IsServed};
 ghost use Rattle.mcs_kernel.specs.declared.fault.EnterFault.{EnterFault};
 ghost use Rattle.mcs_kernel.specs.Faults.{fault_of};
@@ -41,8 +41,14 @@ pub fn replay<L: Lines>(alloc: Global, boot: Boot, steps: &[Step]) -> Result<Ker
     ensures full { IfErr result (EndsAt (length steps.now) (full_after 0 (record { boot = boot; lines = [] }) steps.now)) }
     ensures legal { IfOk result (λ k. IsLegal k) }
     ensures taken_once { IfOk result (λ k. EachRecord EndsOpen k) }
-    ensures none_beside { IfOk result (λ k. AfterEachLine NoneWaitBeside k) }
+    ensures whole { IfOk result (λ k. EachLine IsWholeLine k) }
+    ensures by_priority { IfOk result (λ k. EachRecord TakesFirst k) }
+    ensures in_order { IfOk result (λ k. EachRecord TakesInOrder k) }
+    ensures not_deleted { IfOk result (λ k. EachRecord TakesAlive k) }
     ensures not_cancelled { IfOk result (λ k. AfterEachLine SendersAreOpen k) }
+    ensures answered_once { IfOk result (λ k. EachRecord AnswersOwed k) }
+    ensures answered_whole { IfOk result (λ k. EachLine AnswersWhole k) }
+    ensures none_beside { IfOk result (λ k. AfterEachLine NoneWaitBeside k) }
 {
     let mut kernel = match Kernel::new(alloc, &boot) {
         Ok(kernel) => kernel,
@@ -57,6 +63,6 @@ pub fn replay<L: Lines>(alloc: Global, boot: Boot, steps: &[Step]) -> Result<Ker
             Err(_) => return Err(ReplayFault::OutOfMemory { step: taken }),
         }
     }
-    kernel.is_legal();
+    kernel.is_fair();
     Ok(kernel)
 }

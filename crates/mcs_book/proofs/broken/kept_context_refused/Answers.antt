@@ -1,0 +1,5 @@
+use Rattle.mcs_book.proofs.BrokenBooks.{breaks-answered_whole}
+use Rattle.mcs_book.proofs.broken.kept_context_refused.Goals as goal
+
+pub returns : goal.returns
+returns c = breaks-answered_whole

@@ -1,0 +1,5 @@
+use Rattle.mcs_book.proofs.BrokenBooks.{breaks-taken_once}
+use Rattle.mcs_book.proofs.broken.second_take_refused.Goals as goal
+
+pub returns : goal.returns
+returns c = breaks-taken_once

@@ -1,0 +1,5 @@
+use Rattle.mcs_book.proofs.BrokenBooks.{breaks-whole}
+use Rattle.mcs_book.proofs.broken.wrong_badge_refused.Goals as goal
+
+pub returns : goal.returns
+returns c = breaks-whole

@@ -1,0 +1,5 @@
+use Rattle.mcs_book.proofs.KnownCores.{legal-cores}
+use Rattle.mcs_book.proofs.cores.known_cores.Goals as goal
+
+pub returns : goal.returns
+returns g c = legal-cores g.book c.requires

@@ -1,0 +1,5 @@
+use Rattle.mcs_book.proofs.WholeLines.{legal-whole}
+use Rattle.mcs_book.proofs.whole.messages_whole.Goals as goal
+
+pub returns : goal.returns
+returns g c = legal-whole g.book c.requires
