@@ -94,7 +94,7 @@ destroy-whole : (R after : Log) (s : Step) (a : Answer) (S : Log) (o : ObjId) �
 unfolding destroy ◌then◌
 destroy-whole R after s a S o safe =
     let made : List Rec = release S o o.kind S in
-    each-append _ S made (rec.Closed o ∷ []) (plain-all R after s a S made ((plain-release S o o.kind).passes S)) ((tt, tt, tt, λ thread. released-loose S o o.kind safe thread, tt), tt)
+    each-append _ S made (rec.Closed o ∷ []) (plain-all R after s a S made ((plain-release S o o.kind).passes S)) ((tt, tt, tt, λ thread. released-loose S o o.kind safe thread, tt, λ sound. tt), tt)
 
 -- so where it ends with its last capability
 pub destroy_last-whole : (R after : Log) (s : Step) (a : Answer) (S : Log) (o : ObjId) → Each Safe S → AreWhole R after s a S (destroy_last o S)

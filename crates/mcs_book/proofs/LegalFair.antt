@@ -4,9 +4,8 @@ use Rattle.mcs_book.specs.Fair.{IsFair}
 use Rattle.mcs_book.proofs.TakenOnce.{legal-taken_once}
 use Rattle.mcs_book.proofs.NoneBeside.{legal-none_beside}
 use Rattle.mcs_book.proofs.SendersOpen.{legal-not_cancelled}
-use Rattle.mcs_book.proofs.SoundBooks.{legal-answers_owed, legal-takes_alive, legal-takes_first, legal-takes_in_order}
-use Rattle.mcs_book.proofs.AnswersRows.{legal-answers_whole}
-use Rattle.mcs_book.proofs.WholeLines.{legal-whole}
+use Rattle.mcs_book.proofs.SoundBooks.{legal-answers_owed, legal-sound, legal-takes_alive, legal-takes_first, legal-takes_in_order}
+use Rattle.mcs_book.proofs.WholeLines.{legal-whole, sound-answers_whole}
 
 -- a legal book is fair
 pub legal-fair : (b : Book) → IsLegal b → IsFair b
@@ -18,6 +17,6 @@ legal-fair b legal = record {
   not_deleted = legal-takes_alive b legal;
   not_cancelled = legal-not_cancelled b legal;
   answered_once = legal-answers_owed b legal;
-  answered_whole = legal-answers_whole b legal;
+  answered_whole = sound-answers_whole b legal (legal-sound b legal);
   none_beside = legal-none_beside b legal;
 }

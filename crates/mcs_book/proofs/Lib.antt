@@ -35,10 +35,6 @@ pub mod FirmRows
 pub mod FirmTable
 pub mod FirmBoots
 pub mod SoundBooks
-pub mod BroughtLaws
-pub mod PaysNone
-pub mod AnswersBack
-pub mod AnswersRows
 pub mod Making
 pub mod MailLaws
 pub mod Safety

@@ -8,7 +8,7 @@ use Rattle.mcs_types.specs.declared.record.Mode.{Mode}
 use Rattle.mcs_types.specs.declared.record.Mode.TheVariants.{Running, Restart, Inactive}
 use Rattle.mcs_types.specs.declared.record.Queue.{Queue}
 use Rattle.mcs_types.specs.declared.record.Queue.TheVariants.{Senders, Receivers, Waiters}
-use Rattle.mcs_types.specs.declared.record.Ending.TheVariants.{Deleted}
+use Rattle.mcs_types.specs.declared.record.Ending.TheVariants.{Deleted, Cancelled}
 use Rattle.mcs_types.specs.declared.record.Letter.{Letter}
 use Rattle.mcs_types.specs.declared.record.Rec.{Rec}
 use Rattle.mcs_types.specs.declared.record.Rec.TheVariants as rec
@@ -134,21 +134,51 @@ plain-back s x = record { passes = λ R. go s (context_of R x) }
     go None o = tt
     go (Some s) (Some s') = tt
 
--- x leaves its line, with its message if it is a sender
-plain-leave : (R : Log) (x : ObjId) (q : Option Queue) → Plain (leave R x q)
-plain-leave R x (Some (Senders e)) = makes-then is_plain (drop_message (open_of R x)) (say (rec.Parts x (Senders e))) (dropped (open_of R x)) (makes-say is_plain _ refl)
-  where
-    dropped : (o : Option Letter) → Plain (drop_message o)
-    dropped (Some s) = makes-say is_plain (rec.Dropped s.number) refl
-    dropped None = makes-nothing is_plain
-plain-leave R x (Some (Receivers e)) = makes-say is_plain _ refl
-plain-leave R x (Some (Waiters n)) = makes-say is_plain _ refl
-plain-leave R x None = makes-any is_plain (owing R x) _ (λ r. makes-say is_plain _ refl)
+-- a test that the records of a cancellation pass
+record CancelPasses (q : Rec → Bool) : Type 0 where
+  drops : (m : ℕ) → q (rec.Dropped m) ≡ true
+  leaves : (x : ObjId) (k : Queue) → q (rec.Parts x k) ≡ true
+  voids : (r x : ObjId) → q (rec.Void r x Cancelled) ≡ true
+  turns : (x : ObjId) (mode : Mode) → q (rec.Turns x mode) ≡ true
+
+module _ (q : Rec → Bool) (h : CancelPasses q) where
+  -- x leaves its line, with its message if it is a sender
+  makes-leave : (R : Log) (x : ObjId) (k : Option Queue) → Makes q (leave R x k)
+  makes-leave R x (Some (Senders e)) = makes-then q (drop_message (open_of R x)) (say (rec.Parts x (Senders e))) (dropped (open_of R x)) (makes-say q (rec.Parts x (Senders e)) (h.leaves x (Senders e)))
+    where
+      dropped : (o : Option Letter) → Makes q (drop_message o)
+      dropped (Some s) = makes-say q (rec.Dropped s.number) (h.drops s.number)
+      dropped None = makes-nothing q
+  makes-leave R x (Some (Receivers e)) = makes-say q (rec.Parts x (Receivers e)) (h.leaves x (Receivers e))
+  makes-leave R x (Some (Waiters n)) = makes-say q (rec.Parts x (Waiters n)) (h.leaves x (Waiters n))
+  makes-leave R x None = makes-any q (owing R x) _ (λ r. makes-say q (rec.Void r x Cancelled) (h.voids r x))
+
+  -- x is cancelled
+  makes-cancel : (x : ObjId) (mode : Mode) → Makes q (cancel x mode)
+  unfolding cancel
+  makes-cancel x mode = record { passes = λ R. (makes-then q (leave R x (queue_of R x)) _ (makes-leave R x (queue_of R x)) (makes-say q (rec.Turns x mode) (h.turns x mode))).passes R }
+
+  -- a reply object is freed
+  makes-free : (r : ObjId) → Makes q (free r)
+  unfolding free
+  makes-free r = record { passes = λ R. (makes-any q (user_of R r) _ (λ x. makes-cancel x Inactive)).passes R }
+
+-- a cancellation is plain
+cancel-plain : CancelPasses is_plain
+cancel-plain = record { drops = λ m. refl; leaves = λ x k. refl; voids = λ r x. refl; turns = λ x mode. refl }
 
 -- x is cancelled
 pub plain-cancel : (x : ObjId) (mode : Mode) → Plain (cancel x mode)
-unfolding cancel
-plain-cancel x mode = record { passes = λ R. (makes-then is_plain (leave R x (queue_of R x)) _ (plain-leave R x (queue_of R x)) (makes-say is_plain (rec.Turns x mode) refl)).passes R }
+plain-cancel x mode = makes-cancel is_plain cancel-plain x mode
+
+-- whether a record gives and takes no context
+abbrev pub is_unheld : Rec → Bool
+is_unheld (rec.Holds s t) = false
+is_unheld _ = true
+
+-- no context changes its holder when a reply object is freed
+pub unheld-free : (r : ObjId) → Makes is_unheld (free r)
+unheld-free r = makes-free is_unheld (record { drops = λ m. refl; leaves = λ x k. refl; voids = λ r x. refl; turns = λ x mode. refl }) r
 
 -- all of a list are cancelled
 pub plain-cancel_all : (xs : List ObjId) (mode : Mode) → Plain (cancel_all xs mode)
@@ -156,8 +186,7 @@ plain-cancel_all xs mode = makes-each is_plain xs _ (λ x. plain-cancel x mode)
 
 -- a reply object is freed
 pub plain-free : (r : ObjId) → Plain (free r)
-unfolding free
-plain-free r = record { passes = λ R. (makes-any is_plain (user_of R r) _ (λ x. plain-cancel x Inactive)).passes R }
+plain-free r = makes-free is_plain cancel-plain r
 
 -- a thread becomes Running with its entry
 pub plain-wakes : (mode : Mode) (t : ObjId) → Plain (wakes mode t)

@@ -8,9 +8,10 @@ use Rattle.mcs_book.specs.Logs.{Log, onto}
 use Rattle.mcs_book.specs.Pieces.{Outcome}
 use Rattle.mcs_book.specs.Boots.{boot_log}
 use Rattle.mcs_book.specs.Table.{does}
-use Rattle.mcs_book.specs.History.{Line, Book, past, line_for, Follows, AreLegal, IsLegal}
+use Rattle.mcs_book.specs.History.{Line, Book, past, log_of, line_for, Follows, AreLegal, IsLegal}
 use Rattle.mcs_book.specs.Each.{Each, EachOf, EachLineAfter, EachLine}
-use Rattle.mcs_book.specs.Fair.{IsSentWhole, IsTakenWhole, IsPaidWhole, IsWholeLine}
+use Rattle.mcs_book.specs.Sound.{Allowed, Sound}
+use Rattle.mcs_book.specs.Fair.{IsSentWhole, GivesBack, AnswersWhole, IsTakenWhole, IsPaidWhole, IsWholeLine}
 use Rattle.mcs_book.proofs.WholeRecords.{each_of-map, IsWhole, AreWhole}
 use Rattle.mcs_book.proofs.Safety.{Safe}
 use Rattle.mcs_book.proofs.WholeTable.{whole-does}
@@ -20,9 +21,19 @@ use Rattle.mcs_book.proofs.Standings.{safe-begins, safe-boot, safe-past}
 abbrev pub ArePaidWhole : Log → Line → Type 0
 ArePaidWhole R l = EachOf (IsPaidWhole (onto l.records R) l) R l.records
 
--- the messages and the answers of a line are whole
+-- the messages and the answers of a line are whole, and contexts return where the log after it is sound
 abbrev IsAllWhole : Log → Line → Type 0
-IsAllWhole R l = IsWholeLine R l × ArePaidWhole R l
+IsAllWhole R l = IsWholeLine R l × ArePaidWhole R l × (Sound (onto l.records R) → EachOf (GivesBack (onto l.records R)) R l.records)
+
+-- what holds of each record holds of each before some
+each-before : (P : Log → Rec → Type 0) (R : Log) (made : List Rec) → Each P (onto made R) → Each P R
+each-before P R [] h = h
+each-before P R (r ∷ made) h = (each-before P (r ∷ R) made h).1
+
+-- what holds where the records so far were allowed holds of each record of a line after which the log is sound
+each-allowed : (P : Log → Rec → Type 0) (R : Log) (made : List Rec) → Sound (onto made R) → EachOf (λ S r. Sound S → P S r) R made → EachOf P R made
+each-allowed P R [] sound h = tt
+each-allowed P R (r ∷ made) sound h = (h.0 (each-before Allowed R (r ∷ made) sound), each-allowed P (r ∷ R) made sound h.1)
 
 -- what is said of a message that is sent reads only the step of a line
 sent-of : (R after : Log) (s : Step) (o : Outcome) (S : Log) (r : Rec) → IsWhole R after s o.answer S r → IsSentWhole R (line_for s o) S r
@@ -48,6 +59,7 @@ line-whole R s o h =
         each_of-map (IsWhole R after s o.answer) (IsTakenWhole after (line_for s o)) (taken-of R after s o) R o.records h,
       ),
       each_of-map (IsWhole R after s o.answer) (IsPaidWhole after (line_for s o)) (paid-of R after s o) R o.records h,
+      λ sound. each-allowed (GivesBack after) R o.records sound (each_of-map (IsWhole R after s o.answer) (λ S r. Sound S → GivesBack after S r) (λ S r w. w.5) R o.records h),
     )
 
 -- a line that may follow a safe log is whole
@@ -75,6 +87,10 @@ all-whole b legal = lines-whole (boot_log b.boot.lines) b.lines (safe-boot b.boo
 pub legal-whole : (b : Book) → IsLegal b → EachLine IsWholeLine b
 legal-whole b legal = each_line-map IsAllWhole IsWholeLine (λ R l h. h.0) (boot_log b.boot.lines) b.lines (all-whole b legal)
 
--- the law: each answer of a legal book is whole
-pub legal-paid_whole : (b : Book) → IsLegal b → EachLine ArePaidWhole b
-legal-paid_whole b legal = each_line-map IsAllWhole ArePaidWhole (λ R l h. h.1) (boot_log b.boot.lines) b.lines (all-whole b legal)
+-- the law: contexts return with the answers of a legal book whose log is sound, and the answers are whole
+pub sound-answers_whole : (b : Book) → IsLegal b → Sound (log_of b) → EachLine AnswersWhole b
+sound-answers_whole b legal sound = lines-answers (boot_log b.boot.lines) b.lines sound (all-whole b legal)
+  where
+    lines-answers : (B : Log) (ls : List Line) → Sound (past B ls) → EachLineAfter IsAllWhole B ls → EachLineAfter AnswersWhole B ls
+    lines-answers B [] s h = tt
+    lines-answers B (l ∷ ls) s h = ((h.0.2 s, h.0.1), lines-answers B ls (each-before Allowed (past B ls) l.records s) h.1)

@@ -1,5 +1,5 @@
 -- Whole messages and answers, a piece at a time: what is sent, taken and paid, and what reaches its taker or caller.
-use Rattle.std.specs.Prelude.{ℕ, Bool, true, ◌≡◌, ◌≢◌, List, [], ◌∷◌, ◌++◌, Option, Some, None, refl}
+use Rattle.std.specs.Prelude.{ℕ, Bool, true, false, ◌≡◌, ◌≢◌, List, [], ◌∷◌, ◌++◌, Option, Some, None, refl, unwrap_or}
 use Rattle.std.proofs.Common.{sym, ◌∙◌, ap, subst}
 use Rattle.mcs_types.specs.Views.{Content}
 use Rattle.mcs_types.specs.declared.id.ObjId.{ObjId}
@@ -7,7 +7,7 @@ use Rattle.mcs_types.specs.declared.id.CoreId.{CoreId}
 use Rattle.mcs_types.specs.declared.record.Form.TheVariants.{OnCore}
 use Rattle.mcs_types.specs.declared.cap.Cap.{Cap}
 use Rattle.mcs_types.specs.declared.id.Kind.TheVariants as kind
-use Rattle.mcs_book.specs.Sound.{IsOwedNothing}
+use Rattle.mcs_book.specs.Sound.{Sound, IsOwedNothing}
 use Rattle.mcs_types.specs.declared.record.SendMode.{SendMode}
 use Rattle.mcs_types.specs.declared.record.SendMode.TheVariants as how
 use Rattle.mcs_types.specs.declared.record.Mode.TheVariants.{Running, Inactive}
@@ -19,10 +19,11 @@ use Rattle.mcs_types.specs.declared.record.Rec.TheVariants as rec
 use Rattle.mcs_types.specs.declared.entry.Answer.{Answer}
 use Rattle.mcs_types.specs.declared.entry.Answer.TheVariants.{Got, Waits}
 use Rattle.mcs_types.specs.declared.entry.Step.{Step}
-use Rattle.mcs_book.specs.Logs.{Log, onto}
+use Rattle.mcs_book.specs.Logs.{Log, onto, same, given}
 use Rattle.mcs_book.specs.Objects.{makes, was_made, is_alive}
 use Rattle.mcs_book.specs.Slots.{slot}
-use Rattle.mcs_book.specs.Contexts.{context_of}
+use Rattle.mcs_book.specs.Contexts.{holder_of, context_of}
+use Rattle.mcs_book.proofs.HoldingLaws.{context_of-holder}
 use Rattle.mcs_book.specs.Messages.{open_of}
 use Rattle.mcs_book.specs.Queues.{queue_of, first_in, reply_with}
 use Rattle.mcs_book.specs.Replies.{owed_by}
@@ -32,12 +33,12 @@ use Rattle.mcs_book.specs.Sending.{letter_over, sends_to, sends, queues}
 use Rattle.mcs_book.specs.Paths.{IsNamed}
 use Rattle.mcs_book.specs.History.{Line}
 use Rattle.mcs_book.specs.Each.{Each, EachOf}
-use Rattle.mcs_book.specs.Fair.{carried, address_used, IsSentWhole, IsTakenWhole, IsPaidWhole}
+use Rattle.mcs_book.specs.Fair.{carried, address_used, IsSentWhole, IsTakenWhole, IsPaidWhole, GivesBack}
 use Rattle.mcs_book.proofs.Keeping.{sent_record}
 use Rattle.mcs_book.proofs.LineLaws.{first-stands}
 use Rattle.mcs_book.proofs.MessageLaws.{open_of-open, open_of-letter}
 use Rattle.mcs_book.proofs.NoneBeside.{made-more}
-use Rattle.mcs_book.proofs.Same.{same-equal}
+use Rattle.mcs_book.proofs.Same.{same-equal, same-other}
 use Rattle.mcs_book.proofs.Safety.{IsReplyMade, Safe, plain-safe, none-plain, parted-none, paid-owed, owed-plain, IsStanding, safe-standing, safe-named}
 use Rattle.mcs_book.proofs.Making.{Passes, passes-map, passes-append, is_plain, is_quiet, plain-quiet, Plain, makes-say, makes-nothing}
 use Rattle.mcs_book.proofs.MailLaws.{plain-lasting, alive-last, is_still, plain-still, other-still, mail-still, mail-took}
@@ -62,11 +63,12 @@ abbrev pub MadeOn : CoreId → Rec → Type 0
 MadeOn core (rec.Made o form) = (c : CoreId) → form ≡ OnCore c → c ≡ core
 MadeOn core _ = Unit {0}
 
--- what is said of the records of a step with its answer: R stands before its line, and `after` once it is done
+-- what is said of the records of a step with its answer: R stands before its line, and `after` once it is done;
+-- what returns is said where the records so far were allowed
 abbrev pub IsWhole : Log → Log → Step → Answer → Log → Rec → Type 0
 IsWhole R after s a S r =
     let l : Line = record { step = s; answer = a; records = [] } in
-    IsSentWhole R l S r × IsTakenWhole after l S r × IsPaidWhole after l S r × Safe S r × MadeOn s.core r
+    IsSentWhole R l S r × IsTakenWhole after l S r × IsPaidWhole after l S r × Safe S r × MadeOn s.core r × (Sound S → GivesBack after S r)
 
 -- nothing is said of a quiet record
 pub quiet-whole : (R after : Log) (s : Step) (a : Answer) (S : Log) (r : Rec) → is_quiet r ≡ true → IsWhole R after s a S r
@@ -78,7 +80,7 @@ quiet-whole R after s a S (rec.Owes r x c) h = absurd cc
 quiet-whole R after s a S (rec.Slot c i held) h = absurd cc
 quiet-whole R after s a S (rec.Made o form) h = absurd cc
 quiet-whole R after s a S (rec.Closed o) h = absurd cc
-quiet-whole R after s a S _ h = (tt, tt, tt, tt, tt)
+quiet-whole R after s a S _ h = (tt, tt, tt, tt, tt, λ sound. tt)
 
 -- all of a list of records are whole
 abbrev pub AreWhole : Log → Log → Step → Answer → Log → List Rec → Type 0
@@ -143,7 +145,7 @@ pub record IsSending (R : Log) (s : Step) (cap : Cap) (message : Content) : Type
 
 -- a message that is sent so is whole
 sent-whole : (R after : Log) (s : Step) (a : Answer) (S : Log) (cap : Cap) (mode : SendMode) (message : Content) → IsSending R s cap message → IsWhole R after s a S (sent_record (letter_over s.thread cap mode message S))
-sent-whole R after s a S cap mode message h = ((refl, h.carries, (h.address, cap, h.used, h.named, refl, refl)), tt, tt, tt, tt)
+sent-whole R after s a S cap mode message h = ((refl, h.carries, (h.address, cap, h.used, h.named, refl, refl)), tt, tt, tt, tt, λ sound. tt)
 
 -- records that bring nothing to anybody, and are whole where Q holds
 record Rest (Q : Type 0) (S : Log) (made : List Rec) : Type 0 where
@@ -169,10 +171,10 @@ settle-rest S how.Plain x p r goes_on h = rest-plain (MayOwe S r x) S (goes_on S
 settle-rest S how.Call x p (Some o) goes_on h = go (context_of S p) (context_of S x)
   where
     go : (c d : Option ObjId) → Rest (MayOwe S (Some o) x) S (debt o x p c d)
-    go None (Some k) = record { whole = λ q R after s a. ((tt, tt, tt, q o (Some k) refl, tt), ((tt, tt, tt, tt, tt), tt)); still = λ y. (refl, (refl, tt)) }
-    go None None = record { whole = λ q R after s a. ((tt, tt, tt, q o None refl, tt), tt); still = λ y. (refl, tt) }
-    go (Some k) None = record { whole = λ q R after s a. ((tt, tt, tt, q o None refl, tt), tt); still = λ y. (refl, tt) }
-    go (Some k) (Some k') = record { whole = λ q R after s a. ((tt, tt, tt, q o None refl, tt), tt); still = λ y. (refl, tt) }
+    go None (Some k) = record { whole = λ q R after s a. ((tt, tt, tt, q o (Some k) refl, tt, λ sound. tt), ((tt, tt, tt, tt, tt, λ sound. tt), tt)); still = λ y. (refl, (refl, tt)) }
+    go None None = record { whole = λ q R after s a. ((tt, tt, tt, q o None refl, tt, λ sound. tt), tt); still = λ y. (refl, tt) }
+    go (Some k) None = record { whole = λ q R after s a. ((tt, tt, tt, q o None refl, tt, λ sound. tt), tt); still = λ y. (refl, tt) }
+    go (Some k) (Some k') = record { whole = λ q R after s a. ((tt, tt, tt, q o None refl, tt, λ sound. tt), tt); still = λ y. (refl, tt) }
 settle-rest S how.Call x p None goes_on h = rest-plain (MayOwe S None x) S (rec.Turns x Inactive ∷ []) (refl, tt)
 settle-rest S how.Mute x p r goes_on h = rest-plain (MayOwe S r x) S (rec.Turns x Inactive ∷ []) (refl, tt)
 
@@ -211,7 +213,7 @@ handed-whole : (R : Log) (s : Step) (a : Answer) (S : Log) (l : Letter) (p : Obj
 handed-whole R s a S l p alive other owes =
     let (rest, is, h) = handed-shape S l p in
     subst (λ made. AreWhole R (onto made S) s a S made) (sym is) (
-      (tt, λ k at. (λ e. absurd (other e), λ ne. mail-still (rec.Took l.number p ∷ S) p rest (h.still p) ∙ mail-took S l.number p k alive at), tt, tt, tt),
+      (tt, λ k at. (λ e. absurd (other e), λ ne. mail-still (rec.Took l.number p ∷ S) p rest (h.still p) ∙ mail-took S l.number p k alive at), tt, tt, tt, λ sound. tt),
       h.whole owes R (onto rest (rec.Took l.number p ∷ S)) s a,
     )
 
@@ -237,7 +239,7 @@ unfolding queues ◌then◌
 queues-whole R s cap mode message h = record {
   whole = λ S b.
       let l : Letter = letter_over s.thread cap mode message S in
-      (sent-whole R (rec.Joins s.thread (Senders cap.obj) None ∷ sent_record l ∷ S) s Waits S cap mode message h, ((tt, tt, tt, (b.thread, b.alive, b.owed_nothing, λ r e. absurd cc), tt), tt));
+      (sent-whole R (rec.Joins s.thread (Senders cap.obj) None ∷ sent_record l ∷ S) s Waits S cap mode message h, ((tt, tt, tt, (b.thread, b.alive, b.owed_nothing, λ r e. absurd cc), tt, λ sound. tt), tt));
 }
 
 -- the message of a sender in line is taken by the entering thread, which is answered with it
@@ -249,7 +251,7 @@ taken-whole R s S x q l r b at replies is =
     let there : IsStanding S l.sender = subst (λ (z : ObjId). IsStanding S z) (sym who) (safe-standing S x q b.safe at) in
     let owes : MayOwe (left_log S l s.thread l.sender (Senders l.endpoint)) r l.sender = λ o c e. (replies o e, there.thread, there.alive, parted-none (rec.Took l.number s.thread ∷ S) l.sender (Senders l.endpoint), there.owed_nothing) in
     subst (λ made. AreWhole R (onto made S) s (Got l.badge l.message) S made) (sym shape) (
-      (tt, λ k at. (λ e. let same_letter : Some l ≡ Some k = sym (open_of-letter S x l is) ∙ at in let it : l ≡ k = cc in ap (λ (z : Letter). Got z.badge z.message) it, λ ne. absurd (ne refl)), tt, tt, tt),
+      (tt, λ k at. (λ e. let same_letter : Some l ≡ Some k = sym (open_of-letter S x l is) ∙ at in let it : l ≡ k = cc in ap (λ (z : Letter). Got z.badge z.message) it, λ ne. absurd (ne refl)), tt, tt, tt, λ sound. tt),
       h.whole owes R (onto rest (rec.Took l.number s.thread ∷ S)) s (Got l.badge l.message),
     )
 
@@ -258,3 +260,33 @@ pub taken-still : (S : Log) (t x : ObjId) (l : Letter) (r : Option ObjId) → x 
 taken-still S t x l r ne =
     let (rest, shape, h) = taken-shape S l t r in
     subst (λ made. Passes (is_still x) made) (sym shape) (other-still x t ne, h.still x)
+
+-- a holder of a context that another context does not change
+other-held : (S : Log) (c k y p : ObjId) → c ≢ k → holder_of S c ≡ Some y → holder_of (rec.Holds k (Some p) ∷ S) c ≡ Some y
+other-held S c k y p ne h = go (same c k) (same-other c k ne)
+  where
+    go : (b : Bool) → b ≡ false → unwrap_or (given b (Some p)) (holder_of S c) ≡ Some y
+    go true e = absurd cc
+    go false e = h
+
+-- a context that comes along with a debt is the caller's
+settle-holders : (S : Log) (mode : SendMode) (x p : ObjId) (r : Option ObjId) (goes_on : Piece) (c y : ObjId) → y ≢ x → holder_of S c ≡ Some y → holder_of (onto (goes_on S) S) c ≡ Some y → holder_of (onto (settle mode x p r goes_on S) S) c ≡ Some y
+unfolding owe
+settle-holders S how.Plain x p r goes_on c y ne h k = k
+settle-holders S how.Call x p (Some o) goes_on c y ne h k = go (context_of S p) (context_of S x) refl
+  where
+    go : (a b : Option ObjId) → context_of S x ≡ b → holder_of (onto (debt o x p a b) S) c ≡ Some y
+    go None (Some d) is = other-held (rec.Owes o x (Some d) ∷ S) c d y p (λ e. let who : Some y ≡ Some x = sym h ∙ ap (λ z. holder_of S z) e ∙ context_of-holder S x d is in ne cc) h
+    go None None is = h
+    go (Some d) None is = h
+    go (Some d) (Some d') is = h
+settle-holders S how.Call x p None goes_on c y ne h k = h
+settle-holders S how.Mute x p r goes_on c y ne h k = h
+
+-- who stands in no line keeps its context when a message is taken
+pub taken-holders : (S : Log) (t x : ObjId) (q : Queue) (l : Letter) (r : Option ObjId) (c y : ObjId) → queue_of S x ≡ Some q → open_of S x ≡ Some l → holder_of S c ≡ Some y → queue_of S y ≡ None → holder_of (onto (taken l t r S) S) c ≡ Some y
+unfolding taken ◌then◌
+taken-holders S t x q l r c y at is h none =
+    let who : l.sender ≡ x = same-equal l.sender x (open_of-open S x l is).0 in
+    let other : y ≢ l.sender = λ e. let clash : None ≡ Some q = sym none ∙ ap (λ z. queue_of S z) (e ∙ who) ∙ at in absurd cc in
+    settle-holders (left_log S l t l.sender (Senders l.endpoint)) l.mode l.sender t r (say (rec.Turns l.sender Running)) c y other h h

@@ -68,8 +68,8 @@ unfolding make ◌then◌
 act-make R s k rights form place other rootless on =
     passed-bind _ _ _ (λ at. passed-next _ _ _ (passed-next _ _ _ (passed-ok _ _ (record {
       whole = λ S b. (
-        (tt, tt, tt, (λ e. absurd (other e), λ root e. let clash : None ≡ Some root = sym rootless ∙ e in absurd cc), on (next_id R k)),
-        ((tt, tt, tt, λ held e. made-last S (next_id R k) form held e, tt), tt),
+        (tt, tt, tt, (λ e. absurd (other e), λ root e. let clash : None ≡ Some root = sym rootless ∙ e in absurd cc), on (next_id R k), λ sound. tt),
+        ((tt, tt, tt, λ held e. made-last S (next_id R k) form held e, tt, λ sound. tt), tt),
       );
     }))))
   where
@@ -82,13 +82,13 @@ fill-safe R t S at held kept c i b is objects k e = let it : held ≡ k = cc in 
 
 -- a slot gets such a capability
 act-fill : (R : Log) (s : Step) (at : SlotName) (held kept : Cap) (c : ObjId) (i : ℕ) → slot R c i ≡ Some kept → held.obj ≡ kept.obj → OnPassed (WholeAct R s) (Ok (answers Done (say (rec.Slot at.cnode at.index (Some held)))))
-act-fill R s at held kept c i is objects = passed-ok _ _ (record { whole = λ S b. ((tt, tt, tt, fill-safe R s.thread S at held kept c i b is objects, tt), tt) })
+act-fill R s at held kept c i is objects = passed-ok _ _ (record { whole = λ S b. ((tt, tt, tt, fill-safe R s.thread S at held kept c i b is objects, tt, λ sound. tt), tt) })
 
 -- a slot gets it from another, which is emptied
 act-move : (R : Log) (s : Step) (at from : SlotName) (held : Cap) (c : ObjId) (i : ℕ) → slot R c i ≡ Some held
     → OnPassed (WholeAct R s) (Ok (answers Done (say (rec.Slot at.cnode at.index (Some held)) then say (rec.Slot from.cnode from.index None))))
 unfolding ◌then◌
-act-move R s at from held c i is = passed-ok _ _ (record { whole = λ S b. ((tt, tt, tt, fill-safe R s.thread S at held held c i b is refl, tt), ((tt, tt, tt, λ k e. absurd cc, tt), tt)) })
+act-move R s at from held c i is = passed-ok _ _ (record { whole = λ S b. ((tt, tt, tt, fill-safe R s.thread S at held held c i b is refl, tt, λ sound. tt), ((tt, tt, tt, λ k e. absurd cc, tt, λ sound. tt), tt)) })
 
 -- the source of a copy or a move holds the capability
 source-held : (R : Log) (t : ObjId) (source dest : Place) (at : Places) → source_and_dest R t source dest ≡ Ok at → slot R at.source.cnode at.source.index ≡ Some at.cap
@@ -122,7 +122,7 @@ act-delete R s at None = act-quiet R s Done nothing (makes-nothing is_quiet)
 act-delete R s at (Some held) = passed-ok _ _ (record {
   whole = λ S b.
       let S' : Log = rec.Slot at.cnode at.index None ∷ S in
-      ((tt, tt, tt, λ k e. absurd cc, tt), destroy_last-whole R (onto (destroy_last held.obj S') S') s Done S' held.obj (λ k e. absurd cc, b.safe));
+      ((tt, tt, tt, λ k e. absurd cc, tt, λ sound. tt), destroy_last-whole R (onto (destroy_last held.obj S') S') s Done S' held.obj (λ k e. absurd cc, b.safe));
 })
 
 -- one record

@@ -23,4 +23,4 @@ pub use laws::{
 };
 pub use limits::{entry_short, lines_short};
 pub use lookup::{capability_found, capability_refused, one_path, slot_found, slot_refused};
-pub use whole::{answers_whole, messages_whole};
+pub use whole::messages_whole;

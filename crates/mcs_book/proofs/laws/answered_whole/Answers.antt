@@ -1,5 +1,6 @@
-use Rattle.mcs_book.proofs.AnswersRows.{legal-answers_whole}
+use Rattle.mcs_book.proofs.SoundBooks.{legal-sound}
+use Rattle.mcs_book.proofs.WholeLines.{sound-answers_whole}
 use Rattle.mcs_book.proofs.laws.answered_whole.Goals as goal
 
 pub returns : goal.returns
-returns g c = legal-answers_whole g.book c.requires
+returns g c = sound-answers_whole g.book c.requires (legal-sound g.book c.requires)
