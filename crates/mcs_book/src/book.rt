@@ -187,7 +187,8 @@ impl Book {
         self.entered.len() + 1
     }
 
-    /// The line of number `i`, if there is one: the boot is number 0 and no line, and the first line after it is number 1.
+    /// The line of number `i`, if there is one: the boot is number 0 and no line, and the first line after it is
+    /// number 1.
     pub fn line(&self, i: usize) -> Option<Line<'_>>
         ensures { result ≡ (if i == 0 then None else slice_get (reverse self.now.book.lines) (i - 1)) }
     {

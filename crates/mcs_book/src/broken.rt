@@ -1,4 +1,5 @@
-//! Each law of fair books says something: small books that break one, and small books that keep all, each the contract of a function that does nothing.
+//! Each law of fair books says something: small books that break one, and small books that keep all, each the contract
+//! of a function that does nothing.
 ghost use Rattle.mcs_book.specs.Each.{EachLine, AfterEachLine, EachRecord};
 ghost use Rattle.mcs_book.specs.Fair.{EndsOpen, IsWholeLine, TakesFirst, TakesInOrder, TakesAlive, SendersAreOpen, AnswersOwed, AnswersWhole, NoneWaitBeside, IsFair};
 ghost use Rattle.mcs_book.specs.History.{IsLegal};

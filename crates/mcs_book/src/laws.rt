@@ -31,7 +31,8 @@ pub fn none_beside()
     ensures { AfterEachLine NoneWaitBeside book }
 {}
 
-/// After each line of a legal book a thread stands among the senders of an endpoint exactly where a message of it is open there, and no thread has two.
+/// After each line of a legal book a thread stands among the senders of an endpoint exactly where a message of it is
+/// open there, and no thread has two.
 pub fn not_cancelled()
     ghost book: { Book }
     requires { IsLegal book }
@@ -52,7 +53,8 @@ pub fn answered_once()
     ensures { EachRecord AnswersOwed book }
 {}
 
-/// After the line of an answer in a legal book the caller has the message of the line's entry as its mail, and, where the answer topped a chain and the caller held no context, the context that it brought.
+/// After the line of an answer in a legal book the caller has the message of the line's entry as its mail, and, where
+/// the answer topped a chain and the caller held no context, the context that it brought.
 pub fn answered_whole()
     ghost book: { Book }
     requires { IsLegal book }
@@ -66,7 +68,8 @@ pub fn not_deleted()
     ensures { EachRecord TakesAlive book }
 {}
 
-/// When a message of a legal book is taken, its sender is the first of the senders in line, or its taker the first of the receivers, never both.
+/// When a message of a legal book is taken, its sender is the first of the senders in line, or its taker the first of
+/// the receivers, never both.
 pub fn by_priority()
     ghost book: { Book }
     requires { IsLegal book }

@@ -25,7 +25,8 @@ pub fn capability_found()
     ensures found { IsNamed (log_of at.0) at.1 at.2 at.3 → capability (log_of at.0) at.1 at.2 ≡ Ok at.3 }
 {}
 
-/// After a legal book lookup of a capability is refused exactly where the path ends in an empty slot, or as the longest path says where none is complete.
+/// After a legal book lookup of a capability is refused exactly where the path ends in an empty slot, or as the
+/// longest path says where none is complete.
 pub fn capability_refused()
     ghost at: { Book × ObjId × ℕ × Refusal }
     requires { IsLegal at.0 }
@@ -33,7 +34,8 @@ pub fn capability_refused()
     ensures refused { IsUnnamed (log_of at.0) at.1 at.2 at.3 → capability (log_of at.0) at.1 at.2 ≡ Err at.3 }
 {}
 
-/// After a legal book lookup finds a slot by an index and a depth exactly where a complete path ends there with no bits left.
+/// After a legal book lookup finds a slot by an index and a depth exactly where a complete path ends there with no
+/// bits left.
 pub fn slot_found()
     ghost at: { Book × ObjId × Place × SlotName }
     requires { IsLegal at.0 }
@@ -41,7 +43,8 @@ pub fn slot_found()
     ensures found { IsSlotNamed (log_of at.0) at.1 at.2 at.3 → slot_named (log_of at.0) at.1 at.2 ≡ Ok at.3 }
 {}
 
-/// After a legal book lookup of a slot is refused exactly where its depth is out of range, bits remain at the path's end, or as the longest path says where none is complete.
+/// After a legal book lookup of a slot is refused exactly where its depth is out of range, bits remain at the path's
+/// end, or as the longest path says where none is complete.
 pub fn slot_refused()
     ghost at: { Book × ObjId × Place × Refusal }
     requires { IsLegal at.0 }

@@ -11,7 +11,7 @@ use mcs_state::State;
 use mcs_types::{Cap, Kind, ObjId, Refusal};
 
 /// The endpoint and the reply object with which a thread receives.
-#[derive(Clone, Copy, PartialEq, Eq, Debug)]
+#[derive(Clone, Copy)]
 pub struct Receiving {
     pub endpoint: ObjId,
     pub reply: ObjId,

@@ -32,7 +32,8 @@ fn take<L: Lines>(kernel: &mut Kernel<L>, alloc: Global, step: &Step) -> Result<
     }
 }
 
-/// Takes the steps one after another on a kernel with this boot: steps that are turned away leave no line. BookFull comes
+/// Takes the steps one after another on a kernel with this boot: steps that are turned away leave no line. BookFull
+/// comes
 /// exactly at the first step that would be let in and for which the book is full, unless memory was refused before.
 pub fn replay<L: Lines>(alloc: Global, boot: Boot, steps: &[Step]) -> Result<Kernel<L>, ReplayFault>
     requires served { AreServed steps.now }

@@ -38,7 +38,7 @@ impl Model for Script {
 }
 
 /// Why a line could not be taken.
-#[derive(Clone, Copy, PartialEq, Eq, Debug)]
+#[derive(Clone, Copy)]
 pub enum ReadFault {
     Line(LineFault),
     OutOfMemory,

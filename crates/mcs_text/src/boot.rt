@@ -14,7 +14,7 @@ use mcs_types::{Kind, Rights};
 pub type RawNumber = Option<u64>;
 
 /// A capability as it is spelled.
-#[derive(Clone, Copy, PartialEq, Eq, Debug)]
+#[derive(Clone, Copy)]
 pub struct RawCap {
     pub kind: Kind,
     pub serial: RawNumber,
@@ -23,7 +23,7 @@ pub struct RawCap {
 }
 
 /// A line of the boot as it is spelled: its numbers may be out of range, and its names may not be made.
-#[derive(Clone, Copy, PartialEq, Eq, Debug)]
+#[derive(Clone, Copy)]
 pub enum RawBootLine {
     Cores {
         cores: RawNumber,

@@ -3,7 +3,7 @@ ghost use Rattle.std.specs.Prelude.{◌≡◌};
 ghost use Rattle.mcs_text.specs.Keys.{key_text, boot_key, entry_key};
 
 /// A fixed word. That of an answer or a record has its sign before it.
-#[derive(Clone, Copy, Debug, PartialEq, Eq)]
+#[derive(Clone, Copy)]
 pub enum Key {
     Cores,
     CNode,
