@@ -1,5 +1,5 @@
 #!/bin/sh
-# Refuses each allocation in turn, and wants the trace all the same: crates/mcs_tests gives each call once more that memory
+# Refuses each allocation in turn, and wants the trace all the same: crates/mcs_retries gives each call once more that memory
 # was refused to, and mcssim ends with status 6 and has written a beginning of the trace. Run it after `rt ci`, or alone: it
 # proves and builds what is not built yet. It needs a C compiler, for the library below that refuses.
 set -eu
@@ -39,7 +39,7 @@ void *realloc(void *block, size_t size) {
 C
 cc -shared -fPIC -o "$work/refuse.so" "$work/refuse.c"
 
-(cd crates/mcs_tests && rt run) >"$work/built" 2>&1 || { cat "$work/built"; exit 1; }
+(cd crates/mcs_retries && rt run) >"$work/built" 2>&1 || { cat "$work/built"; exit 1; }
 (cd crates/mcssim && rt run -- replay) <crates/mcssim/stdin >"$work/built" 2>&1 || { cat "$work/built"; exit 1; }
 
 # Runs a program with the allocation of this number refused: its output is in $work/out, its status in $status. It fails
@@ -54,11 +54,11 @@ refuse() {
 }
 
 number=1
-while refuse $number crates/mcs_tests/out/mcs_tests; do
-    cmp "$work/out" crates/mcs_tests/stdout
+while refuse $number crates/mcs_retries/out/mcs_retries; do
+    cmp "$work/out" crates/mcs_retries/stdout
     number=$((number + 1))
 done
-echo "mcs_tests: $((number - 1)) allocations, each refused in turn, and each call given again"
+echo "mcs_retries: $((number - 1)) allocations, each refused in turn, and each call given again"
 [ $number -gt 1 ]
 
 number=1

@@ -9,7 +9,7 @@ use Rattle.mcs_book.specs.Logs.{Log, same, same_kind, given}
 use Rattle.mcs_book.specs.Objects.{was_made, form_of}
 use Rattle.mcs_book.specs.Slots.{slot}
 use Rattle.mcs_book.specs.Threads.{root_kept, root_of}
-use Rattle.mcs_book.specs.Lookup.{Reached, cnode_cap, radix_kept}
+use Rattle.mcs_book.specs.Lookup.{space_of, Reached, cnode_cap, radix_kept}
 use Rattle.mcs_book.specs.Paths.{IsComplete}
 use Rattle.mcs_book.specs.Boots.{boot_log}
 use Rattle.mcs_book.specs.History.{Book, log_of, IsLegal}
@@ -67,5 +67,5 @@ legal-bits b t legal = safe-bits (log_of b) t (safe-past (boot_log b.boot.lines)
 
 -- the law: at most one complete path from a thread's root spells the bits
 pub legal-one_path : (b : Book) (t : ObjId) (root : Cap) (bits : List Bool) (p q : Path) (at to : Reached) → IsLegal b → root_of (log_of b) t ≡ Some root
-    → IsComplete (log_of b) root bits p at → IsComplete (log_of b) root bits q to → (p ≡ q) × (at ≡ to)
-legal-one_path b t root bits p q at to legal is = complete-one (log_of b) p q root bits at to (legal-bits b t legal root is)
+    → IsComplete (space_of (log_of b)) root bits p at → IsComplete (space_of (log_of b)) root bits q to → (p ≡ q) × (at ≡ to)
+legal-one_path b t root bits p q at to legal is = complete-one (space_of (log_of b)) p q root bits at to (legal-bits b t legal root is)

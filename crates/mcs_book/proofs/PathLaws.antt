@@ -6,14 +6,12 @@ use Rattle.std.proofs.lemmas.List.{take-append-drop, length-take-le}
 use Rattle.mcs_types.specs.declared.cap.Cap.{Cap}
 use Rattle.mcs_types.specs.declared.entry.Refusal.TheVariants.{GuardMismatch, DepthMismatch}
 use Rattle.mcs_book.specs.Logs.{Log}
-use Rattle.mcs_book.specs.Objects.{form_of}
-use Rattle.mcs_book.specs.Slots.{slot}
 use Rattle.mcs_book.specs.Checks.{Checked, ◌>>=◌, ◌>>◌, need, needed}
-use Rattle.mcs_book.specs.Lookup.{Reached, bits_of, capability, level, walk, goes_on, cnode_cap, number_of_bits, radix_kept, same_bit, is_none_left}
+use Rattle.mcs_book.specs.Lookup.{Space, space_of, Reached, bits_of, capability_from, capability, level, walk, goes_on, cnode_cap, number_of_bits, same_bit, is_none_left}
 use Rattle.mcs_types.specs.declared.id.ObjId.{ObjId}
 use Rattle.mcs_types.specs.declared.entry.Refusal.TheVariants.{Missing}
 use Rattle.mcs_book.specs.Threads.{root_of}
-use Rattle.mcs_book.specs.Paths.{guard_of, next_cnode, EndsAt, IsComplete, IsNamed}
+use Rattle.mcs_book.specs.Paths.{guard_of, next_cnode, EndsAt, IsComplete, IsNamedFrom, IsNamed}
 use Rattle.mcs_book.proofs.Same.{parts}
 
 -- bits that are the same are equal
@@ -34,20 +32,20 @@ starts-split (b ∷ bits) (g ∷ gs) h =
     λ i. bit i ∷ tail i
 
 -- what one level spells
-pub record Level (R : Log) (cap : Cap) (bits : List Bool) (at : Reached) : Type 0 where
+pub record Level (S : Space) (cap : Cap) (bits : List Bool) (at : Reached) : Type 0 where
   pub index : List Bool
   pub in_cnode : at.cnode ≡ cap.obj
   pub at_index : at.index ≡ number_of_bits index
-  pub fits : length index ≡ radix_kept (form_of R cap.obj)
+  pub fits : length index ≡ S.radix cap.obj
   pub spells : bits ≡ guard_of cap ++ (index ++ at.left)
 
 -- what one level of lookup spells
-pub level-spells : (R : Log) (cap : Cap) (bits : List Bool) (at : Reached) → level R cap bits ≡ Ok at → Level R cap bits at
+pub level-spells : (S : Space) (cap : Cap) (bits : List Bool) (at : Reached) → level S cap bits ≡ Ok at → Level S cap bits at
 unfolding level ◌>>◌ need
-level-spells R cap bits at h = go (starts_with same_bit bits (guard_of cap)) (nat_le (radix_kept (form_of R cap.obj)) (length (drop (length (guard_of cap)) bits))) refl refl h
+level-spells S cap bits at h = go (starts_with same_bit bits (guard_of cap)) (nat_le (S.radix cap.obj) (length (drop (length (guard_of cap)) bits))) refl refl h
   where
     radix : ℕ
-    radix = radix_kept (form_of R cap.obj)
+    radix = S.radix cap.obj
 
     after : List Bool
     after = drop (length (guard_of cap)) bits
@@ -55,11 +53,11 @@ level-spells R cap bits at h = go (starts_with same_bit bits (guard_of cap)) (na
     reached : Reached
     reached = record { cnode = cap.obj; index = number_of_bits (take radix after); left = drop radix after }
 
-    go : (b c : Bool) → starts_with same_bit bits (guard_of cap) ≡ b → nat_le radix (length after) ≡ c → (need b GuardMismatch >> (need c DepthMismatch >> Ok reached)) ≡ Ok at → Level R cap bits at
+    go : (b c : Bool) → starts_with same_bit bits (guard_of cap) ≡ b → nat_le radix (length after) ≡ c → (need b GuardMismatch >> (need c DepthMismatch >> Ok reached)) ≡ Ok at → Level S cap bits at
     go true true e e' k =
         let it : reached ≡ at = cc in
         let room : radix ≤ length after = grind arith in
-        let found : Level R cap bits reached = record {
+        let found : Level S cap bits reached = record {
           index = take radix after;
           in_cnode = refl;
           at_index = refl;
@@ -71,72 +69,77 @@ level-spells R cap bits at h = go (starts_with same_bit bits (guard_of cap)) (na
     go false c e e' k = absurd cc
 
 -- where lookup goes on, the slot holds a capability to a CNode; and where it ends, a path is complete
-pub goes-next : (R : Log) (at : Reached) (next : Cap) → goes_on R at ≡ Some next → cnode_cap (slot R at.cnode at.index) ≡ Some next
-goes-next R at next h = go (is_none_left at.left) h
+pub goes-next : (S : Space) (at : Reached) (next : Cap) → goes_on S at ≡ Some next → cnode_cap (S.slot at.cnode at.index) ≡ Some next
+goes-next S at next h = go (is_none_left at.left) h
   where
-    go : (b : Bool) → cond b None (cnode_cap (slot R at.cnode at.index)) ≡ Some next → cnode_cap (slot R at.cnode at.index) ≡ Some next
+    go : (b : Bool) → cond b None (cnode_cap (S.slot at.cnode at.index)) ≡ Some next → cnode_cap (S.slot at.cnode at.index) ≡ Some next
     go true e = absurd cc
     go false e = e
 
 -- where it ends, no bits are left, or the slot holds no CNode
-goes-none : (R : Log) (at : Reached) → goes_on R at ≡ None → (at.left ≡ []) ⊎ (cnode_cap (slot R at.cnode at.index) ≡ None)
-goes-none R at h = go at.left h
+goes-none : (S : Space) (at : Reached) → goes_on S at ≡ None → (at.left ≡ []) ⊎ (cnode_cap (S.slot at.cnode at.index) ≡ None)
+goes-none S at h = go at.left h
   where
-    go : (left : List Bool) → cond (is_none_left left) None (cnode_cap (slot R at.cnode at.index)) ≡ None → (left ≡ []) ⊎ (cnode_cap (slot R at.cnode at.index) ≡ None)
+    go : (left : List Bool) → cond (is_none_left left) None (cnode_cap (S.slot at.cnode at.index)) ≡ None → (left ≡ []) ⊎ (cnode_cap (S.slot at.cnode at.index) ≡ None)
     go [] e = inl refl
     go (b ∷ bits) e = inr e
 
 -- lookup answers the end of a complete path that spells the bits
-pub walk-complete : (steps : ℕ) (R : Log) (cap : Cap) (bits : List Bool) (at : Reached) → walk steps R cap bits ≡ Ok at → (path : List (List Bool)) × IsComplete R cap bits path at
+pub walk-complete : (steps : ℕ) (S : Space) (cap : Cap) (bits : List Bool) (at : Reached) → walk steps S cap bits ≡ Ok at → (path : List (List Bool)) × IsComplete S cap bits path at
 unfolding ◌>>=◌
-walk-complete zero R cap bits at h = absurd cc
-walk-complete (suc steps) R cap bits at h = go (level R cap bits) refl h (λ next left. walk-complete steps R next left at)
+walk-complete zero S cap bits at h = absurd cc
+walk-complete (suc steps) S cap bits at h = go (level S cap bits) refl h (λ next left. walk-complete steps S next left at)
   where
     on : Reached → Option Cap → Checked Reached
-    on a o = elim o [ None ↦ Ok a | Some next ↦ walk steps R next a.left ]
+    on a o = elim o [ None ↦ Ok a | Some next ↦ walk steps S next a.left ]
 
-    longer : (a : Reached) (l : Level R cap bits a) (next : Cap) → goes_on R a ≡ Some next → (path : List (List Bool)) → IsComplete R next a.left path at → (path : List (List Bool)) × IsComplete R cap bits path at
+    longer : (a : Reached) (l : Level S cap bits a) (next : Cap) → goes_on S a ≡ Some next → (path : List (List Bool)) → IsComplete S next a.left path at → (path : List (List Bool)) × IsComplete S cap bits path at
     longer a l next e [] c = absurd c.ends
     longer a l next e (j ∷ path) c =
-        let leads : next_cnode R cap l.index ≡ Some next = sym (ap (λ o. cnode_cap o) (λ i. slot R (l.in_cnode i) (l.at_index i))) ∙ goes-next R a next e in (
+        let leads : next_cnode S cap l.index ≡ Some next = sym (ap (λ o. cnode_cap o) (λ i. S.slot (l.in_cnode i) (l.at_index i))) ∙ goes-next S a next e in (
           l.index ∷ j ∷ path,
           record {
             is_path = (l.fits, rw leads c.is_path);
             spells = l.spells ∙ ap (λ xs. guard_of cap ++ (l.index ++ xs)) c.spells ∙ rw leads (simp append_assoc);
-            ends = let P : Option Cap → Type 0 = λ o. EndsAt R o (j ∷ path) at.cnode at.index in subst P (sym leads) c.ends;
+            ends = let P : Option Cap → Type 0 = λ o. EndsAt S o (j ∷ path) at.cnode at.index in subst P (sym leads) c.ends;
             complete = c.complete;
           },
         )
 
-    next_level : (a : Reached) → level R cap bits ≡ Ok a → (o : Option Cap) → goes_on R a ≡ o → on a o ≡ Ok at → ((next : Cap) (left : List Bool) → walk steps R next left ≡ Ok at → (path : List (List Bool)) × IsComplete R next left path at) → (path : List (List Bool)) × IsComplete R cap bits path at
+    next_level : (a : Reached) → level S cap bits ≡ Ok a → (o : Option Cap) → goes_on S a ≡ o → on a o ≡ Ok at → ((next : Cap) (left : List Bool) → walk steps S next left ≡ Ok at → (path : List (List Bool)) × IsComplete S next left path at) → (path : List (List Bool)) × IsComplete S cap bits path at
     next_level a e None g k ih =
         let it : a ≡ at = cc in
-        let l : Level R cap bits a = level-spells R cap bits a e in
-        let c : IsComplete R cap bits (l.index ∷ []) a = record { is_path = (l.fits, tt); spells = l.spells ∙ simp (append-nil, append_assoc); ends = (l.in_cnode, l.at_index); complete = goes-none R a g } in
+        let l : Level S cap bits a = level-spells S cap bits a e in
+        let c : IsComplete S cap bits (l.index ∷ []) a = record { is_path = (l.fits, tt); spells = l.spells ∙ simp (append-nil, append_assoc); ends = (l.in_cnode, l.at_index); complete = goes-none S a g } in
         (l.index ∷ [], rw (← it) c)
     next_level a e (Some next) g k ih =
         let (path, c) = ih next a.left k in
-        longer a (level-spells R cap bits a e) next g path c
+        longer a (level-spells S cap bits a e) next g path c
 
-    go : (m : Checked Reached) → level R cap bits ≡ m → (m >>= (λ a. on a (goes_on R a))) ≡ Ok at → ((next : Cap) (left : List Bool) → walk steps R next left ≡ Ok at → (path : List (List Bool)) × IsComplete R next left path at) → (path : List (List Bool)) × IsComplete R cap bits path at
-    go (Ok a) e k ih = next_level a e (goes_on R a) refl k ih
+    go : (m : Checked Reached) → level S cap bits ≡ m → (m >>= (λ a. on a (goes_on S a))) ≡ Ok at → ((next : Cap) (left : List Bool) → walk steps S next left ≡ Ok at → (path : List (List Bool)) × IsComplete S next left path at) → (path : List (List Bool)) × IsComplete S cap bits path at
+    go (Ok a) e k ih = next_level a e (goes_on S a) refl k ih
     go (Err refusal) e k ih = absurd cc
 
--- the law: the capability that lookup finds at an address is the one that a path names
-pub capability-named : (R : Log) (t : ObjId) (address : ℕ) (cap : Cap) → capability R t address ≡ Ok cap → IsNamed R t address cap
-unfolding capability ◌>>=◌ needed
-capability-named R t address cap h = from (root_of R t) refl h
+-- the law: the capability that lookup from a root finds at an address is the one that a path names
+pub capability_from-named : (S : Space) (root : Cap) (address : ℕ) (cap : Cap) → capability_from S root address ≡ Ok cap → IsNamedFrom S root address cap
+unfolding capability_from ◌>>=◌ needed
+capability_from-named S root address cap h = at_end (walk 64 S root (bits_of 64 address)) refl h
   where
     end : (o : Option Cap) → needed o Missing ≡ Ok cap → o ≡ Some cap
     end (Some c) e = let it : c ≡ cap = cc in ap (λ x. Some x) it
     end None e = absurd cc
 
-    at_end : (root : Cap) → root_of R t ≡ Some root → (m : Checked Reached) → walk 64 R root (bits_of 64 address) ≡ m → (m >>= (λ at. needed (slot R at.cnode at.index) Missing)) ≡ Ok cap → IsNamed R t address cap
-    at_end root is (Ok at) e k =
-        let (path, along) = walk-complete 64 R root (bits_of 64 address) at e in
-        record { root = root; from = is; path = path; at = at; along = along; there = end (slot R at.cnode at.index) k }
-    at_end root is (Err refusal) e k = absurd cc
+    at_end : (m : Checked Reached) → walk 64 S root (bits_of 64 address) ≡ m → (m >>= (λ at. needed (S.slot at.cnode at.index) Missing)) ≡ Ok cap → IsNamedFrom S root address cap
+    at_end (Ok at) e k =
+        let (path, along) = walk-complete 64 S root (bits_of 64 address) at e in
+        record { path = path; at = at; along = along; there = end (S.slot at.cnode at.index) k }
+    at_end (Err refusal) e k = absurd cc
 
-    from : (o : Option Cap) → root_of R t ≡ o → (needed o Missing >>= (λ root. walk 64 R root (bits_of 64 address) >>= (λ at. needed (slot R at.cnode at.index) Missing))) ≡ Ok cap → IsNamed R t address cap
-    from (Some root) e k = at_end root e (walk 64 R root (bits_of 64 address)) refl k
+-- the law: so for the capability that a thread's lookup finds
+pub capability-named : (R : Log) (t : ObjId) (address : ℕ) (cap : Cap) → capability R t address ≡ Ok cap → IsNamed R t address cap
+unfolding capability ◌>>=◌ needed
+capability-named R t address cap h = from (root_of R t) refl h
+  where
+    from : (o : Option Cap) → root_of R t ≡ o → (needed o Missing >>= (λ root. capability_from (space_of R) root address)) ≡ Ok cap → IsNamed R t address cap
+    from (Some root) e k = record { root = root; from = e; named = capability_from-named (space_of R) root address cap k }
     from None e k = absurd cc

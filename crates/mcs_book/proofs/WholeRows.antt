@@ -267,7 +267,7 @@ reply-at R t address r found = go (capability R t address) refl found
         let it : Some c.obj ≡ r = cc in
         let whole : Some c.obj ≡ Some o = it ∙ named in
         let obj : c.obj ≡ o = cc in
-        record { reply = ap (λ (z : ObjId). z.kind) (sym obj) ∙ same_kind-equal c.obj.kind Reply is; cnode = n.at.cnode; index = n.at.index; held = c; there = n.there; to = obj }
+        record { reply = ap (λ (z : ObjId). z.kind) (sym obj) ∙ same_kind-equal c.obj.kind Reply is; cnode = n.named.at.cnode; index = n.named.at.index; held = c; there = n.named.there; to = obj }
     kind_checked c at false is e o named = absurd cc
 
     go : (m : Checked Cap) → capability R t address ≡ m → ((m >>= (λ c. need (is_kind Reply c) WrongKind >> Ok c)) >>= (λ c. Ok (Some c.obj))) ≡ Ok r → HoldsReply R r

@@ -138,7 +138,7 @@ slot-alive (_ ∷ R) u i c sound served e = slot-alive R u i c sound.1 served.1 
 pub found-alive : (R : Log) (t : ObjId) (a : ℕ) (c : Cap) → Sound R → AreServed R → capability R t a ≡ Ok c → is_alive R c.obj ≡ true
 found-alive R t a c sound served e =
     let named : IsNamed R t a c = capability-named R t a c e in
-    slot-alive R named.at.cnode named.at.index c sound served named.there
+    slot-alive R named.named.at.cnode named.named.at.index c sound served named.named.there
 
 -- a capability of a kind that was found
 kinded-ok : (k : Kind) (m : Checked Cap) (c : Cap) → kinded k m ≡ Ok c → (m ≡ Ok c) × (c.obj.kind ≡ k)

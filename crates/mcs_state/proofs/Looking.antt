@@ -18,7 +18,7 @@ use Rattle.mcs_book.specs.Objects.{form_of}
 use Rattle.mcs_book.specs.Slots.{slot}
 use Rattle.mcs_book.specs.Threads.{root_of, root_kept}
 use Rattle.mcs_book.specs.Checks.{Checked, ◌>>=◌, ◌>>◌, need, needed}
-use Rattle.mcs_book.specs.Lookup.{bits_of, number_of_bits, same_bit, is_none_left, Reached, radix_kept, level, cnode_cap, walk, capability}
+use Rattle.mcs_book.specs.Lookup.{bits_of, number_of_bits, same_bit, is_none_left, Reached, space_of, radix_kept, level, cnode_cap, walk, capability_from, capability}
 use Rattle.mcs_book.specs.Served.{AreServed, IsServedForm, first_cnode}
 use Rattle.mcs_state.specs.Addresses.{index_at}
 use Rattle.mcs_state.proofs.Numbering.{same-test}
@@ -57,7 +57,7 @@ two-tests false c x y f e = refl
 
 -- one level by numbers
 level-is : (R : Log) (cap : Cap) (a : ℕ) → a < 2 ^ 64 → cap.guard.bits ≤ 63 → cap.guard.value < 2 ^ cap.guard.bits
-    → level R cap (bits_of 64 a) ≡ (index_at cap.guard (radix_kept (form_of R cap.obj)) a
+    → level (space_of R) cap (bits_of 64 a) ≡ (index_at cap.guard (radix_kept (form_of R cap.obj)) a
     >>= λ i. Ok (record { cnode = cap.obj; index = i; left = drop (radix_kept (form_of R cap.obj)) (drop (length (bits_of cap.guard.bits cap.guard.value)) (bits_of 64 a)) }))
 unfolding level index_at ◌>>=◌ ◌>>◌ need
 level-is R cap a ha hg hv =
@@ -111,33 +111,33 @@ bind-after (Err why) f h = refl
 
 -- where the walk goes on at no CNode, it ends
 abbrev goes : Log → Reached → Option Cap → Checked Reached
-goes R at o = elim o [ None ↦ Ok at | Some next ↦ walk 63 R next at.left ]
+goes R at o = elim o [ None ↦ Ok at | Some next ↦ walk 63 (space_of R) next at.left ]
 
 ends-there : (R : Log) (at : Reached) (b : Bool) → cnode_cap (slot R at.cnode at.index) ≡ None → goes R at (cond b None (cnode_cap (slot R at.cnode at.index))) ≡ Ok at
 ends-there R at true h = refl
 ends-there R at false h = ap (λ o. goes R at o) h
 
 -- lookup is one level, since the one CNode holds no capability to another
-walk-is : (R : Log) (root : Cap) (bits : List Bool) → AreServed R → walk 64 R root bits ≡ level R root bits
-walk-is R root bits served = bind-ok (level R root bits) _ (λ at. ends-there R at (is_none_left at.left) (served-slot R at.cnode at.index served))
+walk-is : (R : Log) (root : Cap) (bits : List Bool) → AreServed R → walk 64 (space_of R) root bits ≡ level (space_of R) root bits
+walk-is R root bits served = bind-ok (level (space_of R) root bits) _ (λ at. ends-there R at (is_none_left at.left) (served-slot R at.cnode at.index served))
 
-root-found : (R : Log) (root : Cap) (a : ℕ) → (needed (Some root) Missing >>= λ cap. walk 64 R cap (bits_of 64 a) >>= λ at. needed (slot R at.cnode at.index) Missing)
-    ≡ (walk 64 R root (bits_of 64 a) >>= λ at. needed (slot R at.cnode at.index) Missing)
+root-found : (R : Log) (root : Cap) (a : ℕ) → (needed (Some root) Missing >>= λ cap. walk 64 (space_of R) cap (bits_of 64 a) >>= λ at. needed (slot R at.cnode at.index) Missing)
+    ≡ (walk 64 (space_of R) root (bits_of 64 a) >>= λ at. needed (slot R at.cnode at.index) Missing)
 unfolding needed ◌>>=◌
 root-found R root a = refl
 
 pub capability-is : (R : Log) (t : ObjId) (root : Cap) (a : ℕ) → AreServed R → a < 2 ^ 64 → root_of R t ≡ Some root → root.guard.bits ≤ 63 → root.guard.value < 2 ^ root.guard.bits
     → capability R t a ≡ (index_at root.guard (radix_kept (form_of R root.obj)) a >>= λ i. needed (slot R root.obj i) Missing)
-unfolding capability
+unfolding capability capability_from
 capability-is R t root a served ha is hg hv =
-    ap (λ o. needed o Missing >>= λ cap. walk 64 R cap (bits_of 64 a) >>= λ at. needed (slot R at.cnode at.index) Missing) is
+    ap (λ o. needed o Missing >>= λ cap. walk 64 (space_of R) cap (bits_of 64 a) >>= λ at. needed (slot R at.cnode at.index) Missing) is
     ∙ root-found R root a
     ∙ ap (λ m. m >>= λ at. needed (slot R at.cnode at.index) Missing) (walk-is R root (bits_of 64 a) served ∙ level-is R root a ha hg hv)
     ∙ bind-after (index_at root.guard (radix_kept (form_of R root.obj)) a) _ _
 
 -- a thread without a root finds nothing
 pub capability-none : (R : Log) (t : ObjId) (a : ℕ) → root_of R t ≡ None → capability R t a ≡ Err Missing
-unfolding capability needed ◌>>=◌
+unfolding capability capability_from needed ◌>>=◌
 capability-none R t a is = rw is refl
 
 -- the root of a thread is the one CNode, with a guard that fits

@@ -79,6 +79,15 @@ impl Rights {
         self.flags.bits()
     }
 
+    /// Those of them that a mask has too.
+    pub fn masked(&self, mask: &Rights) -> Rights
+        ensures { result ≡ bit_and self.now mask.now }
+    {
+        Rights {
+            flags: RightBits(self.flags.0 & mask.flags.0),
+        }
+    }
+
     /// Whether one may send or signal with them.
     pub fn can_write(&self) -> bool
         ensures { result ≡ (bit_and self.now 1 == 1) }

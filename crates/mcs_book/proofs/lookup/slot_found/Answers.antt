@@ -5,6 +5,6 @@ use Rattle.mcs_book.proofs.lookup.slot_found.Goals as goal
 
 pub returns : goal.returns
 returns g c = record {
-  named = λ is. slot-is_named (log_of g.at.0) g.at.1 g.at.2 g.at.3 (legal-bits g.at.0 g.at.1 c.requires) is;
+  named = λ is. slot-is_named (log_of g.at.0) g.at.1 g.at.2 g.at.3 is;
   found = λ is. slot-found (log_of g.at.0) g.at.1 g.at.2 g.at.3 (legal-bits g.at.0 g.at.1 c.requires) is;
 }

@@ -1,18 +1,6 @@
-//! Tests that cross crates. The program does the first example twice, as calls of the kernel and as a script, and gives a call
-//! once more that memory was refused to. A plain run is refused nothing; `tests/each-allocation.sh` has each allocation refused
-//! in turn, and wants the same traces.
+//! The first example twice, as calls of the kernel and as a script; a call that memory was refused to is given once more. A
+//! plain run is refused nothing; `tests/each-allocation.sh` has each allocation refused in turn, and wants the same traces.
 #![tactic(auto)]
-
-#[cfg(test)]
-mod boots;
-#[cfg(test)]
-mod failing;
-#[cfg(test)]
-mod limits;
-#[cfg(test)]
-mod queues;
-#[cfg(test)]
-mod runs;
 
 use mcs_kernel::{Boot, EnterFault, Kernel};
 use mcs_queues::PlainLines;

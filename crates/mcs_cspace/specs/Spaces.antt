@@ -1,0 +1,46 @@
+-- The capability space of the slots of all CNodes (manual: Capability Spaces).
+use Rattle.std.specs.Prelude.{ℕ, ◌≡◌, ◌≤◌, ◌<◌, ◌^◌, ◌==◌, cond, List, Option, Some, None, Result, Ok, Err, unwrap_or}
+use Rattle.mcs_types.specs.declared.id.ObjId.{ObjId}
+use Rattle.mcs_types.specs.declared.cap.Cap.{Cap}
+use Rattle.mcs_types.specs.declared.cap.Guard.{Guard}
+use Rattle.mcs_types.specs.declared.entry.Refusal.{Refusal}
+use Rattle.mcs_book.specs.Checks.{Checked}
+use Rattle.mcs_book.specs.Slots.{SlotName}
+use Rattle.mcs_book.specs.Lookup.{Space, Reached, bits_of, cnode_cap}
+use Rattle.mcs_slots.specs.declared.slots.SlotId.{SlotId}
+use Rattle.mcs_slots.specs.Pages.{Page, radix_of, slot_at}
+use Rattle.mcs_cspace.specs.declared.paths.End.{End}
+
+-- the space of slots: a CNode that is not there has a radix of 0, and empty slots
+abbrev pub slots_space : List Page → Space
+slots_space P = record { radix = λ c. unwrap_or (radix_of P c) 0; slot = slot_at P }
+
+-- a guard of at most 63 bits, and a value of so many bits
+abbrev pub FitsGuard : Guard → Type 0
+FitsGuard guard = (guard.bits ≤ 63) × (guard.value < 2 ^ guard.bits)
+
+-- so of each capability to a CNode that a slot holds
+abbrev pub GuardsFit : List Page → Type 0
+GuardsFit P = (c : ObjId) (i : ℕ) (cap : Cap) → cnode_cap (slot_at P c i) ≡ Some cap → FitsGuard cap.guard
+
+-- the CNode at which lookup goes on: bits are left, and the slot holds a capability to it
+abbrev pub next_at : List Page → SlotId → ℕ → Option Cap
+next_at P at left = cond (left == 0) None (cnode_cap (slot_at P at.cnode at.index))
+
+-- what is reached by an address, where lookup ended
+abbrev pub reached_by : ℕ → End → Reached
+reached_by a end = record { cnode = end.slot.cnode; index = end.slot.index; left = bits_of end.left a }
+
+-- so with its refusals
+abbrev pub walked_by : ℕ → Result End Refusal → Checked Reached
+walked_by a (Ok end) = Ok (reached_by a end)
+walked_by a (Err why) = Err why
+
+-- the name of a slot
+abbrev pub name_of : SlotId → SlotName
+name_of at = record { cnode = at.cnode; index = at.index }
+
+-- so with its refusals
+abbrev pub named_by : Result SlotId Refusal → Checked SlotName
+named_by (Ok at) = Ok (name_of at)
+named_by (Err why) = Err why

@@ -1,0 +1,47 @@
+//! One level of lookup: the next bits of an address are the guard of a CNode's capability, and then the index of a slot.
+ghost use Rattle.std.specs.Prelude.{◌≡◌, ◌≤◌, ◌<◌, ◌/◌, ◌%◌, ◌^◌, IfOk};
+ghost use Rattle.mcs_cspace.specs.Levels.{level_at};
+
+use mcs_types::{Guard, Refusal};
+
+/// A slot of the CNode at which a level began, and how many bits of the address are left.
+#[derive(Clone, Copy, PartialEq, Eq, Debug)]
+pub(crate) struct Step {
+    pub(crate) index: u8,
+    pub(crate) left: u32,
+}
+
+/// The next `count` bits of a word, of which the low `below` come later.
+fn bits_at(word: u64, below: u32, count: u32) -> u64
+    requires within { below ≤ 64 }
+    requires few { count ≤ 63 }
+    ensures value { result ≡ word / 2 ^ below % 2 ^ count }
+    ensures small { result < 2 ^ count }
+{
+    let front = if below < 64 { word >> below } else { 0 };
+    let mask = (1u64 << count) - 1;
+    front & mask
+}
+
+/// One level by numbers: where `left` bits of the address are left, the first of these are the guard, and the next the index.
+#[tactic(auto, unfolding(crate::specs::Levels::level_at))]
+pub(crate) fn level(guard: Guard, radix: u8, left: u32, address: u64) -> Result<Step, Refusal>
+    requires within { left ≤ 64 }
+    requires guard { guard.bits ≤ 63 }
+    requires radix { radix ≤ 8 }
+    ensures step { result ≡ level_at guard radix left address }
+    ensures fewer { IfOk result (λ s. s.left ≤ left) }
+{
+    let size = guard.bits as u32;
+    if size > left || bits_at(address, left - size, size) != guard.value {
+        return Err(Refusal::GuardMismatch);
+    }
+    let after = left - size;
+    let width = radix as u32;
+    if width > after {
+        return Err(Refusal::DepthMismatch);
+    }
+    let left = after - width;
+    let index = bits_at(address, left, width) as u8;
+    Ok(Step { index, left })
+}

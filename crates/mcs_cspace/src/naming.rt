@@ -1,0 +1,93 @@
+//! Lookup of a capability by an address, and of a slot by an index and a depth.
+ghost use Rattle.std.specs.Prelude.{◌≡◌, ◌==◌, cond, IfOk, IfErr, Ok, Err};
+ghost use Rattle.mcs_book.specs.Lookup.{capability_from, slot_from, is_depth};
+ghost use Rattle.mcs_types.specs.declared.entry.Refusal.TheVariants.{Missing, DepthMismatch};
+ghost use Rattle.mcs_book.specs.Checks.{needed};
+ghost use Rattle.mcs_book.specs.Paths.{IsNamedFrom};
+ghost use Rattle.mcs_book.specs.LookupEnds.{IsUnnamedFrom, IsSlotNamedFrom, IsSlotUnnamedFrom};
+ghost use Rattle.mcs_slots.specs.Pages.{slot_at};
+ghost use Rattle.mcs_cspace.specs.Spaces.{slots_space, FitsGuard, GuardsFit, name_of, named_by};
+
+use crate::paths::{End, find};
+use mcs_slots::{SlotId, Slots};
+use mcs_types::{Cap, Place, Refusal};
+
+/// The capability in a slot, which is Missing where the slot is empty.
+fn held(slots: &Slots, slot: SlotId) -> Result<Cap, Refusal>
+    ensures { result ≡ needed (slot_at slots.now slot.cnode slot.index) Missing }
+{
+    match slots.get(slot) {
+        None => Err(Refusal::Missing),
+        Some(cap) => Ok(cap),
+    }
+}
+
+/// The slot at the end of a path, where no bits are left.
+fn whole(end: End) -> Result<SlotId, Refusal>
+    ensures { result ≡ cond (end.left == 0) (Ok end.slot) (Err DepthMismatch) }
+{
+    if end.left == 0 {
+        Ok(end.slot)
+    } else {
+        Err(Refusal::DepthMismatch)
+    }
+}
+
+/// Whether a depth is of 1 to 64 bits.
+fn in_range(depth: u8) -> bool
+    ensures { result ≡ is_depth depth }
+{
+    depth != 0 && depth <= 64
+}
+
+fn cap_from(slots: &Slots, root: Cap, address: u64) -> Result<Cap, Refusal>
+    requires root { FitsGuard root.guard }
+    requires inner { GuardsFit slots.now }
+    ensures { result ≡ capability_from (slots_space slots.now) root address }
+{
+    match find(slots, root, 64, address) {
+        Err(refusal) => Err(refusal),
+        Ok(end) => held(slots, end.slot),
+    }
+}
+
+fn place_from(slots: &Slots, root: Cap, place: Place) -> Result<SlotId, Refusal>
+    requires root { FitsGuard root.guard }
+    requires inner { GuardsFit slots.now }
+    ensures { named_by result ≡ slot_from (slots_space slots.now) root place }
+{
+    if !in_range(place.depth) {
+        return Err(Refusal::Range);
+    }
+    match find(slots, root, place.depth as u32, place.index) {
+        Err(refusal) => Err(refusal),
+        Ok(end) => whole(end),
+    }
+}
+
+/// The capability that an address of 64 bits names from a root (manual: Capability Spaces). It stands in the slot at the end of
+/// the complete path; refused with Missing where that slot is empty, and else as the longest path says: GuardMismatch, or
+/// DepthMismatch.
+pub fn lookup(slots: &Slots, root: Cap, address: u64) -> Result<Cap, Refusal>
+    requires root { FitsGuard root.guard }
+    requires inner { GuardsFit slots.now }
+    ensures value { result ≡ capability_from (slots_space slots.now) root address }
+    ensures named { IfOk result (λ cap. IsNamedFrom (slots_space slots.now) root address cap) }
+    ensures unnamed { IfErr result (λ why. IsUnnamedFrom (slots_space slots.now) root address why) }
+{
+    slots.are_pages();
+    cap_from(slots, root, address)
+}
+
+/// The slot that an index and a depth name from a root (manual: Capability Spaces). Refused with Range for a depth of 0 or
+/// above 64, which comes first, with DepthMismatch where bits are left at the path's end, and else as the longest path says.
+pub fn lookup_slot(slots: &Slots, root: Cap, place: Place) -> Result<SlotId, Refusal>
+    requires root { FitsGuard root.guard }
+    requires inner { GuardsFit slots.now }
+    ensures value { named_by result ≡ slot_from (slots_space slots.now) root place }
+    ensures named { IfOk result (λ at. IsSlotNamedFrom (slots_space slots.now) root place (name_of at)) }
+    ensures unnamed { IfErr result (λ why. IsSlotUnnamedFrom (slots_space slots.now) root place why) }
+{
+    slots.are_pages();
+    place_from(slots, root, place)
+}

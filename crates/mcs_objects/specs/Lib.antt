@@ -1,0 +1,4 @@
+pub mod Kinds
+pub mod Lends
+pub mod Rows
+pub mod Store

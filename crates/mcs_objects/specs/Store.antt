@@ -1,0 +1,91 @@
+-- What a contract sees of a `Store`: a finite map from ids.
+use Rattle.std.specs.Prelude.{◌≡◌, ◌<◌, ◌≤◌, ◌+◌, ℕ, Bool, false, ◌||◌, ◌==◌, cond, List, [], ◌∷◌, ◌++◌, length, Option, Some, None}
+use Rattle.std.specs.List.{list_any}
+use Rattle.mcs_types.specs.declared.id.ObjId.{ObjId}
+use Rattle.mcs_types.specs.declared.id.Kind.{Kind}
+use Rattle.mcs_objects.specs.Kinds.{same_kind}
+
+-- an object with its serial, its place and its value
+pub record Object (T : Type 0) : Type 0 where
+  pub serial : ℕ
+  pub place : ℕ
+  pub value : T
+
+-- the kind of all ids, how many objects there may be, how many serials were given, and the objects by rising serial
+pub record Objects (T : Type 0) : Type 0 where
+  pub kind : Kind
+  pub room : ℕ
+  pub given : ℕ
+  pub list : List (Object T)
+
+module _ {T : Type 0} where
+  -- the object of a serial
+  abbrev pub object_in : List (Object T) → ℕ → Option (Object T)
+  object_in [] n = None
+  object_in (o ∷ os) n = cond (o.serial == n) (Some o) (object_in os n)
+
+  -- the object of an id
+  abbrev pub object_at : Objects T → ObjId → Option (Object T)
+  object_at s id = cond (same_kind id.kind s.kind) (object_in s.list id.serial) None
+
+  abbrev pub value_of : Option (Object T) → Option T
+  value_of None = None
+  value_of (Some o) = Some o.value
+
+  abbrev pub place_of : Option (Object T) → Option ℕ
+  place_of None = None
+  place_of (Some o) = Some o.place
+
+  -- the value of an id
+  abbrev pub value_at : Objects T → ObjId → Option T
+  value_at s id = value_of (object_at s id)
+
+  -- the place of an id
+  abbrev pub place_at : Objects T → ObjId → Option ℕ
+  place_at s id = place_of (object_at s id)
+
+  -- the id of the next object
+  abbrev pub next_id : Objects T → ObjId
+  next_id s = record { kind = s.kind; serial = s.given + 1 }
+
+  -- as many objects are there as may be, or each serial was given
+  abbrev pub is_full : Objects T → Bool
+  is_full s = (length s.list == s.room) || (s.given == 4294967295)
+
+  -- one object more, at some place
+  pub record Adds (old new : Objects T) (value : T) : Type 0 where
+    pub place : ℕ
+    pub is : new ≡ record old { given = old.given + 1; list = old.list ++ (record { serial = old.given + 1; place = place; value = value }) ∷ [] }
+
+  -- the list without the object of a serial
+  abbrev pub without : ℕ → List (Object T) → List (Object T)
+  without n [] = []
+  without n (o ∷ os) = cond (o.serial == n) os (o ∷ without n os)
+
+  -- without the object of an id
+  abbrev pub removed : Objects T → ObjId → Objects T
+  removed s id = cond (same_kind id.kind s.kind) (record s { list = without id.serial s.list }) s
+
+  -- the list with this value at a serial
+  abbrev pub written : ℕ → T → List (Object T) → List (Object T)
+  written n w [] = []
+  written n w (o ∷ os) = cond (o.serial == n) (record o { value = w } ∷ os) (o ∷ written n w os)
+
+  -- with this value at an id
+  abbrev pub with_value : Objects T → ObjId → T → Objects T
+  with_value s id w = cond (same_kind id.kind s.kind) (record s { list = written id.serial w s.list }) s
+
+  -- whether an object has this place
+  abbrev pub has_place : ℕ → List (Object T) → Bool
+  has_place p os = list_any (λ o. o.place == p) os
+
+  -- serials rise from one number to another, and places are below the room and different
+  abbrev pub AreApart : ℕ → ℕ → ℕ → List (Object T) → Type 0
+  AreApart room given last [] = Unit {0}
+  AreApart room given last (o ∷ os) = (last < o.serial) × (o.serial ≤ given) × (o.place < room) × (has_place o.place os ≡ false) × AreApart room given o.serial os
+
+  -- no more objects than may be, and no serial or place twice
+  pub record IsMap (s : Objects T) : Type 0 where
+    pub few : length s.list ≤ s.room
+    pub small : s.room ≤ 256
+    pub apart : AreApart s.room s.given 0 s.list

@@ -1,0 +1,8 @@
+//! Objects of one kind, each under an id that is given once.
+#![tactic(auto)]
+
+mod full;
+mod store;
+
+pub use full::NoRoom;
+pub use store::Store;

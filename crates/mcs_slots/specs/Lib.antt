@@ -1,0 +1,5 @@
+pub mod Copying
+pub mod Filling
+pub mod Masks
+pub mod Numbers
+pub mod Pages

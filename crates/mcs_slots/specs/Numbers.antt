@@ -1,0 +1,9 @@
+-- Where the page of a CNode stands.
+use Rattle.std.specs.Prelude.{◌-◌, ℕ, cond, ◌||◌, ◌==◌, not, Option, Some, None}
+use Rattle.mcs_types.specs.declared.id.ObjId.{ObjId}
+use Rattle.mcs_types.specs.declared.id.Kind.TheVariants.{CNode}
+use Rattle.mcs_book.specs.Logs.{same_kind}
+
+-- where the page of an object stands, counted from 0, if it can be a CNode
+abbrev pub number_of : ObjId → Option ℕ
+number_of c = cond (not (same_kind c.kind CNode) || (c.serial == 0)) None (Some (c.serial - 1))

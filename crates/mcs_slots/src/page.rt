@@ -1,0 +1,118 @@
+//! The slots of one CNode.
+ghost use Rattle.std.specs.Prelude.{◌≡◌, ◌<◌, ◌≤◌, ◌^◌, IfOk, None, count_by, slice_index_or, slice_set};
+ghost use Rattle.mcs_book.specs.Slots.{is_cap_to};
+ghost use Rattle.mcs_book.specs.Logs.{same};
+
+use mcs_types::{Cap, ObjId, OutOfMemory};
+use std::alloc::Global;
+use std::marker::Model;
+
+/// A CNode's slots: 2 to the radix, 1 to 8.
+#[derive(Drop)]
+pub(crate) struct Page {
+    radix: u8,
+    caps: Vec<Option<Cap>>,
+}
+
+impl Model for Page {
+    ghost use Rattle.std.specs.Prelude.{◌≡◌, ◌≤◌, ◌^◌, length};
+    ghost use Rattle.mcs_slots.specs.Pages.{Page};
+
+    ghost Value = { Page };
+
+    ghost view = { λ p. record { radix = p.radix; caps = p.caps.items } };
+
+    ghost invariant = { λ p. (1 ≤ p.radix) × (p.radix ≤ 8) × (length p.caps.items ≡ 2 ^ p.radix) };
+}
+
+/// An equal capability, if there is one.
+fn cap_again(cap: &Option<Cap>) -> Option<Cap>
+    ensures { result ≡ cap.now }
+{
+    *cap
+}
+
+/// Whether two ids name one object.
+pub(crate) fn is_same(a: ObjId, b: ObjId) -> bool
+    ensures { result ≡ same a b }
+{
+    a.kind as u8 == b.kind as u8 && a.serial == b.serial
+}
+
+/// Whether it is a capability to an object.
+fn is_to(cap: &Option<Cap>, obj: ObjId) -> bool
+    ensures { result ≡ is_cap_to obj cap.now }
+{
+    match cap {
+        None => false,
+        Some(cap) => is_same(cap.obj, obj),
+    }
+}
+
+/// How many slots a radix makes.
+fn slots_of(radix: u8) -> usize
+    requires { radix ≤ 8 }
+    ensures value { result ≡ 2 ^ radix }
+    ensures few { result ≤ 256 }
+{
+    1 << radix
+}
+
+impl Page {
+    ghost use Rattle.mcs_slots.specs.Pages.{empty_page, IsPage};
+
+    /// The empty slots of a CNode.
+    pub(crate) fn empty(alloc: Global, radix: u8) -> Result<Page, OutOfMemory>
+        requires some { 1 ≤ radix }
+        requires few { radix ≤ 8 }
+        ensures { IfOk result (λ p. p ≡ empty_page radix) }
+    {
+        let cap: Option<Cap> = None;
+        let caps = vec![in alloc; cap; slots_of(radix)]?;
+        Ok(Page { radix, caps })
+    }
+
+    pub(crate) fn radix(&self) -> u8
+        ensures value { result ≡ self.now.radix }
+        ensures page { IsPage self.now }
+    {
+        self.radix
+    }
+
+    /// How many slots there are.
+    pub(crate) fn len(&self) -> usize
+        ensures { result ≡ 2 ^ self.now.radix }
+    {
+        slots_of(self.radix)
+    }
+
+    pub(crate) fn get(&self, index: u8) -> Option<Cap>
+        ensures { result ≡ slice_index_or self.now.caps index None }
+    {
+        match self.caps.get(index as usize) {
+            None => None,
+            Some(cap) => cap_again(cap),
+        }
+    }
+
+    pub(crate) fn set(&mut self, index: u8, cap: Option<Cap>)
+        requires { index < 2 ^ self.old.radix }
+        ensures { self.new ≡ record self.old { caps = slice_set self.old.caps index cap } }
+    {
+        self.caps[index as usize] = cap;
+    }
+
+    /// How many slots hold a capability to an object.
+    pub(crate) fn count_of(&self, obj: ObjId) -> u32
+        ensures value { result ≡ count_by (is_cap_to obj) self.now.caps }
+        ensures few { result ≤ 256 }
+    {
+        let mut count: u32 = 0;
+        for cap in &self.caps {
+            if is_to(cap, obj) {
+                count += 1;
+            }
+        }
+        count
+    }
+}

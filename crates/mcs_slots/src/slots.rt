@@ -1,0 +1,262 @@
+//! The slots of all CNodes, and the calls on them.
+ghost use Rattle.std.specs.Prelude.{◌≡◌, ◌≤◌, ◌↔◌, IsTrue, All, IfOk, OnErr, Some, None, length, map, option_copied};
+ghost use Rattle.mcs_book.specs.Rights.{can_badge};
+ghost use Rattle.mcs_slots.specs.Masks.{masked, badged};
+ghost use Rattle.mcs_slots.specs.Numbers.{number_of};
+
+use crate::page::Page;
+use mcs_types::{Badge, Cap, Kind, ObjId, OutOfMemory, Refusal, Rights};
+use std::alloc::Global;
+use std::marker::Model;
+
+/// A slot of a CNode (manual: Capability Spaces): its index is below 2 to the CNode's radix.
+#[derive(Clone, Copy, PartialEq, Eq, Debug)]
+pub struct SlotId {
+    pub cnode: ObjId,
+    pub index: u8,
+}
+
+/// The slots of up to 64 CNodes, whose serials count from 1 (own). All memory is taken when they are made.
+#[derive(Drop)]
+pub struct Slots {
+    pages: Vec<Page>,
+}
+
+impl Model for Slots {
+    ghost use Rattle.std.specs.Prelude.{List, ◌≤◌, length};
+    ghost use Rattle.mcs_slots.specs.Pages.{Page, ArePages};
+
+    ghost Value = { List Page };
+
+    ghost view = { λ s. s.pages.items };
+
+    ghost invariant = { λ s. (length s.pages.items ≤ 64) × ArePages s.pages.items };
+}
+
+/// A capability with those of its rights that a mask has.
+fn with_mask(cap: &Cap, mask: Rights) -> Cap
+    ensures { result ≡ masked cap.now mask }
+{
+    Cap {
+        obj: cap.obj,
+        rights: cap.rights.masked(&mask),
+        badge: cap.badge,
+        guard: cap.guard,
+    }
+}
+
+/// The same with a badge.
+fn with_badge(cap: &Cap, mask: Rights, badge: Badge) -> Cap
+    ensures { result ≡ badged cap.now mask badge }
+{
+    Cap {
+        obj: cap.obj,
+        rights: cap.rights.masked(&mask),
+        badge,
+        guard: cap.guard,
+    }
+}
+
+/// Whether a capability is of a kind that carries a badge.
+fn takes_badge(cap: &Cap) -> bool
+    ensures { result ≡ can_badge cap.now }
+{
+    matches!(cap.obj.kind, Kind::Endpoint | Kind::Notification)
+}
+
+/// Where the page of a CNode stands, if it can be one.
+fn page_number(cnode: ObjId) -> Option<usize>
+    ensures { result ≡ number_of cnode }
+{
+    if cnode.kind as u8 != Kind::CNode as u8 || cnode.serial == 0 {
+        return None;
+    }
+    Some((cnode.serial - 1) as usize)
+}
+
+impl Slots {
+    ghost use Rattle.mcs_slots.specs.Pages.{empty_page, page_at, radix_of, slot_at, HasSlot, held, ArePages};
+    ghost use Rattle.mcs_slots.specs.Filling.{filled};
+    ghost use Rattle.mcs_slots.specs.Copying.{source_cap, copy_of, mint_of, answered};
+
+    /// Empty CNodes of these radices, each 1 to 8, in order: their serials are 1, 2 and so on. There are 64 at most.
+    pub fn new(alloc: Global, radices: &[u8]) -> Result<Slots, OutOfMemory>
+        requires few { length radices.now ≤ 64 }
+        requires radices { All (λ r. (1 ≤ r) × (r ≤ 8)) radices.now }
+        ensures { IfOk result (λ s. s ≡ map empty_page radices.now) }
+    {
+        let mut pages = Vec::with_capacity(alloc, radices.len())?;
+        for radix in radices {
+            pages.push_reserved(Page::empty(alloc, *radix)?);
+        }
+        Ok(Slots { pages })
+    }
+
+    /// There are 64 CNodes at most, each with a radix from 1 to 8 and with 2 to the radix slots.
+    pub fn are_pages(&self)
+        ensures few { length self.now ≤ 64 }
+        ensures pages { ArePages self.now }
+    {
+        let _ = &self.pages;
+    }
+
+    fn page(&self, cnode: ObjId) -> Option<&Page>
+        ensures { option_copied result ≡ page_at self.now cnode }
+    {
+        self.pages.get(page_number(cnode)?)
+    }
+
+    /// The radix of a CNode, or None where it is none of these.
+    pub fn radix(&self, cnode: ObjId) -> Option<u8>
+        ensures { result ≡ radix_of self.now cnode }
+    {
+        let page = self.page(cnode)?;
+        Some(page.radix())
+    }
+
+    /// The capability in a slot, or None where the slot is empty or not there.
+    pub fn get(&self, slot: SlotId) -> Option<Cap>
+        ensures { result ≡ slot_at self.now slot.cnode slot.index }
+    {
+        let page = self.page(slot.cnode)?;
+        page.get(slot.index)
+    }
+
+    /// Whether a slot is there: its index is below 2 to the radix of its CNode.
+    pub fn has_slot(&self, slot: SlotId) -> bool
+        ensures { IsTrue result ↔ HasSlot self.now slot }
+    {
+        match self.page(slot.cnode) {
+            None => false,
+            Some(page) => (slot.index as usize) < page.len(),
+        }
+    }
+
+    fn set(&mut self, slot: SlotId, cap: Option<Cap>)
+        requires { HasSlot self.old slot }
+        ensures { self.new ≡ filled self.old slot cap }
+    {
+        match page_number(slot.cnode) {
+            None => unreachable!(),
+            Some(number) => {
+                let page = &mut self.pages[number];
+                page.set(slot.index, cap);
+            }
+        }
+    }
+
+    /// Puts a capability into a slot that is there. What the slot held is gone.
+    pub fn put(&mut self, slot: SlotId, cap: Cap)
+        requires { HasSlot self.old slot }
+        ensures { self.new ≡ filled self.old slot (Some cap) }
+    {
+        self.set(slot, Some(cap));
+    }
+
+    /// Empties a slot that is there, and gives what it held.
+    pub fn take(&mut self, slot: SlotId) -> Option<Cap>
+        requires { HasSlot self.old slot }
+        ensures cap { result ≡ slot_at self.old slot.cnode slot.index }
+        ensures emptied { self.new ≡ filled self.old slot None }
+    {
+        let cap = self.get(slot);
+        self.set(slot, None);
+        cap
+    }
+
+    fn source_of(&self, source: SlotId, dest: SlotId) -> Result<Cap, Refusal>
+        ensures { result ≡ source_cap self.now source dest }
+    {
+        match self.get(source) {
+            None => Err(Refusal::SlotEmpty),
+            Some(cap) if self.get(dest).is_none() => Ok(cap),
+            Some(_) => Err(Refusal::SlotFull),
+        }
+    }
+
+    fn copied(&self, source: SlotId, dest: SlotId, rights: Rights) -> Result<Cap, Refusal>
+        ensures { result ≡ copy_of self.now source dest rights }
+    {
+        let cap = self.source_of(source, dest)?;
+        Ok(with_mask(&cap, rights))
+    }
+
+    fn minted(
+        &self,
+        source: SlotId,
+        dest: SlotId,
+        rights: Rights,
+        badge: Badge,
+    ) -> Result<Cap, Refusal>
+        ensures { result ≡ mint_of self.now source dest rights badge }
+    {
+        let cap = self.source_of(source, dest)?;
+        if !takes_badge(&cap) {
+            return Err(Refusal::WrongKind);
+        }
+        if cap.badge.0 != 0 {
+            return Err(Refusal::BadgeNotAllowed);
+        }
+        Ok(with_badge(&cap, rights, badge))
+    }
+
+    /// Copies a capability into another slot with those of its rights that are asked for; both slots are there (manual:
+    /// Capability Spaces). Refused, in this order, where the source is empty (SlotEmpty) and where the destination is full
+    /// (SlotFull): then nothing changes.
+    pub fn copy(&mut self, source: SlotId, dest: SlotId, rights: Rights) -> Result<(), Refusal>
+        requires source { HasSlot self.old source }
+        requires dest { HasSlot self.old dest }
+        ensures answer { result ≡ answered (copy_of self.old source dest rights) }
+        ensures filled { IfOk (copy_of self.old source dest rights) (λ cap. self.new ≡ filled self.old dest (Some cap)) }
+        ensures refused { OnErr result (self.new ≡ self.old) }
+    {
+        let cap = self.copied(source, dest, rights)?;
+        self.set(dest, Some(cap));
+        Ok(())
+    }
+
+    /// Copies a capability like `copy`, and sets its badge. Refused like `copy`, and then where the capability is to no endpoint
+    /// or notification (WrongKind) and where the source's badge is not 0 (BadgeNotAllowed): then nothing changes.
+    pub fn mint(
+        &mut self,
+        source: SlotId,
+        dest: SlotId,
+        rights: Rights,
+        badge: Badge,
+    ) -> Result<(), Refusal>
+        requires source { HasSlot self.old source }
+        requires dest { HasSlot self.old dest }
+        ensures answer { result ≡ answered (mint_of self.old source dest rights badge) }
+        ensures filled { IfOk (mint_of self.old source dest rights badge) (λ cap. self.new ≡ filled self.old dest (Some cap)) }
+        ensures refused { OnErr result (self.new ≡ self.old) }
+    {
+        let cap = self.minted(source, dest, rights, badge)?;
+        self.set(dest, Some(cap));
+        Ok(())
+    }
+
+    /// Moves a capability into another slot as it is, and empties its own. Refused like `copy`: then nothing changes.
+    pub fn move_cap(&mut self, source: SlotId, dest: SlotId) -> Result<(), Refusal>
+        requires source { HasSlot self.old source }
+        requires dest { HasSlot self.old dest }
+        ensures answer { result ≡ answered (source_cap self.old source dest) }
+        ensures moved { IfOk (source_cap self.old source dest) (λ cap. self.new ≡ filled (filled self.old dest (Some cap)) source None) }
+        ensures refused { OnErr result (self.new ≡ self.old) }
+    {
+        let cap = self.source_of(source, dest)?;
+        self.set(dest, Some(cap));
+        self.set(source, None);
+        Ok(())
+    }
+
+    /// How many slots hold a capability to an object.
+    pub fn count_of(&self, obj: ObjId) -> u32
+        ensures { result ≡ held self.now obj }
+    {
+        let mut count: u32 = 0;
+        for page in &self.pages {
+            count += page.count_of(obj);
+        }
+        count
+    }
+}

@@ -1,0 +1,17 @@
+//! Tests that cross crates, and tests of what no clause says.
+#![tactic(auto)]
+
+#[cfg(test)]
+mod boots;
+#[cfg(test)]
+mod failing;
+#[cfg(test)]
+mod limits;
+#[cfg(test)]
+mod objects;
+#[cfg(test)]
+mod queues;
+#[cfg(test)]
+mod runs;
+#[cfg(test)]
+mod slots;
