@@ -1,13 +1,13 @@
 #!/bin/sh
 # How long mcssim takes for long scripts of sends and receives, and how much memory: for each number of steps the seconds, the
-# peak of memory in bytes, and the bytes of memory for each line of the book. It proves and builds the program if need be, and
-# measures with python3.
+# peak of memory in bytes, and the bytes of memory for each line of the book. It takes the program that `rt ci` leaves in out/,
+# or proves and builds it where it is not there, and measures with python3.
 set -eu
 cd "$(dirname "$0")/.."
 work=$(mktemp -d)
 trap 'rm -rf "$work"' EXIT
 
-(cd crates/mcssim && rt run -- replay) <crates/mcssim/stdin >"$work/built" 2>&1 || { cat "$work/built"; exit 1; }
+[ -x crates/mcssim/out/mcssim ] || (cd crates/mcssim && rt run -- replay) <crates/mcssim/stdin >"$work/built" 2>&1 || { cat "$work/built"; exit 1; }
 
 echo "steps seconds peak-bytes bytes-a-line written-bytes"
 for steps in ${*:-10000 100000 999000}; do

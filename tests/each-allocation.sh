@@ -1,7 +1,7 @@
 #!/bin/sh
 # Refuses each allocation in turn, and wants the trace all the same: crates/mcs_retries gives each call once more that memory
-# was refused to, and mcssim ends with status 6 and has written a beginning of the trace. Run it after `rt ci`, or alone: it
-# proves and builds what is not built yet. It needs a C compiler, for the library below that refuses.
+# was refused to, and mcssim ends with status 6 and has written a beginning of the trace. Run it after `rt ci`, which leaves
+# the programs in the folders out/; it proves and builds one that is not there. It needs a C compiler, for the library below.
 set -eu
 cd "$(dirname "$0")/.."
 work=$(mktemp -d)
@@ -39,8 +39,13 @@ void *realloc(void *block, size_t size) {
 C
 cc -shared -fPIC -o "$work/refuse.so" "$work/refuse.c"
 
-(cd crates/mcs_retries && rt run) >"$work/built" 2>&1 || { cat "$work/built"; exit 1; }
-(cd crates/mcssim && rt run -- replay) <crates/mcssim/stdin >"$work/built" 2>&1 || { cat "$work/built"; exit 1; }
+# Proves and builds a program that is not there yet.
+build() {
+    [ -x "crates/$1/out/$1" ] && return
+    (cd "crates/$1" && shift && rt run -- "$@") <crates/mcssim/stdin >"$work/built" 2>&1 || { cat "$work/built"; exit 1; }
+}
+build mcs_retries
+build mcssim replay
 
 # Runs a program with the allocation of this number refused: its output is in $work/out, its status in $status. It fails
 # where the program made fewer allocations.
