@@ -1,7 +1,8 @@
 #!/bin/sh
-# Refuses each allocation in turn, and wants the trace all the same: crates/mcs_retries gives each call once more that memory
-# was refused to, and mcssim ends with status 6 and has written a beginning of the trace. Run it after `rt ci`, which leaves
-# the programs in the folders out/; it proves and builds one that is not there. It needs a C compiler, for the library below.
+# Refuses each allocation in turn: crates/mcs_retries gives each call once more that memory was refused to, and writes the same
+# trace; mcssim ends with status 6 and a beginning of the trace, or with status 0 and all of it, which is counted. Run it after
+# `rt ci`, which leaves the programs in the folders out/; it proves and builds one that is not there. It needs a C compiler, for
+# the library below.
 set -eu
 cd "$(dirname "$0")/.."
 work=$(mktemp -d)
@@ -66,14 +67,16 @@ done
 echo "mcs_retries: $((number - 1)) allocations, each refused in turn, and each call given again"
 [ $number -gt 1 ]
 
+survived=0
 number=1
 while refuse $number crates/mcssim/out/mcssim replay; do
-    # the program may do without what it asked for, and then writes the whole trace
+    # status 0 is taken with the whole trace alone, and counted: why the program can do without is not known here
+    [ $status -ne 0 ] || survived=$((survived + 1))
     [ $status -eq 0 ] || head -c "$(wc -c <"$work/out")" crates/mcssim/stdout >"$work/wanted"
     [ $status -ne 0 ] || cp crates/mcssim/stdout "$work/wanted"
     cmp "$work/wanted" "$work/out"
     [ $status -eq 0 ] || [ $status -eq 6 ] || { echo "allocation $number: status $status"; exit 1; }
     number=$((number + 1))
 done
-echo "mcssim: $((number - 1)) allocations, each refused in turn, and each told"
+echo "mcssim: $((number - 1)) allocations, each refused in turn; $survived left the whole trace with status 0, the others status 6"
 [ $number -gt 1 ]

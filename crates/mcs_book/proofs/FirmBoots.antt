@@ -80,33 +80,33 @@ quiet-thread R cores priority maximum root guard runs context numbers objects h 
     sizes : ((nat_lt priority.0 256 && nat_lt maximum.0 256) ≡ true) × (fits_guard guard ≡ true)
     sizes = parts (nat_lt priority.0 256 && nat_lt maximum.0 256) (fits_guard guard) numbers
 
-    R1 : Log
-    R1 = rec.Made t (form.Runner maximum (root_cap root guard)) ∷ R
+    born : Log
+    born = rec.Made t (form.Runner maximum (root_cap root guard)) ∷ R
 
-    quiet1 : Quiet R1
-    quiet1 = quiet-made R kind.Thread (form.Runner maximum (root_cap root guard)) (below maximum.0 256 ((parts (nat_lt priority.0 256) (nat_lt maximum.0 256) sizes.0).1)) (object-there R kind.CNode root h ((parts (is_object R kind.CNode root) (is_context_any R context) objects).0)) h
+    quiet_born : Quiet born
+    quiet_born = quiet-made R kind.Thread (form.Runner maximum (root_cap root guard)) (below maximum.0 256 ((parts (nat_lt priority.0 256) (nat_lt maximum.0 256) sizes.0).1)) (object-there R kind.CNode root h ((parts (is_object R kind.CNode root) (is_context_any R context) objects).0)) h
 
-    there : IsThere R1 kind.Thread t
+    there : IsThere born kind.Thread t
     there = made-there R kind.Thread (form.Runner maximum (root_cap root guard)) (firm-sound R h.firm)
 
-    R3 : Log
-    R3 = rec.Turns t (begins runs) ∷ rec.Prio t priority ∷ R1
+    ready : Log
+    ready = rec.Turns t (begins runs) ∷ rec.Prio t priority ∷ born
 
-    quiet3 : Quiet R3
-    quiet3 = record {
-      firm = (((there, (h.stands t, λ r o. let no : None ≡ Some t = sym (h.owes r) ∙ o in absurd cc)), tt), (((there, below priority.0 256 ((parts (nat_lt priority.0 256) (nat_lt maximum.0 256) sizes.0).0)), tt), quiet1.firm));
+    quiet_ready : Quiet ready
+    quiet_ready = record {
+      firm = (((there, (h.stands t, λ r o. let no : None ≡ Some t = sym (h.owes r) ∙ o in absurd cc)), tt), (((there, below priority.0 256 ((parts (nat_lt priority.0 256) (nat_lt maximum.0 256) sizes.0).0)), tt), quiet_born.firm));
       stands = h.stands;
       owes = h.owes;
       unclosed = h.unclosed;
     }
 
-    holds_none : HoldsNone R3 t
+    holds_none : HoldsNone ready t
     holds_none s held = let no : true ≡ false = sym (alive-made R t ((held-there R s t (firm-sound R h.firm) held).1.1)) ∙ next-unmade R kind.Thread (firm-sound R h.firm) in absurd cc
 
-    go : (c : Option ObjId) → is_context_any R c ≡ true → Quiet (onto (begins_with c t) R3)
-    go None is = quiet3
+    go : (c : Option ObjId) → is_context_any R c ≡ true → Quiet (onto (begins_with c t) ready)
+    go None is = quiet_ready
     go (Some s) is = record {
-      firm = (((there-next R (rec.Made t (form.Runner maximum (root_cap root guard))) kind.Context s (object-there R kind.Context s h is) refl, there, holds_none), tt), quiet3.firm);
+      firm = (((there-next R (rec.Made t (form.Runner maximum (root_cap root guard))) kind.Context s (object-there R kind.Context s h is) refl, there, holds_none), tt), quiet_ready.firm);
       stands = h.stands;
       owes = h.owes;
       unclosed = h.unclosed;

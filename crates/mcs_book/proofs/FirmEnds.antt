@@ -41,10 +41,10 @@ ending R e r x mode = say e then say (rec.Turns x mode) then give_back (topped_b
 ended : (R : Log) (r x : ObjId) (e : Rec) (mode : Mode) → owed_by R r ≡ Some x → Strict R e → ((d : ObjId) → owed_by (e ∷ R) d ≡ unwrap_or (given (same d r) None) (owed_by R d)) → queue_of (e ∷ R) x ≡ queue_of R x
     → ((o : ObjId) → closes o e ≡ false) → Firm R → Firm (onto (ending R e r x mode R) R)
 unfolding ◌then◌ give_back
-ended R r x e mode owed strict owes queues closing firm = go (topped_by R r) refl (context_of R2 x) refl
+ended R r x e mode owed strict owes queues closing firm = go (topped_by R r) refl (context_of turned x) refl
   where
-    R2 : Log
-    R2 = rec.Turns x mode ∷ e ∷ R
+    turned : Log
+    turned = rec.Turns x mode ∷ e ∷ R
 
     there : IsThere (e ∷ R) kind.Thread x
     there = there-next R e kind.Thread x ((owed-there R r x (firm-sound R firm) owed).1) (closing x)
@@ -52,11 +52,11 @@ ended R r x e mode owed strict owes queues closing firm = go (topped_by R r) ref
     idle : IsIdle (e ∷ R) x
     idle = (queues ∙ owed-stands_none R r x (firm-sound R firm) owed, λ d o. elim (set-split d r None (owed_by R d) (Some x) (sym (owes d) ∙ o)) [ inl (who, is) ↦ absurd cc | inr (other, is) ↦ same-never d r (owed-one R d r x (firm-sound R firm) is owed) other ])
 
-    firm2 : Firm R2
+    firm2 : Firm turned
     firm2 = (((there, idle), tt), (strict, firm))
 
-    go : (o : Option ObjId) → topped_by R r ≡ o → (c : Option ObjId) → context_of R2 x ≡ c → Firm (onto (back_to x o c) R2)
-    go (Some s) top None none = (((there-next R e kind.Context s (topped-there R r s top) (closing s), there, context-none R2 x (firm-sound R2 firm2) none), tt), firm2)
+    go : (o : Option ObjId) → topped_by R r ≡ o → (c : Option ObjId) → context_of turned x ≡ c → Firm (onto (back_to x o c) turned)
+    go (Some s) top None none = (((there-next R e kind.Context s (topped-there R r s top) (closing s), there, context-none turned x (firm-sound turned firm2) none), tt), firm2)
     go (Some s) top (Some c) is = firm2
     go None top c is = firm2
 
