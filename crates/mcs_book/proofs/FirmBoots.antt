@@ -17,7 +17,7 @@ use Rattle.mcs_book.specs.Queues.{queue_of}
 use Rattle.mcs_book.specs.Replies.{owed_by}
 use Rattle.mcs_book.specs.Checks.{Passed, ◌>>◌, need}
 use Rattle.mcs_book.specs.Lookup.{radix_kept}
-use Rattle.mcs_book.specs.Served.{core_limit, serves_inner_cnodes}
+use Rattle.mcs_book.specs.Served.{core_limit}
 use Rattle.mcs_book.specs.Boots.{boot_line, boot_log, begins, begins_with, root_cap, is_object, fits_kind, fits_guard, has_no_rights, has_numbers, has_objects, is_context_any, boot_check, AreFaultless}
 use Rattle.mcs_book.specs.Sound.{IsThere, IsFormOf, HoldsNone}
 use Rattle.mcs_book.proofs.Same.{same_kind-equal, parts, both}
@@ -62,7 +62,7 @@ none-small cap h = let none : cap.badge.0 ≡ 0 = eqb-true cap.badge.0 0 ((parts
 
 -- a badge of a capability that fits its kind
 fits-small : (k : Kind) (cap : Cap) → fits_kind k cap ≡ true → cap.badge.0 < 2 ^ 64
-fits-small kind.CNode cap h = let (rest, guard) = parts (serves_inner_cnodes && has_no_rights cap) (fits_guard cap.guard) h in none-small cap ((parts serves_inner_cnodes (has_no_rights cap) rest).1)
+fits-small kind.CNode cap h = none-small cap ((parts (has_no_rights cap) (fits_guard cap.guard) h).0)
 fits-small kind.Endpoint cap h = let (rest, guard) = parts _ _ h in below _ _ ((parts _ _ rest).1)
 fits-small kind.Notification cap h = let (rest, guard) = parts _ _ h in below _ _ ((parts _ _ rest).1)
 fits-small kind.Thread cap h = none-small cap ((parts _ _ h).0)

@@ -16,7 +16,7 @@ use Rattle.mcs_book.specs.Threads.{root_of}
 use Rattle.mcs_book.specs.Checks.{Checked, ◌>>◌, need, needed}
 use Rattle.mcs_book.specs.Rights.{is_kind}
 use Rattle.mcs_book.specs.Lookup.{space_of, Reached, number_of_bits, radix_kept, level, cnode_cap, goes_on, walk, capability_from, capability, of_kind, slot_from, slot_named, bits_of}
-use Rattle.mcs_book.specs.Sound.{IsThere}
+use Rattle.mcs_book.specs.Sound.{IsThere, Sound}
 use Rattle.mcs_book.proofs.Same.{same_kind-equal}
 use Rattle.mcs_book.proofs.Checking.{OnPassed, passed-ok, passed-err, passed-after, passed-next}
 use Rattle.mcs_book.proofs.PathLaws.{Level, level-spells, goes-next}
@@ -91,16 +91,16 @@ cnode-some (Some cap) next h = go (same_kind cap.obj.kind kind.CNode) refl h
     go false e k = absurd cc
 
 -- a walk ends at such a slot
-walk-slot : (steps : ℕ) (R : Log) (cap : Cap) (bits : List Bool) → Firm R → IsThere R kind.CNode cap.obj → OnPassed (λ (at : Reached). IsSlotOf R at.cnode at.index) (walk steps (space_of R) cap bits)
-walk-slot zero R cap bits firm there = passed-err _ _
-walk-slot (suc steps) R cap bits firm there = passed-after (λ (at : Reached). IsSlotOf R at.cnode at.index) _ (level (space_of R) cap bits) _ (passed-known _ (level (space_of R) cap bits) (λ at is. level-slot R cap bits at there is)) (λ at is. on at is (goes_on (space_of R) at) refl (λ next k. walk-slot steps R next at.left firm k))
+walk-slot : (steps : ℕ) (R : Log) (cap : Cap) (bits : List Bool) → Sound R → IsThere R kind.CNode cap.obj → OnPassed (λ (at : Reached). IsSlotOf R at.cnode at.index) (walk steps (space_of R) cap bits)
+walk-slot zero R cap bits sound there = passed-err _ _
+walk-slot (suc steps) R cap bits sound there = passed-after (λ (at : Reached). IsSlotOf R at.cnode at.index) _ (level (space_of R) cap bits) _ (passed-known _ (level (space_of R) cap bits) (λ at is. level-slot R cap bits at there is)) (λ at is. on at is (goes_on (space_of R) at) refl (λ next k. walk-slot steps R next at.left sound k))
   where
     on : (at : Reached) → IsSlotOf R at.cnode at.index → (o : Option Cap) → goes_on (space_of R) at ≡ o → ((next : Cap) → IsThere R kind.CNode next.obj → OnPassed (λ (a : Reached). IsSlotOf R a.cnode a.index) (walk steps (space_of R) next at.left))
         → OnPassed (λ (a : Reached). IsSlotOf R a.cnode a.index) (elim o [ None ↦ Ok at | Some next ↦ walk steps (space_of R) next at.left ])
     on at is None e later = passed-ok _ _ is
     on at is (Some next) e later =
         let s : (slot R at.cnode at.index ≡ Some next) × (next.obj.kind ≡ kind.CNode) = cnode-some (slot R at.cnode at.index) next (goes-next (space_of R) at next e) in
-        later next (s.1, slot-alive R at.cnode at.index next (firm-sound R firm) s.0)
+        later next (s.1, slot-alive R at.cnode at.index next sound s.0)
 
 -- a capability that a slot holds: its object is there, and its badge is of 64 bits
 pub record IsHeld (R : Log) (cap : Cap) : Type 0 where
@@ -116,7 +116,7 @@ pub capability-held : (R : Log) (t : ObjId) (address : ℕ) → Firm R → OnPas
 unfolding capability capability_from
 capability-held R t address firm =
     passed-after (λ (root : Cap). IsThere R kind.CNode root.obj) (IsHeld R) (needed (root_of R t) Missing) _ (passed-needed _ (root_of R t) Missing (λ root is. root-there R t root firm is))
-    (λ root there. passed-after (λ (at : Reached). IsSlotOf R at.cnode at.index) (IsHeld R) (walk 64 (space_of R) root (bits_of 64 address)) _ (walk-slot 64 R root (bits_of 64 address) firm there)
+    (λ root there. passed-after (λ (at : Reached). IsSlotOf R at.cnode at.index) (IsHeld R) (walk 64 (space_of R) root (bits_of 64 address)) _ (walk-slot 64 R root (bits_of 64 address) (firm-sound R firm) there)
     (λ at is. passed-needed (IsHeld R) (slot R at.cnode at.index) Missing (λ cap held. slot-held R at.cnode at.index cap firm held)))
 
 -- and it is of the kind that is wanted
@@ -130,10 +130,14 @@ unfolding of_kind
 of_kind-held R t k address firm = passed-after (IsHeld R) (IsHeldOf R k) (capability R t address) _ (capability-held R t address firm) (λ cap held.
     passed-need (IsHeldOf R k) (is_kind k cap) WrongKind (Ok cap) (λ e. passed-ok _ _ (record { there = (same_kind-equal cap.obj.kind k e, held.alive); small = held.small })))
 
+-- the slot that an index and a depth name from a root that is there
+pub slot_named-rooted : (R : Log) (t : ObjId) (place : Place) → Sound R → ((root : Cap) → root_of R t ≡ Some root → IsThere R kind.CNode root.obj) → OnPassed (λ (at : SlotName). IsSlotOf R at.cnode at.index) (slot_named R t place)
+unfolding slot_named slot_from
+slot_named-rooted R t place sound rooted =
+    passed-next _ _ _ (passed-after (λ (root : Cap). IsThere R kind.CNode root.obj) _ (needed (root_of R t) Missing) _ (passed-needed _ (root_of R t) Missing rooted)
+    (λ root there. passed-next _ _ _ (passed-after (λ (at : Reached). IsSlotOf R at.cnode at.index) _ (walk 64 (space_of R) root (bits_of place.depth place.index)) _ (walk-slot 64 R root (bits_of place.depth place.index) sound there)
+    (λ at is. passed-next _ _ _ (passed-ok _ _ is)))))
+
 -- the slot that an index and a depth name
 pub slot_named-slot : (R : Log) (t : ObjId) (place : Place) → Firm R → OnPassed (λ (at : SlotName). IsSlotOf R at.cnode at.index) (slot_named R t place)
-unfolding slot_named slot_from
-slot_named-slot R t place firm =
-    passed-next _ _ _ (passed-after (λ (root : Cap). IsThere R kind.CNode root.obj) _ (needed (root_of R t) Missing) _ (passed-needed _ (root_of R t) Missing (λ root is. root-there R t root firm is))
-    (λ root there. passed-next _ _ _ (passed-after (λ (at : Reached). IsSlotOf R at.cnode at.index) _ (walk 64 (space_of R) root (bits_of place.depth place.index)) _ (walk-slot 64 R root (bits_of place.depth place.index) firm there)
-    (λ at is. passed-next _ _ _ (passed-ok _ _ is)))))
+slot_named-slot R t place firm = slot_named-rooted R t place (firm-sound R firm) (λ root is. root-there R t root firm is)

@@ -233,7 +233,7 @@ boot-threads [] = refl
 boot-threads (line ∷ lines) = boot_line-threads (boot_log lines) line lines (boot-threads lines)
 
 -- no line makes a thread
-past-threads : (B : Log) (ls : List Line) → AreLegal B ls → threads (past B ls) ≡ threads B
+pub past-threads : (B : Log) (ls : List Line) → AreLegal B ls → threads (past B ls) ≡ threads B
 past-threads B [] h = refl
 past-threads B (l ∷ ls) h =
     let made : threads (onto l.records (past B ls)) ≡ threads (past B ls) = rw h.0.records ((few-does (threads (past B ls)) (past B ls) l.step.core l.step.thread l.step.entry refl).threads_same) in

@@ -59,3 +59,4 @@ pub mod CoreLines
 pub mod KnownCores
 pub mod GivingBack
 pub mod LegalFair
+pub mod TableLaws

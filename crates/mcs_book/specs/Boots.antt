@@ -18,10 +18,10 @@ use Rattle.mcs_book.specs.Logs.{Log, onto, same_kind}
 use Rattle.mcs_book.specs.Objects.{was_made, form_of, number_of, next_id}
 use Rattle.mcs_book.specs.Slots.{slot}
 use Rattle.mcs_book.specs.Contexts.{holder_of}
-use Rattle.mcs_book.specs.Served.{core_limit, cnode_limit, serves_inner_cnodes}
+use Rattle.mcs_book.specs.Served.{core_limit}
 use Rattle.mcs_book.specs.Checks.{Passed, ◌>>◌, need}
 use Rattle.mcs_book.specs.Lookup.{radix_kept}
-use Rattle.mcs_book.specs.Placing.{object_limit}
+use Rattle.mcs_book.specs.Placing.{object_limit, cnode_limit}
 
 -- a boot: the number of cores, and the lines after that one, the newest first
 pub record Boot : Type 0 where
@@ -77,7 +77,7 @@ has_no_rights cap = cap.rights == 0 && (cap.badge.0 == 0)
 
 -- whether the numbers of a capability are such as its kind carries
 abbrev pub fits_kind : Kind → Cap → Bool
-fits_kind kind.CNode cap = serves_inner_cnodes && has_no_rights cap && fits_guard cap.guard
+fits_kind kind.CNode cap = has_no_rights cap && fits_guard cap.guard
 fits_kind kind.Endpoint cap = nat_lt cap.rights 16 && nat_lt cap.badge.0 (2 ^ 64) && has_no_guard cap
 fits_kind kind.Notification cap = nat_lt cap.rights 16 && nat_lt cap.badge.0 (2 ^ 64) && has_no_guard cap
 fits_kind _ cap = has_no_rights cap && has_no_guard cap

@@ -12,6 +12,7 @@ pub mod Standing
 pub mod Checks
 pub mod Rights
 pub mod Lookup
+pub mod Guards
 pub mod Paths
 pub mod Served
 pub mod Pieces

@@ -55,9 +55,13 @@ unfoldable pub delete : SlotName → Option Cap → Act
 delete at None = answers Done nothing
 delete at (Some cap) = answers Done (fills at None then destroy_last cap.obj)
 
--- how many objects of a kind there may be at a time
+-- how many objects of a kind there may be at a time, but for CNodes
 abbrev pub object_limit : ℕ
 object_limit = 256
+
+-- how many CNodes there may be
+abbrev pub cnode_limit : ℕ
+cnode_limit = 64
 
 -- a new object, with a capability of these rights in an empty slot
 unfoldable pub make : Log → ObjId → Kind → ℕ → Form → Place → Checked Act

@@ -1,12 +1,12 @@
 -- The capability space of the slots of all CNodes (manual: Capability Spaces).
-use Rattle.std.specs.Prelude.{ℕ, ◌≡◌, ◌≤◌, ◌<◌, ◌^◌, ◌==◌, cond, List, Option, Some, None, Result, Ok, Err, unwrap_or}
+use Rattle.std.specs.Prelude.{ℕ, ◌≡◌, ◌==◌, cond, List, Option, Some, None, Result, Ok, Err, unwrap_or}
 use Rattle.mcs_types.specs.declared.id.ObjId.{ObjId}
 use Rattle.mcs_types.specs.declared.cap.Cap.{Cap}
-use Rattle.mcs_types.specs.declared.cap.Guard.{Guard}
 use Rattle.mcs_types.specs.declared.entry.Refusal.{Refusal}
 use Rattle.mcs_book.specs.Checks.{Checked}
 use Rattle.mcs_book.specs.Slots.{SlotName}
 use Rattle.mcs_book.specs.Lookup.{Space, Reached, bits_of, cnode_cap}
+use Rattle.mcs_book.specs.Guards.{FitsGuard}
 use Rattle.mcs_slots.specs.declared.slots.SlotId.{SlotId}
 use Rattle.mcs_slots.specs.Pages.{Page, radix_of, slot_at}
 use Rattle.mcs_cspace.specs.declared.paths.End.{End}
@@ -14,10 +14,6 @@ use Rattle.mcs_cspace.specs.declared.paths.End.{End}
 -- the space of slots: a CNode that is not there has a radix of 0, and empty slots
 abbrev pub slots_space : List Page → Space
 slots_space P = record { radix = λ c. unwrap_or (radix_of P c) 0; slot = slot_at P }
-
--- a guard of at most 63 bits, and a value of so many bits
-abbrev pub FitsGuard : Guard → Type 0
-FitsGuard guard = (guard.bits ≤ 63) × (guard.value < 2 ^ guard.bits)
 
 -- so of each capability to a CNode that a slot holds
 abbrev pub GuardsFit : List Page → Type 0

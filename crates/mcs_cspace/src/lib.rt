@@ -5,4 +5,5 @@ mod levels;
 mod naming;
 mod paths;
 
-pub use naming::{lookup, lookup_slot};
+pub use naming::{in_range, lookup, lookup_slot};
+pub use paths::radix_in;

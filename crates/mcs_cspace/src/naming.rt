@@ -1,12 +1,13 @@
 //! Lookup of a capability by an address, and of a slot by an index and a depth.
 ghost use Rattle.std.specs.Prelude.{◌≡◌, ◌==◌, cond, IfOk, IfErr, Ok, Err};
+ghost use Rattle.mcs_book.specs.Guards.{FitsGuard};
 ghost use Rattle.mcs_book.specs.Lookup.{capability_from, slot_from, is_depth};
 ghost use Rattle.mcs_types.specs.declared.entry.Refusal.TheVariants.{Missing, DepthMismatch};
 ghost use Rattle.mcs_book.specs.Checks.{needed};
 ghost use Rattle.mcs_book.specs.Paths.{IsNamedFrom};
 ghost use Rattle.mcs_book.specs.LookupEnds.{IsUnnamedFrom, IsSlotNamedFrom, IsSlotUnnamedFrom};
 ghost use Rattle.mcs_slots.specs.Pages.{slot_at};
-ghost use Rattle.mcs_cspace.specs.Spaces.{slots_space, FitsGuard, GuardsFit, name_of, named_by};
+ghost use Rattle.mcs_cspace.specs.Spaces.{slots_space, GuardsFit, name_of, named_by};
 
 use crate::paths::{End, find};
 use mcs_slots::{SlotId, Slots};
@@ -33,8 +34,8 @@ fn whole(end: End) -> Result<SlotId, Refusal>
     }
 }
 
-/// Whether a depth is of 1 to 64 bits.
-fn in_range(depth: u8) -> bool
+/// Whether a depth is of 1 to 64 bits, as slot operations need.
+pub fn in_range(depth: u8) -> bool
     ensures { result ≡ is_depth depth }
 {
     depth != 0 && depth <= 64

@@ -1,7 +1,8 @@
 //! The way from a root to the slot at the end of the path that an address spells.
 ghost use Rattle.std.specs.Prelude.{◌≡◌, ◌≤◌};
+ghost use Rattle.mcs_book.specs.Guards.{FitsGuard};
 ghost use Rattle.mcs_book.specs.Lookup.{bits_of, walk, cnode_cap};
-ghost use Rattle.mcs_cspace.specs.Spaces.{slots_space, FitsGuard, GuardsFit, next_at, walked_by};
+ghost use Rattle.mcs_cspace.specs.Spaces.{slots_space, GuardsFit, next_at, walked_by};
 
 use crate::levels::level;
 use mcs_slots::{SlotId, Slots};
@@ -15,7 +16,7 @@ pub(crate) struct End {
 }
 
 /// The radix of a CNode, or 0 where it is not there.
-fn radix_in(slots: &Slots, cnode: ObjId) -> u8
+pub fn radix_in(slots: &Slots, cnode: ObjId) -> u8
     ensures value { result ≡ (slots_space slots.now).radix cnode }
     ensures few { result ≤ 8 }
 {

@@ -44,11 +44,8 @@ use Rattle.mcs_state.specs.Numbers.{thread_at}
 use Rattle.mcs_state.specs.Now.{IsNumberOf}
 use Rattle.mcs_state.proofs.Answering.{none-closed, none-owed, made-from}
 use Rattle.mcs_ipc.specs.Rows.{kinded, writable, readable, with_reply, sendable, receivable, send_act}
-use Rattle.mcs_ipc.specs.Entering.{IsEntering, IsActing, OpenStand}
-
--- who stands in no line is idle
-pub idle : (R : Log) (t : ObjId) → AreServed R → queue_of R t ≡ None → IsIdle R t
-idle R t served none = (none, λ r owes. let no : None ≡ Some t = sym (none-owed R r served) ∙ owes in absurd cc)
+use Rattle.mcs_state.specs.Entering.{IsActing, OpenStand}
+use Rattle.mcs_state.proofs.Woken.{idle}
 
 -- who stands in no line has no open message
 pub none-open : (R : Log) (t : ObjId) → OpenStand R → queue_of R t ≡ None → HasNoneOpen R t
@@ -94,16 +91,7 @@ pub send-hands : (R : Log) (t : ObjId) (cap : Cap) (message : Content) (p : ObjI
 unfolding send_act sends sends_to handed ◌then◌
 send-hands R t cap message p first = rw first refl
 
--- who was woken acts
-pub woken : (R : Log) (t : ObjId) → IsEntering R t → IsActing (onto (wakes (mode_of R t) t R) R) t
-woken R t enters = go (mode_of R t) refl
-  where
-    go : (m : Mode) → mode_of R t ≡ m → IsActing (onto (wakes m t R) R) t
-    go Running e = record { there = enters.there; idle = enters.idle; runs = e }
-    go Restart e = record { there = enters.there; idle = enters.idle; runs = rw (same-self t) refl }
-    go Inactive e = absurd (enters.awake e)
-
--- and whoever has an open message stands in line still
+-- once a thread was woken, whoever has an open message stands in line still
 pub woken-stand : (R : Log) (t : ObjId) → OpenStand R → OpenStand (onto (wakes (mode_of R t) t R) R)
 woken-stand R t stand = go (mode_of R t)
   where
@@ -183,9 +171,3 @@ receivable-there R t a r at sound served e = go (readable (kinded kind.Endpoint 
         let k = kinded-ok kind.Endpoint (capability R t a) c (readable-ok (kinded kind.Endpoint (capability R t a)) c p) in
         let l = kinded-ok kind.Reply (capability R t r) d q in
         subst (λ (x : Receiving). IsThere R kind.Endpoint x.endpoint × IsThere R kind.Reply x.reply) it ((k.1, found-alive R t a c sound served k.0), (l.1, found-alive R t r d sound served l.0))
-
--- what is there is there still when a thread was woken
-pub woken-there : (R : Log) (t : ObjId) (m : Mode) (k : Kind) (o : ObjId) → IsThere R k o → IsThere (onto (wakes m t R) R) k o
-woken-there R t Running k o there = there
-woken-there R t Restart k o there = there
-woken-there R t Inactive k o there = there

@@ -29,7 +29,8 @@ use Rattle.mcs_book.proofs.MessageLaws.{open_of-open, open_of-letter}
 use Rattle.mcs_book.proofs.UserLaws.{receiver_with-named, unattended-none, unattended-parted}
 use Rattle.mcs_state.proofs.Answering.{none-owed, none-bound}
 use Rattle.mcs_ipc.specs.declared.checks.Receiving.{Receiving}
-use Rattle.mcs_ipc.specs.Entering.{IsActing, IsReady, OpenStand}
+use Rattle.mcs_state.specs.Entering.{IsActing, OpenStand}
+use Rattle.mcs_ipc.specs.Ready.{IsReady}
 
 -- a reply object that nobody uses
 pub free-nobody : (R : Log) (r : ObjId) → AreServed R → receiver_with R r ≡ None → free r R ≡ []

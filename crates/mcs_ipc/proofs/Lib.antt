@@ -1,4 +1,3 @@
 pub mod Facts
-pub mod Composing
 pub mod Rows
 pub mod Freeing

@@ -22,7 +22,8 @@ use Rattle.mcs_book.specs.Pieces.{Act, before}
 use Rattle.mcs_book.specs.Served.{serves_kind}
 use Rattle.mcs_book.specs.Sending.{letter_over, sends, queues, send_by, send_over}
 use Rattle.mcs_book.specs.Receiving.{receive_by, receive_over, reply_at, receive_on, free, receive_message}
-use Rattle.mcs_book.specs.Table.{row, wakes, outcome_of, does}
+use Rattle.mcs_book.specs.Table.{row, wakes, does}
+use Rattle.mcs_book.proofs.TableLaws.{does-refused, does-acts}
 use Rattle.mcs_ipc.specs.declared.checks.Receiving.{Receiving}
 use Rattle.mcs_ipc.specs.Rows.{kinded, writable, readable, with_reply, sendable, receivable, send_act, receive_act}
 
@@ -107,15 +108,6 @@ row-receive R core t a r = ap (λ reply. capability R t a >>= λ c. need (serves
     go : (m n : Checked Cap) → (m >>= λ c. need (serves_kind c.obj.kind) WrongKind >> receive_by c.obj.kind R t c (seconds n) true) ≡ acted (with_reply (readable (kinded Endpoint m)) n) (receive_act t)
     go (Err why) n = bind-err why _
     go (Ok c) n = bind-ok c _ ∙ received-over c.obj.kind R t c n
-
--- what an entry does whose checks were passed, or not
-does-refused : (R : Log) (core : CoreId) (t : ObjId) (entry : Entry) (why : Refusal) → row R core t entry ≡ Err why → does R core t entry ≡ record { answer = Refused why; records = [] }
-unfolding does
-does-refused R core t entry why e = ap (λ m. outcome_of R t m) e
-
-does-acts : (R : Log) (core : CoreId) (t : ObjId) (entry : Entry) (act : Act) → row R core t entry ≡ Ok act → does R core t entry ≡ before (wakes (mode_of R t) t) act R
-unfolding does
-does-acts R core t entry act e = ap (λ m. outcome_of R t m) e
 
 pub send-refused : (R : Log) (core : CoreId) (t : ObjId) (a : ℕ) (message : Content) (why : Refusal) → sendable R t a ≡ Err why → does R core t (Send a message) ≡ record { answer = Refused why; records = [] }
 send-refused R core t a message why e = does-refused R core t (Send a message) why (row-send R core t a message ∙ ap (λ m. acted m (λ x. send_act t x message)) e)

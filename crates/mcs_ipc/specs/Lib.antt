@@ -1,2 +1,2 @@
 pub mod Rows
-pub mod Entering
+pub mod Ready

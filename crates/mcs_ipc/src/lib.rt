@@ -5,7 +5,6 @@
 mod checks;
 mod receiving;
 mod sending;
-mod wake;
 
 pub use receiving::receive;
 pub use sending::send;

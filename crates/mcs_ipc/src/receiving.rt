@@ -14,12 +14,12 @@ ghost use Rattle.mcs_book.specs.Table.{does};
 ghost use Rattle.mcs_state.specs.Numbers.{thread_at};
 ghost use Rattle.mcs_state.specs.Now.{so_far, adds_all, IsNumberOf};
 ghost use Rattle.mcs_state.specs.Tables.{HAND, ROOM};
-ghost use Rattle.mcs_ipc.specs.Entering.{IsEntering, IsReady, OpenStand};
+ghost use Rattle.mcs_state.specs.Entering.{IsEntering, OpenStand};
+ghost use Rattle.mcs_ipc.specs.Ready.{IsReady};
 
 use crate::checks::{Receiving, objects_to_receive};
-use crate::wake::wake;
 use mcs_queues::{Lines, ThreadNo};
-use mcs_state::State;
+use mcs_state::{State, wake};
 use mcs_types::{Answer, Mode, ObjId, Queue};
 
 /// Cancels the receiver that stands with a reply object: it becomes inactive (own).

@@ -15,12 +15,11 @@ ghost use Rattle.mcs_state.specs.Numbers.{thread_at};
 ghost use Rattle.mcs_state.specs.Now.{so_far, adds_all};
 ghost use Rattle.mcs_state.specs.Tables.{HAND, ROOM};
 ghost use Rattle.mcs_ipc.specs.Rows.{send_act};
-ghost use Rattle.mcs_ipc.specs.Entering.{IsEntering, IsActing, OpenStand};
+ghost use Rattle.mcs_state.specs.Entering.{IsEntering, IsActing, OpenStand};
 
 use crate::checks::cap_to_send;
-use crate::wake::wake;
 use mcs_queues::{Lines, ThreadNo};
-use mcs_state::State;
+use mcs_state::{State, wake};
 use mcs_types::{Answer, BOOK_LINES, Cap, Message, Mode, Queue, SendMode};
 
 /// Sends a message that waits for a receiver.

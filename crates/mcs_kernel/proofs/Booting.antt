@@ -1,5 +1,5 @@
 -- What the checks of a line of the boot say of the log.
-use Rattle.std.specs.Prelude.{ℕ, suc, ◌≡◌, ◌<◌, ◌≤◌, ◌+◌, ◌||◌, Bool, true, false, cond, not, nat_lt, List, [], ◌∷◌, ◌++◌, length, Option, Some, None, Result, Ok, Err, IsTrue, IfErr, is_ok, is_none, is_some, unwrap_or, reverse}
+use Rattle.std.specs.Prelude.{ℕ, suc, ◌≡◌, ◌<◌, ◌≤◌, ◌+◌, ◌^◌, ◌||◌, Bool, true, false, cond, not, nat_lt, nat_le, List, [], ◌∷◌, ◌++◌, length, Option, Some, None, Result, Ok, Err, IsTrue, IfErr, is_ok, is_none, is_some, unwrap_or, reverse}
 use Rattle.std.specs.Option.{IfSome}
 use Rattle.std.proofs.lemmas.Grind.{common_steps}
 use Rattle.std.specs.Prelude.{take, drop, get_or}
@@ -20,9 +20,10 @@ use Rattle.mcs_book.specs.Objects.{made_of, makes_kind, was_made, is_alive, numb
 use Rattle.mcs_book.specs.Queues.{queue_of}
 use Rattle.mcs_book.specs.Contexts.{holder_of}
 use Rattle.mcs_book.specs.Checks.{Passed, ◌>>◌, need}
-use Rattle.mcs_book.specs.Boots.{is_object, has_numbers, has_objects, has_room, is_free, boot_check, boot_log, is_context_any, fits_kind, AreFaultless}
+use Rattle.mcs_book.specs.Boots.{is_object, has_numbers, has_objects, has_room, is_free, boot_check, boot_log, is_context_any, fits_guard, fits_kind, AreFaultless}
 use Rattle.mcs_book.specs.Served.{AreServed}
-use Rattle.mcs_book.specs.Lookup.{cnode_cap}
+use Rattle.mcs_book.specs.Guards.{FitsGuard, FitsSlot}
+use Rattle.mcs_types.specs.declared.cap.Guard.{Guard}
 use Rattle.mcs_book.specs.History.{Line, past}
 use Rattle.mcs_state.specs.Now.{Now, so_far}
 use Rattle.mcs_types.specs.declared.record.Mode.{Mode}
@@ -31,7 +32,7 @@ use Rattle.mcs_book.specs.Sound.{Sound, Allowed, IsThere, HoldsNone}
 use Rattle.mcs_book.proofs.Same.{both, parts, same-self, same_kind-equal}
 use Rattle.mcs_book.proofs.Sorted.{In}
 use Rattle.mcs_book.proofs.LineLaws.{standing-made}
-use Rattle.mcs_state.specs.Numbers.{the_cnode, IsName}
+use Rattle.mcs_state.specs.Numbers.{IsName}
 use Rattle.mcs_state.specs.Tables.{ROOM}
 use Rattle.mcs_state.proofs.Naming.{made-serial, there-name}
 use Rattle.mcs_state.proofs.Answering.{none-closed}
@@ -87,16 +88,6 @@ object-there R k o served h =
 -- an object that was made has a name of its kind
 pub object-name : (R : Log) (k : Kind) (o : ObjId) → Sound R → AreServed R → counted (makes_kind k) R ≤ ROOM → is_object R k o ≡ true → IsName k o
 object-name R k o sound served few h = there-name R k o sound few (object-there R k o served h)
-
--- a CNode that was made is the one
-pub cnode-is : (R : Log) (o : ObjId) → Sound R → counted (makes_kind kind.CNode) R ≤ 1 → is_object R kind.CNode o ≡ true → o ≡ the_cnode
-cnode-is R o sound few h =
-    let p : (same_kind o.kind kind.CNode ≡ true) × (was_made R o ≡ true) = parts _ _ h in
-    let kinds : o.kind ≡ kind.CNode = same_kind-equal o.kind kind.CNode p.0 in
-    let s = made-serial R o sound p.1 in
-    let count : counted (makes_kind o.kind) R ≡ counted (makes_kind kind.CNode) R = ap (λ j. counted (makes_kind j) R) kinds in
-    let serial : o.serial ≡ 1 = omega (arith, s.0, s.1, count, few) in
-    λ i. record { kind = kinds i; serial = serial i }
 
 -- the next object of a kind was not made
 pub next-unmade : (R : Log) (k : Kind) → Sound R → was_made R (next_id R k) ≡ true → ⊥
@@ -208,17 +199,25 @@ few-made R k limit served h =
     let lt : nat_lt (counted (makes_kind k) R) limit ≡ true = ap (λ n. nat_lt n limit) (sym (number-made R k served)) ∙ h in
     grind (arith, common_steps, lt)
 
--- a capability whose numbers fit leads to no CNode
-pub fits-leaf : (cap : Cap) → fits_kind cap.obj.kind cap ≡ true → cnode_cap (Some cap) ≡ None
-fits-leaf cap h = go cap.obj.kind refl h
+-- a guard that passes its test fits
+pub fits-test : (g : Guard) → fits_guard g ≡ true → FitsGuard g
+fits-test g h =
+    let p : (nat_le g.bits 63 ≡ true) × (nat_lt g.value (2 ^ g.bits) ≡ true) = parts _ _ h in
+    let bits = p.0 in
+    let value = p.1 in
+    (grind (arith, common_steps, bits), grind (arith, common_steps, value))
+
+-- so does that of a capability whose numbers fit its kind
+pub fits-slot : (cap : Cap) → fits_kind cap.obj.kind cap ≡ true → FitsSlot (Some cap)
+fits-slot cap h = go cap.obj.kind refl h
   where
-    go : (k : Kind) → cap.obj.kind ≡ k → fits_kind k cap ≡ true → cnode_cap (Some cap) ≡ None
-    go kind.CNode e f = absurd cc
-    go kind.Thread e f = rw e refl
-    go kind.Endpoint e f = rw e refl
-    go kind.Notification e f = rw e refl
-    go kind.Reply e f = rw e refl
-    go kind.Context e f = rw e refl
+    go : (k : Kind) → cap.obj.kind ≡ k → fits_kind k cap ≡ true → FitsSlot (Some cap)
+    go kind.CNode e f = rw e (fits-test cap.guard (parts _ _ f).1)
+    go kind.Thread e f = rw e tt
+    go kind.Endpoint e f = rw e tt
+    go kind.Notification e f = rw e tt
+    go kind.Reply e f = rw e tt
+    go kind.Context e f = rw e tt
 
 -- a context that a line names may be given to the thread that the line makes
 pub gives-allowed : (R : Log) (form : Form) (p : Prio) (mode : Mode) (context : Option ObjId) → Sound R → AreServed R → is_context_any R context ≡ true

@@ -22,8 +22,9 @@ use Rattle.mcs_book.specs.History.{Book, IsLegal, log_of, line_limit}
 use Rattle.mcs_book.specs.Ranges.{InRange}
 use Rattle.mcs_book.proofs.Same.{parts, both}
 use Rattle.mcs_book.proofs.EntersLaws.{enters-ready}
+use Rattle.mcs_book.proofs.FirmLaws.{Firm, root-there}
 use Rattle.mcs_state.proofs.Opening.{onto-reverse}
-use Rattle.mcs_ipc.specs.Entering.{IsEntering}
+use Rattle.mcs_state.specs.Entering.{IsEntering}
 use Rattle.mcs_types.specs.declared.entry.Step.{Step}
 use Rattle.mcs_state.specs.Now.{Now, so_far}
 use Rattle.mcs_kernel.specs.declared.fault.EnterFault.TheVariants.{NotRunning, WrongCore, BookFull}
@@ -66,10 +67,10 @@ awake R core t h still = go (same_kind t.kind kind.Thread && was_made R t) (was_
     go false c q o m e k = absurd cc
 
 -- what is known of a thread that enters
-pub enters : (R : Log) (core : CoreId) (t : ObjId) → may_enter R core t ≡ true → IsEntering R t
-enters R core t h =
+pub enters : (R : Log) (core : CoreId) (t : ObjId) → Firm R → may_enter R core t ≡ true → IsEntering R t
+enters R core t firm h =
     let e = enters-ready R core t h in
-    record { there = (e.thread, e.alive); idle = e.stands_none; awake = awake R core t h }
+    record { there = (e.thread, e.alive); idle = e.stands_none; awake = awake R core t h; rooted = λ root is. root-there R t root firm is }
 
 -- the records so far of a state whose hand is empty
 pub so_far-book : (n : Now) (b : Book) → n.hand ≡ [] → n.book ≡ b → so_far n ≡ log_of b

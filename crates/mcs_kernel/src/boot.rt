@@ -103,8 +103,7 @@ impl Boot {
         if !exists_as(&self.state, Kind::CNode, cnode) {
             return None;
         }
-        self.state.is_sound();
-        Some(self.state.radix())
+        Some(self.state.radix(cnode))
     }
 
     /// Nothing is wrong with the boot.

@@ -7,22 +7,25 @@ ghost use Rattle.mcs_book.specs.Each.{EachRecord, EachLine, AfterEachLine};
 ghost use Rattle.mcs_book.specs.Fair.{EndsOpen, IsWholeLine, TakesFirst, TakesInOrder, TakesAlive, SendersAreOpen, AnswersOwed, AnswersWhole, NoneWaitBeside};
 ghost use Rattle.mcs_book.specs.Standing.{may_enter};
 ghost use Rattle.mcs_book.specs.Served.{IsServed};
-ghost use Rattle.mcs_book.specs.Ranges.{InRange};
+ghost use Rattle.mcs_book.specs.Ranges.{InRange, IsPlace, IsWord};
 ghost use Rattle.mcs_book.specs.Table.{does};
 ghost use Rattle.mcs_state.specs.Numbers.{thread_at};
 ghost use Rattle.mcs_state.specs.Now.{so_far, adds_all};
 ghost use Rattle.mcs_state.specs.Tables.{HAND, ROOM};
-ghost use Rattle.mcs_ipc.specs.Entering.{IsEntering, OpenStand};
+ghost use Rattle.mcs_state.specs.Entering.{IsEntering, OpenStand};
 ghost use Rattle.mcs_kernel.specs.declared.fault.EnterFault.{EnterFault};
 ghost use Rattle.mcs_kernel.specs.Faults.{fault_of, entered};
 
 use crate::boot::{Boot, boot_state};
 use crate::fault::EnterFault;
 use mcs_book::Book;
+use mcs_caps::{copy_cap, mint_cap, move_cap};
 use mcs_ipc::{receive, send};
 use mcs_queues::{Lines, ThreadNo};
 use mcs_state::State;
-use mcs_types::{Answer, BOOK_LINES, CoreId, Entry, ObjId, OutOfMemory, Status, Step};
+use mcs_types::{
+    Answer, BOOK_LINES, Badge, CoreId, Entry, ObjId, OutOfMemory, Place, Status, Step,
+};
 use std::alloc::Global;
 use std::marker::Model;
 
@@ -43,6 +46,21 @@ impl<L: Lines> Model for Kernel<L> {
     ghost invariant = { λ k. (k.state.hand ≡ []) × IsLegal k.state.book × (length k.state.book.lines < line_limit) };
 }
 
+/// The numbers of a place are in their ranges.
+fn place_is_in_range(place: &Place)
+    ensures { IsPlace place.now }
+{
+    let _index = place.index;
+    let _depth = place.depth;
+}
+
+/// A badge is a word.
+fn badge_is_in_range(badge: &Badge)
+    ensures { IsWord badge.now.0 }
+{
+    let _badge = badge.0;
+}
+
 /// The numbers of an entry are in their ranges.
 fn is_in_range(entry: &Entry)
     requires { IsServed entry.now }
@@ -56,6 +74,30 @@ fn is_in_range(entry: &Entry)
         Entry::Recv { cap, reply } => {
             let _cap = *cap;
             let _reply = *reply;
+        }
+        Entry::CopyCap {
+            source,
+            dest,
+            rights,
+        } => {
+            place_is_in_range(source);
+            place_is_in_range(dest);
+            let _rights = rights.bits();
+        }
+        Entry::MintCap {
+            source,
+            dest,
+            rights,
+            badge,
+        } => {
+            place_is_in_range(source);
+            place_is_in_range(dest);
+            let _rights = rights.bits();
+            badge_is_in_range(badge);
+        }
+        Entry::MoveCap { source, dest } => {
+            place_is_in_range(source);
+            place_is_in_range(dest);
         }
         _ => unreachable!(),
     }
@@ -75,6 +117,18 @@ fn operate<L: Lines>(state: &mut State<L>, thread: ThreadNo, entry: &Entry) -> A
     match entry {
         Entry::Send { cap, message } => send(state, thread, *cap, message.copy()),
         Entry::Recv { cap, reply } => receive(state, thread, *cap, *reply),
+        Entry::CopyCap {
+            source,
+            dest,
+            rights,
+        } => copy_cap(state, thread, *source, *dest, *rights),
+        Entry::MintCap {
+            source,
+            dest,
+            rights,
+            badge,
+        } => mint_cap(state, thread, *source, *dest, *rights, *badge),
+        Entry::MoveCap { source, dest } => move_cap(state, thread, *source, *dest),
         _ => unreachable!(),
     }
 }

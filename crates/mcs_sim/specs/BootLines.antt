@@ -46,11 +46,13 @@ abbrev pub index_of : Bool → Option ℕ → Result ℕ LineFault
 index_of true n = byte_of n
 index_of false n = Ok 0
 
--- a capability with a badge that fits its type
+-- a capability with a badge and a guard that fit their types
 unfoldable pub cap_of : RawCap → Result Cap LineFault
 cap_of cap = do
   badge ← below word_limit cap.badge
-  Ok (record { obj = object_of cap.kind cap.serial; rights = cap.rights; badge = record { 0 = badge }; guard = record { bits = 0; value = 0 } })
+  bits ← byte_of cap.bits
+  value ← below word_limit cap.value
+  Ok (record { obj = object_of cap.kind cap.serial; rights = cap.rights; badge = record { 0 = badge }; guard = record { bits = bits; value = value } })
 
 -- the line that is spelled, after the log of the lines before it, where each number fits its type; nothing else is tested
 unfoldable pub fitted : Log → RawBootLine → Result BootLine LineFault

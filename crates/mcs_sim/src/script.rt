@@ -113,7 +113,10 @@ fn cap_of(cap: RawCap) -> Result<Cap, LineFault>
         obj: object(cap.kind, cap.serial),
         rights: cap.rights,
         badge: Badge(address(cap.badge)?),
-        guard: Guard { bits: 0, value: 0 },
+        guard: Guard {
+            bits: byte(cap.bits)?,
+            value: address(cap.value)?,
+        },
     })
 }
 

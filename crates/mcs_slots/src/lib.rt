@@ -1,9 +1,11 @@
 //! The capability slots of CNodes.
 #![tactic(auto)]
 
+mod caps;
 mod laws;
 mod page;
 mod slots;
 
+pub use caps::{takes_badge, with_badge, with_mask};
 pub use laws::one_slot_changes;
 pub use slots::{SlotId, Slots};

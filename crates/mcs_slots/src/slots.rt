@@ -1,9 +1,8 @@
 //! The slots of all CNodes, and the calls on them.
-ghost use Rattle.std.specs.Prelude.{◌≡◌, ◌≤◌, ◌↔◌, IsTrue, All, IfOk, OnErr, Some, None, length, map, option_copied};
-ghost use Rattle.mcs_book.specs.Rights.{can_badge};
-ghost use Rattle.mcs_slots.specs.Masks.{masked, badged};
+ghost use Rattle.std.specs.Prelude.{◌≡◌, ◌≤◌, ◌<◌, ◌++◌, ◌∷◌, [], ◌↔◌, IsTrue, All, IfOk, OnOk, OnErr, Some, None, length, map, option_copied};
 ghost use Rattle.mcs_slots.specs.Numbers.{number_of};
 
+use crate::caps::{takes_badge, with_badge, with_mask};
 use crate::page::Page;
 use mcs_types::{Badge, Cap, Kind, ObjId, OutOfMemory, Refusal, Rights};
 use std::alloc::Global;
@@ -33,37 +32,6 @@ impl Model for Slots {
     ghost invariant = { λ s. (length s.pages.items ≤ 64) × ArePages s.pages.items };
 }
 
-/// A capability with those of its rights that a mask has.
-fn with_mask(cap: &Cap, mask: Rights) -> Cap
-    ensures { result ≡ masked cap.now mask }
-{
-    Cap {
-        obj: cap.obj,
-        rights: cap.rights.masked(&mask),
-        badge: cap.badge,
-        guard: cap.guard,
-    }
-}
-
-/// The same with a badge.
-fn with_badge(cap: &Cap, mask: Rights, badge: Badge) -> Cap
-    ensures { result ≡ badged cap.now mask badge }
-{
-    Cap {
-        obj: cap.obj,
-        rights: cap.rights.masked(&mask),
-        badge,
-        guard: cap.guard,
-    }
-}
-
-/// Whether a capability is of a kind that carries a badge.
-fn takes_badge(cap: &Cap) -> bool
-    ensures { result ≡ can_badge cap.now }
-{
-    matches!(cap.obj.kind, Kind::Endpoint | Kind::Notification)
-}
-
 /// Where the page of a CNode stands, if it can be one.
 fn page_number(cnode: ObjId) -> Option<usize>
     ensures { result ≡ number_of cnode }
@@ -90,6 +58,21 @@ impl Slots {
             pages.push_reserved(Page::empty(alloc, *radix)?);
         }
         Ok(Slots { pages })
+    }
+
+    /// Adds an empty CNode of a radix from 1 to 8, where fewer than 64 are there: its serial is the next. Where memory is refused
+    /// the slots are as they were.
+    pub fn add(&mut self, radix: u8) -> Result<(), OutOfMemory>
+        requires few { length self.old < 64 }
+        requires some { 1 ≤ radix }
+        requires small { radix ≤ 8 }
+        ensures added { OnOk result (self.new ≡ self.old ++ empty_page radix ∷ []) }
+        ensures refused { OnErr result (self.new ≡ self.old) }
+    {
+        self.pages.reserve(1)?;
+        let page = Page::empty(*self.pages.allocator(), radix)?;
+        self.pages.push_reserved(page);
+        Ok(())
     }
 
     /// There are 64 CNodes at most, each with a radix from 1 to 8 and with 2 to the radix slots.
@@ -132,7 +115,8 @@ impl Slots {
         }
     }
 
-    fn set(&mut self, slot: SlotId, cap: Option<Cap>)
+    /// Fills a slot that is there with a capability, or empties it. What the slot held is gone.
+    pub fn set(&mut self, slot: SlotId, cap: Option<Cap>)
         requires { HasSlot self.old slot }
         ensures { self.new ≡ filled self.old slot cap }
     {

@@ -16,6 +16,7 @@ use Rattle.mcs_book.specs.Logs.{Log}
 use Rattle.mcs_book.specs.Growing.{growing_open, unless_number}
 use Rattle.mcs_book.specs.Sound.{Allowed, Sound}
 use Rattle.mcs_book.specs.Messages.{letter, open_of}
+use Rattle.mcs_slots.specs.Pages.{Page}
 use Rattle.mcs_state.specs.declared.rows.ThreadRow.{ThreadRow}
 use Rattle.mcs_state.specs.declared.rows.ContextRow.{ContextRow}
 use Rattle.mcs_state.specs.declared.rows.Counts.{Counts}
@@ -57,12 +58,12 @@ gone : (m : ℕ) (s : Letter) → s.number ≡ m → unless_number m (Some s) �
 gone m s e = rw (eq-eqb s.number m e) refl
 
 -- after a message was sent
-pub sent-agrees : {counts : Counts} {threads : List ThreadRow} {letters : List (Option Letter)} {contexts : List ContextRow} {cnode : Option Form} {slots : List (Option Cap)}
+pub sent-agrees : {counts : Counts} {threads : List ThreadRow} {letters : List (Option Letter)} {contexts : List ContextRow} {slots : List Page}
     {line : ℕ → List Waiter} {place : ℕ → Option ℕ} {sent lines : ℕ} {hand R : Log} (i : ℕ) (e : ObjId) (how : SendMode) (badge : Badge) (message : Content)
     → length letters ≡ ROOM → i < ROOM → length hand < HAND → Allowed R (rec.Sent (thread_at i) e how badge message) → how ≡ Plain
-    → Agrees counts threads letters contexts cnode slots line place sent lines hand R
-    → Agrees counts threads (slice_set letters i (Some (record { number = sent; sender = thread_at i; endpoint = e; mode = how; badge = badge; message = message }))) contexts cnode slots line place (sent + 1) lines (rec.Sent (thread_at i) e how badge message ∷ hand) (rec.Sent (thread_at i) e how badge message ∷ R)
-sent-agrees {counts = counts} {threads = threads} {letters = letters} {contexts = contexts} {cnode = cnode} {slots = slots} {line = line} {place = place} {sent = sent} {lines = lines} {hand = hand} {R = R} i e how badge message len lt room ok plain a = record {
+    → Agrees counts threads letters contexts slots line place sent lines hand R
+    → Agrees counts threads (slice_set letters i (Some (record { number = sent; sender = thread_at i; endpoint = e; mode = how; badge = badge; message = message }))) contexts slots line place (sent + 1) lines (rec.Sent (thread_at i) e how badge message ∷ hand) (rec.Sent (thread_at i) e how badge message ∷ R)
+sent-agrees {counts = counts} {threads = threads} {letters = letters} {contexts = contexts} {slots = slots} {line = line} {place = place} {sent = sent} {lines = lines} {hand = hand} {R = R} i e how badge message len lt room ok plain a = record {
   of_counts = a.of_counts;
   of_threads = a.of_threads;
   of_letters = column-set (λ o. o) (λ t. growing_open R (thread_at t)) (λ t. growing_open (rec.Sent (thread_at i) e how badge message ∷ R) (thread_at t)) letters i _ len a.of_letters
@@ -80,12 +81,12 @@ sent-agrees {counts = counts} {threads = threads} {letters = letters} {contexts 
 }
 
 -- after a message was taken
-pub took-agrees : {counts : Counts} {threads : List ThreadRow} {letters : List (Option Letter)} {contexts : List ContextRow} {cnode : Option Form} {slots : List (Option Cap)}
+pub took-agrees : {counts : Counts} {threads : List ThreadRow} {letters : List (Option Letter)} {contexts : List ContextRow} {slots : List Page}
     {line : ℕ → List Waiter} {place : ℕ → Option ℕ} {sent lines : ℕ} {hand R : Log} (i m : ℕ) (p : ObjId) (s : Letter)
     → length letters ≡ ROOM → i < ROOM → length hand < HAND → Allowed R (rec.Took m p) → growing_open R (thread_at i) ≡ Some s → s.number ≡ m
-    → Agrees counts threads letters contexts cnode slots line place sent lines hand R
-    → Agrees counts threads (slice_set letters i None) contexts cnode slots line place sent lines (rec.Took m p ∷ hand) (rec.Took m p ∷ R)
-took-agrees {counts = counts} {threads = threads} {letters = letters} {contexts = contexts} {cnode = cnode} {slots = slots} {line = line} {place = place} {sent = sent} {lines = lines} {hand = hand} {R = R} i m p s len lt room ok h e a = record {
+    → Agrees counts threads letters contexts slots line place sent lines hand R
+    → Agrees counts threads (slice_set letters i None) contexts slots line place sent lines (rec.Took m p ∷ hand) (rec.Took m p ∷ R)
+took-agrees {counts = counts} {threads = threads} {letters = letters} {contexts = contexts} {slots = slots} {line = line} {place = place} {sent = sent} {lines = lines} {hand = hand} {R = R} i m p s len lt room ok h e a = record {
   of_counts = a.of_counts;
   of_threads = a.of_threads;
   of_letters = column-set (λ o. o) (λ t. growing_open R (thread_at t)) (λ t. growing_open (rec.Took m p ∷ R) (thread_at t)) letters i None len a.of_letters
@@ -97,15 +98,15 @@ took-agrees {counts = counts} {threads = threads} {letters = letters} {contexts 
 }
 
 -- the same, where the message is known by its number
-pub took-numbered : {counts : Counts} {threads : List ThreadRow} {letters : List (Option Letter)} {contexts : List ContextRow} {cnode : Option Form} {slots : List (Option Cap)}
+pub took-numbered : {counts : Counts} {threads : List ThreadRow} {letters : List (Option Letter)} {contexts : List ContextRow} {slots : List Page}
     {line : ℕ → List Waiter} {place : ℕ → Option ℕ} {sent lines : ℕ} {hand R : Log} (i m : ℕ) (p : ObjId)
     → length letters ≡ ROOM → i < ROOM → length hand < HAND → Allowed R (rec.Took m p) → IsNumberOf m (open_of R (thread_at i))
-    → Agrees counts threads letters contexts cnode slots line place sent lines hand R
-    → Agrees counts threads (slice_set letters i None) contexts cnode slots line place sent lines (rec.Took m p ∷ hand) (rec.Took m p ∷ R)
-took-numbered {counts = counts} {threads = threads} {letters = letters} {contexts = contexts} {cnode = cnode} {slots = slots} {line = line} {place = place} {sent = sent} {lines = lines} {hand = hand} {R = R} i m p len lt room ok number a =
+    → Agrees counts threads letters contexts slots line place sent lines hand R
+    → Agrees counts threads (slice_set letters i None) contexts slots line place sent lines (rec.Took m p ∷ hand) (rec.Took m p ∷ R)
+took-numbered {counts = counts} {threads = threads} {letters = letters} {contexts = contexts} {slots = slots} {line = line} {place = place} {sent = sent} {lines = lines} {hand = hand} {R = R} i m p len lt room ok number a =
     go (growing_open R (thread_at i)) refl (subst (λ (o : Option Letter). IsNumberOf m o) (open_of-growing R (thread_at i) a.of_log.sound) number)
   where
     go : (o : Option Letter) → growing_open R (thread_at i) ≡ o → IsNumberOf m o
-        → Agrees counts threads (slice_set letters i None) contexts cnode slots line place sent lines (rec.Took m p ∷ hand) (rec.Took m p ∷ R)
+        → Agrees counts threads (slice_set letters i None) contexts slots line place sent lines (rec.Took m p ∷ hand) (rec.Took m p ∷ R)
     go (Some s) is e = took-agrees i m p s len lt room ok is e a
     go None is e = absurd e

@@ -5,7 +5,9 @@ pub mod Lining
 pub mod Lettering
 pub mod Making
 pub mod Naming
-pub mod Bits
 pub mod Opening
 pub mod Answering
+pub mod Slotting
 pub mod Looking
+pub mod Composing
+pub mod Woken

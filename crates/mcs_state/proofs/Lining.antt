@@ -17,6 +17,7 @@ use Rattle.mcs_book.specs.Threads.{prio_of}
 use Rattle.mcs_book.specs.Queues.{queue_of, same_queue}
 use Rattle.mcs_book.specs.Growing.{Waiter as Standing, insert_behind as put_behind, without as all_but, shifted, growing_line}
 use Rattle.mcs_book.specs.Sound.{Allowed, Sound}
+use Rattle.mcs_slots.specs.Pages.{Page}
 use Rattle.mcs_state.specs.declared.rows.ThreadRow.{ThreadRow}
 use Rattle.mcs_state.specs.declared.rows.ContextRow.{ContextRow}
 use Rattle.mcs_state.specs.declared.rows.Counts.{Counts}
@@ -108,16 +109,16 @@ stays : (R : Log) (i p : ℕ) (q : Queue) → Sound R → queue_of R (thread_at 
 stays R i p q sound idle = rw (among-line R (thread_at i) q sound, idle) refl
 
 -- after a thread joined a line
-pub joins-agrees : {counts : Counts} {threads : List ThreadRow} {letters : List (Option Letter)} {contexts : List ContextRow} {cnode : Option Form} {slots : List (Option Cap)}
+pub joins-agrees : {counts : Counts} {threads : List ThreadRow} {letters : List (Option Letter)} {contexts : List ContextRow} {slots : List Page}
     {line : ℕ → List Waiter} {place : ℕ → Option ℕ} {sent lines : ℕ} {hand R : Log} {line' : ℕ → List Waiter} {place' : ℕ → Option ℕ} (i p : ℕ) (k : Queue) (reply : Option ObjId) (r : ThreadRow) (done : Bool)
     → length threads ≡ ROOM → i < ROOM → r ≡ slice_index_or threads i r → length hand < HAND → Allowed R (rec.Joins (thread_at i) k reply)
     → IsLineName k → p ≡ r.priority.0
     → done ≡ (nat_lt i ROOM && nat_lt (line_number k) LINES && is_none (place i))
     → ((m : ℕ) → line' m ≡ (if done && (line_number k == m) then insert_behind (record { thread = i; priority = p }) (line m) else line m))
     → ((u : ℕ) → place' u ≡ (if done && (i == u) then Some (line_number k) else place u))
-    → Agrees counts threads letters contexts cnode slots line place sent lines hand R
-    → Agrees counts (slice_set threads i (record r { queue = Some k; reply = reply })) letters contexts cnode slots line' place' sent lines (rec.Joins (thread_at i) k reply ∷ hand) (rec.Joins (thread_at i) k reply ∷ R)
-joins-agrees {counts = counts} {threads = threads} {letters = letters} {contexts = contexts} {cnode = cnode} {slots = slots} {line = line} {place = place} {sent = sent} {lines = lines} {hand = hand} {R = R} {line' = line'} {place' = place'} i p k reply r done len lt rs room ok name ps is joined placed a =
+    → Agrees counts threads letters contexts slots line place sent lines hand R
+    → Agrees counts (slice_set threads i (record r { queue = Some k; reply = reply })) letters contexts slots line' place' sent lines (rec.Joins (thread_at i) k reply ∷ hand) (rec.Joins (thread_at i) k reply ∷ R)
+joins-agrees {counts = counts} {threads = threads} {letters = letters} {contexts = contexts} {slots = slots} {line = line} {place = place} {sent = sent} {lines = lines} {hand = hand} {R = R} {line' = line'} {place' = place'} i p k reply r done len lt rs room ok name ps is joined placed a =
     let prio : p ≡ prio_of R (thread_at i) = ps ∙ ap (λ (q : ThreadRow). q.priority.0) rs ∙ a.of_threads.priority i r lt in
     record {
       of_counts = a.of_counts;
@@ -130,14 +131,14 @@ joins-agrees {counts = counts} {threads = threads} {letters = letters} {contexts
     }
 
 -- after a thread left its line
-pub parts-agrees : {counts : Counts} {threads : List ThreadRow} {letters : List (Option Letter)} {contexts : List ContextRow} {cnode : Option Form} {slots : List (Option Cap)}
+pub parts-agrees : {counts : Counts} {threads : List ThreadRow} {letters : List (Option Letter)} {contexts : List ContextRow} {slots : List Page}
     {line : ℕ → List Waiter} {place : ℕ → Option ℕ} {sent lines : ℕ} {hand R : Log} {line' : ℕ → List Waiter} {place' : ℕ → Option ℕ} (i : ℕ) (k : Queue) (r : ThreadRow)
     → length threads ≡ ROOM → i < ROOM → r ≡ slice_index_or threads i r → length hand < HAND → Allowed R (rec.Parts (thread_at i) k)
     → ((m : ℕ) → line' m ≡ without i (line m))
     → ((u : ℕ) → place' u ≡ (if i == u then None else place u))
-    → Agrees counts threads letters contexts cnode slots line place sent lines hand R
-    → Agrees counts (slice_set threads i (record r { queue = None })) letters contexts cnode slots line' place' sent lines (rec.Parts (thread_at i) k ∷ hand) (rec.Parts (thread_at i) k ∷ R)
-parts-agrees {counts = counts} {threads = threads} {letters = letters} {contexts = contexts} {cnode = cnode} {slots = slots} {line = line} {place = place} {sent = sent} {lines = lines} {hand = hand} {R = R} {line' = line'} {place' = place'} i k r len lt rs room ok gone placed a = record {
+    → Agrees counts threads letters contexts slots line place sent lines hand R
+    → Agrees counts (slice_set threads i (record r { queue = None })) letters contexts slots line' place' sent lines (rec.Parts (thread_at i) k ∷ hand) (rec.Parts (thread_at i) k ∷ R)
+parts-agrees {counts = counts} {threads = threads} {letters = letters} {contexts = contexts} {slots = slots} {line = line} {place = place} {sent = sent} {lines = lines} {hand = hand} {R = R} {line' = line'} {place' = place'} i k r len lt rs room ok gone placed a = record {
   of_counts = a.of_counts;
   of_threads = left threads _ _ _ _ _ i r len lt rs a.of_threads;
   of_letters = a.of_letters;
@@ -148,12 +149,12 @@ parts-agrees {counts = counts} {threads = threads} {letters = letters} {contexts
 }
 
 -- after a thread that stands in no line got a priority
-pub prio-agrees : {counts : Counts} {threads : List ThreadRow} {letters : List (Option Letter)} {contexts : List ContextRow} {cnode : Option Form} {slots : List (Option Cap)}
+pub prio-agrees : {counts : Counts} {threads : List ThreadRow} {letters : List (Option Letter)} {contexts : List ContextRow} {slots : List Page}
     {line : ℕ → List Waiter} {place : ℕ → Option ℕ} {sent lines : ℕ} {hand R : Log} (i : ℕ) (p : Prio) (r : ThreadRow)
     → length threads ≡ ROOM → i < ROOM → r ≡ slice_index_or threads i r → length hand < HAND → Allowed R (rec.Prio (thread_at i) p) → queue_of R (thread_at i) ≡ None
-    → Agrees counts threads letters contexts cnode slots line place sent lines hand R
-    → Agrees counts (slice_set threads i (record r { priority = p })) letters contexts cnode slots line place sent lines (rec.Prio (thread_at i) p ∷ hand) (rec.Prio (thread_at i) p ∷ R)
-prio-agrees {counts = counts} {threads = threads} {letters = letters} {contexts = contexts} {cnode = cnode} {slots = slots} {line = line} {place = place} {sent = sent} {lines = lines} {hand = hand} {R = R} i p r len lt rs room ok idle a = record {
+    → Agrees counts threads letters contexts slots line place sent lines hand R
+    → Agrees counts (slice_set threads i (record r { priority = p })) letters contexts slots line place sent lines (rec.Prio (thread_at i) p ∷ hand) (rec.Prio (thread_at i) p ∷ R)
+prio-agrees {counts = counts} {threads = threads} {letters = letters} {contexts = contexts} {slots = slots} {line = line} {place = place} {sent = sent} {lines = lines} {hand = hand} {R = R} i p r len lt rs room ok idle a = record {
   of_counts = a.of_counts;
   of_threads = ranked threads _ _ _ _ _ i p r len lt rs a.of_threads;
   of_letters = a.of_letters;

@@ -1,13 +1,14 @@
 -- The tables of a state in which nothing is made, and after the records in hand moved to the book.
-use Rattle.std.specs.Prelude.{ℕ, ◌≡◌, ◌<◌, ◌≤◌, ◌*◌, ◌∷◌, List, [], map, length, slice_index_or, Option, Some, None}
+use Rattle.std.specs.Prelude.{ℕ, ◌≡◌, ◌<◌, ◌≤◌, ◌*◌, ◌∷◌, List, [], map, length, slice_index_or, Option, Some, None, unwrap_or}
 use Rattle.std.proofs.Common.{refl, ap, sym, ◌∙◌, arith, append_assoc}
-use Rattle.mcs_types.specs.declared.cap.Cap.{Cap}
-use Rattle.mcs_types.specs.declared.record.Form.{Form}
+use Rattle.mcs_types.specs.declared.id.ObjId.{ObjId}
 use Rattle.mcs_types.specs.declared.record.Letter.{Letter}
 use Rattle.mcs_types.specs.declared.record.Rec.{Rec}
 use Rattle.mcs_types.specs.Waiters.{Waiter}
 use Rattle.mcs_book.specs.Logs.{Log, counted}
 use Rattle.mcs_book.specs.Messages.{is_sent}
+use Rattle.mcs_slots.specs.Numbers.{number_of}
+use Rattle.mcs_slots.specs.Pages.{Page, page_of, page_radix, page_slot, radix_of, slot_at}
 use Rattle.mcs_state.specs.declared.rows.ThreadRow.{ThreadRow}
 use Rattle.mcs_state.specs.declared.rows.ContextRow.{ContextRow}
 use Rattle.mcs_state.specs.declared.rows.Counts.{Counts}
@@ -37,10 +38,22 @@ none-at [] i d h lt = absurd (omega (arith, lt))
 none-at (x ∷ xs) zero d h lt = h.0
 none-at (x ∷ xs) (suc i) d h lt = none-at xs i d h.1 (omega (arith, lt))
 
-pub blank-agrees : (line : ℕ → List Waiter) (place : ℕ → Option ℕ) (letters : List (Option Letter)) (slots : List (Option Cap)) (R : Log) → R ≡ []
-    → length letters ≡ ROOM → AreNone letters → length slots ≡ ROOM → AreNone slots → ((k : ℕ) → line k ≡ []) → ((u : ℕ) → place u ≡ None)
-    → Agrees (record { cnodes = 0; threads = 0; endpoints = 0; notifications = 0; replies = 0; contexts = 0 }) (replicate ROOM blank_thread) letters (replicate ROOM blank_context) None slots line place 0 0 [] R
-blank-agrees line place letters slots R none letters_len blank slots_len unfilled empty nowhere = rw none (record {
+-- there is no page
+none-page : (n : Option ℕ) → page_of [] n ≡ None
+none-page None = refl
+none-page (Some n) = refl
+
+-- so there is no radix, and nothing is in a slot
+none-radix : (c : ObjId) → unwrap_or (radix_of [] c) 0 ≡ 0
+none-radix c = ap (λ o. unwrap_or (page_radix o) 0) (none-page (number_of c))
+
+none-slot : (c : ObjId) (i : ℕ) → slot_at [] c i ≡ None
+none-slot c i = ap (λ o. page_slot o i) (none-page (number_of c))
+
+pub blank-agrees : (line : ℕ → List Waiter) (place : ℕ → Option ℕ) (letters : List (Option Letter)) (R : Log) → R ≡ []
+    → length letters ≡ ROOM → AreNone letters → ((k : ℕ) → line k ≡ []) → ((u : ℕ) → place u ≡ None)
+    → Agrees (record { cnodes = 0; threads = 0; endpoints = 0; notifications = 0; replies = 0; contexts = 0 }) (replicate ROOM blank_thread) letters (replicate ROOM blank_context) [] line place 0 0 [] R
+blank-agrees line place letters R none letters_len blank empty nowhere = rw none (record {
   of_counts = record {
     cnodes = refl;
     threads = refl;
@@ -68,8 +81,9 @@ blank-agrees line place letters slots R none letters_len blank slots_len unfille
     holder = λ i d lt. ap (λ q. q.holder) (get_or-replicate ROOM i blank_context d lt);
   };
   of_slots = record {
-    form_is = refl;
-    slots_are = λ i d lt. none-at slots i d unfilled (omega (arith, lt, slots_len));
+    pages = refl;
+    radices_are = λ c. none-radix c;
+    slots_are = λ c i. none-slot c i;
   };
   of_lines = record {
     lines = λ q good. sym (ap (λ vs. map standing vs) (empty (line_number q)));
@@ -85,11 +99,11 @@ blank-agrees line place letters slots R none letters_len blank slots_len unfille
 })
 
 -- the records in hand are those of a log that moved elsewhere
-pub moved-agrees : {counts : Counts} {threads : List ThreadRow} {letters : List (Option Letter)} {contexts : List ContextRow} {cnode : Option Form} {slots : List (Option Cap)}
+pub moved-agrees : {counts : Counts} {threads : List ThreadRow} {letters : List (Option Letter)} {contexts : List ContextRow} {slots : List Page}
     {line : ℕ → List Waiter} {place : ℕ → Option ℕ} {sent lines : ℕ} {hand R : Log} (lines' : ℕ) (R' : Log)
     → R' ≡ R → sent ≤ HAND * lines'
-    → Agrees counts threads letters contexts cnode slots line place sent lines hand R
-    → Agrees counts threads letters contexts cnode slots line place sent lines' [] R'
+    → Agrees counts threads letters contexts slots line place sent lines hand R
+    → Agrees counts threads letters contexts slots line place sent lines' [] R'
 moved-agrees lines' R' e few a = rw e (record {
   of_counts = a.of_counts;
   of_threads = a.of_threads;

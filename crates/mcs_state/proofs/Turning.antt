@@ -15,6 +15,7 @@ use Rattle.mcs_book.specs.Logs.{Log, counted, given, same}
 use Rattle.mcs_book.specs.Sound.{Allowed}
 use Rattle.mcs_book.specs.Messages.{is_sent}
 use Rattle.mcs_book.specs.Served.{IsServedRecord}
+use Rattle.mcs_slots.specs.Pages.{Page}
 use Rattle.mcs_state.specs.declared.rows.ThreadRow.{ThreadRow}
 use Rattle.mcs_state.specs.declared.rows.ContextRow.{ContextRow}
 use Rattle.mcs_state.specs.declared.rows.Counts.{Counts}
@@ -49,12 +50,12 @@ turned rows forms prios modes queues replies i m r len lt rs a =
     }
 
 -- after a mode was set
-pub turns-agrees : {counts : Counts} {threads : List ThreadRow} {letters : List (Option Letter)} {contexts : List ContextRow} {cnode : Option Form} {slots : List (Option Cap)}
+pub turns-agrees : {counts : Counts} {threads : List ThreadRow} {letters : List (Option Letter)} {contexts : List ContextRow} {slots : List Page}
     {line : ℕ → List Waiter} {place : ℕ → Option ℕ} {sent lines : ℕ} {hand R : Log} (i : ℕ) (m : Mode) (r : ThreadRow)
     → length threads ≡ ROOM → i < ROOM → r ≡ slice_index_or threads i r → length hand < HAND → Allowed R (rec.Turns (thread_at i) m)
-    → Agrees counts threads letters contexts cnode slots line place sent lines hand R
-    → Agrees counts (slice_set threads i (record r { mode = m })) letters contexts cnode slots line place sent lines (rec.Turns (thread_at i) m ∷ hand) (rec.Turns (thread_at i) m ∷ R)
-turns-agrees {counts = counts} {threads = threads} {letters = letters} {contexts = contexts} {cnode = cnode} {slots = slots} {line = line} {place = place} {sent = sent} {lines = lines} {hand = hand} {R = R} i m r len lt rs room ok a = record {
+    → Agrees counts threads letters contexts slots line place sent lines hand R
+    → Agrees counts (slice_set threads i (record r { mode = m })) letters contexts slots line place sent lines (rec.Turns (thread_at i) m ∷ hand) (rec.Turns (thread_at i) m ∷ R)
+turns-agrees {counts = counts} {threads = threads} {letters = letters} {contexts = contexts} {slots = slots} {line = line} {place = place} {sent = sent} {lines = lines} {hand = hand} {R = R} i m r len lt rs room ok a = record {
   of_counts = a.of_counts;
   of_threads = turned threads _ _ _ _ _ i m r len lt rs a.of_threads;
   of_letters = a.of_letters;

@@ -1,4 +1,4 @@
 pub mod Numbers
 pub mod Now
 pub mod Tables
-pub mod Addresses
+pub mod Entering

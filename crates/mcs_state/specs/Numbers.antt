@@ -21,10 +21,6 @@ thread_at = object_at kind.Thread
 abbrev pub context_at : ℕ → ObjId
 context_at = object_at kind.Context
 
--- the one CNode
-abbrev pub the_cnode : ObjId
-the_cnode = object_at kind.CNode 0
-
 -- the thread of a number, if there is one
 abbrev pub thread_of : Option ThreadNo → Option ObjId
 thread_of None = None

@@ -1,5 +1,5 @@
 -- How the tables agree with the records.
-use Rattle.std.specs.Prelude.{ℕ, zero, suc, Bool, cond, ◌&&◌, ◌≡◌, ◌<◌, ◌≤◌, ◌+◌, ◌*◌, List, [], ◌∷◌, length, slice_index_or, Option, Some, None, map}
+use Rattle.std.specs.Prelude.{ℕ, zero, suc, Bool, cond, ◌&&◌, ◌≡◌, ◌<◌, ◌≤◌, ◌+◌, ◌*◌, List, [], ◌∷◌, length, slice_index_or, Option, Some, None, map, unwrap_or}
 use Rattle.mcs_types.specs.declared.id.ObjId.{ObjId}
 use Rattle.mcs_types.specs.declared.id.Kind.{Kind}
 use Rattle.mcs_types.specs.declared.id.Kind.TheVariants as kind
@@ -13,6 +13,8 @@ use Rattle.mcs_types.specs.Waiters.{Waiter}
 use Rattle.mcs_book.specs.Logs.{Log, counted, is_just}
 use Rattle.mcs_book.specs.Objects.{form_of, makes_kind}
 use Rattle.mcs_book.specs.Slots.{slot}
+use Rattle.mcs_book.specs.Lookup.{radix_kept}
+use Rattle.mcs_slots.specs.Pages.{Page, radix_of, slot_at}
 use Rattle.mcs_book.specs.Threads.{prio_of, mode_of}
 use Rattle.mcs_book.specs.Queues.{queue_of, reply_with, receives_at}
 use Rattle.mcs_book.specs.Messages.{next_message, is_sent}
@@ -20,12 +22,12 @@ use Rattle.mcs_book.specs.Contexts.{holder_of}
 use Rattle.mcs_book.specs.Growing.{Waiter as Standing, growing_line, growing_open}
 use Rattle.mcs_book.specs.Served.{AreServed}
 use Rattle.mcs_book.specs.Sound.{Sound}
-use Rattle.mcs_state.specs.Numbers.{thread_at, context_at, the_cnode, IsLineName, line_number, number_of_line, standing}
+use Rattle.mcs_state.specs.Numbers.{thread_at, context_at, IsLineName, line_number, number_of_line, standing}
 use Rattle.mcs_state.specs.declared.rows.ThreadRow.{ThreadRow}
 use Rattle.mcs_state.specs.declared.rows.ContextRow.{ContextRow}
 use Rattle.mcs_state.specs.declared.rows.Counts.{Counts}
 
--- how many objects of most kinds, and slots, there may be
+-- how many objects of most kinds there may be
 abbrev pub ROOM : ℕ
 ROOM = 256
 
@@ -58,7 +60,7 @@ pub record CountsAgree (counts : Counts) (made : Kind → ℕ) : Type 0 where
   pub notifications : counts.notifications ≡ made kind.Notification
   pub replies : counts.replies ≡ made kind.Reply
   pub contexts : counts.contexts ≡ made kind.Context
-  pub few_cnodes : counts.cnodes ≤ 1
+  pub few_cnodes : counts.cnodes ≤ 64
   pub few_threads : counts.threads ≤ ROOM
   pub few_endpoints : counts.endpoints ≤ ROOM
   pub few_notifications : counts.notifications ≤ ROOM
@@ -104,10 +106,11 @@ pub record ContextsAgree (rows : List ContextRow) (forms : ℕ → Option Form) 
   pub form : (i : ℕ) (d : ContextRow) → i < ROOM → (slice_index_or rows i d).form ≡ forms i
   pub holder : (i : ℕ) (d : ContextRow) → i < ROOM → (slice_index_or rows i d).holder ≡ holders (context_at i)
 
--- the slots of the CNode, and its form
-pub record SlotsAgree (form : Option Form) (slots : List (Option Cap)) (form_said : Option Form) (said : ℕ → Option Cap) : Type 0 where
-  pub form_is : form ≡ form_said
-  pub slots_are : (i : ℕ) (d : Option Cap) → i < ROOM → slice_index_or slots i d ≡ said i
+-- the pages of the CNodes: as many as were made, with their radices and what their slots hold
+pub record SlotsAgree (slots : List Page) (made : ℕ) (radices : ObjId → ℕ) (said : ObjId → ℕ → Option Cap) : Type 0 where
+  pub pages : length slots ≡ made
+  pub radices_are : (c : ObjId) → unwrap_or (radix_of slots c) 0 ≡ radices c
+  pub slots_are : (c : ObjId) (i : ℕ) → slot_at slots c i ≡ said c i
 
 -- the lines, and the line of each thread
 pub record LinesAgree (line : ℕ → List Waiter) (place : ℕ → Option ℕ) (waiters : Queue → List Standing) (queues : ObjId → Option Queue) : Type 0 where
@@ -123,12 +126,12 @@ pub record LogAgrees (sent lines : ℕ) (hand R : Log) : Type 0 where
   pub sound : Sound R
 
 -- each table agrees with all records so far
-pub record Agrees (counts : Counts) (threads : List ThreadRow) (letters : List (Option Letter)) (contexts : List ContextRow) (cnode : Option Form) (slots : List (Option Cap))
+pub record Agrees (counts : Counts) (threads : List ThreadRow) (letters : List (Option Letter)) (contexts : List ContextRow) (slots : List Page)
     (line : ℕ → List Waiter) (place : ℕ → Option ℕ) (sent lines : ℕ) (hand R : Log) : Type 0 where
   pub of_counts : CountsAgree counts (λ k. counted (makes_kind k) R)
   pub of_threads : ThreadsAgree threads (λ i. form_of R (thread_at i)) (λ t. prio_of R t) (λ t. mode_of R t) (λ t. queue_of R t) (λ t. reply_with R t)
   pub of_letters : LettersAgree letters (λ x. growing_open R x)
   pub of_contexts : ContextsAgree contexts (λ i. form_of R (context_at i)) (λ s. holder_of R s)
-  pub of_slots : SlotsAgree cnode slots (form_of R the_cnode) (λ i. slot R the_cnode i)
+  pub of_slots : SlotsAgree slots (counted (makes_kind kind.CNode) R) (λ c. radix_kept (form_of R c)) (λ c i. slot R c i)
   pub of_lines : LinesAgree line place (λ q. growing_line R q) (λ t. queue_of R t)
   pub of_log : LogAgrees sent lines hand R

@@ -1,16 +1,13 @@
 //! The rows of the tables.
 ghost use Rattle.std.specs.Prelude.{◌≡◌, ◌≤◌, length, Option, None, option_and_then};
 ghost use Rattle.mcs_book.specs.Logs.{is_just};
-ghost use Rattle.mcs_types.specs.declared.entry.Refusal.{Refusal};
 ghost use Rattle.mcs_book.specs.Threads.{root_kept};
-ghost use Rattle.mcs_book.specs.Checks.{needed};
-ghost use Rattle.mcs_book.specs.Lookup.{radix_kept};
 ghost use Rattle.mcs_book.specs.Standing.{is_on_core, status_by};
 ghost use Rattle.mcs_book.specs.Queues.{receives_at};
 ghost use Rattle.mcs_state.specs.Tables.{count_in, last_below, receives_with, is_held_by, blank_thread, blank_context};
 
 use crate::numbers::is_same_kind;
-use mcs_types::{Cap, CoreId, Form, Kind, Mode, ObjId, Prio, Queue, Refusal, Status};
+use mcs_types::{Cap, CoreId, Form, Kind, Mode, ObjId, Prio, Queue, Status};
 
 /// What the table has on a thread.
 #[derive(Clone, Copy)]
@@ -128,16 +125,6 @@ pub fn last_held(rows: &[ContextRow], count: u16, thread: ObjId) -> Option<u16>
     None
 }
 
-/// The radix that a CNode's form has.
-pub fn radix_in(form: Option<Form>) -> u8
-    ensures { result ≡ radix_kept form }
-{
-    match form {
-        Some(Form::Slots { radix }) => radix,
-        _ => 0,
-    }
-}
-
 /// The root that a thread's form has.
 pub fn root_in(form: Option<Form>) -> Option<Cap>
     ensures { result ≡ option_and_then root_kept form }
@@ -145,16 +132,5 @@ pub fn root_in(form: Option<Form>) -> Option<Cap>
     match form {
         Some(Form::Runner { root, .. }) => Some(root),
         _ => None,
-    }
-}
-
-/// The capability that is there, or that it is missing.
-#[tactic(auto, unfolding(mcs_book::specs::Checks::needed))]
-pub fn cap_in(slot: Option<Cap>) -> Result<Cap, Refusal>
-    ensures { result ≡ needed slot Refusal.Missing }
-{
-    match slot {
-        None => Err(Refusal::Missing),
-        Some(cap) => Ok(cap),
     }
 }

@@ -1,5 +1,5 @@
 //! The tables, and a primitive for each kind of record.
-ghost use Rattle.std.specs.Prelude.{ℕ, ◌≡◌, ◌<◌, ◌≤◌, ◌+◌, ◌∷◌, ◌++◌, [], IfOk, OnOk, length, vec_len, vec_capacity, None, Option, replicate, reverse, slice_index_or};
+ghost use Rattle.std.specs.Prelude.{ℕ, ◌≡◌, ◌<◌, ◌≤◌, ◌+◌, ◌∷◌, ◌++◌, [], IfOk, OnOk, OnErr, length, vec_len, vec_capacity, None, Option, replicate, reverse, slice_index_or};
 ghost use Rattle.mcs_types.specs.declared.record.Rec.{Rec};
 ghost use Rattle.mcs_types.specs.declared.record.Form.{Form};
 ghost use Rattle.mcs_types.specs.declared.record.SendMode.{SendMode};
@@ -8,12 +8,12 @@ ghost use Rattle.mcs_book.specs.Logs.{counted, onto};
 ghost use Rattle.mcs_book.specs.Boots.{boot_line};
 ghost use Rattle.mcs_book.specs.History.{log_of};
 ghost use Rattle.mcs_book.specs.Objects.{next_id, makes_kind};
-ghost use Rattle.mcs_book.specs.Lookup.{cnode_cap};
+ghost use Rattle.mcs_book.specs.Guards.{FitsSlot};
 ghost use Rattle.mcs_book.specs.Served.{IsServedForm};
 ghost use Rattle.mcs_book.specs.Queues.{queue_of};
 ghost use Rattle.mcs_book.specs.Messages.{open_of};
 ghost use Rattle.mcs_book.specs.Sound.{Allowed};
-ghost use Rattle.mcs_state.specs.Numbers.{thread_at, context_at, the_cnode};
+ghost use Rattle.mcs_state.specs.Numbers.{thread_at, context_at};
 ghost use Rattle.mcs_state.specs.Now.{so_far, adds, IsNumberOf};
 ghost use Rattle.mcs_state.specs.Tables.{HAND, ROOM, AreNone, blank_thread, blank_context};
 
@@ -23,6 +23,7 @@ use crate::numbers::{ContextNo, context_id, line_no, object_id, thread_id};
 use crate::rows::{ContextRow, Counts, ThreadRow};
 use mcs_book::Book;
 use mcs_queues::{Lines, ThreadNo};
+use mcs_slots::{SlotId, Slots};
 use mcs_types::{
     Answer, BOOK_LINES, Badge, BootLine, Cap, CoreId, Form, Kind, LINE_RECORDS, Letter, Message,
     Mode, OBJECTS, ObjId, OutOfMemory, Prio, Queue, Rec, SendMode, Step,
@@ -39,8 +40,7 @@ pub struct State<L: Lines> {
     threads: Vec<ThreadRow>,
     letters: Vec<Option<Letter>>,
     contexts: Vec<ContextRow>,
-    cnode: Option<Form>,
-    slots: Vec<Option<Cap>>,
+    slots: Slots,
     sent: u32,
     lines: L,
 }
@@ -55,9 +55,9 @@ impl<L: Lines> Model for State<L> {
 
     ghost view = { λ s. record { book = s.book.book; hand = reverse s.hand.items; boot_room = s.book.boot_room; room = s.book.room } };
 
-    ghost invariant = { λ s. (HAND ≤ vec_capacity s.hand) × (vec_len s.threads ≡ ROOM) × (vec_len s.letters ≡ ROOM) × (vec_len s.contexts ≡ ROOM) × (vec_len s.slots ≡ ROOM)
+    ghost invariant = { λ s. (HAND ≤ vec_capacity s.hand) × (vec_len s.threads ≡ ROOM) × (vec_len s.letters ≡ ROOM) × (vec_len s.contexts ≡ ROOM)
         × (L.thread_room s.lines ≡ ROOM) × (L.line_room s.lines ≡ LINES)
-        × Agrees s.counts s.threads.items s.letters.items s.contexts.items s.cnode s.slots.items (L.line s.lines) (L.place s.lines) s.sent (length s.book.book.lines) (reverse s.hand.items) (reverse s.hand.items ++ log_of s.book.book) };
+        × Agrees s.counts s.threads.items s.letters.items s.contexts.items s.slots (L.line s.lines) (L.place s.lines) s.sent (length s.book.book.lines) (reverse s.hand.items) (reverse s.hand.items ++ log_of s.book.book) };
 }
 
 /// Notes a record, for which there is room.
@@ -145,8 +145,7 @@ impl<L: Lines> State<L> {
             threads: blank_threads(alloc)?,
             letters: nothing(alloc)?,
             contexts: blank_contexts(alloc)?,
-            cnode: None,
-            slots: nothing(alloc)?,
+            slots: Slots::new(alloc, &[])?,
             sent: 0,
             lines: L::new(alloc, OBJECTS, 3 * OBJECTS)?,
         })
@@ -252,18 +251,21 @@ impl<L: Lines> State<L> {
         self.counts.replies += 1;
     }
 
-    /// Makes the CNode.
-    pub fn makes_cnode(&mut self, radix: u8)
+    /// Makes a CNode with empty slots. Where memory is refused, nothing changes.
+    pub fn makes_cnode(&mut self, radix: u8) -> Result<(), OutOfMemory>
         requires allowed { Allowed (so_far self.old) (Rec.Made (next_id (so_far self.old) Kind.CNode) (Form.Slots radix)) }
-        requires few { counted (makes_kind Kind.CNode) (so_far self.old) < 1 }
+        requires served { IsServedForm (Form.Slots radix) }
+        requires few { counted (makes_kind Kind.CNode) (so_far self.old) < 64 }
         requires room { length self.old.hand < HAND }
-        ensures { self.new ≡ adds (Rec.Made (next_id (so_far self.old) Kind.CNode) (Form.Slots radix)) self.old }
+        ensures made { OnOk result (self.new ≡ adds (Rec.Made (next_id (so_far self.old) Kind.CNode) (Form.Slots radix)) self.old) }
+        ensures refused { OnErr result (self.new ≡ self.old) }
     {
+        self.slots.add(radix)?;
         let object = object_id(Kind::CNode, self.counts.cnodes);
         let form = Form::Slots { radix };
-        self.cnode = Some(form_again(&form));
         self.counts.cnodes += 1;
         note(&mut self.hand, Rec::Made { object, form });
+        Ok(())
     }
 
     /// Makes a scheduling context of a core.
@@ -299,15 +301,16 @@ impl<L: Lines> State<L> {
         note(&mut self.hand, Rec::Made { object, form });
     }
 
-    /// A slot of the CNode holds a capability now, or none.
-    pub fn fills(&mut self, index: u8, cap: Option<Cap>)
-        requires allowed { Allowed (so_far self.old) (Rec.Slot the_cnode index cap) }
-        requires leaf { cnode_cap cap ≡ None }
+    /// A slot holds a capability now, or none.
+    pub fn fills(&mut self, at: SlotId, cap: Option<Cap>)
+        requires allowed { Allowed (so_far self.old) (Rec.Slot at.cnode at.index cap) }
+        requires guard { FitsSlot cap }
         requires room { length self.old.hand < HAND }
-        ensures { self.new ≡ adds (Rec.Slot the_cnode index cap) self.old }
+        ensures { self.new ≡ adds (Rec.Slot at.cnode at.index cap) self.old }
     {
-        let cnode = object_id(Kind::CNode, 0);
-        self.slots[index as usize] = cap_again(&cap);
+        self.slots.are_pages();
+        self.slots.set(at, cap_again(&cap));
+        let SlotId { cnode, index } = at;
         note(&mut self.hand, Rec::Slot { cnode, index, cap });
     }
 

@@ -83,11 +83,14 @@ fn faults_are_told(rt: HostRuntime) {
         Err(BootFault::Number)
     );
     assert_eq!(rt;
-        boot.add(thread(object(Kind::CNode, 2), None)),
+        boot.add(thread(object(Kind::CNode, 65), None)),
         Err(BootFault::NoObject)
     );
+    for _ in 0..63u32 {
+        assert_eq!(rt; boot.add(BootLine::CNode { radix: 1 }), Ok(()));
+    }
     assert_eq!(rt;
-        boot.add(BootLine::CNode { radix: 8 }),
+        boot.add(BootLine::CNode { radix: 1 }),
         Err(BootFault::Limit)
     );
     assert_eq!(rt; boot.add(slot(CNODE)), Err(BootFault::Taken));

@@ -106,7 +106,7 @@ impl<'a> Read for Pieces<'a> {
 
 #[test]
 fn each_read_fails_in_turn(rt: HostRuntime) -> Result<(), Fail> {
-    let (steps, trace) = RUNS[0];
+    let (_, steps, trace) = RUNS[0];
     let script = format!(in rt.alloc(); "{BOOT}{steps}")?;
     // so many pieces, and the read that tells the end
     let reads = script.len().div_ceil(50) as u32 + 1;
@@ -165,7 +165,7 @@ fn write_to(alloc: Global, script: &[u8], writer: &mut Calls) -> Result<(), SimF
 
 #[test]
 fn each_write_fails_in_turn(rt: HostRuntime) -> Result<(), Fail> {
-    let (steps, trace) = RUNS[0];
+    let (_, steps, trace) = RUNS[0];
     let script = format!(in rt.alloc(); "{BOOT}{steps}")?;
     let want = format!(in rt.alloc(); "{BOOT}{trace}")?;
     for writes_left in 0..10_000 {

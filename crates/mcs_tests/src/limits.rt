@@ -6,7 +6,7 @@ use std::test::Fail;
 
 #[test]
 fn a_script_cut_anywhere_is_read_or_faulty(rt: HostRuntime) -> Result<(), Fail> {
-    let (steps, _) = RUNS[0];
+    let (_, steps, _) = RUNS[0];
     let script = format!(in rt.alloc(); "{BOOT}{steps}")?;
     for end in 0..=script.len() {
         let (result, _) = run(rt.alloc(), &script.as_bytes()[..end])?;
@@ -36,26 +36,35 @@ fn lines_have_at_most_4096_bytes(rt: HostRuntime) -> Result<(), Fail> {
 }
 
 /// Lines behind the boot with a number at the end of its range.
-const AT_END: [&str; 9] = [
+const AT_END: [&str; 14] = [
     "0 t1 send 18446744073709551615 0",
     "0 t1 send 1 4503599627370495",
     "0 t1 send 1 0 18446744073709551615 2 3 4",
     "0 t1 recv 18446744073709551615 8",
     "0 t1 recv 2 18446744073709551615",
+    "0 t1 copy 18446744073709551615 255 0 0 rwgp",
+    "0 t1 mint 0 0 18446744073709551615 255 - 18446744073709551615",
+    "0 t1 move 18446744073709551615 255 18446744073709551615 255",
     "cnode 1",
+    "cnode 8",
     "context 0",
     "thread 255 255 c1 63 9223372036854775807 stop -",
     "slot c1 31 e1 rwgp 18446744073709551615",
+    "slot c1 31 c1 63 9223372036854775807",
 ];
 
 /// The same with a number over its range.
-const OVER_END: [&str; 15] = [
+const OVER_END: [&str; 22] = [
     "0 t1 send 18446744073709551616 0",
     "0 t1 send 1 4503599627370496",
     "0 t1 send 1 0 18446744073709551616",
     "0 t1 send 1 0 1 2 3 4 5",
     "0 t1 recv 18446744073709551616 8",
     "0 t1 recv 2 18446744073709551616",
+    "0 t1 copy 18446744073709551616 64 0 64 -",
+    "0 t1 copy 0 256 0 64 -",
+    "0 t1 mint 0 64 0 64 - 18446744073709551616",
+    "0 t1 move 0 64 0 256",
     "1 t1 recv 2 8",
     "cnode 0",
     "cnode 9",
@@ -65,6 +74,9 @@ const OVER_END: [&str; 15] = [
     "thread 0 0 c1 64 0 stop -",
     "thread 0 0 c1 2 4 stop -",
     "slot c1 31 e1 rwgp 18446744073709551616",
+    "slot c1 32 e1 rwgp 0",
+    "slot c1 31 c1 64 0",
+    "slot c1 31 c1 2 4",
 ];
 
 #[test]
@@ -72,16 +84,7 @@ fn numbers_are_read_to_their_end(rt: HostRuntime) -> Result<(), Fail> {
     for line in AT_END {
         let script = format!(in rt.alloc(); "{BOOT}{line}\n")?;
         let (result, _) = run(rt.alloc(), script.as_bytes())?;
-        let is_limit = line == "cnode 1";
-        let fault = SimFault::Script {
-            line: 37,
-            why: LineFault::Limit,
-        };
-        assert_eq!(rt;
-            result,
-            if is_limit { Err(fault) } else { Ok(()) },
-            "{line}"
-        );
+        assert_eq!(rt; result, Ok(()), "{line}");
     }
     for line in OVER_END {
         let script = format!(in rt.alloc(); "{BOOT}{line}\n")?;

@@ -45,10 +45,37 @@ slot c1 24 s4
 slot c1 25 s5
 ";
 
-/// Steps after the boot, and what the trace has after it.
-pub const RUNS: [(&str, &str); 5] = [
+/// Two CNodes that are the roots of a thread each, with guards of two sizes.
+const TWO_ROOTS: &str = "\
+cores 1
+cnode 4
+cnode 8
+endpoint
+context 0
+context 0
+thread 10 255 c1 60 0 run s1
+thread 10 255 c2 4 0 run s2
+slot c1 2 e1 w 5
+slot c2 1 e1 w 6
+";
+
+/// A CNode behind a slot of another.
+const TWO_LEVELS: &str = "\
+cores 1
+cnode 4
+cnode 8
+endpoint
+context 0
+thread 10 255 c1 52 0 run s1
+slot c1 1 c2 0 0
+slot c2 5 e1 w 3
+";
+
+/// A boot, steps after it, and what the trace has after it.
+pub const RUNS: [(&str, &str, &str); 7] = [
     // A message that waits for its receiver.
     (
+        BOOT,
         "\
 0 t1 send 1 7 5 6
 0 t2 recv 2 8
@@ -67,6 +94,7 @@ pub const RUNS: [(&str, &str); 5] = [
     ),
     // A receiver that waits for its message.
     (
+        BOOT,
         "\
 0 t2 recv 2 8
 0 t1 send 1 7 5 6
@@ -85,6 +113,7 @@ pub const RUNS: [(&str, &str); 5] = [
     ),
     // The greatest priority goes first, and then who came first.
     (
+        BOOT,
         "\
 0 t1 send 1 1
 0 t2 send 1 2
@@ -134,12 +163,16 @@ pub const RUNS: [(&str, &str); 5] = [
 + turns t3 running
 ",
     ),
-    // Capabilities without the right to receive, and of the wrong kind.
+    // Capabilities without the right to receive, and of the wrong kind; a mint, and one over a badge.
     (
+        BOOT,
         "\
 0 t1 recv 1 8
 0 t1 recv 2 1
 0 t1 recv 2 10
+0 t1 mint 2 64 26 64 w 9
+0 t1 mint 26 64 27 64 w 3
+0 t1 copy 2 64 26 64 r
 ",
         "\
 0 t1 recv 1 8
@@ -148,10 +181,18 @@ pub const RUNS: [(&str, &str); 5] = [
 = refused 4
 0 t1 recv 2 10
 = refused 1
+0 t1 mint 2 64 26 64 w 9
+= done
++ slot c1 26 e1 w 9
+0 t1 mint 26 64 27 64 w 3
+= refused 12
+0 t1 copy 2 64 26 64 r
+= refused 7
 ",
     ),
     // A receiver that takes the reply object of another.
     (
+        BOOT,
         "\
 0 t2 recv 2 8
 0 t3 recv 2 8
@@ -165,6 +206,82 @@ pub const RUNS: [(&str, &str); 5] = [
 + parts t2 e1.recv
 + turns t2 inactive
 + joins t3 e1.recv r1
+",
+    ),
+    // Copies, mints and moves with each of their refusals, and an address that is longer than its path.
+    (
+        TWO_ROOTS,
+        "\
+0 t1 send 3 1
+0 t1 send 19 1
+0 t1 copy 2 65 5 64 w
+0 t1 copy 2 63 5 64 w
+0 t1 copy 2 64 5 64 w
+0 t1 copy 2 64 5 64 w
+0 t1 copy 6 64 7 64 w
+0 t1 move 5 64 6 64
+0 t1 mint 6 64 7 64 w 1
+0 t1 copy 6 64 7 64 -
+0 t1 send 7 1
+0 t2 send 4503599627370503 1
+",
+        "\
+0 t1 send 3 1
+= refused 1
+0 t1 send 19 1
+= refused 3
+0 t1 copy 2 65 5 64 w
+= refused 6
+0 t1 copy 2 63 5 64 w
+= refused 2
+0 t1 copy 2 64 5 64 w
+= done
++ slot c1 5 e1 w 5
+0 t1 copy 2 64 5 64 w
+= refused 7
+0 t1 copy 6 64 7 64 w
+= refused 8
+0 t1 move 5 64 6 64
+= done
++ slot c1 6 e1 w 5
++ slot c1 5 -
+0 t1 mint 6 64 7 64 w 1
+= refused 12
+0 t1 copy 6 64 7 64 -
+= done
++ slot c1 7 e1 - 5
+0 t1 send 7 1
+= refused 5
+0 t2 send 4503599627370503 1
+= waits
++ sent m0 t2 e1 send 6 1
++ joins t2 e1.send
+",
+    ),
+    // Lookup through two levels, and a copy of a capability to a CNode.
+    (
+        TWO_LEVELS,
+        "\
+0 t1 send 256 1
+0 t1 send 517 1
+0 t1 mint 1 56 3 56 - 0
+0 t1 copy 1 56 2 56 -
+0 t1 send 517 1
+",
+        "\
+0 t1 send 256 1
+= refused 1
+0 t1 send 517 1
+= refused 1
+0 t1 mint 1 56 3 56 - 0
+= refused 4
+0 t1 copy 1 56 2 56 -
+= done
++ slot c1 2 c2 0 0
+0 t1 send 517 1
+= waits
++ sent m0 t1 e1 send 3 1
++ joins t1 e1.send
 ",
     ),
 ];
@@ -182,11 +299,11 @@ pub fn run<R: Read + Drop>(
 
 #[test]
 fn runs_give_their_traces(rt: HostRuntime) -> Result<(), Fail> {
-    for (steps, trace) in RUNS {
-        let script = format!(in rt.alloc(); "{BOOT}{steps}")?;
+    for (boot, steps, trace) in RUNS {
+        let script = format!(in rt.alloc(); "{boot}{steps}")?;
         let (result, written) = run(rt.alloc(), script.as_bytes())?;
         assert_eq!(rt; result, Ok(()));
-        let want = format!(in rt.alloc(); "{BOOT}{trace}")?;
+        let want = format!(in rt.alloc(); "{boot}{trace}")?;
         assert_eq!(rt; written.as_slice(), want.as_bytes());
     }
     Ok(())

@@ -12,14 +12,13 @@ use Rattle.mcs_types.specs.declared.id.Kind.TheVariants.{Thread}
 use Rattle.std.specs.Prelude.{map}
 use Rattle.mcs_text.specs.declared.key.Key.TheVariants as k
 use Rattle.mcs_text.specs.Keys.{key_text, entry_key}
-use Rattle.mcs_types.specs.Views.{Content}
-use Rattle.mcs_text.specs.BootLines.{rights_of, rights_at}
+use Rattle.mcs_text.specs.RightsReading.{rights_of, rights_at}
 use Rattle.mcs_text.specs.Spelling.{then_text}
 use Rattle.mcs_text.specs.Reading.{name, name_at, is_serial, end_at, below, made, recv_at, send_at, kept_after, content, entry_at, step_of, words_of, value_after, value, all_digits, is_digit, is_unpadded, is_number, number, number_at, word_limit}
 use Rattle.std.proofs.lemmas.List.Folds.{flat_map-map}
 use Rattle.std.proofs.lemmas.Grind.{flat_map-append}
 use Rattle.mcs_text.specs.Spelling.{token_text, line_text, rights_text}
-use Rattle.mcs_text.specs.Table.{Form, form_text, form_line, entry_form}
+use Rattle.mcs_text.specs.Table.{Form, form_text, form_line}
 use Rattle.mcs_text.proofs.WordLaws.{small-is}
 
 -- std's numerals are the words that are read as numbers
@@ -67,7 +66,8 @@ made-is count n le = rw (le-leb n count le) refl
 
 -- ---- words
 
-pub NoSpace : List ℕ → Type 0
+-- no byte is a space
+unfoldable pub NoSpace : List ℕ → Type 0
 NoSpace [] = Unit {0}
 NoSpace (b ∷ bs) = (eqb b 32 ≡ false) × NoSpace bs
 
@@ -135,24 +135,6 @@ form_text-words f =
     let b = flat_map-map then_text decimal f.numbers in
     let c = flat_map-append then_text (map token_text f.others) (map decimal f.numbers) in
     rw (c, a, b) (ap (λ (l : List ℕ). l ++ 10 ∷ []) (append_assoc (token_text f.first) _ _))
-
-pub recv_line_again : (cores threads c s a r : ℕ) → c < cores → c < 2 ^ 64 → 0 < s → s ≤ threads → s < 2 ^ 64 → a < 2 ^ 64 → r < 2 ^ 64
-    → step_of cores threads (form_line (entry_form (record { core = record { 0 = c }; thread = record { kind = Thread; serial = s }; entry = Recv a r }) (Recv a r))) ≡ Ok (record { core = record { 0 = c }; thread = record { kind = Thread; serial = s }; entry = Recv a r })
-unfolding NoSpace
-recv_line_again cores threads c s a r hc fits some hs fits' ha hr =
-    step_again cores threads c s (Recv a r) (key_text k.Recv) (decimal a ∷ decimal r ∷ []) hc fits some hs fits' ((refl, (refl, (refl, (refl, tt))))) (NoSpace-decimal a ha, (NoSpace-decimal r hr, tt)) (recv_again a r ha hr)
-
-NoSpace-map : (ms : List ℕ) → AllByRecursion (λ m. m < 2 ^ 64) ms → AllByRecursion NoSpace (map decimal ms)
-NoSpace-map [] hs = tt
-NoSpace-map (m ∷ ms) hs = (NoSpace-decimal m hs.0, NoSpace-map ms hs.1)
-
-pub send_line_again : (cores threads c s a : ℕ) (m : Content) → c < cores → c < 2 ^ 64 → 0 < s → s ≤ threads → s < 2 ^ 64 → a < 2 ^ 64
-    → m.label < 2 ^ 52 → AllByRecursion (λ w. w < 2 ^ 64) m.words → length m.words ≤ 4
-    → step_of cores threads (form_line (entry_form (record { core = record { 0 = c }; thread = record { kind = Thread; serial = s }; entry = Send a m }) (Send a m))) ≡ Ok (record { core = record { 0 = c }; thread = record { kind = Thread; serial = s }; entry = Send a m })
-unfolding NoSpace
-send_line_again cores threads c s a m hc fits some hs fits' ha hl hms le =
-    step_again cores threads c s (Send a m) (key_text k.Send) (decimal a ∷ decimal m.label ∷ map decimal m.words) hc fits some hs fits' ((refl, (refl, (refl, (refl, tt)))))
-    (NoSpace-decimal a ha, (NoSpace-decimal m.label (omega arith), NoSpace-map m.words hms)) (send_again a m.label m.words ha hl hms le)
 
 pub rights_again : (r : ℕ) (ws : List (List ℕ)) → r < 16 → rights_at (rights_text r ∷ ws) ≡ Ok (r, ws)
 unfolding rights_at rights_of rights_text

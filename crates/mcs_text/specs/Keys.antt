@@ -74,7 +74,7 @@ boot_keys = k.Cores ∷ k.CNode ∷ k.Endpoint ∷ k.Notification ∷ k.Reply �
 
 -- the keys that begin an entry; the others are not served yet
 abbrev pub entry_keys : List Key
-entry_keys = k.Send ∷ k.Recv ∷ []
+entry_keys = k.Send ∷ k.Recv ∷ k.Copy ∷ k.Mint ∷ k.Move ∷ []
 
 -- the key of a line of the boot that begins with this word
 unfoldable pub boot_key : List ℕ → Option Key

@@ -5,12 +5,15 @@ use Rattle.mcs_text.specs.declared.fault.LineFault.{LineFault}
 use Rattle.mcs_text.specs.declared.fault.LineFault.TheVariants.{Form, Number, NoObject}
 use Rattle.mcs_types.specs.Views.{Content}
 use Rattle.mcs_types.specs.declared.entry.Entry.{Entry}
-use Rattle.mcs_types.specs.declared.entry.Entry.TheVariants.{Send, Recv}
+use Rattle.mcs_types.specs.declared.entry.Entry.TheVariants.{Send, Recv, CopyCap, MintCap, MoveCap}
+use Rattle.mcs_types.specs.declared.cap.Place.{Place}
 use Rattle.mcs_types.specs.declared.id.Kind.TheVariants.{Thread}
 use Rattle.mcs_text.specs.declared.key.Key.{Key}
 use Rattle.mcs_text.specs.declared.key.Key.TheVariants as k
 use Rattle.mcs_types.specs.declared.entry.Step.{Step}
+use Rattle.mcs_text.specs.declared.entries.RawPlace.{RawPlace}
 use Rattle.mcs_text.specs.Keys.{entry_key}
+use Rattle.mcs_text.specs.RightsReading.{rights_at}
 
 -- a reading, and then another that goes on with what the first gave
 infixl 10 ◌>>=◌
@@ -161,10 +164,61 @@ recv_at ws = do
   r ← below word_limit reply.0
   Ok (Recv a r)
 
+-- a place as it is spelled: an index and a depth
+unfoldable pub place_at : List (List ℕ) → Result (RawPlace × List (List ℕ)) LineFault
+place_at ws = do
+  index ← number_at ws
+  depth ← number_at index.1
+  Ok (record { index = index.0; depth = depth.0 }, depth.1)
+
+-- a place whose numbers are in their ranges
+unfoldable pub place_of : RawPlace → Result Place LineFault
+place_of p = do
+  index ← below word_limit p.index
+  depth ← below 256 p.depth
+  Ok (record { index = index; depth = depth })
+
+-- a copy: the places of its source and its destination, and rights
+unfoldable pub copy_at : List (List ℕ) → Result Entry LineFault
+copy_at ws = do
+  source ← place_at ws
+  dest ← place_at source.1
+  rights ← rights_at dest.1
+  end_at rights.1
+  s ← place_of source.0
+  d ← place_of dest.0
+  Ok (CopyCap s d rights.0)
+
+-- a mint: a copy with a badge
+unfoldable pub mint_at : List (List ℕ) → Result Entry LineFault
+mint_at ws = do
+  source ← place_at ws
+  dest ← place_at source.1
+  rights ← rights_at dest.1
+  badge ← number_at rights.1
+  end_at badge.1
+  s ← place_of source.0
+  d ← place_of dest.0
+  b ← below word_limit badge.0
+  Ok (MintCap s d rights.0 (record { 0 = b }))
+
+-- a move: the places of its source and its destination
+unfoldable pub move_at : List (List ℕ) → Result Entry LineFault
+move_at ws = do
+  source ← place_at ws
+  dest ← place_at source.1
+  end_at dest.1
+  s ← place_of source.0
+  d ← place_of dest.0
+  Ok (MoveCap s d)
+
 -- the fields of an entry behind its key
 abbrev pub entry_of : Option Key → List (List ℕ) → Result Entry LineFault
 entry_of (Some k.Send) ws = send_at ws
 entry_of (Some k.Recv) ws = recv_at ws
+entry_of (Some k.Copy) ws = copy_at ws
+entry_of (Some k.Mint) ws = mint_at ws
+entry_of (Some k.Move) ws = move_at ws
 entry_of _ ws = Err Form
 
 -- an entry
@@ -191,4 +245,7 @@ step_of cores threads line = do
 abbrev pub IsRead : Entry → Type 0
 IsRead (Send a m) = Unit {0}
 IsRead (Recv a r) = Unit {0}
+IsRead (CopyCap source dest rights) = Unit {0}
+IsRead (MintCap source dest rights badge) = Unit {0}
+IsRead (MoveCap source dest) = Unit {0}
 IsRead _ = ⊥

@@ -150,7 +150,7 @@ const BOOT_KEYS: [Key; 8] = [
     Key::Slot,
 ];
 
-const ENTRY_KEYS: [Key; 2] = [Key::Send, Key::Recv];
+const ENTRY_KEYS: [Key; 5] = [Key::Send, Key::Recv, Key::Copy, Key::Mint, Key::Move];
 
 /// The key of a line of the boot that begins with this word, if there is one.
 #[tactic(auto, unfolding(crate::specs::Keys::boot_key))]

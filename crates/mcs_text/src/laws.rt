@@ -1,22 +1,22 @@
 //! Laws over the texts.
-ghost use Rattle.std.specs.Prelude.{◌≡◌, ◌<◌, ◌≤◌, ◌^◌, ℕ, List, ◌∷◌, Ok, length};
-ghost use Rattle.std.specs.List.{AllByRecursion};
-ghost use Rattle.mcs_types.specs.Views.{Content};
-ghost use Rattle.mcs_types.specs.declared.entry.Entry.TheVariants.{Send, Recv};
+ghost use Rattle.std.specs.Prelude.{◌≡◌, ◌<◌, ◌≤◌, ◌^◌, ℕ, List, ◌∷◌, Ok};
+ghost use Rattle.mcs_types.specs.declared.boot.BootLine.{BootLine};
+ghost use Rattle.mcs_types.specs.declared.entry.Step.{Step};
+ghost use Rattle.mcs_types.specs.declared.id.Kind.TheVariants.{Thread};
 ghost use Rattle.mcs_text.specs.Spelling.{rights_text};
-ghost use Rattle.mcs_text.specs.BootLines.{rights_at};
-ghost use Rattle.mcs_text.specs.Laws.{step_with, IsReadAgain};
+ghost use Rattle.mcs_text.specs.Reading.{IsRead};
+ghost use Rattle.mcs_text.specs.RightsReading.{rights_at};
+ghost use Rattle.mcs_text.specs.Laws.{FitsEntry, FitsLine, IsReadAgain, IsLineReadAgain};
 
-/// The line of a receive is read as that step.
-pub fn recv_is_read_again()
-    ensures { (cores threads c s a r : ℕ) → c < cores → c < 2 ^ 64 → 0 < s → s ≤ threads → s < 2 ^ 64 → a < 2 ^ 64 → r < 2 ^ 64
-        → IsReadAgain cores threads (step_with c s (Recv a r)) }
+/// The line of a step is read as that step, for each entry that is read.
+pub fn step_is_read_again()
+    ensures { (cores threads : ℕ) (s : Step) → IsRead s.entry → FitsEntry s.entry → s.core.0 < cores → s.core.0 < 2 ^ 64
+        → s.thread.kind ≡ Thread → 0 < s.thread.serial → s.thread.serial ≤ threads → s.thread.serial < 2 ^ 64 → IsReadAgain cores threads s }
 {}
 
-/// The line of a send is read as that step.
-pub fn send_is_read_again()
-    ensures { (cores threads c s a : ℕ) (m : Content) → c < cores → c < 2 ^ 64 → 0 < s → s ≤ threads → s < 2 ^ 64 → a < 2 ^ 64
-        → m.label < 2 ^ 52 → AllByRecursion (λ w. w < 2 ^ 64) m.words → length m.words ≤ 4 → IsReadAgain cores threads (step_with c s (Send a m)) }
+/// A line of the boot is read as it is spelled.
+pub fn boot_line_is_read_again()
+    ensures { (line : BootLine) → FitsLine line → IsLineReadAgain line }
 {}
 
 /// The text of rights is read as these rights.

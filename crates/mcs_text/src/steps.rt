@@ -1,40 +1,13 @@
 //! The line of a step.
 ghost use Rattle.std.specs.Prelude.{◌≡◌, ◌<◌, Ok, Err, Some, None, [], IfOk};
-ghost use Rattle.mcs_text.specs.Reading.{Gives, IsRead, send_at, recv_at, entry_of, entry_at, step_of};
+ghost use Rattle.mcs_text.specs.Reading.{Gives, IsRead, entry_of, entry_at, step_of};
 
+use crate::entries::{read_copy, read_mint, read_move, read_recv, read_send};
 use crate::fault::LineFault;
-use crate::fields::{address, at_end, in_range, made_serial, next_name, next_number};
+use crate::fields::{in_range, made_serial, next_name, next_number};
 use crate::key::{Key, find_entry_key};
-use crate::message::{message_of, rest_numbers};
 use crate::words::Words;
 use mcs_types::{CoreId, Entry, Kind, ObjId, Step};
-
-#[tactic(auto, unfolding(crate::specs::Reading::recv_at))]
-fn read_recv(words: &mut Words<'_>) -> Result<Entry, LineFault>
-    ensures read { Gives (λ e. e) result (recv_at words.old) }
-    ensures served { IfOk result IsRead }
-{
-    let cap = next_number(words)?;
-    let reply = next_number(words)?;
-    at_end(words)?;
-    Ok(Entry::Recv {
-        cap: address(cap)?,
-        reply: address(reply)?,
-    })
-}
-
-#[tactic(auto, unfolding(crate::specs::Reading::send_at))]
-fn read_send(words: &mut Words<'_>) -> Result<Entry, LineFault>
-    ensures read { Gives (λ e. e) result (send_at words.old) }
-    ensures served { IfOk result IsRead }
-{
-    let cap = next_number(words)?;
-    let label = next_number(words)?;
-    let kept = rest_numbers(words)?;
-    let cap = address(cap)?;
-    let message = message_of(label, kept)?;
-    Ok(Entry::Send { cap, message })
-}
 
 #[tactic(auto, unfolding(crate::specs::Reading::entry_at))]
 fn read_entry(words: &mut Words<'_>) -> Result<Entry, LineFault>
@@ -45,6 +18,9 @@ fn read_entry(words: &mut Words<'_>) -> Result<Entry, LineFault>
     match find_entry_key(word) {
         Some(Key::Send) => read_send(words),
         Some(Key::Recv) => read_recv(words),
+        Some(Key::Copy) => read_copy(words),
+        Some(Key::Mint) => read_mint(words),
+        Some(Key::Move) => read_move(words),
         _ => Err(LineFault::Form),
     }
 }

@@ -7,11 +7,9 @@ ghost use Rattle.mcs_state.specs.Numbers.{context_at, IsName};
 ghost use Rattle.mcs_state.specs.Now.{so_far};
 
 use mcs_queues::Lines;
+use mcs_slots::SlotId;
 use mcs_state::{ContextNo, State, is_same_kind};
-use mcs_types::{BootFault, BootLine, Cap, Guard, Kind, OBJECTS, ObjId, Prio, RADIX};
-
-/// How many CNodes a boot may have so far.
-const SERVED_CNODES: u16 = 1;
+use mcs_types::{BootFault, BootLine, CNODES, Cap, Guard, Kind, OBJECTS, ObjId, Prio, RADIX};
 
 /// Whether a serial is one of so many.
 fn is_serial(serial: u32, count: u16) -> bool
@@ -69,7 +67,7 @@ fn kind_fits(cap: Cap) -> bool
     ensures { result ≡ fits_kind cap.obj.kind cap }
 {
     match cap.obj.kind {
-        Kind::CNode => false,
+        Kind::CNode => is_bare(&cap) && guard_fits(cap.guard),
         Kind::Endpoint | Kind::Notification => is_unguarded(&cap),
         Kind::Thread | Kind::Reply | Kind::Context => is_bare(&cap) && is_unguarded(&cap),
     }
@@ -91,8 +89,7 @@ fn index_fits<L: Lines>(state: &State<L>, cnode: ObjId, index: u8) -> bool
     if !exists_as(state, Kind::CNode, cnode) {
         return true;
     }
-    state.is_sound();
-    has_bits(index, state.radix())
+    has_bits(index, state.radix(cnode))
 }
 
 /// Whether the numbers of a line are in their ranges.
@@ -138,7 +135,7 @@ fn is_room<L: Lines>(state: &State<L>, line: &BootLine) -> bool
     ensures { result ≡ has_room (so_far state.now) line.now }
 {
     match *line {
-        BootLine::CNode { .. } => are_fewer(state, Kind::CNode, SERVED_CNODES),
+        BootLine::CNode { .. } => are_fewer(state, Kind::CNode, CNODES),
         BootLine::Endpoint => are_fewer(state, Kind::Endpoint, OBJECTS),
         BootLine::Notification => are_fewer(state, Kind::Notification, OBJECTS),
         BootLine::Reply => are_fewer(state, Kind::Reply, OBJECTS),
@@ -179,10 +176,7 @@ fn place_is_free<L: Lines>(state: &State<L>, line: &BootLine) -> bool
 {
     match *line {
         BootLine::Thread { context, .. } => context_is_free(state, context),
-        BootLine::Slot { index, .. } => {
-            state.is_sound();
-            state.slot(index).is_none()
-        }
+        BootLine::Slot { cnode, index, .. } => state.slot(SlotId { cnode, index }).is_none(),
         _ => true,
     }
 }

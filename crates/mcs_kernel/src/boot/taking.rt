@@ -14,6 +14,7 @@ ghost use Rattle.mcs_state.specs.Tables.{HAND, ROOM};
 
 use super::checks::context_no;
 use mcs_queues::{Lines, ThreadNo};
+use mcs_slots::SlotId;
 use mcs_state::{State, thread_id};
 use mcs_types::{Badge, BootLine, Cap, Guard, Kind, Mode, ObjId, OutOfMemory, Prio, Rights};
 
@@ -74,17 +75,18 @@ fn takes_context<L: Lines>(state: &mut State<L>, thread: ThreadNo, context: Opti
     }
 }
 
-/// Makes the records of a line, which nothing is wrong with.
-fn takes_records<L: Lines>(state: &mut State<L>, line: &BootLine)
+/// Makes the records of a line, which nothing is wrong with; where memory is refused the state is as it was.
+fn takes_records<L: Lines>(state: &mut State<L>, line: &BootLine) -> Result<(), OutOfMemory>
     requires cores { state.old.book.boot.cores ≤ core_limit }
     requires faultless { IsTrue (is_ok (boot_check state.old.book.boot.cores (so_far state.old) line.now)) }
     requires hand { state.old.hand ≡ [] }
-    ensures { state.new ≡ adds_all (boot_line (so_far state.old) line.now) state.old }
+    ensures made { OnOk result (state.new ≡ adds_all (boot_line (so_far state.old) line.now) state.old) }
+    ensures unchanged { OnErr result (state.new ≡ state.old) }
 {
     state.is_sound();
     let _contexts = state.made(Kind::Context);
     match *line {
-        BootLine::CNode { radix } => state.makes_cnode(radix),
+        BootLine::CNode { radix } => state.makes_cnode(radix)?,
         BootLine::Endpoint => state.makes_endpoint(),
         BootLine::Notification => state.makes_notification(),
         BootLine::Reply => state.makes_reply(),
@@ -106,8 +108,9 @@ fn takes_records<L: Lines>(state: &mut State<L>, line: &BootLine)
             );
             takes_context(state, thread, context);
         }
-        BootLine::Slot { index, cap, .. } => state.fills(index, Some(cap)),
+        BootLine::Slot { cnode, index, cap } => state.fills(SlotId { cnode, index }, Some(cap)),
     }
+    Ok(())
 }
 
 /// Takes a line of the boot, which nothing is wrong with: the boot has it, or is as it was.
@@ -121,7 +124,7 @@ pub(crate) fn takes_line<L: Lines>(state: &mut State<L>, line: BootLine) -> Resu
     ensures hand { state.new.hand ≡ [] }
 {
     state.reserve_boot_line()?;
-    takes_records(state, &line);
+    takes_records(state, &line)?;
     state.close_boot_line(line);
     Ok(())
 }

@@ -11,19 +11,21 @@ ghost use Rattle.mcs_book.specs.Messages.{next_message, open_of};
 ghost use Rattle.mcs_book.specs.Contexts.{holder_of, context_of};
 ghost use Rattle.mcs_book.specs.Replies.{receiver_with};
 ghost use Rattle.mcs_book.specs.Standing.{status_of, is_on_core};
-ghost use Rattle.mcs_book.specs.Lookup.{radix_kept, capability};
+ghost use Rattle.mcs_book.specs.Lookup.{radix_kept, capability, slot_named};
+ghost use Rattle.mcs_cspace.specs.Spaces.{named_by};
 ghost use Rattle.mcs_book.specs.Sound.{Sound, IsLineThere};
 ghost use Rattle.mcs_book.specs.Served.{AreServed};
-ghost use Rattle.mcs_state.specs.Numbers.{thread_at, context_at, object_at, the_cnode, thread_of, IsName};
+ghost use Rattle.mcs_state.specs.Numbers.{thread_at, context_at, object_at, thread_of, IsName};
 ghost use Rattle.mcs_state.specs.Now.{so_far};
 ghost use Rattle.mcs_state.specs.Tables.{HAND, ROOM};
 
 use super::State;
-use crate::lookup::slot_index;
 use crate::numbers::{ContextNo, line_no, object_no, thread_named, thread_no};
-use crate::rows::{cap_in, is_on, last_held, last_receiver, radix_in, root_in};
+use crate::rows::{is_on, last_held, last_receiver, root_in};
+use mcs_cspace::{in_range, lookup, lookup_slot, radix_in};
 use mcs_queues::{Lines, ThreadNo};
-use mcs_types::{Cap, CoreId, Form, Kind, Letter, Mode, ObjId, Queue, Refusal, Status};
+use mcs_slots::SlotId;
+use mcs_types::{Cap, CoreId, Kind, Letter, Mode, ObjId, Place, Queue, Refusal, Status};
 
 impl<L: Lines> State<L> {
     /// How many objects of a kind were made.
@@ -66,18 +68,19 @@ impl<L: Lines> State<L> {
         self.contexts[context.0 as usize].holder
     }
 
-    /// The capability in a slot of the CNode.
-    pub fn slot(&self, index: u8) -> Option<Cap>
-        ensures { result ≡ slot (so_far self.now) the_cnode index }
+    /// The capability in a slot, or None where the slot is empty or not there.
+    pub fn slot(&self, at: SlotId) -> Option<Cap>
+        ensures { result ≡ slot (so_far self.now) at.cnode at.index }
     {
-        self.slots[index as usize]
+        self.slots.get(at)
     }
 
-    /// How many bits name a slot of the CNode; 0 where it is not made.
-    pub fn radix(&self) -> u8
-        ensures { result ≡ radix_kept (form_of (so_far self.now) the_cnode) }
+    /// How many bits name a slot of a CNode; 0 where it is not made.
+    pub fn radix(&self, cnode: ObjId) -> u8
+        ensures value { result ≡ radix_kept (form_of (so_far self.now) cnode) }
+        ensures few { result ≤ 8 }
     {
-        radix_in(self.cnode)
+        radix_in(&self.slots, cnode)
     }
 
     /// The open message of a thread.
@@ -89,12 +92,12 @@ impl<L: Lines> State<L> {
         self.letters[thread.0 as usize].as_ref()
     }
 
-    /// Each record was allowed when it was made, and is of a kind that is served; there is at most one CNode.
+    /// Each record was allowed when it was made, and is of a kind that is served; there are 64 CNodes at most.
     pub fn is_sound(&self)
         ensures few { length self.now.hand ≤ HAND }
         ensures sound { Sound (so_far self.now) }
         ensures served { AreServed (so_far self.now) }
-        ensures cnodes { counted (makes_kind Kind.CNode) (so_far self.now) ≤ 1 }
+        ensures cnodes { counted (makes_kind Kind.CNode) (so_far self.now) ≤ 64 }
     {
         let _ = &self.sent;
     }
@@ -161,10 +164,20 @@ impl<L: Lines> State<L> {
     {
         match root_in(self.threads[thread.0 as usize].form) {
             None => Err(Refusal::Missing),
-            Some(root) => match slot_index(root.guard, radix_in(self.cnode), address) {
-                Err(refusal) => Err(refusal),
-                Ok(index) => cap_in(self.slots[index as usize]),
-            },
+            Some(root) => lookup(&self.slots, root, address),
+        }
+    }
+
+    /// The slot that a thread names by an index and a depth: Range for a depth of 0 or above 64, which comes first, and
+    /// GuardMismatch and DepthMismatch where the bits lead to no slot.
+    pub fn slot_named(&self, thread: ThreadNo, place: Place) -> Result<SlotId, Refusal>
+        requires { thread.0 < ROOM }
+        ensures { named_by result ≡ slot_named (so_far self.now) (thread_at thread.0) place }
+    {
+        match root_in(self.threads[thread.0 as usize].form) {
+            None if in_range(place.depth) => Err(Refusal::Missing),
+            None => Err(Refusal::Range),
+            Some(root) => lookup_slot(&self.slots, root, place),
         }
     }
 }

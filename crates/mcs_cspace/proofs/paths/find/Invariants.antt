@@ -1,6 +1,7 @@
 use Rattle.std.proofs.Common.{◌≡◌, ◌≤◌, ◌-◌}
 use Rattle.mcs_book.specs.Lookup.{bits_of, walk}
-use Rattle.mcs_cspace.specs.Spaces.{slots_space, FitsGuard}
+use Rattle.mcs_cspace.specs.Spaces.{slots_space}
+use Rattle.mcs_book.specs.Guards.{FitsGuard}
 use Rattle.mcs_cspace.proofs.paths.find.Given as goal
 
 abbrev pub invariant-loop : goal.invariant-loop

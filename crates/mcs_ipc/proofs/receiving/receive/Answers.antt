@@ -9,9 +9,10 @@ use Rattle.mcs_book.specs.Table.{wakes}
 use Rattle.mcs_state.specs.Numbers.{thread_at}
 use Rattle.mcs_state.specs.Now.{Now, so_far, adds_all}
 use Rattle.mcs_ipc.specs.declared.checks.Receiving.{Receiving}
-use Rattle.mcs_ipc.specs.Entering.{IsReady}
-use Rattle.mcs_ipc.proofs.Facts.{idle, woken, woken-stand, woken-there, receivable-there}
-use Rattle.mcs_ipc.proofs.Composing.{so_far-adds, acts-after, answers-after}
+use Rattle.mcs_ipc.specs.Ready.{IsReady}
+use Rattle.mcs_state.proofs.Woken.{idle, woken, woken-there}
+use Rattle.mcs_ipc.proofs.Facts.{woken-stand, receivable-there}
+use Rattle.mcs_state.proofs.Composing.{so_far-adds, acts-after, answers-after}
 use Rattle.mcs_ipc.proofs.Rows.{receive-refused, receive-does}
 use Rattle.mcs_ipc.proofs.Freeing.{Before, freed-ready}
 use Rattle.mcs_ipc.proofs.receiving.receive.Goals as goal

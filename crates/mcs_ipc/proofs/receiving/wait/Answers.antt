@@ -1,7 +1,7 @@
 use Rattle.mcs_book.specs.Logs.{Log}
 use Rattle.mcs_state.specs.Numbers.{thread_at}
 use Rattle.mcs_state.specs.Now.{so_far}
-use Rattle.mcs_ipc.proofs.Facts.{idle}
+use Rattle.mcs_state.proofs.Woken.{idle}
 use Rattle.mcs_ipc.proofs.receiving.wait.Goals as goal
 
 pub joins-requires-clause-allowed : goal.joins-requires-clause-allowed

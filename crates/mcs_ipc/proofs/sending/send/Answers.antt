@@ -8,9 +8,10 @@ use Rattle.mcs_book.specs.Table.{wakes}
 use Rattle.mcs_state.specs.Numbers.{thread_at}
 use Rattle.mcs_state.specs.Now.{Now, so_far, adds_all}
 use Rattle.mcs_ipc.specs.Rows.{send_act}
-use Rattle.mcs_ipc.specs.Entering.{IsActing, OpenStand}
-use Rattle.mcs_ipc.proofs.Facts.{idle, woken, woken-stand, woken-there, sendable-there}
-use Rattle.mcs_ipc.proofs.Composing.{so_far-adds, acts-after, answers-after}
+use Rattle.mcs_state.specs.Entering.{IsActing, OpenStand}
+use Rattle.mcs_state.proofs.Woken.{idle, woken, woken-there}
+use Rattle.mcs_ipc.proofs.Facts.{woken-stand, sendable-there}
+use Rattle.mcs_state.proofs.Composing.{so_far-adds, acts-after, answers-after}
 use Rattle.mcs_ipc.proofs.Rows.{send-refused, send-acts}
 use Rattle.mcs_ipc.proofs.sending.send.Goals as goal
 

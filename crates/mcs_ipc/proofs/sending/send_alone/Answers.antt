@@ -1,7 +1,8 @@
 use Rattle.mcs_types.specs.declared.record.SendMode.TheVariants as how
 use Rattle.mcs_state.specs.Numbers.{thread_at}
 use Rattle.mcs_state.specs.Now.{so_far}
-use Rattle.mcs_ipc.proofs.Facts.{idle, may-send}
+use Rattle.mcs_state.proofs.Woken.{idle}
+use Rattle.mcs_ipc.proofs.Facts.{may-send}
 use Rattle.mcs_ipc.proofs.sending.send_alone.Goals as goal
 
 pub sends-requires-clause-allowed : goal.sends-requires-clause-allowed

@@ -13,10 +13,10 @@ use Rattle.mcs_book.specs.Lookup.{radix_kept}
 use Rattle.mcs_book.specs.Served.{IsServedForm}
 use Rattle.mcs_book.specs.Sound.{Allowed}
 use Rattle.mcs_book.proofs.Same.{parts}
-use Rattle.mcs_state.specs.Numbers.{thread_at, the_cnode}
+use Rattle.mcs_state.specs.Numbers.{thread_at}
 use Rattle.mcs_state.specs.Now.{Now, so_far, adds, adds_all}
 use Rattle.mcs_state.specs.Tables.{ROOM}
-use Rattle.mcs_kernel.proofs.Booting.{AreHeld, held, made-alive, object-there, cnode-is, few-made, fits-leaf, gives-allowed, context-name}
+use Rattle.mcs_kernel.proofs.Booting.{AreHeld, held, made-alive, object-there, few-made, fits-test, fits-slot, gives-allowed, context-name}
 use Rattle.mcs_kernel.proofs.boot.taking.takes_records.Goals as goal
 use Rattle.std.specs.Option.{IfSome}
 
@@ -27,11 +27,20 @@ makes_cnode-requires-clause-allowed g c =
     let few : nat_le c.in-CNode.radix 8 ≡ true = (parts (nat_le 1 c.in-CNode.radix) (nat_le c.in-CNode.radix 8) h.numbers).1 in
     (refl, grind (arith, common_steps, few))
 
+pub makes_cnode-requires-clause-served : goal.makes_cnode-requires-clause-served
+makes_cnode-requires-clause-served g c =
+    let R : Log = so_far c.args.state.now in
+    let h : AreHeld c.args.state.now.book.boot.cores R (boot.CNode c.in-CNode.radix) = subst (λ l. AreHeld c.args.state.now.book.boot.cores R l) c.in-CNode.is (held c.args.state.now.book.boot.cores R c.args.line.now c.requires.faultless) in
+    let p : (nat_le 1 c.in-CNode.radix ≡ true) × (nat_le c.in-CNode.radix 8 ≡ true) = parts _ _ h.numbers in
+    let some = p.0 in
+    let few = p.1 in
+    (grind (arith, common_steps, some), grind (arith, common_steps, few))
+
 pub makes_cnode-requires-clause-few : goal.makes_cnode-requires-clause-few
 makes_cnode-requires-clause-few g c =
     let R : Log = so_far c.args.state.now in
     let h : AreHeld c.args.state.now.book.boot.cores R (boot.CNode c.in-CNode.radix) = subst (λ l. AreHeld c.args.state.now.book.boot.cores R l) c.in-CNode.is (held c.args.state.now.book.boot.cores R c.args.line.now c.requires.faultless) in
-    few-made R kind.CNode 1 c.is_sound.ensures.served h.room
+    few-made R kind.CNode 64 c.is_sound.ensures.served h.room
 
 pub makes_endpoint-requires-clause-few : goal.makes_endpoint-requires-clause-few
 makes_endpoint-requires-clause-few g c =
@@ -69,13 +78,9 @@ pub takes_thread-thread-requires-clause-served : goal.takes_thread-thread-requir
 takes_thread-thread-requires-clause-served g c =
     let R : Log = so_far c.args.state.now in
     let h : AreHeld c.args.state.now.book.boot.cores R (boot.Thread c.in-Thread.priority c.in-Thread.maximum c.in-Thread.root c.in-Thread.guard c.in-Thread.runs c.in-Thread.context) = subst (λ l. AreHeld c.args.state.now.book.boot.cores R l) c.in-Thread.is (held c.args.state.now.book.boot.cores R c.args.line.now c.requires.faultless) in
-    let there = (parts _ _ h.objects).0 in
     let d = c.in-Thread.guard in
     let fits = (parts (nat_lt c.in-Thread.priority.0 256 && nat_lt c.in-Thread.maximum.0 256) (nat_le d.bits 63 && nat_lt d.value (2 ^ d.bits)) h.numbers).1 in
-    let bits : nat_le d.bits 63 ≡ true = (parts (nat_le d.bits 63) (nat_lt d.value (2 ^ d.bits)) fits).0 in
-    let value : nat_lt d.value (2 ^ d.bits) ≡ true = (parts (nat_le d.bits 63) (nat_lt d.value (2 ^ d.bits)) fits).1 in
-    subst (λ (r : Cap). IsServedForm (form.Runner c.in-Thread.maximum r)) (sym c.cap_to.ensures)
-    (cnode-is R c.in-Thread.root c.is_sound.ensures.sound c.is_sound.ensures.cnodes there, grind (arith, common_steps, bits), grind (arith, common_steps, value))
+    subst (λ (r : Cap). IsServedForm (form.Runner c.in-Thread.maximum r)) (sym c.cap_to.ensures) (fits-test d fits)
 
 pub takes_thread-thread-requires-clause-few : goal.takes_thread-thread-requires-clause-few
 takes_thread-thread-requires-clause-few g c =
@@ -105,22 +110,12 @@ fills-requires-clause-allowed g c =
     let R : Log = so_far c.args.state.now in
     let h : AreHeld c.args.state.now.book.boot.cores R (boot.Slot c.in-Slot.cnode c.in-Slot.index c.in-Slot.cap) = subst (λ l. AreHeld c.args.state.now.book.boot.cores R l) c.in-Slot.is (held c.args.state.now.book.boot.cores R c.args.line.now c.requires.faultless) in
     let there = (parts _ _ h.objects).0 in
-    let it : c.in-Slot.cnode ≡ the_cnode = cnode-is R c.in-Slot.cnode c.is_sound.ensures.sound c.is_sound.ensures.cnodes there in
     let within : nat_lt c.in-Slot.index (2 ^ radix_kept (form_of R c.in-Slot.cnode)) ≡ true =
     ap (λ b. cond b (nat_lt c.in-Slot.index (2 ^ radix_kept (form_of R c.in-Slot.cnode))) true) (sym there) ∙ (parts _ _ h.numbers).0 in
-    subst (λ (o : ObjId). Allowed R (rec.Slot o c.in-Slot.index (Some c.in-Slot.cap))) it
     (object-there R kind.CNode c.in-Slot.cnode c.is_sound.ensures.served there, grind (arith, common_steps, within), made-alive R c.in-Slot.cap.obj c.is_sound.ensures.served (parts _ _ h.objects).1)
 
-pub fills-requires-clause-leaf : goal.fills-requires-clause-leaf
-fills-requires-clause-leaf g c =
+pub fills-requires-clause-guard : goal.fills-requires-clause-guard
+fills-requires-clause-guard g c =
     let R : Log = so_far c.args.state.now in
     let h : AreHeld c.args.state.now.book.boot.cores R (boot.Slot c.in-Slot.cnode c.in-Slot.index c.in-Slot.cap) = subst (λ l. AreHeld c.args.state.now.book.boot.cores R l) c.in-Slot.is (held c.args.state.now.book.boot.cores R c.args.line.now c.requires.faultless) in
-    fits-leaf c.in-Slot.cap (parts _ _ h.numbers).1
-
-pub returns-in-Slot : goal.returns-in-Slot
-returns-in-Slot g c =
-    let R : Log = so_far c.args.state.now in
-    let h : AreHeld c.args.state.now.book.boot.cores R (boot.Slot c.in-Slot.cnode c.in-Slot.index c.in-Slot.cap) = subst (λ l. AreHeld c.args.state.now.book.boot.cores R l) c.in-Slot.is (held c.args.state.now.book.boot.cores R c.args.line.now c.requires.faultless) in
-    let there = (parts _ _ h.objects).0 in
-    let it : c.in-Slot.cnode ≡ the_cnode = cnode-is R c.in-Slot.cnode c.is_sound.ensures.sound c.is_sound.ensures.cnodes there in
-    c.fills.ensures ∙ ap (λ (o : ObjId). adds (rec.Slot o c.in-Slot.index (Some c.in-Slot.cap)) c.args.state.now) (sym it) ∙ ap (λ l. adds_all (boot_line R l) c.args.state.now) (sym c.in-Slot.is)
+    fits-slot c.in-Slot.cap (parts _ _ h.numbers).1

@@ -12,10 +12,11 @@ use Rattle.mcs_book.specs.History.{Book, IsLegal, log_of}
 use Rattle.mcs_book.proofs.EntersLaws.{enters-made}
 use Rattle.mcs_book.proofs.Same.{both}
 use Rattle.mcs_book.proofs.SendersOpen.{legal-senders}
+use Rattle.mcs_book.proofs.SoundBooks.{legal-firm}
 use Rattle.mcs_state.specs.Numbers.{thread_at, thread_of}
 use Rattle.mcs_state.specs.Now.{Now, so_far, adds_all}
 use Rattle.mcs_state.proofs.Answering.{none-given, some-given}
-use Rattle.mcs_ipc.specs.Entering.{IsEntering, OpenStand}
+use Rattle.mcs_state.specs.Entering.{IsEntering, OpenStand}
 use Rattle.mcs_kernel.specs.Faults.{entered}
 use Rattle.mcs_kernel.proofs.Serving.{fault-none, enters, so_far-book, hand-records, legal-entered}
 use Rattle.mcs_kernel.proofs.kernel.Kernel.serve.Goals as goal
@@ -42,7 +43,7 @@ operate-answer-requires-clause-entering g c =
     let t : ObjId = thread_at c.in-Some.number.0 in
     let given = ap (λ o. thread_of o) (sym c.in-Some.is) ∙ c.thread.ensures.thread in
     let at : t ≡ c.args.thread = (some-given _ c.args.thread t given).1 in
-    subst (λ R. IsEntering R t) (sym so1) (subst (λ x. IsEntering (log_of b) x) (sym at) (enters (log_of b) c.args.core c.args.thread f.0))
+    subst (λ R. IsEntering R t) (sym so1) (subst (λ x. IsEntering (log_of b) x) (sym at) (enters (log_of b) c.args.core c.args.thread (legal-firm b (subst IsLegal c.self.view_is c.self.invariant.1)) f.0))
 
 pub operate-answer-requires-clause-stand : goal.operate-answer-requires-clause-stand
 operate-answer-requires-clause-stand g c =

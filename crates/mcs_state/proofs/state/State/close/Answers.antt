@@ -11,7 +11,7 @@ invariant_of-self g c =
     let i = c.self.invariant in
     let all = counted-le is_sent (reverse c.self.inside.hand.items) in
     let longer = ap (λ (b : Book). length b.lines) c.append.ensures.line in
-    let few : c.self.inside.sent ≤ HAND * length c.append.new.self.book.lines = omega (arith, i.7.of_log.sent_few, i.7.of_log.hand_few, all, longer) in
+    let few : c.self.inside.sent ≤ HAND * length c.append.new.self.book.lines = omega (arith, i.6.of_log.sent_few, i.6.of_log.hand_few, all, longer) in
     let same : log_of c.append.new.self.book ≡ reverse c.self.inside.hand.items ++ log_of c.self.inside.book.book = ap (λ (b : Book). log_of b) c.append.ensures.line ∙ onto-reverse c.self.inside.hand.items (log_of c.self.inside.book.book) in (
       omega (arith, i.0, c.append.ensures.capacity),
       i.1,
@@ -19,6 +19,5 @@ invariant_of-self g c =
       i.3,
       i.4,
       i.5,
-      i.6,
-      rw c.append.ensures.empty (moved-agrees (length c.append.new.self.book.lines) (log_of c.append.new.self.book) same few i.7),
+      rw c.append.ensures.empty (moved-agrees (length c.append.new.self.book.lines) (log_of c.append.new.self.book) same few i.6),
     )

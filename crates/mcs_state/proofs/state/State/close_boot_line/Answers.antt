@@ -20,7 +20,7 @@ invariant_of-self g c =
     let none = ap (λ (h : Log). counted is_sent h) was.1 ∙ boot-sends-none (log_of book) c.args.line in
     let empty = ap (λ (ls : List Line). length ls) was.0 in
     let kept = ap (λ (b : Book). length b.lines) c.add_boot_line.ensures in
-    let few : c.self.inside.sent ≤ HAND * length c.add_boot_line.new.self.book.lines = omega (arith, i.7.of_log.sent_few, none, empty, kept) in
+    let few : c.self.inside.sent ≤ HAND * length c.add_boot_line.new.self.book.lines = omega (arith, i.6.of_log.sent_few, none, empty, kept) in
     let same : log_of c.add_boot_line.new.self.book ≡ hand ++ log_of book = ap (λ (b : Book). log_of b) c.add_boot_line.ensures ∙ boot-moved book.boot.lines book.lines c.args.line hand was.0 was.1 in (
       omega (arith, i.0, c.clear.ensures.capacity),
       i.1,
@@ -28,6 +28,5 @@ invariant_of-self g c =
       i.3,
       i.4,
       i.5,
-      i.6,
-      rw c.clear.ensures.items (moved-agrees (length c.add_boot_line.new.self.book.lines) (log_of c.add_boot_line.new.self.book) same few i.7),
+      rw c.clear.ensures.items (moved-agrees (length c.add_boot_line.new.self.book.lines) (log_of c.add_boot_line.new.self.book) same few i.6),
     )

@@ -4,17 +4,25 @@ use Rattle.mcs_types.specs.declared.record.Rec.TheVariants as rec
 use Rattle.mcs_book.specs.Logs.{Log}
 use Rattle.mcs_book.specs.History.{log_of}
 use Rattle.mcs_book.specs.Sound.{Allowed}
-use Rattle.mcs_state.specs.Numbers.{the_cnode}
 use Rattle.mcs_state.specs.Now.{Now, so_far}
 use Rattle.mcs_state.specs.Tables.{HAND}
 use Rattle.mcs_state.proofs.Making.{slot-agrees}
+use Rattle.mcs_state.proofs.Slotting.{has-slot}
 use Rattle.mcs_state.proofs.state.State.fills.Goals as goal
+
+pub set-requires : goal.set-requires
+set-requires g c =
+    let i = c.self.invariant in
+    let R : Log = reverse c.self.inside.hand.items ++ log_of c.self.inside.book.book in
+    let P : Now → Type 0 = λ n. Allowed (so_far n) (rec.Slot c.args.at.cnode c.args.at.index c.args.cap) in
+    let was : P (record { book = c.self.inside.book.book; hand = reverse c.self.inside.hand.items; boot_room = c.self.inside.book.boot_room; room = c.self.inside.book.room }) = subst P (sym c.self.view_is) c.requires.allowed in
+    has-slot R c.self.inside.slots c.args.at i.6.of_slots i.6.of_log.sound was.0 was.1
 
 pub invariant_of-self : goal.invariant_of-self
 invariant_of-self g c =
     let i = c.self.invariant in
     let R : Log = reverse c.self.inside.hand.items ++ log_of c.self.inside.book.book in
-    let P : Now → Type 0 = λ n. (length n.hand < HAND) × Allowed (so_far n) (rec.Slot the_cnode c.args.index c.args.cap) in
+    let P : Now → Type 0 = λ n. (length n.hand < HAND) × Allowed (so_far n) (rec.Slot c.args.at.cnode c.args.at.index c.args.cap) in
     let was : P (record { book = c.self.inside.book.book; hand = reverse c.self.inside.hand.items; boot_room = c.self.inside.book.boot_room; room = c.self.inside.book.room }) = subst P (sym c.self.view_is) (c.requires.room, c.requires.allowed) in (
       omega (arith, i.0, c.note.ensures.capacity),
       i.1,
@@ -22,7 +30,6 @@ invariant_of-self g c =
       i.3,
       i.4,
       i.5,
-      i.6,
-      rw (c.note.ensures.items, reverse-append, c.object_id-cnode.ensures, c.cap_again.ensures)
-          (slot-agrees c.args.index c.args.cap (omega (arith, i.4, c.self.inside.slots.ok.0)) (omega arith) was.0 was.1 c.requires.leaf i.7),
+      rw (c.note.ensures.items, reverse-append, c.set.ensures, c.cap_again.ensures)
+          (slot-agrees c.args.at c.args.cap c.are_pages.ensures.pages was.0 was.1 c.requires.guard i.6),
     )

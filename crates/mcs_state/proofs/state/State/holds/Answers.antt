@@ -22,7 +22,6 @@ invariant_of-self g c =
       i.3,
       i.4,
       i.5,
-      i.6,
       rw (c.note.ensures.items, reverse-append, c.context_id.ensures)
-          (holds-agrees c.args.context.0 c.args.thread c.index_mut-row.result.now (omega (arith, i.3, c.self.inside.contexts.ok.0)) c.requires.known c.index_mut-row.ensures.value was.0 was.1 i.7),
+          (holds-agrees c.args.context.0 c.args.thread c.index_mut-row.result.now (omega (arith, i.3, c.self.inside.contexts.ok.0)) c.requires.known c.index_mut-row.ensures.value was.0 was.1 i.6),
     )

@@ -17,7 +17,7 @@ line_no-requires g c =
     let R : Log = reverse c.self.inside.hand.items ++ log_of c.self.inside.book.book in
     let P : Now → Type 0 = λ n. (length n.hand < HAND) × Allowed (so_far n) (rec.Joins (thread_at c.args.thread.0) c.args.queue c.args.reply) in
     let was : P (record { book = c.self.inside.book.book; hand = reverse c.self.inside.hand.items; boot_room = c.self.inside.book.boot_room; room = c.self.inside.book.room }) = subst P (sym c.self.view_is) (c.requires.room, c.requires.allowed) in
-    let name : IsLineName c.args.queue = line-name c.self.inside.counts R c.args.queue i.7.of_log.sound i.7.of_counts was.1.3 in
+    let name : IsLineName c.args.queue = line-name c.self.inside.counts R c.args.queue i.6.of_log.sound i.6.of_counts was.1.3 in
     name
 
 pub invariant_of-self : goal.invariant_of-self
@@ -26,17 +26,16 @@ invariant_of-self g c =
     let R : Log = reverse c.self.inside.hand.items ++ log_of c.self.inside.book.book in
     let P : Now → Type 0 = λ n. (length n.hand < HAND) × Allowed (so_far n) (rec.Joins (thread_at c.args.thread.0) c.args.queue c.args.reply) in
     let was : P (record { book = c.self.inside.book.book; hand = reverse c.self.inside.hand.items; boot_room = c.self.inside.book.boot_room; room = c.self.inside.book.room }) = subst P (sym c.self.view_is) (c.requires.room, c.requires.allowed) in
-    let name : IsLineName c.args.queue = line-name c.self.inside.counts R c.args.queue i.7.of_log.sound i.7.of_counts was.1.3 in
-    let done = rw c.line_no.ensures at rw i.6 at rw i.5 at c.join.ensures.answer in
+    let name : IsLineName c.args.queue = line-name c.self.inside.counts R c.args.queue i.6.of_log.sound i.6.of_counts was.1.3 in
+    let done = rw c.line_no.ensures at rw i.5 at rw i.4 at c.join.ensures.answer in
     let joined = rw c.line_no.ensures at c.join.ensures.line in
     let placed = rw c.line_no.ensures at c.join.ensures.place in (
       omega (arith, i.0, c.note.ensures.capacity),
       i.1,
       i.2,
       i.3,
-      i.4,
-      c.join.ensures.threads ∙ i.5,
-      c.join.ensures.lines ∙ i.6,
+      c.join.ensures.threads ∙ i.4,
+      c.join.ensures.lines ∙ i.5,
       rw (c.note.ensures.items, reverse-append, c.thread_id.ensures)
-          (joins-agrees c.args.thread.0 c.index_mut-row.result.now.priority.0 c.args.queue c.args.reply c.index_mut-row.result.now c.join.result (omega (arith, i.1, c.self.inside.threads.ok.0)) c.requires.known c.index_mut-row.ensures.value was.0 was.1 name refl done joined placed i.7),
+          (joins-agrees c.args.thread.0 c.index_mut-row.result.now.priority.0 c.args.queue c.args.reply c.index_mut-row.result.now c.join.result (omega (arith, i.1, c.self.inside.threads.ok.0)) c.requires.known c.index_mut-row.ensures.value was.0 was.1 name refl done joined placed i.6),
     )

@@ -13,20 +13,26 @@ use Rattle.mcs_state.specs.Tables.{HAND}
 use Rattle.mcs_state.proofs.Making.{cnode-agrees}
 use Rattle.mcs_state.proofs.state.State.makes_cnode.Goals as goal
 
-pub invariant_of-self : goal.invariant_of-self
-invariant_of-self g c =
+pub add-requires-clause-few : goal.add-requires-clause-few
+add-requires-clause-few g c =
+    let i = c.self.invariant in
+    let P : Now → Type 0 = λ n. counted (makes_kind kind.CNode) (so_far n) < 64 in
+    let few : P (record { book = c.self.inside.book.book; hand = reverse c.self.inside.hand.items; boot_room = c.self.inside.book.boot_room; room = c.self.inside.book.room }) = subst P (sym c.self.view_is) c.requires.few in
+    omega (arith, few, i.6.of_slots.pages)
+
+pub invariant_of-self-2 : goal.invariant_of-self-2
+invariant_of-self-2 g c =
     let i = c.self.invariant in
     let R : Log = reverse c.self.inside.hand.items ++ log_of c.self.inside.book.book in
-    let P : Now → Type 0 = λ n. (length n.hand < HAND) × Allowed (so_far n) (rec.Made (next_id (so_far n) kind.CNode) (form.Slots c.args.radix)) × (counted (makes_kind kind.CNode) (so_far n) < 1) in
+    let P : Now → Type 0 = λ n. (length n.hand < HAND) × Allowed (so_far n) (rec.Made (next_id (so_far n) kind.CNode) (form.Slots c.args.radix)) × (counted (makes_kind kind.CNode) (so_far n) < 64) in
     let was : P (record { book = c.self.inside.book.book; hand = reverse c.self.inside.hand.items; boot_room = c.self.inside.book.boot_room; room = c.self.inside.book.room }) = subst P (sym c.self.view_is) (c.requires.room, c.requires.allowed, c.requires.few) in
-    let id : c.object_id-object.result ≡ next_id R kind.CNode = c.object_id-object.ensures ∙ ap (λ n. object_at kind.CNode n) i.7.of_counts.cnodes in (
+    let id : c.object_id-object.result ≡ next_id R kind.CNode = c.object_id-object.ensures ∙ ap (λ n. object_at kind.CNode n) i.6.of_counts.cnodes in (
       omega (arith, i.0, c.note.ensures.capacity),
       i.1,
       i.2,
       i.3,
       i.4,
       i.5,
-      i.6,
-      rw (c.note.ensures.items, reverse-append, id, c.form_again.ensures)
-          (cnode-agrees c.args.radix was.0 (omega (arith, was.2, i.7.of_counts.cnodes)) was.1 i.7),
+      rw (c.note.ensures.items, reverse-append, id, c.in_ok-add.ensures.added)
+          (cnode-agrees c.args.radix was.0 (omega (arith, was.2, i.6.of_counts.cnodes)) was.1 c.requires.served i.6),
     )

@@ -19,14 +19,13 @@ invariant_of-self g c =
     let R : Log = reverse c.self.inside.hand.items ++ log_of c.self.inside.book.book in
     let P : Now → Type 0 = λ n. (length n.hand < HAND) × Allowed (so_far n) (rec.Made (next_id (so_far n) kind.Notification) form.Plain) × (counted (makes_kind kind.Notification) (so_far n) < ROOM) in
     let was : P (record { book = c.self.inside.book.book; hand = reverse c.self.inside.hand.items; boot_room = c.self.inside.book.boot_room; room = c.self.inside.book.room }) = subst P (sym c.self.view_is) (c.requires.room, c.requires.allowed, c.requires.few) in
-    let id : c.object_id-object.result ≡ next_id R kind.Notification = c.object_id-object.ensures ∙ ap (λ n. object_at kind.Notification n) i.7.of_counts.notifications in (
+    let id : c.object_id-object.result ≡ next_id R kind.Notification = c.object_id-object.ensures ∙ ap (λ n. object_at kind.Notification n) i.6.of_counts.notifications in (
       omega (arith, i.0, c.note.ensures.capacity),
       i.1,
       i.2,
       i.3,
       i.4,
       i.5,
-      i.6,
       rw (c.note.ensures.items, reverse-append, id)
-          (notification-agrees was.0 (omega (arith, was.2, i.7.of_counts.notifications)) was.1 i.7),
+          (notification-agrees was.0 (omega (arith, was.2, i.6.of_counts.notifications)) was.1 i.6),
     )

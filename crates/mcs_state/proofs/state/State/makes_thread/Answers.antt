@@ -19,14 +19,13 @@ invariant_of-self g c =
     let R : Log = reverse c.self.inside.hand.items ++ log_of c.self.inside.book.book in
     let P : Now → Type 0 = λ n. (length n.hand < HAND) × Allowed (so_far n) (rec.Made (next_id (so_far n) kind.Thread) (form.Runner c.args.maximum c.args.root)) × (counted (makes_kind kind.Thread) (so_far n) < ROOM) in
     let was : P (record { book = c.self.inside.book.book; hand = reverse c.self.inside.hand.items; boot_room = c.self.inside.book.boot_room; room = c.self.inside.book.room }) = subst P (sym c.self.view_is) (c.requires.room, c.requires.allowed, c.requires.few) in
-    let id : c.object_id-object.result ≡ next_id R kind.Thread = c.object_id-object.ensures ∙ ap (λ n. object_at kind.Thread n) i.7.of_counts.threads in (
+    let id : c.object_id-object.result ≡ next_id R kind.Thread = c.object_id-object.ensures ∙ ap (λ n. object_at kind.Thread n) i.6.of_counts.threads in (
       omega (arith, i.0, c.note.ensures.capacity),
       i.1,
       i.2,
       i.3,
       i.4,
       i.5,
-      i.6,
       rw (c.note.ensures.items, reverse-append, id, c.form_again.ensures)
-          (thread-agrees c.self.inside.counts.threads (form.Runner c.args.maximum c.args.root) c.index_mut-row.result.now (omega (arith, i.1, c.self.inside.threads.ok.0)) refl c.index_mut-row.ensures.value was.0 (omega (arith, was.2, i.7.of_counts.threads)) was.1 c.requires.served i.7),
+          (thread-agrees c.self.inside.counts.threads (form.Runner c.args.maximum c.args.root) c.index_mut-row.result.now (omega (arith, i.1, c.self.inside.threads.ok.0)) refl c.index_mut-row.ensures.value was.0 (omega (arith, was.2, i.6.of_counts.threads)) was.1 c.requires.served i.6),
     )

@@ -14,10 +14,9 @@ invariant_of-result g c =
       omega (arith, threads, c.in_ok-blank_threads.field-0.ok.0),
       c.in_ok-nothing.ensures.length,
       omega (arith, contexts, c.in_ok-blank_contexts.field-0.ok.0),
-      c.in_ok-nothing-2.ensures.length,
-      c.in_ok-new.ensures.threads,
-      c.in_ok-new.ensures.lines,
-      rw (c.in_ok-blank_threads.ensures, c.in_ok-blank_contexts.ensures, c.in_ok-with_capacity.ensures.items, ap (λ ls. length ls) c.new.ensures.lines)
-          (blank-agrees _ _ c.in_ok-nothing.field-0.items c.in_ok-nothing-2.field-0.items (log_of c.new.result.book) (log-empty c.new.result.book c.new.ensures.boot c.new.ensures.lines)
-          (omega (arith, c.in_ok-nothing.ensures.length, c.in_ok-nothing.field-0.ok.0)) c.in_ok-nothing.ensures.nothing (omega (arith, c.in_ok-nothing-2.ensures.length, c.in_ok-nothing-2.field-0.ok.0)) c.in_ok-nothing-2.ensures.nothing c.in_ok-new.ensures.empty c.in_ok-new.ensures.nowhere),
+      c.in_ok-new-2.ensures.threads,
+      c.in_ok-new-2.ensures.lines,
+      rw (c.in_ok-blank_threads.ensures, c.in_ok-blank_contexts.ensures, c.in_ok-new.ensures, c.in_ok-with_capacity.ensures.items, ap (λ ls. length ls) c.new.ensures.lines)
+          (blank-agrees _ _ c.in_ok-nothing.field-0.items (log_of c.new.result.book) (log-empty c.new.result.book c.new.ensures.boot c.new.ensures.lines)
+          (omega (arith, c.in_ok-nothing.ensures.length, c.in_ok-nothing.field-0.ok.0)) c.in_ok-nothing.ensures.nothing c.in_ok-new-2.ensures.empty c.in_ok-new-2.ensures.nowhere),
     )

@@ -20,9 +20,8 @@ invariant_of-self g c =
       i.1,
       i.2,
       i.3,
-      i.4,
-      c.part.ensures.threads ∙ i.5,
-      c.part.ensures.lines ∙ i.6,
+      c.part.ensures.threads ∙ i.4,
+      c.part.ensures.lines ∙ i.5,
       rw (c.note.ensures.items, reverse-append, c.thread_id.ensures)
-          (parts-agrees c.args.thread.0 c.args.queue c.index_mut-row.result.now (omega (arith, i.1, c.self.inside.threads.ok.0)) c.requires.known c.index_mut-row.ensures.value was.0 was.1 c.part.ensures.line c.part.ensures.place i.7),
+          (parts-agrees c.args.thread.0 c.args.queue c.index_mut-row.result.now (omega (arith, i.1, c.self.inside.threads.ok.0)) c.requires.known c.index_mut-row.ensures.value was.0 was.1 c.part.ensures.line c.part.ensures.place i.6),
     )

@@ -23,7 +23,6 @@ invariant_of-self g c =
       i.3,
       i.4,
       i.5,
-      i.6,
       rw (c.note.ensures.items, reverse-append, c.thread_id.ensures)
-          (prio-agrees c.args.thread.0 c.args.priority c.index_mut-row.result.now (omega (arith, i.1, c.self.inside.threads.ok.0)) c.requires.known c.index_mut-row.ensures.value was.0 was.1 was.2 i.7),
+          (prio-agrees c.args.thread.0 c.args.priority c.index_mut-row.result.now (omega (arith, i.1, c.self.inside.threads.ok.0)) c.requires.known c.index_mut-row.ensures.value was.0 was.1 was.2 i.6),
     )

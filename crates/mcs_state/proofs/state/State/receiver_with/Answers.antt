@@ -14,9 +14,9 @@ returns-clause-receiver g c =
     let i = c.self.invariant in
     let R : Log = reverse c.self.inside.hand.items ++ log_of c.self.inside.book.book in
     let P : Now → Type 0 = λ n. thread_of c.thread_no.result ≡ receiver_with (so_far n) c.args.reply in
-    subst P c.self.view_is (c.thread_no.ensures ∙ ap (λ m. object_of kind.Thread m) c.last_receiver.ensures ∙ ap (λ rows. object_of kind.Thread (last_below (receives_with c.args.reply) blank_thread rows c.self.inside.counts.threads)) c.deref.ensures.value ∙ sym (receiver-below c.self.inside.threads.items R c.self.inside.counts.threads c.args.reply i.7.of_log.sound i.7.of_threads i.7.of_counts.threads i.7.of_counts.few_threads))
+    subst P c.self.view_is (c.thread_no.ensures ∙ ap (λ m. object_of kind.Thread m) c.last_receiver.ensures ∙ ap (λ rows. object_of kind.Thread (last_below (receives_with c.args.reply) blank_thread rows c.self.inside.counts.threads)) c.deref.ensures.value ∙ sym (receiver-below c.self.inside.threads.items R c.self.inside.counts.threads c.args.reply i.6.of_log.sound i.6.of_threads i.6.of_counts.threads i.6.of_counts.few_threads))
 
 pub returns-clause-known : goal.returns-clause-known
 returns-clause-known g c =
     known-number c.thread_no.result (last_below (receives_with c.args.reply) blank_thread c.self.inside.threads.items c.self.inside.counts.threads) c.self.inside.counts.threads
-    (c.thread_no.ensures ∙ ap (λ m. object_of kind.Thread m) c.last_receiver.ensures ∙ ap (λ rows. object_of kind.Thread (last_below (receives_with c.args.reply) blank_thread rows c.self.inside.counts.threads)) c.deref.ensures.value) c.self.invariant.7.of_counts.few_threads (last-below (receives_with c.args.reply) blank_thread c.self.inside.threads.items c.self.inside.counts.threads)
+    (c.thread_no.ensures ∙ ap (λ m. object_of kind.Thread m) c.last_receiver.ensures ∙ ap (λ rows. object_of kind.Thread (last_below (receives_with c.args.reply) blank_thread rows c.self.inside.counts.threads)) c.deref.ensures.value) c.self.invariant.6.of_counts.few_threads (last-below (receives_with c.args.reply) blank_thread c.self.inside.threads.items c.self.inside.counts.threads)

@@ -15,4 +15,4 @@ returns g c =
     let R : Log = reverse c.self.inside.hand.items ++ log_of c.self.inside.book.book in
     let at : c.args.context ≡ context_at (c.args.context.serial - 1) = name-at kind.Context c.args.context c.requires in
     let P : Now → Type 0 = λ n. c.is_on.result ≡ is_on_core c.args.core (form_of (so_far n) c.args.context) in
-    subst P c.self.view_is (c.is_on.ensures ∙ ap (λ f. is_on_core c.args.core f) (ap (λ q. q.form) c.index.ensures ∙ i.7.of_contexts.form (c.args.context.serial - 1) c.index.result.now (omega (arith, c.requires.1, c.requires.2))) ∙ ap (λ s. is_on_core c.args.core (form_of R s)) (sym at))
+    subst P c.self.view_is (c.is_on.ensures ∙ ap (λ f. is_on_core c.args.core f) (ap (λ q. q.form) c.index.ensures ∙ i.6.of_contexts.form (c.args.context.serial - 1) c.index.result.now (omega (arith, c.requires.1, c.requires.2))) ∙ ap (λ s. is_on_core c.args.core (form_of R s)) (sym at))

@@ -19,7 +19,7 @@ overflow_add-self g c =
     let P : Now → Type 0 = λ n. (length n.hand < HAND) × (length n.book.lines < 1000000) in
     let was : P (record { book = c.self.inside.book.book; hand = reverse c.self.inside.hand.items; boot_room = c.self.inside.book.boot_room; room = c.self.inside.book.room }) = subst P (sym c.self.view_is) (c.requires.room, c.requires.few) in
     let all = counted-le is_sent (reverse c.self.inside.hand.items) in
-    omega (arith, i.7.of_log.sent_few, i.7.of_log.hand_few, was.1, all)
+    omega (arith, i.6.of_log.sent_few, i.6.of_log.hand_few, was.1, all)
 
 pub invariant_of-self : goal.invariant_of-self
 invariant_of-self g c =
@@ -33,7 +33,6 @@ invariant_of-self g c =
       i.3,
       i.4,
       i.5,
-      i.6,
       rw (c.note.ensures.items, reverse-append, c.thread_id.ensures, c.thread_id-2.ensures, c.copy.ensures)
-          (sent-agrees c.args.sender.0 c.args.endpoint c.args.mode c.args.badge c.args.message (omega (arith, i.2, c.self.inside.letters.ok.0)) c.requires.known was.0 was.1 c.requires.plain i.7),
+          (sent-agrees c.args.sender.0 c.args.endpoint c.args.mode c.args.badge c.args.message (omega (arith, i.2, c.self.inside.letters.ok.0)) c.requires.known was.0 was.1 c.requires.plain i.6),
     )

@@ -27,7 +27,7 @@ returns-in-Some g c =
     let known : c.in-Some.thread.0 < ROOM = subst (λ (o : Option ThreadNo). IfSome o (λ t. t.0 < ROOM)) c.in-Some.is c.thread.ensures.known in
     let P : Now → Type 0 = λ n. same_kind c.args.id.kind kind.Thread && was_made (so_far n) c.args.id ≡ true in
     let made : P (record { book = c.self.inside.book.book; hand = reverse c.self.inside.hand.items; boot_room = c.self.inside.book.boot_room; room = c.self.inside.book.room }) = subst P (sym c.self.view_is) is.0 in
-    let queue = ap (λ (q : ThreadRow). q.queue) c.index.ensures ∙ i.7.of_threads.queue c.in-Some.thread.0 c.index.result.now known ∙ ap (λ t. queue_of R t) is.1 in
-    let mode = ap (λ (q : ThreadRow). q.mode) c.index.ensures ∙ i.7.of_threads.mode c.in-Some.thread.0 c.index.result.now known ∙ ap (λ t. mode_of R t) is.1 in
+    let queue = ap (λ (q : ThreadRow). q.queue) c.index.ensures ∙ i.6.of_threads.queue c.in-Some.thread.0 c.index.result.now known ∙ ap (λ t. queue_of R t) is.1 in
+    let mode = ap (λ (q : ThreadRow). q.mode) c.index.ensures ∙ i.6.of_threads.mode c.in-Some.thread.0 c.index.result.now known ∙ ap (λ t. mode_of R t) is.1 in
     let Q : Now → Type 0 = λ n. Some c.status.result ≡ status_of (so_far n) c.args.id in
-    subst Q c.self.view_is (ap (λ s. Some s) (c.status.ensures ∙ ap (λ q. status_by q None c.index.result.now.mode) queue ∙ ap (λ m. status_by (queue_of R c.args.id) None m) mode) ∙ sym (status-made R c.args.id i.7.of_log.served made))
+    subst Q c.self.view_is (ap (λ s. Some s) (c.status.ensures ∙ ap (λ q. status_by q None c.index.result.now.mode) queue ∙ ap (λ m. status_by (queue_of R c.args.id) None m) mode) ∙ sym (status-made R c.args.id i.6.of_log.served made))

@@ -13,4 +13,4 @@ returns-clause-thread g c =
     let i = c.self.invariant in
     let R : Log = reverse c.self.inside.hand.items ++ log_of c.self.inside.book.book in
     let P : Now → Type 0 = λ n. thread_of c.thread_named.result ≡ (if same_kind c.args.id.kind kind.Thread && was_made (so_far n) c.args.id then Some c.args.id else None) in
-    subst P c.self.view_is (c.thread_named.ensures.thread ∙ ap (λ b. if b then Some c.args.id else None) (sym (thread-where R c.self.inside.counts.threads c.args.id i.7.of_log.sound i.7.of_counts.threads)))
+    subst P c.self.view_is (c.thread_named.ensures.thread ∙ ap (λ b. if b then Some c.args.id else None) (sym (thread-where R c.self.inside.counts.threads c.args.id i.6.of_log.sound i.6.of_counts.threads)))

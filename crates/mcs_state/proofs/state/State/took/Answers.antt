@@ -23,7 +23,6 @@ invariant_of-self g c =
       i.3,
       i.4,
       i.5,
-      i.6,
       rw (c.note.ensures.items, reverse-append, c.thread_id.ensures)
-          (took-numbered c.args.sender.0 c.args.number (thread_at c.args.receiver.0) (omega (arith, i.2, c.self.inside.letters.ok.0)) c.requires.known was.0 was.1 was.2 i.7),
+          (took-numbered c.args.sender.0 c.args.number (thread_at c.args.receiver.0) (omega (arith, i.2, c.self.inside.letters.ok.0)) c.requires.known was.0 was.1 was.2 i.6),
     )

@@ -8,8 +8,8 @@ ghost use Rattle.mcs_state.specs.Numbers.{thread_at};
 ghost use Rattle.mcs_state.specs.Now.{so_far, adds_all};
 ghost use Rattle.mcs_state.specs.Tables.{HAND, ROOM};
 
+use crate::state::State;
 use mcs_queues::{Lines, ThreadNo};
-use mcs_state::State;
 use mcs_types::Mode;
 
 /// The thread becomes Running where it is in Restart.

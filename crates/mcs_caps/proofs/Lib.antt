@@ -1,0 +1,3 @@
+pub mod Rows
+pub mod Finding
+pub mod Places

@@ -1,0 +1,8 @@
+//! Operations on capabilities in slots. Each call adds the records of its row of the table, and gives that row's answer
+//! (manual: Capability Spaces).
+#![tactic(auto)]
+
+mod checks;
+mod copying;
+
+pub use copying::{copy_cap, mint_cap, move_cap};

@@ -1,0 +1,10 @@
+mod Lengths
+mod Lines
+mod Scripts
+mod WholeTraces
+mod FewWords
+mod SmallLines
+mod StepsAgain
+mod BootFacts
+mod BootsAgain
+mod ReadAgain

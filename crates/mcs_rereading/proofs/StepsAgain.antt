@@ -1,0 +1,143 @@
+-- Each step of a legal book is read again: its thread is one of the boot's, its core one of the boot's, its numbers are in range.
+use Rattle.std.specs.Prelude.{ℕ, ◌+◌, ◌<◌, ◌≤◌, ◌≡◌, Bool, true, false, cond, ◌||◌, List, [], ◌∷◌, ◌++◌, Some, None, refl, length, map, reverse}
+use Rattle.std.proofs.Common.{ap, subst, arith}
+use Rattle.std.proofs.lemmas.List.{reverse-append}
+use Rattle.mcs_types.specs.declared.id.ObjId.{ObjId}
+use Rattle.mcs_types.specs.declared.id.Kind.{Kind}
+use Rattle.mcs_types.specs.declared.id.Kind.TheVariants as kind
+use Rattle.mcs_types.specs.declared.boot.BootLine.{BootLine}
+use Rattle.mcs_types.specs.declared.boot.BootLine.TheVariants as boot
+use Rattle.mcs_types.specs.declared.record.Rec.TheVariants as rec
+use Rattle.mcs_types.specs.declared.entry.Step.{Step}
+use Rattle.mcs_types.specs.declared.entry.Entry.{Entry}
+use Rattle.mcs_types.specs.declared.entry.Entry.TheVariants.{Send, Recv, CopyCap, MintCap, MoveCap}
+use Rattle.mcs_book.specs.Logs.{Log, onto, counted, same, same_kind}
+use Rattle.mcs_book.specs.Objects.{makes_kind, was_made}
+use Rattle.mcs_book.specs.Threads.{threads}
+use Rattle.mcs_book.specs.Boots.{Boot, boot_line, boot_log}
+use Rattle.mcs_book.specs.Ranges.{InRange}
+use Rattle.mcs_book.specs.Served.{IsServed, core_limit}
+use Rattle.mcs_book.specs.Sound.{Sound}
+use Rattle.mcs_book.specs.History.{Line, IsLegal, past, steps_of}
+use Rattle.mcs_book.proofs.EntersLaws.{enters-made}
+use Rattle.mcs_book.proofs.KnownCores.{legal-cores}
+use Rattle.mcs_book.proofs.LengthRows.{past-threads}
+use Rattle.mcs_book.proofs.MadeLaws.{made-in, serial-below}
+use Rattle.mcs_book.proofs.Same.{same-equal}
+use Rattle.mcs_book.proofs.SoundBooks.{legal-sound}
+use Rattle.mcs_book.proofs.Sorted.{In}
+use Rattle.mcs_kernel.specs.Runs.{AreServed}
+use Rattle.mcs_text.specs.Reading.{IsRead}
+use Rattle.mcs_text.specs.Laws.{FitsEntry}
+use Rattle.mcs_text.proofs.EntryLines.{step_line_again}
+use Rattle.mcs_sim.specs.Script.{threads_of}
+use Rattle.mcs_rereading.proofs.Scripts.{IsStepAgain}
+
+-- ---- serials
+
+-- one more at most
+one-more : (b : Bool) (n : ℕ) → cond b (n + 1) n ≤ n + 1
+one-more true n = omega arith
+one-more false n = omega arith
+
+-- a line of the boot makes at most one object of a kind
+counted-line : (k : Kind) (R S : Log) (line : BootLine) → counted (makes_kind k) (onto (boot_line S line) R) ≤ counted (makes_kind k) R + 1
+counted-line k R S (boot.Thread priority maximum root guard runs (Some s)) = one-more (same_kind kind.Thread k) (counted (makes_kind k) R)
+counted-line k R S (boot.Thread priority maximum root guard runs None) = one-more (same_kind kind.Thread k) (counted (makes_kind k) R)
+counted-line k R S (boot.CNode radix) = one-more (same_kind kind.CNode k) (counted (makes_kind k) R)
+counted-line k R S boot.Endpoint = one-more (same_kind kind.Endpoint k) (counted (makes_kind k) R)
+counted-line k R S boot.Notification = one-more (same_kind kind.Notification k) (counted (makes_kind k) R)
+counted-line k R S boot.Reply = one-more (same_kind kind.Reply k) (counted (makes_kind k) R)
+counted-line k R S (boot.Context core) = one-more (same_kind kind.Context k) (counted (makes_kind k) R)
+counted-line k R S (boot.Slot c i held) = omega arith
+
+-- a boot makes at most as many objects of a kind as it has lines
+counted-boot : (k : Kind) (lines : List BootLine) → counted (makes_kind k) (boot_log lines) ≤ length lines
+unfolding boot_log
+counted-boot k [] = omega arith
+counted-boot k (line ∷ lines) = omega (arith, counted-line k (boot_log lines) (boot_log lines) line, counted-boot k lines)
+
+-- what was made has a serial from 1
+serial-some : (R : Log) (o : ObjId) → Sound R → was_made R o ≡ true → 0 < o.serial
+serial-some [] o sound h = absurd cc
+serial-some (rec.Made u form ∷ R) o sound h = go (same o u) refl h (serial-some R o sound.1)
+  where
+    go : (b : Bool) → same o u ≡ b → (b || was_made R o) ≡ true → (was_made R o ≡ true → 0 < o.serial) → 0 < o.serial
+    go true is k later =
+        let it : o.serial ≡ u.serial = ap (λ (x : ObjId). x.serial) (same-equal o u is) in
+        let serial : u.serial ≡ counted (makes_kind u.kind) R + 1 = ap (λ (x : ObjId). x.serial) sound.0.0 in
+        omega (arith, it, serial)
+    go false is k later = later k
+serial-some (_ ∷ R) o sound h = serial-some R o sound.1 h
+
+-- what a boot made has a serial from 1, and no greater than the number of the boot's lines
+pub record IsSerial (lines : List BootLine) (n : ℕ) : Type 0 where
+  pub some : 0 < n
+  pub few : n ≤ length lines
+
+-- such is each object of a sound boot
+pub boot-serial : (lines : List BootLine) (o : ObjId) → Sound (boot_log lines) → was_made (boot_log lines) o ≡ true → IsSerial lines o.serial
+boot-serial lines o sound made =
+    record {
+      some = serial-some (boot_log lines) o sound made;
+      few = omega (arith, serial-below (boot_log lines) o o.kind sound (made-in (boot_log lines) o o.kind refl made), counted-boot o.kind lines);
+    }
+
+-- ---- steps
+
+-- the entries that are served are read
+read-served : (e : Entry) → IsServed e → IsRead e
+read-served (Send a m) h = tt
+read-served (Recv a r) h = tt
+read-served (CopyCap source dest rights) h = tt
+read-served (MintCap source dest rights badge) h = tt
+read-served (MoveCap source dest) h = tt
+read-served _ h = absurd h
+
+-- their numbers are in the ranges of the reader
+fits-served : (e : Entry) → IsServed e → InRange e → FitsEntry e
+fits-served (Send a m) h range = (range.0, record { label = range.1.label; few = range.1.few; words = range.1.words })
+fits-served (Recv a r) h range = range
+fits-served (CopyCap source dest rights) h range = range
+fits-served (MintCap source dest rights badge) h range = range
+fits-served (MoveCap source dest) h range = range
+fits-served _ h range = absurd h
+
+-- ---- the steps of a book
+
+-- the last of steps that are served
+served-split : (ss : List Step) (s : Step) → AreServed (ss ++ s ∷ []) → AreServed ss × IsServed s.entry
+served-split [] s h = (tt, h.0)
+served-split (x ∷ xs) s h = let p : AreServed xs × IsServed s.entry = served-split xs s h.1 in ((h.0, p.0), p.1)
+
+-- the step of the newest line is read again
+newest-again : (b : Boot) (l : Line) (ls : List Line) → IsLegal (record { boot = b; lines = l ∷ ls }) → IsServed l.step.entry → length b.lines ≤ 2000000 → IsStepAgain b l.step
+newest-again b l ls legal served few =
+    let B : Log = boot_log b.lines in
+    let R : Log = past B ls in
+    let before : IsLegal (record { boot = b; lines = ls }) = record { boot = legal.boot; lines = legal.lines.1 } in
+    let none : IsLegal (record { boot = b; lines = [] }) = record { boot = legal.boot; lines = tt } in
+    let sound : Sound R = legal-sound (record { boot = b; lines = ls }) before in
+    let first : Sound B = legal-sound (record { boot = b; lines = [] }) none in
+    let who : (l.step.thread.kind ≡ kind.Thread) × (was_made R l.step.thread ≡ true) = enters-made R l.step.core l.step.thread legal.lines.0.enters in
+    let same_threads : threads R ≡ threads B = past-threads B ls legal.lines.1 in
+    let in_boot : In l.step.thread (threads B) = subst (λ (ts : List ObjId). In l.step.thread ts) same_threads (made-in R l.step.thread kind.Thread who.0 who.1) in
+    let core : l.step.core.0 < b.cores = (legal-cores (record { boot = b; lines = l ∷ ls }) legal).0 in
+    let cores : b.cores ≤ core_limit = legal.boot.few_cores in
+    let some : 0 < l.step.thread.serial = serial-some R l.step.thread sound who.1 in
+    let made : l.step.thread.serial ≤ threads_of b = serial-below B l.step.thread kind.Thread first in_boot in
+    step_line_again b.cores (threads_of b) l.step (read-served l.step.entry served) (fits-served l.step.entry served legal.lines.0.in_range) core (omega arith) who.0 some made (omega (arith, counted-boot kind.Thread b.lines))
+
+-- each step of these lines is read again
+unfoldable pub AreStepsAgain : Boot → List Line → Type 0
+AreStepsAgain b [] = Unit {0}
+AreStepsAgain b (l ∷ ls) = IsStepAgain b l.step × AreStepsAgain b ls
+
+-- each step of a legal book is, where its steps are served and its boot has not too many lines
+pub steps-again : (b : Boot) (ls : List Line) → IsLegal (record { boot = b; lines = ls }) → AreServed (steps_of (record { boot = b; lines = ls })) → length b.lines ≤ 2000000 → AreStepsAgain b ls
+unfolding AreStepsAgain
+steps-again b [] legal served few = tt
+steps-again b (l ∷ ls) legal served few =
+    let old : List Step = map (λ (k : Line). k.step) ls in
+    let p : AreServed (reverse old) × IsServed l.step.entry = served-split (reverse old) l.step (subst AreServed (reverse-append (l.step ∷ []) old) served) in
+    (newest-again b l ls legal p.1 few, steps-again b ls (record { boot = legal.boot; lines = legal.lines.1 }) p.0 few)

@@ -1,0 +1,106 @@
+-- The line of a step is read as that step, for each entry that is read.
+use Rattle.std.proofs.Common.{◌≡◌, ℕ, suc, ◌<◌, ◌≤◌, ◌^◌, true, Some, Ok, List, [], ◌∷◌, ◌++◌, map, refl, sym, ap, subst, ◌∙◌, arith, decimal}
+use Rattle.std.specs.List.{list_all, flat_map, AllByRecursion, All}
+use Rattle.mcs_types.specs.declared.cap.Place.{Place}
+use Rattle.mcs_types.specs.declared.entry.Entry.{Entry}
+use Rattle.mcs_types.specs.declared.entry.Entry.TheVariants.{Send, Recv, CopyCap, MintCap, MoveCap}
+use Rattle.mcs_types.specs.declared.entry.Step.{Step}
+use Rattle.mcs_types.specs.declared.id.Kind.{Kind}
+use Rattle.mcs_types.specs.declared.id.Kind.TheVariants.{Thread}
+use Rattle.mcs_text.specs.declared.key.Key.{Key}
+use Rattle.mcs_text.specs.declared.key.Key.TheVariants as k
+use Rattle.mcs_text.specs.declared.token.Token.{Token}
+use Rattle.mcs_text.specs.declared.token.Token.TheVariants as tok
+use Rattle.mcs_text.specs.Keys.{key_text, entry_key}
+use Rattle.mcs_text.specs.Spelling.{rights_text}
+use Rattle.mcs_text.specs.Table.{form_line, step_form, entry_form}
+use Rattle.mcs_text.specs.Reading.{number_at, end_at, place_at, place_of, copy_at, mint_at, move_at, entry_at, step_of, words_of, word_limit, IsRead}
+use Rattle.mcs_text.specs.Laws.{step_with, IsReadAgain, IsPlace, FitsEntry}
+use Rattle.mcs_text.proofs.RoundTrip.{number-decimal, below-is, rights_again, recv_again, send_again, step_again}
+use Rattle.mcs_text.proofs.TextBytes.{is_above, decimal-above}
+use Rattle.mcs_text.proofs.FormWords.{token_words, form_rest, form_line-spread, form_line-words, is_plain, rest-plain, NoSpace-above}
+
+-- ---- places
+
+place_at-again : (p : Place) (ws : List (List ℕ)) → IsPlace p → place_at (decimal p.index ∷ decimal p.depth ∷ ws) ≡ Ok (record { index = Some p.index; depth = Some p.depth }, ws)
+unfolding place_at number_at
+place_at-again p ws h =
+    let depth : p.depth < 2 ^ 64 = omega (arith, h.1) in
+    rw (number-decimal p.index h.0, number-decimal p.depth depth) refl
+
+place_of-again : (p : Place) → IsPlace p → place_of (record { index = Some p.index; depth = Some p.depth }) ≡ Ok p
+unfolding place_of
+place_of-again p h = rw (below-is word_limit p.index h.0, below-is 256 p.depth h.1) refl
+
+-- ---- entries
+
+copy_again : (p d : Place) (r : ℕ) → IsPlace p → IsPlace d → r < 16
+    → entry_at (key_text k.Copy ∷ decimal p.index ∷ decimal p.depth ∷ decimal d.index ∷ decimal d.depth ∷ rights_text r ∷ []) ≡ Ok (CopyCap p d r)
+unfolding entry_at entry_key copy_at end_at
+copy_again p d r hp hd hr =
+    rw (place_at-again p (decimal d.index ∷ decimal d.depth ∷ rights_text r ∷ []) hp, place_at-again d (rights_text r ∷ []) hd, rights_again r [] hr, place_of-again p hp, place_of-again d hd) refl
+
+mint_again : (p d : Place) (r b : ℕ) → IsPlace p → IsPlace d → r < 16 → b < 2 ^ 64
+    → entry_at (key_text k.Mint ∷ decimal p.index ∷ decimal p.depth ∷ decimal d.index ∷ decimal d.depth ∷ rights_text r ∷ decimal b ∷ []) ≡ Ok (MintCap p d r (record { 0 = b }))
+unfolding entry_at entry_key mint_at end_at number_at
+mint_again p d r b hp hd hr hb =
+    rw (
+      place_at-again p (decimal d.index ∷ decimal d.depth ∷ rights_text r ∷ decimal b ∷ []) hp,
+      place_at-again d (rights_text r ∷ decimal b ∷ []) hd,
+      rights_again r (decimal b ∷ []) hr,
+      number-decimal b hb,
+      place_of-again p hp,
+      place_of-again d hd,
+      below-is word_limit b hb,
+    ) refl
+
+move_again : (p d : Place) → IsPlace p → IsPlace d
+    → entry_at (key_text k.Move ∷ decimal p.index ∷ decimal p.depth ∷ decimal d.index ∷ decimal d.depth ∷ []) ≡ Ok (MoveCap p d)
+unfolding entry_at entry_key move_at end_at
+move_again p d hp hd =
+    rw (place_at-again p (decimal d.index ∷ decimal d.depth ∷ []) hp, place_at-again d [] hd, place_of-again p hp, place_of-again d hd) refl
+
+-- ---- steps
+
+-- the line of a step whose key and fields are read as its entry
+step_form-again : (cores threads c s : ℕ) (e : Entry) (key : Key) (others : List Token) (ns : List ℕ) → c < cores → c < 2 ^ 64 → 0 < s → s ≤ threads → s < 2 ^ 64
+    → is_above 32 (key_text key) ≡ true → list_all is_plain others ≡ true → entry_at (key_text key ∷ (flat_map token_words others ++ map decimal ns)) ≡ Ok e
+    → step_of cores threads (form_line (step_form (step_with c s e) (tok.Key key ∷ others) ns)) ≡ Ok (step_with c s e)
+step_form-again cores threads c s e key others ns hc fits some hs fits' plain plains again =
+    ap (step_of cores threads) (form_line-spread (step_form (step_with c s e) (tok.Key key ∷ others) ns))
+    ∙ step_again cores threads c s e (key_text key) (flat_map token_words others ++ map decimal ns) hc fits some hs fits' (NoSpace-above _ plain) (rest-plain others ns plains) again
+
+by_recursion : (P : ℕ → Type 0) (xs : List ℕ) → All P xs → AllByRecursion P xs
+by_recursion P [] h = tt
+by_recursion P (x ∷ xs) h = (h 0 0 (omega arith), by_recursion P xs (λ i d lt. h (suc i) d (omega arith)))
+
+entry_line-again : (cores threads c s : ℕ) (e : Entry) → IsRead e → FitsEntry e → c < cores → c < 2 ^ 64 → 0 < s → s ≤ threads → s < 2 ^ 64 → IsReadAgain cores threads (step_with c s e)
+entry_line-again cores threads c s (Send a m) read h hc fits some hs fits' =
+    step_form-again cores threads c s (Send a m) k.Send [] (a ∷ m.label ∷ m.words) hc fits some hs fits' refl refl
+    (send_again a m.label m.words h.0 h.1.label (by_recursion (λ w. w < 2 ^ 64) m.words h.1.words) h.1.few)
+entry_line-again cores threads c s (Recv a r) read h hc fits some hs fits' =
+    step_form-again cores threads c s (Recv a r) k.Recv [] (a ∷ r ∷ []) hc fits some hs fits' refl refl (recv_again a r h.0 h.1)
+entry_line-again cores threads c s (CopyCap p d r) read h hc fits some hs fits' =
+    step_form-again cores threads c s (CopyCap p d r) k.Copy (tok.Place p ∷ tok.Place d ∷ tok.Rights r ∷ []) [] hc fits some hs fits' refl refl (copy_again p d r h.0 h.1 h.2)
+entry_line-again cores threads c s (MintCap p d r b) read h hc fits some hs fits' =
+    step_form-again cores threads c s (MintCap p d r b) k.Mint (tok.Place p ∷ tok.Place d ∷ tok.Rights r ∷ []) (b.0 ∷ []) hc fits some hs fits' refl refl (mint_again p d r b.0 h.0 h.1 h.2 h.3)
+entry_line-again cores threads c s (MoveCap p d) read h hc fits some hs fits' =
+    step_form-again cores threads c s (MoveCap p d) k.Move (tok.Place p ∷ tok.Place d ∷ []) [] hc fits some hs fits' refl refl (move_again p d h.0 h.1)
+entry_line-again cores threads c s e read h hc fits some hs fits' = absurd read
+
+-- the line of a step is read as that step, where its core and its thread are there
+pub step_word_again : (cores threads : ℕ) (s : Step) → IsRead s.entry → FitsEntry s.entry → s.core.0 < cores → s.core.0 < 2 ^ 64
+    → s.thread.kind ≡ Thread → 0 < s.thread.serial → s.thread.serial ≤ threads → s.thread.serial < 2 ^ 64 → IsReadAgain cores threads s
+step_word_again cores threads s read h hc word kind some hs fits =
+    subst (λ (kind : Kind). IsReadAgain cores threads (record { core = s.core; thread = record { kind = kind; serial = s.thread.serial }; entry = s.entry })) (sym kind)
+    (entry_line-again cores threads s.core.0 s.thread.serial s.entry read h hc word some hs fits)
+
+-- the same, where the number of cores fits a word
+pub step_line_again : (cores threads : ℕ) (s : Step) → IsRead s.entry → FitsEntry s.entry → s.core.0 < cores → cores ≤ 2 ^ 64 → s.thread.kind ≡ Thread → 0 < s.thread.serial → s.thread.serial ≤ threads → s.thread.serial < 2 ^ 64
+    → step_of cores threads (form_line (entry_form s s.entry)) ≡ Ok s
+step_line_again cores threads s read h hc few kind some hs fits = step_word_again cores threads s read h hc (omega arith) kind some hs fits
+
+-- the words of a step's line begin with its core
+pub step_line-words : (s : Step) (e : Entry) → words_of (form_line (entry_form s e)) ≡ decimal s.core.0 ∷ form_rest (entry_form s e)
+step_line-words s (Send a m) = form_line-words (entry_form s (Send a m)) (decimal-above 32 s.core.0 (omega arith)) refl
+step_line-words s e = form_line-words (entry_form s e) (decimal-above 32 s.core.0 (omega arith)) refl
