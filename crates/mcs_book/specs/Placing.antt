@@ -63,6 +63,10 @@ object_limit = 256
 abbrev pub cnode_limit : ℕ
 cnode_limit = 64
 
+-- how many cores a boot may have
+abbrev pub core_limit : ℕ
+core_limit = 16
+
 -- a new object, with a capability of these rights in an empty slot
 unfoldable pub make : Log → ObjId → Kind → ℕ → Form → Place → Checked Act
 make R t kind rights form place = do

@@ -1,5 +1,5 @@
--- What the code serves so far. Each of these ends when all of it is built: then every entry, core and kind is served.
-use Rattle.std.specs.Prelude.{ℕ, Bool, true, false, ◌≡◌, ◌≤◌, [], ◌∷◌}
+-- What the code serves so far. Each of these ends when all of it is built: then every entry and kind is served.
+use Rattle.std.specs.Prelude.{Bool, true, false, ◌≡◌, ◌≤◌, [], ◌∷◌}
 use Rattle.mcs_types.specs.declared.id.Kind.{Kind}
 use Rattle.mcs_types.specs.declared.id.Kind.TheVariants.{Notification, Reply}
 use Rattle.mcs_types.specs.declared.record.Form.{Form}
@@ -8,14 +8,20 @@ use Rattle.mcs_types.specs.declared.record.SendMode.TheVariants.{Plain}
 use Rattle.mcs_types.specs.declared.record.Rec.{Rec}
 use Rattle.mcs_types.specs.declared.record.Rec.TheVariants.{Made, Slot, Prio, Turns, Joins, Parts, Sent, Took, Holds}
 use Rattle.mcs_types.specs.declared.entry.Entry.{Entry}
-use Rattle.mcs_types.specs.declared.entry.Entry.TheVariants.{Send, Recv, CopyCap, MintCap, MoveCap}
+use Rattle.mcs_types.specs.declared.entry.Entry.TheVariants.{Send, NbSend, Recv, NbRecv, Wait, NbWait, BindCtx, UnbindCtx, CopyCap, MintCap, MoveCap}
 use Rattle.mcs_book.specs.Logs.{Log}
 use Rattle.mcs_book.specs.Guards.{FitsGuard, FitsSlot}
 
 -- the entries that the kernel takes
 abbrev pub IsServed : Entry → Type 0
 IsServed (Send a message) = Unit {0}
+IsServed (NbSend a message) = Unit {0}
 IsServed (Recv a r) = Unit {0}
+IsServed (NbRecv a r) = Unit {0}
+IsServed (Wait a) = Unit {0}
+IsServed (NbWait a) = Unit {0}
+IsServed (BindCtx s x) = Unit {0}
+IsServed (UnbindCtx s) = Unit {0}
 IsServed (CopyCap source dest rights) = Unit {0}
 IsServed (MintCap source dest rights badge) = Unit {0}
 IsServed (MoveCap source dest) = Unit {0}
@@ -50,7 +56,3 @@ abbrev pub serves_kind : Kind → Bool
 serves_kind Notification = false
 serves_kind Reply = false
 serves_kind _ = true
-
--- how many cores a boot may have (16 once several are served)
-abbrev pub core_limit : ℕ
-core_limit = 1

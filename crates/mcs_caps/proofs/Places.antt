@@ -1,29 +1,27 @@
 -- What may be put into the slots that were found.
-use Rattle.std.specs.Prelude.{ℕ, ◌≡◌, ◌<◌, ◌^◌, ◌∷◌, Bool, true, false, cond, not, Option, Some, None, Ok, IsTrue, is_none, is_some}
+use Rattle.std.specs.Prelude.{◌≡◌, ◌∷◌, Bool, true, false, cond, not, Option, Some, None, Ok, IsTrue, is_none, is_some}
 use Rattle.std.specs.Option.{IfSome}
-use Rattle.std.proofs.Common.{refl, ap, sym, ◌∙◌, subst}
+use Rattle.std.proofs.Common.{refl, ap, sym, subst}
 use Rattle.mcs_types.specs.declared.id.ObjId.{ObjId}
 use Rattle.mcs_types.specs.declared.id.Kind.TheVariants as kind
 use Rattle.mcs_types.specs.declared.cap.Cap.{Cap}
-use Rattle.mcs_types.specs.declared.cap.Guard.{Guard}
 use Rattle.mcs_types.specs.declared.cap.Place.{Place}
 use Rattle.mcs_types.specs.declared.record.Mode.{Mode}
 use Rattle.mcs_types.specs.declared.record.Mode.TheVariants.{Running, Restart, Inactive}
 use Rattle.mcs_types.specs.declared.record.Rec.TheVariants as rec
 use Rattle.mcs_book.specs.Logs.{Log, onto, same_kind}
-use Rattle.mcs_book.specs.Objects.{is_alive, form_of}
-use Rattle.mcs_book.specs.Slots.{SlotName, slot}
-use Rattle.mcs_book.specs.Lookup.{cnode_cap, radix_kept, slot_named}
+use Rattle.mcs_book.specs.Objects.{is_alive}
+use Rattle.mcs_book.specs.Slots.{SlotName}
+use Rattle.mcs_book.specs.Lookup.{slot_named}
 use Rattle.mcs_book.specs.Guards.{FitsGuard, FitsSlot}
-use Rattle.mcs_book.specs.Threads.{root_of}
 use Rattle.mcs_book.specs.Table.{wakes}
-use Rattle.mcs_book.specs.Sound.{Sound, Allowed, IsThere}
+use Rattle.mcs_book.specs.Sound.{Sound, Allowed}
 use Rattle.mcs_book.specs.Served.{AreServed}
 use Rattle.mcs_book.proofs.Checking.{OnPassed}
 use Rattle.mcs_book.proofs.FirmLookup.{IsSlotOf, slot_named-rooted}
 use Rattle.mcs_book.proofs.KeptLaws.{slot-alive}
 use Rattle.mcs_slots.specs.declared.slots.SlotId.{SlotId}
-use Rattle.mcs_cspace.specs.Spaces.{name_of, named_by}
+use Rattle.mcs_cspace.specs.Spaces.{named_by}
 use Rattle.mcs_state.specs.Entering.{IsEntering}
 use Rattle.mcs_state.proofs.Slotting.{slot-fits}
 use Rattle.mcs_caps.specs.declared.checks.Placing.{Placing}

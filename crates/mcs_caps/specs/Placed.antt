@@ -1,6 +1,5 @@
 -- What is known of the slots that were found.
-use Rattle.std.specs.Prelude.{ℕ, ◌≡◌, ◌<◌, ◌^◌, Some}
-use Rattle.mcs_types.specs.declared.id.ObjId.{ObjId}
+use Rattle.std.specs.Prelude.{◌≡◌, ◌<◌, ◌^◌, Some}
 use Rattle.mcs_types.specs.declared.id.Kind.TheVariants as kind
 use Rattle.mcs_types.specs.declared.cap.Cap.{Cap}
 use Rattle.mcs_book.specs.Logs.{Log}

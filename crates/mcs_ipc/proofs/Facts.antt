@@ -43,9 +43,9 @@ use Rattle.mcs_book.proofs.OpenLaws.{sound-ends, open_of-growing}
 use Rattle.mcs_state.specs.Numbers.{thread_at}
 use Rattle.mcs_state.specs.Now.{IsNumberOf}
 use Rattle.mcs_state.proofs.Answering.{none-closed, none-owed, made-from}
-use Rattle.mcs_ipc.specs.Rows.{kinded, writable, readable, with_reply, sendable, receivable, send_act}
+use Rattle.mcs_ipc.specs.Rows.{kinded, writable, readable, object_found, object_named, reply_found, reply_named, with_reply, sendable, receivable, alone_act, send_act}
 use Rattle.mcs_state.specs.Entering.{IsActing, OpenStand}
-use Rattle.mcs_state.proofs.Woken.{idle}
+use Rattle.mcs_state.proofs.Woken.{idle, woken-there}
 
 -- who stands in no line has no open message
 pub none-open : (R : Log) (t : ObjId) → OpenStand R → queue_of R t ≡ None → HasNoneOpen R t
@@ -80,16 +80,21 @@ pub sent-opens : (R : Log) (t e : ObjId) (mode : SendMode) (badge : Badge) (mess
 sent-opens R t e mode badge message sound = sent-open R (record { number = next_message R; sender = t; endpoint = e; mode = mode; badge = badge; message = message }) (sound-ends R sound)
 
 -- a send where nobody receives
-pub send-waits : (R : Log) (t : ObjId) (cap : Cap) (message : Content) → first_in R (Receivers cap.obj) ≡ None
-    → send_act t cap message R ≡ record { answer = Waits; records = rec.Sent t cap.obj how.Plain cap.badge message ∷ rec.Joins t (Senders cap.obj) None ∷ [] }
-unfolding send_act sends sends_to queues ◌then◌
-send-waits R t cap message none = rw none refl
+pub send-alone : (R : Log) (b : Bool) (t : ObjId) (cap : Cap) (message : Content) → first_in R (Receivers cap.obj) ≡ None → send_act b t cap message R ≡ alone_act b t cap message R
+unfolding send_act sends sends_to
+send-alone R b t cap message none = rw none refl
+
+-- it waits, and stands in line
+pub alone-waits : (R : Log) (t : ObjId) (cap : Cap) (message : Content)
+    → alone_act true t cap message R ≡ record { answer = Waits; records = rec.Sent t cap.obj how.Plain cap.badge message ∷ rec.Joins t (Senders cap.obj) None ∷ [] }
+unfolding queues ◌then◌
+alone-waits R t cap message = refl
 
 -- a send where somebody receives
-pub send-hands : (R : Log) (t : ObjId) (cap : Cap) (message : Content) (p : ObjId) → first_in R (Receivers cap.obj) ≡ Some p
-    → send_act t cap message R ≡ record { answer = Done; records = rec.Sent t cap.obj how.Plain cap.badge message ∷ rec.Took (next_message R) p ∷ rec.Parts p (Receivers cap.obj) ∷ rec.Turns p Running ∷ [] }
+pub send-hands : (R : Log) (b : Bool) (t : ObjId) (cap : Cap) (message : Content) (p : ObjId) → first_in R (Receivers cap.obj) ≡ Some p
+    → send_act b t cap message R ≡ record { answer = Done; records = rec.Sent t cap.obj how.Plain cap.badge message ∷ rec.Took (next_message R) p ∷ rec.Parts p (Receivers cap.obj) ∷ rec.Turns p Running ∷ [] }
 unfolding send_act sends sends_to handed ◌then◌
-send-hands R t cap message p first = rw first refl
+send-hands R b t cap message p first = rw first refl
 
 -- once a thread was woken, whoever has an open message stands in line still
 pub woken-stand : (R : Log) (t : ObjId) → OpenStand R → OpenStand (onto (wakes (mode_of R t) t R) R)
@@ -99,6 +104,11 @@ woken-stand R t stand = go (mode_of R t)
     go Restart x e m still = stand x e m (record { sent = still.sent; is_letter = still.is_letter; is_open = still.is_open; of_sender = still.of_sender; on_endpoint = still.on_endpoint })
     go Running x e m still = stand x e m still
     go Inactive x e m still = stand x e m still
+
+-- a reply object is there still when a thread was woken, if there is one
+pub woken-reply : (R : Log) (t : ObjId) (m : Mode) (r : Option ObjId) → IfSome r (λ o. IsThere R kind.Reply o) → IfSome r (λ o. IsThere (onto (wakes m t R) R) kind.Reply o)
+woken-reply R t m None there = tt
+woken-reply R t m (Some r) there = woken-there R t m kind.Reply r there
 
 -- who left its line is idle
 pub parted : (R : Log) (x : ObjId) (q : Queue) → AreServed R → IsIdle (rec.Parts x q ∷ R) x
@@ -159,15 +169,35 @@ sendable-there R t a c sound served e =
     let k = kinded-ok kind.Endpoint (capability R t a) c (writable-ok (kinded kind.Endpoint (capability R t a)) c e) in
     (k.1, found-alive R t a c sound served k.0)
 
--- the objects with which t receives are there
-pub receivable-there : (R : Log) (t : ObjId) (a r : ℕ) (at : Receiving) → Sound R → AreServed R → receivable R t a r ≡ Ok at → IsThere R kind.Endpoint at.endpoint × IsThere R kind.Reply at.reply
-receivable-there R t a r at sound served e = go (readable (kinded kind.Endpoint (capability R t a))) refl (kinded kind.Reply (capability R t r)) refl e
+-- the object of a kind that t names is there
+pub named-there : (R : Log) (t : ObjId) (k : Kind) (a : ℕ) (o : ObjId) → Sound R → AreServed R → object_named R t k a ≡ Ok o → IsThere R k o
+named-there R t k a o sound served e = go (kinded k (capability R t a)) refl e
   where
-    go : (m : Checked Cap) → readable (kinded kind.Endpoint (capability R t a)) ≡ m → (n : Checked Cap) → kinded kind.Reply (capability R t r) ≡ n → with_reply m n ≡ Ok at → IsThere R kind.Endpoint at.endpoint × IsThere R kind.Reply at.reply
+    go : (m : Checked Cap) → kinded k (capability R t a) ≡ m → object_found m ≡ Ok o → IsThere R k o
+    go (Err why) is h = absurd cc
+    go (Ok c) is h =
+        let it : c.obj ≡ o = cc in
+        let found = kinded-ok k (capability R t a) c is in
+        subst (λ x. IsThere R k x) it (found.1, found-alive R t a c sound served found.0)
+
+-- and so is the reply object that t names
+reply-there : (R : Log) (t : ObjId) (r : Option ℕ) (o : Option ObjId) → Sound R → AreServed R → reply_named R t r ≡ Ok o → IfSome o (λ x. IsThere R kind.Reply x)
+reply-there R t None o sound served e = let it : None ≡ o = cc in subst (λ (x : Option ObjId). IfSome x (λ y. IsThere R kind.Reply y)) it tt
+reply-there R t (Some r) o sound served e = go (object_named R t kind.Reply r) refl e
+  where
+    go : (m : Checked ObjId) → object_named R t kind.Reply r ≡ m → reply_found m ≡ Ok o → IfSome o (λ x. IsThere R kind.Reply x)
+    go (Err why) is h = absurd cc
+    go (Ok u) is h = let it : Some u ≡ o = cc in subst (λ (x : Option ObjId). IfSome x (λ y. IsThere R kind.Reply y)) it (named-there R t kind.Reply r u sound served is)
+
+-- the objects with which t receives are there
+pub receivable-there : (R : Log) (t : ObjId) (a : ℕ) (r : Option ℕ) (at : Receiving) → Sound R → AreServed R → receivable R t a r ≡ Ok at → IsThere R kind.Endpoint at.endpoint × IfSome at.reply (λ x. IsThere R kind.Reply x)
+receivable-there R t a r at sound served e = go (readable (kinded kind.Endpoint (capability R t a))) refl (reply_named R t r) refl e
+  where
+    go : (m : Checked Cap) → readable (kinded kind.Endpoint (capability R t a)) ≡ m → (n : Checked (Option ObjId)) → reply_named R t r ≡ n → with_reply m n ≡ Ok at
+        → IsThere R kind.Endpoint at.endpoint × IfSome at.reply (λ x. IsThere R kind.Reply x)
     go (Err why) p n q h = absurd cc
     go (Ok c) p (Err why) q h = absurd cc
-    go (Ok c) p (Ok d) q h =
-        let it : record { endpoint = c.obj; reply = d.obj } ≡ at = cc in
+    go (Ok c) p (Ok o) q h =
+        let it : record { endpoint = c.obj; reply = o } ≡ at = cc in
         let k = kinded-ok kind.Endpoint (capability R t a) c (readable-ok (kinded kind.Endpoint (capability R t a)) c p) in
-        let l = kinded-ok kind.Reply (capability R t r) d q in
-        subst (λ (x : Receiving). IsThere R kind.Endpoint x.endpoint × IsThere R kind.Reply x.reply) it ((k.1, found-alive R t a c sound served k.0), (l.1, found-alive R t r d sound served l.0))
+        subst (λ (x : Receiving). IsThere R kind.Endpoint x.endpoint × IfSome x.reply (λ y. IsThere R kind.Reply y)) it ((k.1, found-alive R t a c sound served k.0), reply-there R t r o sound served q)

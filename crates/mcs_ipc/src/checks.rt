@@ -4,17 +4,17 @@ ghost use Rattle.mcs_types.specs.declared.id.Kind.{Kind};
 ghost use Rattle.mcs_state.specs.Numbers.{thread_at};
 ghost use Rattle.mcs_state.specs.Now.{so_far};
 ghost use Rattle.mcs_state.specs.Tables.{ROOM};
-ghost use Rattle.mcs_ipc.specs.Rows.{kinded, writable, readable, with_reply, sendable, receivable};
+ghost use Rattle.mcs_ipc.specs.Rows.{kinded, writable, readable, object_named, reply_named, with_reply, sendable, receivable};
 
 use mcs_queues::{Lines, ThreadNo};
 use mcs_state::State;
 use mcs_types::{Cap, Kind, ObjId, Refusal};
 
-/// The endpoint and the reply object with which a thread receives.
+/// The endpoint and the reply object, if there is one, with which a thread receives.
 #[derive(Clone, Copy)]
 pub struct Receiving {
     pub endpoint: ObjId,
-    pub reply: ObjId,
+    pub reply: Option<ObjId>,
 }
 
 /// What was found, where it is a capability to an object of this kind.
@@ -65,8 +65,11 @@ fn with_read(found: Result<Cap, Refusal>) -> Result<Cap, Refusal>
     }
 }
 
-/// The objects of two capabilities, of which the first is tested first.
-fn both(cap: Result<Cap, Refusal>, reply: Result<Cap, Refusal>) -> Result<Receiving, Refusal>
+/// An endpoint and a reply object, of which the first is tested first.
+fn both(
+    cap: Result<Cap, Refusal>,
+    reply: Result<Option<ObjId>, Refusal>,
+) -> Result<Receiving, Refusal>
     ensures { result ≡ with_reply cap reply }
 {
     match (cap, reply) {
@@ -74,8 +77,42 @@ fn both(cap: Result<Cap, Refusal>, reply: Result<Cap, Refusal>) -> Result<Receiv
         (Ok(_), Err(refusal)) => Err(refusal),
         (Ok(cap), Ok(reply)) => Ok(Receiving {
             endpoint: cap.obj,
-            reply: reply.obj,
+            reply,
         }),
+    }
+}
+
+/// The object of a kind at an address.
+pub fn find_object<L: Lines>(
+    state: &State<L>,
+    thread: ThreadNo,
+    kind: Kind,
+    address: u64,
+) -> Result<ObjId, Refusal>
+    requires { thread.0 < ROOM }
+    ensures { result ≡ object_named (so_far state.now) (thread_at thread.0) kind address }
+{
+    match of_kind(state.capability(thread, address), kind) {
+        Err(refusal) => Err(refusal),
+        Ok(cap) => Ok(cap.obj),
+    }
+}
+
+/// The reply object at an address, where one is named.
+fn find_reply<L: Lines>(
+    state: &State<L>,
+    thread: ThreadNo,
+    reply: Option<u64>,
+) -> Result<Option<ObjId>, Refusal>
+    requires { thread.0 < ROOM }
+    ensures { result ≡ reply_named (so_far state.now) (thread_at thread.0) reply }
+{
+    match reply {
+        None => Ok(None),
+        Some(address) => match find_object(state, thread, Kind::Reply, address) {
+            Err(refusal) => Err(refusal),
+            Ok(reply) => Ok(Some(reply)),
+        },
     }
 }
 
@@ -96,13 +133,13 @@ pub fn objects_to_receive<L: Lines>(
     state: &State<L>,
     thread: ThreadNo,
     address: u64,
-    reply: u64,
+    reply: Option<u64>,
 ) -> Result<Receiving, Refusal>
     requires { thread.0 < ROOM }
     ensures { result ≡ receivable (so_far state.now) (thread_at thread.0) address reply }
 {
     both(
         with_read(of_kind(state.capability(thread, address), Kind::Endpoint)),
-        of_kind(state.capability(thread, reply), Kind::Reply),
+        find_reply(state, thread, reply),
     )
 }

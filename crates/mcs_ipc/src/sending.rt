@@ -1,4 +1,4 @@
-//! Send.
+//! Send and NBSend.
 ghost use Rattle.std.specs.Prelude.{◌≡◌, ◌<◌, ◌+◌, ◌∷◌, [], Some, None, length};
 ghost use Rattle.mcs_types.specs.declared.record.Mode.{Mode};
 ghost use Rattle.mcs_types.specs.declared.record.Queue.{Queue};
@@ -14,7 +14,7 @@ ghost use Rattle.mcs_book.specs.Table.{does};
 ghost use Rattle.mcs_state.specs.Numbers.{thread_at};
 ghost use Rattle.mcs_state.specs.Now.{so_far, adds_all};
 ghost use Rattle.mcs_state.specs.Tables.{HAND, ROOM};
-ghost use Rattle.mcs_ipc.specs.Rows.{send_act};
+ghost use Rattle.mcs_ipc.specs.Rows.{send_entry, send_act};
 ghost use Rattle.mcs_state.specs.Entering.{IsEntering, IsActing, OpenStand};
 
 use crate::checks::cap_to_send;
@@ -63,25 +63,62 @@ fn send_to<L: Lines>(
     state.turns(receiver, Mode::Running);
 }
 
-/// Sends over a capability to an endpoint: the first receiver takes the message, or else the thread waits.
-fn send_over<L: Lines>(state: &mut State<L>, thread: ThreadNo, cap: Cap, message: Message) -> Answer
+/// Sends over a capability to an endpoint: the first receiver takes the message. Where nobody receives, the thread waits if
+/// it blocks, and otherwise the message is dropped.
+fn send_over<L: Lines>(
+    state: &mut State<L>,
+    thread: ThreadNo,
+    cap: Cap,
+    message: Message,
+    blocks: bool,
+) -> Answer
     requires acting { IsActing (so_far state.old) (thread_at thread.0) }
     requires stand { OpenStand (so_far state.old) }
     requires there { IsThere (so_far state.old) Kind.Endpoint cap.obj }
     requires known { thread.0 < ROOM }
     requires few { length state.old.book.lines < BOOK_LINES }
     requires room { length state.old.hand + 8 < HAND }
-    ensures records { state.new ≡ adds_all (send_act (thread_at thread.0) cap message (so_far state.old)).records state.old }
-    ensures answer { result ≡ (send_act (thread_at thread.0) cap message (so_far state.old)).answer }
+    ensures records { state.new ≡ adds_all (send_act blocks (thread_at thread.0) cap message (so_far state.old)).records state.old }
+    ensures answer { result ≡ (send_act blocks (thread_at thread.0) cap message (so_far state.old)).answer }
 {
     match state.first(Queue::Receivers(cap.obj)) {
         None => {
-            send_alone(state, thread, cap, message);
-            Answer::Waits
+            if blocks {
+                send_alone(state, thread, cap, message);
+                Answer::Waits
+            } else {
+                Answer::Done
+            }
         }
         Some(receiver) => {
             send_to(state, thread, cap, message, receiver);
             Answer::Done
+        }
+    }
+}
+
+/// Send where it blocks, and NBSend where not.
+fn send_at<L: Lines>(
+    state: &mut State<L>,
+    thread: ThreadNo,
+    address: u64,
+    message: Message,
+    blocks: bool,
+) -> Answer
+    requires entering { IsEntering (so_far state.old) (thread_at thread.0) }
+    requires stand { OpenStand (so_far state.old) }
+    requires known { thread.0 < ROOM }
+    requires few { length state.old.book.lines < BOOK_LINES }
+    requires room { length state.old.hand + 10 < HAND }
+    ensures records { (core : CoreId) → state.new ≡ adds_all (does (so_far state.old) core (thread_at thread.0) (send_entry blocks address message)).records state.old }
+    ensures answer { (core : CoreId) → result ≡ (does (so_far state.old) core (thread_at thread.0) (send_entry blocks address message)).answer }
+{
+    state.is_sound();
+    match cap_to_send(state, thread, address) {
+        Err(refusal) => Answer::Refused(refusal),
+        Ok(cap) => {
+            wake(state, thread);
+            send_over(state, thread, cap, message, blocks)
         }
     }
 }
@@ -102,12 +139,23 @@ pub fn send<L: Lines>(
     ensures records { (core : CoreId) → state.new ≡ adds_all (does (so_far state.old) core (thread_at thread.0) (Entry.Send address message)).records state.old }
     ensures answer { (core : CoreId) → result ≡ (does (so_far state.old) core (thread_at thread.0) (Entry.Send address message)).answer }
 {
-    state.is_sound();
-    match cap_to_send(state, thread, address) {
-        Err(refusal) => Answer::Refused(refusal),
-        Ok(cap) => {
-            wake(state, thread);
-            send_over(state, thread, cap, message)
-        }
-    }
+    send_at(state, thread, address, message, true)
+}
+
+/// NBSend: as Send, but where nobody receives the message is dropped, with no record and the same answer.
+pub fn nb_send<L: Lines>(
+    state: &mut State<L>,
+    thread: ThreadNo,
+    address: u64,
+    message: Message,
+) -> Answer
+    requires entering { IsEntering (so_far state.old) (thread_at thread.0) }
+    requires stand { OpenStand (so_far state.old) }
+    requires known { thread.0 < ROOM }
+    requires few { length state.old.book.lines < BOOK_LINES }
+    requires room { length state.old.hand + 10 < HAND }
+    ensures records { (core : CoreId) → state.new ≡ adds_all (does (so_far state.old) core (thread_at thread.0) (Entry.NbSend address message)).records state.old }
+    ensures answer { (core : CoreId) → result ≡ (does (so_far state.old) core (thread_at thread.0) (Entry.NbSend address message)).answer }
+{
+    send_at(state, thread, address, message, false)
 }

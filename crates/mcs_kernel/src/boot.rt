@@ -5,7 +5,7 @@ ghost use Rattle.mcs_types.specs.declared.boot.BootFault.{BootFault};
 ghost use Rattle.mcs_book.specs.Logs.{counted};
 ghost use Rattle.mcs_book.specs.Objects.{makes_kind, form_of};
 ghost use Rattle.mcs_book.specs.Lookup.{radix_kept};
-ghost use Rattle.mcs_book.specs.Served.{core_limit};
+ghost use Rattle.mcs_book.specs.Placing.{core_limit};
 ghost use Rattle.mcs_book.specs.Boots.{boot_check, boot_log, is_object, IsFaultless};
 
 mod checks;
@@ -14,13 +14,10 @@ mod taking;
 use checks::{check, exists_as};
 use mcs_queues::{Lines, PlainLines};
 use mcs_state::State;
-use mcs_types::{BootFault, BootLine, Kind, ObjId, OutOfMemory};
+use mcs_types::{BootFault, BootLine, CORES, Kind, ObjId, OutOfMemory};
 use std::alloc::Global;
 use std::marker::Model;
 use taking::takes_line;
-
-/// How many cores a boot may have so far.
-const SERVED_CORES: u8 = 1;
 
 /// How a machine begins: the number of cores, and lines with which nothing is wrong (own). Clauses see the lines newest
 /// first.
@@ -42,14 +39,14 @@ impl Model for Boot {
 
 impl Boot {
     /// A boot with this number of cores and no other line. Number (3) exactly where there is no core, or there are more
-    /// than are served so far (1); otherwise it fails only out of memory (10).
+    /// than 16; otherwise it fails only out of memory (10).
     pub fn new(alloc: Global, cores: u8) -> Result<Boot, BootFault>
         ensures cores { IfOk result (λ b. b.cores ≡ cores) }
         ensures lines { IfOk result (λ b. b.lines ≡ []) }
         ensures number { (result ≡ Err BootFault.Number) ↔ ((cores < 1) ⊎ (core_limit < cores)) }
         ensures fault { IfErr result (λ f. (f ≡ BootFault.Number) ⊎ (f ≡ BootFault.OutOfMemory)) }
     {
-        if cores < 1 || cores > SERVED_CORES {
+        if cores < 1 || cores > CORES {
             return Err(BootFault::Number);
         }
         match State::new(alloc, cores) {

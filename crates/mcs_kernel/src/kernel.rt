@@ -20,7 +20,7 @@ use crate::boot::{Boot, boot_state};
 use crate::fault::EnterFault;
 use mcs_book::Book;
 use mcs_caps::{copy_cap, mint_cap, move_cap};
-use mcs_ipc::{receive, send};
+use mcs_ipc::{bind_context, nb_receive, nb_send, nb_wait, receive, send, unbind_context, wait};
 use mcs_queues::{Lines, ThreadNo};
 use mcs_state::State;
 use mcs_types::{
@@ -67,13 +67,23 @@ fn is_in_range(entry: &Entry)
     ensures { InRange entry.now }
 {
     match entry {
-        Entry::Send { cap, message } => {
+        Entry::Send { cap, message } | Entry::NbSend { cap, message } => {
             let _cap = *cap;
             message.is_in_range();
         }
-        Entry::Recv { cap, reply } => {
+        Entry::Recv { cap, reply } | Entry::NbRecv { cap, reply } => {
             let _cap = *cap;
             let _reply = *reply;
+        }
+        Entry::Wait { cap } | Entry::NbWait { cap } => {
+            let _cap = *cap;
+        }
+        Entry::BindCtx { context, thread } => {
+            let _context = *context;
+            let _thread = *thread;
+        }
+        Entry::UnbindCtx { context } => {
+            let _context = *context;
         }
         Entry::CopyCap {
             source,
@@ -116,7 +126,16 @@ fn operate<L: Lines>(state: &mut State<L>, thread: ThreadNo, entry: &Entry) -> A
 {
     match entry {
         Entry::Send { cap, message } => send(state, thread, *cap, message.copy()),
+        Entry::NbSend { cap, message } => nb_send(state, thread, *cap, message.copy()),
         Entry::Recv { cap, reply } => receive(state, thread, *cap, *reply),
+        Entry::NbRecv { cap, reply } => nb_receive(state, thread, *cap, *reply),
+        Entry::Wait { cap } => wait(state, thread, *cap),
+        Entry::NbWait { cap } => nb_wait(state, thread, *cap),
+        Entry::BindCtx {
+            context,
+            thread: holder,
+        } => bind_context(state, thread, *context, *holder),
+        Entry::UnbindCtx { context } => unbind_context(state, thread, *context),
         Entry::CopyCap {
             source,
             dest,

@@ -2,7 +2,7 @@
 use Rattle.std.specs.Prelude.{ℕ, ◌<◌, ◌≤◌, ◌^◌, ◌≡◌, nat_lt, nat_le, Bool, true, cond, ◌&&◌, is_ok, List, [], ◌∷◌, Option, Some, None, Result, Ok, Err, refl, length, decimal}
 use Rattle.std.proofs.Common.{sym, ◌∙◌, ap, arith}
 use Rattle.std.proofs.Math.Pow.{pow_mono}
-use Rattle.std.proofs.lemmas.Bool.{ltb-true, leb-true}
+use Rattle.std.proofs.lemmas.Bool.{ltb-true, leb-true, le-leb}
 use Rattle.mcs_types.specs.declared.id.ObjId.{ObjId}
 use Rattle.mcs_types.specs.declared.id.Kind.TheVariants as kind
 use Rattle.mcs_types.specs.declared.cap.Cap.{Cap}
@@ -15,7 +15,7 @@ use Rattle.mcs_book.specs.Checks.{Passed}
 use Rattle.mcs_book.specs.Logs.{Log, same_kind}
 use Rattle.mcs_book.specs.Lookup.{radix_kept}
 use Rattle.mcs_book.specs.Objects.{was_made, form_of}
-use Rattle.mcs_book.specs.Served.{core_limit}
+use Rattle.mcs_book.specs.Placing.{core_limit}
 use Rattle.mcs_book.specs.Sound.{Sound}
 use Rattle.mcs_book.specs.Boots.{Boot, IsFaultless, boot_log, boot_check, is_object, is_context_any, fits_cnode, fits_guard, fits_kind}
 use Rattle.mcs_book.specs.History.{IsLegal}
@@ -153,6 +153,5 @@ boots-again cores (line ∷ lines) faultless few =
 pub cores-again : (cores : ℕ) → 1 ≤ cores → cores ≤ core_limit → AreCoresAgain cores
 unfolding AreCoresAgain spelled by_boot first_boot cores_of
 cores-again cores some few =
-    let one : cores ≡ 1 = omega arith in
     let text : List ℕ = form_line (cores_form cores) in
-    ap (spelled no_script text) (cores_line-words cores) ∙ ap (λ key. by_boot None [] text key (decimal cores ∷ [])) boot_key-cores ∙ rw (cores_line-again cores (omega arith), one) refl
+    ap (spelled no_script text) (cores_line-words cores) ∙ ap (λ key. by_boot None [] text key (decimal cores ∷ [])) boot_key-cores ∙ rw (cores_line-again cores (omega arith), le-leb 1 cores some, le-leb cores core_limit few) refl

@@ -3,12 +3,15 @@ use Rattle.std.specs.Prelude.{◌+◌, ◌≤◌, ◌≡◌, List, [], ◌∷◌
 use Rattle.std.proofs.Common.{◌∙◌, ap, length-append, arith}
 use Rattle.std.proofs.lemmas.List.{length-map, length-reverse}
 use Rattle.mcs_book.specs.Boots.{Boot}
-use Rattle.mcs_book.specs.History.{Line, Book, IsLegal, steps_of}
-use Rattle.mcs_kernel.specs.Runs.{AreServed}
+use Rattle.mcs_book.specs.History.{Line, Book, steps_of}
 use Rattle.mcs_text.specs.Table.{Form, form_line, cores_form, boot_form}
 use Rattle.mcs_text.specs.Reading.{lines_of}
 use Rattle.mcs_sim.specs.Trace.{trace}
 use Rattle.mcs_sim.specs.Script.{steps}
+use Rattle.mcs_sim.specs.Runs.{script_trace, written}
+use Rattle.mcs_sim.proofs.RunLaws.{written-is}
+use Rattle.mcs_book.proofs.ReplayLaws.{legal-replayed}
+use Rattle.mcs_rereading.specs.Readable.{IsReadable}
 use Rattle.mcs_rereading.proofs.Lines.{lines_forms, trace_forms, lines_of-trace}
 use Rattle.mcs_rereading.proofs.WholeTraces.{IsAgain, AreLinesAgain, trace-again}
 use Rattle.mcs_rereading.proofs.SmallLines.{AreSmallLines, small-legal}
@@ -29,13 +32,18 @@ boot-few b =
     let count : length (map boot_form (reverse b.boot.lines)) ≡ length b.boot.lines = length-map (reverse b.boot.lines) boot_form ∙ length-reverse b.boot.lines in
     omega (arith, all, count)
 
--- the law
-pub legal-again : (b : Book) → IsLegal b → AreServed (steps_of b) → length (lines_of (trace b)) ≤ 2000000 → steps (trace b) ≡ (record { boot = Some b.boot; steps = steps_of b }, None)
-legal-again b legal served short =
-    let few : length b.boot.lines ≤ 2000000 = omega (arith, boot-few b) in
+-- the trace of such a book gives its boot and its steps
+pub legal-again : (b : Book) → IsReadable b → steps (trace b) ≡ (record { boot = Some b.boot; steps = steps_of b }, None)
+legal-again b is =
+    let few : length b.boot.lines ≤ 2000000 = omega (arith, boot-few b, is.short) in
     let again : IsAgain b = record {
-      cores = cores-again b.boot.cores legal.boot.some_core legal.boot.few_cores;
-      boot = boots-again b.boot.cores b.boot.lines legal.boot few;
-      lines = lines-again b.boot b.lines (steps-again b.boot b.lines legal served few) (small-legal b legal);
+      cores = cores-again b.boot.cores is.legal.boot.some_core is.legal.boot.few_cores;
+      boot = boots-again b.boot.cores b.boot.lines is.legal.boot few;
+      lines = lines-again b.boot b.lines (steps-again b.boot b.lines is.legal is.served few) (small-legal b is.legal);
     } in
-    trace-again b again short
+    trace-again b again is.short
+
+-- and so it is written again
+pub legal-written : (b : Book) → IsReadable b → written (trace b) ≡ trace b
+unfolding script_trace
+legal-written b is = written-is (trace b) (record { boot = Some b.boot; steps = steps_of b }) None (legal-again b is) ∙ ap trace (legal-replayed b is.legal)

@@ -10,13 +10,14 @@ use Rattle.mcs_types.specs.declared.boot.BootLine.TheVariants as boot
 use Rattle.mcs_types.specs.declared.record.Rec.TheVariants as rec
 use Rattle.mcs_types.specs.declared.entry.Step.{Step}
 use Rattle.mcs_types.specs.declared.entry.Entry.{Entry}
-use Rattle.mcs_types.specs.declared.entry.Entry.TheVariants.{Send, Recv, CopyCap, MintCap, MoveCap}
+use Rattle.mcs_types.specs.declared.entry.Entry.TheVariants.{Send, NbSend, Recv, NbRecv, Wait, NbWait, BindCtx, UnbindCtx, CopyCap, MintCap, MoveCap}
 use Rattle.mcs_book.specs.Logs.{Log, onto, counted, same, same_kind}
 use Rattle.mcs_book.specs.Objects.{makes_kind, was_made}
 use Rattle.mcs_book.specs.Threads.{threads}
 use Rattle.mcs_book.specs.Boots.{Boot, boot_line, boot_log}
 use Rattle.mcs_book.specs.Ranges.{InRange}
-use Rattle.mcs_book.specs.Served.{IsServed, core_limit}
+use Rattle.mcs_book.specs.Served.{IsServed}
+use Rattle.mcs_book.specs.Placing.{core_limit}
 use Rattle.mcs_book.specs.Sound.{Sound}
 use Rattle.mcs_book.specs.History.{Line, IsLegal, past, steps_of}
 use Rattle.mcs_book.proofs.EntersLaws.{enters-made}
@@ -88,7 +89,13 @@ boot-serial lines o sound made =
 -- the entries that are served are read
 read-served : (e : Entry) → IsServed e → IsRead e
 read-served (Send a m) h = tt
+read-served (NbSend a m) h = tt
 read-served (Recv a r) h = tt
+read-served (NbRecv a r) h = tt
+read-served (Wait a) h = tt
+read-served (NbWait a) h = tt
+read-served (BindCtx s x) h = tt
+read-served (UnbindCtx s) h = tt
 read-served (CopyCap source dest rights) h = tt
 read-served (MintCap source dest rights badge) h = tt
 read-served (MoveCap source dest) h = tt
@@ -97,7 +104,13 @@ read-served _ h = absurd h
 -- their numbers are in the ranges of the reader
 fits-served : (e : Entry) → IsServed e → InRange e → FitsEntry e
 fits-served (Send a m) h range = (range.0, record { label = range.1.label; few = range.1.few; words = range.1.words })
+fits-served (NbSend a m) h range = (range.0, record { label = range.1.label; few = range.1.few; words = range.1.words })
 fits-served (Recv a r) h range = range
+fits-served (NbRecv a r) h range = range
+fits-served (Wait a) h range = range
+fits-served (NbWait a) h range = range
+fits-served (BindCtx s x) h range = range
+fits-served (UnbindCtx s) h range = range
 fits-served (CopyCap source dest rights) h range = range
 fits-served (MintCap source dest rights badge) h range = range
 fits-served (MoveCap source dest) h range = range

@@ -3,4 +3,4 @@
 
 mod laws;
 
-pub use laws::read_again;
+pub use laws::{read_again, written_again};

@@ -1,5 +1,5 @@
 -- From a line of the boot as it is spelled to the line that it is.
-use Rattle.std.specs.Prelude.{ℕ, Bool, true, false, Result, Option, Some, None, Ok, Err, nat_lt, ◌==◌, if◌then◌else◌, ◌∷◌}
+use Rattle.std.specs.Prelude.{ℕ, Bool, true, false, Result, Option, Some, None, Ok, Err, nat_lt, nat_le, ◌&&◌, if◌then◌else◌, ◌∷◌}
 use Rattle.mcs_types.specs.declared.id.ObjId.{ObjId}
 use Rattle.mcs_types.specs.declared.id.Kind.{Kind}
 use Rattle.mcs_types.specs.declared.id.Kind.TheVariants as kind
@@ -10,6 +10,7 @@ use Rattle.mcs_types.specs.declared.boot.BootFault.{BootFault}
 use Rattle.mcs_types.specs.declared.boot.BootFault.TheVariants as why
 use Rattle.mcs_book.specs.Logs.{Log}
 use Rattle.mcs_book.specs.Checks.{Passed}
+use Rattle.mcs_book.specs.Placing.{core_limit}
 use Rattle.mcs_book.specs.Boots.{Boot, boot_log, boot_check, is_object}
 use Rattle.mcs_text.specs.declared.fault.LineFault.{LineFault}
 use Rattle.mcs_text.specs.declared.fault.LineFault.TheVariants as fault
@@ -18,10 +19,10 @@ use Rattle.mcs_text.specs.declared.boot.RawBootLine.{RawBootLine}
 use Rattle.mcs_text.specs.declared.boot.RawBootLine.TheVariants as raw
 use Rattle.mcs_text.specs.Reading.{◌>>=◌, below, word_limit}
 
--- the number of cores: one, as more are not served yet
+-- the number of cores: at least one, and no more than a boot may have
 unfoldable pub cores_of : Option ℕ → Result ℕ LineFault
 cores_of None = Err fault.Number
-cores_of (Some n) = if n == 1 then Ok 1 else Err fault.Number
+cores_of (Some n) = if nat_le 1 n && nat_le n core_limit then Ok n else Err fault.Number
 
 -- a serial that fits its type; of any other there is no object, as there is none of serial 0
 abbrev pub serial_of : Option ℕ → ℕ

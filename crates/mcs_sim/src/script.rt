@@ -13,7 +13,7 @@ use mcs_text::{
     read_boot_line, read_step,
 };
 use mcs_types::{
-    Badge, BootFault, BootLine, Cap, CoreId, Guard, Kind, ObjId, Prio, SCRIPT_LINE_BYTES,
+    Badge, BootFault, BootLine, CORES, Cap, CoreId, Guard, Kind, ObjId, Prio, SCRIPT_LINE_BYTES,
     SCRIPT_LINES, Step,
 };
 use std::alloc::Global;
@@ -72,9 +72,6 @@ impl From<BootFault> for ReadFault {
     }
 }
 
-/// The only number of cores that is served yet.
-const ONE_CORE: u64 = 1;
-
 /// Whether a line is skipped.
 fn is_skipped(line: &[u8]) -> bool
     ensures { result ≡ is_skipped line.now }
@@ -99,7 +96,7 @@ fn cores_of(cores: RawNumber) -> Result<u8, LineFault>
     ensures { Gives (λ n. n) result (cores_of cores) }
 {
     match cores {
-        Some(n) if n == ONE_CORE => Ok(ONE_CORE as u8),
+        Some(n) if n >= 1 && n <= CORES as u64 => Ok(n as u8),
         _ => Err(LineFault::Number),
     }
 }

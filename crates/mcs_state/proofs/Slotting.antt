@@ -1,5 +1,5 @@
 -- The pages of the CNodes after an object was made or a slot was filled, and the capability space that they are.
-use Rattle.std.specs.Prelude.{ℕ, zero, suc, ◌≡◌, ◌<◌, ◌≤◌, ◌+◌, ◌-◌, ◌^◌, ◌==◌, ◌&&◌, Bool, true, false, cond, List, [], ◌∷◌, ◌++◌, length, Option, Some, None, unwrap_or, slice_get}
+use Rattle.std.specs.Prelude.{ℕ, zero, suc, ◌≡◌, ◌<◌, ◌+◌, ◌-◌, ◌^◌, ◌==◌, ◌&&◌, Bool, true, false, cond, List, [], ◌∷◌, ◌++◌, length, Option, Some, None, unwrap_or, slice_get}
 use Rattle.std.specs.Option.{IfSome}
 use Rattle.std.proofs.Common.{refl, ap, sym, ◌∙◌, subst, arith}
 use Rattle.std.proofs.lemmas.Grind.{common_steps}
@@ -12,11 +12,11 @@ use Rattle.mcs_types.specs.declared.record.Form.{Form}
 use Rattle.mcs_types.specs.declared.record.Form.TheVariants as form
 use Rattle.mcs_types.specs.declared.record.Rec.TheVariants as rec
 use Rattle.mcs_book.specs.Logs.{Log, counted, given, same, same_kind}
-use Rattle.mcs_book.specs.Objects.{makes_kind, next_id, form_of, was_made, is_alive}
+use Rattle.mcs_book.specs.Objects.{makes_kind, next_id, form_of}
 use Rattle.mcs_book.specs.Slots.{slot}
-use Rattle.mcs_book.specs.Lookup.{Space, space_of, radix_kept, cnode_cap}
+use Rattle.mcs_book.specs.Lookup.{space_of, radix_kept, cnode_cap}
 use Rattle.mcs_book.specs.Guards.{FitsGuard, FitsSlot}
-use Rattle.mcs_book.specs.Sound.{Sound, Allowed, IsThere, IsFormOf}
+use Rattle.mcs_book.specs.Sound.{Sound, IsThere, IsFormOf}
 use Rattle.mcs_book.specs.Served.{AreServed}
 use Rattle.mcs_book.proofs.Same.{same-equal}
 use Rattle.mcs_book.proofs.MadeLaws.{alive-made}

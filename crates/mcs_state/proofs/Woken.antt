@@ -1,5 +1,5 @@
 -- What holds of a thread that enters, and after it was woken.
-use Rattle.std.specs.Prelude.{◌≡◌, ◌∷◌, Some, None}
+use Rattle.std.specs.Prelude.{◌≡◌, Some, None}
 use Rattle.std.proofs.Common.{refl, sym, ◌∙◌}
 use Rattle.mcs_types.specs.declared.id.ObjId.{ObjId}
 use Rattle.mcs_types.specs.declared.id.Kind.{Kind}

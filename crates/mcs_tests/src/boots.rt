@@ -99,5 +99,6 @@ fn faults_are_told(rt: HostRuntime) {
 #[test]
 fn cores_are_limited(rt: HostRuntime) {
     assert_eq!(rt; Boot::new(rt.alloc(), 0).err(), Some(BootFault::Number));
-    assert_eq!(rt; Boot::new(rt.alloc(), 2).err(), Some(BootFault::Number));
+    assert_eq!(rt; Boot::new(rt.alloc(), 16).map(|boot| boot.cores()), Ok(16));
+    assert_eq!(rt; Boot::new(rt.alloc(), 17).err(), Some(BootFault::Number));
 }

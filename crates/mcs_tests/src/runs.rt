@@ -71,8 +71,34 @@ slot c1 1 c2 0 0
 slot c2 5 e1 w 3
 ";
 
+/// A sender on the first of 16 cores, and a receiver on the last.
+const MANY_CORES: &str = "\
+cores 16
+cnode 5
+endpoint
+reply
+context 0
+context 15
+thread 10 255 c1 59 0 run s1
+thread 10 255 c1 59 0 run s2
+slot c1 1 e1 w 9
+slot c1 2 e1 r 0
+slot c1 8 r1
+";
+
+/// A thread on each of two cores.
+const TWO_CORES: &str = "\
+cores 2
+cnode 4
+context 0
+context 1
+thread 10 255 c1 60 0 run s1
+thread 10 255 c1 60 0 run s2
+slot c1 1 t1
+";
+
 /// A boot, steps after it, and what the trace has after it.
-pub const RUNS: [(&str, &str, &str); 7] = [
+pub const RUNS: [(&str, &str, &str); 11] = [
     // A message that waits for its receiver.
     (
         BOOT,
@@ -284,6 +310,86 @@ pub const RUNS: [(&str, &str, &str); 7] = [
 + joins t1 e1.send
 ",
     ),
+    // A message from core to core. Nobody enters on a core of which he has no context.
+    (
+        MANY_CORES,
+        "\
+15 t1 send 1 7 5
+0 t1 send 1 7 5
+0 t2 recv 2 8
+15 t2 recv 2 8
+",
+        "\
+0 t1 send 1 7 5
+= waits
++ sent m0 t1 e1 send 9 7 5
++ joins t1 e1.send
+15 t2 recv 2 8
+= got 9 7 5
++ took m0 t2
++ parts t1 e1.send
++ turns t1 running
+",
+    ),
+    // Nobody is there to take a message, and none to be taken.
+    (
+        BOOT,
+        "\
+0 t1 nbsend 1 7 5
+0 t2 nbrecv 2 8
+",
+        "\
+0 t1 nbsend 1 7 5
+= done
+0 t2 nbrecv 2 8
+= empty
+",
+    ),
+    // Contexts that are unbound and bound, and a thread without one, which is turned away.
+    (
+        BOOT,
+        "\
+0 t1 bind 22 12
+0 t1 unbind 12
+0 t1 unbind 22
+0 t1 unbind 22
+0 t2 nbsend 1 1
+0 t1 bind 22 13
+0 t1 bind 22 12
+0 t2 wait 2
+",
+        "\
+0 t1 bind 22 12
+= refused 9
+0 t1 unbind 12
+= refused 4
+0 t1 unbind 22
+= done
++ holds s2 -
+0 t1 unbind 22
+= refused 10
+0 t1 bind 22 13
+= refused 9
+0 t1 bind 22 12
+= done
++ holds s2 t2
+0 t2 wait 2
+= waits
++ joins t2 e1.recv -
+",
+    ),
+    // A wait on a core of which the thread has no context, which is turned away, and one over a capability to a thread.
+    (
+        TWO_CORES,
+        "\
+1 t1 nbwait 1
+0 t1 nbwait 1
+",
+        "\
+0 t1 nbwait 1
+= refused 4
+",
+    ),
 ];
 
 /// What a script gives, and the bytes that it writes.
@@ -314,7 +420,9 @@ fn faulty_lines_are_told(rt: HostRuntime) -> Result<(), Fail> {
     let faults = [
         ("", 1, LineFault::NoCores),
         ("# nothing\n", 2, LineFault::NoCores),
+        ("cores 0\n", 1, LineFault::Number),
         ("cores 17\n", 1, LineFault::Number),
+        ("cores 16\n16 t1 recv 1 2\n", 2, LineFault::Number),
         ("cores 1\ncores 1\n", 2, LineFault::Taken),
         (
             "cores 1\ncnode 5\nendpoint\nslot c1 3 e1 w 99999999999999999999\n",
@@ -330,10 +438,24 @@ fn faulty_lines_are_told(rt: HostRuntime) -> Result<(), Fail> {
         assert_eq!(rt; result, Err(SimFault::Script { line, why }), "{script}");
         assert!(rt; written.is_empty());
     }
-    let script = format!(in rt.alloc(); "{BOOT}0 t2 recv 2 8\nendpoint\n")?;
-    let (result, written) = run(rt.alloc(), script.as_bytes())?;
-    let why = LineFault::LateBoot;
-    assert_eq!(rt; result, Err(SimFault::Script { line: 38, why }));
-    assert!(rt; written.len() > BOOT.len());
+    let steps = [
+        (
+            "0 t1 nbsend 1 7\nendpoint\n",
+            "0 t1 nbsend 1 7\n= done\n",
+            LineFault::LateBoot,
+        ),
+        (
+            "0 t1 nbsend 1 7\n0 t1 nbs",
+            "0 t1 nbsend 1 7\n= done\n",
+            LineFault::Form,
+        ),
+    ];
+    for (script, trace, why) in steps {
+        let script = format!(in rt.alloc(); "{BOOT}{script}")?;
+        let (result, written) = run(rt.alloc(), script.as_bytes())?;
+        assert_eq!(rt; result, Err(SimFault::Script { line: 38, why }));
+        let want = format!(in rt.alloc(); "{BOOT}{trace}")?;
+        assert_eq!(rt; written.as_slice(), want.as_bytes());
+    }
     Ok(())
 }

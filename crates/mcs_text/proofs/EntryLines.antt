@@ -1,9 +1,10 @@
 -- The line of a step is read as that step, for each entry that is read.
 use Rattle.std.proofs.Common.{◌≡◌, ℕ, suc, ◌<◌, ◌≤◌, ◌^◌, true, Some, Ok, List, [], ◌∷◌, ◌++◌, map, refl, sym, ap, subst, ◌∙◌, arith, decimal}
 use Rattle.std.specs.List.{list_all, flat_map, AllByRecursion, All}
+use Rattle.mcs_types.specs.Views.{Content}
 use Rattle.mcs_types.specs.declared.cap.Place.{Place}
 use Rattle.mcs_types.specs.declared.entry.Entry.{Entry}
-use Rattle.mcs_types.specs.declared.entry.Entry.TheVariants.{Send, Recv, CopyCap, MintCap, MoveCap}
+use Rattle.mcs_types.specs.declared.entry.Entry.TheVariants.{Send, NbSend, Recv, NbRecv, Wait, NbWait, BindCtx, UnbindCtx, CopyCap, MintCap, MoveCap}
 use Rattle.mcs_types.specs.declared.entry.Step.{Step}
 use Rattle.mcs_types.specs.declared.id.Kind.{Kind}
 use Rattle.mcs_types.specs.declared.id.Kind.TheVariants.{Thread}
@@ -14,9 +15,9 @@ use Rattle.mcs_text.specs.declared.token.Token.TheVariants as tok
 use Rattle.mcs_text.specs.Keys.{key_text, entry_key}
 use Rattle.mcs_text.specs.Spelling.{rights_text}
 use Rattle.mcs_text.specs.Table.{form_line, step_form, entry_form}
-use Rattle.mcs_text.specs.Reading.{number_at, end_at, place_at, place_of, copy_at, mint_at, move_at, entry_at, step_of, words_of, word_limit, IsRead}
-use Rattle.mcs_text.specs.Laws.{step_with, IsReadAgain, IsPlace, FitsEntry}
-use Rattle.mcs_text.proofs.RoundTrip.{number-decimal, below-is, rights_again, recv_again, send_again, step_again}
+use Rattle.mcs_text.specs.Reading.{◌>>=◌, number_at, end_at, sent_at, pair_at, address_at, place_at, place_of, copy_at, mint_at, move_at, entry_at, step_of, words_of, word_limit, IsRead}
+use Rattle.mcs_text.specs.Laws.{step_with, IsReadAgain, IsWord, IsMessage, IsPlace, FitsEntry}
+use Rattle.mcs_text.proofs.RoundTrip.{number-decimal, below-is, rights_again, sent_again, pair_again, address_again, step_again}
 use Rattle.mcs_text.proofs.TextBytes.{is_above, decimal-above}
 use Rattle.mcs_text.proofs.FormWords.{token_words, form_rest, form_line-spread, form_line-words, is_plain, rest-plain, NoSpace-above}
 
@@ -33,6 +34,25 @@ unfolding place_of
 place_of-again p h = rw (below-is word_limit p.index h.0, below-is 256 p.depth h.1) refl
 
 -- ---- entries
+
+by_recursion : (P : ℕ → Type 0) (xs : List ℕ) → All P xs → AllByRecursion P xs
+by_recursion P [] h = tt
+by_recursion P (x ∷ xs) h = (h 0 0 (omega arith), by_recursion P xs (λ i d lt. h (suc i) d (omega arith)))
+
+-- an entry whose key is followed by an address and a message
+message_again : (key : Key) (e : ℕ → Content → Entry) (a : ℕ) (m : Content) → ((ws : List (List ℕ)) → entry_at (key_text key ∷ ws) ≡ (sent_at ws >>= λ s. Ok (e s.0 s.1))) → IsWord a × IsMessage m
+    → entry_at (key_text key ∷ map decimal (a ∷ m.label ∷ m.words)) ≡ Ok (e a m)
+message_again key e a m read h = read _ ∙ rw (sent_again a m.label m.words h.0 h.1.label (by_recursion (λ w. w < 2 ^ 64) m.words h.1.words) h.1.few) refl
+
+-- an entry whose key is followed by two addresses
+addresses_again : (key : Key) (e : ℕ → ℕ → Entry) (a b : ℕ) → ((ws : List (List ℕ)) → entry_at (key_text key ∷ ws) ≡ (pair_at ws >>= λ p. Ok (e p.0 p.1))) → IsWord a × IsWord b
+    → entry_at (key_text key ∷ decimal a ∷ decimal b ∷ []) ≡ Ok (e a b)
+addresses_again key e a b read h = read _ ∙ rw (pair_again a b h.0 h.1) refl
+
+-- an entry whose key is followed by one address
+one_again : (key : Key) (e : ℕ → Entry) (a : ℕ) → ((ws : List (List ℕ)) → entry_at (key_text key ∷ ws) ≡ (address_at ws >>= λ n. Ok (e n))) → IsWord a
+    → entry_at (key_text key ∷ decimal a ∷ []) ≡ Ok (e a)
+one_again key e a read h = read _ ∙ rw (address_again a h) refl
 
 copy_again : (p d : Place) (r : ℕ) → IsPlace p → IsPlace d → r < 16
     → entry_at (key_text k.Copy ∷ decimal p.index ∷ decimal p.depth ∷ decimal d.index ∷ decimal d.depth ∷ rights_text r ∷ []) ≡ Ok (CopyCap p d r)
@@ -70,16 +90,24 @@ step_form-again cores threads c s e key others ns hc fits some hs fits' plain pl
     ap (step_of cores threads) (form_line-spread (step_form (step_with c s e) (tok.Key key ∷ others) ns))
     ∙ step_again cores threads c s e (key_text key) (flat_map token_words others ++ map decimal ns) hc fits some hs fits' (NoSpace-above _ plain) (rest-plain others ns plains) again
 
-by_recursion : (P : ℕ → Type 0) (xs : List ℕ) → All P xs → AllByRecursion P xs
-by_recursion P [] h = tt
-by_recursion P (x ∷ xs) h = (h 0 0 (omega arith), by_recursion P xs (λ i d lt. h (suc i) d (omega arith)))
-
 entry_line-again : (cores threads c s : ℕ) (e : Entry) → IsRead e → FitsEntry e → c < cores → c < 2 ^ 64 → 0 < s → s ≤ threads → s < 2 ^ 64 → IsReadAgain cores threads (step_with c s e)
+unfolding entry_at entry_key
 entry_line-again cores threads c s (Send a m) read h hc fits some hs fits' =
-    step_form-again cores threads c s (Send a m) k.Send [] (a ∷ m.label ∷ m.words) hc fits some hs fits' refl refl
-    (send_again a m.label m.words h.0 h.1.label (by_recursion (λ w. w < 2 ^ 64) m.words h.1.words) h.1.few)
-entry_line-again cores threads c s (Recv a r) read h hc fits some hs fits' =
-    step_form-again cores threads c s (Recv a r) k.Recv [] (a ∷ r ∷ []) hc fits some hs fits' refl refl (recv_again a r h.0 h.1)
+    step_form-again cores threads c s (Send a m) k.Send [] (a ∷ m.label ∷ m.words) hc fits some hs fits' refl refl (message_again k.Send Send a m (λ ws. refl) h)
+entry_line-again cores threads c s (NbSend a m) read h hc fits some hs fits' =
+    step_form-again cores threads c s (NbSend a m) k.NbSend [] (a ∷ m.label ∷ m.words) hc fits some hs fits' refl refl (message_again k.NbSend NbSend a m (λ ws. refl) h)
+entry_line-again cores threads c s (Recv a b) read h hc fits some hs fits' =
+    step_form-again cores threads c s (Recv a b) k.Recv [] (a ∷ b ∷ []) hc fits some hs fits' refl refl (addresses_again k.Recv Recv a b (λ ws. refl) h)
+entry_line-again cores threads c s (NbRecv a b) read h hc fits some hs fits' =
+    step_form-again cores threads c s (NbRecv a b) k.NbRecv [] (a ∷ b ∷ []) hc fits some hs fits' refl refl (addresses_again k.NbRecv NbRecv a b (λ ws. refl) h)
+entry_line-again cores threads c s (Wait a) read h hc fits some hs fits' =
+    step_form-again cores threads c s (Wait a) k.Wait [] (a ∷ []) hc fits some hs fits' refl refl (one_again k.Wait Wait a (λ ws. refl) h)
+entry_line-again cores threads c s (NbWait a) read h hc fits some hs fits' =
+    step_form-again cores threads c s (NbWait a) k.NbWait [] (a ∷ []) hc fits some hs fits' refl refl (one_again k.NbWait NbWait a (λ ws. refl) h)
+entry_line-again cores threads c s (BindCtx a b) read h hc fits some hs fits' =
+    step_form-again cores threads c s (BindCtx a b) k.Bind [] (a ∷ b ∷ []) hc fits some hs fits' refl refl (addresses_again k.Bind BindCtx a b (λ ws. refl) h)
+entry_line-again cores threads c s (UnbindCtx a) read h hc fits some hs fits' =
+    step_form-again cores threads c s (UnbindCtx a) k.Unbind [] (a ∷ []) hc fits some hs fits' refl refl (one_again k.Unbind UnbindCtx a (λ ws. refl) h)
 entry_line-again cores threads c s (CopyCap p d r) read h hc fits some hs fits' =
     step_form-again cores threads c s (CopyCap p d r) k.Copy (tok.Place p ∷ tok.Place d ∷ tok.Rights r ∷ []) [] hc fits some hs fits' refl refl (copy_again p d r h.0 h.1 h.2)
 entry_line-again cores threads c s (MintCap p d r b) read h hc fits some hs fits' =

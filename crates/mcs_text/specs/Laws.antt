@@ -5,7 +5,7 @@ use Rattle.mcs_types.specs.Views.{Content}
 use Rattle.mcs_types.specs.declared.cap.Cap.{Cap}
 use Rattle.mcs_types.specs.declared.cap.Place.{Place}
 use Rattle.mcs_types.specs.declared.entry.Entry.{Entry}
-use Rattle.mcs_types.specs.declared.entry.Entry.TheVariants.{Send, Recv, CopyCap, MintCap, MoveCap}
+use Rattle.mcs_types.specs.declared.entry.Entry.TheVariants.{Send, NbSend, Recv, NbRecv, Wait, NbWait, BindCtx, UnbindCtx, CopyCap, MintCap, MoveCap}
 use Rattle.mcs_types.specs.declared.id.Kind.{Kind}
 use Rattle.mcs_types.specs.declared.id.Kind.TheVariants as kind
 use Rattle.mcs_types.specs.declared.id.Kind.TheVariants.{Thread}
@@ -47,7 +47,13 @@ IsPlace p = IsWord p.index × (p.depth < 256)
 -- the numbers of an entry that is read are in their ranges
 abbrev pub FitsEntry : Entry → Type 0
 FitsEntry (Send a m) = IsWord a × IsMessage m
+FitsEntry (NbSend a m) = IsWord a × IsMessage m
 FitsEntry (Recv a r) = IsWord a × IsWord r
+FitsEntry (NbRecv a r) = IsWord a × IsWord r
+FitsEntry (Wait a) = IsWord a
+FitsEntry (NbWait a) = IsWord a
+FitsEntry (BindCtx context thread) = IsWord context × IsWord thread
+FitsEntry (UnbindCtx context) = IsWord context
 FitsEntry (CopyCap source dest rights) = IsPlace source × IsPlace dest × (rights < 16)
 FitsEntry (MintCap source dest rights badge) = IsPlace source × IsPlace dest × (rights < 16) × IsWord badge.0
 FitsEntry (MoveCap source dest) = IsPlace source × IsPlace dest

@@ -1,10 +1,10 @@
-use Rattle.std.proofs.Common.{◌≡◌, sym, ◌∙◌, ap, Ok, Err, Some, None, is_none, is_some, not, true, false, Option}
+use Rattle.std.proofs.Common.{◌≡◌, sym, ◌∙◌, ap, Ok, Err, is_some, true, false, Option}
 use Rattle.std.proofs.lemmas.Result.{err_from_is_err_and}
 use Rattle.mcs_types.specs.declared.id.ObjId.{ObjId}
 use Rattle.mcs_types.specs.declared.cap.Cap.{Cap}
 use Rattle.mcs_types.specs.declared.entry.Refusal.{Refusal}
 use Rattle.mcs_book.specs.Logs.{Log}
-use Rattle.mcs_book.specs.Slots.{SlotName, slot}
+use Rattle.mcs_book.specs.Slots.{slot}
 use Rattle.mcs_book.specs.Lookup.{slot_named}
 use Rattle.mcs_cspace.specs.Spaces.{name_of, named_by}
 use Rattle.mcs_state.specs.Numbers.{thread_at}

@@ -2,4 +2,4 @@ use Rattle.mcs_rereading.proofs.ReadAgain.{legal-again}
 use Rattle.mcs_rereading.proofs.laws.read_again.Goals as goal
 
 pub returns : goal.returns
-returns g c = legal-again g.book c.requires.0 c.requires.1.0 c.requires.1.1
+returns g c = legal-again g.book c.requires

@@ -8,13 +8,12 @@ use Rattle.mcs_types.specs.declared.record.Rec.TheVariants as rec
 use Rattle.mcs_types.specs.declared.record.Form.TheVariants as form
 use Rattle.mcs_book.specs.Logs.{Log, counted}
 use Rattle.mcs_book.specs.Objects.{next_id, makes_kind, form_of}
-use Rattle.mcs_book.specs.Boots.{boot_line}
 use Rattle.mcs_book.specs.Lookup.{radix_kept}
 use Rattle.mcs_book.specs.Served.{IsServedForm}
 use Rattle.mcs_book.specs.Sound.{Allowed}
 use Rattle.mcs_book.proofs.Same.{parts}
 use Rattle.mcs_state.specs.Numbers.{thread_at}
-use Rattle.mcs_state.specs.Now.{Now, so_far, adds, adds_all}
+use Rattle.mcs_state.specs.Now.{Now, so_far, adds_all}
 use Rattle.mcs_state.specs.Tables.{ROOM}
 use Rattle.mcs_kernel.proofs.Booting.{AreHeld, held, made-alive, object-there, few-made, fits-test, fits-slot, gives-allowed, context-name}
 use Rattle.mcs_kernel.proofs.boot.taking.takes_records.Goals as goal

@@ -1,6 +1,6 @@
-use Rattle.std.proofs.Common.{◌∷◌, [], length, ap, ◌∙◌, sym, subst, arith}
+use Rattle.std.proofs.Common.{◌∷◌, [], length, ap, sym, subst, arith}
 use Rattle.std.proofs.lemmas.List.{length-append}
-use Rattle.mcs_slots.specs.Pages.{Page, IsPage, ArePages}
+use Rattle.mcs_slots.specs.Pages.{IsPage}
 use Rattle.mcs_slots.proofs.SlotLaws.{pages-append, empty-is-page}
 use Rattle.mcs_slots.proofs.slots.Slots.add.Goals as goal
 

@@ -1,0 +1,58 @@
+-- The rows of BindCtx and UnbindCtx, in the parts in which the code does them.
+use Rattle.std.specs.Prelude.{ℕ, ◌||◌, cond, is_some, Option, Ok, Err}
+use Rattle.mcs_types.specs.declared.id.ObjId.{ObjId}
+use Rattle.mcs_types.specs.declared.id.Kind.TheVariants.{Thread, Context}
+use Rattle.mcs_types.specs.declared.record.Rec.TheVariants as rec
+use Rattle.mcs_types.specs.declared.entry.Answer.TheVariants.{Done}
+use Rattle.mcs_types.specs.declared.entry.Refusal.TheVariants.{AlreadyBound, NotBound}
+use Rattle.mcs_book.specs.Logs.{Log}
+use Rattle.mcs_book.specs.Checks.{Checked}
+use Rattle.mcs_book.specs.Contexts.{holder_of, context_of}
+use Rattle.mcs_book.specs.Pieces.{Act, say, answers}
+use Rattle.mcs_state.specs.declared.numbers.ContextNo.{ContextNo}
+use Rattle.mcs_state.specs.Numbers.{context_at}
+use Rattle.mcs_ipc.specs.Rows.{object_named}
+use Rattle.mcs_ipc.specs.declared.contexts.Binding.{Binding}
+
+-- a context, and the thread that is to hold it
+pub record Pair : Type 0 where
+  pub context : ObjId
+  pub thread : ObjId
+
+-- a context that was found, by its number
+abbrev pub context_by : Checked ContextNo → Checked ObjId
+context_by (Err why) = Err why
+context_by (Ok s) = Ok (context_at s.0)
+
+-- a context and a thread that were found, by the number of the context
+abbrev pub binding_by : Checked Binding → Checked Pair
+binding_by (Err why) = Err why
+binding_by (Ok b) = Ok (record { context = context_at b.context.0; thread = b.thread })
+
+-- a context and a thread, of which the first is tested first
+abbrev pub pair_of : Checked ObjId → Checked ObjId → Checked Pair
+pair_of (Err why) thread = Err why
+pair_of (Ok s) (Err why) = Err why
+pair_of (Ok s) (Ok x) = Ok (record { context = s; thread = x })
+
+-- what was found, where the context is held by nobody, and the thread holds none
+abbrev pub unbound : Log → Checked Pair → Checked Pair
+unbound R (Err why) = Err why
+unbound R (Ok b) = cond (is_some (holder_of R b.context) || is_some (context_of R b.thread)) (Err AlreadyBound) (Ok b)
+
+-- the context and the thread that t may bind, or the first check that fails
+abbrev pub bindable : Log → ObjId → ℕ → ℕ → Checked Pair
+bindable R t s x = unbound R (pair_of (object_named R t Context s) (object_named R t Thread x))
+
+-- what was found, where somebody holds it
+abbrev pub bound : Log → Checked ObjId → Checked ObjId
+bound R (Err why) = Err why
+bound R (Ok s) = cond (is_some (holder_of R s)) (Ok s) (Err NotBound)
+
+-- the context that t may unbind, or the first check that fails
+abbrev pub unbindable : Log → ObjId → ℕ → Checked ObjId
+unbindable R t s = bound R (object_named R t Context s)
+
+-- a context is held by a thread from now on, or by nobody
+abbrev pub holds_act : ObjId → Option ObjId → Act
+holds_act s holder = answers Done (say (rec.Holds s holder))
