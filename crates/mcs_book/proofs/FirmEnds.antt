@@ -153,27 +153,27 @@ notification-done R o firm = then-next (IsDone kind.Notification o) (cancel_all 
     xs : List ObjId
     xs = line_of R (Waiters o)
 
-    R1 : Log
-    R1 = onto (cancel_all xs Restart R) R
+    S : Log
+    S = onto (cancel_all xs Restart R) R
 
     threads_there : (y : ObjId) → In y xs → IsThere R kind.Thread y
     threads_there y i = standing-thread R y (Waiters o) (firm-sound R firm) (in-line R (Waiters o) y i)
 
-    firm1 : Firm R1
+    firm1 : Firm S
     firm1 = (all-cancelled xs Restart R threads_there firm).0
 
-    empty : (y : ObjId) → queue_of R1 y ≢ Some (Waiters o)
+    empty : (y : ObjId) → queue_of S y ≢ Some (Waiters o)
     empty = line-emptied xs Restart (Waiters o) R threads_there firm (λ y at. line-in R (Waiters o) y (firm-sound R firm) at)
 
-    binding : (y : ObjId) → bound_of R1 y ≡ bound_of R y
+    binding : (y : ObjId) → bound_of S y ≡ bound_of R y
     binding y = outlasts-cancel_all (λ R'. bound_of R' y ≡ bound_of R y) xs Restart (λ x. record { dropped = λ R m h. h; parts = λ R q h. h; voided = λ R r h. h; turns = λ R h. h }) R refl
 
-    go : (b : Option ObjId) → tied_to R o ≡ b → IsDone kind.Notification o (onto (untie b R1) R1)
+    go : (b : Option ObjId) → tied_to R o ≡ b → IsDone kind.Notification o (onto (untie b S) S)
     go (Some u) is =
-        let bound : bound_of R1 u ≡ Some o = binding u ∙ tied-bound R o u is in
+        let bound : bound_of S u ≡ Some o = binding u ∙ tied-bound R o u is in
         record {
           firm = ((ap (λ z. is_some z) bound, tt), firm1);
-          released = (empty, λ y b. elim (set-split y u None (bound_of R1 y) (Some o) b) [ inl (who, none) ↦ absurd cc | inr (other, still) ↦ same-never y u (bound-one R1 y u o (firm-sound R1 firm1) still bound) other ]);
+          released = (empty, λ y b. elim (set-split y u None (bound_of S y) (Some o) b) [ inl (who, none) ↦ absurd cc | inr (other, still) ↦ same-never y u (bound-one S y u o (firm-sound S firm1) still bound) other ]);
         }
     go None is = record { firm = firm1; released = (empty, λ y b. tied-none R o (firm-sound R firm) is y (sym (binding y) ∙ b)) }
 
@@ -191,8 +191,8 @@ unattended-left R r x e firm at with y d at' with' =
 reply-done : (R : Log) (o : ObjId) → Firm R → IsDone kind.Reply o (onto (release R o kind.Reply R) R)
 reply-done R o firm = then-next (IsDone kind.Reply o) (with_any (receiver_with R o) (λ x. cancel x Inactive)) (void_deleted o) R (ends (go (receiver_with R o) refl))
   where
-    R1 : Log
-    R1 = onto (with_any (receiver_with R o) (λ x. cancel x Inactive) R) R
+    S : Log
+    S = onto (with_any (receiver_with R o) (λ x. cancel x Inactive) R) R
 
     go : (u : Option ObjId) → receiver_with R o ≡ u → Firm (onto (with_any u (λ x. cancel x Inactive) R) R) × IsUnattended (onto (with_any u (λ x. cancel x Inactive) R) R) o
     go None is = (firm, unattended-none R o (firm-sound R firm) is)
@@ -200,10 +200,10 @@ reply-done R o firm = then-next (IsDone kind.Reply o) (with_any (receiver_with R
         let ((e, at), with) = receiver_with-named R o x is in
         ((cancelled x Inactive R (standing-thread R x (Receivers e) (firm-sound R firm) at) firm).firm, unattended-left R o x e firm at with)
 
-    ends : Firm R1 × IsUnattended R1 o → IsDone kind.Reply o (onto (void_deleted o R1) R1)
+    ends : Firm S × IsUnattended S o → IsDone kind.Reply o (onto (void_deleted o S) S)
     ends h = record {
-      firm = firm-void o R1 h.0;
-      released = (void-free o R1, outlasts-void (λ R. IsUnattended R o) (record { paid = λ R r x message h. h; voided = λ R r x how h. h; turns = λ R x h. h; holds = λ R s x h. h }) o R1 h.1);
+      firm = firm-void o S h.0;
+      released = (void-free o S, outlasts-void (λ R. IsUnattended R o) (record { paid = λ R r x message h. h; voided = λ R r x how h. h; turns = λ R x h. h; holds = λ R s x h. h }) o S h.1);
     }
 
 -- nobody holds a context any more
@@ -225,20 +225,20 @@ record IsUntied (R : Log) (o : ObjId) (R' : Log) : Type 0 where
 thread-done : (R : Log) (o : ObjId) → IsThere R kind.Thread o → Firm R → IsDone kind.Thread o (onto (release R o kind.Thread R) R)
 thread-done R o there firm = then-next (IsDone kind.Thread o) (cancel o Inactive then with_any (bound_of R o) (λ n. say (rec.Tied o None))) (let_go (context_of R o)) R (ends (context_of R o) refl _ untied)
   where
-    R1 : Log
-    R1 = onto (cancel o Inactive R) R
+    S : Log
+    S = onto (cancel o Inactive R) R
 
-    l : IsLeft o R1
+    l : IsLeft o S
     l = cancelled o Inactive R there firm
 
-    binding : bound_of R1 o ≡ bound_of R o
+    binding : bound_of S o ≡ bound_of R o
     binding = outlasts-cancel (λ R'. bound_of R' o ≡ bound_of R o) o Inactive (record { dropped = λ R m h. h; parts = λ R q h. h; voided = λ R r h. h; turns = λ R h. h }) R refl
 
-    holding : (s : ObjId) → holder_of R1 s ≡ holder_of R s
+    holding : (s : ObjId) → holder_of S s ≡ holder_of R s
     holding = outlasts-cancel (λ R'. (s : ObjId) → holder_of R' s ≡ holder_of R s) o Inactive (record { dropped = λ R m h. h; parts = λ R q h. h; voided = λ R r h. h; turns = λ R h. h }) R (λ s. refl)
 
-    go : (b : Option ObjId) → bound_of R o ≡ b → IsUntied R o (onto (with_any b (λ n. say (rec.Tied o None)) R1) R1)
-    go (Some n) is = record { firm = ((ap (λ z. is_some z) (binding ∙ is), tt), l.firm); idle = l.idle; unbound = set-self o None (bound_of R1 o); holders = holding }
+    go : (b : Option ObjId) → bound_of R o ≡ b → IsUntied R o (onto (with_any b (λ n. say (rec.Tied o None)) S) S)
+    go (Some n) is = record { firm = ((ap (λ z. is_some z) (binding ∙ is), tt), l.firm); idle = l.idle; unbound = set-self o None (bound_of S o); holders = holding }
     go None is = record { firm = l.firm; idle = l.idle; unbound = binding ∙ is; holders = holding }
 
     untied : IsUntied R o (onto ((cancel o Inactive then with_any (bound_of R o) (λ n. say (rec.Tied o None))) R) R)

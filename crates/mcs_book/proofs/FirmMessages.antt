@@ -144,10 +144,10 @@ module _ (t : ObjId) where
       s : Letter
       s = letter_over t cap mode message R
 
-      R1 : Log
-      R1 = sent_record s ∷ R
+      After : Log
+      After = sent_record s ∷ R
 
-      one : (l : Letter) → letter R1 s.number ≡ Some l → s ≡ l
+      one : (l : Letter) → letter After s.number ≡ Some l → s ≡ l
       one l k = let both_are : Some s ≡ Some l = sym (sent-letter R s refl) ∙ k in cc
 
       go : (o : Option ObjId) → first_in R (Receivers cap.obj) ≡ o → Firm (onto ((sends_to s answer alone o R).records) R)
@@ -155,6 +155,6 @@ module _ (t : ObjId) where
       go (Some p) first =
           let ahead : IsFirst R (Receivers cap.obj) p = first-is R (Receivers cap.obj) p (firm-sound R h.firm) first in
           let aside : queue_of R t ≢ Some (Senders cap.obj) = λ at. let no : None ≡ Some (Senders cap.obj) = sym h.idle.0 ∙ at in absurd cc in
-          then-next Firm (sent s) (handed s p) R (firm-handed R1 s p (sent-open_at R s refl (sound-ends R (firm-sound R h.firm)))
-          (λ l k. subst (λ (z : Letter). is_alive R z.endpoint ≡ true) (one l k) there.1) (λ l k. subst (λ (z : Letter). IsFirstOfOne R1 z p) (one l k) (inr (ahead, aside)))
+          then-next Firm (sent s) (handed s p) R (firm-handed After s p (sent-open_at R s refl (sound-ends R (firm-sound R h.firm)))
+          (λ l k. subst (λ (z : Letter). is_alive R z.endpoint ≡ true) (one l k) there.1) (λ l k. subst (λ (z : Letter). IsFirstOfOne After z p) (one l k) (inr (ahead, aside)))
           ahead.0 h.there h.idle (firm-sent R cap mode message there h))

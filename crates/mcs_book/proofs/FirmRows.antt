@@ -183,29 +183,29 @@ module _ (t : ObjId) (S : Log) (firm : Firm S) where
     where
       go : (held : Option Cap) → slot S at.cnode at.index ≡ held → not (is_last_cnode S held) ≡ true → KeepsFirm (delete at held)
       go None e last W w h = h.firm
-      go (Some cap) e last W w h = then-next Firm (fills at None) (destroy_last cap.obj) W (ends (count_of R1 cap.obj == 0) refl)
+      go (Some cap) e last W w h = then-next Firm (fills at None) (destroy_last cap.obj) W (ends (count_of After cap.obj == 0) refl)
         where
-          R1 : Log
-          R1 = rec.Slot at.cnode at.index None ∷ W
+          After : Log
+          After = rec.Slot at.cnode at.index None ∷ W
 
-          firm1 : Firm R1
+          firm1 : Firm After
           firm1 = (slot-emptied W at.cnode at.index (woken-slot W at.cnode at.index w is), h.firm)
 
           held : slot W at.cnode at.index ≡ Some cap
           held = w.slots at.cnode at.index ∙ e
 
           -- a CNode has another capability
-          not_cnode : count_of R1 cap.obj ≡ 0 → cap.obj.kind ≢ kind.CNode
+          not_cnode : count_of After cap.obj ≡ 0 → cap.obj.kind ≢ kind.CNode
           not_cnode none k =
               let one : count_of S cap.obj ≡ 1 = sym (w.counts cap.obj) ∙ last-one W at.cnode at.index cap held none in
               let cnode : is_kind kind.CNode cap ≡ true = ap (λ (j : Kind). same_kind j kind.CNode) k in
               let no : false ≡ true = sym (ap (λ b. not (b && (count_of S cap.obj == 1))) cnode ∙ ap (λ b. not b) (eq-eqb (count_of S cap.obj) 1 one)) ∙ last in
               absurd cc
 
-          ends : (b : Bool) → (count_of R1 cap.obj == 0) ≡ b → Firm (onto (cond b (destroy cap.obj) nothing R1) R1)
+          ends : (b : Bool) → (count_of After cap.obj == 0) ≡ b → Firm (onto (cond b (destroy cap.obj) nothing After) After)
           ends true z =
-              let none : count_of R1 cap.obj ≡ 0 = eqb-true (count_of R1 cap.obj) 0 z in
-              firm-destroy cap.obj R1 (not_cnode none) (record { alive = slot-alive W at.cnode at.index cap (firm-sound W h.firm) held; no_cap = λ c i. count-none R1 cap.obj c i none }) firm1
+              let none : count_of After cap.obj ≡ 0 = eqb-true (count_of After cap.obj) 0 z in
+              firm-destroy cap.obj After (not_cnode none) (record { alive = slot-alive W at.cnode at.index cap (firm-sound W h.firm) held; no_cap = λ c i. count-none After cap.obj c i none }) firm1
           ends false z = firm1
 
   -- an object is made, with a capability in a slot
@@ -216,18 +216,18 @@ module _ (t : ObjId) (S : Log) (firm : Firm S) where
       subst (λ (o : ObjId). Firm (onto ((say (rec.Made o f) then fills at (Some (new_cap o rights))) W) W)) (w.next k) (made at W (woken-slot W at.cnode at.index w is) h)))))
     where
       made : (at : SlotName) (W : Log) → IsSlotOf W at.cnode at.index → Acting t W → Firm (onto ((say (rec.Made (next_id W k) f) then fills at (Some (new_cap (next_id W k) rights))) W) W)
-      made at W is h = then-next Firm (say (rec.Made (next_id W k) f)) (fills at (Some (new_cap (next_id W k) rights))) W (slot-filled R1 at.cnode at.index (new_cap (next_id W k) rights) slot1 (record { alive = (made-there W k f (firm-sound W h.firm)).1; small = omega arith }), firm1)
+      made at W is h = then-next Firm (say (rec.Made (next_id W k) f)) (fills at (Some (new_cap (next_id W k) rights))) W (slot-filled After at.cnode at.index (new_cap (next_id W k) rights) slot1 (record { alive = (made-there W k f (firm-sound W h.firm)).1; small = omega arith }), firm1)
         where
-          R1 : Log
-          R1 = rec.Made (next_id W k) f ∷ W
+          After : Log
+          After = rec.Made (next_id W k) f ∷ W
 
-          firm1 : Firm R1
+          firm1 : Firm After
           firm1 = (((refl, fits), also W (next_id W k)), h.firm)
 
           other : at.cnode ≢ next_id W k
           other e = ne (sym (ap (λ (o : ObjId). o.kind) e) ∙ is.there.0)
 
-          slot1 : IsSlotOf R1 at.cnode at.index
+          slot1 : IsSlotOf After at.cnode at.index
           slot1 = record {
             there = there-next W (rec.Made (next_id W k) f) kind.CNode at.cnode is.there refl;
             within = subst (λ (g : Option Form). at.index < 2 ^ radix_kept g) (sym (set-other at.cnode (next_id W k) (Some f) (form_of W at.cnode) other)) is.within;

@@ -52,20 +52,20 @@ pub firm-signal : (n : ObjId) (badge : Badge) (R : Log) → IsThere R kind.Notif
 unfolding signal
 firm-signal n badge R there small firm = go (pending R n) refl
   where
-    R1 : Log
-    R1 = rec.Raised n badge ∷ R
+    S : Log
+    S = rec.Raised n badge ∷ R
 
-    raised : Firm R1
+    raised : Firm S
     raised = (((there, small), tt), firm)
 
-    hears : (b : Option ObjId) → tied_to R n ≡ b → (q : Option Queue) → queue_of_any R b ≡ q → (w : Option ObjId) → ((x : ObjId) → w ≡ Some x → queue_of R x ≡ Some (Waiters n)) → pending R n ≡ None → Firm (onto (hearer n b q w badge.0) R1)
+    hears : (b : Option ObjId) → tied_to R n ≡ b → (q : Option Queue) → queue_of_any R b ≡ q → (w : Option ObjId) → ((x : ObjId) → w ≡ Some x → queue_of R x ≡ Some (Waiters n)) → pending R n ≡ None → Firm (onto (hearer n b q w badge.0) S)
     hears b tied q at w waits none = at_place b tied q at w waits
       where
-        waiter : (x : ObjId) → queue_of R x ≡ Some (Waiters n) → Firm (onto (wake n x (Waiters n) badge.0) R1)
-        waiter x stands = firm-wake R1 n x (Waiters n) badge.0 stands (raised-word R n badge none) (λ u bound. waiter-bound R x n u firm stands bound) raised
+        waiter : (x : ObjId) → queue_of R x ≡ Some (Waiters n) → Firm (onto (wake n x (Waiters n) badge.0) S)
+        waiter x stands = firm-wake S n x (Waiters n) badge.0 stands (raised-word R n badge none) (λ u bound. waiter-bound R x n u firm stands bound) raised
 
-        at_place : (b : Option ObjId) → tied_to R n ≡ b → (q : Option Queue) → queue_of_any R b ≡ q → (w : Option ObjId) → ((x : ObjId) → w ≡ Some x → queue_of R x ≡ Some (Waiters n)) → Firm (onto (hearer n b q w badge.0) R1)
-        at_place (Some x) tied (Some (Receivers e)) at w waits = firm-wake R1 n x (Receivers e) badge.0 at (raised-word R n badge none) (λ u bound. bound-one R u x n (firm-sound R firm) bound (tied-bound R n x tied)) raised
+        at_place : (b : Option ObjId) → tied_to R n ≡ b → (q : Option Queue) → queue_of_any R b ≡ q → (w : Option ObjId) → ((x : ObjId) → w ≡ Some x → queue_of R x ≡ Some (Waiters n)) → Firm (onto (hearer n b q w badge.0) S)
+        at_place (Some x) tied (Some (Receivers e)) at w waits = firm-wake S n x (Receivers e) badge.0 at (raised-word R n badge none) (λ u bound. bound-one R u x n (firm-sound R firm) bound (tied-bound R n x tied)) raised
         at_place None tied q at (Some x) waits = waiter x (waits x refl)
         at_place None tied q at None waits = raised
         at_place (Some y) tied None at (Some x) waits = waiter x (waits x refl)
@@ -75,7 +75,7 @@ firm-signal n badge R there small firm = go (pending R n) refl
         at_place (Some y) tied (Some (Waiters e)) at (Some x) waits = waiter x (waits x refl)
         at_place (Some y) tied (Some (Waiters e)) at None waits = raised
 
-    go : (o : Option ℕ) → pending R n ≡ o → Firm (onto (reach R n badge.0 o) R1)
+    go : (o : Option ℕ) → pending R n ≡ o → Firm (onto (reach R n badge.0 o) S)
     go (Some old) is = raised
     go None is = hears (tied_to R n) refl (queue_of_any R (tied_to R n)) refl (first_in R (Waiters n)) (λ x first. first-stands R (Waiters n) x first) is
 
@@ -140,8 +140,8 @@ firm-handed R s p unsettled alive first at there idle firm = then-next Firm (too
     settling : Piece
     settling = settle s.mode s.sender p (reply_with R p) nothing
 
-    R2 : Log
-    R2 = rec.Parts p (Receivers s.endpoint) ∷ rec.Took s.number p ∷ R
+    U : Log
+    U = rec.Parts p (Receivers s.endpoint) ∷ rec.Took s.number p ∷ R
 
     taker : IsThere R kind.Thread p
     taker = standing-thread R p (Receivers s.endpoint) (firm-sound R firm) at
@@ -149,7 +149,7 @@ firm-handed R s p unsettled alive first at there idle firm = then-next Firm (too
     firm1 : Firm (rec.Took s.number p ∷ R)
     firm1 = (((taker, unsettled), (alive, first)), firm)
 
-    firm2 : Firm R2
+    firm2 : Firm U
     firm2 = ((at, tt), firm1)
 
     -- the sender stands nowhere, and so is another
@@ -157,14 +157,14 @@ firm-handed R s p unsettled alive first at there idle firm = then-next Firm (too
     other is = let no : None ≡ Some (Receivers s.endpoint) = sym idle.0 ∙ ap (λ z. queue_of R z) is ∙ at in absurd cc
 
     -- it stays idle while p leaves its line
-    sender_idle : IsIdle R2 s.sender
+    sender_idle : IsIdle U s.sender
     sender_idle = (set-other s.sender p None (queue_of R s.sender) other ∙ idle.0, idle.1)
 
-    ready : IsReady p R2
+    ready : IsReady p U
     ready = record { there = taker; idle = parted-idle (rec.Took s.number p ∷ R) p (Receivers s.endpoint) (firm-sound (rec.Took s.number p ∷ R) firm1) at }
 
     -- the reply object with which p stood is free
-    free : (d : ObjId) → reply_with R p ≡ Some d → IsThere R2 kind.Reply d × IsFreeReply R2 d
+    free : (d : ObjId) → reply_with R p ≡ Some d → IsThere U kind.Reply d × IsFreeReply U d
     free d named =
         let f : IsThere R kind.Reply d × (owed_by R d ≡ None) = reply-there R p s.endpoint d (firm-sound R firm) at named in
         (f.0, (f.1, λ y e at' with'. let (ne, still) = left-queue R p y (Receivers s.endpoint) (Receivers e) at' in ne (one_user R y p e s.endpoint d (firm-sound R firm) still with' at named)))
@@ -175,8 +175,8 @@ firm-handed R s p unsettled alive first at there idle firm = then-next Firm (too
     Rest : Log → Type 0
     Rest R' = Both (onto (settling R') R')
 
-    settled : Rest R2
-    settled = (firm-settle s.mode s.sender p (reply_with R p) nothing R2 there sender_idle taker free firm2 firm2, settle-ready s.mode s.sender p (reply_with R p) R2 other ready)
+    settled : Rest U
+    settled = (firm-settle s.mode s.sender p (reply_with R p) nothing U there sender_idle taker free firm2 firm2, settle-ready s.mode s.sender p (reply_with R p) U other ready)
 
     ends : (R' : Log) → Both R' → Firm (rec.Turns p Running ∷ R')
     ends R' h = (((h.1.there, h.1.idle), tt), h.0)
@@ -196,8 +196,8 @@ firm-taken R s t r unsettled alive first at taker free firm = then-next Firm (to
     settling : Piece
     settling = settle s.mode s.sender t r (say (rec.Turns s.sender Running))
 
-    R2 : Log
-    R2 = rec.Parts s.sender (Senders s.endpoint) ∷ rec.Took s.number t ∷ R
+    U : Log
+    U = rec.Parts s.sender (Senders s.endpoint) ∷ rec.Took s.number t ∷ R
 
     there : IsThere R kind.Thread s.sender
     there = standing-thread R s.sender (Senders s.endpoint) (firm-sound R firm) at
@@ -205,13 +205,13 @@ firm-taken R s t r unsettled alive first at taker free firm = then-next Firm (to
     firm1 : Firm (rec.Took s.number t ∷ R)
     firm1 = (((taker, unsettled), (alive, first)), firm)
 
-    firm2 : Firm R2
+    firm2 : Firm U
     firm2 = ((at, tt), firm1)
 
-    idle : IsIdle R2 s.sender
+    idle : IsIdle U s.sender
     idle = parted-idle (rec.Took s.number t ∷ R) s.sender (Senders s.endpoint) (firm-sound (rec.Took s.number t ∷ R) firm1) at
 
-    settled : Firm (onto (settling R2) R2)
-    settled = firm-settle s.mode s.sender t r (say (rec.Turns s.sender Running)) R2 there idle taker
+    settled : Firm (onto (settling U) U)
+    settled = firm-settle s.mode s.sender t r (say (rec.Turns s.sender Running)) U there idle taker
         (λ d is. let f : IsThere R kind.Reply d × IsFreeReply R d = free d is in (f.0, (f.1.0, λ y e at' with'. f.1.1 y e ((left-queue R s.sender y (Senders s.endpoint) (Receivers e) at').1) with')))
         (((there, idle), tt), firm2) firm2
