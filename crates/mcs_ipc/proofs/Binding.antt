@@ -27,7 +27,7 @@ use Rattle.mcs_book.proofs.FirmLaws.{context-none}
 use Rattle.mcs_book.proofs.TableLaws.{does-refused, does-acts}
 use Rattle.mcs_state.proofs.Answering.{none-closed}
 use Rattle.mcs_ipc.specs.Rows.{kinded, object_found, object_named}
-use Rattle.mcs_ipc.specs.Holding.{Pair, pair_of, unbound, bindable, bound, unbindable, holds_act}
+use Rattle.mcs_ipc.specs.Holding.{Pair, pair_of, free_pair, bindable, held_context, unbindable, holds_act}
 use Rattle.mcs_ipc.proofs.Rows.{acted, object-is}
 use Rattle.mcs_ipc.proofs.Facts.{named-there}
 use Rattle.mcs_book.specs.Lookup.{capability}
@@ -62,7 +62,7 @@ row-bind R core t s x served = rw (object-is R t kind.Context s, object-is R t k
     test u v chain none None (Some y) = rw none refl
     test u v chain none (Some y) holds = refl
 
-    go : (m n : Checked Cap) → (m >>= λ c. n >>= λ d. need (is_none (holder_of R c.obj) && is_empty (chain_of R c.obj) && is_none (context_of R d.obj)) AlreadyBound >> Ok (holds_act c.obj (Some d.obj))) ≡ acted (unbound R (pair_of (object_found m) (object_found n))) binds
+    go : (m n : Checked Cap) → (m >>= λ c. n >>= λ d. need (is_none (holder_of R c.obj) && is_empty (chain_of R c.obj) && is_none (context_of R d.obj)) AlreadyBound >> Ok (holds_act c.obj (Some d.obj))) ≡ acted (free_pair R (pair_of (object_found m) (object_found n))) binds
     go (Err why) n = refl
     go (Ok c) (Err why) = refl
     go (Ok c) (Ok d) = test c.obj d.obj (chain_of R c.obj) (chain-none R c.obj served) (holder_of R c.obj) (context_of R d.obj)
@@ -76,7 +76,7 @@ row-unbind R core t s = rw (object-is R t kind.Context s) (go (kinded kind.Conte
     test u true = refl
     test u false = refl
 
-    go : (m : Checked Cap) → (m >>= λ c. need (is_some (holder_of R c.obj)) NotBound >> Ok (holds_act c.obj None)) ≡ acted (bound R (object_found m)) unbinds
+    go : (m : Checked Cap) → (m >>= λ c. need (is_some (holder_of R c.obj)) NotBound >> Ok (holds_act c.obj None)) ≡ acted (held_context R (object_found m)) unbinds
     go (Err why) = refl
     go (Ok c) = test c.obj (is_some (holder_of R c.obj))
 
@@ -109,7 +109,7 @@ bind-allowed R t s x b sound served e = go (object_named R t kind.Context s) ref
     free u v one other None (Some y) is h = absurd cc
     free u v one other (Some y) holds is h = absurd cc
 
-    go : (m : Checked ObjId) → object_named R t kind.Context s ≡ m → (n : Checked ObjId) → object_named R t kind.Thread x ≡ n → unbound R (pair_of m n) ≡ Ok b → Allowed R (rec.Holds b.context (Some b.thread))
+    go : (m : Checked ObjId) → object_named R t kind.Context s ≡ m → (n : Checked ObjId) → object_named R t kind.Thread x ≡ n → free_pair R (pair_of m n) ≡ Ok b → Allowed R (rec.Holds b.context (Some b.thread))
     go (Err why) p n q h = absurd cc
     go (Ok u) p (Err why) q h = absurd cc
     go (Ok u) p (Ok v) q h = free u v (named-there R t kind.Context s u sound served p) (named-there R t kind.Thread x v sound served q) (holder_of R u) (context_of R v) refl h
@@ -122,7 +122,7 @@ unbind-allowed R t s u e = go (object_named R t kind.Context s) e
     held o None is h = absurd cc
     held o (Some y) is h = let it : o ≡ u = cc in subst (λ z. IsSome (holder_of R z)) it (subst (λ (w : Option ObjId). IsSome w) (sym is) refl)
 
-    go : (m : Checked ObjId) → bound R m ≡ Ok u → IsSome (holder_of R u)
+    go : (m : Checked ObjId) → held_context R m ≡ Ok u → IsSome (holder_of R u)
     go (Err why) h = absurd cc
     go (Ok o) h = held o (holder_of R o) refl h
 

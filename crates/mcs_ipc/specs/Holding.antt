@@ -36,22 +36,22 @@ pair_of (Ok s) (Err why) = Err why
 pair_of (Ok s) (Ok x) = Ok (record { context = s; thread = x })
 
 -- what was found, where the context is held by nobody, and the thread holds none
-abbrev pub unbound : Log → Checked Pair → Checked Pair
-unbound R (Err why) = Err why
-unbound R (Ok b) = cond (is_some (holder_of R b.context) || is_some (context_of R b.thread)) (Err AlreadyBound) (Ok b)
+abbrev pub free_pair : Log → Checked Pair → Checked Pair
+free_pair R (Err why) = Err why
+free_pair R (Ok b) = cond (is_some (holder_of R b.context) || is_some (context_of R b.thread)) (Err AlreadyBound) (Ok b)
 
 -- the context and the thread that t may bind, or the first check that fails
 abbrev pub bindable : Log → ObjId → ℕ → ℕ → Checked Pair
-bindable R t s x = unbound R (pair_of (object_named R t Context s) (object_named R t Thread x))
+bindable R t s x = free_pair R (pair_of (object_named R t Context s) (object_named R t Thread x))
 
 -- what was found, where somebody holds it
-abbrev pub bound : Log → Checked ObjId → Checked ObjId
-bound R (Err why) = Err why
-bound R (Ok s) = cond (is_some (holder_of R s)) (Ok s) (Err NotBound)
+abbrev pub held_context : Log → Checked ObjId → Checked ObjId
+held_context R (Err why) = Err why
+held_context R (Ok s) = cond (is_some (holder_of R s)) (Ok s) (Err NotBound)
 
 -- the context that t may unbind, or the first check that fails
 abbrev pub unbindable : Log → ObjId → ℕ → Checked ObjId
-unbindable R t s = bound R (object_named R t Context s)
+unbindable R t s = held_context R (object_named R t Context s)
 
 -- a context is held by a thread from now on, or by nobody
 abbrev pub holds_act : ObjId → Option ObjId → Act

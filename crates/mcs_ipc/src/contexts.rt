@@ -1,5 +1,5 @@
 //! BindCtx and UnbindCtx.
-ghost use Rattle.std.specs.Prelude.{◌≡◌, ◌<◌, ◌+◌, IfOk, length, None};
+ghost use Rattle.std.specs.Prelude.{◌≡◌, ◌<◌, ◌+◌, IfOk, length};
 ghost use Rattle.mcs_types.specs.declared.record.Rec.{Rec};
 ghost use Rattle.mcs_types.specs.declared.entry.Entry.{Entry};
 ghost use Rattle.mcs_types.specs.declared.id.CoreId.{CoreId};
@@ -13,7 +13,7 @@ ghost use Rattle.mcs_state.specs.Now.{so_far, adds_all};
 ghost use Rattle.mcs_state.specs.Tables.{HAND, ROOM};
 ghost use Rattle.mcs_state.specs.Entering.{IsEntering};
 ghost use Rattle.mcs_ipc.specs.Rows.{object_named};
-ghost use Rattle.mcs_ipc.specs.Holding.{context_by, binding_by, pair_of, unbound, bindable, bound, unbindable, holds_act};
+ghost use Rattle.mcs_ipc.specs.Holding.{context_by, binding_by, pair_of, free_pair, bindable, unbindable, holds_act};
 
 use crate::checks::find_object;
 use mcs_queues::{Lines, ThreadNo};
@@ -76,7 +76,7 @@ fn with_nothing_held<L: Lines>(
     found: Result<Binding, Refusal>,
 ) -> Result<Binding, Refusal>
     requires { IfOk found (λ b. b.context.0 < ROOM) }
-    ensures binding { binding_by result ≡ unbound (so_far state.now) (binding_by found) }
+    ensures binding { binding_by result ≡ free_pair (so_far state.now) (binding_by found) }
     ensures known { IfOk result (λ b. b.context.0 < ROOM) }
 {
     match found {

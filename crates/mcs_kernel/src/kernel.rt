@@ -237,10 +237,8 @@ impl<L: Lines> Kernel<L> {
     }
 
     /// Lets in an entry of a thread on a core, and adds its line to the book, also where the answer is a refusal; or
-    /// turns it
-    /// away for the first of EnterFault's reasons, and then nothing has changed. OutOfMemory comes only where the
-    /// others do
-    /// not. The thread need not be the one of greatest priority.
+    /// turns it away for the first of EnterFault's reasons, and then nothing has changed. OutOfMemory comes only where
+    /// the others do not. The thread need not be the one of greatest priority.
     pub fn enter(
         &mut self,
         _alloc: Global,

@@ -85,12 +85,9 @@ fn run_text<W: Write>(alloc: Global, text: &[u8], sink: &mut Sink<W>) -> Result<
 }
 
 /// Reads a script, replays it and writes its trace. After Ok the whole trace is written. Where a line is faulty the
-/// trace of
-/// the steps before it is written, and nothing where the fault stands in the boot. After any other fault a beginning
-/// of the
-/// trace of the steps is written; BookFull comes only where the book is full at a step. A read or a write that is
-/// interrupted is tried again, at most 1,000 times in a row; a write
-/// that takes no byte is a fault.
+/// trace of the steps before it is written, and nothing where the fault stands in the boot. After any other fault a
+/// beginning of the trace of the steps is written; BookFull comes only where the book is full at a step. A read or a
+/// write that is interrupted is tried again, at most 1,000 times in a row; a write that takes no byte is a fault.
 pub fn simulate<R: Read, W: Write>(
     alloc: Global,
     source: &mut Source<R>,

@@ -1,7 +1,6 @@
 -- Numbers of lines and of threads name them.
 use Rattle.std.specs.Prelude.{ℕ, ◌≡◌, ◌<◌, ◌+◌, ◌==◌, Bool, true, false, cond, nat_lt, List, [], ◌∷◌, map}
 use Rattle.std.proofs.Common.{refl, ap, sym, ◌∙◌, arith}
-use Rattle.std.proofs.lemmas.Bool.{eqb-true, eq-eqb}
 use Rattle.mcs_types.specs.declared.id.ObjId.{ObjId}
 use Rattle.mcs_types.specs.declared.id.Kind.{Kind}
 use Rattle.mcs_types.specs.declared.id.Kind.TheVariants as kind
@@ -12,24 +11,8 @@ use Rattle.mcs_book.specs.Logs.{same}
 use Rattle.mcs_book.specs.Queues.{same_queue}
 use Rattle.mcs_book.specs.Growing.{insert_behind as put_behind, without as all_but}
 use Rattle.mcs_book.proofs.Same.{same_kind-self}
+use Rattle.mcs_cspace.proofs.Numbering.{same-test, different}
 use Rattle.mcs_state.specs.Numbers.{thread_at, IsName, IsLineName, line_number, standing}
-
--- two tests of numbers that hold together are the same
-pub same-test : (x y u v : ℕ) → (x ≡ y → u ≡ v) → (u ≡ v → x ≡ y) → (x == y) ≡ (u == v)
-same-test x y u v f g = go (x == y) refl (u == v) refl
-  where
-    go : (a : Bool) → (x == y) ≡ a → (b : Bool) → (u == v) ≡ b → a ≡ b
-    go true p true q = refl
-    go false p false q = refl
-    go true p false q = let e : u ≡ v = f (eqb-true x y p) in let no : true ≡ false = sym (eq-eqb u v e) ∙ q in absurd cc
-    go false p true q = let e : x ≡ y = g (eqb-true u v q) in let no : true ≡ false = sym (eq-eqb x y e) ∙ p in absurd cc
-
-pub different : (x y : ℕ) → (x ≡ y → ⊥) → (x == y) ≡ false
-different x y ne = go (x == y) refl
-  where
-    go : (a : Bool) → (x == y) ≡ a → a ≡ false
-    go true p = absurd (ne (eqb-true x y p))
-    go false p = refl
 
 -- names of one kind are the same where their serials are
 same-names : (k : Kind) (a b : ObjId) → IsName k a → IsName k b → same a b ≡ (a.serial == b.serial)
