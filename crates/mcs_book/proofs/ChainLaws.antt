@@ -9,14 +9,15 @@ use Rattle.mcs_types.specs.declared.id.Kind.TheVariants as kind
 use Rattle.mcs_types.specs.declared.record.Ending.TheVariants.{Deleted, Cancelled}
 use Rattle.mcs_types.specs.declared.record.Rec.{Rec}
 use Rattle.mcs_types.specs.declared.record.Rec.TheVariants as rec
-use Rattle.mcs_book.specs.Logs.{Log, same, given, is_just}
+use Rattle.mcs_types.specs.Ids.{same}
+use Rattle.mcs_book.specs.Logs.{Log, given, is_just}
 use Rattle.mcs_book.specs.Objects.{was_closed, was_made}
 use Rattle.mcs_book.specs.Contexts.{holder_of}
 use Rattle.mcs_book.specs.Replies.{owed_by}
 use Rattle.mcs_book.specs.Chains.{owes_with, ends, cancels, lasts, lasts_any, any_lasting, cuts, cuts_any, any_cut, kept_debt, kept, chain_of}
 use Rattle.mcs_book.specs.Growing.{above, taken_off, growing_chain}
 use Rattle.mcs_book.specs.Sound.{Sound, IsReleased}
-use Rattle.mcs_book.proofs.Same.{same-self, same-equal}
+use Rattle.mcs_types.proofs.Ids.{same-self, same-equal}
 
 -- false on the right changes no "or"
 or-false : (b : Bool) → (b || false) ≡ b

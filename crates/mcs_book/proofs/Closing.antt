@@ -14,7 +14,8 @@ use Rattle.mcs_types.specs.declared.record.Rec.{Rec}
 use Rattle.mcs_types.specs.declared.record.Rec.TheVariants as rec
 use Rattle.mcs_types.specs.declared.entry.Answer.{Answer}
 use Rattle.mcs_types.specs.declared.entry.Step.{Step}
-use Rattle.mcs_book.specs.Logs.{Log, onto, same, given}
+use Rattle.mcs_types.specs.Ids.{same}
+use Rattle.mcs_book.specs.Logs.{Log, onto, given}
 use Rattle.mcs_book.specs.Messages.{open_of}
 use Rattle.mcs_book.specs.Queues.{queue_of}
 use Rattle.mcs_book.specs.Slots.{count_of}
@@ -24,7 +25,7 @@ use Rattle.mcs_book.specs.Notifications.{bound_of}
 use Rattle.mcs_book.specs.Pieces.{Piece, ◌then◌, nothing, say, with_any}
 use Rattle.mcs_book.specs.Cancelling.{drop_message, leave, cancel, let_go, release, destroy}
 use Rattle.mcs_book.specs.Placing.{destroy_last}
-use Rattle.mcs_book.proofs.Same.{same-self}
+use Rattle.mcs_types.proofs.Ids.{same-self}
 use Rattle.mcs_book.proofs.Keeping.{Keeps, then-at, then-next}
 use Rattle.mcs_book.specs.Each.{Each}
 use Rattle.mcs_book.specs.Sound.{IsOwedNothing}

@@ -8,11 +8,12 @@ use Rattle.mcs_types.specs.declared.id.Kind.{Kind}
 use Rattle.mcs_types.specs.declared.cap.Cap.{Cap}
 use Rattle.mcs_types.specs.declared.record.Form.{Form}
 use Rattle.mcs_types.specs.declared.record.Rec.TheVariants as rec
-use Rattle.mcs_book.specs.Logs.{Log, same, given, counted}
+use Rattle.mcs_types.specs.Ids.{same}
+use Rattle.mcs_book.specs.Logs.{Log, given, counted}
 use Rattle.mcs_book.specs.Objects.{makes_kind, was_made, was_closed, next_id}
 use Rattle.mcs_book.specs.Slots.{SlotName, same_slot, with_slot, written, slot, is_cap_to, count_of}
 use Rattle.mcs_book.specs.Sound.{Sound, IsThere}
-use Rattle.mcs_book.proofs.Same.{same-self, same-equal, parts, both}
+use Rattle.mcs_types.proofs.Ids.{same-self, same-equal, parts, both}
 use Rattle.mcs_book.proofs.MadeLaws.{made-in, serial-below, alive-made}
 use Rattle.mcs_book.proofs.NoneBeside.{made-more}
 use Rattle.mcs_book.proofs.KeptLaws.{given-split}

@@ -5,13 +5,14 @@ use Rattle.mcs_types.specs.declared.id.CoreId.{CoreId}
 use Rattle.mcs_types.specs.declared.id.Kind.TheVariants as kind
 use Rattle.mcs_types.specs.declared.record.Queue.{Queue}
 use Rattle.mcs_types.specs.declared.record.Status.TheVariants as status
-use Rattle.mcs_book.specs.Logs.{Log, same_kind}
+use Rattle.mcs_types.specs.Ids.{same_kind}
+use Rattle.mcs_book.specs.Logs.{Log}
 use Rattle.mcs_book.specs.Objects.{was_made, was_closed, is_alive}
 use Rattle.mcs_book.specs.Threads.{mode_of}
 use Rattle.mcs_book.specs.Queues.{queue_of}
 use Rattle.mcs_book.specs.Replies.{owing}
 use Rattle.mcs_book.specs.Standing.{status_of, may_enter, is_ready, status_by}
-use Rattle.mcs_book.proofs.Same.{same_kind-equal, parts, both}
+use Rattle.mcs_types.proofs.Ids.{same_kind-equal, parts, both}
 
 -- what is known of a thread that may enter
 pub record IsEntering (R : Log) (t : ObjId) : Type 0 where

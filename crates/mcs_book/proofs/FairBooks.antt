@@ -7,7 +7,8 @@ use Rattle.mcs_types.specs.declared.record.Rec.TheVariants as rec
 use Rattle.mcs_types.specs.declared.record.Letter.{Letter}
 use Rattle.mcs_types.specs.declared.record.SendMode.TheVariants as how
 use Rattle.mcs_types.specs.declared.record.Queue.TheVariants.{Receivers}
-use Rattle.mcs_book.specs.Logs.{Log, same, onto, given}
+use Rattle.mcs_types.specs.Ids.{same}
+use Rattle.mcs_book.specs.Logs.{Log, onto, given}
 use Rattle.mcs_book.specs.Objects.{is_alive}
 use Rattle.mcs_book.specs.Queues.{is_ahead, head_of}
 use Rattle.mcs_book.specs.Contexts.{holder_of}
@@ -25,7 +26,7 @@ use Rattle.mcs_book.specs.Fair.{TakesFirst, TakesInOrder, TakesAlive, AnswersOwe
 use Rattle.mcs_book.specs.SmallBooks.{badge, text, answered}
 use Rattle.mcs_book.proofs.Computing.{computing}
 use Rattle.mcs_book.proofs.Rows.{k_faultless}
-use Rattle.mcs_book.proofs.Same.{same-equal}
+use Rattle.mcs_types.proofs.Ids.{same-equal}
 use Rattle.mcs_book.proofs.ReplayLaws.{replayed-legal}
 use Rattle.mcs_book.proofs.TakenOnce.{legal-taken_once}
 use Rattle.mcs_book.proofs.WholeLines.{legal-whole}

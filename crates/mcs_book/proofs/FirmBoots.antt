@@ -11,7 +11,8 @@ use Rattle.mcs_types.specs.declared.record.Form.TheVariants as form
 use Rattle.mcs_types.specs.declared.record.Rec.TheVariants as rec
 use Rattle.mcs_types.specs.declared.boot.BootLine.{BootLine}
 use Rattle.mcs_types.specs.declared.boot.BootLine.TheVariants as boot
-use Rattle.mcs_book.specs.Logs.{Log, onto, same_kind}
+use Rattle.mcs_types.specs.Ids.{same_kind}
+use Rattle.mcs_book.specs.Logs.{Log, onto}
 use Rattle.mcs_book.specs.Objects.{was_made, was_closed, is_alive, form_of, next_id}
 use Rattle.mcs_book.specs.Queues.{queue_of}
 use Rattle.mcs_book.specs.Replies.{owed_by}
@@ -20,7 +21,7 @@ use Rattle.mcs_book.specs.Lookup.{radix_kept}
 use Rattle.mcs_book.specs.Placing.{core_limit}
 use Rattle.mcs_book.specs.Boots.{boot_line, boot_log, begins, begins_with, root_cap, is_object, fits_kind, fits_guard, has_no_rights, has_numbers, has_objects, is_context_any, boot_check, AreFaultless}
 use Rattle.mcs_book.specs.Sound.{IsThere, IsFormOf, HoldsNone}
-use Rattle.mcs_book.proofs.Same.{same_kind-equal, parts, both}
+use Rattle.mcs_types.proofs.Ids.{same_kind-equal, parts, both}
 use Rattle.mcs_book.proofs.MadeLaws.{alive-made}
 use Rattle.mcs_book.proofs.LineLaws.{below}
 use Rattle.mcs_book.proofs.KeptLaws.{there-next, held-there}

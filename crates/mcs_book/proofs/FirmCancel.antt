@@ -9,7 +9,8 @@ use Rattle.mcs_types.specs.declared.record.Ending.TheVariants.{Cancelled}
 use Rattle.mcs_types.specs.declared.record.Queue.{Queue}
 use Rattle.mcs_types.specs.declared.record.Queue.TheVariants.{Senders, Receivers, Waiters}
 use Rattle.mcs_types.specs.declared.record.Rec.TheVariants as rec
-use Rattle.mcs_book.specs.Logs.{Log, onto, same}
+use Rattle.mcs_types.specs.Ids.{same}
+use Rattle.mcs_book.specs.Logs.{Log, onto}
 use Rattle.mcs_book.specs.Threads.{threads}
 use Rattle.mcs_book.specs.Queues.{queue_of, is_ahead, stands_in, is_queue, line_of}
 use Rattle.mcs_book.specs.Messages.{open_of}

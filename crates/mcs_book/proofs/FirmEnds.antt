@@ -12,7 +12,8 @@ use Rattle.mcs_types.specs.declared.record.Mode.TheVariants.{Running, Restart, I
 use Rattle.mcs_types.specs.declared.record.Queue.TheVariants.{Senders, Receivers, Waiters}
 use Rattle.mcs_types.specs.declared.record.Rec.{Rec}
 use Rattle.mcs_types.specs.declared.record.Rec.TheVariants as rec
-use Rattle.mcs_book.specs.Logs.{Log, onto, same, given}
+use Rattle.mcs_types.specs.Ids.{same}
+use Rattle.mcs_book.specs.Logs.{Log, onto, given}
 use Rattle.mcs_book.specs.Objects.{closes, is_alive}
 use Rattle.mcs_book.specs.Slots.{slot, is_cap_to}
 use Rattle.mcs_book.specs.Queues.{queue_of, reply_with, line_of}

@@ -14,7 +14,8 @@ use Rattle.mcs_types.specs.declared.record.Letter.{Letter}
 use Rattle.mcs_types.specs.declared.record.Queue.TheVariants.{Waiters}
 use Rattle.mcs_types.specs.declared.record.Rec.{Rec}
 use Rattle.mcs_types.specs.declared.record.Rec.TheVariants as rec
-use Rattle.mcs_book.specs.Logs.{Log, same, same_kind, is_just}
+use Rattle.mcs_types.specs.Ids.{same, same_kind}
+use Rattle.mcs_book.specs.Logs.{Log, is_just}
 use Rattle.mcs_book.specs.Objects.{made_of, was_made, was_closed, form_of}
 use Rattle.mcs_book.specs.Slots.{slot}
 use Rattle.mcs_book.specs.Threads.{threads, root_kept, root_of}
@@ -27,7 +28,8 @@ use Rattle.mcs_book.specs.Notifications.{bound_of, tied_to}
 use Rattle.mcs_book.specs.Each.{Each}
 use Rattle.mcs_book.specs.Fair.{TakesAlive, TakesFirst}
 use Rattle.mcs_book.specs.Sound.{Allowed, Sound, IsThere, IsFormOf, IsOwedNothing, IsEmptyLine, HoldsNone, IsUnbound}
-use Rattle.mcs_book.proofs.Same.{same-self, same_kind-equal, is_just-some, parts, both}
+use Rattle.mcs_types.proofs.Ids.{same-self, same_kind-equal, parts, both}
+use Rattle.mcs_book.proofs.Same.{is_just-some}
 use Rattle.mcs_book.proofs.Sorted.{In}
 use Rattle.mcs_book.proofs.MadeLaws.{made-in, alive-made}
 use Rattle.mcs_book.proofs.MessageLaws.{find-passes, letter-below}

@@ -9,7 +9,8 @@ use Rattle.mcs_types.specs.declared.cap.Cap.{Cap}
 use Rattle.mcs_types.specs.declared.cap.Place.{Place}
 use Rattle.mcs_types.specs.declared.entry.Refusal.{Refusal}
 use Rattle.mcs_types.specs.declared.entry.Refusal.TheVariants.{Missing, WrongKind}
-use Rattle.mcs_book.specs.Logs.{Log, same_kind}
+use Rattle.mcs_types.specs.Ids.{same_kind}
+use Rattle.mcs_book.specs.Logs.{Log}
 use Rattle.mcs_book.specs.Objects.{is_alive, form_of}
 use Rattle.mcs_book.specs.Slots.{SlotName, slot}
 use Rattle.mcs_book.specs.Threads.{root_of}
@@ -17,7 +18,7 @@ use Rattle.mcs_book.specs.Checks.{Checked, ◌>>◌, need, needed}
 use Rattle.mcs_book.specs.Rights.{is_kind}
 use Rattle.mcs_book.specs.Lookup.{space_of, Reached, number_of_bits, radix_kept, level, cnode_cap, goes_on, walk, capability_from, capability, of_kind, slot_from, slot_named, bits_of}
 use Rattle.mcs_book.specs.Sound.{IsThere, Sound}
-use Rattle.mcs_book.proofs.Same.{same_kind-equal}
+use Rattle.mcs_types.proofs.Ids.{same_kind-equal}
 use Rattle.mcs_book.proofs.Checking.{OnPassed, passed-ok, passed-err, passed-after, passed-next}
 use Rattle.mcs_book.proofs.PathLaws.{Level, level-spells, goes-next}
 use Rattle.mcs_book.proofs.KeptLaws.{slot-alive}

@@ -24,7 +24,7 @@ use Rattle.mcs_book.specs.Sending.{letter_over, sent, sends_to, sends, queues}
 use Rattle.mcs_book.specs.Receiving.{joins_or, hear, take_open, open_of_any, pending_of_any, receive_message, receive_on, free, wait_on}
 use Rattle.mcs_book.specs.Fair.{IsFirst, IsFirstOfOne}
 use Rattle.mcs_book.specs.Sound.{IsThere, IsFreeReply}
-use Rattle.mcs_book.proofs.Same.{same-equal}
+use Rattle.mcs_types.proofs.Ids.{same-equal}
 use Rattle.mcs_book.proofs.LineLaws.{first-stands}
 use Rattle.mcs_book.proofs.MessageLaws.{open_of-open, open_of-letter, sent-open_at}
 use Rattle.mcs_book.proofs.OpenLaws.{sound-ends}

@@ -14,7 +14,8 @@ use Rattle.mcs_types.specs.declared.record.Mode.{Mode}
 use Rattle.mcs_types.specs.declared.record.Mode.TheVariants.{Running, Restart, Inactive}
 use Rattle.mcs_types.specs.declared.record.Rec.TheVariants as rec
 use Rattle.mcs_types.specs.declared.entry.Answer.TheVariants.{Done}
-use Rattle.mcs_book.specs.Logs.{Log, onto, same, same_kind}
+use Rattle.mcs_types.specs.Ids.{same, same_kind}
+use Rattle.mcs_book.specs.Logs.{Log, onto}
 use Rattle.mcs_book.specs.Objects.{form_of, next_id}
 use Rattle.mcs_book.specs.Slots.{SlotName, slot, count_of}
 use Rattle.mcs_book.specs.Queues.{queue_of}
@@ -31,7 +32,7 @@ use Rattle.mcs_book.specs.Receiving.{receive_by, receive_over, reply_at, reply_r
 use Rattle.mcs_book.specs.Placing.{Places, source_and_dest, fills, is_last_cnode, destroy_last, delete, make}
 use Rattle.mcs_book.specs.Table.{wakes}
 use Rattle.mcs_book.specs.Sound.{IsThere, IsFormOf}
-use Rattle.mcs_book.proofs.Same.{same-equal}
+use Rattle.mcs_types.proofs.Ids.{same-equal}
 use Rattle.mcs_book.proofs.Checking.{OnPassed, passed-ok, passed-err, passed-after, passed-next}
 use Rattle.mcs_book.proofs.Keeping.{then-next}
 use Rattle.mcs_book.proofs.KeptLaws.{set-other, there-next, bound-one, slot-alive}

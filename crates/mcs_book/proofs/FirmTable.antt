@@ -19,7 +19,8 @@ use Rattle.mcs_types.specs.declared.record.Rec.TheVariants as rec
 use Rattle.mcs_types.specs.declared.entry.Answer.TheVariants.{Waits}
 use Rattle.mcs_types.specs.declared.entry.Entry.{Entry}
 use Rattle.mcs_types.specs.declared.entry.Entry.TheVariants.{Send, NbSend, Call, Recv, NbRecv, Wait, NbWait, ReplyRecv, Signal, SetPriority, Suspend, Resume, BindNtfn, UnbindNtfn, BindCtx, UnbindCtx, CancelBadged, CopyCap, MintCap, MoveCap, DeleteCap, MakeEndpoint, MakeNotification, MakeReply, MakeContext}
-use Rattle.mcs_book.specs.Logs.{Log, onto, same_kind}
+use Rattle.mcs_types.specs.Ids.{same_kind}
+use Rattle.mcs_book.specs.Logs.{Log, onto}
 use Rattle.mcs_book.specs.Objects.{was_made, was_closed, form_of}
 use Rattle.mcs_book.specs.Slots.{SlotName, slot}
 use Rattle.mcs_book.specs.Threads.{mode_of}
@@ -41,7 +42,7 @@ use Rattle.mcs_book.specs.Placing.{source_and_dest, fills, is_last_cnode, is_emp
 use Rattle.mcs_book.specs.Table.{row, wakes, outcome_of, does}
 use Rattle.mcs_book.specs.Ranges.{InRange}
 use Rattle.mcs_book.specs.Sound.{IsThere, IsIdle}
-use Rattle.mcs_book.proofs.Same.{parts}
+use Rattle.mcs_types.proofs.Ids.{parts}
 use Rattle.mcs_book.proofs.Sorted.{filter-in}
 use Rattle.mcs_book.proofs.MadeLaws.{alive-made}
 use Rattle.mcs_book.proofs.LineLaws.{first-none}

@@ -23,7 +23,7 @@ use Rattle.mcs_book.specs.Taking.{debt, owe, settle, handed, taken}
 use Rattle.mcs_book.specs.Signalling.{queue_of_any, wake, hearer, reach, signal}
 use Rattle.mcs_book.specs.Fair.{TakesAlive, TakesFirst}
 use Rattle.mcs_book.specs.Sound.{IsThere, IsIdle, IsFreeReply}
-use Rattle.mcs_book.proofs.Same.{same-self}
+use Rattle.mcs_types.proofs.Ids.{same-self}
 use Rattle.mcs_book.proofs.WordLaws.{pending-growing}
 use Rattle.mcs_book.proofs.LineLaws.{first-stands}
 use Rattle.mcs_book.proofs.NoneBeside.{left-queue}

@@ -7,14 +7,16 @@ use Rattle.mcs_types.specs.declared.id.Kind.TheVariants as kind
 use Rattle.mcs_types.specs.declared.record.Ending.{Ending}
 use Rattle.mcs_types.specs.declared.record.Ending.TheVariants.{Deleted, Cancelled}
 use Rattle.mcs_types.specs.declared.record.Rec.TheVariants as rec
-use Rattle.mcs_book.specs.Logs.{Log, same, same_kind, given, is_just}
+use Rattle.mcs_types.specs.Ids.{same, same_kind}
+use Rattle.mcs_book.specs.Logs.{Log, given, is_just}
 use Rattle.mcs_book.specs.Queues.{head_of}
 use Rattle.mcs_book.specs.Contexts.{contexts, holder_of}
 use Rattle.mcs_book.specs.Replies.{owed_by, brought_to}
 use Rattle.mcs_book.specs.Chains.{chain_of, topped_by}
 use Rattle.mcs_book.specs.Growing.{above, taken_off, ended, growing_chain}
 use Rattle.mcs_book.specs.Sound.{Sound}
-use Rattle.mcs_book.proofs.Same.{same-self, same-equal, same-other, is_just-some}
+use Rattle.mcs_types.proofs.Ids.{same-self, same-equal, same-other}
+use Rattle.mcs_book.proofs.Same.{is_just-some}
 use Rattle.mcs_book.proofs.Sorted.{In, Distinct}
 use Rattle.mcs_book.proofs.HoldingLaws.{held-made, find-alone}
 use Rattle.mcs_book.proofs.ChainLaws.{chain_of-growing}

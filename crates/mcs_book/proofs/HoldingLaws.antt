@@ -4,10 +4,12 @@ use Rattle.std.proofs.Common.{sym, ◌∙◌, ap, inl, inr, subst}
 use Rattle.mcs_types.specs.declared.id.ObjId.{ObjId}
 use Rattle.mcs_types.specs.declared.id.Kind.TheVariants as kind
 use Rattle.mcs_types.specs.declared.record.Rec.TheVariants as rec
-use Rattle.mcs_book.specs.Logs.{Log, same, same_kind, given, is_just}
+use Rattle.mcs_types.specs.Ids.{same, same_kind}
+use Rattle.mcs_book.specs.Logs.{Log, given, is_just}
 use Rattle.mcs_book.specs.Contexts.{contexts, holder_of, context_of}
 use Rattle.mcs_book.specs.Sound.{Sound}
-use Rattle.mcs_book.proofs.Same.{same-self, same-equal, is_just-some}
+use Rattle.mcs_types.proofs.Ids.{same-self, same-equal}
+use Rattle.mcs_book.proofs.Same.{is_just-some}
 use Rattle.mcs_book.proofs.Sorted.{In}
 use Rattle.mcs_book.proofs.MadeLaws.{made-in, alive-made}
 use Rattle.mcs_book.proofs.MessageLaws.{find-passes}

@@ -10,7 +10,8 @@ use Rattle.mcs_types.specs.declared.record.Queue.{Queue}
 use Rattle.mcs_types.specs.declared.record.Queue.TheVariants.{Senders, Receivers, Waiters}
 use Rattle.mcs_types.specs.declared.record.Rec.{Rec}
 use Rattle.mcs_types.specs.declared.record.Rec.TheVariants as rec
-use Rattle.mcs_book.specs.Logs.{Log, same, given}
+use Rattle.mcs_types.specs.Ids.{same}
+use Rattle.mcs_book.specs.Logs.{Log, given}
 use Rattle.mcs_book.specs.Objects.{closes, makes, was_made, was_closed, is_alive}
 use Rattle.mcs_book.specs.Slots.{slot}
 use Rattle.mcs_book.specs.Queues.{queue_of, reply_with}
@@ -18,7 +19,7 @@ use Rattle.mcs_book.specs.Contexts.{holder_of}
 use Rattle.mcs_book.specs.Replies.{owed_by}
 use Rattle.mcs_book.specs.Notifications.{bound_of}
 use Rattle.mcs_book.specs.Sound.{Allowed, Sound, IsThere, IsLineThere, IsReleased, IsUnattended}
-use Rattle.mcs_book.proofs.Same.{same-self, same-equal, same-other, parts, both}
+use Rattle.mcs_types.proofs.Ids.{same-self, same-equal, same-other, parts, both}
 use Rattle.mcs_book.proofs.NoneBeside.{made-more}
 use Rattle.mcs_book.proofs.UserLaws.{if_some}
 

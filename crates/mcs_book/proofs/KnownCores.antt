@@ -11,7 +11,8 @@ use Rattle.mcs_types.specs.declared.record.Form.{Form}
 use Rattle.mcs_types.specs.declared.record.Form.TheVariants.{OnCore}
 use Rattle.mcs_types.specs.declared.record.Rec.{Rec}
 use Rattle.mcs_types.specs.declared.record.Rec.TheVariants as rec
-use Rattle.mcs_book.specs.Logs.{Log, onto, same, given}
+use Rattle.mcs_types.specs.Ids.{same}
+use Rattle.mcs_book.specs.Logs.{Log, onto, given}
 use Rattle.mcs_book.specs.Objects.{form_of}
 use Rattle.mcs_book.specs.Contexts.{context_of}
 use Rattle.mcs_book.specs.Standing.{may_enter, is_ready, status_of, is_on_core}
@@ -21,7 +22,7 @@ use Rattle.mcs_book.specs.Table.{does}
 use Rattle.mcs_book.specs.History.{Line, Book, past, AreLegal, IsLegal}
 use Rattle.mcs_book.specs.Each.{Each, EachLineAfter, EachLine}
 use Rattle.mcs_book.specs.Merging.{IsOfFirst}
-use Rattle.mcs_book.proofs.Same.{parts}
+use Rattle.mcs_types.proofs.Ids.{parts}
 use Rattle.mcs_book.proofs.Safety.{Safe, each-onto}
 use Rattle.mcs_book.proofs.WholeRecords.{each_of-map, IsWhole, MadeOn}
 use Rattle.mcs_book.proofs.WholeTable.{step_of, whole-does}

@@ -5,7 +5,8 @@ use Rattle.mcs_types.specs.declared.id.ObjId.{ObjId}
 use Rattle.mcs_types.specs.declared.id.Kind.TheVariants as kind
 use Rattle.mcs_types.specs.declared.cap.Cap.{Cap}
 use Rattle.mcs_types.specs.declared.record.Rec.TheVariants as rec
-use Rattle.mcs_book.specs.Logs.{Log, same, same_kind, given}
+use Rattle.mcs_types.specs.Ids.{same, same_kind}
+use Rattle.mcs_book.specs.Logs.{Log, given}
 use Rattle.mcs_book.specs.Objects.{was_made, form_of}
 use Rattle.mcs_book.specs.Slots.{slot}
 use Rattle.mcs_book.specs.Threads.{root_kept, root_of}
@@ -14,7 +15,7 @@ use Rattle.mcs_book.specs.Paths.{IsComplete}
 use Rattle.mcs_book.specs.Boots.{boot_log}
 use Rattle.mcs_book.specs.History.{Book, log_of, IsLegal}
 use Rattle.mcs_book.specs.Each.{Each}
-use Rattle.mcs_book.proofs.Same.{same-equal, same_kind-equal}
+use Rattle.mcs_types.proofs.Ids.{same-equal, same_kind-equal}
 use Rattle.mcs_book.proofs.NoneBeside.{made-more}
 use Rattle.mcs_book.proofs.Safety.{Safe, safe-held}
 use Rattle.mcs_book.proofs.Standings.{safe-boot, safe-past}

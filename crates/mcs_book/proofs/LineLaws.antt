@@ -6,13 +6,15 @@ use Rattle.mcs_types.specs.declared.id.Kind.TheVariants as kind
 use Rattle.mcs_types.specs.declared.record.Queue.{Queue}
 use Rattle.mcs_types.specs.declared.record.Rec.{Rec}
 use Rattle.mcs_types.specs.declared.record.Rec.TheVariants.{Prio, Joins, Parts, Made}
-use Rattle.mcs_book.specs.Logs.{Log, same, same_kind, given}
+use Rattle.mcs_types.specs.Ids.{same, same_kind}
+use Rattle.mcs_book.specs.Logs.{Log, given}
 use Rattle.mcs_book.specs.Objects.{was_made}
 use Rattle.mcs_book.specs.Threads.{threads, prio_of}
 use Rattle.mcs_book.specs.Queues.{queue_of, is_queue, same_queue, stands_in, place_of, comes_before, is_ahead, line_of, first_in, head_of}
 use Rattle.mcs_book.specs.Growing.{Waiter, insert_behind, without, is_among, growing_line, threads_in}
 use Rattle.mcs_book.specs.Sound.{Sound}
-use Rattle.mcs_book.proofs.Same.{same-self, same-equal, same-other, same_queue-self, is_queue-some}
+use Rattle.mcs_types.proofs.Ids.{same-self, same-equal, same-other}
+use Rattle.mcs_book.proofs.Same.{same_queue-self, is_queue-some}
 use Rattle.mcs_book.proofs.Sorted.{In, Sorted, AheadOfAll, filter-in, in-filter, distinct-filter, sorted-connected, sorted-unique, sort-in, in-sort, sort-sorted}
 use Rattle.mcs_book.proofs.MadeLaws.{made-in, made-distinct, alive-made}
 use Rattle.mcs_book.proofs.Waiting.{among-insert, among-without, among-shifted, among-in, in-among}

@@ -8,11 +8,12 @@ use Rattle.mcs_types.specs.declared.record.Mail.{Mail}
 use Rattle.mcs_types.specs.declared.record.Mail.TheVariants.{Message}
 use Rattle.mcs_types.specs.declared.record.Rec.{Rec}
 use Rattle.mcs_types.specs.declared.record.Rec.TheVariants as rec
-use Rattle.mcs_book.specs.Logs.{Log, onto, same, given, latest_knowing}
+use Rattle.mcs_types.specs.Ids.{same}
+use Rattle.mcs_book.specs.Logs.{Log, onto, given, latest_knowing}
 use Rattle.mcs_book.specs.Objects.{is_alive}
 use Rattle.mcs_book.specs.Messages.{letter}
 use Rattle.mcs_book.specs.Standing.{letter_mail, mail_brought, mail_of}
-use Rattle.mcs_book.proofs.Same.{same-self, same-other}
+use Rattle.mcs_types.proofs.Ids.{same-self, same-other}
 use Rattle.mcs_book.proofs.Making.{Passes, is_plain}
 
 -- whether a record brings nothing to x, and neither makes nor closes an object

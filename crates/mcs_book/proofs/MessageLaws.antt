@@ -6,12 +6,13 @@ use Rattle.std.proofs.lemmas.Bool.{eq-eqb, eqb-true, not_from_false}
 use Rattle.mcs_types.specs.declared.id.ObjId.{ObjId}
 use Rattle.mcs_types.specs.declared.record.Rec.{Rec}
 use Rattle.mcs_types.specs.declared.record.Rec.TheVariants as rec
-use Rattle.mcs_book.specs.Logs.{Log, same}
+use Rattle.mcs_types.specs.Ids.{same}
+use Rattle.mcs_book.specs.Logs.{Log}
 use Rattle.mcs_types.specs.declared.record.Letter.{Letter}
 use Rattle.mcs_book.specs.Messages.{is_sent, next_message, letters, letter, settles, is_open, open_of}
 use Rattle.mcs_book.specs.Each.{Each}
 use Rattle.mcs_book.specs.Fair.{EndsOpen}
-use Rattle.mcs_book.proofs.Same.{parts, both}
+use Rattle.mcs_types.proofs.Ids.{parts, both}
 use Rattle.mcs_book.proofs.Keeping.{sent_record}
 
 -- what is found passes the test

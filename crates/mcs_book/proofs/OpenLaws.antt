@@ -5,14 +5,15 @@ use Rattle.std.proofs.Common.{sym, ◌∙◌, ap, arith}
 use Rattle.std.proofs.lemmas.Bool.{eqb-true}
 use Rattle.mcs_types.specs.declared.id.ObjId.{ObjId}
 use Rattle.mcs_types.specs.declared.record.Rec.TheVariants as rec
-use Rattle.mcs_book.specs.Logs.{Log, same}
+use Rattle.mcs_types.specs.Ids.{same}
+use Rattle.mcs_book.specs.Logs.{Log}
 use Rattle.mcs_types.specs.declared.record.Letter.{Letter}
 use Rattle.mcs_book.specs.Messages.{next_message, letters, letter, settles, is_open, open_of}
 use Rattle.mcs_book.specs.Each.{Each}
 use Rattle.mcs_book.specs.Fair.{EndsOpen}
 use Rattle.mcs_book.specs.Growing.{growing_open, unless_number}
 use Rattle.mcs_book.specs.Sound.{Sound}
-use Rattle.mcs_book.proofs.Same.{same-equal, parts, both}
+use Rattle.mcs_types.proofs.Ids.{same-equal, parts, both}
 use Rattle.mcs_book.proofs.MessageLaws.{find-passes, sent-open, found-letter, number-other, pass}
 
 -- what holds of each of a list

@@ -12,7 +12,7 @@ use Rattle.mcs_types.specs.declared.id.ObjId.{ObjId}
 use Rattle.mcs_types.specs.declared.entry.Refusal.TheVariants.{Missing}
 use Rattle.mcs_book.specs.Threads.{root_of}
 use Rattle.mcs_book.specs.Paths.{guard_of, next_cnode, EndsAt, IsComplete, IsNamedFrom, IsNamed}
-use Rattle.mcs_book.proofs.Same.{parts}
+use Rattle.mcs_types.proofs.Ids.{parts}
 
 -- bits that are the same are equal
 bit-equal : (a b : Bool) → same_bit a b ≡ true → a ≡ b

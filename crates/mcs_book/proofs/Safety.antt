@@ -7,7 +7,8 @@ use Rattle.mcs_types.specs.declared.cap.Cap.{Cap}
 use Rattle.mcs_types.specs.declared.record.Queue.{Queue}
 use Rattle.mcs_types.specs.declared.record.Rec.{Rec}
 use Rattle.mcs_types.specs.declared.record.Rec.TheVariants as rec
-use Rattle.mcs_book.specs.Logs.{Log, onto, same, given, is_just}
+use Rattle.mcs_types.specs.Ids.{same}
+use Rattle.mcs_book.specs.Logs.{Log, onto, given, is_just}
 use Rattle.mcs_book.specs.Objects.{was_made, was_closed, is_alive}
 use Rattle.mcs_book.specs.Slots.{slot}
 use Rattle.mcs_book.specs.Threads.{root_kept}
@@ -16,7 +17,8 @@ use Rattle.mcs_book.specs.Replies.{replies, owed_by, owing}
 use Rattle.mcs_book.specs.Lookup.{radix_kept}
 use Rattle.mcs_book.specs.Each.{Each, EachOf}
 use Rattle.mcs_book.specs.Sound.{IsOwedNothing}
-use Rattle.mcs_book.proofs.Same.{same-self, same-equal, same-other, is_just-some, parts, both}
+use Rattle.mcs_types.proofs.Ids.{same-self, same-equal, same-other, parts, both}
+use Rattle.mcs_book.proofs.Same.{is_just-some}
 use Rattle.mcs_book.proofs.Sorted.{In}
 use Rattle.mcs_book.proofs.MadeLaws.{made-in}
 use Rattle.mcs_book.proofs.MessageLaws.{find-passes}

@@ -13,7 +13,8 @@ use Rattle.mcs_types.specs.declared.record.Queue.{Queue}
 use Rattle.mcs_types.specs.declared.record.Queue.TheVariants.{Senders, Receivers, Waiters}
 use Rattle.mcs_types.specs.declared.record.Rec.{Rec}
 use Rattle.mcs_types.specs.declared.record.Rec.TheVariants as rec
-use Rattle.mcs_book.specs.Logs.{Log, onto, same, given}
+use Rattle.mcs_types.specs.Ids.{same}
+use Rattle.mcs_book.specs.Logs.{Log, onto, given}
 use Rattle.mcs_book.specs.Objects.{was_made}
 use Rattle.mcs_book.specs.Queues.{queue_of, first_in}
 use Rattle.mcs_book.specs.Messages.{next_message, letters, letter, settles, is_open, open_of}
@@ -23,7 +24,7 @@ use Rattle.mcs_book.specs.Table.{does}
 use Rattle.mcs_book.specs.History.{Book, IsLegal, log_of}
 use Rattle.mcs_book.specs.Each.{AfterEachLine}
 use Rattle.mcs_book.specs.Fair.{IsOpenOf, SendersAreOpen, NoneWaitBeside}
-use Rattle.mcs_book.proofs.Same.{same-self, same-equal, parts, both}
+use Rattle.mcs_types.proofs.Ids.{same-self, same-equal, parts, both}
 use Rattle.mcs_book.proofs.LineLaws.{first-stands}
 use Rattle.mcs_book.proofs.MessageLaws.{open_of-open, open_of-letter}
 use Rattle.mcs_book.proofs.Keeping.{is_aside, sent_record, Steps}

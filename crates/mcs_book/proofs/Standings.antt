@@ -8,7 +8,8 @@ use Rattle.mcs_types.specs.declared.entry.Entry.{Entry}
 use Rattle.mcs_types.specs.declared.boot.BootLine.{BootLine}
 use Rattle.mcs_types.specs.declared.boot.BootLine.TheVariants as boot
 use Rattle.mcs_types.specs.declared.record.Rec.TheVariants as rec
-use Rattle.mcs_book.specs.Logs.{Log, onto, same_kind}
+use Rattle.mcs_types.specs.Ids.{same_kind}
+use Rattle.mcs_book.specs.Logs.{Log, onto}
 use Rattle.mcs_book.specs.Objects.{next_id, was_made}
 use Rattle.mcs_book.specs.Standing.{may_enter}
 use Rattle.mcs_book.specs.Pieces.{Outcome}
@@ -21,7 +22,7 @@ use Rattle.mcs_types.specs.declared.cap.Cap.{Cap}
 use Rattle.mcs_types.specs.declared.record.Form.TheVariants as form
 use Rattle.mcs_book.specs.History.{Line, past, AreLegal}
 use Rattle.mcs_book.specs.Each.{Each}
-use Rattle.mcs_book.proofs.Same.{same_kind-equal, parts}
+use Rattle.mcs_types.proofs.Ids.{same_kind-equal, parts}
 use Rattle.mcs_book.proofs.EntersLaws.{IsEntering, enters-ready}
 use Rattle.mcs_book.proofs.HistoryLaws.{legal-past}
 use Rattle.mcs_book.proofs.WholeRecords.{each_of-map, IsWhole, Begins}

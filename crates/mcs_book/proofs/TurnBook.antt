@@ -9,7 +9,8 @@ use Rattle.mcs_types.specs.declared.record.Letter.{Letter}
 use Rattle.mcs_types.specs.declared.record.Mode.TheVariants.{Running}
 use Rattle.mcs_types.specs.declared.record.SendMode.TheVariants as how
 use Rattle.mcs_types.specs.declared.record.Queue.TheVariants.{Senders}
-use Rattle.mcs_book.specs.Logs.{Log, same, given}
+use Rattle.mcs_types.specs.Ids.{same}
+use Rattle.mcs_book.specs.Logs.{Log, given}
 use Rattle.mcs_book.specs.Objects.{is_alive}
 use Rattle.mcs_book.specs.Queues.{is_ahead}
 use Rattle.mcs_book.specs.Messages.{letter}
@@ -21,7 +22,7 @@ use Rattle.mcs_book.specs.Fair.{TakesFirst, TakesInOrder, TakesAlive, AnswersOwe
 use Rattle.mcs_book.specs.SmallBooks.{badge, text, taken_in_turn}
 use Rattle.mcs_book.proofs.Computing.{computing}
 use Rattle.mcs_book.proofs.Rows.{k_faultless}
-use Rattle.mcs_book.proofs.Same.{same-equal}
+use Rattle.mcs_types.proofs.Ids.{same-equal}
 use Rattle.mcs_book.proofs.ReplayLaws.{replayed-legal}
 use Rattle.mcs_book.proofs.TakenOnce.{legal-taken_once}
 use Rattle.mcs_book.proofs.WholeLines.{legal-whole}

@@ -7,12 +7,14 @@ use Rattle.mcs_types.specs.declared.record.Mode.{Mode}
 use Rattle.mcs_types.specs.declared.record.Queue.{Queue}
 use Rattle.mcs_types.specs.declared.record.Queue.TheVariants.{Senders, Receivers, Waiters}
 use Rattle.mcs_types.specs.declared.record.Rec.TheVariants as rec
-use Rattle.mcs_book.specs.Logs.{Log, same, given, is_just}
+use Rattle.mcs_types.specs.Ids.{same}
+use Rattle.mcs_book.specs.Logs.{Log, given, is_just}
 use Rattle.mcs_book.specs.Threads.{threads}
 use Rattle.mcs_book.specs.Queues.{queue_of, reply_with, receives_at, is_receiving}
 use Rattle.mcs_book.specs.Replies.{receiver_with}
 use Rattle.mcs_book.specs.Sound.{Sound, IsUnattended}
-use Rattle.mcs_book.proofs.Same.{same-self, same-equal, is_just-some, parts, both}
+use Rattle.mcs_types.proofs.Ids.{same-self, same-equal, parts, both}
+use Rattle.mcs_book.proofs.Same.{is_just-some}
 use Rattle.mcs_book.proofs.LineLaws.{standing-made}
 use Rattle.mcs_book.proofs.MessageLaws.{find-passes}
 use Rattle.mcs_book.proofs.NoneBeside.{left-queue}

@@ -2,9 +2,9 @@
 use Rattle.std.specs.Prelude.{ℕ, Bool, true, false, cond, ◌||◌, ◌≡◌, nat_lt, List, [], ◌∷◌, refl}
 use Rattle.std.proofs.Common.{sym, ◌∙◌, ap, inl, inr}
 use Rattle.mcs_types.specs.declared.id.ObjId.{ObjId}
-use Rattle.mcs_book.specs.Logs.{same}
+use Rattle.mcs_types.specs.Ids.{same}
 use Rattle.mcs_book.specs.Growing.{Waiter, insert_behind, without, is_among, shifted, threads_in}
-use Rattle.mcs_book.proofs.Same.{same-self, same-equal}
+use Rattle.mcs_types.proofs.Ids.{same-self, same-equal}
 use Rattle.mcs_book.proofs.Sorted.{In}
 
 -- who is among waiters with one more

@@ -19,7 +19,8 @@ use Rattle.mcs_types.specs.declared.record.Rec.TheVariants as rec
 use Rattle.mcs_types.specs.declared.entry.Answer.{Answer}
 use Rattle.mcs_types.specs.declared.entry.Answer.TheVariants.{Got, Waits}
 use Rattle.mcs_types.specs.declared.entry.Step.{Step}
-use Rattle.mcs_book.specs.Logs.{Log, onto, same, given}
+use Rattle.mcs_types.specs.Ids.{same}
+use Rattle.mcs_book.specs.Logs.{Log, onto, given}
 use Rattle.mcs_book.specs.Objects.{makes, was_made, is_alive}
 use Rattle.mcs_book.specs.Slots.{slot}
 use Rattle.mcs_book.specs.Contexts.{holder_of, context_of}
@@ -38,7 +39,7 @@ use Rattle.mcs_book.proofs.Keeping.{sent_record}
 use Rattle.mcs_book.proofs.LineLaws.{first-stands}
 use Rattle.mcs_book.proofs.MessageLaws.{open_of-open, open_of-letter}
 use Rattle.mcs_book.proofs.NoneBeside.{made-more}
-use Rattle.mcs_book.proofs.Same.{same-equal, same-other}
+use Rattle.mcs_types.proofs.Ids.{same-equal, same-other}
 use Rattle.mcs_book.proofs.Safety.{IsReplyMade, Safe, plain-safe, none-plain, parted-none, paid-owed, owed-plain, IsStanding, safe-standing, safe-named}
 use Rattle.mcs_book.proofs.Making.{Passes, passes-map, passes-append, is_plain, is_quiet, plain-quiet, Plain, makes-say, makes-nothing}
 use Rattle.mcs_book.proofs.MailLaws.{plain-lasting, alive-last, is_still, plain-still, other-still, mail-still, mail-took}

@@ -17,7 +17,8 @@ use Rattle.mcs_types.specs.declared.entry.Answer.{Answer}
 use Rattle.mcs_types.specs.declared.entry.Answer.TheVariants.{Done}
 use Rattle.mcs_types.specs.declared.entry.Refusal.TheVariants.{WrongKind}
 use Rattle.mcs_types.specs.declared.entry.Step.{Step}
-use Rattle.mcs_book.specs.Logs.{Log, onto, same, given}
+use Rattle.mcs_types.specs.Ids.{same}
+use Rattle.mcs_book.specs.Logs.{Log, onto, given}
 use Rattle.mcs_book.specs.Messages.{open_of}
 use Rattle.mcs_book.specs.Queues.{queue_of, first_in}
 use Rattle.mcs_book.specs.Replies.{owed_by}
@@ -36,7 +37,7 @@ use Rattle.mcs_book.specs.Objects.{was_made}
 use Rattle.mcs_book.specs.Paths.{IsNamed}
 use Rattle.mcs_book.proofs.PathLaws.{capability-named}
 use Rattle.mcs_book.proofs.LineLaws.{first-stands}
-use Rattle.mcs_book.proofs.Same.{same-self, same_kind-equal}
+use Rattle.mcs_types.proofs.Ids.{same-self, same_kind-equal}
 use Rattle.mcs_book.proofs.Safety.{IsReplyMade, safe-owed, safe-standing, none-plains}
 use Rattle.mcs_book.proofs.GivingBack.{top-brought, top-found}
 use Rattle.mcs_book.specs.Sound.{Sound}

@@ -38,7 +38,7 @@ use Rattle.mcs_book.specs.Placing.{Places, source_and_dest, senders_with, delete
 use Rattle.mcs_book.specs.Pieces.{◌then◌, nothing, say, Outcome, Act, answers, before}
 use Rattle.mcs_book.specs.Lookup.{slot_named}
 use Rattle.mcs_types.specs.declared.entry.Refusal.TheVariants.{SlotEmpty, SlotFull}
-use Rattle.mcs_book.proofs.Same.{same-self}
+use Rattle.mcs_types.proofs.Ids.{same-self}
 use Rattle.mcs_book.proofs.Closing.{destroy_last-whole}
 use Rattle.mcs_book.proofs.PathLaws.{capability-named}
 use Rattle.mcs_book.proofs.Making.{is_plain, is_quiet, quiet-piece, makes-say, makes-nothing, makes-if, plain-cancel, plain-cancel_all, quiet-signal, plain-wakes}

@@ -14,7 +14,8 @@ use Rattle.mcs_types.specs.declared.record.Rec.{Rec}
 use Rattle.mcs_types.specs.declared.record.Rec.TheVariants.{Made, Prio, Turns, Holds, Slot}
 use Rattle.mcs_types.specs.declared.boot.BootFault.{BootFault}
 use Rattle.mcs_types.specs.declared.boot.BootFault.TheVariants.{Number, NoObject, Limit, Taken}
-use Rattle.mcs_book.specs.Logs.{Log, onto, same_kind}
+use Rattle.mcs_types.specs.Ids.{same_kind}
+use Rattle.mcs_book.specs.Logs.{Log, onto}
 use Rattle.mcs_book.specs.Objects.{was_made, form_of, number_of, next_id}
 use Rattle.mcs_book.specs.Slots.{slot}
 use Rattle.mcs_book.specs.Contexts.{holder_of}

@@ -5,7 +5,8 @@ use Rattle.mcs_types.specs.declared.id.ObjId.{ObjId}
 use Rattle.mcs_types.specs.declared.record.Letter.{Letter}
 use Rattle.mcs_types.specs.declared.record.Rec.{Rec}
 use Rattle.mcs_types.specs.declared.record.Rec.TheVariants.{Sent, Took, Dropped}
-use Rattle.mcs_book.specs.Logs.{Log, same, counted}
+use Rattle.mcs_types.specs.Ids.{same}
+use Rattle.mcs_book.specs.Logs.{Log, counted}
 
 -- whether a record is a message
 abbrev pub is_sent : Rec → Bool

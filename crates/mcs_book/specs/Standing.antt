@@ -14,7 +14,8 @@ use Rattle.mcs_types.specs.declared.record.Mail.{Mail}
 use Rattle.mcs_types.specs.declared.record.Mail.TheVariants.{Message, Word}
 use Rattle.mcs_types.specs.declared.record.Rec.{Rec}
 use Rattle.mcs_types.specs.declared.record.Rec.TheVariants.{Took, Paid, Heard}
-use Rattle.mcs_book.specs.Logs.{Log, same, same_kind, given, latest_knowing}
+use Rattle.mcs_types.specs.Ids.{same, same_kind}
+use Rattle.mcs_book.specs.Logs.{Log, given, latest_knowing}
 use Rattle.mcs_book.specs.Objects.{was_made, was_closed, is_alive, form_of}
 use Rattle.mcs_book.specs.Threads.{mode_of}
 use Rattle.mcs_book.specs.Queues.{queue_of}

@@ -9,7 +9,8 @@ use Rattle.mcs_types.specs.declared.cap.Place.{Place}
 use Rattle.mcs_types.specs.declared.record.Mode.{Mode}
 use Rattle.mcs_types.specs.declared.record.Mode.TheVariants.{Running, Restart, Inactive}
 use Rattle.mcs_types.specs.declared.record.Rec.TheVariants as rec
-use Rattle.mcs_book.specs.Logs.{Log, onto, same_kind}
+use Rattle.mcs_types.specs.Ids.{same_kind}
+use Rattle.mcs_book.specs.Logs.{Log, onto}
 use Rattle.mcs_book.specs.Objects.{is_alive}
 use Rattle.mcs_book.specs.Slots.{SlotName}
 use Rattle.mcs_book.specs.Lookup.{slot_named}

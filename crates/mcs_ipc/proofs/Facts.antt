@@ -16,7 +16,8 @@ use Rattle.mcs_types.specs.declared.record.SendMode.{SendMode}
 use Rattle.mcs_types.specs.declared.record.SendMode.TheVariants as how
 use Rattle.mcs_types.specs.declared.record.Rec.TheVariants as rec
 use Rattle.mcs_types.specs.declared.entry.Answer.TheVariants.{Done, Waits}
-use Rattle.mcs_book.specs.Logs.{Log, onto, same, counted, given}
+use Rattle.mcs_types.specs.Ids.{same}
+use Rattle.mcs_book.specs.Logs.{Log, onto, counted, given}
 use Rattle.mcs_book.specs.Slots.{slot}
 use Rattle.mcs_book.specs.Checks.{Checked}
 use Rattle.mcs_book.specs.Rights.{is_kind, may_write, may_read}
@@ -35,7 +36,7 @@ use Rattle.mcs_book.specs.Sending.{sends_to, sends, queues}
 use Rattle.mcs_book.specs.Table.{wakes}
 use Rattle.mcs_book.specs.Sound.{Sound, Allowed, IsThere, IsIdle, HasNoneOpen}
 use Rattle.mcs_book.specs.Served.{AreServed}
-use Rattle.mcs_book.proofs.Same.{same-self, same_kind-equal, both, parts}
+use Rattle.mcs_types.proofs.Ids.{same-self, same_kind-equal, both, parts}
 use Rattle.mcs_book.proofs.LineLaws.{first-stands, standing-made}
 use Rattle.mcs_book.proofs.MadeLaws.{serial-below}
 use Rattle.mcs_book.proofs.MessageLaws.{sent-open}

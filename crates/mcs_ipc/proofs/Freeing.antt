@@ -12,7 +12,8 @@ use Rattle.mcs_types.specs.declared.record.SendMode.TheVariants as how
 use Rattle.mcs_types.specs.declared.record.Rec.{Rec}
 use Rattle.mcs_types.specs.declared.record.Rec.TheVariants as rec
 use Rattle.mcs_types.specs.declared.entry.Answer.TheVariants.{Got, Waits, Empty}
-use Rattle.mcs_book.specs.Logs.{Log, onto, same, given}
+use Rattle.mcs_types.specs.Ids.{same}
+use Rattle.mcs_book.specs.Logs.{Log, onto, given}
 use Rattle.mcs_book.specs.Queues.{queue_of, first_in}
 use Rattle.mcs_book.specs.Messages.{letter, next_message, is_open, open_of}
 use Rattle.mcs_state.specs.Now.{IsNumberOf}
@@ -24,7 +25,7 @@ use Rattle.mcs_book.specs.Receiving.{free, hear, take_open, joins_or, open_of_an
 use Rattle.mcs_book.specs.Fair.{IsOpenOf}
 use Rattle.mcs_book.specs.Sound.{Sound, IsThere}
 use Rattle.mcs_book.specs.Served.{AreServed}
-use Rattle.mcs_book.proofs.Same.{same-equal}
+use Rattle.mcs_types.proofs.Ids.{same-equal}
 use Rattle.mcs_book.proofs.LineLaws.{first-stands}
 use Rattle.mcs_book.proofs.MessageLaws.{open_of-open, open_of-letter}
 use Rattle.mcs_book.proofs.UserLaws.{receiver_with-named, unattended-none, unattended-parted}

@@ -11,7 +11,8 @@ use Rattle.mcs_types.specs.declared.record.SendMode.TheVariants as how
 use Rattle.mcs_types.specs.declared.entry.Answer.TheVariants.{Done, Refused}
 use Rattle.mcs_types.specs.declared.entry.Refusal.{Refusal}
 use Rattle.mcs_types.specs.declared.entry.Refusal.TheVariants.{WrongKind, NoRight}
-use Rattle.mcs_book.specs.Logs.{Log, same_kind}
+use Rattle.mcs_types.specs.Ids.{same_kind}
+use Rattle.mcs_book.specs.Logs.{Log}
 use Rattle.mcs_book.specs.Checks.{Checked, ◌>>=◌, ◌>>◌, need}
 use Rattle.mcs_book.specs.Rights.{may_write, may_read, is_kind}
 use Rattle.mcs_book.specs.Threads.{mode_of}

@@ -15,7 +15,8 @@ use Rattle.mcs_types.specs.declared.boot.BootFault.TheVariants as fault
 use Rattle.mcs_types.specs.declared.record.Form.{Form}
 use Rattle.mcs_types.specs.declared.record.Queue.{Queue}
 use Rattle.mcs_types.specs.declared.record.Rec.TheVariants as rec
-use Rattle.mcs_book.specs.Logs.{Log, counted, same, same_kind, given}
+use Rattle.mcs_types.specs.Ids.{same, same_kind}
+use Rattle.mcs_book.specs.Logs.{Log, counted, given}
 use Rattle.mcs_book.specs.Objects.{made_of, makes_kind, was_made, is_alive, number_of, next_id}
 use Rattle.mcs_book.specs.Queues.{queue_of}
 use Rattle.mcs_book.specs.Contexts.{holder_of}
@@ -29,7 +30,7 @@ use Rattle.mcs_state.specs.Now.{Now, so_far}
 use Rattle.mcs_types.specs.declared.record.Mode.{Mode}
 use Rattle.mcs_types.specs.declared.id.Prio.{Prio}
 use Rattle.mcs_book.specs.Sound.{Sound, Allowed, IsThere, HoldsNone}
-use Rattle.mcs_book.proofs.Same.{both, parts, same-self, same_kind-equal}
+use Rattle.mcs_types.proofs.Ids.{both, parts, same-self, same_kind-equal}
 use Rattle.mcs_book.proofs.Sorted.{In}
 use Rattle.mcs_book.proofs.LineLaws.{standing-made}
 use Rattle.mcs_state.specs.Numbers.{IsName}

@@ -11,7 +11,8 @@ use Rattle.mcs_types.specs.declared.record.Mode.TheVariants.{Running, Restart, I
 use Rattle.mcs_types.specs.declared.record.Queue.{Queue}
 use Rattle.mcs_types.specs.declared.record.Rec.{Rec}
 use Rattle.mcs_types.specs.declared.record.Status.TheVariants as status
-use Rattle.mcs_book.specs.Logs.{Log, onto, same_kind}
+use Rattle.mcs_types.specs.Ids.{same_kind}
+use Rattle.mcs_book.specs.Logs.{Log, onto}
 use Rattle.mcs_book.specs.Objects.{form_of, was_made, was_closed}
 use Rattle.mcs_book.specs.Threads.{mode_of}
 use Rattle.mcs_book.specs.Queues.{queue_of}
@@ -20,7 +21,7 @@ use Rattle.mcs_book.specs.Replies.{owing}
 use Rattle.mcs_book.specs.Standing.{status_of, status_by, is_ready, is_on_core, may_enter}
 use Rattle.mcs_book.specs.History.{Book, IsLegal, log_of, line_limit}
 use Rattle.mcs_book.specs.Ranges.{InRange}
-use Rattle.mcs_book.proofs.Same.{parts, both}
+use Rattle.mcs_types.proofs.Ids.{parts, both}
 use Rattle.mcs_book.proofs.EntersLaws.{enters-ready}
 use Rattle.mcs_book.proofs.FirmLaws.{Firm, root-there}
 use Rattle.mcs_state.proofs.Opening.{onto-reverse}

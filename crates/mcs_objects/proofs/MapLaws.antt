@@ -2,12 +2,8 @@
 use Rattle.std.proofs.Common.{◌≡◌, ◌≢◌, ◌≤◌, ◌<◌, ◌+◌, ◌&&◌, ◌==◌, ℕ, Bool, true, false, cond, List, [], ◌∷◌, ◌++◌, Option, Some, None, refl, ap, ◌∙◌, arith}
 use Rattle.std.proofs.lemmas.Grind.{common_steps}
 use Rattle.mcs_types.specs.declared.id.ObjId.{ObjId}
-use Rattle.mcs_objects.specs.Kinds.{kind_number, same_kind}
+use Rattle.mcs_types.specs.Ids.{kind_number, same, same_kind}
 use Rattle.mcs_objects.specs.Store.{Object, Objects, object_in, object_at, next_id, Adds, without, removed, written, with_value, AreApart, IsMap}
-
--- whether two ids are the same
-abbrev pub same_id : ObjId → ObjId → Bool
-same_id a b = same_kind a.kind b.kind && (a.serial == b.serial)
 
 module _ {T : Type 0} where
   -- no serial was given beyond, and none stands before the first
@@ -49,7 +45,7 @@ module _ {T : Type 0} where
   added-cond false b x old = refl
 
   -- only the new id finds another object
-  pub object_at-added : (s new : Objects T) (v : T) (id : ObjId) → IsMap s → (more : Adds s new v) → object_at new id ≡ cond (same_id id (next_id s)) (Some (record { serial = s.given + 1; place = more.place; value = v })) (object_at s id)
+  pub object_at-added : (s new : Objects T) (v : T) (id : ObjId) → IsMap s → (more : Adds s new v) → object_at new id ≡ cond (same id (next_id s)) (Some (record { serial = s.given + 1; place = more.place; value = v })) (object_at s id)
   object_at-added s new v id map more =
       let o : Object T = record { serial = s.given + 1; place = more.place; value = v } in
       let none = object_in-beyond s.room s.given 0 (s.given + 1) s.list map.apart (omega arith) in
@@ -72,19 +68,19 @@ module _ {T : Type 0} where
   changed-cond i k m e x y = grind (arith, common_steps)
 
   -- only the removed id finds nothing, and an id that finds nothing removes nothing
-  pub object_at-removed : (s : Objects T) (id o : ObjId) → IsMap s → object_at (removed s id) o ≡ cond (same_id o id) None (object_at s o)
+  pub object_at-removed : (s : Objects T) (id o : ObjId) → IsMap s → object_at (removed s id) o ≡ cond (same o id) None (object_at s o)
   object_at-removed s id o map =
       let l = object_in-without s.room s.given 0 id.serial o.serial s.list map.apart in
       at-kind (same_kind id.kind s.kind) s (record s { list = without id.serial s.list }) o
       ∙ ap (λ (x : Option (Object T)). cond (same_kind id.kind s.kind) (cond (same_kind o.kind s.kind) x None) (object_at s o)) l
       ∙ changed-cond (kind_number id.kind) (kind_number s.kind) (kind_number o.kind) (o.serial == id.serial) (object_in s.list o.serial) None
-      ∙ none-cond (same_id o id) (same_kind o.kind s.kind) (object_at s o)
+      ∙ none-cond (same o id) (same_kind o.kind s.kind) (object_at s o)
 
   -- only the written id finds another value, at its place
-  pub object_at-with_value : (s : Objects T) (id o : ObjId) (w : T) → object_at (with_value s id w) o ≡ cond (same_id o id) (replaced w (object_at s o)) (object_at s o)
+  pub object_at-with_value : (s : Objects T) (id o : ObjId) (w : T) → object_at (with_value s id w) o ≡ cond (same o id) (replaced w (object_at s o)) (object_at s o)
   object_at-with_value s id o w =
       let l = object_in-written id.serial o.serial w s.list in
       at-kind (same_kind id.kind s.kind) s (record s { list = written id.serial w s.list }) o
       ∙ ap (λ (x : Option (Object T)). cond (same_kind id.kind s.kind) (cond (same_kind o.kind s.kind) x None) (object_at s o)) l
       ∙ changed-cond (kind_number id.kind) (kind_number s.kind) (kind_number o.kind) (o.serial == id.serial) (object_in s.list o.serial) (replaced w (object_in s.list o.serial))
-      ∙ ap (λ (x : Option (Object T)). cond (same_id o id) x (object_at s o)) (replaced-cond w (same_kind o.kind s.kind) (object_in s.list o.serial))
+      ∙ ap (λ (x : Option (Object T)). cond (same o id) x (object_at s o)) (replaced-cond w (same_kind o.kind s.kind) (object_in s.list o.serial))

@@ -5,7 +5,7 @@ use Rattle.mcs_types.specs.declared.id.ObjId.{ObjId}
 use Rattle.mcs_types.specs.declared.id.Kind.{Kind}
 use Rattle.slab.specs.Slab.{Slab, get, slab_len}
 use Rattle.mcs_objects.specs.declared.store.Row.{Row}
-use Rattle.mcs_objects.specs.Kinds.{same_kind}
+use Rattle.mcs_types.specs.Ids.{same_kind}
 use Rattle.mcs_objects.specs.Store.{Object}
 
 -- whether a row is that of a serial

@@ -3,7 +3,7 @@ use Rattle.std.specs.Prelude.{◌≡◌, ◌<◌, ◌≤◌, ◌+◌, ℕ, Bool,
 use Rattle.std.specs.List.{list_any}
 use Rattle.mcs_types.specs.declared.id.ObjId.{ObjId}
 use Rattle.mcs_types.specs.declared.id.Kind.{Kind}
-use Rattle.mcs_objects.specs.Kinds.{same_kind}
+use Rattle.mcs_types.specs.Ids.{same_kind}
 
 -- an object with its serial, its place and its value
 pub record Object (T : Type 0) : Type 0 where

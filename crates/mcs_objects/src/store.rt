@@ -3,7 +3,6 @@ ghost use Rattle.std.specs.Prelude.{◌≡◌, ◌≤◌, ◌↔◌, [], IsTrue,
 ghost use Rattle.std.specs.Option.{option_copied_mut};
 ghost use Rattle.std.specs.Borrow.{sem};
 ghost use Rattle.mcs_objects.specs.Store.{IsMap, Adds, next_id, is_full, value_at, place_at, removed};
-ghost use Rattle.mcs_objects.specs.Kinds.{same_kind};
 ghost use Rattle.mcs_objects.specs.Rows.{is_of, row_for};
 
 use crate::full::NoRoom;
@@ -43,13 +42,6 @@ impl<T> Model for Store<T> {
     ghost invariant = { λ s. IsSound s.room s.given s.rows.items (vec_capacity s.rows) s.values };
 }
 
-/// Whether two kinds are the same.
-fn is_same_kind(a: Kind, b: Kind) -> bool
-    ensures { result ≡ same_kind a b }
-{
-    a == b
-}
-
 /// Where the row of a serial stands.
 fn row_of(rows: &[Row], serial: u32) -> Option<usize>
     ensures { result ≡ position (is_of serial) rows.now }
@@ -61,7 +53,7 @@ fn row_of(rows: &[Row], serial: u32) -> Option<usize>
 fn find(rows: &[Row], kind: Kind, id: ObjId) -> Option<Row>
     ensures { result ≡ row_for kind id rows.now }
 {
-    if !is_same_kind(id.kind, kind) {
+    if !id.kind.is_same(kind) {
         return None;
     }
     for row in rows {
@@ -148,7 +140,7 @@ impl<T: Drop> Store<T> {
         ensures removed { self.new ≡ removed self.old id }
         ensures absent { IfNone result (self.new ≡ self.old) }
     {
-        if !is_same_kind(id.kind, self.kind) {
+        if !id.kind.is_same(self.kind) {
             return None;
         }
         let at = row_of(&self.rows, id.serial)?;

@@ -12,12 +12,13 @@ use Rattle.mcs_types.specs.declared.record.Form.{Form}
 use Rattle.mcs_types.specs.declared.record.Form.TheVariants as form
 use Rattle.mcs_types.specs.declared.record.Rec.TheVariants as rec
 use Rattle.mcs_types.specs.declared.boot.BootLine.{BootLine}
-use Rattle.mcs_book.specs.Logs.{Log, same, same_kind, given}
+use Rattle.mcs_types.specs.Ids.{same, same_kind}
+use Rattle.mcs_book.specs.Logs.{Log, given}
 use Rattle.mcs_book.specs.Lookup.{radix_kept}
 use Rattle.mcs_book.specs.Objects.{was_made, form_of}
 use Rattle.mcs_book.specs.Sound.{Sound, IsFormOf}
 use Rattle.mcs_book.specs.Boots.{boot_log, is_object, fits_guard, fits_kind, has_no_rights, has_no_guard}
-use Rattle.mcs_book.proofs.Same.{parts, same_kind-equal}
+use Rattle.mcs_types.proofs.Ids.{parts, same_kind-equal}
 use Rattle.mcs_text.specs.Laws.{IsWord, IsName, HasNoRights, HasNoGuard, FitsKind}
 use Rattle.mcs_sim.specs.BootLines.{serial_of, object_of}
 use Rattle.mcs_rereading.proofs.StepsAgain.{IsSerial, boot-serial}

@@ -12,14 +12,15 @@ use Rattle.mcs_types.specs.declared.boot.BootFault.{BootFault}
 use Rattle.mcs_types.specs.declared.boot.BootLine.{BootLine}
 use Rattle.mcs_types.specs.declared.boot.BootLine.TheVariants as boot
 use Rattle.mcs_book.specs.Checks.{Passed}
-use Rattle.mcs_book.specs.Logs.{Log, same_kind}
+use Rattle.mcs_types.specs.Ids.{same_kind}
+use Rattle.mcs_book.specs.Logs.{Log}
 use Rattle.mcs_book.specs.Lookup.{radix_kept}
 use Rattle.mcs_book.specs.Objects.{was_made, form_of}
 use Rattle.mcs_book.specs.Placing.{core_limit}
 use Rattle.mcs_book.specs.Sound.{Sound}
 use Rattle.mcs_book.specs.Boots.{Boot, IsFaultless, boot_log, boot_check, is_object, is_context_any, fits_cnode, fits_guard, fits_kind}
 use Rattle.mcs_book.specs.History.{IsLegal}
-use Rattle.mcs_book.proofs.Same.{parts}
+use Rattle.mcs_types.proofs.Ids.{parts}
 use Rattle.mcs_book.proofs.SoundBooks.{legal-sound}
 use Rattle.mcs_book.proofs.Standings.{line-checked}
 use Rattle.mcs_text.specs.Table.{form_line, boot_form, cores_form}

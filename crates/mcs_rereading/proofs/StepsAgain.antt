@@ -11,7 +11,8 @@ use Rattle.mcs_types.specs.declared.record.Rec.TheVariants as rec
 use Rattle.mcs_types.specs.declared.entry.Step.{Step}
 use Rattle.mcs_types.specs.declared.entry.Entry.{Entry}
 use Rattle.mcs_types.specs.declared.entry.Entry.TheVariants.{Send, NbSend, Recv, NbRecv, Wait, NbWait, BindCtx, UnbindCtx, CopyCap, MintCap, MoveCap}
-use Rattle.mcs_book.specs.Logs.{Log, onto, counted, same, same_kind}
+use Rattle.mcs_types.specs.Ids.{same, same_kind}
+use Rattle.mcs_book.specs.Logs.{Log, onto, counted}
 use Rattle.mcs_book.specs.Objects.{makes_kind, was_made}
 use Rattle.mcs_book.specs.Threads.{threads}
 use Rattle.mcs_book.specs.Boots.{Boot, boot_line, boot_log}
@@ -24,7 +25,7 @@ use Rattle.mcs_book.proofs.EntersLaws.{enters-made}
 use Rattle.mcs_book.proofs.KnownCores.{legal-cores}
 use Rattle.mcs_book.proofs.LengthRows.{past-threads}
 use Rattle.mcs_book.proofs.MadeLaws.{made-in, serial-below}
-use Rattle.mcs_book.proofs.Same.{same-equal}
+use Rattle.mcs_types.proofs.Ids.{same-equal}
 use Rattle.mcs_book.proofs.SoundBooks.{legal-sound}
 use Rattle.mcs_book.proofs.Sorted.{In}
 use Rattle.mcs_kernel.specs.Runs.{AreServed}

@@ -5,7 +5,7 @@ use Rattle.std.proofs.lemmas.Bool.{eqb-true, cases_eq}
 use Rattle.std.proofs.lemmas.Grind.{common_steps}
 use Rattle.mcs_types.specs.declared.id.ObjId.{ObjId}
 use Rattle.mcs_types.specs.declared.cap.Cap.{Cap}
-use Rattle.mcs_book.specs.Logs.{same}
+use Rattle.mcs_types.specs.Ids.{same}
 use Rattle.mcs_slots.specs.Numbers.{number_of}
 use Rattle.mcs_slots.specs.Pages.{Page, empty_page, page_of, page_radix, page_slot, radix_of, slot_at}
 use Rattle.mcs_slots.proofs.SlotLaws.{same-numbers, other-object}

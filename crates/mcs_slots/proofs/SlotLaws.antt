@@ -10,7 +10,7 @@ use Rattle.std.proofs.Math.Pow.{pow_mono}
 use Rattle.mcs_types.specs.declared.id.ObjId.{ObjId}
 use Rattle.mcs_types.specs.declared.id.Kind.TheVariants.{CNode}
 use Rattle.mcs_types.specs.declared.cap.Cap.{Cap}
-use Rattle.mcs_book.specs.Logs.{same, same_kind, kind_number}
+use Rattle.mcs_types.specs.Ids.{same, same_kind, kind_number}
 use Rattle.mcs_book.specs.Slots.{is_cap_to}
 use Rattle.mcs_slots.specs.declared.slots.SlotId.{SlotId}
 use Rattle.mcs_slots.specs.Numbers.{number_of}

@@ -2,7 +2,7 @@
 use Rattle.std.specs.Prelude.{◌≡◌, ◌-◌, ◌+◌, ℕ, zero, suc, cond, ◌&&◌, ◌==◌, List, [], ◌∷◌, Option, slice_set}
 use Rattle.mcs_types.specs.declared.id.ObjId.{ObjId}
 use Rattle.mcs_types.specs.declared.cap.Cap.{Cap}
-use Rattle.mcs_book.specs.Logs.{same}
+use Rattle.mcs_types.specs.Ids.{same}
 use Rattle.mcs_book.specs.Slots.{is_cap_to}
 use Rattle.mcs_slots.specs.declared.slots.SlotId.{SlotId}
 use Rattle.mcs_slots.specs.Pages.{Page, radix_of, slot_at, held}

@@ -2,7 +2,7 @@
 use Rattle.std.specs.Prelude.{◌-◌, ℕ, cond, ◌||◌, ◌==◌, not, Option, Some, None}
 use Rattle.mcs_types.specs.declared.id.ObjId.{ObjId}
 use Rattle.mcs_types.specs.declared.id.Kind.TheVariants.{CNode}
-use Rattle.mcs_book.specs.Logs.{same_kind}
+use Rattle.mcs_types.specs.Ids.{same_kind}
 
 -- where the page of an object stands, counted from 0, if it can be a CNode
 abbrev pub number_of : ObjId → Option ℕ

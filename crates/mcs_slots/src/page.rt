@@ -1,7 +1,7 @@
 //! The slots of one CNode.
 ghost use Rattle.std.specs.Prelude.{◌≡◌, ◌<◌, ◌≤◌, ◌^◌, IfOk, None, count_by, slice_index_or, slice_set};
 ghost use Rattle.mcs_book.specs.Slots.{is_cap_to};
-ghost use Rattle.mcs_book.specs.Logs.{same};
+ghost use Rattle.mcs_types.specs.Ids.{same};
 
 use mcs_types::{Cap, ObjId, OutOfMemory};
 use std::alloc::Global;

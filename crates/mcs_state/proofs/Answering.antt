@@ -18,7 +18,8 @@ use Rattle.mcs_state.specs.Tables.{ROOM, CountsAgree, ThreadsAgree, ContextsAgre
 use Rattle.mcs_state.proofs.Naming.{made-serial}
 use Rattle.mcs_types.specs.declared.record.Status.TheVariants as status
 use Rattle.mcs_types.specs.declared.record.Rec.TheVariants.{Made, Closed, Owes, Paid, Void, Tied}
-use Rattle.mcs_book.specs.Logs.{Log, counted, same, same_kind, is_just}
+use Rattle.mcs_types.specs.Ids.{same, same_kind}
+use Rattle.mcs_book.specs.Logs.{Log, counted, is_just}
 use Rattle.mcs_book.specs.Objects.{made_of, makes_kind, was_made, was_closed, form_of}
 use Rattle.mcs_book.specs.Threads.{threads, prio_of, mode_of}
 use Rattle.mcs_types.specs.declared.record.Queue.{Queue}
@@ -29,7 +30,8 @@ use Rattle.mcs_book.specs.Replies.{replies, owed_by, owing, receiver_with}
 use Rattle.mcs_book.specs.Notifications.{bound_of}
 use Rattle.mcs_book.specs.Standing.{status_of, status_by}
 use Rattle.mcs_book.specs.Served.{AreServed}
-use Rattle.mcs_book.proofs.Same.{same_kind-equal, same_kind-self, is_queue-some}
+use Rattle.mcs_types.proofs.Ids.{same_kind-equal, same_kind-self}
+use Rattle.mcs_book.proofs.Same.{is_queue-some}
 use Rattle.mcs_book.proofs.Sorted.{In, filter-in, sort-in}
 use Rattle.mcs_book.proofs.MadeLaws.{serial-below}
 use Rattle.mcs_book.proofs.LineLaws.{line_of-growing, ahead-irreflexive, ahead-transitive}

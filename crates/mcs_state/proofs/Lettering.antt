@@ -24,7 +24,7 @@ use Rattle.mcs_state.specs.Tables.{ROOM, HAND, Agrees}
 use Rattle.mcs_state.proofs.Columns.{column-set}
 use Rattle.mcs_book.proofs.OpenLaws.{open_of-growing}
 use Rattle.mcs_book.proofs.MessageLaws.{open_of-letter, open_of-open}
-use Rattle.mcs_book.proofs.Same.{same-equal}
+use Rattle.mcs_types.proofs.Ids.{same-equal}
 use Rattle.mcs_cspace.proofs.Numbering.{different}
 use Rattle.mcs_state.proofs.Turning.{log-more}
 

@@ -11,7 +11,8 @@ use Rattle.mcs_types.specs.declared.record.Mode.{Mode}
 use Rattle.mcs_types.specs.declared.record.Queue.{Queue}
 use Rattle.mcs_types.specs.declared.record.Rec.TheVariants as rec
 use Rattle.mcs_types.specs.Waiters.{Waiter, insert_behind, without}
-use Rattle.mcs_book.specs.Logs.{Log, given, same}
+use Rattle.mcs_types.specs.Ids.{same}
+use Rattle.mcs_book.specs.Logs.{Log, given}
 use Rattle.mcs_book.specs.Threads.{prio_of}
 use Rattle.mcs_book.specs.Queues.{queue_of, same_queue}
 use Rattle.mcs_book.specs.Growing.{Waiter as Standing, insert_behind as put_behind, without as all_but, shifted, growing_line}

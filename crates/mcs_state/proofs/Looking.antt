@@ -8,7 +8,8 @@ use Rattle.mcs_types.specs.declared.record.Form.{Form}
 use Rattle.mcs_types.specs.declared.record.Form.TheVariants as form
 use Rattle.mcs_types.specs.declared.record.Rec.TheVariants as rec
 use Rattle.mcs_types.specs.declared.entry.Refusal.TheVariants.{Missing, DepthMismatch, Range}
-use Rattle.mcs_book.specs.Logs.{Log, same, given}
+use Rattle.mcs_types.specs.Ids.{same}
+use Rattle.mcs_book.specs.Logs.{Log, given}
 use Rattle.mcs_book.specs.Objects.{form_of}
 use Rattle.mcs_book.specs.Threads.{root_of, root_kept}
 use Rattle.mcs_book.specs.Checks.{Checked, ◌>>=◌, ◌>>◌, need, needed}

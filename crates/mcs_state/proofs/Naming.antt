@@ -7,10 +7,11 @@ use Rattle.mcs_types.specs.declared.id.Kind.TheVariants as kind
 use Rattle.mcs_types.specs.declared.record.Queue.{Queue}
 use Rattle.mcs_types.specs.declared.record.Queue.TheVariants.{Senders, Receivers, Waiters}
 use Rattle.mcs_types.specs.declared.record.Rec.TheVariants.{Made}
-use Rattle.mcs_book.specs.Logs.{Log, counted, same, same_kind}
+use Rattle.mcs_types.specs.Ids.{same, same_kind}
+use Rattle.mcs_book.specs.Logs.{Log, counted}
 use Rattle.mcs_book.specs.Objects.{was_made, makes_kind}
 use Rattle.mcs_book.specs.Sound.{Sound, IsThere, IsLineThere}
-use Rattle.mcs_book.proofs.Same.{same-equal, same_kind-self}
+use Rattle.mcs_types.proofs.Ids.{same-equal, same_kind-self}
 use Rattle.mcs_book.proofs.MadeLaws.{alive-made}
 use Rattle.mcs_state.specs.declared.rows.Counts.{Counts}
 use Rattle.mcs_state.specs.Numbers.{IsName, IsLineName}

@@ -7,10 +7,10 @@ use Rattle.mcs_types.specs.declared.id.Kind.TheVariants as kind
 use Rattle.mcs_types.specs.declared.record.Queue.{Queue}
 use Rattle.mcs_types.specs.declared.record.Queue.TheVariants.{Senders, Receivers, Waiters}
 use Rattle.mcs_types.specs.Waiters.{Waiter, insert_behind, without}
-use Rattle.mcs_book.specs.Logs.{same}
+use Rattle.mcs_types.specs.Ids.{same}
 use Rattle.mcs_book.specs.Queues.{same_queue}
 use Rattle.mcs_book.specs.Growing.{insert_behind as put_behind, without as all_but}
-use Rattle.mcs_book.proofs.Same.{same_kind-self}
+use Rattle.mcs_types.proofs.Ids.{same_kind-self}
 use Rattle.mcs_cspace.proofs.Numbering.{same-test, different}
 use Rattle.mcs_state.specs.Numbers.{thread_at, IsName, IsLineName, line_number, standing}
 

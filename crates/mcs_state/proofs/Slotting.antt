@@ -11,14 +11,15 @@ use Rattle.mcs_types.specs.declared.cap.Cap.{Cap}
 use Rattle.mcs_types.specs.declared.record.Form.{Form}
 use Rattle.mcs_types.specs.declared.record.Form.TheVariants as form
 use Rattle.mcs_types.specs.declared.record.Rec.TheVariants as rec
-use Rattle.mcs_book.specs.Logs.{Log, counted, given, same, same_kind}
+use Rattle.mcs_types.specs.Ids.{same, same_kind}
+use Rattle.mcs_book.specs.Logs.{Log, counted, given}
 use Rattle.mcs_book.specs.Objects.{makes_kind, next_id, form_of}
 use Rattle.mcs_book.specs.Slots.{slot}
 use Rattle.mcs_book.specs.Lookup.{space_of, radix_kept, cnode_cap}
 use Rattle.mcs_book.specs.Guards.{FitsGuard, FitsSlot}
 use Rattle.mcs_book.specs.Sound.{Sound, IsThere, IsFormOf}
 use Rattle.mcs_book.specs.Served.{AreServed}
-use Rattle.mcs_book.proofs.Same.{same-equal}
+use Rattle.mcs_types.proofs.Ids.{same-equal}
 use Rattle.mcs_book.proofs.MadeLaws.{alive-made}
 use Rattle.mcs_slots.specs.declared.slots.SlotId.{SlotId}
 use Rattle.mcs_slots.specs.Numbers.{number_of}

@@ -10,7 +10,8 @@ use Rattle.mcs_types.specs.declared.record.Queue.{Queue}
 use Rattle.mcs_types.specs.declared.record.Rec.{Rec}
 use Rattle.mcs_types.specs.declared.record.Rec.TheVariants as rec
 use Rattle.mcs_types.specs.Waiters.{Waiter}
-use Rattle.mcs_book.specs.Logs.{Log, counted, given, same}
+use Rattle.mcs_types.specs.Ids.{same}
+use Rattle.mcs_book.specs.Logs.{Log, counted, given}
 use Rattle.mcs_book.specs.Sound.{Allowed}
 use Rattle.mcs_book.specs.Messages.{is_sent}
 use Rattle.mcs_book.specs.Served.{IsServedRecord}

@@ -11,7 +11,7 @@ use Rattle.mcs_book.specs.Queues.{queue_of}
 use Rattle.mcs_book.specs.Table.{wakes}
 use Rattle.mcs_book.specs.Sound.{IsThere, IsIdle}
 use Rattle.mcs_book.specs.Served.{AreServed}
-use Rattle.mcs_book.proofs.Same.{same-self}
+use Rattle.mcs_types.proofs.Ids.{same-self}
 use Rattle.mcs_state.specs.Entering.{IsEntering, IsActing}
 use Rattle.mcs_state.proofs.Answering.{none-owed}
 

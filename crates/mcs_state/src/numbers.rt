@@ -1,7 +1,7 @@
 //! Places of objects in the tables.
 ghost use Rattle.std.specs.Prelude.{◌≡◌, ◌<◌, ◌&&◌, nat_le, if◌then◌else◌, IfSome, Some, None};
 ghost use Rattle.mcs_types.specs.declared.id.Kind.{Kind};
-ghost use Rattle.mcs_book.specs.Logs.{same_kind};
+ghost use Rattle.mcs_types.specs.Ids.{same_kind};
 ghost use Rattle.mcs_state.specs.Numbers.{object_at, object_of, thread_of, thread_at, context_at, line_number, IsLineName};
 
 use mcs_queues::{LineNo, ThreadNo};

@@ -1,2 +1,4 @@
 pub mod Views
 pub mod Waiters
+pub mod Ids
+pub mod ThreadSets

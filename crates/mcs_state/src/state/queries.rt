@@ -2,7 +2,8 @@
 ghost use Rattle.std.specs.Prelude.{ℕ, ◌≡◌, ◌<◌, ◌≤◌, ◌&&◌, if◌then◌else◌, IfSome, IfOk, Some, None, Option, option_copied, length};
 ghost use Rattle.mcs_types.specs.declared.id.Kind.{Kind};
 ghost use Rattle.mcs_types.specs.declared.record.Queue.{Queue};
-ghost use Rattle.mcs_book.specs.Logs.{counted, same_kind};
+ghost use Rattle.mcs_types.specs.Ids.{same_kind};
+ghost use Rattle.mcs_book.specs.Logs.{counted};
 ghost use Rattle.mcs_book.specs.Objects.{makes_kind, was_made, form_of};
 ghost use Rattle.mcs_book.specs.Slots.{slot};
 ghost use Rattle.mcs_book.specs.Threads.{mode_of};

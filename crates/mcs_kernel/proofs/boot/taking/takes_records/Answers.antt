@@ -11,7 +11,7 @@ use Rattle.mcs_book.specs.Objects.{next_id, makes_kind, form_of}
 use Rattle.mcs_book.specs.Lookup.{radix_kept}
 use Rattle.mcs_book.specs.Served.{IsServedForm}
 use Rattle.mcs_book.specs.Sound.{Allowed}
-use Rattle.mcs_book.proofs.Same.{parts}
+use Rattle.mcs_types.proofs.Ids.{parts}
 use Rattle.mcs_state.specs.Numbers.{thread_at}
 use Rattle.mcs_state.specs.Now.{Now, so_far, adds_all}
 use Rattle.mcs_state.specs.Tables.{ROOM}

@@ -4,13 +4,13 @@ use Rattle.mcs_types.specs.declared.id.Kind.TheVariants as kind
 use Rattle.mcs_types.specs.declared.entry.Step.{Step}
 use Rattle.mcs_types.specs.declared.entry.Answer.{Answer}
 use Rattle.mcs_types.specs.declared.record.Rec.{Rec}
-use Rattle.mcs_book.specs.Logs.{same_kind}
+use Rattle.mcs_types.specs.Ids.{same_kind}
 use Rattle.mcs_book.specs.Objects.{was_made}
 use Rattle.mcs_book.specs.Pieces.{Outcome}
 use Rattle.mcs_book.specs.Table.{does}
 use Rattle.mcs_book.specs.History.{Book, IsLegal, log_of}
 use Rattle.mcs_book.proofs.EntersLaws.{enters-made}
-use Rattle.mcs_book.proofs.Same.{both}
+use Rattle.mcs_types.proofs.Ids.{both}
 use Rattle.mcs_book.proofs.SendersOpen.{legal-senders}
 use Rattle.mcs_book.proofs.SoundBooks.{legal-firm}
 use Rattle.mcs_state.specs.Numbers.{thread_at, thread_of}

@@ -37,11 +37,11 @@ returns-clause-value g c =
     let s = c.self.inside in
     let at = position-some c.args.id.serial c.in_ok-at.at c.remove-row.result s.rows.items (c.in_ok-at.ensures ∙ ap (position (is_of c.args.id.serial)) c.deref.ensures.value) in
     let found = at.0 ∙ ap Some (sym c.remove-row.ensures.value) in
-    rw (← c.self.view_is) (sym (value-there s.kind s.room s.given c.args.id s.rows.items s.values.slots c.remove-row.result c.self.invariant.kept (sym c.if-not-is_same_kind.ensures) found ∙ c.remove.ensures.value))
+    rw (← c.self.view_is) (sym (value-there s.kind s.room s.given c.args.id s.rows.items s.values.slots c.remove-row.result c.self.invariant.kept (sym c.if-not-is_same.ensures) found ∙ c.remove.ensures.value))
 
 pub returns-clause-removed : goal.returns-clause-removed
 returns-clause-removed g c =
     let s = c.self.inside in
     let at = position-some c.args.id.serial c.in_ok-at.at c.remove-row.result s.rows.items (c.in_ok-at.ensures ∙ ap (position (is_of c.args.id.serial)) c.deref.ensures.value) in
     let found = at.0 ∙ ap Some (sym c.remove-row.ensures.value) in
-    rw (← c.self.view_is, c.remove-row.ensures.items, at.1) (store-left s.kind s.room s.given c.args.id s.rows.items s.values.slots c.remove.new.self.slots c.remove-row.result c.self.invariant.kept (sym c.if-not-is_same_kind.ensures) found c.remove.ensures.updates.others)
+    rw (← c.self.view_is, c.remove-row.ensures.items, at.1) (store-left s.kind s.room s.given c.args.id s.rows.items s.values.slots c.remove.new.self.slots c.remove-row.result c.self.invariant.kept (sym c.if-not-is_same.ensures) found c.remove.ensures.updates.others)

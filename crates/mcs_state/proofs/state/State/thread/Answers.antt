@@ -1,6 +1,7 @@
 use Rattle.std.proofs.Common.{◌≡◌, ◌++◌, reverse, sym, ◌∙◌, subst, ap, Some, None, ◌&&◌, if◌then◌else◌}
 use Rattle.mcs_types.specs.declared.id.Kind.TheVariants as kind
-use Rattle.mcs_book.specs.Logs.{Log, same_kind}
+use Rattle.mcs_types.specs.Ids.{same_kind}
+use Rattle.mcs_book.specs.Logs.{Log}
 use Rattle.mcs_book.specs.Objects.{was_made}
 use Rattle.mcs_book.specs.History.{log_of}
 use Rattle.mcs_state.specs.Numbers.{thread_of}
