@@ -9,6 +9,7 @@ pub mod Replies
 pub mod Chains
 pub mod Notifications
 pub mod Standing
+pub mod Picking
 pub mod Checks
 pub mod Rights
 pub mod Lookup

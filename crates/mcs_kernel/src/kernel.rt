@@ -16,6 +16,8 @@ ghost use Rattle.mcs_state.specs.Entering.{IsEntering, OpenStand};
 ghost use Rattle.mcs_kernel.specs.declared.fault.EnterFault.{EnterFault};
 ghost use Rattle.mcs_kernel.specs.Faults.{fault_of, entered};
 
+mod queries;
+
 use crate::boot::{Boot, boot_state};
 use crate::fault::EnterFault;
 use mcs_book::Book;

@@ -11,3 +11,4 @@ pub mod Slotting
 pub mod Looking
 pub mod Composing
 pub mod Woken
+pub mod Picking

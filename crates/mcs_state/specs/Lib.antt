@@ -1,4 +1,5 @@
 pub mod Numbers
 pub mod Now
 pub mod Tables
+pub mod Picking
 pub mod Entering

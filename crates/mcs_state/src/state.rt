@@ -17,6 +17,7 @@ ghost use Rattle.mcs_state.specs.Numbers.{thread_at, context_at};
 ghost use Rattle.mcs_state.specs.Now.{so_far, adds, IsNumberOf};
 ghost use Rattle.mcs_state.specs.Tables.{HAND, ROOM, AreNone, blank_thread, blank_context};
 
+mod picking;
 mod queries;
 
 use crate::numbers::{ContextNo, context_id, line_no, object_id, thread_id};

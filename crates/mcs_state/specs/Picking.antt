@@ -1,0 +1,21 @@
+-- The pick as a search over the threads in order of their numbers.
+use Rattle.std.specs.Prelude.{ℕ, zero, suc, Bool, true, cond, ◌&&◌, nat_lt, List, Option, Some, None}
+use Rattle.mcs_types.specs.declared.id.CoreId.{CoreId}
+use Rattle.mcs_book.specs.Logs.{Log}
+use Rattle.mcs_book.specs.Threads.{prio_of}
+use Rattle.mcs_book.specs.Picking.{is_candidate}
+use Rattle.mcs_state.specs.Numbers.{thread_at}
+
+-- whether the thread of a number has a greater priority than the one found before, if there is one
+abbrev pub is_above : Log → ℕ → Option ℕ → Bool
+is_above R n None = true
+is_above R n (Some m) = nat_lt (prio_of R (thread_at m)) (prio_of R (thread_at n))
+
+-- what is found when the thread of one more number was looked at
+abbrev pub better_of : Log → CoreId → List Bool → ℕ → Option ℕ → Option ℕ
+better_of R core passed n best = cond (is_candidate R core passed (thread_at n) && is_above R n best) (Some n) best
+
+-- what is found among the threads of the numbers below n
+abbrev pub best_below : Log → CoreId → List Bool → ℕ → Option ℕ
+best_below R core passed zero = None
+best_below R core passed (suc n) = better_of R core passed n (best_below R core passed n)
