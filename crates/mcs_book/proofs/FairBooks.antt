@@ -15,7 +15,7 @@ use Rattle.mcs_book.specs.Contexts.{holder_of}
 use Rattle.mcs_book.specs.Replies.{brought_to}
 use Rattle.mcs_book.specs.Chains.{kept_debt, chain_of}
 use Rattle.mcs_types.specs.declared.record.Mode.TheVariants.{Running}
-use Rattle.mcs_book.specs.Ranges.{IsMessage}
+use Rattle.mcs_types.specs.Ranges.{IsMessage}
 use Rattle.mcs_types.specs.declared.boot.BootLine.{BootLine}
 use Rattle.mcs_types.specs.declared.boot.BootLine.TheVariants as boot
 use Rattle.mcs_book.specs.Boots.{boot_line, boot_log}

@@ -40,7 +40,7 @@ use Rattle.mcs_book.specs.Sending.{letter_over, queues, send_over}
 use Rattle.mcs_book.specs.Receiving.{reply_at}
 use Rattle.mcs_book.specs.Placing.{source_and_dest, fills, is_last_cnode, is_empty, has_badge, senders_with}
 use Rattle.mcs_book.specs.Table.{row, wakes, outcome_of, does}
-use Rattle.mcs_book.specs.Ranges.{InRange}
+use Rattle.mcs_types.specs.Ranges.{InRange}
 use Rattle.mcs_book.specs.Sound.{IsThere, IsIdle}
 use Rattle.mcs_types.proofs.Ids.{parts}
 use Rattle.mcs_book.proofs.Sorted.{filter-in}

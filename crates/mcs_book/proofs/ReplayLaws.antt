@@ -6,7 +6,7 @@ use Rattle.mcs_types.specs.declared.entry.Step.{Step}
 use Rattle.mcs_book.specs.Boots.{Boot, boot_log, IsFaultless}
 use Rattle.mcs_book.specs.Standing.{may_enter}
 use Rattle.mcs_book.specs.Pieces.{Outcome}
-use Rattle.mcs_book.specs.Ranges.{InRange}
+use Rattle.mcs_types.specs.Ranges.{InRange}
 use Rattle.mcs_book.specs.Table.{does}
 use Rattle.mcs_book.specs.History.{Line, Book, log_of, AreLegal, IsLegal, AllInRange, steps_of, line_for, with_step, book_of}
 

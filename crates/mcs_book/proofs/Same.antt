@@ -1,5 +1,5 @@
 -- When an option is this object or this line, and when two lines are one.
-use Rattle.std.specs.Prelude.{true, ◌≡◌, Option, Some, None, refl}
+use Rattle.std.specs.Prelude.{true, ◌≡◌, Option, Some, None}
 use Rattle.std.proofs.Common.{ap}
 use Rattle.mcs_types.specs.declared.id.ObjId.{ObjId}
 use Rattle.mcs_types.specs.declared.record.Queue.{Queue}

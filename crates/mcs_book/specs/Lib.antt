@@ -25,7 +25,6 @@ pub mod Receiving
 pub mod Placing
 pub mod Table
 pub mod Boots
-pub mod Ranges
 pub mod History
 pub mod Each
 pub mod Fair

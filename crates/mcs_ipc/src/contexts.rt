@@ -8,7 +8,7 @@ ghost use Rattle.mcs_book.specs.Threads.{mode_of};
 ghost use Rattle.mcs_book.specs.Pieces.{before};
 ghost use Rattle.mcs_book.specs.Sound.{Allowed};
 ghost use Rattle.mcs_book.specs.Table.{wakes, does};
-ghost use Rattle.mcs_state.specs.Numbers.{thread_at, context_at, IsName};
+ghost use Rattle.mcs_state.specs.Numbers.{thread_at, context_at};
 ghost use Rattle.mcs_state.specs.Now.{so_far, adds_all};
 ghost use Rattle.mcs_state.specs.Tables.{HAND, ROOM};
 ghost use Rattle.mcs_state.specs.Entering.{IsEntering};
@@ -17,7 +17,7 @@ ghost use Rattle.mcs_ipc.specs.Holding.{context_by, binding_by, pair_of, free_pa
 
 use crate::checks::find_object;
 use mcs_queues::{Lines, ThreadNo};
-use mcs_state::{ContextNo, State, wake};
+use mcs_state::{ContextNo, State, context_no, wake};
 use mcs_types::{Answer, Kind, ObjId, Refusal};
 
 /// A context, and the thread that is to hold it.
@@ -25,15 +25,6 @@ use mcs_types::{Answer, Kind, ObjId, Refusal};
 pub struct Binding {
     pub context: ContextNo,
     pub thread: ObjId,
-}
-
-/// The number of a context.
-fn context_no(context: ObjId) -> ContextNo
-    requires { IsName Kind.Context context }
-    ensures context { context_at result.0 ≡ context }
-    ensures known { result.0 < ROOM }
-{
-    ContextNo((context.serial - 1) as u16)
 }
 
 /// The context at an address.

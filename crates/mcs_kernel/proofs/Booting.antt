@@ -26,6 +26,7 @@ use Rattle.mcs_book.specs.Served.{AreServed}
 use Rattle.mcs_book.specs.Guards.{FitsGuard, FitsSlot}
 use Rattle.mcs_types.specs.declared.cap.Guard.{Guard}
 use Rattle.mcs_book.specs.History.{Line, past}
+use Rattle.mcs_book.proofs.MadeLaws.{made-serial}
 use Rattle.mcs_state.specs.Now.{Now, so_far}
 use Rattle.mcs_types.specs.declared.record.Mode.{Mode}
 use Rattle.mcs_types.specs.declared.id.Prio.{Prio}
@@ -35,7 +36,7 @@ use Rattle.mcs_book.proofs.Sorted.{In}
 use Rattle.mcs_book.proofs.LineLaws.{standing-made}
 use Rattle.mcs_state.specs.Numbers.{IsName}
 use Rattle.mcs_state.specs.Tables.{ROOM}
-use Rattle.mcs_state.proofs.Naming.{made-serial, there-name}
+use Rattle.mcs_state.proofs.Naming.{there-name}
 use Rattle.mcs_state.proofs.Answering.{none-closed}
 
 -- as many objects of a kind stand in its list as were made

@@ -20,7 +20,7 @@ use Rattle.mcs_book.specs.Contexts.{context_of}
 use Rattle.mcs_book.specs.Replies.{owing}
 use Rattle.mcs_book.specs.Standing.{status_of, status_by, is_ready, is_on_core, may_enter}
 use Rattle.mcs_book.specs.History.{Book, IsLegal, log_of, line_limit}
-use Rattle.mcs_book.specs.Ranges.{InRange}
+use Rattle.mcs_types.specs.Ranges.{InRange}
 use Rattle.mcs_types.proofs.Ids.{parts, both}
 use Rattle.mcs_book.proofs.EntersLaws.{enters-ready}
 use Rattle.mcs_book.proofs.FirmLaws.{Firm, root-there}

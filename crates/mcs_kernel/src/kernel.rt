@@ -7,7 +7,7 @@ ghost use Rattle.mcs_book.specs.Each.{EachRecord, EachLine, AfterEachLine};
 ghost use Rattle.mcs_book.specs.Fair.{EndsOpen, IsWholeLine, TakesFirst, TakesInOrder, TakesAlive, SendersAreOpen, AnswersOwed, AnswersWhole, NoneWaitBeside};
 ghost use Rattle.mcs_book.specs.Standing.{may_enter};
 ghost use Rattle.mcs_book.specs.Served.{IsServed};
-ghost use Rattle.mcs_book.specs.Ranges.{InRange, IsPlace, IsWord};
+ghost use Rattle.mcs_types.specs.Ranges.{InRange, IsPlace, IsWord};
 ghost use Rattle.mcs_book.specs.Table.{does};
 ghost use Rattle.mcs_state.specs.Numbers.{thread_at};
 ghost use Rattle.mcs_state.specs.Now.{so_far, adds_all};

@@ -16,7 +16,7 @@ use Rattle.mcs_types.specs.declared.entry.Answer.{Answer}
 use Rattle.mcs_types.specs.declared.entry.Answer.TheVariants as ans
 use Rattle.mcs_book.specs.Logs.{Log, onto}
 use Rattle.mcs_book.specs.Boots.{boot_line, boot_log}
-use Rattle.mcs_book.specs.Ranges.{InRange}
+use Rattle.mcs_types.specs.Ranges.{InRange}
 use Rattle.mcs_book.specs.Table.{does}
 use Rattle.mcs_book.specs.History.{Line, Book, IsLegal, Follows, AreLegal, past}
 use Rattle.mcs_book.specs.Each.{Each, EachOf, EachLineAfter}

@@ -1,22 +1,20 @@
 -- Each step of a legal book is read again: its thread is one of the boot's, its core one of the boot's, its numbers are in range.
-use Rattle.std.specs.Prelude.{ℕ, ◌+◌, ◌<◌, ◌≤◌, ◌≡◌, Bool, true, false, cond, ◌||◌, List, [], ◌∷◌, ◌++◌, Some, None, refl, length, map, reverse}
-use Rattle.std.proofs.Common.{ap, subst, arith}
+use Rattle.std.specs.Prelude.{ℕ, ◌+◌, ◌<◌, ◌≤◌, ◌≡◌, Bool, true, false, cond, List, [], ◌∷◌, ◌++◌, Some, None, refl, length, map, reverse}
+use Rattle.std.proofs.Common.{subst, arith}
 use Rattle.std.proofs.lemmas.List.{reverse-append}
 use Rattle.mcs_types.specs.declared.id.ObjId.{ObjId}
 use Rattle.mcs_types.specs.declared.id.Kind.{Kind}
 use Rattle.mcs_types.specs.declared.id.Kind.TheVariants as kind
 use Rattle.mcs_types.specs.declared.boot.BootLine.{BootLine}
 use Rattle.mcs_types.specs.declared.boot.BootLine.TheVariants as boot
-use Rattle.mcs_types.specs.declared.record.Rec.TheVariants as rec
 use Rattle.mcs_types.specs.declared.entry.Step.{Step}
 use Rattle.mcs_types.specs.declared.entry.Entry.{Entry}
 use Rattle.mcs_types.specs.declared.entry.Entry.TheVariants.{Send, NbSend, Recv, NbRecv, Wait, NbWait, BindCtx, UnbindCtx, CopyCap, MintCap, MoveCap}
-use Rattle.mcs_types.specs.Ids.{same, same_kind}
+use Rattle.mcs_types.specs.Ids.{same_kind}
 use Rattle.mcs_book.specs.Logs.{Log, onto, counted}
 use Rattle.mcs_book.specs.Objects.{makes_kind, was_made}
 use Rattle.mcs_book.specs.Threads.{threads}
 use Rattle.mcs_book.specs.Boots.{Boot, boot_line, boot_log}
-use Rattle.mcs_book.specs.Ranges.{InRange}
 use Rattle.mcs_book.specs.Served.{IsServed}
 use Rattle.mcs_book.specs.Placing.{core_limit}
 use Rattle.mcs_book.specs.Sound.{Sound}
@@ -24,13 +22,11 @@ use Rattle.mcs_book.specs.History.{Line, IsLegal, past, steps_of}
 use Rattle.mcs_book.proofs.EntersLaws.{enters-made}
 use Rattle.mcs_book.proofs.KnownCores.{legal-cores}
 use Rattle.mcs_book.proofs.LengthRows.{past-threads}
-use Rattle.mcs_book.proofs.MadeLaws.{made-in, serial-below}
-use Rattle.mcs_types.proofs.Ids.{same-equal}
+use Rattle.mcs_book.proofs.MadeLaws.{made-in, serial-below, made-serial}
 use Rattle.mcs_book.proofs.SoundBooks.{legal-sound}
 use Rattle.mcs_book.proofs.Sorted.{In}
 use Rattle.mcs_kernel.specs.Runs.{AreServed}
 use Rattle.mcs_text.specs.Reading.{IsRead}
-use Rattle.mcs_text.specs.Laws.{FitsEntry}
 use Rattle.mcs_text.proofs.EntryLines.{step_line_again}
 use Rattle.mcs_sim.specs.Script.{threads_of}
 use Rattle.mcs_rereading.proofs.Scripts.{IsStepAgain}
@@ -59,19 +55,6 @@ unfolding boot_log
 counted-boot k [] = omega arith
 counted-boot k (line ∷ lines) = omega (arith, counted-line k (boot_log lines) (boot_log lines) line, counted-boot k lines)
 
--- what was made has a serial from 1
-serial-some : (R : Log) (o : ObjId) → Sound R → was_made R o ≡ true → 0 < o.serial
-serial-some [] o sound h = absurd cc
-serial-some (rec.Made u form ∷ R) o sound h = go (same o u) refl h (serial-some R o sound.1)
-  where
-    go : (b : Bool) → same o u ≡ b → (b || was_made R o) ≡ true → (was_made R o ≡ true → 0 < o.serial) → 0 < o.serial
-    go true is k later =
-        let it : o.serial ≡ u.serial = ap (λ (x : ObjId). x.serial) (same-equal o u is) in
-        let serial : u.serial ≡ counted (makes_kind u.kind) R + 1 = ap (λ (x : ObjId). x.serial) sound.0.0 in
-        omega (arith, it, serial)
-    go false is k later = later k
-serial-some (_ ∷ R) o sound h = serial-some R o sound.1 h
-
 -- what a boot made has a serial from 1, and no greater than the number of the boot's lines
 pub record IsSerial (lines : List BootLine) (n : ℕ) : Type 0 where
   pub some : 0 < n
@@ -81,7 +64,7 @@ pub record IsSerial (lines : List BootLine) (n : ℕ) : Type 0 where
 pub boot-serial : (lines : List BootLine) (o : ObjId) → Sound (boot_log lines) → was_made (boot_log lines) o ≡ true → IsSerial lines o.serial
 boot-serial lines o sound made =
     record {
-      some = serial-some (boot_log lines) o sound made;
+      some = omega (arith, (made-serial (boot_log lines) o sound made).0);
       few = omega (arith, serial-below (boot_log lines) o o.kind sound (made-in (boot_log lines) o o.kind refl made), counted-boot o.kind lines);
     }
 
@@ -101,21 +84,6 @@ read-served (CopyCap source dest rights) h = tt
 read-served (MintCap source dest rights badge) h = tt
 read-served (MoveCap source dest) h = tt
 read-served _ h = absurd h
-
--- their numbers are in the ranges of the reader
-fits-served : (e : Entry) → IsServed e → InRange e → FitsEntry e
-fits-served (Send a m) h range = (range.0, record { label = range.1.label; few = range.1.few; words = range.1.words })
-fits-served (NbSend a m) h range = (range.0, record { label = range.1.label; few = range.1.few; words = range.1.words })
-fits-served (Recv a r) h range = range
-fits-served (NbRecv a r) h range = range
-fits-served (Wait a) h range = range
-fits-served (NbWait a) h range = range
-fits-served (BindCtx s x) h range = range
-fits-served (UnbindCtx s) h range = range
-fits-served (CopyCap source dest rights) h range = range
-fits-served (MintCap source dest rights badge) h range = range
-fits-served (MoveCap source dest) h range = range
-fits-served _ h range = absurd h
 
 -- ---- the steps of a book
 
@@ -138,9 +106,9 @@ newest-again b l ls legal served few =
     let in_boot : In l.step.thread (threads B) = subst (λ (ts : List ObjId). In l.step.thread ts) same_threads (made-in R l.step.thread kind.Thread who.0 who.1) in
     let core : l.step.core.0 < b.cores = (legal-cores (record { boot = b; lines = l ∷ ls }) legal).0 in
     let cores : b.cores ≤ core_limit = legal.boot.few_cores in
-    let some : 0 < l.step.thread.serial = serial-some R l.step.thread sound who.1 in
+    let some : 0 < l.step.thread.serial = omega (arith, (made-serial R l.step.thread sound who.1).0) in
     let made : l.step.thread.serial ≤ threads_of b = serial-below B l.step.thread kind.Thread first in_boot in
-    step_line_again b.cores (threads_of b) l.step (read-served l.step.entry served) (fits-served l.step.entry served legal.lines.0.in_range) core (omega arith) who.0 some made (omega (arith, counted-boot kind.Thread b.lines))
+    step_line_again b.cores (threads_of b) l.step (read-served l.step.entry served) legal.lines.0.in_range core (omega arith) who.0 some made (omega (arith, counted-boot kind.Thread b.lines))
 
 -- each step of these lines is read again
 unfoldable pub AreStepsAgain : Boot → List Line → Type 0

@@ -1,5 +1,5 @@
 -- What the tables answer is what the definitions say.
-use Rattle.std.specs.Prelude.{ℕ, zero, suc, ◌≡◌, ◌<◌, ◌≤◌, ◌+◌, ◌-◌, ◌&&◌, ◌||◌, Bool, true, false, cond, if◌then◌else◌, List, [], ◌∷◌, map, find, filter, Option, Some, None, slice_index_or}
+use Rattle.std.specs.Prelude.{ℕ, zero, suc, ◌≡◌, ◌<◌, ◌≤◌, ◌+◌, ◌&&◌, ◌||◌, Bool, true, false, cond, if◌then◌else◌, List, [], ◌∷◌, map, find, filter, Option, Some, None}
 use Rattle.std.specs.Prelude.{nat_le}
 use Rattle.std.specs.Option.{IfSome}
 use Rattle.mcs_queues.specs.declared.lines.ThreadNo.{ThreadNo}
@@ -11,21 +11,24 @@ use Rattle.mcs_types.specs.declared.id.ObjId.{ObjId}
 use Rattle.mcs_types.specs.declared.id.Kind.{Kind}
 use Rattle.mcs_types.specs.declared.id.Kind.TheVariants as kind
 use Rattle.mcs_state.specs.declared.rows.Counts.{Counts}
-use Rattle.mcs_state.specs.declared.rows.ThreadRow.{ThreadRow}
-use Rattle.mcs_state.specs.declared.rows.ContextRow.{ContextRow}
-use Rattle.mcs_state.specs.Numbers.{object_at, thread_at, context_at, objects_below, object_of, thread_of, IsName, IsLineName, line_number, standing}
-use Rattle.mcs_state.specs.Tables.{ROOM, CountsAgree, ThreadsAgree, ContextsAgree, LinesAgree, count_in, last_below, receives_with, is_held_by, blank_thread, blank_context}
-use Rattle.mcs_state.proofs.Naming.{made-serial}
+use Rattle.mcs_threads.specs.declared.row.ThreadRow.{ThreadRow}
+use Rattle.mcs_threads.specs.Rows.{status_in, status_under}
+use Rattle.mcs_types.specs.declared.record.Mode.{Mode}
+use Rattle.mcs_types.specs.declared.record.Mode.TheVariants as mode
+use Rattle.mcs_threads.specs.Tables.{Table, made, row_of}
+use Rattle.mcs_state.specs.Saying.{block_said, row_said}
+use Rattle.mcs_state.proofs.Saying.{Says, said, rowless, row-kind, formed, receiver-said}
+use Rattle.mcs_state.specs.Numbers.{object_at, thread_at, objects_below, object_of, thread_of, IsLineName, line_number, standing}
+use Rattle.mcs_state.specs.Tables.{ROOM, CountsAgree, LinesAgree, count_in, last_number, is_receiver}
 use Rattle.mcs_types.specs.declared.record.Status.TheVariants as status
 use Rattle.mcs_types.specs.declared.record.Rec.TheVariants.{Made, Closed, Owes, Paid, Void, Tied}
 use Rattle.mcs_types.specs.Ids.{same, same_kind}
 use Rattle.mcs_book.specs.Logs.{Log, counted, is_just}
-use Rattle.mcs_book.specs.Objects.{made_of, makes_kind, was_made, was_closed, form_of}
-use Rattle.mcs_book.specs.Threads.{threads, prio_of, mode_of}
+use Rattle.mcs_book.specs.Objects.{made_of, makes_kind, was_made, was_closed}
+use Rattle.mcs_book.specs.Threads.{threads, mode_of}
 use Rattle.mcs_types.specs.declared.record.Queue.{Queue}
 use Rattle.mcs_types.specs.Waiters.{Waiter, first_waiter}
-use Rattle.mcs_book.specs.Queues.{queue_of, reply_with, is_receiving, receives_at, first_in, line_of, head_of, stands_in, is_ahead}
-use Rattle.mcs_book.specs.Contexts.{holder_of, context_of}
+use Rattle.mcs_book.specs.Queues.{queue_of, reply_with, is_receiving, first_in, line_of, head_of, stands_in, is_ahead}
 use Rattle.mcs_book.specs.Replies.{replies, owed_by, owing, receiver_with}
 use Rattle.mcs_book.specs.Notifications.{bound_of}
 use Rattle.mcs_book.specs.Standing.{status_of, status_by}
@@ -33,7 +36,7 @@ use Rattle.mcs_book.specs.Served.{AreServed}
 use Rattle.mcs_types.proofs.Ids.{same_kind-equal, same_kind-self}
 use Rattle.mcs_book.proofs.Same.{is_queue-some}
 use Rattle.mcs_book.proofs.Sorted.{In, filter-in, sort-in}
-use Rattle.mcs_book.proofs.MadeLaws.{serial-below}
+use Rattle.mcs_book.proofs.MadeLaws.{serial-below, made-serial}
 use Rattle.mcs_book.proofs.LineLaws.{line_of-growing, ahead-irreflexive, ahead-transitive}
 use Rattle.mcs_book.specs.Messages.{open_of}
 use Rattle.mcs_book.specs.Growing.{growing_open, growing_line, threads_in}
@@ -76,34 +79,24 @@ made-below (Made o form ∷ R) k sound = go (same_kind o.kind k) refl (made-belo
     go false is later = later
 made-below (_ ∷ R) k sound = made-below R k sound.1
 
--- what is found among objects by number is found in the table
-pub find-below : {A : Type 0} (p : ObjId → Bool) (q : A → Bool) (k : Kind) (d : A) (rows : List A) (n : ℕ) → ((i : ℕ) → i < n → p (object_at k i) ≡ q (slice_index_or rows i d))
-    → find p (objects_below k n) ≡ object_of k (last_below q d rows n)
-find-below p q k d rows zero same = refl
-find-below p q k d rows (suc n) same = go (q (slice_index_or rows n d)) (same n (omega arith)) (find-below p q k d rows n (λ i lt. same i (omega (arith, lt))))
+-- what is found among objects by number is the greatest number that passes
+find-number : (p : ObjId → Bool) (q : ℕ → Bool) (k : Kind) (n : ℕ) → ((i : ℕ) → p (object_at k i) ≡ q i) → find p (objects_below k n) ≡ object_of k (last_number q n)
+find-number p q k zero same = refl
+find-number p q k (suc n) same = go (q n) (same n) (find-number p q k n same)
   where
-    go : (b : Bool) → p (object_at k n) ≡ b → find p (objects_below k n) ≡ object_of k (last_below q d rows n)
-        → find p (object_at k n ∷ objects_below k n) ≡ object_of k (cond b (Some n) (last_below q d rows n))
+    go : (b : Bool) → p (object_at k n) ≡ b → find p (objects_below k n) ≡ object_of k (last_number q n)
+        → find p (object_at k n ∷ objects_below k n) ≡ object_of k (cond b (Some n) (last_number q n))
     go true e later = ap (λ b. cond b (Some (object_at k n)) (find p (objects_below k n))) e
     go false e later = ap (λ b. cond b (Some (object_at k n)) (find p (objects_below k n))) e ∙ later
 
--- the context that a thread holds is the last of the table whose holder it is
-pub context-below : (rows : List ContextRow) (R : Log) (n : ℕ) (t : ObjId) → Sound R → ContextsAgree rows (λ i. form_of R (context_at i)) (λ s. holder_of R s) → n ≡ counted (makes_kind kind.Context) R → n ≤ ROOM
-    → context_of R t ≡ object_of kind.Context (last_below (is_held_by t) blank_context rows n)
-unfolding context_of
-context-below rows R n t sound a e few =
-    ap (λ xs. find (λ s. is_just (holder_of R s) t) xs) (made-below R kind.Context sound ∙ ap (λ m. objects_below kind.Context m) (sym e))
-    ∙ find-below (λ s. is_just (holder_of R s) t) (is_held_by t) kind.Context blank_context rows n (λ i lt. ap (λ h. is_just h t) (sym (a.holder i blank_context (omega (arith, lt, few)))))
-
 -- the receiver that stands with a reply object is the last of the table that receives with it
-pub receiver-below : (rows : List ThreadRow) (R : Log) (n : ℕ) (r : ObjId) → Sound R
-    → ThreadsAgree rows (λ i. form_of R (thread_at i)) (λ t. prio_of R t) (λ t. mode_of R t) (λ t. queue_of R t) (λ t. reply_with R t) → n ≡ counted (makes_kind kind.Thread) R → n ≤ ROOM
-    → receiver_with R r ≡ object_of kind.Thread (last_below (receives_with r) blank_thread rows n)
+pub receiver-last : (T : Table) (R : Log) (r : ObjId) → Sound R → ((t : ObjId) → row_of T t ≡ row_said R t) → made T ≡ counted (makes_kind kind.Thread) R
+    → receiver_with R r ≡ object_of kind.Thread (last_number (λ i. is_receiver (row_of T (thread_at i)) r) (made T))
 unfolding receiver_with
-receiver-below rows R n r sound a e few =
+receiver-last T R r sound a e =
     ap (λ xs. find (λ t. is_receiving R t && is_just (reply_with R t) r) xs) (made-below R kind.Thread sound ∙ ap (λ m. objects_below kind.Thread m) (sym e))
-    ∙ find-below (λ t. is_receiving R t && is_just (reply_with R t) r) (receives_with r) kind.Thread blank_thread rows n
-    (λ i lt. let below : i < ROOM = omega (arith, lt, few) in ap (λ q. receives_at q && is_just (reply_with R (thread_at i)) r) (sym (a.queue i blank_thread below)) ∙ ap (λ w. receives_at ((slice_index_or rows i blank_thread).queue) && is_just w r) (sym (a.reply i blank_thread below)))
+    ∙ find-number (λ t. is_receiving R t && is_just (reply_with R t) r) (λ i. is_receiver (row_of T (thread_at i)) r) kind.Thread (made T)
+    (λ i. sym (ap (λ o. is_receiver o r) (a (thread_at i)) ∙ receiver-said R (thread_at i) r sound refl))
 
 -- no served record closes an object or owes a reply
 pub none-closed : (R : Log) (o : ObjId) → AreServed R → was_closed R o ≡ false
@@ -180,9 +173,30 @@ pub status-unmade : (R : Log) (t : ObjId) → same_kind t.kind kind.Thread && wa
 unfolding status_of
 status-unmade R t h = ap (λ b. cond b (Some (cond (was_closed R t) status.Closed (status_by (queue_of R t) (owing R t) (mode_of R t)))) None) h
 
--- a name of a kind is the object of its number
-pub name-at : (k : Kind) (o : ObjId) → IsName k o → o ≡ object_at k (o.serial - 1)
-name-at k o h = let serial : o.serial ≡ o.serial - 1 + 1 = omega (arith, h.1) in λ i. record { kind = h.0 i; serial = serial i }
+-- what the row of a thread says that it does
+pub status-row : (R : Log) (t : ObjId) (r : ThreadRow) → Sound R → AreServed R → Some r ≡ row_said R t → status_of R t ≡ Some (status_in r)
+status-row R t r sound served h =
+    let says : Says R t r = said R t r h in
+    let kinds : same_kind t.kind kind.Thread ≡ true = rw (row-kind R t r sound h) refl in
+    let made : same_kind t.kind kind.Thread && was_made R t ≡ true = rw (kinds, formed R t _ says.form) refl in
+    status-made R t served made ∙ ap (λ s. Some s) (by_block (queue_of R t) r says.block ∙ ap (λ m. status_under r.block m) (sym says.mode))
+  where
+    by_mode : (m : Mode) → status_by None None m ≡ status_under None m
+    by_mode mode.Running = refl
+    by_mode mode.Restart = refl
+    by_mode mode.Inactive = refl
+
+    by_block : (q : Option Queue) (row : ThreadRow) → row.block ≡ block_said q (reply_with R t) → status_by q None (mode_of R t) ≡ status_under row.block (mode_of R t)
+    by_block None row e = rw e (by_mode (mode_of R t))
+    by_block (Some q) row e = rw e refl
+
+-- what has no row does nothing
+pub status-rowless : (R : Log) (t : ObjId) → Sound R → None ≡ row_said R t → status_of R t ≡ None
+status-rowless R t sound h = go (same_kind t.kind kind.Thread) refl
+  where
+    go : (b : Bool) → same_kind t.kind kind.Thread ≡ b → status_of R t ≡ None
+    go true e = status-unmade R t (rw (e, rowless R t sound (same_kind-equal t.kind kind.Thread e) h) refl)
+    go false e = status-unmade R t (rw e refl)
 
 -- who is first in a line stands there, and was made
 pub first-stands : (R : Log) (q : Queue) (t : ObjId) → first_in R q ≡ Some t → In t (threads R) × (queue_of R t ≡ Some q)
@@ -222,9 +236,9 @@ thread-where R n o sound e = go (same_kind o.kind kind.Thread) refl
         made-where R o sound ∙ ap (λ j. nat_le 1 o.serial && nat_le o.serial (counted (makes_kind j) R)) kinds ∙ ap (λ m. nat_le 1 o.serial && nat_le o.serial m) (sym e)
 
 -- a number found below n is below n
-pub last-below : {A : Type 0} (p : A → Bool) (d : A) (rows : List A) (n : ℕ) → IfSome (last_below p d rows n) (λ m. m < n)
-last-below p d rows zero = tt
-last-below p d rows (suc n) = go (p (slice_index_or rows n d)) (last_below p d rows n) (last-below p d rows n)
+pub last-number : (p : ℕ → Bool) (n : ℕ) → IfSome (last_number p n) (λ m. m < n)
+last-number p zero = tt
+last-number p (suc n) = go (p n) (last_number p n) (last-number p n)
   where
     go : (b : Bool) (o : Option ℕ) → IfSome o (λ m. m < n) → IfSome (cond b (Some n) o) (λ m. m < suc n)
     go true o h = omega arith
@@ -257,8 +271,3 @@ none-given false x e = refl
 pub some-given : (b : Bool) (x y : ObjId) → Some y ≡ (if b then Some x else None) → (b ≡ true) × (y ≡ x)
 some-given true x y e = (refl, cc)
 some-given false x y e = absurd cc
-
--- the object of a number below the room has a name
-pub name-below : (k : Kind) (m : Option ℕ) (n : ℕ) → n ≤ ROOM → IfSome m (λ i. i < n) → IfSome (object_of k m) (IsName k)
-name-below k None n few h = tt
-name-below k (Some i) n few h = (refl, omega arith, omega (arith, h, few))

@@ -1,6 +1,6 @@
 -- One column of a table after a row was written.
 use Rattle.std.specs.Prelude.{ℕ, ◌≡◌, ◌≢◌, ◌<◌, ◌+◌, ◌==◌, List, length, slice_index_or, slice_set, unwrap_or}
-use Rattle.std.proofs.Common.{refl, ap, ◌∙◌, arith}
+use Rattle.std.proofs.Common.{arith}
 use Rattle.std.proofs.lemmas.Grind.{common_steps}
 use Rattle.mcs_book.specs.Logs.{given}
 use Rattle.mcs_state.specs.Tables.{ROOM}
@@ -15,14 +15,6 @@ column-set f F G rows i row len old here others t d h =
     let o = old t d h in
     let n = others t in
     grind (arith, common_steps, o, n, here)
-
--- a column that the write left alone
-pub column-kept : {A X : Type 0} (f : A → X) (F : ℕ → X) (rows : List A) (i : ℕ) (r row : A)
-    → length rows ≡ ROOM → i < ROOM
-    → ((t : ℕ) (d : A) → t < ROOM → f (slice_index_or rows t d) ≡ F t)
-    → r ≡ slice_index_or rows i r → f row ≡ f r
-    → (t : ℕ) (d : A) → t < ROOM → f (slice_index_or (slice_set rows i row) t d) ≡ F t
-column-kept f F rows i r row len lt old rs same = column-set f F F rows i row len old (same ∙ ap f rs ∙ old i r lt) (λ t ne. refl)
 
 -- what is given of an object of a number, at that number and at others
 pub given-here : {X : Type 0} (i : ℕ) (x y : X) → unwrap_or (given (i + 1 == i + 1) x) y ≡ x

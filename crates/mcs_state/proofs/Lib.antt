@@ -1,8 +1,11 @@
 pub mod Columns
 pub mod Numbering
+pub mod Saying
+pub mod Threading
 pub mod Turning
 pub mod Lining
 pub mod Lettering
+pub mod Holders
 pub mod Making
 pub mod Naming
 pub mod Opening

@@ -1,13 +1,11 @@
 -- The tables after a thread joined or left a line, or got its priority.
-use Rattle.std.specs.Prelude.{ℕ, ◌≡◌, ◌<◌, ◌+◌, ◌∷◌, ◌==◌, ◌&&◌, Bool, true, false, cond, if◌then◌else◌, List, map, length, slice_index_or, slice_set, Option, Some, None, is_none, unwrap_or, nat_lt}
+use Rattle.std.specs.Prelude.{ℕ, ◌≡◌, ◌<◌, ◌+◌, ◌∷◌, ◌==◌, ◌&&◌, Bool, true, false, cond, if◌then◌else◌, List, map, length, Option, Some, None, is_none, unwrap_or, nat_lt}
 use Rattle.std.proofs.Common.{refl, ap, sym, ◌∙◌, subst, arith}
 use Rattle.std.proofs.lemmas.Bool.{eqb-true, eq-eqb}
 use Rattle.std.proofs.lemmas.Grind.{common_steps}
 use Rattle.mcs_types.specs.declared.id.ObjId.{ObjId}
 use Rattle.mcs_types.specs.declared.id.Prio.{Prio}
-use Rattle.mcs_types.specs.declared.record.Form.{Form}
 use Rattle.mcs_types.specs.declared.record.Letter.{Letter}
-use Rattle.mcs_types.specs.declared.record.Mode.{Mode}
 use Rattle.mcs_types.specs.declared.record.Queue.{Queue}
 use Rattle.mcs_types.specs.declared.record.Rec.TheVariants as rec
 use Rattle.mcs_types.specs.Waiters.{Waiter, insert_behind, without}
@@ -18,46 +16,17 @@ use Rattle.mcs_book.specs.Queues.{queue_of, same_queue}
 use Rattle.mcs_book.specs.Growing.{Waiter as Standing, insert_behind as put_behind, without as all_but, shifted, growing_line}
 use Rattle.mcs_book.specs.Sound.{Allowed, Sound}
 use Rattle.mcs_slots.specs.Pages.{Page}
-use Rattle.mcs_state.specs.declared.rows.ThreadRow.{ThreadRow}
-use Rattle.mcs_state.specs.declared.rows.ContextRow.{ContextRow}
+use Rattle.mcs_threads.specs.declared.row.Block.TheVariants.{Queued}
+use Rattle.mcs_threads.specs.Tables.{Table, ChangesRow}
+use Rattle.mcs_contexts.specs.Holding.{Holding}
 use Rattle.mcs_state.specs.declared.rows.Counts.{Counts}
 use Rattle.mcs_state.specs.Numbers.{thread_at, IsLineName, line_number, number_of_line, standing}
-use Rattle.mcs_state.specs.Tables.{ROOM, HAND, LINES, ThreadsAgree, LinesAgree, Agrees}
-use Rattle.mcs_state.proofs.Columns.{column-set, column-kept, given-here, given-other}
+use Rattle.mcs_state.specs.Tables.{ROOM, HAND, LINES, LinesAgree, Agrees}
+use Rattle.mcs_state.proofs.Columns.{given-here, given-other}
 use Rattle.mcs_book.proofs.LineLaws.{among-line}
 use Rattle.mcs_state.proofs.Numbering.{number-same, number-below, map-insert, map-without}
-use Rattle.mcs_state.proofs.Turning.{log-more, ranked}
-
--- the row of the thread has the line and the reply object
-queued : (rows : List ThreadRow) (forms : ℕ → Option Form) (prios : ObjId → ℕ) (modes : ObjId → Mode) (queues : ObjId → Option Queue) (replies : ObjId → Option ObjId)
-    (i : ℕ) (q : Queue) (reply : Option ObjId) (r : ThreadRow) → length rows ≡ ROOM → i < ROOM → r ≡ slice_index_or rows i r
-    → ThreadsAgree rows forms prios modes queues replies → ThreadsAgree (slice_set rows i (record r { queue = Some q; reply = reply })) forms prios modes (λ t. unwrap_or (given (same t (thread_at i)) (Some q)) (queues t)) (λ t. unwrap_or (given (same t (thread_at i)) reply) (replies t))
-queued rows forms prios modes queues replies i q reply r len lt rs a =
-    let row : ThreadRow = record r { queue = Some q; reply = reply } in
-    record {
-      form = column-kept (λ q. q.form) forms rows i r row len lt a.form rs refl;
-      priority = column-kept (λ q. q.priority.0) (λ t. prios (thread_at t)) rows i r row len lt a.priority rs refl;
-      mode = column-kept (λ q. q.mode) (λ t. modes (thread_at t)) rows i r row len lt a.mode rs refl;
-      queue = column-set (λ q. q.queue) (λ t. queues (thread_at t)) (λ t. unwrap_or (given (t + 1 == i + 1) (Some q)) (queues (thread_at t))) rows i row len a.queue
-          (sym (given-here i (Some q) (queues (thread_at i)))) (λ t ne. given-other t i (Some q) (queues (thread_at t)) ne);
-      reply = column-set (λ q. q.reply) (λ t. replies (thread_at t)) (λ t. unwrap_or (given (t + 1 == i + 1) reply) (replies (thread_at t))) rows i row len a.reply
-          (sym (given-here i reply (replies (thread_at i)))) (λ t ne. given-other t i reply (replies (thread_at t)) ne);
-    }
-
--- the row of the thread has no line
-left : (rows : List ThreadRow) (forms : ℕ → Option Form) (prios : ObjId → ℕ) (modes : ObjId → Mode) (queues : ObjId → Option Queue) (replies : ObjId → Option ObjId)
-    (i : ℕ) (r : ThreadRow) → length rows ≡ ROOM → i < ROOM → r ≡ slice_index_or rows i r
-    → ThreadsAgree rows forms prios modes queues replies → ThreadsAgree (slice_set rows i (record r { queue = None })) forms prios modes (λ t. unwrap_or (given (same t (thread_at i)) None) (queues t)) replies
-left rows forms prios modes queues replies i r len lt rs a =
-    let row : ThreadRow = record r { queue = None } in
-    record {
-      form = column-kept (λ q. q.form) forms rows i r row len lt a.form rs refl;
-      priority = column-kept (λ q. q.priority.0) (λ t. prios (thread_at t)) rows i r row len lt a.priority rs refl;
-      mode = column-kept (λ q. q.mode) (λ t. modes (thread_at t)) rows i r row len lt a.mode rs refl;
-      queue = column-set (λ q. q.queue) (λ t. queues (thread_at t)) (λ t. unwrap_or (given (t + 1 == i + 1) None) (queues (thread_at t))) rows i row len a.queue
-          (sym (given-here i None (queues (thread_at i)))) (λ t ne. given-other t i None (queues (thread_at t)) ne);
-      reply = column-kept (λ q. q.reply) (λ t. replies (thread_at t)) rows i r row len lt a.reply rs refl;
-    }
+use Rattle.mcs_state.proofs.Threading.{rows-joined, rows-parted, rows-ranked, mails-quiet}
+use Rattle.mcs_state.proofs.Turning.{log-more}
 
 -- a thread joins the line k
 lines-joined : (line line' : ℕ → List Waiter) (place place' : ℕ → Option ℕ) (waiters : Queue → List Standing) (queues : ObjId → Option Queue) (i p : ℕ) (k : Queue) (done : Bool)
@@ -109,38 +78,38 @@ stays : (R : Log) (i p : ℕ) (q : Queue) → Sound R → queue_of R (thread_at 
 stays R i p q sound idle = rw (among-line R (thread_at i) q sound, idle) refl
 
 -- after a thread joined a line
-pub joins-agrees : {counts : Counts} {threads : List ThreadRow} {letters : List (Option Letter)} {contexts : List ContextRow} {slots : List Page}
-    {line : ℕ → List Waiter} {place : ℕ → Option ℕ} {sent lines : ℕ} {hand R : Log} {line' : ℕ → List Waiter} {place' : ℕ → Option ℕ} (i p : ℕ) (k : Queue) (reply : Option ObjId) (r : ThreadRow) (done : Bool)
-    → length threads ≡ ROOM → i < ROOM → r ≡ slice_index_or threads i r → length hand < HAND → Allowed R (rec.Joins (thread_at i) k reply)
-    → IsLineName k → p ≡ r.priority.0
+pub joins-agrees : {counts : Counts} {threads threads' : Table} {letters : List (Option Letter)} {contexts : Holding} {slots : List Page}
+    {line : ℕ → List Waiter} {place : ℕ → Option ℕ} {sent lines : ℕ} {hand R : Log} {line' : ℕ → List Waiter} {place' : ℕ → Option ℕ} (i p : ℕ) (k : Queue) (reply : Option ObjId) (done : Bool)
+    → ChangesRow (λ r. record r { block = Some (Queued k reply) }) threads threads' (thread_at i) → i < ROOM → length hand < HAND → Allowed R (rec.Joins (thread_at i) k reply)
+    → IsLineName k → p ≡ prio_of R (thread_at i)
     → done ≡ (nat_lt i ROOM && nat_lt (line_number k) LINES && is_none (place i))
     → ((m : ℕ) → line' m ≡ (if done && (line_number k == m) then insert_behind (record { thread = i; priority = p }) (line m) else line m))
     → ((u : ℕ) → place' u ≡ (if done && (i == u) then Some (line_number k) else place u))
     → Agrees counts threads letters contexts slots line place sent lines hand R
-    → Agrees counts (slice_set threads i (record r { queue = Some k; reply = reply })) letters contexts slots line' place' sent lines (rec.Joins (thread_at i) k reply ∷ hand) (rec.Joins (thread_at i) k reply ∷ R)
-joins-agrees {counts = counts} {threads = threads} {letters = letters} {contexts = contexts} {slots = slots} {line = line} {place = place} {sent = sent} {lines = lines} {hand = hand} {R = R} {line' = line'} {place' = place'} i p k reply r done len lt rs room ok name ps is joined placed a =
-    let prio : p ≡ prio_of R (thread_at i) = ps ∙ ap (λ (q : ThreadRow). q.priority.0) rs ∙ a.of_threads.priority i r lt in
-    record {
-      of_counts = a.of_counts;
-      of_threads = queued threads _ _ _ _ _ i k reply r len lt rs a.of_threads;
-      of_letters = a.of_letters;
-      of_contexts = a.of_contexts;
-      of_slots = a.of_slots;
-      of_lines = subst (λ (n : ℕ). LinesAgree line' place' (λ q. cond (same_queue k q) (put_behind (record { thread = thread_at i; priority = n }) (growing_line R q)) (growing_line R q)) (λ t. queue_of (rec.Joins (thread_at i) k reply ∷ R) t)) prio (lines-joined line line' place place' _ _ i p k done name lt ok.1.0 is joined placed a.of_lines);
-      of_log = log-more sent lines hand R _ refl room ok tt a.of_log;
-    }
+    → Agrees counts threads' letters contexts slots line' place' sent lines (rec.Joins (thread_at i) k reply ∷ hand) (rec.Joins (thread_at i) k reply ∷ R)
+joins-agrees {counts = counts} {threads = threads} {threads' = threads'} {letters = letters} {contexts = contexts} {slots = slots} {line = line} {place = place} {sent = sent} {lines = lines} {hand = hand} {R = R} {line' = line'} {place' = place'} i p k reply done changed lt room ok name prio is joined placed a = record {
+  of_counts = a.of_counts;
+  of_threads = rows-joined R threads threads' (thread_at i) k reply changed a.of_threads;
+  of_mails = mails-quiet R threads threads' (rec.Joins (thread_at i) k reply) (λ t. refl) changed.mails a.of_mails;
+  of_letters = a.of_letters;
+  of_contexts = a.of_contexts;
+  of_slots = a.of_slots;
+  of_lines = subst (λ (n : ℕ). LinesAgree line' place' (λ q. cond (same_queue k q) (put_behind (record { thread = thread_at i; priority = n }) (growing_line R q)) (growing_line R q)) (λ t. queue_of (rec.Joins (thread_at i) k reply ∷ R) t)) prio (lines-joined line line' place place' _ _ i p k done name lt ok.1.0 is joined placed a.of_lines);
+  of_log = log-more sent lines hand R _ refl room ok tt a.of_log;
+}
 
 -- after a thread left its line
-pub parts-agrees : {counts : Counts} {threads : List ThreadRow} {letters : List (Option Letter)} {contexts : List ContextRow} {slots : List Page}
-    {line : ℕ → List Waiter} {place : ℕ → Option ℕ} {sent lines : ℕ} {hand R : Log} {line' : ℕ → List Waiter} {place' : ℕ → Option ℕ} (i : ℕ) (k : Queue) (r : ThreadRow)
-    → length threads ≡ ROOM → i < ROOM → r ≡ slice_index_or threads i r → length hand < HAND → Allowed R (rec.Parts (thread_at i) k)
+pub parts-agrees : {counts : Counts} {threads threads' : Table} {letters : List (Option Letter)} {contexts : Holding} {slots : List Page}
+    {line : ℕ → List Waiter} {place : ℕ → Option ℕ} {sent lines : ℕ} {hand R : Log} {line' : ℕ → List Waiter} {place' : ℕ → Option ℕ} (i : ℕ) (k : Queue)
+    → ChangesRow (λ r. record r { block = None }) threads threads' (thread_at i) → length hand < HAND → Allowed R (rec.Parts (thread_at i) k)
     → ((m : ℕ) → line' m ≡ without i (line m))
     → ((u : ℕ) → place' u ≡ (if i == u then None else place u))
     → Agrees counts threads letters contexts slots line place sent lines hand R
-    → Agrees counts (slice_set threads i (record r { queue = None })) letters contexts slots line' place' sent lines (rec.Parts (thread_at i) k ∷ hand) (rec.Parts (thread_at i) k ∷ R)
-parts-agrees {counts = counts} {threads = threads} {letters = letters} {contexts = contexts} {slots = slots} {line = line} {place = place} {sent = sent} {lines = lines} {hand = hand} {R = R} {line' = line'} {place' = place'} i k r len lt rs room ok gone placed a = record {
+    → Agrees counts threads' letters contexts slots line' place' sent lines (rec.Parts (thread_at i) k ∷ hand) (rec.Parts (thread_at i) k ∷ R)
+parts-agrees {counts = counts} {threads = threads} {threads' = threads'} {letters = letters} {contexts = contexts} {slots = slots} {line = line} {place = place} {sent = sent} {lines = lines} {hand = hand} {R = R} {line' = line'} {place' = place'} i k changed room ok gone placed a = record {
   of_counts = a.of_counts;
-  of_threads = left threads _ _ _ _ _ i r len lt rs a.of_threads;
+  of_threads = rows-parted R threads threads' (thread_at i) k changed a.of_threads;
+  of_mails = mails-quiet R threads threads' (rec.Parts (thread_at i) k) (λ t. refl) changed.mails a.of_mails;
   of_letters = a.of_letters;
   of_contexts = a.of_contexts;
   of_slots = a.of_slots;
@@ -149,14 +118,15 @@ parts-agrees {counts = counts} {threads = threads} {letters = letters} {contexts
 }
 
 -- after a thread that stands in no line got a priority
-pub prio-agrees : {counts : Counts} {threads : List ThreadRow} {letters : List (Option Letter)} {contexts : List ContextRow} {slots : List Page}
-    {line : ℕ → List Waiter} {place : ℕ → Option ℕ} {sent lines : ℕ} {hand R : Log} (i : ℕ) (p : Prio) (r : ThreadRow)
-    → length threads ≡ ROOM → i < ROOM → r ≡ slice_index_or threads i r → length hand < HAND → Allowed R (rec.Prio (thread_at i) p) → queue_of R (thread_at i) ≡ None
+pub prio-agrees : {counts : Counts} {threads threads' : Table} {letters : List (Option Letter)} {contexts : Holding} {slots : List Page}
+    {line : ℕ → List Waiter} {place : ℕ → Option ℕ} {sent lines : ℕ} {hand R : Log} (i : ℕ) (p : Prio)
+    → ChangesRow (λ r. record r { priority = p }) threads threads' (thread_at i) → length hand < HAND → Allowed R (rec.Prio (thread_at i) p) → queue_of R (thread_at i) ≡ None
     → Agrees counts threads letters contexts slots line place sent lines hand R
-    → Agrees counts (slice_set threads i (record r { priority = p })) letters contexts slots line place sent lines (rec.Prio (thread_at i) p ∷ hand) (rec.Prio (thread_at i) p ∷ R)
-prio-agrees {counts = counts} {threads = threads} {letters = letters} {contexts = contexts} {slots = slots} {line = line} {place = place} {sent = sent} {lines = lines} {hand = hand} {R = R} i p r len lt rs room ok idle a = record {
+    → Agrees counts threads' letters contexts slots line place sent lines (rec.Prio (thread_at i) p ∷ hand) (rec.Prio (thread_at i) p ∷ R)
+prio-agrees {counts = counts} {threads = threads} {threads' = threads'} {letters = letters} {contexts = contexts} {slots = slots} {line = line} {place = place} {sent = sent} {lines = lines} {hand = hand} {R = R} i p changed room ok idle a = record {
   of_counts = a.of_counts;
-  of_threads = ranked threads _ _ _ _ _ i p r len lt rs a.of_threads;
+  of_threads = rows-ranked R threads threads' (thread_at i) p changed a.of_threads;
+  of_mails = mails-quiet R threads threads' (rec.Prio (thread_at i) p) (λ t. refl) changed.mails a.of_mails;
   of_letters = a.of_letters;
   of_contexts = a.of_contexts;
   of_slots = a.of_slots;

@@ -9,19 +9,20 @@ use Rattle.mcs_book.specs.Logs.{Log, counted}
 use Rattle.mcs_book.specs.Messages.{is_sent}
 use Rattle.mcs_slots.specs.Numbers.{number_of}
 use Rattle.mcs_slots.specs.Pages.{Page, page_of, page_radix, page_slot, radix_of, slot_at}
-use Rattle.mcs_state.specs.declared.rows.ThreadRow.{ThreadRow}
-use Rattle.mcs_state.specs.declared.rows.ContextRow.{ContextRow}
+use Rattle.mcs_threads.specs.Tables.{Table, row_of, mail_of as mail_in}
+use Rattle.mcs_contexts.specs.Holding.{Holding, core_in, holder_in}
 use Rattle.mcs_state.specs.declared.rows.Counts.{Counts}
 use Rattle.mcs_state.specs.Numbers.{line_number, standing}
 use Rattle.mcs_state.specs.Tables.{ROOM, HAND, Agrees}
-use Rattle.std.specs.Prelude.{zero, suc, replicate, ◌++◌, reverse}
-use Rattle.std.proofs.lemmas.List.{get_or-replicate, reverse-append}
+use Rattle.std.specs.Prelude.{zero, suc, ◌++◌, reverse}
+use Rattle.std.proofs.lemmas.List.{reverse-append}
 use Rattle.mcs_types.specs.declared.boot.BootLine.{BootLine}
 use Rattle.mcs_types.specs.declared.boot.BootLine.TheVariants as boot
 use Rattle.mcs_book.specs.Logs.{onto}
 use Rattle.mcs_book.specs.Boots.{boot_line, boot_log}
 use Rattle.mcs_book.specs.History.{Line, past, Book, log_of}
-use Rattle.mcs_state.specs.Tables.{AreNone, blank_thread, blank_context}
+use Rattle.mcs_state.specs.Tables.{AreNone}
+use Rattle.mcs_state.proofs.Threading.{mails-none}
 
 -- a book without lines has no records
 pub log-empty : (b : Book) → b.boot.lines ≡ [] → b.lines ≡ [] → log_of b ≡ []
@@ -50,10 +51,12 @@ none-radix c = ap (λ o. unwrap_or (page_radix o) 0) (none-page (number_of c))
 none-slot : (c : ObjId) (i : ℕ) → slot_at [] c i ≡ None
 none-slot c i = ap (λ o. page_slot o i) (none-page (number_of c))
 
-pub blank-agrees : (line : ℕ → List Waiter) (place : ℕ → Option ℕ) (letters : List (Option Letter)) (R : Log) → R ≡ []
+pub blank-agrees : (line : ℕ → List Waiter) (place : ℕ → Option ℕ) (threads : Table) (letters : List (Option Letter)) (contexts : Holding) (R : Log) → R ≡ []
+    → ((t : ObjId) → row_of threads t ≡ None) → ((t : ObjId) → mail_in threads t ≡ None)
+    → ((s : ObjId) → core_in contexts s ≡ None) → ((s : ObjId) → holder_in contexts s ≡ None)
     → length letters ≡ ROOM → AreNone letters → ((k : ℕ) → line k ≡ []) → ((u : ℕ) → place u ≡ None)
-    → Agrees (record { cnodes = 0; threads = 0; endpoints = 0; notifications = 0; replies = 0; contexts = 0 }) (replicate ROOM blank_thread) letters (replicate ROOM blank_context) [] line place 0 0 [] R
-blank-agrees line place letters R none letters_len blank empty nowhere = rw none (record {
+    → Agrees (record { cnodes = 0; threads = 0; endpoints = 0; notifications = 0; replies = 0; contexts = 0 }) threads letters contexts [] line place 0 0 [] R
+blank-agrees line place threads letters contexts R none rows mails no_core no_holder letters_len blank empty nowhere = rw none (record {
   of_counts = record {
     cnodes = refl;
     threads = refl;
@@ -68,18 +71,10 @@ blank-agrees line place letters R none letters_len blank empty nowhere = rw none
     few_replies = omega arith;
     few_contexts = omega arith;
   };
-  of_threads = record {
-    form = λ i d lt. ap (λ q. q.form) (get_or-replicate ROOM i blank_thread d lt);
-    priority = λ i d lt. ap (λ q. q.priority.0) (get_or-replicate ROOM i blank_thread d lt);
-    mode = λ i d lt. ap (λ q. q.mode) (get_or-replicate ROOM i blank_thread d lt);
-    queue = λ i d lt. ap (λ q. q.queue) (get_or-replicate ROOM i blank_thread d lt);
-    reply = λ i d lt. ap (λ q. q.reply) (get_or-replicate ROOM i blank_thread d lt);
-  };
+  of_threads = rows;
+  of_mails = λ t. mails t ∙ sym (mails-none t);
   of_letters = λ i d lt. none-at letters i d blank (omega (arith, lt, letters_len));
-  of_contexts = record {
-    form = λ i d lt. ap (λ q. q.form) (get_or-replicate ROOM i blank_context d lt);
-    holder = λ i d lt. ap (λ q. q.holder) (get_or-replicate ROOM i blank_context d lt);
-  };
+  of_contexts = record { cores_are = no_core; holders_are = no_holder };
   of_slots = record {
     pages = refl;
     radices_are = λ c. none-radix c;
@@ -99,7 +94,7 @@ blank-agrees line place letters R none letters_len blank empty nowhere = rw none
 })
 
 -- the records in hand are those of a log that moved elsewhere
-pub moved-agrees : {counts : Counts} {threads : List ThreadRow} {letters : List (Option Letter)} {contexts : List ContextRow} {slots : List Page}
+pub moved-agrees : {counts : Counts} {threads : Table} {letters : List (Option Letter)} {contexts : Holding} {slots : List Page}
     {line : ℕ → List Waiter} {place : ℕ → Option ℕ} {sent lines : ℕ} {hand R : Log} (lines' : ℕ) (R' : Log)
     → R' ≡ R → sent ≤ HAND * lines'
     → Agrees counts threads letters contexts slots line place sent lines hand R
@@ -107,6 +102,7 @@ pub moved-agrees : {counts : Counts} {threads : List ThreadRow} {letters : List 
 moved-agrees lines' R' e few a = rw e (record {
   of_counts = a.of_counts;
   of_threads = a.of_threads;
+  of_mails = a.of_mails;
   of_letters = a.of_letters;
   of_contexts = a.of_contexts;
   of_slots = a.of_slots;

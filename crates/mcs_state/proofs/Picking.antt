@@ -1,12 +1,11 @@
 -- What the search finds is the pick.
-use Rattle.std.specs.Prelude.{ℕ, zero, suc, ◌≡◌, ◌<◌, ◌≤◌, ◌+◌, ◌-◌, Bool, true, false, cond, not, ◌&&◌, nat_lt, nat_le, List, Option, Some, None, option_and_then}
+use Rattle.std.specs.Prelude.{ℕ, zero, suc, ◌≡◌, ◌<◌, ◌≤◌, ◌+◌, ◌-◌, Bool, true, false, cond, ◌&&◌, nat_lt, nat_le, List, Option, Some, None, option_and_then}
 use Rattle.std.proofs.Common.{refl, ap, sym, ◌∙◌, subst, arith}
 use Rattle.std.proofs.lemmas.Grind.{common_steps}
 use Rattle.mcs_types.specs.declared.id.ObjId.{ObjId}
 use Rattle.mcs_types.specs.declared.id.CoreId.{CoreId}
 use Rattle.mcs_types.specs.declared.id.Kind.TheVariants as kind
 use Rattle.mcs_types.specs.Ids.{same_kind}
-use Rattle.mcs_types.specs.ThreadSets.{has}
 use Rattle.mcs_types.proofs.Ids.{parts, same_kind-equal}
 use Rattle.mcs_book.specs.Logs.{Log, counted}
 use Rattle.mcs_book.specs.Objects.{makes_kind, was_made, form_of}
@@ -42,20 +41,29 @@ better-is R core passed n o best = go (is_candidate R core passed (thread_at n))
     go false fails None best a e = below-suc (λ m. is_candidate R core passed (thread_at m) ≡ false) n best fails
     go false fails (Some b) best a e =
         (omega (arith, best.0), best.1, below-suc (λ m. is_candidate R core passed (thread_at m) ≡ true → GoesBefore R (thread_at b) (thread_at m)) n best.2 (λ holds. let no_more : true ≡ false = sym holds ∙ fails in absurd cc))
-    go true holds None best true e =
-        (omega arith, holds, below-suc (λ m. is_candidate R core passed (thread_at m) ≡ true → GoesBefore R (thread_at n) (thread_at m)) n
-            (λ m lt is. let no_more : true ≡ false = sym is ∙ best m lt in absurd cc)
-            (λ is. record { priority = omega arith; serial = λ e. omega arith }))
+    go true holds None best true e = (
+      omega arith,
+      holds,
+      below-suc (λ m. is_candidate R core passed (thread_at m) ≡ true → GoesBefore R (thread_at n) (thread_at m)) n
+          (λ m lt is. let no_more : true ≡ false = sym is ∙ best m lt in absurd cc)
+          (λ is. record { priority = omega arith; serial = λ e. omega arith }),
+    )
     go true holds None best false e = absurd cc
     go true holds (Some b) best true e =
-        let above : prio_of R (thread_at b) < prio_of R (thread_at n) = grind (arith, common_steps, e) in
-        (omega arith, holds, below-suc (λ m. is_candidate R core passed (thread_at m) ≡ true → GoesBefore R (thread_at n) (thread_at m)) n
-            (λ m lt is. let g : GoesBefore R (thread_at b) (thread_at m) = best.2 m lt is in record { priority = omega (arith, above, g.priority); serial = λ e. absurd (omega (arith, above, g.priority, e)) })
-            (λ is. record { priority = omega arith; serial = λ e. omega arith }))
+        let above : prio_of R (thread_at b) < prio_of R (thread_at n) = grind (arith, common_steps, e) in (
+          omega arith,
+          holds,
+          below-suc (λ m. is_candidate R core passed (thread_at m) ≡ true → GoesBefore R (thread_at n) (thread_at m)) n
+              (λ m lt is. let g : GoesBefore R (thread_at b) (thread_at m) = best.2 m lt is in record { priority = omega (arith, above, g.priority); serial = λ e. absurd (omega (arith, above, g.priority, e)) })
+              (λ is. record { priority = omega arith; serial = λ e. omega arith }),
+        )
     go true holds (Some b) best false e =
-        let not_above : prio_of R (thread_at n) ≤ prio_of R (thread_at b) = grind (arith, common_steps, e) in
-        (omega (arith, best.0), best.1, below-suc (λ m. is_candidate R core passed (thread_at m) ≡ true → GoesBefore R (thread_at b) (thread_at m)) n best.2
-            (λ is. record { priority = not_above; serial = λ e. omega (arith, best.0) }))
+        let not_above : prio_of R (thread_at n) ≤ prio_of R (thread_at b) = grind (arith, common_steps, e) in (
+          omega (arith, best.0),
+          best.1,
+          below-suc (λ m. is_candidate R core passed (thread_at m) ≡ true → GoesBefore R (thread_at b) (thread_at m)) n best.2
+              (λ is. record { priority = not_above; serial = λ e. omega (arith, best.0) }),
+        )
 
 best-is : (R : Log) (core : CoreId) (passed : List Bool) (n : ℕ) → IsBest R core passed n (best_below R core passed n)
 best-is R core passed zero = λ m lt. absurd (omega (arith, lt))
@@ -101,6 +109,9 @@ pick-is R core passed n sound e = go (best_below R core passed n) (best-is R cor
     go None best = λ u is.
         let at : (u ≡ thread_at (u.serial - 1)) × (u.serial - 1 < n) = candidate-number R core passed n u sound e is in
         let no : true ≡ false = sym is ∙ ap (λ x. is_candidate R core passed x) at.0 ∙ best (u.serial - 1) at.1 in absurd cc
-    go (Some b) best = (best.1, λ u is.
-        let at : (u ≡ thread_at (u.serial - 1)) × (u.serial - 1 < n) = candidate-number R core passed n u sound e is in
-        subst (λ x. GoesBefore R (thread_at b) x) (sym at.0) (best.2 (u.serial - 1) at.1 (subst (λ x. is_candidate R core passed x ≡ true) at.0 is)))
+    go (Some b) best = (
+      best.1,
+      λ u is.
+          let at : (u ≡ thread_at (u.serial - 1)) × (u.serial - 1 < n) = candidate-number R core passed n u sound e is in
+          subst (λ x. GoesBefore R (thread_at b) x) (sym at.0) (best.2 (u.serial - 1) at.1 (subst (λ x. is_candidate R core passed x ≡ true) at.0 is)),
+    )

@@ -20,7 +20,7 @@ use Rattle.mcs_book.specs.Guards.{FitsGuard, FitsSlot}
 use Rattle.mcs_book.specs.Sound.{Sound, IsThere, IsFormOf}
 use Rattle.mcs_book.specs.Served.{AreServed}
 use Rattle.mcs_types.proofs.Ids.{same-equal}
-use Rattle.mcs_book.proofs.MadeLaws.{alive-made}
+use Rattle.mcs_book.proofs.MadeLaws.{alive-made, made-serial}
 use Rattle.mcs_slots.specs.declared.slots.SlotId.{SlotId}
 use Rattle.mcs_slots.specs.Numbers.{number_of}
 use Rattle.mcs_slots.specs.Pages.{Page, ArePages, HasSlot, empty_page, page_of, page_at, page_radix, page_slots, radix_of, slot_at}
@@ -29,7 +29,6 @@ use Rattle.mcs_slots.proofs.SlotLaws.{slot_at-filled, radix_of-filled, length-fi
 use Rattle.mcs_slots.proofs.AddLaws.{radix-more, slot-more}
 use Rattle.mcs_cspace.specs.Spaces.{slots_space, GuardsFit}
 use Rattle.mcs_state.specs.Tables.{SlotsAgree}
-use Rattle.mcs_state.proofs.Naming.{made-serial}
 
 -- the pages that agree with a log
 abbrev pub AgreesWith : List Page → Log → Type 0

@@ -2,7 +2,8 @@
 ghost use Rattle.std.specs.Prelude.{◌≡◌, ◌<◌, ◌&&◌, nat_le, if◌then◌else◌, IfSome, Some, None};
 ghost use Rattle.mcs_types.specs.declared.id.Kind.{Kind};
 ghost use Rattle.mcs_types.specs.Ids.{same_kind};
-ghost use Rattle.mcs_state.specs.Numbers.{object_at, object_of, thread_of, thread_at, context_at, line_number, IsLineName};
+ghost use Rattle.mcs_state.specs.Numbers.{object_at, object_of, thread_of, thread_at, context_at, line_number, IsName, IsLineName};
+ghost use Rattle.mcs_state.specs.Tables.{ROOM};
 
 use mcs_queues::{LineNo, ThreadNo};
 use mcs_types::{Kind, ObjId, Queue};
@@ -35,6 +36,15 @@ pub fn context_id(context: ContextNo) -> ObjId
     object_id(Kind::Context, context.0)
 }
 
+/// The number of a context.
+pub fn context_no(context: ObjId) -> ContextNo
+    requires { IsName Kind.Context context }
+    ensures context { context_at result.0 ≡ context }
+    ensures known { result.0 < ROOM }
+{
+    ContextNo((context.serial - 1) as u16)
+}
+
 /// The number of a line.
 pub fn line_no(queue: Queue) -> LineNo
     requires { IsLineName queue }
@@ -47,32 +57,15 @@ pub fn line_no(queue: Queue) -> LineNo
     }
 }
 
-/// Whether two kinds are the same.
-pub fn is_same_kind(kind: Kind, other: Kind) -> bool
-    ensures { result ≡ same_kind kind other }
-{
-    kind as u8 == other as u8
-}
-
 /// The number of a thread of this name, where so many were made.
 pub fn thread_named(id: ObjId, count: u16) -> Option<ThreadNo>
     ensures thread { thread_of result ≡ (if same_kind id.kind Kind.Thread && (nat_le 1 id.serial && nat_le id.serial count) then Some id else None) }
     ensures known { IfSome result (λ t. t.0 < count) }
 {
-    if is_same_kind(id.kind, Kind::Thread) && 1 <= id.serial && id.serial <= count as u32 {
+    if id.kind.is_same(Kind::Thread) && 1 <= id.serial && id.serial <= count as u32 {
         Some(ThreadNo((id.serial - 1) as u16))
     } else {
         None
-    }
-}
-
-/// The object of a kind and a number, if there is one.
-pub fn object_no(kind: Kind, number: Option<u16>) -> Option<ObjId>
-    ensures { result ≡ object_of kind number }
-{
-    match number {
-        None => None,
-        Some(number) => Some(object_id(kind, number)),
     }
 }
 

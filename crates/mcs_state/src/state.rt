@@ -15,16 +15,19 @@ ghost use Rattle.mcs_book.specs.Messages.{open_of};
 ghost use Rattle.mcs_book.specs.Sound.{Allowed};
 ghost use Rattle.mcs_state.specs.Numbers.{thread_at, context_at};
 ghost use Rattle.mcs_state.specs.Now.{so_far, adds, IsNumberOf};
-ghost use Rattle.mcs_state.specs.Tables.{HAND, ROOM, AreNone, blank_thread, blank_context};
+ghost use Rattle.mcs_state.specs.Tables.{HAND, ROOM, AreNone};
 
 mod picking;
 mod queries;
 
+use crate::giving::give;
 use crate::numbers::{ContextNo, context_id, line_no, object_id, thread_id};
-use crate::rows::{ContextRow, Counts, ThreadRow};
+use crate::rows::{Counts, mail_of};
 use mcs_book::Book;
+use mcs_contexts::Contexts;
 use mcs_queues::{Lines, ThreadNo};
 use mcs_slots::{SlotId, Slots};
+use mcs_threads::{Block, Threads};
 use mcs_types::{
     Answer, BOOK_LINES, Badge, BootLine, Cap, CoreId, Form, Kind, LINE_RECORDS, Letter, Message,
     Mode, OBJECTS, ObjId, OutOfMemory, Prio, Queue, Rec, SendMode, Step,
@@ -38,9 +41,9 @@ pub struct State<L: Lines> {
     book: Book,
     hand: Vec<Rec>,
     counts: Counts,
-    threads: Vec<ThreadRow>,
+    threads: Threads,
     letters: Vec<Option<Letter>>,
-    contexts: Vec<ContextRow>,
+    contexts: Contexts,
     slots: Slots,
     sent: u32,
     lines: L,
@@ -48,6 +51,8 @@ pub struct State<L: Lines> {
 
 impl<L: Lines> Model for State<L> {
     ghost use Rattle.std.specs.Prelude.{◌≡◌, ◌≤◌, ◌++◌, reverse, length, vec_len, vec_capacity};
+    ghost use Rattle.mcs_threads.specs.Tables.{made};
+    ghost use Rattle.mcs_contexts.specs.Holding.{made as contexts_made};
     ghost use Rattle.mcs_book.specs.History.{log_of};
     ghost use Rattle.mcs_state.specs.Now.{Now};
     ghost use Rattle.mcs_state.specs.Tables.{HAND, ROOM, LINES, Agrees};
@@ -56,9 +61,9 @@ impl<L: Lines> Model for State<L> {
 
     ghost view = { λ s. record { book = s.book.book; hand = reverse s.hand.items; boot_room = s.book.boot_room; room = s.book.room } };
 
-    ghost invariant = { λ s. (HAND ≤ vec_capacity s.hand) × (vec_len s.threads ≡ ROOM) × (vec_len s.letters ≡ ROOM) × (vec_len s.contexts ≡ ROOM)
+    ghost invariant = { λ s. (HAND ≤ vec_capacity s.hand) × (made s.threads ≡ s.counts.threads) × (vec_len s.letters ≡ ROOM) × (contexts_made s.contexts ≡ s.counts.contexts)
         × (L.thread_room s.lines ≡ ROOM) × (L.line_room s.lines ≡ LINES)
-        × Agrees s.counts s.threads.items s.letters.items s.contexts.items s.slots (L.line s.lines) (L.place s.lines) s.sent (length s.book.book.lines) (reverse s.hand.items) (reverse s.hand.items ++ log_of s.book.book) };
+        × Agrees s.counts s.threads s.letters.items s.contexts s.slots (L.line s.lines) (L.place s.lines) s.sent (length s.book.book.lines) (reverse s.hand.items) (reverse s.hand.items ++ log_of s.book.book) };
 }
 
 /// Notes a record, for which there is room.
@@ -73,11 +78,11 @@ fn note(hand: &mut Vec<Rec>, rec: Rec)
     }
 }
 
-/// An equal form.
-fn form_again(form: &Form) -> Form
-    ensures { result ≡ form.now }
+/// An equal root.
+fn root_again(root: &Cap) -> Cap
+    ensures { result ≡ root.now }
 {
-    *form
+    *root
 }
 
 /// An equal capability, if there is one.
@@ -85,31 +90,6 @@ fn cap_again(cap: &Option<Cap>) -> Option<Cap>
     ensures { result ≡ cap.now }
 {
     *cap
-}
-
-/// Rows of threads that were not made.
-fn blank_threads(alloc: Global) -> Result<Vec<ThreadRow>, OutOfMemory>
-    ensures { IfOk result (λ v. v.items ≡ replicate ROOM blank_thread) }
-{
-    let row = ThreadRow {
-        form: None,
-        priority: Prio(0),
-        mode: Mode::Inactive,
-        queue: None,
-        reply: None,
-    };
-    Ok(vec![in alloc; row; 256]?)
-}
-
-/// Rows of contexts that were not made.
-fn blank_contexts(alloc: Global) -> Result<Vec<ContextRow>, OutOfMemory>
-    ensures { IfOk result (λ v. v.items ≡ replicate ROOM blank_context) }
-{
-    let row = ContextRow {
-        form: None,
-        holder: None,
-    };
-    Ok(vec![in alloc; row; 256]?)
 }
 
 /// A table of one place for each number, with nothing in it.
@@ -143,9 +123,9 @@ impl<L: Lines> State<L> {
                 replies: 0,
                 contexts: 0,
             },
-            threads: blank_threads(alloc)?,
+            threads: Threads::new(alloc)?,
             letters: nothing(alloc)?,
-            contexts: blank_contexts(alloc)?,
+            contexts: Contexts::new(alloc)?,
             slots: Slots::new(alloc, &[])?,
             sent: 0,
             lines: L::new(alloc, OBJECTS, 3 * OBJECTS)?,
@@ -276,11 +256,8 @@ impl<L: Lines> State<L> {
         requires room { length self.old.hand < HAND }
         ensures { self.new ≡ adds (Rec.Made (next_id (so_far self.old) Kind.Context) (Form.OnCore core)) self.old }
     {
-        let number = self.counts.contexts;
         let form = Form::OnCore { core };
-        let object = object_id(Kind::Context, number);
-        let row = &mut self.contexts[number as usize];
-        row.form = Some(form_again(&form));
+        let object = self.contexts.add(core);
         self.counts.contexts += 1;
         note(&mut self.hand, Rec::Made { object, form });
     }
@@ -293,11 +270,8 @@ impl<L: Lines> State<L> {
         requires room { length self.old.hand < HAND }
         ensures { self.new ≡ adds (Rec.Made (next_id (so_far self.old) Kind.Thread) (Form.Runner maximum root)) self.old }
     {
-        let number = self.counts.threads;
+        let object = self.threads.add(maximum, root_again(&root));
         let form = Form::Runner { maximum, root };
-        let object = object_id(Kind::Thread, number);
-        let row = &mut self.threads[number as usize];
-        row.form = Some(form_again(&form));
         self.counts.threads += 1;
         note(&mut self.hand, Rec::Made { object, form });
     }
@@ -330,8 +304,7 @@ impl<L: Lines> State<L> {
                 priority,
             },
         );
-        let row = &mut self.threads[thread.0 as usize];
-        row.priority = priority;
+        self.threads.set_prio(thread_id(thread), priority);
     }
 
     /// The mode of a thread changes.
@@ -348,8 +321,7 @@ impl<L: Lines> State<L> {
                 mode,
             },
         );
-        let row = &mut self.threads[thread.0 as usize];
-        row.mode = mode;
+        self.threads.set_mode(thread_id(thread), mode);
     }
 
     /// A thread joins a line; a receiver names its reply object.
@@ -359,6 +331,7 @@ impl<L: Lines> State<L> {
         requires room { length self.old.hand < HAND }
         ensures { self.new ≡ adds (Rec.Joins (thread_at thread.0) queue reply) self.old }
     {
+        let priority = self.priority(thread);
         note(
             &mut self.hand,
             Rec::Joins {
@@ -367,10 +340,8 @@ impl<L: Lines> State<L> {
                 reply,
             },
         );
-        let row = &mut self.threads[thread.0 as usize];
-        row.queue = Some(queue);
-        row.reply = reply;
-        let priority = row.priority;
+        self.threads
+            .block(thread_id(thread), Block::Queued { queue, reply });
         self.lines.join(thread, line_no(queue), priority);
     }
 
@@ -388,8 +359,7 @@ impl<L: Lines> State<L> {
                 queue,
             },
         );
-        let row = &mut self.threads[thread.0 as usize];
-        row.queue = None;
+        self.threads.unblock(thread_id(thread));
         self.lines.part(thread);
     }
 
@@ -431,7 +401,7 @@ impl<L: Lines> State<L> {
         self.letters[sender.0 as usize] = Some(letter);
     }
 
-    /// The open message of a sender, which has this number, is received.
+    /// The open message of a sender, which has this number, is received: it moves to the mail of its receiver.
     pub fn took(&mut self, number: u32, sender: ThreadNo, receiver: ThreadNo)
         requires allowed { Allowed (so_far self.old) (Rec.Took number (thread_at receiver.0)) }
         requires open { IsNumberOf number (open_of (so_far self.old) (thread_at sender.0)) }
@@ -446,7 +416,12 @@ impl<L: Lines> State<L> {
                 thread: thread_id(receiver),
             },
         );
-        self.letters[sender.0 as usize] = None;
+        match self.letters[sender.0 as usize].take() {
+            None => unreachable!(),
+            Some(letter) => {
+                self.threads.set_mail(thread_id(receiver), mail_of(letter));
+            }
+        }
     }
 
     /// A context is held by this thread now, or by nobody.
@@ -456,14 +431,8 @@ impl<L: Lines> State<L> {
         requires room { length self.old.hand < HAND }
         ensures { self.new ≡ adds (Rec.Holds (context_at context.0) thread) self.old }
     {
-        note(
-            &mut self.hand,
-            Rec::Holds {
-                context: context_id(context),
-                thread,
-            },
-        );
-        let row = &mut self.contexts[context.0 as usize];
-        row.holder = thread;
+        let context = context_id(context);
+        give(&mut self.contexts, context, thread);
+        note(&mut self.hand, Rec::Holds { context, thread });
     }
 }

@@ -10,6 +10,8 @@ mod limits;
 #[cfg(test)]
 mod objects;
 #[cfg(test)]
+mod queries;
+#[cfg(test)]
 mod queues;
 #[cfg(test)]
 mod runs;

@@ -8,7 +8,7 @@ ghost use Rattle.mcs_state.specs.Now.{so_far};
 
 use mcs_queues::Lines;
 use mcs_slots::SlotId;
-use mcs_state::{ContextNo, State, is_same_kind};
+use mcs_state::{State, context_no};
 use mcs_types::{BootFault, BootLine, CNODES, Cap, Guard, Kind, OBJECTS, ObjId, Prio, RADIX};
 
 /// Whether a serial is one of so many.
@@ -30,7 +30,7 @@ fn exists<L: Lines>(state: &State<L>, object: ObjId) -> bool
 pub(crate) fn exists_as<L: Lines>(state: &State<L>, kind: Kind, object: ObjId) -> bool
     ensures { result ≡ is_object (so_far state.now) kind object }
 {
-    is_same_kind(object.kind, kind) && exists(state, object)
+    object.kind.is_same(kind) && exists(state, object)
 }
 
 /// Whether fewer objects of a kind are there than this.
@@ -143,15 +143,6 @@ fn is_room<L: Lines>(state: &State<L>, line: &BootLine) -> bool
         BootLine::Thread { .. } => are_fewer(state, Kind::Thread, OBJECTS),
         BootLine::Slot { .. } => true,
     }
-}
-
-/// The number of a context.
-pub(crate) fn context_no(context: ObjId) -> ContextNo
-    requires { IsName Kind.Context context }
-    ensures context { context_at result.0 ≡ context }
-    ensures known { result.0 < 256 }
-{
-    ContextNo((context.serial - 1) as u16)
 }
 
 /// Whether a context that is named is held by nobody.

@@ -13,10 +13,9 @@ ghost use Rattle.mcs_state.specs.Numbers.{thread_at, IsName};
 ghost use Rattle.mcs_state.specs.Now.{so_far, adds, adds_all};
 ghost use Rattle.mcs_state.specs.Tables.{HAND, ROOM};
 
-use super::checks::context_no;
 use mcs_queues::{Lines, ThreadNo};
 use mcs_slots::SlotId;
-use mcs_state::{State, thread_id};
+use mcs_state::{State, context_no, thread_id};
 use mcs_types::{Badge, BootLine, Cap, Guard, Kind, Mode, ObjId, OutOfMemory, Prio, Rights};
 
 /// A capability to a CNode, with a guard.

@@ -1,12 +1,10 @@
 //! Which thread a core runs next (own).
 ghost use Rattle.std.specs.Prelude.{◌≡◌, ◌<◌, ◌≤◌, IfSome, option_and_then};
 ghost use Rattle.mcs_book.specs.Objects.{form_of};
-ghost use Rattle.mcs_book.specs.Threads.{prio_of};
 ghost use Rattle.mcs_book.specs.Contexts.{context_of};
 ghost use Rattle.mcs_book.specs.Standing.{may_enter, is_ready, is_on_core};
 ghost use Rattle.mcs_book.specs.Picking.{IsPick};
 ghost use Rattle.mcs_queues.specs.Numbers.{thread_number};
-ghost use Rattle.mcs_state.specs.Numbers.{thread_at};
 ghost use Rattle.mcs_state.specs.Now.{so_far};
 ghost use Rattle.mcs_state.specs.Tables.{ROOM};
 ghost use Rattle.mcs_state.specs.Picking.{better_of};
@@ -14,7 +12,7 @@ ghost use Rattle.mcs_state.specs.Picking.{better_of};
 use super::State;
 use crate::numbers::thread_id;
 use mcs_queues::{Lines, ThreadNo};
-use mcs_types::{CoreId, Kind, ObjId, Prio, Status, ThreadSet};
+use mcs_types::{CoreId, Kind, ObjId, Status, ThreadSet};
 
 /// Whether a thread of this status can run.
 fn is_ready(status: Option<Status>) -> bool
@@ -24,14 +22,6 @@ fn is_ready(status: Option<Status>) -> bool
 }
 
 impl<L: Lines> State<L> {
-    /// The priority of a thread.
-    pub fn priority(&self, thread: ThreadNo) -> Prio
-        requires { thread.0 < ROOM }
-        ensures { result.0 ≡ prio_of (so_far self.now) (thread_at thread.0) }
-    {
-        self.threads[thread.0 as usize].priority
-    }
-
     /// Whether a thread holds a context of a core.
     fn has_context_of(&self, core: CoreId, thread: ObjId) -> bool
         ensures { result ≡ is_on_core core (option_and_then (λ s. form_of (so_far self.now) s) (context_of (so_far self.now) thread)) }

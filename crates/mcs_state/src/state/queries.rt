@@ -6,12 +6,12 @@ ghost use Rattle.mcs_types.specs.Ids.{same_kind};
 ghost use Rattle.mcs_book.specs.Logs.{counted};
 ghost use Rattle.mcs_book.specs.Objects.{makes_kind, was_made, form_of};
 ghost use Rattle.mcs_book.specs.Slots.{slot};
-ghost use Rattle.mcs_book.specs.Threads.{mode_of};
+ghost use Rattle.mcs_book.specs.Threads.{prio_of, mode_of, root_of};
 ghost use Rattle.mcs_book.specs.Queues.{queue_of, first_in};
 ghost use Rattle.mcs_book.specs.Messages.{next_message, open_of};
 ghost use Rattle.mcs_book.specs.Contexts.{holder_of, context_of};
 ghost use Rattle.mcs_book.specs.Replies.{receiver_with};
-ghost use Rattle.mcs_book.specs.Standing.{status_of, is_on_core};
+ghost use Rattle.mcs_book.specs.Standing.{status_of, mail_of, is_on_core};
 ghost use Rattle.mcs_book.specs.Lookup.{radix_kept, capability, slot_named};
 ghost use Rattle.mcs_cspace.specs.Spaces.{named_by};
 ghost use Rattle.mcs_book.specs.Sound.{Sound, IsLineThere};
@@ -21,12 +21,14 @@ ghost use Rattle.mcs_state.specs.Now.{so_far};
 ghost use Rattle.mcs_state.specs.Tables.{HAND, ROOM};
 
 use super::State;
-use crate::numbers::{ContextNo, line_no, object_no, thread_named, thread_no};
-use crate::rows::{is_on, last_held, last_receiver, root_in};
+use crate::numbers::{ContextNo, context_id, line_no, thread_id, thread_named, thread_no};
+use crate::rows::last_receiver;
 use mcs_cspace::{in_range, lookup, lookup_slot, radix_in};
 use mcs_queues::{Lines, ThreadNo};
 use mcs_slots::SlotId;
-use mcs_types::{Cap, CoreId, Kind, Letter, Mode, ObjId, Place, Queue, Refusal, Status};
+use mcs_types::{
+    Cap, CoreId, Kind, Letter, Mail, Mode, ObjId, Place, Prio, Queue, Refusal, Status,
+};
 
 impl<L: Lines> State<L> {
     /// How many objects of a kind were made.
@@ -50,7 +52,10 @@ impl<L: Lines> State<L> {
         requires { thread.0 < ROOM }
         ensures { result ≡ mode_of (so_far self.now) (thread_at thread.0) }
     {
-        self.threads[thread.0 as usize].mode
+        match self.threads.get(thread_id(thread)) {
+            None => Mode::Inactive,
+            Some(row) => row.mode,
+        }
     }
 
     /// The line in which a thread stands.
@@ -58,7 +63,32 @@ impl<L: Lines> State<L> {
         requires { thread.0 < ROOM }
         ensures { result ≡ queue_of (so_far self.now) (thread_at thread.0) }
     {
-        self.threads[thread.0 as usize].queue
+        let row = self.threads.get(thread_id(thread))?;
+        row.queue()
+    }
+
+    /// The priority of a thread; 0 where it was never made (manual: Threads and Execution).
+    pub fn priority(&self, thread: ThreadNo) -> Prio
+        ensures { result.0 ≡ prio_of (so_far self.now) (thread_at thread.0) }
+    {
+        match self.threads.get(thread_id(thread)) {
+            None => Prio(0),
+            Some(row) => row.priority,
+        }
+    }
+
+    /// What last reached a thread; None where nothing did, and for what is no thread or is not there (manual: Message Passing).
+    pub fn mail(&self, id: ObjId) -> Option<&Mail>
+        ensures { option_copied result ≡ mail_of (so_far self.now) id }
+    {
+        self.threads.mail(id)
+    }
+
+    fn root(&self, thread: ThreadNo) -> Option<Cap>
+        ensures { result ≡ root_of (so_far self.now) (thread_at thread.0) }
+    {
+        let row = self.threads.get(thread_id(thread))?;
+        Some(row.root)
     }
 
     /// The thread that holds a context.
@@ -66,7 +96,7 @@ impl<L: Lines> State<L> {
         requires { context.0 < ROOM }
         ensures { result ≡ holder_of (so_far self.now) (context_at context.0) }
     {
-        self.contexts[context.0 as usize].holder
+        self.contexts.holder(context_id(context))
     }
 
     /// The capability in a slot, or None where the slot is empty or not there.
@@ -115,10 +145,8 @@ impl<L: Lines> State<L> {
     pub fn status(&self, id: ObjId) -> Option<Status>
         ensures { result ≡ status_of (so_far self.now) id }
     {
-        match self.thread(id) {
-            None => None,
-            Some(thread) => Some(self.threads[thread.0 as usize].status()),
-        }
+        let row = self.threads.get(id)?;
+        Some(row.status())
     }
 
     /// The context that a thread holds.
@@ -126,10 +154,8 @@ impl<L: Lines> State<L> {
         ensures context { result ≡ context_of (so_far self.now) thread }
         ensures known { IfSome result (IsName Kind.Context) }
     {
-        object_no(
-            Kind::Context,
-            last_held(&self.contexts, self.counts.contexts, thread),
-        )
+        self.contexts.is_one_to_one();
+        self.contexts.of(thread)
     }
 
     /// Whether a context is of this core.
@@ -137,7 +163,10 @@ impl<L: Lines> State<L> {
         requires { IsName Kind.Context context }
         ensures { result ≡ is_on_core core (form_of (so_far self.now) context) }
     {
-        is_on(self.contexts[(context.serial - 1) as usize].form, core)
+        match self.contexts.core(context) {
+            Some(own) => own.0 == core.0,
+            None => false,
+        }
     }
 
     /// The first thread of a line.
@@ -154,7 +183,7 @@ impl<L: Lines> State<L> {
         ensures receiver { thread_of result ≡ receiver_with (so_far self.now) reply }
         ensures known { IfSome result (λ t. t.0 < ROOM) }
     {
-        thread_no(last_receiver(&self.threads, self.counts.threads, reply))
+        thread_no(last_receiver(&self.threads, reply))
     }
 
     /// The capability that a thread names by an address: Missing where there is none, GuardMismatch and DepthMismatch
@@ -163,7 +192,7 @@ impl<L: Lines> State<L> {
         requires { thread.0 < ROOM }
         ensures { result ≡ capability (so_far self.now) (thread_at thread.0) address }
     {
-        match root_in(self.threads[thread.0 as usize].form) {
+        match self.root(thread) {
             None => Err(Refusal::Missing),
             Some(root) => lookup(&self.slots, root, address),
         }
@@ -175,7 +204,7 @@ impl<L: Lines> State<L> {
         requires { thread.0 < ROOM }
         ensures { named_by result ≡ slot_named (so_far self.now) (thread_at thread.0) place }
     {
-        match root_in(self.threads[thread.0 as usize].form) {
+        match self.root(thread) {
             None if in_range(place.depth) => Err(Refusal::Missing),
             None => Err(Refusal::Range),
             Some(root) => lookup_slot(&self.slots, root, place),

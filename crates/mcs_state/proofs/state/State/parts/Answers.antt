@@ -15,13 +15,14 @@ invariant_of-self g c =
     let i = c.self.invariant in
     let R : Log = reverse c.self.inside.hand.items ++ log_of c.self.inside.book.book in
     let P : Now → Type 0 = λ n. (length n.hand < HAND) × Allowed (so_far n) (rec.Parts (thread_at c.args.thread.0) c.args.queue) in
-    let was : P (record { book = c.self.inside.book.book; hand = reverse c.self.inside.hand.items; boot_room = c.self.inside.book.boot_room; room = c.self.inside.book.room }) = subst P (sym c.self.view_is) (c.requires.room, c.requires.allowed) in (
+    let was : P (record { book = c.self.inside.book.book; hand = reverse c.self.inside.hand.items; boot_room = c.self.inside.book.boot_room; room = c.self.inside.book.room }) = subst P (sym c.self.view_is) (c.requires.room, c.requires.allowed) in
+    let changed = rw c.thread_id-2.ensures at c.unblock.ensures.changed in (
       omega (arith, i.0, c.note.ensures.capacity),
-      i.1,
+      changed.count ∙ i.1,
       i.2,
       i.3,
       c.part.ensures.threads ∙ i.4,
       c.part.ensures.lines ∙ i.5,
       rw (c.note.ensures.items, reverse-append, c.thread_id.ensures)
-          (parts-agrees c.args.thread.0 c.args.queue c.index_mut-row.result.now (omega (arith, i.1, c.self.inside.threads.ok.0)) c.requires.known c.index_mut-row.ensures.value was.0 was.1 c.part.ensures.line c.part.ensures.place i.6),
+          (parts-agrees c.args.thread.0 c.args.queue changed was.0 was.1 c.part.ensures.line c.part.ensures.place i.6),
     )

@@ -1,9 +1,8 @@
-use Rattle.std.proofs.Common.{◌≡◌, ◌∙◌, ◌+◌, ◌≤◌, ◌<◌, ap, sym, subst, arith, ℕ, Option, Some, None}
+use Rattle.std.proofs.Common.{◌≡◌, ◌∙◌, ap, sym, subst, arith, Some, None}
 use Rattle.std.proofs.lemmas.Grind.{common_steps}
 use Rattle.mcs_types.specs.declared.id.Kind.TheVariants as kind
 use Rattle.mcs_book.specs.Logs.{Log}
 use Rattle.mcs_book.specs.Picking.{IsPick}
-use Rattle.mcs_queues.specs.declared.lines.ThreadNo.{ThreadNo}
 use Rattle.mcs_queues.specs.Numbers.{thread_number}
 use Rattle.mcs_state.specs.Numbers.{thread_at, object_of}
 use Rattle.mcs_state.specs.Now.{so_far}
@@ -13,10 +12,11 @@ use Rattle.mcs_state.proofs.state.State.pick.Goals as goal
 
 -- src/state/picking.rt:86:9
 pub loop-number-preserved : goal.loop-number-preserved
-loop-number-preserved g c =
-    ( grind (arith, common_steps, c.loop-number-test.true)
-    , best-next (so_far c.args.self.now) c.args.core c.args.passed.now c.loop-number.number (thread_number c.loop-number.best) (thread_number c.better-best.result) c.loop-number.invariant.1 c.better-best.ensures.better
-    , c.better-best.ensures.found )
+loop-number-preserved g c = (
+  grind (arith, common_steps, c.loop-number-test.true),
+  best-next (so_far c.args.self.now) c.args.core c.args.passed.now c.loop-number.number (thread_number c.loop-number.best) (thread_number c.better-best.result) c.loop-number.invariant.1 c.better-best.ensures.better,
+  c.better-best.ensures.found,
+)
 
 -- src/state/picking.rt:80:5
 pub returns-in-None : goal.returns-in-None

@@ -1,4 +1,4 @@
-use Rattle.std.proofs.Common.{◌<◌, ◌++◌, length, reverse, sym, subst, arith}
+use Rattle.std.proofs.Common.{◌<◌, ◌++◌, length, reverse, sym, ◌∙◌, subst, arith}
 use Rattle.std.proofs.lemmas.List.{reverse-append}
 use Rattle.mcs_types.specs.declared.record.Rec.TheVariants as rec
 use Rattle.mcs_book.specs.Logs.{Log}
@@ -15,13 +15,14 @@ invariant_of-self g c =
     let i = c.self.invariant in
     let R : Log = reverse c.self.inside.hand.items ++ log_of c.self.inside.book.book in
     let P : Now → Type 0 = λ n. (length n.hand < HAND) × Allowed (so_far n) (rec.Turns (thread_at c.args.thread.0) c.args.mode) in
-    let was : P (record { book = c.self.inside.book.book; hand = reverse c.self.inside.hand.items; boot_room = c.self.inside.book.boot_room; room = c.self.inside.book.room }) = subst P (sym c.self.view_is) (c.requires.room, c.requires.allowed) in (
+    let was : P (record { book = c.self.inside.book.book; hand = reverse c.self.inside.hand.items; boot_room = c.self.inside.book.boot_room; room = c.self.inside.book.room }) = subst P (sym c.self.view_is) (c.requires.room, c.requires.allowed) in
+    let changed = rw c.thread_id-2.ensures at c.set_mode.ensures.changed in (
       omega (arith, i.0, c.note.ensures.capacity),
-      i.1,
+      changed.count ∙ i.1,
       i.2,
       i.3,
       i.4,
       i.5,
       rw (c.note.ensures.items, reverse-append, c.thread_id.ensures)
-          (turns-agrees c.args.thread.0 c.args.mode c.index_mut-row.result.now (omega (arith, i.1, c.self.inside.threads.ok.0)) c.requires.known c.index_mut-row.ensures.value was.0 was.1 i.6),
+          (turns-agrees (thread_at c.args.thread.0) c.args.mode changed was.0 was.1 i.6),
     )

@@ -1,0 +1,104 @@
+//! What a kernel tells of its threads.
+use mcs_kernel::{Boot, Kernel};
+use mcs_queues::PlainLines;
+use mcs_types::{
+    Answer, Badge, BootFault, BootLine, Cap, CoreId, Entry, Guard, Kind, Mail, Message, ObjId,
+    Prio, Queue, Rights, Status, ThreadSet,
+};
+use std::alloc::Global;
+
+fn object(kind: Kind, serial: u32) -> ObjId {
+    ObjId { kind, serial }
+}
+
+fn thread(serial: u32) -> ObjId {
+    object(Kind::Thread, serial)
+}
+
+/// A slot with an unguarded capability.
+fn slot(index: u8, obj: ObjId, bits: u8, badge: u64) -> Option<BootLine> {
+    let cap = Cap {
+        obj,
+        rights: Rights::new(bits)?,
+        badge: Badge(badge),
+        guard: Guard { bits: 0, value: 0 },
+    };
+    Some(BootLine::Slot {
+        cnode: object(Kind::CNode, 1),
+        index,
+        cap,
+    })
+}
+
+/// A CNode, an endpoint, a reply object, and five threads with a context each.
+fn five_threads(alloc: Global) -> Result<Boot, BootFault> {
+    let mut boot = Boot::new(alloc, 1)?;
+    boot.add(BootLine::CNode { radix: 5 })?;
+    boot.add(BootLine::Endpoint)?;
+    boot.add(BootLine::Reply)?;
+    for (serial, priority) in [(1, 10), (2, 20), (3, 10), (4, 20), (5, 30)] {
+        boot.add(BootLine::Context { core: CoreId(0) })?;
+        boot.add(BootLine::Thread {
+            priority: Prio(priority),
+            maximum: Prio(255),
+            root: object(Kind::CNode, 1),
+            guard: Guard { bits: 59, value: 0 },
+            runs: true,
+            context: Some(object(Kind::Context, serial)),
+        })?;
+    }
+    let slots = [
+        slot(1, object(Kind::Endpoint, 1), 1, 9),
+        slot(2, object(Kind::Endpoint, 1), 15, 0),
+        slot(8, object(Kind::Reply, 1), 0, 0),
+    ];
+    for line in slots.into_iter().flatten() {
+        boot.add(line)?;
+    }
+    Ok(boot)
+}
+
+fn booted(alloc: Global) -> Option<Kernel<PlainLines>> {
+    let boot = five_threads(alloc).ok()?;
+    Kernel::new(alloc, &boot).ok()
+}
+
+#[test]
+fn the_first_of_those_that_may_enter_is_picked(rt: HostRuntime) {
+    let booted = booted(rt.alloc());
+    assert!(rt; booted.is_some());
+    let Some(kernel) = booted else {
+        return;
+    };
+    let mut passed = ThreadSet::new();
+    for want in [5, 2, 4, 1, 3] {
+        assert_eq!(rt; kernel.pick(CoreId(0), &passed), Some(thread(want)));
+        passed.insert(thread(want));
+    }
+    assert!(rt; passed.contains(thread(3)));
+    assert_eq!(rt; kernel.pick(CoreId(0), &passed), None);
+}
+
+#[test]
+fn status_and_mail_follow_a_message(rt: HostRuntime) {
+    let booted = booted(rt.alloc());
+    assert!(rt; booted.is_some());
+    let (Some(mut kernel), Some(message)) = (booted, Message::new(7, &[5, 6])) else {
+        return;
+    };
+    let entry = Entry::Send { cap: 1, message };
+    let sent = kernel.enter(rt.alloc(), CoreId(0), thread(1), entry);
+    assert!(rt; matches!(sent, Ok(Answer::Waits)));
+    let senders = Queue::Senders(object(Kind::Endpoint, 1));
+    assert_eq!(rt; kernel.status(thread(1)), Some(Status::Queued(senders)));
+    assert!(rt; kernel.mail(thread(2)).is_none());
+    let entry = Entry::Recv { cap: 2, reply: 8 };
+    let got = kernel.enter(rt.alloc(), CoreId(0), thread(2), entry);
+    assert!(rt; matches!(got, Ok(Answer::Got { .. })));
+    assert_eq!(rt; kernel.status(thread(1)), Some(Status::Running));
+    let badge = match kernel.mail(thread(2)) {
+        Some(Mail::Message { badge, .. }) => Some(badge.0),
+        _ => None,
+    };
+    assert_eq!(rt; badge, Some(9));
+}

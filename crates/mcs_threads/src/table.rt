@@ -1,0 +1,215 @@
+//! The table of threads.
+ghost use Rattle.std.specs.Prelude.{◌≡◌, ◌<◌, ◌≤◌, ◌+◌, ◌↔◌, cond, IsSome, IfOk, IfNone, Some, None, option_copied};
+ghost use Rattle.mcs_types.specs.declared.id.ObjId.{ObjId};
+ghost use Rattle.mcs_types.specs.Ids.{same};
+ghost use Rattle.mcs_threads.specs.declared.row.Block.{Block};
+ghost use Rattle.mcs_threads.specs.Rows.{new_row};
+
+use crate::place::{keep, kept_at};
+use crate::row::{Block, ThreadRow};
+use mcs_types::{Cap, Kind, Mail, Mode, OBJECTS, ObjId, OutOfMemory, Prio};
+use std::alloc::Global;
+use std::marker::Model;
+
+/// The threads that were made, at most 256, whose serials count from 1 (own): what is kept of each, and its mail. All memory is
+/// taken when the table is made.
+#[derive(Drop)]
+pub struct Threads {
+    rows: Vec<Option<ThreadRow>>,
+    mails: Vec<Option<Mail>>,
+}
+
+impl Model for Threads {
+    ghost use Rattle.std.specs.Prelude.{◌≡◌, ◌≤◌, vec_len, vec_capacity};
+    ghost use Rattle.mcs_threads.specs.Tables.{Table};
+
+    ghost Value = { Table };
+
+    ghost view = { λ t. record { rows = t.rows.items; mails = t.mails.items } };
+
+    ghost invariant = { λ t. (vec_len t.mails ≡ vec_len t.rows) × (vec_len t.rows ≤ 256) × (256 ≤ vec_capacity t.rows) × (256 ≤ vec_capacity t.mails) };
+}
+
+impl Threads {
+    ghost use Rattle.mcs_threads.specs.Tables.{made, row_of, mail_of, next_thread, ChangesRow, SameRows, SameMails};
+
+    /// A table with no thread, and the room for 256 (own).
+    pub fn new(alloc: Global) -> Result<Threads, OutOfMemory>
+        ensures made { IfOk result (λ s. made s ≡ 0) }
+        ensures rows { IfOk result (λ s. (t : ObjId) → row_of s t ≡ None) }
+        ensures mails { IfOk result (λ s. (t : ObjId) → mail_of s t ≡ None) }
+    {
+        Ok(Threads {
+            rows: Vec::with_capacity(alloc, OBJECTS as usize)?,
+            mails: Vec::with_capacity(alloc, OBJECTS as usize)?,
+        })
+    }
+
+    /// How many threads were made, 256 at most; one that was closed counts still (own).
+    pub fn made(&self) -> u16
+        ensures count { result ≡ made self.now }
+        ensures few { result ≤ 256 }
+    {
+        self.rows.len() as u16
+    }
+
+    /// Makes a thread, where fewer than 256 were made, and gives its id: its serial is the next. Its priority is 0, it is inactive,
+    /// and no mail has reached it (manual: Threads and Execution).
+    pub fn add(&mut self, maximum: Prio, root: Cap) -> ObjId
+        requires { made self.old < 256 }
+        ensures id { result ≡ next_thread self.old }
+        ensures made { made self.new ≡ made self.old + 1 }
+        ensures rows { (t : ObjId) → row_of self.new t ≡ cond (same t result) (Some (new_row maximum root)) (row_of self.old t) }
+        ensures mails { SameMails self.old self.new }
+    {
+        let id = ObjId {
+            kind: Kind::Thread,
+            serial: self.rows.len() as u32 + 1,
+        };
+        self.rows.push_reserved(Some(ThreadRow::new(maximum, root)));
+        self.mails.push_reserved(None);
+        id
+    }
+
+    /// What is kept of a thread; None for what is no thread, was never made or was closed (own).
+    pub fn get(&self, id: ObjId) -> Option<&ThreadRow>
+        ensures { option_copied result ≡ row_of self.now id }
+    {
+        kept_at(&self.rows, id)
+    }
+
+    /// What last reached a thread; None where nothing did, and for what is no thread, was never made or was closed (manual:
+    /// Message Passing).
+    pub fn mail(&self, id: ObjId) -> Option<&Mail>
+        ensures { option_copied result ≡ mail_of self.now id }
+    {
+        kept_at(&self.mails, id)
+    }
+
+    fn put(&mut self, id: ObjId, row: Option<ThreadRow>)
+        requires { IsSome (row_of self.old id) }
+        ensures rows { (t : ObjId) → row_of self.new t ≡ cond (same t id) row (row_of self.old t) }
+        ensures mails { self.new.mails ≡ self.old.mails }
+        ensures made { made self.new ≡ made self.old }
+    {
+        keep(&mut self.rows, id, row);
+    }
+
+    fn put_mail(&mut self, id: ObjId, mail: Option<Mail>)
+        requires { IsSome (row_of self.old id) }
+        ensures mails { (t : ObjId) → mail_of self.new t ≡ cond (same t id) mail (mail_of self.old t) }
+        ensures rows { self.new.rows ≡ self.old.rows }
+    {
+        keep(&mut self.mails, id, mail);
+    }
+
+    /// Sets the mode of a thread; None for what is no thread, was never made or was closed: then nothing changes (manual: Threads
+    /// and Execution).
+    pub fn set_mode(&mut self, id: ObjId, mode: Mode) -> Option<()>
+        ensures found { IsSome result ↔ IsSome (row_of self.old id) }
+        ensures changed { ChangesRow (λ r. record r { mode = mode }) self.old self.new id }
+        ensures missing { IfNone result (self.new ≡ self.old) }
+    {
+        let row = *self.get(id)?;
+        self.put(id, Some(ThreadRow { mode, ..row }));
+        Some(())
+    }
+
+    /// Sets the priority of a thread; None like `set_mode` (manual: Threads and Execution).
+    pub fn set_prio(&mut self, id: ObjId, priority: Prio) -> Option<()>
+        ensures found { IsSome result ↔ IsSome (row_of self.old id) }
+        ensures changed { ChangesRow (λ r. record r { priority = priority }) self.old self.new id }
+        ensures missing { IfNone result (self.new ≡ self.old) }
+    {
+        let row = *self.get(id)?;
+        self.put(id, Some(ThreadRow { priority, ..row }));
+        Some(())
+    }
+
+    /// Blocks a thread on a line or on a reply object, whatever blocked it before; None like `set_mode` (manual: Message Passing).
+    pub fn block(&mut self, id: ObjId, block: Block) -> Option<()>
+        ensures found { IsSome result ↔ IsSome (row_of self.old id) }
+        ensures changed { ChangesRow (λ r. record r { block = Some block }) self.old self.new id }
+        ensures missing { IfNone result (self.new ≡ self.old) }
+    {
+        let row = *self.get(id)?;
+        let block = Some(block);
+        self.put(id, Some(ThreadRow { block, ..row }));
+        Some(())
+    }
+
+    /// Nothing blocks a thread any more; None like `set_mode` (manual: Message Passing).
+    pub fn unblock(&mut self, id: ObjId) -> Option<()>
+        ensures found { IsSome result ↔ IsSome (row_of self.old id) }
+        ensures changed { ChangesRow (λ r. record r { block = None }) self.old self.new id }
+        ensures missing { IfNone result (self.new ≡ self.old) }
+    {
+        let row = *self.get(id)?;
+        let block = None;
+        self.put(id, Some(ThreadRow { block, ..row }));
+        Some(())
+    }
+
+    /// Binds a notification to a thread; None like `set_mode` (manual: Notifications).
+    pub fn tie(&mut self, id: ObjId, notification: ObjId) -> Option<()>
+        ensures found { IsSome result ↔ IsSome (row_of self.old id) }
+        ensures changed { ChangesRow (λ r. record r { notification = Some notification }) self.old self.new id }
+        ensures missing { IfNone result (self.new ≡ self.old) }
+    {
+        let row = *self.get(id)?;
+        let notification = Some(notification);
+        self.put(
+            id,
+            Some(ThreadRow {
+                notification,
+                ..row
+            }),
+        );
+        Some(())
+    }
+
+    /// No notification is bound to a thread any more; None like `set_mode` (manual: Notifications).
+    pub fn untie(&mut self, id: ObjId) -> Option<()>
+        ensures found { IsSome result ↔ IsSome (row_of self.old id) }
+        ensures changed { ChangesRow (λ r. record r { notification = None }) self.old self.new id }
+        ensures missing { IfNone result (self.new ≡ self.old) }
+    {
+        let row = *self.get(id)?;
+        let notification = None;
+        self.put(
+            id,
+            Some(ThreadRow {
+                notification,
+                ..row
+            }),
+        );
+        Some(())
+    }
+
+    /// Gives a thread a mail in place of the one that it had; None like `set_mode` (manual: Message Passing).
+    pub fn set_mail(&mut self, id: ObjId, mail: Mail) -> Option<()>
+        ensures found { IsSome result ↔ IsSome (row_of self.old id) }
+        ensures mails { IsSome (row_of self.old id) → (t : ObjId) → mail_of self.new t ≡ cond (same t id) (Some mail) (mail_of self.old t) }
+        ensures rows { SameRows self.old self.new }
+        ensures made { made self.new ≡ made self.old }
+        ensures missing { IfNone result (self.new ≡ self.old) }
+    {
+        self.get(id)?;
+        self.put_mail(id, Some(mail));
+        Some(())
+    }
+
+    /// Forgets a thread and its mail: its serial is never given again. None like `set_mode` (manual: Kernel Services and Objects).
+    pub fn close(&mut self, id: ObjId) -> Option<()>
+        ensures found { IsSome result ↔ IsSome (row_of self.old id) }
+        ensures rows { (t : ObjId) → row_of self.new t ≡ cond (same t id) None (row_of self.old t) }
+        ensures mails { IsSome (row_of self.old id) → (t : ObjId) → mail_of self.new t ≡ cond (same t id) None (mail_of self.old t) }
+        ensures made { made self.new ≡ made self.old }
+        ensures missing { IfNone result (self.new ≡ self.old) }
+    {
+        self.get(id)?;
+        self.put_mail(id, None);
+        self.put(id, None);
+        Some(())
+    }
+}
