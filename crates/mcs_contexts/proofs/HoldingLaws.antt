@@ -14,11 +14,12 @@ use Rattle.mcs_types.proofs.Ids.{parts, same_kind-self, same_kind-equal, same-se
 use Rattle.mcs_contexts.specs.declared.contexts.ContextRow.{ContextRow}
 use Rattle.mcs_contexts.specs.Holding.{Holding, id_at, core_at, core_in, holder_in, context_in, is_the, holds, IsThread, IsOneToOne, IsHolding}
 
--- places of objects
+-- a number that is given where a test holds
 cond-some : (b : Bool) (m n : ℕ) → cond b (Some m) None ≡ Some n → (b ≡ true) × (m ≡ n)
 cond-some true m n h = (refl, cc)
 cond-some false m n h = absurd (cc)
 
+-- an object that has a place, by its kind and its serial
 pub index-some : (k : Kind) (x : ObjId) (n : ℕ) → place_of k x ≡ Some n → (x.kind ≡ k) × (x.serial ≡ n + 1)
 index-some k x n h =
     let a = cond-some _ _ n h in
@@ -33,6 +34,7 @@ is_place : Option ℕ → ℕ → Bool
 is_place None n = false
 is_place (Some m) n = m == n
 
+-- two objects are one where they have one place
 same-place : (k : Kind) (x y : ObjId) (n : ℕ) (i : Option ℕ) → place_of k x ≡ i → place_of k y ≡ Some n → same x y ≡ is_place i n
 unfolding is_place
 same-place k x y n None h e = same-other x y (λ p. let q : place_of k x ≡ place_of k y = ap (place_of k) p in absurd (cc))
@@ -54,6 +56,7 @@ read-set xs n m h lt = go (m == n) refl
     go true e = let same_place : m ≡ n = eqb-true m n e in rw same_place (get_or-set_same xs n h None lt)
     go false e = get_or-set_other xs n m h None (λ p. let q = eq-eqb m n p in absurd (cc))
 
+-- what an object has after that of another was written
 pub at-set : (k : Kind) (xs : List (Option ObjId)) (x y : ObjId) (n : ℕ) (h : Option ObjId) → place_of k y ≡ Some n → n < length xs → id_at (set xs n h) (place_of k x) ≡ cond (same x y) h (id_at xs (place_of k x))
 unfolding is_place
 at-set k xs x y n h e lt = go (place_of k x) refl
@@ -98,6 +101,7 @@ half-bound H C K D s t pairs idle new_h new_c a b held = go (same a s) (same b t
     go false true e f h = let k = same-equal b t f in let l = pairs a b h in absurd (let j : C b ≡ None = rw k idle in cc)
     go false false e f h = new_c b ∙ rw f (pairs a b h)
 
+-- the same, where a pair is taken away
 pub half-freed : (H C K D : ObjId → Option ObjId) (s t : ObjId) → ((a b : ObjId) → H a ≡ Some b → C b ≡ Some a) → C t ≡ Some s
     → ((x : ObjId) → K x ≡ cond (same x s) None (H x)) → ((x : ObjId) → D x ≡ cond (same x t) None (C x)) → (a b : ObjId) → K a ≡ Some b → D b ≡ Some a
 half-freed H C K D s t pairs had new_h new_c a b held = go (same a s) (same b t) refl refl (sym (new_h a) ∙ held)
@@ -107,6 +111,7 @@ half-freed H C K D s t pairs had new_h new_c a b held = go (same a s) (same b t)
     go false true e f h = let k = same-equal b t f in let l = pairs a b h in let m : C b ≡ Some s = rw k had in let n : s ≡ a = cc in let o = same-self a in absurd (let j : same a s ≡ true = rw n o in cc)
     go false false e f h = new_c b ∙ rw f (pairs a b h)
 
+-- holding stays one to one where a pair is added, taken away, or nothing changes
 pub bound : (v w : Holding) (s t : ObjId) → IsOneToOne v → holder_in v s ≡ None → context_in v t ≡ None
     → ((x : ObjId) → holder_in w x ≡ cond (same x s) (Some t) (holder_in v x)) → ((x : ObjId) → context_in w x ≡ cond (same x t) (Some s) (context_in v x)) → IsOneToOne w
 bound v w s t one free idle new_h new_c = record {
@@ -242,6 +247,7 @@ written-lengths v s h t c all one = record {
   one_to_one = one;
 }
 
+-- what holds of all contexts after a pair was added, and after one was taken away
 pub attached : (v : Holding) (s t : ObjId) → IsHolding v → IsSome (core_in v s) → IsThread t → holder_in v s ≡ None → context_in v t ≡ None → IsHolding (written v s (Some t) t (Some s))
 attached v s t all made thread free idle =
     written-lengths v s (Some t) t (Some s) all (bound v (written v s (Some t) t (Some s)) s t all.one_to_one free idle (written-holders v s (Some t) t (Some s) all made) (written-contexts v s (Some t) t (Some s) all thread))
@@ -254,6 +260,7 @@ released v s t all held =
 abbrev pub seen : List ContextRow → List (Option ObjId) → Holding
 seen rows held = record { cores = map (λ r. r.core) rows; holders = map (λ r. r.holder) rows; held = held }
 
+-- the rows after one write and after one more, as a contract sees them
 pub seen-written : (rows : List ContextRow) (held : List (Option ObjId)) (v : Holding) (s : ObjId) (row : ContextRow) (h : Option ObjId) (t : ObjId) (c : Option ObjId) → seen rows held ≡ v → row ≡ get_or rows (s.serial - 1) row
     → seen (set rows (s.serial - 1) (record { core = row.core; holder = h })) (set held (t.serial - 1) c) ≡ written v s h t c
 unfolding written
@@ -271,6 +278,7 @@ seen-added rows held v core is =
     let both : seen (rows ++ record { core = core; holder = None } ∷ []) held ≡ record { cores = (seen rows held).cores ++ core ∷ []; holders = (seen rows held).holders ++ None ∷ []; held = held } = λ i. record { cores = cores i; holders = holders i; held = held } in
     both ∙ ap (λ (w : Holding). record { cores = w.cores ++ core ∷ []; holders = w.holders ++ None ∷ []; held = w.held }) is
 
+-- what holds of all contexts after one more was made
 pub added : (v : Holding) (core : CoreId) → IsHolding v → length v.cores < 256 → IsHolding (record { cores = v.cores ++ core ∷ []; holders = v.holders ++ None ∷ []; held = v.held })
 added v core all few =
     let a = length-append v.cores (core ∷ []) in

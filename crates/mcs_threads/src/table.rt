@@ -86,6 +86,7 @@ impl Threads {
         kept_at(&self.mails, id)
     }
 
+    /// Keeps this row, or none, for a thread that is there.
     fn put(&mut self, id: ObjId, row: Option<ThreadRow>)
         requires { IsSome (row_of self.old id) }
         ensures rows { (t : ObjId) → row_of self.new t ≡ cond (same t id) row (row_of self.old t) }
@@ -95,6 +96,7 @@ impl Threads {
         keep(&mut self.rows, id, row);
     }
 
+    /// Keeps this mail, or none, for a thread that is there.
     fn put_mail(&mut self, id: ObjId, mail: Option<Mail>)
         requires { IsSome (row_of self.old id) }
         ensures mails { (t : ObjId) → mail_of self.new t ≡ cond (same t id) mail (mail_of self.old t) }

@@ -84,6 +84,7 @@ impl<L: Lines> State<L> {
         self.threads.mail(id)
     }
 
+    /// The capability to the root of a thread's capability space; None where it was never made.
     fn root(&self, thread: ThreadNo) -> Option<Cap>
         ensures { result ≡ root_of (so_far self.now) (thread_at thread.0) }
     {
