@@ -10,7 +10,8 @@ use Rattle.mcs_types.specs.declared.record.Ending.TheVariants.{Deleted, Cancelle
 use Rattle.mcs_types.specs.declared.record.Rec.{Rec}
 use Rattle.mcs_types.specs.declared.record.Rec.TheVariants as rec
 use Rattle.mcs_types.specs.Ids.{same}
-use Rattle.mcs_book.specs.Logs.{Log, given, is_just}
+use Rattle.mcs_book.specs.Logs.{Log, given}
+use Rattle.mcs_types.specs.Ids.{is_just}
 use Rattle.mcs_book.specs.Objects.{was_closed, was_made}
 use Rattle.mcs_book.specs.Contexts.{holder_of}
 use Rattle.mcs_book.specs.Replies.{owed_by}

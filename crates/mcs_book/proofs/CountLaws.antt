@@ -162,7 +162,7 @@ last-one R c i cap held none = counted-drop p q at passes fails agree (written R
     agree b e = ap (λ v. is_cap_to cap.obj (unwrap_or (given v None) (slot R b.cnode b.index))) (sym (same_slot-flip at b e))
 
 -- what was closed was made
-closed-made : (R : Log) (o : ObjId) → Sound R → was_closed R o ≡ true → was_made R o ≡ true
+pub closed-made : (R : Log) (o : ObjId) → Sound R → was_closed R o ≡ true → was_made R o ≡ true
 closed-made [] o sound h = absurd cc
 closed-made (rec.Closed d ∷ R) o sound h = go (same o d) refl h (closed-made R o sound.1)
   where

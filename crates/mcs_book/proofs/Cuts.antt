@@ -3,7 +3,7 @@ use Rattle.std.proofs.Common.{◌≡◌, ◌∙◌, ℕ, zero, suc, ◌≤◌, �
 use Rattle.std.proofs.Math.Seq.{take-length}
 use Rattle.std.proofs.lemmas.List.{take-append-le, drop-append-le, drop-drop}
 use Rattle.mcs_types.specs.declared.record.Rec.{Rec}
-use Rattle.mcs_book.specs.declared.book.Entered.{Entered}
+use Rattle.mcs_packing.specs.Heads.{Entered}
 use Rattle.mcs_book.specs.Pages.{cut, start_at, EndsRise}
 
 -- the last end is not before the first start

@@ -18,7 +18,7 @@ use Rattle.mcs_book.specs.Queues.{queue_of}
 use Rattle.mcs_book.specs.Replies.{owed_by}
 use Rattle.mcs_book.specs.Checks.{Passed, ◌>>◌, need}
 use Rattle.mcs_book.specs.Lookup.{radix_kept}
-use Rattle.mcs_book.specs.Placing.{core_limit}
+use Rattle.mcs_types.specs.Limits.{core_limit}
 use Rattle.mcs_book.specs.Boots.{boot_line, boot_log, begins, begins_with, root_cap, is_object, fits_kind, fits_guard, has_no_rights, has_numbers, has_objects, is_context_any, boot_check, AreFaultless}
 use Rattle.mcs_book.specs.Sound.{IsThere, IsFormOf, HoldsNone}
 use Rattle.mcs_types.proofs.Ids.{same_kind-equal, parts, both}

@@ -15,7 +15,8 @@ use Rattle.mcs_types.specs.declared.record.Queue.TheVariants.{Waiters}
 use Rattle.mcs_types.specs.declared.record.Rec.{Rec}
 use Rattle.mcs_types.specs.declared.record.Rec.TheVariants as rec
 use Rattle.mcs_types.specs.Ids.{same, same_kind}
-use Rattle.mcs_book.specs.Logs.{Log, is_just}
+use Rattle.mcs_book.specs.Logs.{Log}
+use Rattle.mcs_types.specs.Ids.{is_just}
 use Rattle.mcs_book.specs.Objects.{made_of, was_made, was_closed, form_of}
 use Rattle.mcs_book.specs.Slots.{slot}
 use Rattle.mcs_book.specs.Threads.{threads, root_kept, root_of}
@@ -134,7 +135,7 @@ find-misses p (x ∷ xs) y i h none = go (p x) refl i none (λ j k. find-misses 
     go false e (inr j) none later = later j none
 
 -- what is found is in the list
-find-in : (p : ObjId → Bool) (xs : List ObjId) (y : ObjId) → find p xs ≡ Some y → In y xs
+pub find-in : (p : ObjId → Bool) (xs : List ObjId) (y : ObjId) → find p xs ≡ Some y → In y xs
 find-in p [] y h = absurd cc
 find-in p (x ∷ xs) y h = go (p x) h (find-in p xs y)
   where
@@ -143,7 +144,7 @@ find-in p (x ∷ xs) y h = go (p x) h (find-in p xs y)
     go false e later = inr (later e)
 
 -- who is among the objects of a kind was made, and is of that kind
-in-made : (R : Log) (o : ObjId) (k : Kind) → In o (made_of R k) → (o.kind ≡ k) × (was_made R o ≡ true)
+pub in-made : (R : Log) (o : ObjId) (k : Kind) → In o (made_of R k) → (o.kind ≡ k) × (was_made R o ≡ true)
 in-made [] o k i = absurd i
 in-made (rec.Made d form ∷ R) o k i = go (same_kind d.kind k) refl i (in-made R o k)
   where

@@ -8,7 +8,8 @@ use Rattle.mcs_types.specs.declared.record.Ending.{Ending}
 use Rattle.mcs_types.specs.declared.record.Ending.TheVariants.{Deleted, Cancelled}
 use Rattle.mcs_types.specs.declared.record.Rec.TheVariants as rec
 use Rattle.mcs_types.specs.Ids.{same, same_kind}
-use Rattle.mcs_book.specs.Logs.{Log, given, is_just}
+use Rattle.mcs_book.specs.Logs.{Log, given}
+use Rattle.mcs_types.specs.Ids.{is_just}
 use Rattle.mcs_book.specs.Queues.{head_of}
 use Rattle.mcs_book.specs.Contexts.{contexts, holder_of}
 use Rattle.mcs_book.specs.Replies.{owed_by, brought_to}

@@ -5,7 +5,8 @@ use Rattle.mcs_types.specs.declared.id.ObjId.{ObjId}
 use Rattle.mcs_types.specs.declared.id.Kind.TheVariants as kind
 use Rattle.mcs_types.specs.declared.record.Rec.TheVariants as rec
 use Rattle.mcs_types.specs.Ids.{same, same_kind}
-use Rattle.mcs_book.specs.Logs.{Log, given, is_just}
+use Rattle.mcs_book.specs.Logs.{Log, given}
+use Rattle.mcs_types.specs.Ids.{is_just}
 use Rattle.mcs_book.specs.Contexts.{contexts, holder_of, context_of}
 use Rattle.mcs_book.specs.Sound.{Sound}
 use Rattle.mcs_types.proofs.Ids.{same-self, same-equal}

@@ -1,6 +1,7 @@
 pub mod Computing
 pub mod Rows
 pub mod Cuts
+pub mod Appending
 pub mod Same
 pub mod Sorted
 pub mod MadeLaws
@@ -36,6 +37,7 @@ pub mod FirmTable
 pub mod FirmBoots
 pub mod SoundBooks
 pub mod Making
+pub mod ServedLaws
 pub mod MailLaws
 pub mod Safety
 pub mod WholeRecords

@@ -135,11 +135,11 @@ plain-back s x = record { passes = λ R. go s (context_of R x) }
     go (Some s) (Some s') = tt
 
 -- a test that the records of a cancellation pass
-record CancelPasses (q : Rec → Bool) : Type 0 where
-  drops : (m : ℕ) → q (rec.Dropped m) ≡ true
-  leaves : (x : ObjId) (k : Queue) → q (rec.Parts x k) ≡ true
-  voids : (r x : ObjId) → q (rec.Void r x Cancelled) ≡ true
-  turns : (x : ObjId) (mode : Mode) → q (rec.Turns x mode) ≡ true
+pub record CancelPasses (q : Rec → Bool) : Type 0 where
+  pub drops : (m : ℕ) → q (rec.Dropped m) ≡ true
+  pub leaves : (x : ObjId) (k : Queue) → q (rec.Parts x k) ≡ true
+  pub voids : (r x : ObjId) → q (rec.Void r x Cancelled) ≡ true
+  pub turns : (x : ObjId) (mode : Mode) → q (rec.Turns x mode) ≡ true
 
 module _ (q : Rec → Bool) (h : CancelPasses q) where
   -- x leaves its line, with its message if it is a sender
@@ -159,7 +159,7 @@ module _ (q : Rec → Bool) (h : CancelPasses q) where
   makes-cancel x mode = record { passes = λ R. (makes-then q (leave R x (queue_of R x)) _ (makes-leave R x (queue_of R x)) (makes-say q (rec.Turns x mode) (h.turns x mode))).passes R }
 
   -- a reply object is freed
-  makes-free : (r : ObjId) → Makes q (free r)
+  pub makes-free : (r : ObjId) → Makes q (free r)
   unfolding free
   makes-free r = record { passes = λ R. (makes-any q (user_of R r) _ (λ x. makes-cancel x Inactive)).passes R }
 

@@ -8,7 +8,8 @@ use Rattle.mcs_types.specs.declared.record.Queue.{Queue}
 use Rattle.mcs_types.specs.declared.record.Rec.{Rec}
 use Rattle.mcs_types.specs.declared.record.Rec.TheVariants as rec
 use Rattle.mcs_types.specs.Ids.{same}
-use Rattle.mcs_book.specs.Logs.{Log, onto, given, is_just}
+use Rattle.mcs_book.specs.Logs.{Log, onto, given}
+use Rattle.mcs_types.specs.Ids.{is_just}
 use Rattle.mcs_book.specs.Objects.{was_made, was_closed, is_alive}
 use Rattle.mcs_book.specs.Slots.{slot}
 use Rattle.mcs_book.specs.Threads.{root_kept}

@@ -5,7 +5,7 @@ use Rattle.mcs_types.specs.declared.id.ObjId.{ObjId}
 use Rattle.mcs_types.specs.declared.record.Queue.{Queue}
 use Rattle.mcs_types.specs.declared.record.Queue.TheVariants.{Senders, Receivers, Waiters}
 use Rattle.mcs_types.proofs.Ids.{same-self, same-equal}
-use Rattle.mcs_book.specs.Logs.{is_just}
+use Rattle.mcs_types.specs.Ids.{is_just}
 use Rattle.mcs_book.specs.Queues.{same_queue, is_queue}
 
 -- an option that is this object

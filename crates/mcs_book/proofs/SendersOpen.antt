@@ -266,11 +266,3 @@ legal-not_cancelled b legal = after-map Rests SendersAreOpen rests-senders (boot
 -- the same of the log so far
 pub legal-senders : (b : Book) → IsLegal b → SendersAreOpen (log_of b)
 legal-senders b legal = rests-senders (log_of b) (legal-rests b legal)
-
--- no sender waits beside a receiver so far
-pub legal-beside : (b : Book) → IsLegal b → NoneWaitBeside (log_of b)
-legal-beside b legal = (legal-rests b legal).calm.none
-
--- who stands in a line so far is a thread that was made
-pub legal-standing : (b : Book) → IsLegal b → (x : ObjId) (q : Queue) → queue_of (log_of b) x ≡ Some q → (x.kind ≡ kind.Thread) × (was_made (log_of b) x ≡ true)
-legal-standing b legal = (legal-rests b legal).calm.made

@@ -8,7 +8,8 @@ use Rattle.mcs_types.specs.declared.record.Queue.{Queue}
 use Rattle.mcs_types.specs.declared.record.Queue.TheVariants.{Senders, Receivers, Waiters}
 use Rattle.mcs_types.specs.declared.record.Rec.TheVariants as rec
 use Rattle.mcs_types.specs.Ids.{same}
-use Rattle.mcs_book.specs.Logs.{Log, given, is_just}
+use Rattle.mcs_book.specs.Logs.{Log, given}
+use Rattle.mcs_types.specs.Ids.{is_just}
 use Rattle.mcs_book.specs.Threads.{threads}
 use Rattle.mcs_book.specs.Queues.{queue_of, reply_with, receives_at, is_receiving}
 use Rattle.mcs_book.specs.Replies.{receiver_with}

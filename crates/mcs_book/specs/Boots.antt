@@ -21,7 +21,7 @@ use Rattle.mcs_book.specs.Slots.{slot}
 use Rattle.mcs_book.specs.Contexts.{holder_of}
 use Rattle.mcs_book.specs.Checks.{Passed, ◌>>◌, need}
 use Rattle.mcs_book.specs.Lookup.{radix_kept}
-use Rattle.mcs_book.specs.Placing.{object_limit, cnode_limit, core_limit}
+use Rattle.mcs_types.specs.Limits.{object_limit, cnode_limit, core_limit}
 
 -- a boot: the number of cores, and the lines after that one, the newest first
 pub record Boot : Type 0 where

@@ -6,7 +6,8 @@ use Rattle.mcs_types.specs.declared.record.Ending.{Ending}
 use Rattle.mcs_types.specs.declared.record.Ending.TheVariants.{Deleted, Cancelled}
 use Rattle.mcs_types.specs.declared.record.Rec.TheVariants.{Closed, Prio, Joins, Parts, Sent, Took, Dropped, Owes, Paid, Void, Raised, Heard}
 use Rattle.mcs_types.specs.Ids.{same}
-use Rattle.mcs_book.specs.Logs.{Log, is_just}
+use Rattle.mcs_book.specs.Logs.{Log}
+use Rattle.mcs_types.specs.Ids.{is_just}
 use Rattle.mcs_book.specs.Threads.{prio_of}
 use Rattle.mcs_book.specs.Queues.{same_queue}
 use Rattle.mcs_types.specs.declared.record.Letter.{Letter}

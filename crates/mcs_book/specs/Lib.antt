@@ -14,6 +14,7 @@ pub mod Checks
 pub mod Rights
 pub mod Lookup
 pub mod Guards
+pub mod Fits
 pub mod Paths
 pub mod Served
 pub mod Pieces

@@ -1,7 +1,11 @@
--- How a book is kept: the records of all lines side by side, and where each line ends.
+-- How a book is kept: the records of all lines side by side, and where each line ends, over what was packed.
 use Rattle.std.specs.Prelude.{ℕ, zero, suc, ◌≡◌, ◌≤◌, ◌-◌, List, [], ◌∷◌, take, drop}
 use Rattle.mcs_types.specs.declared.record.Rec.{Rec}
-use Rattle.mcs_book.specs.declared.book.Entered.{Entered}
+use Rattle.mcs_packing.specs.declared.arena.Arena.{Arena}
+use Rattle.mcs_packing.specs.declared.heads.Head.{Head}
+use Rattle.mcs_packing.specs.declared.packed.Packed.{Packed}
+use Rattle.mcs_packing.specs.Packing.{records_of}
+use Rattle.mcs_packing.specs.Heads.{Entered, all_entered}
 use Rattle.mcs_book.specs.History.{Line, Book}
 
 -- a book, how many more lines its boot has room for, and the room that was made for one more line:
@@ -15,6 +19,14 @@ pub record Written : Type 0 where
 abbrev pub cut : ℕ → List Entered → List Rec → List Line
 cut start [] rs = []
 cut start (h ∷ hs) rs = record { step = h.step; answer = h.answer; records = take (h.end - start) rs } ∷ cut h.end hs (drop (h.end - start) rs)
+
+-- the lines of what was packed, the oldest first
+abbrev pub lines_of : List Head → List Packed → List ℕ → List Rec → List Line
+lines_of hs ps ws rs = cut 0 (all_entered hs ws) (records_of ps ws rs)
+
+-- the records that were packed, the oldest first
+abbrev pub facts : List Packed → Arena → List Rec
+facts ps a = records_of ps a.words.items a.wide.items
 
 -- the ends rise from a position to the number of records
 abbrev pub EndsRise : ℕ → List Entered → ℕ → Type 0

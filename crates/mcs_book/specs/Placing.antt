@@ -10,6 +10,7 @@ use Rattle.mcs_types.specs.declared.record.Queue.TheVariants.{Senders}
 use Rattle.mcs_types.specs.declared.record.Rec.TheVariants.{Made, Slot}
 use Rattle.mcs_types.specs.declared.entry.Answer.TheVariants.{Done}
 use Rattle.mcs_types.specs.declared.entry.Refusal.TheVariants.{SlotFull, SlotEmpty, NoRoom}
+use Rattle.mcs_types.specs.Limits.{object_limit}
 use Rattle.mcs_book.specs.Logs.{Log}
 use Rattle.mcs_book.specs.Objects.{next_id, number_of}
 use Rattle.mcs_book.specs.Slots.{SlotName, slot, count_of}
@@ -54,18 +55,6 @@ destroy_last o R = cond (count_of R o == 0) (destroy o) nothing R
 unfoldable pub delete : SlotName → Option Cap → Act
 delete at None = answers Done nothing
 delete at (Some cap) = answers Done (fills at None then destroy_last cap.obj)
-
--- how many objects of a kind there may be at a time, but for CNodes
-abbrev pub object_limit : ℕ
-object_limit = 256
-
--- how many CNodes there may be
-abbrev pub cnode_limit : ℕ
-cnode_limit = 64
-
--- how many cores a boot may have
-abbrev pub core_limit : ℕ
-core_limit = 16
 
 -- a new object, with a capability of these rights in an empty slot
 unfoldable pub make : Log → ObjId → Kind → ℕ → Form → Place → Checked Act

@@ -1,55 +1,35 @@
--- What the code serves so far. Each of these ends when all of it is built: then every entry and kind is served.
-use Rattle.std.specs.Prelude.{Bool, true, false, ◌≡◌, ◌≤◌, [], ◌∷◌}
+-- What served entries leave, and the kinds that are served so far. This ends when all is built: then every kind is served.
+use Rattle.std.specs.Prelude.{Bool, true, false, ◌≡◌, Option, Some, None, [], ◌∷◌}
+use Rattle.mcs_types.specs.declared.id.ObjId.{ObjId}
 use Rattle.mcs_types.specs.declared.id.Kind.{Kind}
 use Rattle.mcs_types.specs.declared.id.Kind.TheVariants.{Notification, Reply}
-use Rattle.mcs_types.specs.declared.record.Form.{Form}
-use Rattle.mcs_types.specs.declared.record.Form.TheVariants.{Slots, Runner}
-use Rattle.mcs_types.specs.declared.record.SendMode.TheVariants.{Plain}
+use Rattle.mcs_types.specs.declared.record.SendMode.TheVariants.{Plain, Call, Mute}
 use Rattle.mcs_types.specs.declared.record.Rec.{Rec}
-use Rattle.mcs_types.specs.declared.record.Rec.TheVariants.{Made, Slot, Prio, Turns, Joins, Parts, Sent, Took, Holds}
-use Rattle.mcs_types.specs.declared.entry.Entry.{Entry}
-use Rattle.mcs_types.specs.declared.entry.Entry.TheVariants.{Send, NbSend, Recv, NbRecv, Wait, NbWait, BindCtx, UnbindCtx, CopyCap, MintCap, MoveCap}
+use Rattle.mcs_types.specs.declared.record.Rec.TheVariants.{Sent, Owes, Tied}
+use Rattle.mcs_types.specs.declared.record.Letter.{Letter}
 use Rattle.mcs_book.specs.Logs.{Log}
-use Rattle.mcs_book.specs.Guards.{FitsGuard, FitsSlot}
+use Rattle.mcs_book.specs.Messages.{open_of}
+use Rattle.mcs_book.specs.Notifications.{bound_of}
+use Rattle.mcs_book.specs.Replies.{owed_by}
 
--- the entries that the kernel takes
-abbrev pub IsServed : Entry → Type 0
-IsServed (Send a message) = Unit {0}
-IsServed (NbSend a message) = Unit {0}
-IsServed (Recv a r) = Unit {0}
-IsServed (NbRecv a r) = Unit {0}
-IsServed (Wait a) = Unit {0}
-IsServed (NbWait a) = Unit {0}
-IsServed (BindCtx s x) = Unit {0}
-IsServed (UnbindCtx s) = Unit {0}
-IsServed (CopyCap source dest rights) = Unit {0}
-IsServed (MintCap source dest rights badge) = Unit {0}
-IsServed (MoveCap source dest) = Unit {0}
-IsServed _ = ⊥
+-- whether a served entry may make this record: it is no debt, binds no notification, and is no call
+abbrev pub is_served : Rec → Bool
+is_served (Owes r x s) = false
+is_served (Tied t n) = false
+is_served (Sent x e Call badge message) = false
+is_served (Sent x e Mute badge message) = false
+is_served _ = true
 
--- a CNode has 2 to 256 slots, and the guard of a thread's root fits its size
-abbrev pub IsServedForm : Form → Type 0
-IsServedForm (Slots radix) = (1 ≤ radix) × (radix ≤ 8)
-IsServedForm (Runner maximum root) = FitsGuard root.guard
-IsServedForm _ = Unit {0}
-
--- the records that the state takes: the guard of a capability to a CNode fits its size, and no message is a call
-abbrev pub IsServedRecord : Rec → Type 0
-IsServedRecord (Made o form) = IsServedForm form
-IsServedRecord (Slot c i cap) = FitsSlot cap
-IsServedRecord (Prio t p) = Unit {0}
-IsServedRecord (Turns t mode) = Unit {0}
-IsServedRecord (Joins t q reply) = Unit {0}
-IsServedRecord (Parts t q) = Unit {0}
-IsServedRecord (Sent x e mode badge message) = mode ≡ Plain
-IsServedRecord (Took m p) = Unit {0}
-IsServedRecord (Holds s t) = Unit {0}
-IsServedRecord _ = ⊥
-
--- all records are of these kinds
+-- each record is such
 abbrev pub AreServed : Log → Type 0
 AreServed [] = Unit {0}
-AreServed (rec ∷ R) = IsServedRecord rec × AreServed R
+AreServed (rec ∷ R) = (is_served rec ≡ true) × AreServed R
+
+-- no reply object owes anybody, no thread is bound to a notification, and no open message is a call
+pub record IsPlain (R : Log) : Type 0 where
+  pub owed : (r : ObjId) → owed_by R r ≡ None
+  pub bound : (t : ObjId) → bound_of R t ≡ None
+  pub sends : (x : ObjId) (s : Letter) → open_of R x ≡ Some s → s.mode ≡ Plain
 
 -- the kinds over which one sends and receives: not yet notifications and reply objects, which are refused as of a wrong kind
 abbrev pub serves_kind : Kind → Bool

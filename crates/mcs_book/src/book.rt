@@ -1,119 +1,228 @@
-//! The book: all lines, with their records side by side.
-ghost use Rattle.std.specs.Prelude.{◌≡◌, ◌<◌, ◌≤◌, ◌∷◌, [], ◌+◌, ◌-◌, ◌==◌, take, drop, if◌then◌else◌, OnOk, OnErr, reverse, length, slice_get, vec_len, vec_capacity};
-ghost use Rattle.mcs_book.specs.Pages.{cut, start_at, EndsRise};
+//! The book: all lines, kept packed, with their records side by side.
+ghost use Rattle.std.specs.Prelude.{◌≡◌, ◌<◌, ◌≤◌, ◌∷◌, ◌++◌, [], ◌+◌, ◌-◌, ◌==◌, take, drop, if◌then◌else◌, OnOk, OnErr, reverse, length, slice_get, vec_len, vec_capacity};
+ghost use Rattle.mcs_packing.specs.Packing.{AllFit, GrowsBy, HasRoom, records_of};
+ghost use Rattle.mcs_packing.specs.Heads.{AllHeadsFit, all_entered};
+ghost use Rattle.mcs_book.specs.Pages.{EndsRise, facts, lines_of, start_at};
 
-use mcs_types::{Answer, BootLine, OutOfMemory, Rec, Step};
+use mcs_packing::{Arena, Head, Packed, unpack, unpack_answer, unpack_entry};
+use mcs_types::{Answer, BootLine, ObjId, OutOfMemory, Rec, Step};
 use std::alloc::Global;
 use std::marker::Model;
 
-/// An entry that was let in, its answer, and where its records end.
-#[derive(Drop)]
-struct Entered {
-    step: Step,
-    answer: Answer,
-    end: usize,
-}
-
-/// A line of the book: an entry by a thread on a core, its answer, and its records.
+/// A line of the book: an entry by a thread on a core, its answer, and its records. It is read by value, and takes no
+/// memory from an allocator.
 #[derive(Drop)]
 pub struct Line<'a> {
-    step: &'a Step,
-    answer: &'a Answer,
-    records: &'a [Rec],
+    head: &'a Head,
+    packed: &'a [Packed],
+    words: &'a [u64],
+    wide: &'a [Rec],
 }
 
 impl<'a> Model for Line<'a> {
+    ghost use Rattle.mcs_packing.specs.Packing.{AllFit, records_of};
+    ghost use Rattle.mcs_packing.specs.Heads.{HeadFits, entered_of};
     ghost use Rattle.mcs_book.specs.History.{Line};
 
     ghost Value = { Line };
 
-    ghost view = { λ l. record { step = l.step.now; answer = l.answer.now; records = l.records.now } };
+    ghost view = { λ l. record {
+      step = (entered_of l.head.now l.words.now).step;
+      answer = (entered_of l.head.now l.words.now).answer;
+      records = records_of l.packed.now l.words.now l.wide.now;
+    } };
+
+    ghost invariant = { λ l. HeadFits l.head.now l.words.now
+        × AllFit l.packed.now l.words.now l.wide.now };
 }
 
 impl<'a> Line<'a> {
     /// Who entered on which core, and the entry.
-    pub fn step(&self) -> &'a Step
-        ensures { result.now ≡ self.now.step }
+    pub fn step(&self) -> Step
+        ensures { result ≡ self.now.step }
     {
-        self.step
+        Step {
+            core: self.head.core,
+            thread: ObjId {
+                kind: self.head.kind,
+                serial: self.head.serial,
+            },
+            entry: unpack_entry(&self.head.entry, self.words),
+        }
     }
 
     /// What the entry was answered.
-    pub fn answer(&self) -> &'a Answer
-        ensures { result.now ≡ self.now.answer }
+    pub fn answer(&self) -> Answer
+        ensures { result ≡ self.now.answer }
     {
-        self.answer
+        unpack_answer(&self.head.answer, self.words)
     }
 
-    /// What the entry recorded, in the order in which it was recorded.
-    pub fn records(&self) -> &'a [Rec]
-        ensures { result.now ≡ self.now.records }
+    /// How many records there are.
+    pub fn record_count(&self) -> usize
+        ensures { result ≡ length self.now.records }
     {
-        self.records
+        self.packed.len()
+    }
+
+    /// The record of number `i`, if there is one, in the order in which they were recorded.
+    pub fn record(&self, i: usize) -> Option<Rec>
+        ensures { result ≡ slice_get self.now.records i }
+    {
+        record_at(self.packed, self.words, self.wide, i)
     }
 }
 
-/// The boot, and a line for each entry that was let in.
+/// The record that a packed one stands for, if there is one of this number.
+fn record_at(packed: &[Packed], words: &[u64], wide: &[Rec], i: usize) -> Option<Rec>
+    requires { AllFit packed.now words.now wide.now }
+    ensures { result ≡ slice_get (records_of packed.now words.now wide.now) i }
+{
+    match packed.get(i) {
+        None => None,
+        Some(one) => Some(unpack(one, words, wide)),
+    }
+}
+
+/// The boot, and a line for each entry that was let in. All is kept packed: a head for each line, the records of all
+/// lines side by side, and the words that they name. `sent` has the place of the words of each message, and `room` is 0
+/// or how many records the next line may have, and one more.
 #[derive(Drop)]
 pub struct Book {
     cores: u8,
     boot: Vec<BootLine>,
-    records: Vec<Rec>,
-    entered: Vec<Entered>,
+    heads: Vec<Head>,
+    packed: Vec<Packed>,
+    arena: Arena,
+    sent: Vec<u32>,
+    room: usize,
 }
 
 impl Model for Book {
-    ghost use Rattle.std.specs.Prelude.{ℕ, ◌-◌, ◌+◌, nat_lt, if◌then◌else◌, reverse, vec_len, vec_capacity};
-    ghost use Rattle.mcs_book.specs.Pages.{Written, cut, EndsRise};
+    ghost use Rattle.std.specs.Prelude.{reverse, vec_len, vec_capacity, ◌<◌, ◌≤◌, ◌+◌, ◌-◌};
+    ghost use Rattle.mcs_packing.specs.Packing.{AllFit, HasRoom};
+    ghost use Rattle.mcs_packing.specs.Heads.{AllHeadsFit, all_entered};
+    ghost use Rattle.mcs_book.specs.Pages.{EndsRise, Written, lines_of};
 
     ghost Value = { Written };
 
     ghost view = { λ b. record {
       book = record {
         boot = record { cores = b.cores; lines = reverse b.boot.items };
-        lines = reverse (cut 0 b.entered.items b.records.items);
+        lines = reverse (lines_of b.heads.items b.packed.items
+            b.arena.words.items b.arena.wide.items);
       };
       boot_room = vec_capacity b.boot - vec_len b.boot;
-      room = (if nat_lt (vec_len b.entered) (vec_capacity b.entered) then vec_capacity b.records - vec_len b.records + 1 else 0);
+      room = b.room;
     } };
 
-    ghost invariant = { λ b. EndsRise 0 b.entered.items (vec_len b.records) };
+    ghost invariant = { λ b. AllHeadsFit b.heads.items b.arena.words.items
+        × AllFit b.packed.items b.arena.words.items b.arena.wide.items
+        × EndsRise 0 (all_entered b.heads.items b.arena.words.items) (vec_len b.packed)
+        × (0 < b.room → HasRoom b.arena (b.room + 1))
+        × (0 < b.room → vec_len b.packed + b.room ≤ vec_capacity b.packed + 1)
+        × (0 < b.room → vec_len b.heads < vec_capacity b.heads) };
 }
 
 /// Where the records of an entry begin: where those of the one before it end.
-fn start_of(entered: &[Entered], at: usize) -> usize
-    requires { at < length entered.now }
-    ensures { result ≡ start_at 0 entered.now at }
+fn start_of(heads: &[Head], words: &[u64], at: usize) -> usize
+    requires { at < length heads.now }
+    ensures { result ≡ start_at 0 (all_entered heads.now words.now) at }
 {
-    if at == 0 { 0 } else { entered[at - 1].end }
+    if at == 0 { 0 } else { heads[at - 1].end }
 }
 
-/// The records from one position to another.
-fn part(records: &[Rec], start: usize, end: usize) -> &[Rec]
+/// The packed records from one position to another.
+fn part(packed: &[Packed], start: usize, end: usize) -> &[Packed]
     requires starts { start ≤ end }
-    requires ends { end ≤ length records.now }
-    ensures { result.now ≡ take (end - start) (drop start records.now) }
+    requires ends { end ≤ length packed.now }
+    ensures { result.now ≡ take (end - start) (drop start packed.now) }
 {
-    &records[start..end]
+    &packed[start..end]
 }
 
 /// The line of an entry, with its part of the records.
-fn line_at<'a>(entered: &'a [Entered], records: &'a [Rec], at: usize) -> Option<Line<'a>>
-    requires { EndsRise 0 entered.now (length records.now) }
-    ensures { result ≡ slice_get (cut 0 entered.now records.now) at }
+fn line_at<'a>(
+    heads: &'a [Head],
+    packed: &'a [Packed],
+    words: &'a [u64],
+    wide: &'a [Rec],
+    at: usize,
+) -> Option<Line<'a>>
+    requires heads { AllHeadsFit heads.now words.now }
+    requires records { AllFit packed.now words.now wide.now }
+    requires rise { EndsRise 0 (all_entered heads.now words.now) (length packed.now) }
+    ensures { result ≡ slice_get (lines_of heads.now packed.now words.now wide.now) at }
 {
-    match entered.get(at) {
+    match heads.get(at) {
         None => None,
-        Some(one) => {
-            let start = start_of(entered, at);
+        Some(head) => {
+            let start = start_of(heads, words, at);
             Some(Line {
-                step: &one.step,
-                answer: &one.answer,
-                records: part(records, start, one.end),
+                head,
+                packed: part(packed, start, head.end),
+                words,
+                wide,
             })
         }
     }
 }
+
+/// Notes where the words of a message that was sent stand, and answers where those of what was taken or heard do, or the
+/// place that was answered before. A place is a hint: what stands there is compared before it is shared.
+fn note(sent: &mut Vec<u32>, packed: &Packed, place: u32) -> u32 {
+    match packed {
+        Packed::Sent { at, .. } => match sent.push(*at) {
+            Ok(()) => place,
+            Err(_) => place,
+        },
+        Packed::Heard { at, .. } => *at,
+        Packed::Took { message, .. } => match sent.get(*message as usize) {
+            Some(at) => *at,
+            None => place,
+        },
+        _ => place,
+    }
+}
+
+/// Packs records, for which there is room, and answers where the words of the answer may stand.
+fn pack_all(
+    arena: &mut Arena,
+    packed: &mut Vec<Packed>,
+    sent: &mut Vec<u32>,
+    records: &[Rec],
+) -> u32
+    requires room { HasRoom arena.old (length records.now + 2) }
+    requires packed { vec_len packed.old + length records.now ≤ vec_capacity packed.old }
+    requires fit { AllFit packed.old.items arena.old.words.items arena.old.wide.items }
+    ensures value { facts packed.new.items arena.new
+        ≡ facts packed.old.items arena.old ++ records.now }
+    ensures fit { AllFit packed.new.items arena.new.words.items arena.new.wide.items }
+    ensures words { GrowsBy arena.old.words.items arena.new.words.items }
+    ensures wide { GrowsBy arena.old.wide.items arena.new.wide.items }
+    ensures room { HasRoom arena.new 2 }
+    ensures len { vec_len packed.new ≡ vec_len packed.old + length records.now }
+{
+    let mut place = 0;
+    for fact in records {
+        let one = arena.pack(fact);
+        place = note(sent, &one, place);
+        match packed.push(one) {
+            Ok(()) => {}
+            Err(_) => unreachable!(),
+        }
+    }
+    place
+}
+
+/// The most words that one record, one entry or one answer keeps.
+const MOST_WORDS: usize = 6;
+
+/// The most records of one line, for which there may be room.
+const MOST_RECORDS: usize = 1_000_000;
+
+/// The most words, and the most wide records, to which more may be added: so places stay below 2 to the 32.
+const MOST_KEPT: usize = 1 << 31;
 
 impl Book {
     /// A book whose boot has no line but that of the cores.
@@ -125,8 +234,14 @@ impl Book {
         Book {
             cores,
             boot: Vec::new(alloc),
-            records: Vec::new(alloc),
-            entered: Vec::new(alloc),
+            heads: Vec::new(alloc),
+            packed: Vec::new(alloc),
+            arena: Arena {
+                words: Vec::new(alloc),
+                wide: Vec::new(alloc),
+            },
+            sent: Vec::new(alloc),
+            room: 0,
         }
     }
 
@@ -143,7 +258,8 @@ impl Book {
     /// Adds a line to the boot, for which there is room.
     pub fn add_boot_line(&mut self, line: BootLine)
         requires { 0 < self.old.boot_room }
-        ensures { self.new.book ≡ record self.old.book { boot = record self.old.book.boot { lines = line ∷ self.old.book.boot.lines } } }
+        ensures { self.new.book ≡ record self.old.book
+            { boot = record self.old.book.boot { lines = line ∷ self.old.book.boot.lines } } }
     {
         match self.boot.push(line) {
             Ok(()) => {}
@@ -151,51 +267,84 @@ impl Book {
         }
     }
 
-    /// Makes room for one line with that many records; where there is room it takes no memory. The book is as it was.
+    /// Makes room for one line with that many records; where there is room it takes no memory. The book is as it was. It
+    /// is out of memory as well for more than 1,000,000 records, and where 2 to the 31 words are kept.
     pub fn reserve(&mut self, records: usize) -> Result<(), OutOfMemory>
         ensures room { OnOk result (records < self.new.room) }
         ensures full { OnErr result (self.old.room ≤ records) }
         ensures unchanged { self.new.book ≡ self.old.book }
     {
-        self.entered.reserve(1)?;
-        self.records.reserve(records)?;
+        if records < self.room {
+            return Ok(());
+        }
+        if MOST_RECORDS < records
+            || MOST_KEPT < self.arena.words.len()
+            || MOST_KEPT < self.arena.wide.len()
+        {
+            return Err(OutOfMemory);
+        }
+        self.heads.reserve(1)?;
+        self.packed.reserve(records)?;
+        self.arena.words.reserve(MOST_WORDS * (records + 2))?;
+        self.arena.wide.reserve(records + 2)?;
+        self.sent.reserve(records)?;
+        self.room = records + 1;
         Ok(())
     }
 
-    /// Adds a line, and moves its records in.
+    /// Adds a line, and empties the records, whose room stays.
     pub fn append(&mut self, step: Step, answer: Answer, records: &mut Vec<Rec>)
         requires { vec_len records.old < self.old.room }
-        ensures line { self.new.book ≡ record self.old.book { lines = (record { step = step; answer = answer; records = records.old.items }) ∷ self.old.book.lines } }
+        ensures line { self.new.book ≡ record self.old.book {
+          lines = (record { step = step; answer = answer; records = records.old.items })
+              ∷ self.old.book.lines;
+        } }
         ensures empty { records.new.items ≡ [] }
         ensures capacity { vec_capacity records.new ≡ vec_capacity records.old }
     {
-        match self.records.append(records) {
+        let first = self.arena.words.len() as u32;
+        self.room = 0;
+        let place = pack_all(&mut self.arena, &mut self.packed, &mut self.sent, records);
+        let entry = self.arena.pack_entry(&step.entry, first);
+        let told = self.arena.pack_answer(&answer, place);
+        let head = Head {
+            entry,
+            end: self.packed.len(),
+            answer: told,
+            serial: step.thread.serial,
+            kind: step.thread.kind,
+            core: step.core,
+        };
+        match self.heads.push(head) {
             Ok(()) => {}
             Err(_) => unreachable!(),
         }
-        let end = self.records.len();
-        match self.entered.push(Entered { step, answer, end }) {
-            Ok(()) => {}
-            Err(_) => unreachable!(),
-        }
+        records.clear();
     }
 
     /// How many lines there are, the boot's among them.
     pub fn lines(&self) -> usize
         ensures { result ≡ length self.now.book.lines + 1 }
     {
-        self.entered.len() + 1
+        self.heads.len() + 1
     }
 
     /// The line of number `i`, if there is one: the boot is number 0 and no line, and the first line after it is
     /// number 1.
     pub fn line(&self, i: usize) -> Option<Line<'_>>
-        ensures { result ≡ (if i == 0 then None else slice_get (reverse self.now.book.lines) (i - 1)) }
+        ensures { result ≡ (if i == 0 then None else slice_get (reverse self.now.book.lines)
+            (i - 1)) }
     {
         if i == 0 {
             return None;
         }
-        line_at(&self.entered, &self.records, i - 1)
+        line_at(
+            &self.heads,
+            &self.packed,
+            &self.arena.words,
+            &self.arena.wide,
+            i - 1,
+        )
     }
 
     /// The number of cores.

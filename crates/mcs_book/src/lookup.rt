@@ -21,8 +21,10 @@ pub fn one_path()
 pub fn capability_found()
     ghost at: { Book × ObjId × ℕ × Cap }
     requires { IsLegal at.0 }
-    ensures named { capability (log_of at.0) at.1 at.2 ≡ Ok at.3 → IsNamed (log_of at.0) at.1 at.2 at.3 }
-    ensures found { IsNamed (log_of at.0) at.1 at.2 at.3 → capability (log_of at.0) at.1 at.2 ≡ Ok at.3 }
+    ensures named { capability (log_of at.0) at.1 at.2 ≡ Ok at.3
+        → IsNamed (log_of at.0) at.1 at.2 at.3 }
+    ensures found { IsNamed (log_of at.0) at.1 at.2 at.3 → capability (log_of at.0) at.1 at.2
+        ≡ Ok at.3 }
 {}
 
 /// After a legal book lookup of a capability is refused exactly where the path ends in an empty slot, or as the
@@ -30,8 +32,10 @@ pub fn capability_found()
 pub fn capability_refused()
     ghost at: { Book × ObjId × ℕ × Refusal }
     requires { IsLegal at.0 }
-    ensures unnamed { capability (log_of at.0) at.1 at.2 ≡ Err at.3 → IsUnnamed (log_of at.0) at.1 at.2 at.3 }
-    ensures refused { IsUnnamed (log_of at.0) at.1 at.2 at.3 → capability (log_of at.0) at.1 at.2 ≡ Err at.3 }
+    ensures unnamed { capability (log_of at.0) at.1 at.2 ≡ Err at.3
+        → IsUnnamed (log_of at.0) at.1 at.2 at.3 }
+    ensures refused { IsUnnamed (log_of at.0) at.1 at.2 at.3 → capability (log_of at.0) at.1 at.2
+        ≡ Err at.3 }
 {}
 
 /// After a legal book lookup finds a slot by an index and a depth exactly where a complete path ends there with no
@@ -39,8 +43,10 @@ pub fn capability_refused()
 pub fn slot_found()
     ghost at: { Book × ObjId × Place × SlotName }
     requires { IsLegal at.0 }
-    ensures named { slot_named (log_of at.0) at.1 at.2 ≡ Ok at.3 → IsSlotNamed (log_of at.0) at.1 at.2 at.3 }
-    ensures found { IsSlotNamed (log_of at.0) at.1 at.2 at.3 → slot_named (log_of at.0) at.1 at.2 ≡ Ok at.3 }
+    ensures named { slot_named (log_of at.0) at.1 at.2 ≡ Ok at.3
+        → IsSlotNamed (log_of at.0) at.1 at.2 at.3 }
+    ensures found { IsSlotNamed (log_of at.0) at.1 at.2 at.3 → slot_named (log_of at.0) at.1 at.2
+        ≡ Ok at.3 }
 {}
 
 /// After a legal book lookup of a slot is refused exactly where its depth is out of range, bits remain at the path's
@@ -48,6 +54,8 @@ pub fn slot_found()
 pub fn slot_refused()
     ghost at: { Book × ObjId × Place × Refusal }
     requires { IsLegal at.0 }
-    ensures unnamed { slot_named (log_of at.0) at.1 at.2 ≡ Err at.3 → IsSlotUnnamed (log_of at.0) at.1 at.2 at.3 }
-    ensures refused { IsSlotUnnamed (log_of at.0) at.1 at.2 at.3 → slot_named (log_of at.0) at.1 at.2 ≡ Err at.3 }
+    ensures unnamed { slot_named (log_of at.0) at.1 at.2 ≡ Err at.3
+        → IsSlotUnnamed (log_of at.0) at.1 at.2 at.3 }
+    ensures refused { IsSlotUnnamed (log_of at.0) at.1 at.2 at.3
+        → slot_named (log_of at.0) at.1 at.2 ≡ Err at.3 }
 {}

@@ -1,5 +1,5 @@
 -- What may be put into the slots that were found.
-use Rattle.std.specs.Prelude.{◌≡◌, ◌∷◌, Bool, true, false, cond, not, Option, Some, None, Ok, IsTrue, is_none, is_some}
+use Rattle.std.specs.Prelude.{◌≡◌, ◌∷◌, Bool, true, false, cond, Some, None, Ok, IsTrue}
 use Rattle.std.specs.Option.{IfSome}
 use Rattle.std.proofs.Common.{refl, ap, sym, subst}
 use Rattle.mcs_types.specs.declared.id.ObjId.{ObjId}
@@ -17,32 +17,32 @@ use Rattle.mcs_book.specs.Lookup.{slot_named}
 use Rattle.mcs_book.specs.Guards.{FitsGuard, FitsSlot}
 use Rattle.mcs_book.specs.Table.{wakes}
 use Rattle.mcs_book.specs.Sound.{Sound, Allowed}
-use Rattle.mcs_book.specs.Served.{AreServed}
+use Rattle.mcs_book.specs.Fits.{AllFit}
 use Rattle.mcs_book.proofs.Checking.{OnPassed}
 use Rattle.mcs_book.proofs.FirmLookup.{IsSlotOf, slot_named-rooted}
 use Rattle.mcs_book.proofs.KeptLaws.{slot-alive}
 use Rattle.mcs_slots.specs.declared.slots.SlotId.{SlotId}
 use Rattle.mcs_cspace.specs.Spaces.{named_by}
 use Rattle.mcs_state.specs.Entering.{IsEntering}
-use Rattle.mcs_state.proofs.Slotting.{slot-fits}
+use Rattle.mcs_state.proofs.SlotLaws.{slot-fits}
 use Rattle.mcs_caps.specs.declared.checks.Placing.{Placing}
 use Rattle.mcs_caps.specs.Placed.{IsSlot, IsPlaced, IsLike}
 
 -- what was named is a slot of a CNode that is there
-pub named-slot : (R : Log) (t : ObjId) (place : Place) (at : SlotId) → Sound R → IsEntering R t → named_by (Ok at) ≡ slot_named R t place → IsSlot R at
+pub named-slot : (R : Log) (t : ObjId) (place : Place) (at : SlotId) → Sound R → IsEntering R t → slot_named R t place ≡ named_by (Ok at) → IsSlot R at
 unfolding OnPassed
 named-slot R t place at sound enters e =
-    let found : IsSlotOf R at.cnode at.index = subst (λ m. OnPassed (λ (n : SlotName). IsSlotOf R n.cnode n.index) m) (sym e) (slot_named-rooted R t place sound enters.rooted) in
+    let found : IsSlotOf R at.cnode at.index = subst (λ m. OnPassed (λ (n : SlotName). IsSlotOf R n.cnode n.index) m) e (slot_named-rooted R t place sound enters.rooted) in
     (found.there, found.within)
 
 -- a slot is there still when a thread was woken
-pub woken-slot : (R : Log) (t : ObjId) (m : Mode) (at : SlotId) → IsSlot R at → IsSlot (onto (wakes m t R) R) at
+woken-slot : (R : Log) (t : ObjId) (m : Mode) (at : SlotId) → IsSlot R at → IsSlot (onto (wakes m t R) R) at
 woken-slot R t Running at h = h
 woken-slot R t Restart at h = h
 woken-slot R t Inactive at h = h
 
 -- and so is an object
-pub woken-alive : (R : Log) (t : ObjId) (m : Mode) (o : ObjId) → is_alive R o ≡ true → is_alive (onto (wakes m t R) R) o ≡ true
+woken-alive : (R : Log) (t : ObjId) (m : Mode) (o : ObjId) → is_alive R o ≡ true → is_alive (onto (wakes m t R) R) o ≡ true
 woken-alive R t Running o h = h
 woken-alive R t Restart o h = h
 woken-alive R t Inactive o h = h
@@ -55,18 +55,13 @@ may-fill R t m at cap sound placed like =
     (dest.0, dest.1, subst (λ o. IsTrue (is_alive (onto (wakes m t R) R) o)) (sym like.obj) (woken-alive R t m at.cap.obj there))
 
 -- and its guard fits
-pub fits-like : (R : Log) (at : Placing) (cap : Cap) → AreServed R → IsPlaced R at → IsLike at.cap cap → FitsSlot (Some cap)
-fits-like R at cap served placed like =
-    go (same_kind cap.obj.kind kind.CNode) (ap (λ (o : ObjId). same_kind o.kind kind.CNode) (sym like.obj)) (subst FitsSlot placed.held (slot-fits R at.source.cnode at.source.index served))
+pub fits-like : (R : Log) (at : Placing) (cap : Cap) → AllFit R → IsPlaced R at → IsLike at.cap cap → FitsSlot (Some cap)
+fits-like R at cap fits placed like =
+    go (same_kind cap.obj.kind kind.CNode) (ap (λ (o : ObjId). same_kind o.kind kind.CNode) (sym like.obj)) (subst FitsSlot placed.held (slot-fits R at.source.cnode at.source.index fits))
   where
     go : (b : Bool) → same_kind at.cap.obj.kind kind.CNode ≡ b → FitsSlot (Some at.cap) → IfSome (cond b (Some cap) None) (λ c. FitsGuard c.guard)
     go true is h = subst FitsGuard (sym like.guard) (subst (λ b. IfSome (cond b (Some at.cap) None) (λ c. FitsGuard c.guard)) is h)
     go false is h = tt
-
--- what a test for something tells of nothing
-pub free-or-full : (o : Option Cap) (b : Bool) → is_some o ≡ b → is_none o ≡ not b
-free-or-full None b h = rw (sym h) refl
-free-or-full (Some cap) b h = rw (sym h) refl
 
 -- the source may be emptied when the destination was filled
 pub may-empty : (R : Log) (t : ObjId) (m : Mode) (at : Placing) → IsPlaced R at → Allowed (rec.Slot at.dest.cnode at.dest.index (Some at.cap) ∷ onto (wakes m t R) R) (rec.Slot at.source.cnode at.source.index None)

@@ -1,10 +1,12 @@
 -- The rows of CopyCap, MintCap and MoveCap, in the parts in which the code does them.
-use Rattle.std.specs.Prelude.{cond, ◌==◌, Some, None, Ok, Err}
+use Rattle.std.specs.Prelude.{cond, ◌==◌, Some, None, Ok, Err, [], ◌∷◌}
 use Rattle.mcs_types.specs.declared.cap.Cap.{Cap}
+use Rattle.mcs_types.specs.declared.record.Rec.TheVariants.{Slot}
+use Rattle.mcs_types.specs.declared.entry.Answer.TheVariants.{Done}
 use Rattle.mcs_types.specs.declared.entry.Refusal.TheVariants.{WrongKind, BadgeNotAllowed}
 use Rattle.mcs_book.specs.Checks.{Checked}
 use Rattle.mcs_book.specs.Rights.{can_badge}
-use Rattle.mcs_book.specs.Pieces.{Piece, ◌then◌}
+use Rattle.mcs_book.specs.Pieces.{Act, answers}
 use Rattle.mcs_book.specs.Placing.{Places, fills}
 use Rattle.mcs_cspace.specs.Spaces.{name_of}
 use Rattle.mcs_caps.specs.declared.checks.Placing.{Placing}
@@ -24,9 +26,12 @@ mintable (Err why) = Err why
 mintable (Ok at) = cond (can_badge at.cap) (cond (at.cap.badge.0 == 0) (Ok at) (Err BadgeNotAllowed)) (Err WrongKind)
 
 -- the empty slot gets a capability
-abbrev pub fills_dest : Placing → Cap → Piece
-fills_dest at cap = fills (name_of at.dest) (Some cap)
+abbrev pub fills_act : Placing → Cap → Act
+fills_act at cap = answers Done (fills (name_of at.dest) (Some cap))
 
 -- the empty slot gets the capability that was found, and its own is emptied
-unfoldable pub moves : Placing → Piece
-moves at = fills (name_of at.dest) (Some at.cap) then fills (name_of at.source) None
+abbrev pub moves_act : Placing → Act
+moves_act at R = record {
+  answer = Done;
+  records = Slot at.dest.cnode at.dest.index (Some at.cap) ∷ Slot at.source.cnode at.source.index None ∷ [];
+}

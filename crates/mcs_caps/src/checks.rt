@@ -1,17 +1,15 @@
 //! What is tested before anything is done.
-ghost use Rattle.std.specs.Prelude.{◌≡◌, ◌<◌, IfOk};
+ghost use Rattle.std.specs.Prelude.{◌≡◌, IfOk};
 ghost use Rattle.mcs_book.specs.Placing.{source_and_dest};
 ghost use Rattle.mcs_state.specs.Entering.{IsEntering};
-ghost use Rattle.mcs_state.specs.Numbers.{thread_at};
 ghost use Rattle.mcs_state.specs.Now.{so_far};
-ghost use Rattle.mcs_state.specs.Tables.{ROOM};
 ghost use Rattle.mcs_caps.specs.Placed.{IsPlaced};
 ghost use Rattle.mcs_caps.specs.Rows.{placed_by, mintable};
 
-use mcs_queues::{Lines, ThreadNo};
 use mcs_slots::{SlotId, takes_badge};
 use mcs_state::State;
-use mcs_types::{Cap, Place, Refusal};
+use mcs_types::{Cap, ObjId, Place, Refusal};
+use mcs_waiting::Waiting;
 
 /// A capability, the slot that holds it, and an empty slot.
 #[derive(Clone, Copy)]
@@ -22,26 +20,26 @@ pub struct Placing {
 }
 
 /// The capability that a thread names by its place, and the empty slot that it names.
-pub fn find_places<L: Lines>(
-    state: &State<L>,
-    thread: ThreadNo,
+pub fn find_places<W: Waiting>(
+    state: &State<W>,
+    thread: ObjId,
     source: Place,
     dest: Place,
 ) -> Result<Placing, Refusal>
-    requires entering { IsEntering (so_far state.now) (thread_at thread.0) }
-    requires known { thread.0 < ROOM }
-    ensures places { placed_by result ≡ source_and_dest (so_far state.now) (thread_at thread.0) source dest }
+    requires { IsEntering (so_far state.now) thread }
+    ensures places { placed_by result ≡ source_and_dest (so_far state.now) thread source dest }
     ensures placed { IfOk result (IsPlaced (so_far state.now)) }
 {
     state.is_sound();
     let source = state.slot_named(thread, source)?;
     let dest = state.slot_named(thread, dest)?;
-    let taken = state.slot(dest).is_some();
-    match state.slot(source) {
-        None => Err(Refusal::SlotEmpty),
-        Some(_) if taken => Err(Refusal::SlotFull),
-        Some(cap) => Ok(Placing { cap, source, dest }),
+    let Some(cap) = state.slot(source) else {
+        return Err(Refusal::SlotEmpty);
+    };
+    if state.slot(dest).is_some() {
+        return Err(Refusal::SlotFull);
     }
+    Ok(Placing { cap, source, dest })
 }
 
 /// What was found, where a badge may be set on it.

@@ -1,57 +1,63 @@
--- What a contract sees of `Contexts`: the core and the holder of each context, that of serial 1 first, and what each thread holds.
-use Rattle.std.specs.Prelude.{ℕ, ◌≡◌, ◌≤◌, ◌+◌, Bool, false, List, length, slice_get, slice_index_or, Option, Some, None}
+-- What a contract sees of `Contexts`: what is kept of each context that is there, and what each thread holds.
+use Rattle.std.specs.Prelude.{◌≡◌, Bool, false, cond, List, length, Option, Some, None, option_map, option_and_then}
 use Rattle.mcs_types.specs.declared.id.ObjId.{ObjId}
 use Rattle.mcs_types.specs.declared.id.CoreId.{CoreId}
 use Rattle.mcs_types.specs.declared.id.Kind.TheVariants.{Context, Thread}
-use Rattle.mcs_types.specs.Ids.{place_of, same}
+use Rattle.mcs_types.specs.Ids.{same, is_just, value_after}
+use Rattle.mcs_objects.specs.Store.{Objects, Shape, value_at, shape, next_id, is_full}
+use Rattle.mcs_places.specs.Places.{kept_at}
+use Rattle.mcs_contexts.specs.declared.contexts.ContextRow.{ContextRow}
 
 pub record Holding : Type 0 where
-  pub cores : List CoreId
-  pub holders : List (Option ObjId)
+  pub rows : Objects ContextRow
   pub held : List (Option ObjId)
 
--- the id in a place, if there is one
-abbrev pub id_at : List (Option ObjId) → Option ℕ → Option ObjId
-id_at ids None = None
-id_at ids (Some n) = slice_index_or ids n None
+-- how many contexts were made and are there
+abbrev pub counts : Holding → Shape
+counts v = shape v.rows
 
--- the core in a place, if there is one
-abbrev pub core_at : List CoreId → Option ℕ → Option CoreId
-core_at cores None = None
-core_at cores (Some n) = slice_get cores n
-
--- how many contexts were made
-abbrev pub made : Holding → ℕ
-made v = length v.cores
+-- whether no context can be made
+abbrev pub no_room : Holding → Bool
+no_room v = is_full v.rows
 
 -- the context that is made next
 abbrev pub next_context : Holding → ObjId
-next_context v = record { kind = Context; serial = made v + 1 }
+next_context v = next_id v.rows
+
+-- the core of a context among rows, and its holder
+abbrev pub core_at : Objects ContextRow → ObjId → Option CoreId
+core_at rows s = option_map (λ r. r.core) (value_at rows s)
+
+abbrev pub holder_at : Objects ContextRow → ObjId → Option ObjId
+holder_at rows s = option_and_then (λ r. r.holder) (value_at rows s)
 
 -- the core of a context
 abbrev pub core_in : Holding → ObjId → Option CoreId
-core_in v s = core_at v.cores (place_of Context s)
+core_in v s = core_at v.rows s
 
 -- the thread that holds a context
 abbrev pub holder_in : Holding → ObjId → Option ObjId
-holder_in v s = id_at v.holders (place_of Context s)
+holder_in v s = holder_at v.rows s
 
 -- the context that a thread holds
 abbrev pub context_in : Holding → ObjId → Option ObjId
-context_in v t = id_at v.held (place_of Thread t)
-
--- whether it is this object
-abbrev pub is_the : Option ObjId → ObjId → Bool
-is_the None x = false
-is_the (Some y) x = same y x
+context_in v t = kept_at Thread v.held t
 
 -- whether a thread holds a context
 abbrev pub holds : Holding → ObjId → ObjId → Bool
-holds v t s = is_the (context_in v t) s
+holds v t s = is_just (context_in v t) s
 
--- a thread of a serial from 1 to 256
-abbrev pub IsThread : ObjId → Type 0
-IsThread t = (t.kind ≡ Thread) × (1 ≤ t.serial) × (t.serial ≤ 256)
+-- the context that the thread x holds, unless it is s
+abbrev pub context_but : Holding → ObjId → ObjId → Option ObjId
+context_but v s x = cond (holds v x s) None (context_in v x)
+
+-- the holder of s after the context of one thread went to another
+abbrev pub lent_holder : Holding → ObjId → ObjId → ObjId → Option ObjId
+lent_holder v from to s = cond (holds v from s) (Some to) (holder_in v s)
+
+-- the context of the thread x after the context of one thread went to another
+abbrev pub lent_context : Holding → ObjId → ObjId → ObjId → Option ObjId
+lent_context v from to x = value_after x to (context_in v from) (value_after x from None (context_in v x))
 
 -- a thread holds a context exactly where the context's holder is that thread
 pub record IsOneToOne (v : Holding) : Type 0 where
@@ -60,7 +66,7 @@ pub record IsOneToOne (v : Holding) : Type 0 where
 
 -- what holds of all contexts
 pub record IsHolding (v : Holding) : Type 0 where
-  pub few : length v.cores ≤ 256
-  pub rows : length v.holders ≡ length v.cores
+  pub room : v.rows.room ≡ 256
+  pub kind : v.rows.kind ≡ Context
   pub places : length v.held ≡ 256
   pub one_to_one : IsOneToOne v

@@ -1,91 +1,136 @@
 //! The scheduling contexts and their holders.
-ghost use Rattle.std.specs.Prelude.{◌≡◌, ◌<◌, ◌+◌, ◌&&◌, ◌||◌, IfOk, OnOk, OnErr, IsSome, is_some, is_none, if◌then◌else◌, cond, Some, None, Ok, Err};
+ghost use Rattle.std.specs.Prelude.{◌≡◌, ◌&&◌, ◌||◌, IfOk, OnOk, OnErr, IsSome, is_some, is_none, if◌then◌else◌, false, Some, None, Ok, Err};
 ghost use Rattle.std.specs.Bool.{OnTrue, OnFalse};
 ghost use Rattle.mcs_types.specs.declared.id.ObjId.{ObjId};
-ghost use Rattle.mcs_types.specs.Ids.{same};
-ghost use Rattle.mcs_contexts.specs.Holding.{made, next_context, core_in, holder_in, context_in, holds, IsThread, IsOneToOne};
+ghost use Rattle.mcs_types.specs.Ids.{IsThread, value_after};
+ghost use Rattle.mcs_types.specs.declared.id.Kind.{Kind};
+ghost use Rattle.mcs_objects.specs.Store.{shape, one_more, next_id, is_full, IsOneFewer, WritesAt};
+ghost use Rattle.mcs_contexts.specs.Holding.{counts, no_room, next_context, core_at, holder_at, core_in, holder_in, context_in, context_but, lent_holder, lent_context, IsOneToOne};
 
-use mcs_types::{CoreId, Kind, OBJECTS, ObjId, OutOfMemory, Refusal};
+use mcs_objects::Store;
+use mcs_places::{keep, kept_at};
+use mcs_types::{CoreId, Kind, ObjId, OutOfMemory, Refusal};
 use std::alloc::Global;
 use std::marker::Model;
 
-/// A scheduling context: its core, and the thread that holds it.
+/// A scheduling context: its core, and the thread that holds it (manual: Threads and Execution).
 #[derive(Clone, Copy)]
-struct ContextRow {
+pub struct ContextRow {
     core: CoreId,
     holder: Option<ObjId>,
 }
 
-/// Up to 256 scheduling contexts, whose serials count from 1, and the threads of the serials 1 to 256 that hold them (manual:
-/// Threads and Execution). A context has at most one holder and a thread at most one context. All memory is taken when they
-/// are made (own).
+/// Up to 256 scheduling contexts, which come and go under serials that count from 1, and the threads of the serials 1 to 256
+/// that hold them (manual: Threads and Execution). A context has at most one holder and a thread at most one context. All
+/// memory is taken when they are made (own).
 #[derive(Drop)]
 pub struct Contexts {
-    rows: Vec<ContextRow>,
+    rows: Store<ContextRow>,
     held: Vec<Option<ObjId>>,
 }
 
 impl Model for Contexts {
-    ghost use Rattle.std.specs.Prelude.{◌≤◌, map, vec_capacity};
     ghost use Rattle.mcs_contexts.specs.Holding.{Holding, IsHolding};
 
     ghost Value = { Holding };
 
-    ghost view = { λ s. record { cores = map (λ r. r.core) s.rows.items; holders = map (λ r. r.holder) s.rows.items; held = s.held.items } };
+    ghost view = { λ s. record { rows = s.rows; held = s.held.items } };
 
-    ghost invariant = { λ s. (256 ≤ vec_capacity s.rows) × IsHolding (record { cores = map (λ r. r.core) s.rows.items; holders = map (λ r. r.holder) s.rows.items; held = s.held.items }) };
+    ghost invariant = { λ s. IsHolding (record { rows = s.rows; held = s.held.items }) };
 }
 
-/// An equal id, if there is one.
-fn id_again(id: &Option<ObjId>) -> Option<ObjId>
-    ensures { result ≡ id.now }
+/// Adds a row where there is room.
+fn add_row(rows: &mut Store<ContextRow>, row: ContextRow) -> ObjId
+    requires { is_full rows.old ≡ false }
+    ensures id { result ≡ next_id rows.old }
+    ensures shape { shape rows.new ≡ one_more (shape rows.old) }
+    ensures values { WritesAt rows.old rows.new result row }
 {
-    *id
+    match rows.make(row) {
+        Ok(id) => id,
+        Err(_) => unreachable!(),
+    }
+}
+
+/// Keeps another holder of a context that is there.
+fn set_holder(rows: &mut Store<ContextRow>, context: ObjId, holder: Option<ObjId>)
+    requires { IsSome (core_at rows.old context) }
+    ensures shape { shape rows.new ≡ shape rows.old }
+    ensures cores { (x : ObjId) → core_at rows.new x ≡ core_at rows.old x }
+    ensures holders { (x : ObjId) →
+        holder_at rows.new x ≡ value_after x context holder (holder_at rows.old x) }
+{
+    match rows.get(context) {
+        None => unreachable!(),
+        Some(row) => {
+            let core = row.core;
+            rows.set(context, ContextRow { core, holder });
+        }
+    }
 }
 
 impl Contexts {
     /// No context, and room for 256 (own).
     pub fn new(alloc: Global) -> Result<Contexts, OutOfMemory>
-        ensures made { IfOk result (λ v. made v ≡ 0) }
+        ensures counts { IfOk result (λ v.
+            counts v ≡ record { kind = Kind.Context; room = 256; given = 0; there = 0 }) }
         ensures cores { IfOk result (λ v. (x : ObjId) → core_in v x ≡ None) }
         ensures holders { IfOk result (λ v. (x : ObjId) → holder_in v x ≡ None) }
         ensures contexts { IfOk result (λ v. (x : ObjId) → context_in v x ≡ None) }
     {
         let nothing: Option<ObjId> = None;
         Ok(Contexts {
-            rows: Vec::with_capacity(alloc, OBJECTS as usize)?,
+            rows: Store::with_room(alloc, Kind::Context, 256)?,
             held: vec![in alloc; nothing; 256]?,
         })
     }
 
-    /// How many contexts were made, 256 at most (own).
-    pub fn made(&self) -> u16
-        ensures { result ≡ made self.now }
+    /// Whether no context can be made: 256 are there, or each serial was given (own).
+    pub fn is_full(&self) -> bool
+        ensures { result ≡ no_room self.now }
     {
-        self.rows.len() as u16
+        self.rows.is_full()
     }
 
-    /// Adds a context of a core, where fewer than 256 are there: its serial is the next, and nobody holds it (own).
+    /// How many contexts were made; one that was closed counts still (own).
+    pub fn made(&self) -> u32
+        ensures { result ≡ (counts self.now).given }
+    {
+        self.rows.given()
+    }
+
+    /// Adds a context of a core where there is room: its serial is the next, and nobody holds it (own).
     pub fn add(&mut self, core: CoreId) -> ObjId
-        requires { made self.old < 256 }
+        requires { no_room self.old ≡ false }
         ensures id { result ≡ next_context self.old }
-        ensures made { made self.new ≡ made self.old + 1 }
-        ensures cores { (x : ObjId) → core_in self.new x ≡ cond (same x result) (Some core) (core_in self.old x) }
+        ensures counts { counts self.new ≡ one_more (counts self.old) }
+        ensures cores { (x : ObjId) →
+            core_in self.new x ≡ value_after x result (Some core) (core_in self.old x) }
         ensures holders { (x : ObjId) → holder_in self.new x ≡ holder_in self.old x }
         ensures contexts { (x : ObjId) → context_in self.new x ≡ context_in self.old x }
     {
-        self.rows.push_reserved(ContextRow { core, holder: None });
-        ObjId {
-            kind: Kind::Context,
-            serial: self.rows.len() as u32,
-        }
+        self.rows.are_apart();
+        add_row(&mut self.rows, ContextRow { core, holder: None })
     }
 
-    /// The core of a context, or None where it was not made (manual: Threads and Execution).
+    /// Forgets a context that nobody holds: its serial is never given again (manual: Kernel Services and Objects).
+    pub fn close(&mut self, context: ObjId)
+        requires there { IsSome (core_in self.old context) }
+        requires free { holder_in self.old context ≡ None }
+        ensures counts { IsOneFewer (counts self.old) (counts self.new) }
+        ensures cores { (x : ObjId) →
+            core_in self.new x ≡ value_after x context None (core_in self.old x) }
+        ensures holders { (x : ObjId) → holder_in self.new x ≡ holder_in self.old x }
+        ensures contexts { (x : ObjId) → context_in self.new x ≡ context_in self.old x }
+    {
+        self.rows.remove(context);
+    }
+
+    /// The core of a context, or None where it was not made or was closed (manual: Threads and Execution).
     pub fn core(&self, context: ObjId) -> Option<CoreId>
         ensures { result ≡ core_in self.now context }
     {
-        let row = self.rows.get(context.place(Kind::Context)?)?;
+        let row = self.rows.get(context)?;
         Some(row.core)
     }
 
@@ -93,7 +138,7 @@ impl Contexts {
     pub fn holder(&self, context: ObjId) -> Option<ObjId>
         ensures { result ≡ holder_in self.now context }
     {
-        let row = self.rows.get(context.place(Kind::Context)?)?;
+        let row = self.rows.get(context)?;
         row.holder
     }
 
@@ -101,15 +146,16 @@ impl Contexts {
     pub fn of(&self, thread: ObjId) -> Option<ObjId>
         ensures { result ≡ context_in self.now thread }
     {
-        let context = self.held.get(thread.place(Kind::Thread)?)?;
-        id_again(context)
+        let context = kept_at(Kind::Thread, &self.held, thread)?;
+        Some(*context)
     }
 
     /// Holding is one to one: two contexts with one holder are one context. What is held was made, and the holder is a thread of
-    /// a serial from 1 to 256.
+    /// a serial from 1 to 256 (own).
     pub fn is_one_to_one(&self)
         ensures pairs { IsOneToOne self.now }
-        ensures one_context { (s u t : ObjId) → holder_in self.now s ≡ Some t → holder_in self.now u ≡ Some t → s ≡ u }
+        ensures one_context { (s u t : ObjId) →
+            holder_in self.now s ≡ Some t → holder_in self.now u ≡ Some t → s ≡ u }
         ensures made { (s t : ObjId) → holder_in self.now s ≡ Some t → IsSome (core_in self.now s) }
         ensures threads { (s t : ObjId) → holder_in self.now s ≡ Some t → IsThread t }
     {
@@ -122,23 +168,29 @@ impl Contexts {
         requires thread { IsThread thread }
         requires free { holder_in self.old context ≡ None }
         requires idle { context_in self.old thread ≡ None }
-        ensures holders { (x : ObjId) → holder_in self.new x ≡ cond (same x context) (Some thread) (holder_in self.old x) }
-        ensures contexts { (x : ObjId) → context_in self.new x ≡ cond (same x thread) (Some context) (context_in self.old x) }
-        ensures cores { self.new.cores ≡ self.old.cores }
+        ensures holders { (x : ObjId) →
+            holder_in self.new x ≡ value_after x context (Some thread) (holder_in self.old x) }
+        ensures contexts { (x : ObjId) →
+            context_in self.new x ≡ value_after x thread (Some context) (context_in self.old x) }
+        ensures counts { counts self.new ≡ counts self.old }
+        ensures cores { (x : ObjId) → core_in self.new x ≡ core_in self.old x }
     {
-        self.rows[(context.serial - 1) as usize].holder = Some(thread);
-        self.held[(thread.serial - 1) as usize] = Some(context);
+        set_holder(&mut self.rows, context, Some(thread));
+        keep(Kind::Thread, &mut self.held, thread, Some(context));
     }
 
     /// Takes a context from the thread that holds it.
     fn release(&mut self, context: ObjId, thread: ObjId)
         requires { holder_in self.old context ≡ Some thread }
-        ensures holders { (x : ObjId) → holder_in self.new x ≡ cond (same x context) None (holder_in self.old x) }
-        ensures contexts { (x : ObjId) → context_in self.new x ≡ cond (same x thread) None (context_in self.old x) }
-        ensures cores { self.new.cores ≡ self.old.cores }
+        ensures holders { (x : ObjId) →
+            holder_in self.new x ≡ value_after x context None (holder_in self.old x) }
+        ensures contexts { (x : ObjId) →
+            context_in self.new x ≡ value_after x thread None (context_in self.old x) }
+        ensures counts { counts self.new ≡ counts self.old }
+        ensures cores { (x : ObjId) → core_in self.new x ≡ core_in self.old x }
     {
-        self.rows[(context.serial - 1) as usize].holder = None;
-        self.held[(thread.serial - 1) as usize] = None;
+        set_holder(&mut self.rows, context, None);
+        keep(Kind::Thread, &mut self.held, thread, None);
     }
 
     /// Gives a context that was made to a thread of a serial from 1 to 256. AlreadyBound where the context has a holder or the
@@ -146,11 +198,17 @@ impl Contexts {
     pub fn bind(&mut self, context: ObjId, thread: ObjId) -> Result<(), Refusal>
         requires made { IsSome (core_in self.old context) }
         requires thread { IsThread thread }
-        ensures answer { result ≡ (if is_some (holder_in self.old context) || is_some (context_in self.old thread) then Err Refusal.AlreadyBound else Ok tt) }
+        ensures answer { result ≡
+            (if is_some (holder_in self.old context) || is_some (context_in self.old thread)
+            then Err Refusal.AlreadyBound
+            else Ok tt) }
         ensures refused { OnErr result (self.new ≡ self.old) }
-        ensures holders { OnOk result ((x : ObjId) → holder_in self.new x ≡ cond (same x context) (Some thread) (holder_in self.old x)) }
-        ensures contexts { OnOk result ((x : ObjId) → context_in self.new x ≡ cond (same x thread) (Some context) (context_in self.old x)) }
-        ensures cores { self.new.cores ≡ self.old.cores }
+        ensures holders { OnOk result ((x : ObjId) →
+            holder_in self.new x ≡ value_after x context (Some thread) (holder_in self.old x)) }
+        ensures contexts { OnOk result ((x : ObjId) →
+            context_in self.new x ≡ value_after x thread (Some context) (context_in self.old x)) }
+        ensures counts { counts self.new ≡ counts self.old }
+        ensures cores { (x : ObjId) → core_in self.new x ≡ core_in self.old x }
     {
         if self.holder(context).is_some() || self.of(thread).is_some() {
             return Err(Refusal::AlreadyBound);
@@ -161,11 +219,17 @@ impl Contexts {
 
     /// Takes a context from its holder. NotBound where nobody holds it: then nothing changes (manual: Threads and Execution).
     pub fn unbind(&mut self, context: ObjId) -> Result<(), Refusal>
-        ensures answer { result ≡ (if is_some (holder_in self.old context) then Ok tt else Err Refusal.NotBound) }
+        ensures answer { result ≡
+            (if is_some (holder_in self.old context)
+            then Ok tt
+            else Err Refusal.NotBound) }
         ensures refused { OnErr result (self.new ≡ self.old) }
-        ensures holders { OnOk result ((x : ObjId) → holder_in self.new x ≡ cond (same x context) None (holder_in self.old x)) }
-        ensures contexts { OnOk result ((x : ObjId) → context_in self.new x ≡ cond (holds self.old x context) None (context_in self.old x)) }
-        ensures cores { self.new.cores ≡ self.old.cores }
+        ensures holders { OnOk result ((x : ObjId) →
+            holder_in self.new x ≡ value_after x context None (holder_in self.old x)) }
+        ensures contexts { OnOk result ((x : ObjId) →
+            context_in self.new x ≡ context_but self.old context x) }
+        ensures counts { counts self.new ≡ counts self.old }
+        ensures cores { (x : ObjId) → core_in self.new x ≡ core_in self.old x }
     {
         match self.holder(context) {
             None => Err(Refusal::NotBound),
@@ -181,11 +245,15 @@ impl Contexts {
     /// holds one: then nothing changes (manual: Threads and Execution).
     pub fn lend(&mut self, from: ObjId, to: ObjId) -> bool
         requires { IsThread to }
-        ensures answer { result ≡ (is_some (context_in self.old from) && is_none (context_in self.old to)) }
+        ensures answer { result
+            ≡ (is_some (context_in self.old from) && is_none (context_in self.old to)) }
         ensures refused { OnFalse result (self.new ≡ self.old) }
-        ensures holders { OnTrue result ((x : ObjId) → holder_in self.new x ≡ cond (holds self.old from x) (Some to) (holder_in self.old x)) }
-        ensures contexts { OnTrue result ((x : ObjId) → context_in self.new x ≡ cond (same x to) (context_in self.old from) (cond (same x from) None (context_in self.old x))) }
-        ensures cores { self.new.cores ≡ self.old.cores }
+        ensures holders { OnTrue result ((x : ObjId) →
+            holder_in self.new x ≡ lent_holder self.old from to x) }
+        ensures contexts { OnTrue result ((x : ObjId) →
+            context_in self.new x ≡ lent_context self.old from to x) }
+        ensures counts { counts self.new ≡ counts self.old }
+        ensures cores { (x : ObjId) → core_in self.new x ≡ core_in self.old x }
     {
         match self.of(from) {
             Some(context) if self.of(to).is_none() => {

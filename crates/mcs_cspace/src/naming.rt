@@ -86,7 +86,8 @@ pub fn lookup_slot(slots: &Slots, root: Cap, place: Place) -> Result<SlotId, Ref
     requires root { FitsGuard root.guard }
     requires inner { GuardsFit slots.now }
     ensures value { named_by result ≡ slot_from (slots_space slots.now) root place }
-    ensures named { IfOk result (λ at. IsSlotNamedFrom (slots_space slots.now) root place (name_of at)) }
+    ensures named { IfOk result (λ at. IsSlotNamedFrom (slots_space slots.now) root place
+        (name_of at)) }
     ensures unnamed { IfErr result (λ why. IsSlotUnnamedFrom (slots_space slots.now) root place why) }
 {
     slots.are_pages();

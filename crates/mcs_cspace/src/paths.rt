@@ -49,7 +49,8 @@ pub(crate) fn find(slots: &Slots, root: Cap, depth: u32, address: u64) -> Result
     requires within { depth ≤ 64 }
     requires root { FitsGuard root.guard }
     requires inner { GuardsFit slots.now }
-    ensures { walked_by address result ≡ walk 64 (slots_space slots.now) root (bits_of depth address) }
+    ensures { walked_by address result
+        ≡ walk 64 (slots_space slots.now) root (bits_of depth address) }
 {
     let mut cap = root;
     let mut left = depth;

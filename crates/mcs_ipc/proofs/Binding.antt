@@ -11,40 +11,26 @@ use Rattle.mcs_types.specs.declared.record.Rec.{Rec}
 use Rattle.mcs_types.specs.declared.record.Rec.TheVariants as rec
 use Rattle.mcs_types.specs.declared.entry.Entry.TheVariants.{BindCtx, UnbindCtx}
 use Rattle.mcs_types.specs.declared.entry.Answer.TheVariants.{Done, Refused}
-use Rattle.mcs_types.specs.declared.entry.Refusal.{Refusal}
 use Rattle.mcs_types.specs.declared.entry.Refusal.TheVariants.{AlreadyBound, NotBound}
 use Rattle.mcs_book.specs.Logs.{Log, onto}
 use Rattle.mcs_book.specs.Checks.{Checked, ◌>>=◌, ◌>>◌, need}
 use Rattle.mcs_book.specs.Threads.{mode_of}
 use Rattle.mcs_book.specs.Contexts.{holder_of, context_of}
-use Rattle.mcs_book.specs.Chains.{kept, chain_of}
+use Rattle.mcs_book.specs.Chains.{chain_of}
 use Rattle.mcs_book.specs.Placing.{is_empty}
 use Rattle.mcs_book.specs.Pieces.{Act, before}
 use Rattle.mcs_book.specs.Sound.{Sound, Allowed, IsThere}
-use Rattle.mcs_book.specs.Served.{AreServed}
 use Rattle.mcs_book.specs.Table.{row, wakes, does}
 use Rattle.mcs_book.proofs.FirmLaws.{context-none}
-use Rattle.mcs_book.proofs.TableLaws.{does-refused, does-acts}
-use Rattle.mcs_state.proofs.Answering.{none-closed}
-use Rattle.mcs_ipc.specs.Rows.{kinded, object_found, object_named}
-use Rattle.mcs_ipc.specs.Holding.{Pair, pair_of, free_pair, bindable, held_context, unbindable, holds_act}
-use Rattle.mcs_ipc.proofs.Rows.{acted, object-is}
-use Rattle.mcs_ipc.proofs.Facts.{named-there}
+use Rattle.mcs_state.specs.Checks.{kinded, object_found, object_named, act_of}
+use Rattle.mcs_state.proofs.Named.{object-is, named-there}
+use Rattle.mcs_ipc.specs.declared.contexts.Binding.{Binding}
+use Rattle.mcs_ipc.specs.Ready.{NoChains}
+use Rattle.mcs_ipc.specs.Holding.{pair_of, free_pair, bindable, held_context, unbindable, holds_act}
 use Rattle.mcs_book.specs.Lookup.{capability}
 
--- no served record is a debt, so no context came along one
-kept-none : (R : Log) (s : ObjId) (later : List Rec) → AreServed R → kept s later R ≡ []
-kept-none [] s later h = refl
-kept-none (rec.Owes r x c ∷ R) s later h = absurd h.0
-kept-none (made ∷ R) s later h = kept-none R s (made ∷ later) h.1
-
--- and its chain is empty
-pub chain-none : (R : Log) (s : ObjId) → AreServed R → chain_of R s ≡ []
-unfolding chain_of
-chain-none R s served = rw (none-closed R s served, kept-none R s [] served) refl
-
 -- the act of a bind
-abbrev pub binds : Pair → Act
+abbrev pub binds : Binding → Act
 binds b = holds_act b.context (Some b.thread)
 
 -- the act of an unbind
@@ -52,67 +38,50 @@ abbrev pub unbinds : ObjId → Act
 unbinds s = holds_act s None
 
 -- the row of BindCtx
-row-bind : (R : Log) (core : CoreId) (t : ObjId) (s x : ℕ) → AreServed R → row R core t (BindCtx s x) ≡ acted (bindable R t s x) binds
+pub row-bind : (R : Log) (core : CoreId) (t : ObjId) (s x : ℕ) → NoChains R → row R core t (BindCtx s x) ≡ act_of (bindable R t s x) binds
 unfolding row ◌>>=◌ ◌>>◌ need
-row-bind R core t s x served = rw (object-is R t kind.Context s, object-is R t kind.Thread x) (go (kinded kind.Context (capability R t s)) (kinded kind.Thread (capability R t x)))
+row-bind R core t s x chains = rw (object-is R t kind.Context s, object-is R t kind.Thread x) (go (kinded kind.Context (capability R t s)) (kinded kind.Thread (capability R t x)))
   where
     test : (u v : ObjId) (chain : List ObjId) → chain ≡ [] → (held holds : Option ObjId)
-        → (need (is_none held && is_empty chain && is_none holds) AlreadyBound >> Ok (holds_act u (Some v))) ≡ acted (cond (is_some held || is_some holds) (Err AlreadyBound) (Ok (record { context = u; thread = v }))) binds
+        → (need (is_none held && is_empty chain && is_none holds) AlreadyBound >> Ok (holds_act u (Some v))) ≡ act_of (cond (is_some held || is_some holds) (Err AlreadyBound) (Ok (record { context = u; thread = v }))) binds
     test u v chain none None None = rw none refl
     test u v chain none None (Some y) = rw none refl
     test u v chain none (Some y) holds = refl
 
-    go : (m n : Checked Cap) → (m >>= λ c. n >>= λ d. need (is_none (holder_of R c.obj) && is_empty (chain_of R c.obj) && is_none (context_of R d.obj)) AlreadyBound >> Ok (holds_act c.obj (Some d.obj))) ≡ acted (free_pair R (pair_of (object_found m) (object_found n))) binds
+    go : (m n : Checked Cap) → (m >>= λ c. n >>= λ d. need (is_none (holder_of R c.obj) && is_empty (chain_of R c.obj) && is_none (context_of R d.obj)) AlreadyBound >> Ok (holds_act c.obj (Some d.obj))) ≡ act_of (free_pair R (pair_of (object_found m) (object_found n))) binds
     go (Err why) n = refl
     go (Ok c) (Err why) = refl
-    go (Ok c) (Ok d) = test c.obj d.obj (chain_of R c.obj) (chain-none R c.obj served) (holder_of R c.obj) (context_of R d.obj)
+    go (Ok c) (Ok d) = test c.obj d.obj (chain_of R c.obj) (chains c.obj) (holder_of R c.obj) (context_of R d.obj)
 
 -- the row of UnbindCtx
-row-unbind : (R : Log) (core : CoreId) (t : ObjId) (s : ℕ) → row R core t (UnbindCtx s) ≡ acted (unbindable R t s) unbinds
+pub row-unbind : (R : Log) (core : CoreId) (t : ObjId) (s : ℕ) → row R core t (UnbindCtx s) ≡ act_of (unbindable R t s) unbinds
 unfolding row ◌>>=◌ ◌>>◌ need
 row-unbind R core t s = rw (object-is R t kind.Context s) (go (kinded kind.Context (capability R t s)))
   where
-    test : (u : ObjId) (b : Bool) → (need b NotBound >> Ok (holds_act u None)) ≡ acted (cond b (Ok u) (Err NotBound)) unbinds
+    test : (u : ObjId) (b : Bool) → (need b NotBound >> Ok (holds_act u None)) ≡ act_of (cond b (Ok u) (Err NotBound)) unbinds
     test u true = refl
     test u false = refl
 
-    go : (m : Checked Cap) → (m >>= λ c. need (is_some (holder_of R c.obj)) NotBound >> Ok (holds_act c.obj None)) ≡ acted (held_context R (object_found m)) unbinds
+    go : (m : Checked Cap) → (m >>= λ c. need (is_some (holder_of R c.obj)) NotBound >> Ok (holds_act c.obj None)) ≡ act_of (held_context R (object_found m)) unbinds
     go (Err why) = refl
     go (Ok c) = test c.obj (is_some (holder_of R c.obj))
 
-pub bind-refused : (R : Log) (core : CoreId) (t : ObjId) (s x : ℕ) (why : Refusal) → AreServed R → bindable R t s x ≡ Err why → does R core t (BindCtx s x) ≡ record { answer = Refused why; records = [] }
-bind-refused R core t s x why served e = does-refused R core t (BindCtx s x) why (row-bind R core t s x served ∙ ap (λ m. acted m binds) e)
-
-pub bind-acts : (R : Log) (core : CoreId) (t : ObjId) (s x : ℕ) (b : Pair) → AreServed R → bindable R t s x ≡ Ok b → does R core t (BindCtx s x) ≡ before (wakes (mode_of R t) t) (binds b) R
-bind-acts R core t s x b served e = does-acts R core t (BindCtx s x) (binds b) (row-bind R core t s x served ∙ ap (λ m. acted m binds) e)
-
-pub unbind-refused : (R : Log) (core : CoreId) (t : ObjId) (s : ℕ) (why : Refusal) → unbindable R t s ≡ Err why → does R core t (UnbindCtx s) ≡ record { answer = Refused why; records = [] }
-unbind-refused R core t s why e = does-refused R core t (UnbindCtx s) why (row-unbind R core t s ∙ ap (λ m. acted m unbinds) e)
-
-pub unbind-acts : (R : Log) (core : CoreId) (t : ObjId) (s : ℕ) (u : ObjId) → unbindable R t s ≡ Ok u → does R core t (UnbindCtx s) ≡ before (wakes (mode_of R t) t) (unbinds u) R
-unbind-acts R core t s u e = does-acts R core t (UnbindCtx s) (unbinds u) (row-unbind R core t s ∙ ap (λ m. acted m unbinds) e)
-
--- the answer of an act that gives a context, after a thread was woken
-pub holds-done : (R : Log) (t s : ObjId) (holder : Option ObjId) → (before (wakes (mode_of R t) t) (holds_act s holder) R).answer ≡ Done
-unfolding before
-holds-done R t s holder = refl
-
 -- the context may be given to the thread
-pub bind-allowed : (R : Log) (t : ObjId) (s x : ℕ) (b : Pair) → Sound R → AreServed R → bindable R t s x ≡ Ok b → Allowed R (rec.Holds b.context (Some b.thread))
-bind-allowed R t s x b sound served e = go (object_named R t kind.Context s) refl (object_named R t kind.Thread x) refl e
+pub bind-allowed : (R : Log) (t : ObjId) (s x : ℕ) (b : Binding) → Sound R → bindable R t s x ≡ Ok b → Allowed R (rec.Holds b.context (Some b.thread))
+bind-allowed R t s x b sound e = go (object_named R t kind.Context s) refl (object_named R t kind.Thread x) refl e
   where
     free : (u v : ObjId) → IsThere R kind.Context u → IsThere R kind.Thread v → (held holds : Option ObjId) → context_of R v ≡ holds
         → cond (is_some held || is_some holds) (Err AlreadyBound) (Ok (record { context = u; thread = v })) ≡ Ok b → Allowed R (rec.Holds b.context (Some b.thread))
     free u v one other None None is h =
         let it : record { context = u; thread = v } ≡ b = cc in
-        subst (λ (p : Pair). Allowed R (rec.Holds p.context (Some p.thread))) it (one, other, context-none R v sound is)
+        subst (λ (p : Binding). Allowed R (rec.Holds p.context (Some p.thread))) it (one, other, context-none R v sound is)
     free u v one other None (Some y) is h = absurd cc
     free u v one other (Some y) holds is h = absurd cc
 
     go : (m : Checked ObjId) → object_named R t kind.Context s ≡ m → (n : Checked ObjId) → object_named R t kind.Thread x ≡ n → free_pair R (pair_of m n) ≡ Ok b → Allowed R (rec.Holds b.context (Some b.thread))
     go (Err why) p n q h = absurd cc
     go (Ok u) p (Err why) q h = absurd cc
-    go (Ok u) p (Ok v) q h = free u v (named-there R t kind.Context s u sound served p) (named-there R t kind.Thread x v sound served q) (holder_of R u) (context_of R v) refl h
+    go (Ok u) p (Ok v) q h = free u v (named-there R t kind.Context s u sound p) (named-there R t kind.Thread x v sound q) (holder_of R u) (context_of R v) refl h
 
 -- the context may be taken away
 pub unbind-allowed : (R : Log) (t : ObjId) (s : ℕ) (u : ObjId) → unbindable R t s ≡ Ok u → Allowed R (rec.Holds u None)

@@ -9,39 +9,22 @@ use Rattle.mcs_book.specs.Logs.{Log}
 use Rattle.mcs_book.specs.Checks.{Checked}
 use Rattle.mcs_book.specs.Contexts.{holder_of, context_of}
 use Rattle.mcs_book.specs.Pieces.{Act, say, answers}
-use Rattle.mcs_state.specs.declared.numbers.ContextNo.{ContextNo}
-use Rattle.mcs_state.specs.Numbers.{context_at}
-use Rattle.mcs_ipc.specs.Rows.{object_named}
+use Rattle.mcs_state.specs.Checks.{object_named}
 use Rattle.mcs_ipc.specs.declared.contexts.Binding.{Binding}
 
--- a context, and the thread that is to hold it
-pub record Pair : Type 0 where
-  pub context : ObjId
-  pub thread : ObjId
-
--- a context that was found, by its number
-abbrev pub context_by : Checked ContextNo → Checked ObjId
-context_by (Err why) = Err why
-context_by (Ok s) = Ok (context_at s.0)
-
--- a context and a thread that were found, by the number of the context
-abbrev pub binding_by : Checked Binding → Checked Pair
-binding_by (Err why) = Err why
-binding_by (Ok b) = Ok (record { context = context_at b.context.0; thread = b.thread })
-
 -- a context and a thread, of which the first is tested first
-abbrev pub pair_of : Checked ObjId → Checked ObjId → Checked Pair
+abbrev pub pair_of : Checked ObjId → Checked ObjId → Checked Binding
 pair_of (Err why) thread = Err why
 pair_of (Ok s) (Err why) = Err why
 pair_of (Ok s) (Ok x) = Ok (record { context = s; thread = x })
 
 -- what was found, where the context is held by nobody, and the thread holds none
-abbrev pub free_pair : Log → Checked Pair → Checked Pair
+abbrev pub free_pair : Log → Checked Binding → Checked Binding
 free_pair R (Err why) = Err why
 free_pair R (Ok b) = cond (is_some (holder_of R b.context) || is_some (context_of R b.thread)) (Err AlreadyBound) (Ok b)
 
 -- the context and the thread that t may bind, or the first check that fails
-abbrev pub bindable : Log → ObjId → ℕ → ℕ → Checked Pair
+abbrev pub bindable : Log → ObjId → ℕ → ℕ → Checked Binding
 bindable R t s x = free_pair R (pair_of (object_named R t Context s) (object_named R t Thread x))
 
 -- what was found, where somebody holds it

@@ -1,47 +1,24 @@
 -- The rows of sends and receives, in the parts in which the code does them.
-use Rattle.std.specs.Prelude.{ℕ, Bool, true, false, cond, Option, Some, None, Ok, Err}
+use Rattle.std.specs.Prelude.{ℕ, Bool, true, false, Option, Some, None, Ok, Err}
 use Rattle.mcs_types.specs.Views.{Content}
 use Rattle.mcs_types.specs.declared.id.ObjId.{ObjId}
-use Rattle.mcs_types.specs.declared.id.Kind.{Kind}
 use Rattle.mcs_types.specs.declared.id.Kind.TheVariants.{Endpoint, Reply}
 use Rattle.mcs_types.specs.declared.cap.Cap.{Cap}
 use Rattle.mcs_types.specs.declared.record.SendMode.TheVariants as how
 use Rattle.mcs_types.specs.declared.entry.Entry.{Entry}
 use Rattle.mcs_types.specs.declared.entry.Entry.TheVariants.{Send, NbSend, Recv, NbRecv, Wait, NbWait}
 use Rattle.mcs_types.specs.declared.entry.Answer.TheVariants.{Done}
-use Rattle.mcs_types.specs.declared.entry.Refusal.TheVariants.{WrongKind, NoRight}
 use Rattle.mcs_book.specs.Logs.{Log}
 use Rattle.mcs_book.specs.Checks.{Checked}
 use Rattle.mcs_book.specs.Lookup.{capability}
-use Rattle.mcs_book.specs.Rights.{is_kind, may_write, may_read}
-use Rattle.mcs_book.specs.Pieces.{Act, nothing, answers}
+use Rattle.mcs_types.specs.declared.record.Mode.TheVariants.{Running}
+use Rattle.mcs_types.specs.declared.record.Queue.TheVariants.{Senders}
+use Rattle.mcs_types.specs.declared.record.Rec.TheVariants.{Took, Parts, Turns}
+use Rattle.mcs_book.specs.Pieces.{Piece, Act, ◌then◌, say, nothing, answers}
 use Rattle.mcs_book.specs.Sending.{letter_over, sends, queues}
 use Rattle.mcs_book.specs.Receiving.{receive_on}
+use Rattle.mcs_state.specs.Checks.{kinded, writable, readable, object_named}
 use Rattle.mcs_ipc.specs.declared.checks.Receiving.{Receiving}
-
--- what was found, where it is a capability to an object of this kind
-abbrev pub kinded : Kind → Checked Cap → Checked Cap
-kinded k (Err why) = Err why
-kinded k (Ok cap) = cond (is_kind k cap) (Ok cap) (Err WrongKind)
-
--- what was found, where one may send over it
-abbrev pub writable : Checked Cap → Checked Cap
-writable (Err why) = Err why
-writable (Ok cap) = cond (may_write cap) (Ok cap) (Err NoRight)
-
--- what was found, where one may receive over it
-abbrev pub readable : Checked Cap → Checked Cap
-readable (Err why) = Err why
-readable (Ok cap) = cond (may_read cap) (Ok cap) (Err NoRight)
-
--- the object of what was found
-abbrev pub object_found : Checked Cap → Checked ObjId
-object_found (Err why) = Err why
-object_found (Ok cap) = Ok cap.obj
-
--- the object of a kind that t names
-abbrev pub object_named : Log → ObjId → Kind → ℕ → Checked ObjId
-object_named R t k a = object_found (kinded k (capability R t a))
 
 -- the reply object that was found
 abbrev pub reply_found : Checked ObjId → Checked (Option ObjId)
@@ -91,3 +68,7 @@ send_act blocking t cap message = sends (letter_over t cap how.Plain message) Do
 -- t receives on an endpoint, with a reply object or without
 unfoldable pub receive_act : Bool → ObjId → Receiving → Act
 receive_act blocking t at = receive_on t at.endpoint at.reply blocking
+
+-- the open message of the first sender of an endpoint, which is no call, is taken: the sender becomes Running
+unfoldable pub taking : ℕ → ObjId → ObjId → ObjId → Piece
+taking number t x e = say (Took number t) then say (Parts x (Senders e)) then say (Turns x Running)

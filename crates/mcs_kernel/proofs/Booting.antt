@@ -1,5 +1,5 @@
 -- What the checks of a line of the boot say of the log.
-use Rattle.std.specs.Prelude.{ℕ, suc, ◌≡◌, ◌<◌, ◌≤◌, ◌+◌, ◌^◌, ◌||◌, Bool, true, false, cond, not, nat_lt, nat_le, List, [], ◌∷◌, ◌++◌, length, Option, Some, None, Result, Ok, Err, IsTrue, IfErr, is_ok, is_none, is_some, unwrap_or, reverse}
+use Rattle.std.specs.Prelude.{ℕ, suc, ◌≡◌, ◌<◌, ◌≤◌, ◌+◌, ◌^◌, ◌||◌, Bool, true, false, cond, not, nat_lt, nat_le, List, [], ◌∷◌, ◌++◌, length, Option, Some, None, Err, IsTrue, is_ok, is_none, is_some, unwrap_or, reverse}
 use Rattle.std.specs.Option.{IfSome}
 use Rattle.std.proofs.lemmas.Grind.{common_steps}
 use Rattle.std.specs.Prelude.{take, drop, get_or}
@@ -10,7 +10,6 @@ use Rattle.mcs_types.specs.declared.id.Kind.{Kind}
 use Rattle.mcs_types.specs.declared.id.Kind.TheVariants as kind
 use Rattle.mcs_types.specs.declared.cap.Cap.{Cap}
 use Rattle.mcs_types.specs.declared.boot.BootLine.{BootLine}
-use Rattle.mcs_types.specs.declared.boot.BootFault.{BootFault}
 use Rattle.mcs_types.specs.declared.boot.BootFault.TheVariants as fault
 use Rattle.mcs_types.specs.declared.record.Form.{Form}
 use Rattle.mcs_types.specs.declared.record.Queue.{Queue}
@@ -20,9 +19,9 @@ use Rattle.mcs_book.specs.Logs.{Log, counted, given}
 use Rattle.mcs_book.specs.Objects.{made_of, makes_kind, was_made, is_alive, number_of, next_id}
 use Rattle.mcs_book.specs.Queues.{queue_of}
 use Rattle.mcs_book.specs.Contexts.{holder_of}
-use Rattle.mcs_book.specs.Checks.{Passed, ◌>>◌, need}
+use Rattle.mcs_book.specs.Checks.{◌>>◌, need}
 use Rattle.mcs_book.specs.Boots.{is_object, has_numbers, has_objects, has_room, is_free, boot_check, boot_log, is_context_any, fits_guard, fits_kind, AreFaultless}
-use Rattle.mcs_book.specs.Served.{AreServed}
+use Rattle.mcs_book.proofs.ServedLaws.{boot-open, plain-served, served-boot}
 use Rattle.mcs_book.specs.Guards.{FitsGuard, FitsSlot}
 use Rattle.mcs_types.specs.declared.cap.Guard.{Guard}
 use Rattle.mcs_book.specs.History.{Line, past}
@@ -34,13 +33,12 @@ use Rattle.mcs_book.specs.Sound.{Sound, Allowed, IsThere, HoldsNone}
 use Rattle.mcs_types.proofs.Ids.{both, parts, same-self, same_kind-equal}
 use Rattle.mcs_book.proofs.Sorted.{In}
 use Rattle.mcs_book.proofs.LineLaws.{standing-made}
-use Rattle.mcs_state.specs.Numbers.{IsName}
-use Rattle.mcs_state.specs.Tables.{ROOM}
-use Rattle.mcs_state.proofs.Naming.{there-name}
-use Rattle.mcs_state.proofs.Answering.{none-closed}
+use Rattle.mcs_types.specs.Limits.{object_limit}
+use Rattle.mcs_state.specs.Making.{HasRoom}
+use Rattle.mcs_kernel.specs.Booted.{IsBooting}
 
 -- as many objects of a kind stand in its list as were made
-length-made : (R : Log) (k : Kind) → length (made_of R k) ≡ counted (makes_kind k) R
+pub length-made : (R : Log) (k : Kind) → length (made_of R k) ≡ counted (makes_kind k) R
 length-made [] k = refl
 length-made (rec.Made o form ∷ R) k = go (same_kind o.kind k) (length-made R k)
   where
@@ -74,22 +72,18 @@ listed-made (rec.Made u form ∷ R) k o i = go (same_kind u.kind k) i (listed-ma
 listed-made (_ ∷ R) k o i = listed-made R k o i
 
 -- what was made is there
-pub made-alive : (R : Log) (o : ObjId) → AreServed R → was_made R o ≡ true → is_alive R o ≡ true
-made-alive R o served h = both _ _ h (ap (λ b. not b) (none-closed R o served))
+pub made-alive : (R : Log) (o : ObjId) → IsBooting R → was_made R o ≡ true → is_alive R o ≡ true
+made-alive R o boots h = both _ _ h (ap (λ b. not b) (boots.alive o))
 
 -- as many of a kind are there as were made
-pub number-made : (R : Log) (k : Kind) → AreServed R → number_of R k ≡ counted (makes_kind k) R
-number-made R k served = counted-all (is_alive R) (made_of R k) (λ x i. made-alive R x served (listed-made R k x i)) ∙ length-made R k
+pub number-made : (R : Log) (k : Kind) → IsBooting R → number_of R k ≡ counted (makes_kind k) R
+number-made R k boots = counted-all (is_alive R) (made_of R k) (λ x i. made-alive R x boots (listed-made R k x i)) ∙ length-made R k
 
 -- an object that was made is there
-pub object-there : (R : Log) (k : Kind) (o : ObjId) → AreServed R → is_object R k o ≡ true → IsThere R k o
-object-there R k o served h =
+pub object-there : (R : Log) (k : Kind) (o : ObjId) → IsBooting R → is_object R k o ≡ true → IsThere R k o
+object-there R k o boots h =
     let p : (same_kind o.kind k ≡ true) × (was_made R o ≡ true) = parts _ _ h in
-    (same_kind-equal o.kind k p.0, made-alive R o served p.1)
-
--- an object that was made has a name of its kind
-pub object-name : (R : Log) (k : Kind) (o : ObjId) → Sound R → AreServed R → counted (makes_kind k) R ≤ ROOM → is_object R k o ≡ true → IsName k o
-object-name R k o sound served few h = there-name R k o sound few (object-there R k o served h)
+    (same_kind-equal o.kind k p.0, made-alive R o boots p.1)
 
 -- the next object of a kind was not made
 pub next-unmade : (R : Log) (k : Kind) → Sound R → was_made R (next_id R k) ≡ true → ⊥
@@ -131,8 +125,13 @@ next-stands-none R sound = go (queue_of R (next_id R kind.Thread)) refl
     go (Some q) e = absurd (next-unmade R kind.Thread sound (listed-made R kind.Thread (next_id R kind.Thread) (standing-made R (next_id R kind.Thread) q sound e)))
 
 -- a thread that was just made is there
-pub new-there : (R : Log) (form : Form) → AreServed R → IsThere (rec.Made (next_id R kind.Thread) form ∷ R) kind.Thread (next_id R kind.Thread)
-new-there R form served = let t : ObjId = next_id R kind.Thread in (refl, both _ _ (rw (same-self t) refl) (ap (λ b. not b) (none-closed R t served)))
+pub new-there : (R : Log) (form : Form) → IsBooting R → IsThere (rec.Made (next_id R kind.Thread) form ∷ R) kind.Thread (next_id R kind.Thread)
+new-there R form boots = let t : ObjId = next_id R kind.Thread in (refl, both _ _ (rw (same-self t) refl) (ap (λ b. not b) (boots.alive t)))
+
+-- and it may be given a mode
+pub new-turns : (R : Log) (form : Form) (p : Prio) (mode : Mode) → IsBooting R → Sound R → Allowed (rec.Prio (next_id R kind.Thread) p ∷ rec.Made (next_id R kind.Thread) form ∷ R) (rec.Turns (next_id R kind.Thread) mode)
+new-turns R form p mode boots sound =
+    (new-there R form boots, (next-stands-none R sound, λ r e. let no : None ≡ Some (next_id R kind.Thread) = sym (boots.plain.owed r) ∙ e in absurd cc))
 
 -- the checks of a line that has no fault
 pub record AreHeld (cores : ℕ) (R : Log) (line : BootLine) : Type 0 where
@@ -153,6 +152,10 @@ held cores R line h = go (has_numbers cores R line) refl (has_objects R line) re
     go true e true f false k d l h = absurd cc
     go true e false f c k d l h = absurd cc
     go false e b f c k d l h = absurd cc
+
+-- so did the line that it is
+pub held-as : (cores : ℕ) (R : Log) (line other : BootLine) → line ≡ other → IsTrue (is_ok (boot_check cores R line)) → AreHeld cores R other
+held-as cores R line other is h = subst (AreHeld cores R) is (held cores R line h)
 
 -- a number out of its range is the first fault
 pub wrong-number : (cores : ℕ) (R : Log) (line : BootLine) → has_numbers cores R line ≡ false → boot_check cores R line ≡ Err fault.Number
@@ -179,15 +182,6 @@ pub nothing-wrong : (cores : ℕ) (R : Log) (line : BootLine) → has_numbers co
 unfolding boot_check ◌>>◌ need
 nothing-wrong cores R line e f k l = rw (e, f, k, l) refl
 
--- what is said of the fault of checks that were passed
-pub if-passed : (m : Result Passed BootFault) (P : BootFault → Type 0) → IsTrue (is_ok m) → IfErr m P
-if-passed (Ok x) P h = tt
-if-passed (Err f) P h = absurd cc
-
--- what is said of the fault that checks gave
-pub if-wrong : (m : Result Passed BootFault) (P : BootFault → Type 0) (f : BootFault) → m ≡ Err f → P f → IfErr m P
-if-wrong m P f e h = rw e h
-
 -- what a test for nothing answers
 pub none-is : {A : Type 0} (o : Option A) (b : Bool) → is_some o ≡ not b → b ≡ is_none o
 none-is None true h = refl
@@ -196,10 +190,16 @@ none-is (Some x) true h = absurd cc
 none-is (Some x) false h = refl
 
 -- fewer are there than a limit, so fewer were made
-pub few-made : (R : Log) (k : Kind) (limit : ℕ) → AreServed R → nat_lt (number_of R k) limit ≡ true → counted (makes_kind k) R < limit
-few-made R k limit served h =
-    let lt : nat_lt (counted (makes_kind k) R) limit ≡ true = ap (λ n. nat_lt n limit) (sym (number-made R k served)) ∙ h in
+pub few-made : (R : Log) (k : Kind) (limit : ℕ) → IsBooting R → nat_lt (number_of R k) limit ≡ true → counted (makes_kind k) R < limit
+few-made R k limit boots h =
+    let lt : nat_lt (counted (makes_kind k) R) limit ≡ true = ap (λ n. nat_lt n limit) (sym (number-made R k boots)) ∙ h in
     grind (arith, common_steps, lt)
+
+-- so there is room for one more
+pub has-room : (R : Log) (k : Kind) → IsBooting R → nat_lt (number_of R k) object_limit ≡ true → HasRoom R k
+has-room R k boots h =
+    let made = few-made R k object_limit boots h in
+    record { few = grind (arith, common_steps, h); fresh = omega (arith, made) }
 
 -- a guard that passes its test fits
 pub fits-test : (g : Guard) → fits_guard g ≡ true → FitsGuard g
@@ -222,25 +222,24 @@ fits-slot cap h = go cap.obj.kind refl h
     go kind.Context e f = rw e tt
 
 -- a context that a line names may be given to the thread that the line makes
-pub gives-allowed : (R : Log) (form : Form) (p : Prio) (mode : Mode) (context : Option ObjId) → Sound R → AreServed R → is_context_any R context ≡ true
+pub gives-allowed : (R : Log) (form : Form) (p : Prio) (mode : Mode) (context : Option ObjId) → Sound R → IsBooting R → is_context_any R context ≡ true
     → IfSome context (λ s. Allowed (rec.Turns (next_id R kind.Thread) mode ∷ rec.Prio (next_id R kind.Thread) p ∷ rec.Made (next_id R kind.Thread) form ∷ R) (rec.Holds s (Some (next_id R kind.Thread))))
-gives-allowed R form p mode None sound served h = tt
-gives-allowed R form p mode (Some s) sound served h =
-    let there = object-there R kind.Context s served h in
-    ((there.0, both _ _ (more (same s (next_id R kind.Thread)) (parts _ _ there.1).0) (parts _ _ there.1).1), new-there R form served, next-holds-none R sound)
+gives-allowed R form p mode None sound boots h = tt
+gives-allowed R form p mode (Some s) sound boots h =
+    let there = object-there R kind.Context s boots h in
+    ((there.0, both _ _ (more (same s (next_id R kind.Thread)) (parts _ _ there.1).0) (parts _ _ there.1).1), new-there R form boots, next-holds-none R sound)
   where
     more : (b : Bool) → was_made R s ≡ true → (b || was_made R s) ≡ true
     more true i = refl
     more false i = i
 
--- a context that a line names has a name
-pub context-name : (R : Log) (context : Option ObjId) → Sound R → AreServed R → counted (makes_kind kind.Context) R ≤ ROOM → is_context_any R context ≡ true → IfSome context (λ s. IsName kind.Context s)
-context-name R None sound served few h = tt
-context-name R (Some s) sound served few h = object-name R kind.Context s sound served few h
-
 -- while only the boot was taken, its log is all there is
 pub so-far-boot : (n : Now) → n.hand ≡ [] → n.book.lines ≡ [] → so_far n ≡ boot_log n.book.boot.lines
 so-far-boot n h l = ap (λ (w : Log). w ++ past (boot_log n.book.boot.lines) n.book.lines) h ∙ ap (λ (ls : List Line). past (boot_log n.book.boot.lines) ls) l
+
+-- and nothing was closed
+pub boots : (n : Now) → n.hand ≡ [] → n.book.lines ≡ [] → IsBooting (so_far n)
+boots n h l = let lines : List BootLine = n.book.boot.lines in subst IsBooting (sym (so-far-boot n h l)) (record { alive = λ o. boot-open lines o; plain = plain-served (boot_log lines) (served-boot lines) })
 
 -- the older lines of a boot without fault have none
 pub faultless-older : (cores : ℕ) (newer older : List BootLine) → AreFaultless cores (newer ++ older) → AreFaultless cores older

@@ -1,6 +1,6 @@
 -- What is known of an entry that is let in, and of the book after it.
-use Rattle.std.specs.Prelude.{◌≡◌, ◌≢◌, ◌<◌, ◌+◌, ◌++◌, ◌&&◌, Bool, true, false, cond, List, [], length, reverse, Option, Some, None, option_and_then}
-use Rattle.std.proofs.Common.{refl, ap, ◌∙◌, arith}
+use Rattle.std.specs.Prelude.{◌≡◌, ◌≢◌, ◌<◌, ◌≤◌, ◌+◌, ◌∷◌, ◌++◌, ◌&&◌, Bool, true, false, cond, List, [], length, reverse, Option, Some, None, option_and_then}
+use Rattle.std.proofs.Common.{refl, ap, sym, subst, ◌∙◌, arith}
 use Rattle.std.proofs.lemmas.Grind.{common_steps}
 use Rattle.std.proofs.lemmas.List.{reverse-reverse, append-nil}
 use Rattle.mcs_types.specs.declared.id.ObjId.{ObjId}
@@ -19,13 +19,32 @@ use Rattle.mcs_book.specs.Queues.{queue_of}
 use Rattle.mcs_book.specs.Contexts.{context_of}
 use Rattle.mcs_book.specs.Replies.{owing}
 use Rattle.mcs_book.specs.Standing.{status_of, status_by, is_ready, is_on_core, may_enter}
-use Rattle.mcs_book.specs.History.{Book, IsLegal, log_of, line_limit}
+use Rattle.mcs_book.specs.History.{Book, IsLegal, log_of}
+use Rattle.mcs_types.specs.Limits.{line_limit}
 use Rattle.mcs_types.specs.Ranges.{InRange}
 use Rattle.mcs_types.proofs.Ids.{parts, both}
 use Rattle.mcs_book.proofs.EntersLaws.{enters-ready}
-use Rattle.mcs_book.proofs.FirmLaws.{Firm, root-there}
+use Rattle.mcs_book.proofs.FirmLaws.{Firm, firm-sound, owing-none, root-there}
 use Rattle.mcs_state.proofs.Opening.{onto-reverse}
-use Rattle.mcs_state.specs.Entering.{IsEntering}
+use Rattle.mcs_state.specs.Entering.{IsEntering, OpenStand}
+use Rattle.mcs_state.specs.Doing.{Does, Fits}
+use Rattle.mcs_state.specs.Tables.{ROOM}
+use Rattle.mcs_types.specs.declared.entry.Answer.{Answer}
+use Rattle.mcs_types.specs.declared.entry.Entry.{Entry}
+use Rattle.mcs_book.specs.Logs.{counted}
+use Rattle.mcs_book.specs.Objects.{makes_kind}
+use Rattle.mcs_book.specs.Pieces.{Outcome}
+use Rattle.mcs_book.specs.Table.{does}
+use Rattle.mcs_book.specs.Served.{AreServed, IsPlain}
+use Rattle.mcs_types.specs.Served.{IsServed}
+use Rattle.mcs_book.proofs.LengthRows.{does-short}
+use Rattle.mcs_book.proofs.SendersOpen.{legal-senders}
+use Rattle.mcs_book.proofs.ServedLaws.{plain-served, chain-none, served-does, served-boot}
+use Rattle.mcs_book.specs.Boots.{Boot, IsFaultless}
+use Rattle.mcs_book.proofs.SoundBooks.{legal-firm}
+use Rattle.mcs_ipc.specs.Ready.{NoChains}
+use Rattle.mcs_kernel.specs.Resting.{IsResting}
+use Rattle.mcs_kernel.proofs.Booting.{length-made}
 use Rattle.mcs_types.specs.declared.entry.Step.{Step}
 use Rattle.mcs_state.specs.Now.{Now, so_far}
 use Rattle.mcs_kernel.specs.declared.fault.EnterFault.TheVariants.{NotRunning, WrongCore, BookFull}
@@ -71,7 +90,7 @@ awake R core t h still = go (same_kind t.kind kind.Thread && was_made R t) (was_
 pub enters : (R : Log) (core : CoreId) (t : ObjId) → Firm R → may_enter R core t ≡ true → IsEntering R t
 enters R core t firm h =
     let e = enters-ready R core t h in
-    record { there = (e.thread, e.alive); idle = e.stands_none; awake = awake R core t h; rooted = λ root is. root-there R t root firm is }
+    record { there = (e.thread, e.alive); idle = (e.stands_none, owing-none R t (firm-sound R firm) e.owed_none); awake = awake R core t h; rooted = λ root is. root-there R t root firm is }
 
 -- the records so far of a state whose hand is empty
 pub so_far-book : (n : Now) (b : Book) → n.hand ≡ [] → n.book ≡ b → so_far n ≡ log_of b
@@ -87,3 +106,88 @@ legal-entered b s legal may range = record {
   boot = legal.boot;
   lines = (record { enters = may; in_range = range; answer = refl; records = refl }, legal.lines);
 }
+
+-- no entry has more records than a line may have
+pub entry-fits : (n : Now) (core : CoreId) (t : ObjId) (entry : Entry) → n.hand ≡ [] → counted (makes_kind kind.Thread) (so_far n) ≤ ROOM → Fits n core t entry
+entry-fits n core t entry empty few =
+    let short = does-short (so_far n) core t entry in
+    let all = length-made (so_far n) kind.Thread in
+    let none = ap length empty in
+    omega (arith, short, all, none, few)
+
+-- an entry s was done on a state n whose hand is empty, and whose book is b
+module _ (b : Book) (s : Step) (n m : Now) (a : Answer) (empty : n.hand ≡ []) (is : n.book ≡ b) (did : Does n s.core s.thread s.entry a m) where
+  same-outcome : does (so_far n) s.core s.thread s.entry ≡ does (log_of b) s.core s.thread s.entry
+  same-outcome = ap (λ R. does R s.core s.thread s.entry) (so_far-book n b empty is)
+
+  -- its answer
+  pub answer-entered : a ≡ (does (log_of b) s.core s.thread s.entry).answer
+  answer-entered = did.answer ∙ ap (λ (o : Outcome). o.answer) same-outcome
+
+  -- and its line
+  pub line-entered : (told : Answer) → told ≡ a → record m.book { lines = (record { step = s; answer = told; records = reverse m.hand }) ∷ m.book.lines } ≡ entered b s
+  line-entered told same_told =
+      let make : Book → Answer → List Rec → Book = λ x y rs. record x { lines = (record { step = s; answer = y; records = rs }) ∷ x.lines } in
+      let recs : reverse m.hand ≡ (does (log_of b) s.core s.thread s.entry).records = ap (λ (k : Now). reverse k.hand) did.records ∙ hand-records _ n.hand empty ∙ ap (λ (o : Outcome). o.records) same-outcome in
+      let book : m.book ≡ b = ap (λ (k : Now). k.book) did.records ∙ is in
+      ap (λ x. make x told (reverse m.hand)) book ∙ ap (λ y. make b y (reverse m.hand)) (same_told ∙ answer-entered) ∙ ap (λ rs. make b ((does (log_of b) s.core s.thread s.entry).answer) rs) recs
+
+-- a kernel at rest made room for the line of a thread t that is let in on a core; b is its book
+pub record IsServing (b : Book) (core : CoreId) (t : ObjId) (n : Now) : Type 0 where
+  pub hand : n.hand ≡ []
+  pub book : n.book ≡ b
+  pub legal : IsLegal b
+  pub served : AreServed (log_of b)
+  pub may : may_enter (log_of b) core t ≡ true
+  pub few : length b.lines + 1 < line_limit
+
+-- so it is where there is no fault
+pub serving : (b : Book) (core : CoreId) (t : ObjId) (n m : Now) → IsResting n → n.book ≡ b → fault_of b core t ≡ None → m.hand ≡ n.hand → m.book ≡ n.book → IsServing b core t m
+serving b core t n m rests is none hand book =
+    let f = fault-none b core t none in
+    record { hand = hand ∙ rests.hand; book = book ∙ is; legal = subst IsLegal is rests.legal; served = subst (λ (x : Book). AreServed (log_of x)) is rests.served; may = f.0; few = f.1 }
+
+module _ (b : Book) (core : CoreId) (t : ObjId) (n : Now) (s : IsServing b core t n) where
+  -- the records so far are those of the book
+  records-are : log_of b ≡ so_far n
+  records-are = sym (so_far-book n b s.hand s.book)
+
+  -- the thread may act
+  pub serving-enters : IsEntering (so_far n) t
+  serving-enters = subst (λ R. IsEntering R t) records-are (enters (log_of b) core t (legal-firm b s.legal) s.may)
+
+  -- open messages are queued
+  pub serving-stands : OpenStand (so_far n)
+  serving-stands = subst OpenStand records-are ((legal-senders b s.legal).open_queued)
+
+  -- nobody is owed, bound or calling
+  pub serving-plain : IsPlain (so_far n)
+  serving-plain = subst IsPlain records-are (plain-served (log_of b) s.served)
+
+  -- and no context came along a chain
+  pub serving-chains : NoChains (so_far n)
+  serving-chains = subst NoChains records-are (λ c. chain-none (log_of b) c s.served)
+
+  -- the kernel is at rest again when the line was closed
+  pub rests-again : (entry : Entry) (a told : Answer) (m after : Now) → IsServed entry → InRange entry → (did : Does n core t entry a m) → told ≡ a → after.hand ≡ []
+      → after.book ≡ record m.book { lines = (record { step = record { core = core; thread = t; entry = entry }; answer = told; records = reverse m.hand }) ∷ m.book.lines } → IsResting after
+  rests-again entry a told m after served range did same_told hand closed =
+      let step : Step = record { core = core; thread = t; entry = entry } in
+      let line : entered b step ≡ after.book = sym (closed ∙ line-entered b step n m a s.hand s.book did told same_told) in
+      let few = s.few in
+      let longer = ap (λ (x : Book). length x.lines) line in
+      record {
+        hand = hand;
+        legal = subst IsLegal line (legal-entered b step s.legal s.may range);
+        few = omega (arith, longer, few);
+        served = subst (λ (x : Book). AreServed (log_of x)) line (served-does (log_of b) core t entry served s.served);
+      }
+
+-- a state of a boot alone is at rest
+pub rests-begun : (boot : Boot) (n : Now) → IsFaultless boot → n.hand ≡ [] → n.book ≡ record { boot = boot; lines = [] } → IsResting n
+rests-begun boot n faultless hand is =
+    let begun : Book = record { boot = boot; lines = [] } in
+    let legal : IsLegal begun = record { boot = faultless; lines = tt } in
+    let back : begun ≡ n.book = sym is in
+    let none = ap (λ (b : Book). length b.lines) is in
+    record { hand = hand; legal = subst IsLegal back legal; few = omega (arith, none); served = subst (λ (b : Book). AreServed (log_of b)) back (served-boot boot.lines) }

@@ -1,16 +1,20 @@
 -- Why an entry is turned away, memory aside.
-use Rattle.std.specs.Prelude.{◌+◌, Bool, cond, nat_lt, Option, Some, None, length, ◌∷◌}
+use Rattle.std.specs.Prelude.{◌≡◌, ◌+◌, Result, Bool, cond, nat_lt, Option, Some, None, length, ◌∷◌}
 use Rattle.mcs_types.specs.declared.id.ObjId.{ObjId}
 use Rattle.mcs_types.specs.declared.id.CoreId.{CoreId}
+use Rattle.std.specs.Result.{IfErr}
 use Rattle.mcs_types.specs.declared.entry.Step.{Step}
+use Rattle.mcs_types.specs.declared.entry.Entry.{Entry}
+use Rattle.mcs_types.specs.declared.entry.Answer.{Answer}
 use Rattle.mcs_book.specs.Objects.{form_of}
 use Rattle.mcs_book.specs.Contexts.{context_of}
 use Rattle.mcs_book.specs.Standing.{status_of, is_ready, is_on_core}
-use Rattle.mcs_book.specs.History.{Book, log_of, line_limit}
+use Rattle.mcs_book.specs.History.{Book, log_of}
+use Rattle.mcs_types.specs.Limits.{line_limit}
 use Rattle.mcs_book.specs.Table.{does}
 use Rattle.mcs_book.specs.History.{line_for}
 use Rattle.mcs_kernel.specs.declared.fault.EnterFault.{EnterFault}
-use Rattle.mcs_kernel.specs.declared.fault.EnterFault.TheVariants.{NotRunning, NoContext, WrongCore, BookFull}
+use Rattle.mcs_kernel.specs.declared.fault.EnterFault.TheVariants.{NotRunning, NoContext, WrongCore, BookFull, OutOfMemory}
 
 -- whether the book has fewer lines than it may have, the boot's among them
 abbrev pub has_room : Book → Bool
@@ -28,3 +32,11 @@ fault_of b core t = cond (is_ready (status_of (log_of b) t)) (context_fault b co
 -- the book with the line of a step that is let in
 abbrev pub entered : Book → Step → Book
 entered b s = record b { lines = line_for s (does (log_of b) s.core s.thread s.entry) ∷ b.lines }
+
+-- the same, by the parts of the step
+abbrev pub with_entry : Book → CoreId → ObjId → Entry → Book
+with_entry b core t entry = entered b (record { core = core; thread = t; entry = entry })
+
+-- a fault is that memory was refused
+abbrev pub FailsForMemory : Result Answer EnterFault → Type 0
+FailsForMemory result = IfErr result (λ f. f ≡ OutOfMemory)

@@ -1,2 +1,4 @@
 pub mod Faults
 pub mod Runs
+pub mod Resting
+pub mod Booted

@@ -2,8 +2,9 @@
 use Rattle.std.specs.Prelude.{ℕ, ◌≡◌, ◌≤◌, ◌+◌, Bool, true, false, cond, Option, Some, None, List, [], ◌∷◌}
 use Rattle.std.specs.Option.{IfSome}
 use Rattle.mcs_types.specs.declared.entry.Step.{Step}
+use Rattle.mcs_book.specs.Boots.{Boot}
 use Rattle.mcs_book.specs.History.{Book, with_step}
-use Rattle.mcs_book.specs.Served.{IsServed}
+use Rattle.mcs_types.specs.Served.{IsServed}
 use Rattle.mcs_kernel.specs.Faults.{fault_of}
 use Rattle.mcs_kernel.specs.declared.fault.ReplayFault.{ReplayFault}
 use Rattle.mcs_kernel.specs.declared.fault.ReplayFault.TheVariants as ended
@@ -19,6 +20,10 @@ is_book_full _ = false
 abbrev pub full_after : ℕ → Book → List Step → Option ℕ
 full_after n b [] = None
 full_after n b (s ∷ ss) = cond (is_book_full (fault_of b s.core s.thread)) (Some (n + 1)) (full_after (n + 1) (with_step b s) ss)
+
+-- the same, of steps that begin with a boot
+abbrev pub full_in : Boot → List Step → Option ℕ
+full_in boot ss = full_after 0 (record { boot = boot; lines = [] }) ss
 
 -- each step is of a kind that the kernel takes
 abbrev pub AreServed : List Step → Type 0

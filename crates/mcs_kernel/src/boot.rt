@@ -1,20 +1,20 @@
 //! The boot: how a machine begins (own).
-ghost use Rattle.std.specs.Prelude.{◌≡◌, ◌≤◌, ◌<◌, ◌≢◌, ◌⊎◌, ◌↔◌, ◌∷◌, [], if◌then◌else◌, IsTrue, IfOk, IfErr, OnOk, OnErr, Some, None, Err, is_ok, reverse};
-ghost use Rattle.mcs_types.specs.declared.id.Kind.{Kind};
+ghost use Rattle.std.specs.Prelude.{◌≡◌, ◌<◌, ◌≢◌, ◌⊎◌, ◌↔◌, [], IsTrue, IfOk, IfErr, OnOk, OnErr, Err, is_ok, reverse};
 ghost use Rattle.mcs_types.specs.declared.boot.BootFault.{BootFault};
 ghost use Rattle.mcs_book.specs.Logs.{counted};
-ghost use Rattle.mcs_book.specs.Objects.{makes_kind, form_of};
-ghost use Rattle.mcs_book.specs.Lookup.{radix_kept};
-ghost use Rattle.mcs_book.specs.Placing.{core_limit};
-ghost use Rattle.mcs_book.specs.Boots.{boot_check, boot_log, is_object, IsFaultless};
+ghost use Rattle.mcs_book.specs.Objects.{makes_kind};
+ghost use Rattle.mcs_types.specs.Limits.{core_limit};
+ghost use Rattle.mcs_book.specs.Boots.{boot_log, IsFaultless};
+ghost use Rattle.mcs_kernel.specs.Booted.{adds_line, line_check, radix_made};
 
 mod checks;
 mod taking;
 
 use checks::{check, exists_as};
-use mcs_queues::{Lines, PlainLines};
+use mcs_queues::PlainLines;
 use mcs_state::State;
 use mcs_types::{BootFault, BootLine, CORES, Kind, ObjId, OutOfMemory};
+use mcs_waiting::{ObjectQueues, Waiting};
 use std::alloc::Global;
 use std::marker::Model;
 use taking::takes_line;
@@ -23,7 +23,7 @@ use taking::takes_line;
 /// first.
 #[derive(Drop)]
 pub struct Boot {
-    state: State<PlainLines>,
+    state: State<ObjectQueues<PlainLines>>,
 }
 
 impl Model for Boot {
@@ -59,11 +59,12 @@ impl Boot {
     /// made (4), there are too many objects (5), a slot is filled or a context is held already (6): the first of these;
     /// or where memory is refused (10).
     pub fn add(&mut self, line: BootLine) -> Result<(), BootFault>
-        ensures ok { OnOk result (self.new ≡ record self.old { lines = line ∷ self.old.lines }) }
+        ensures ok { OnOk result (self.new ≡ adds_line self.old line) }
         ensures err { OnErr result (self.new ≡ self.old) }
-        ensures passed { OnOk result (IsTrue (is_ok (boot_check self.old.cores (boot_log self.old.lines) line))) }
-        ensures wrong { IfErr (boot_check self.old.cores (boot_log self.old.lines) line) (λ f. result ≡ Err f) }
-        ensures fault { IfErr result (λ f. f ≢ BootFault.OutOfMemory → boot_check self.old.cores (boot_log self.old.lines) line ≡ Err f) }
+        ensures passed { OnOk result (IsTrue (is_ok (line_check self.old line))) }
+        ensures wrong { IfErr (line_check self.old line) (λ f. result ≡ Err f) }
+        ensures fault { IfErr result (λ f. f ≢ BootFault.OutOfMemory → line_check self.old line
+            ≡ Err f) }
     {
         check(&self.state, &line)?;
         match takes_line(&mut self.state, line) {
@@ -90,12 +91,12 @@ impl Boot {
     pub fn made(&self, kind: Kind) -> u32
         ensures { result ≡ counted (makes_kind kind) (boot_log self.now.lines) }
     {
-        self.state.made(kind) as u32
+        self.state.made(kind)
     }
 
     /// How many bits name a slot of a CNode; None where it was not made.
     pub fn radix(&self, cnode: ObjId) -> Option<u8>
-        ensures { result ≡ (if is_object (boot_log self.now.lines) Kind.CNode cnode then Some (radix_kept (form_of (boot_log self.now.lines) cnode)) else None) }
+        ensures { result ≡ radix_made self.now cnode }
     {
         if !exists_as(&self.state, Kind::CNode, cnode) {
             return None;
@@ -112,7 +113,7 @@ impl Boot {
 }
 
 /// A state after the lines of a boot.
-pub(crate) fn boot_state<L: Lines>(alloc: Global, boot: &Boot) -> Result<State<L>, OutOfMemory>
+pub(crate) fn boot_state<W: Waiting>(alloc: Global, boot: &Boot) -> Result<State<W>, OutOfMemory>
     ensures book { IfOk result (λ s. s.book ≡ record { boot = boot.now; lines = [] }) }
     ensures hand { IfOk result (λ s. s.hand ≡ []) }
 {

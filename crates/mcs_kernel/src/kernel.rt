@@ -1,20 +1,17 @@
 //! The kernel.
-ghost use Rattle.std.specs.Prelude.{◌≡◌, ◌<◌, ◌+◌, ◌∷◌, [], IfOk, OnOk, OnErr, IfErr, IfSome, IfNone, IsTrue, length, Err, Some, None, ◌⊎◌};
-ghost use Rattle.mcs_types.specs.declared.id.CoreId.{CoreId};
-ghost use Rattle.mcs_types.specs.declared.entry.Entry.{Entry};
+ghost use Rattle.std.specs.Prelude.{◌≡◌, ◌<◌, [], IfOk, OnOk, OnErr, IfSome, IfNone, length, Err, None};
 ghost use Rattle.mcs_book.specs.History.{IsLegal, log_of};
 ghost use Rattle.mcs_book.specs.Each.{EachRecord, EachLine, AfterEachLine};
 ghost use Rattle.mcs_book.specs.Fair.{EndsOpen, IsWholeLine, TakesFirst, TakesInOrder, TakesAlive, SendersAreOpen, AnswersOwed, AnswersWhole, NoneWaitBeside};
 ghost use Rattle.mcs_book.specs.Standing.{may_enter};
-ghost use Rattle.mcs_book.specs.Served.{IsServed};
-ghost use Rattle.mcs_types.specs.Ranges.{InRange, IsPlace, IsWord};
+ghost use Rattle.mcs_book.specs.Served.{IsPlain};
+ghost use Rattle.mcs_types.specs.Served.{IsServed};
 ghost use Rattle.mcs_book.specs.Table.{does};
-ghost use Rattle.mcs_state.specs.Numbers.{thread_at};
-ghost use Rattle.mcs_state.specs.Now.{so_far, adds_all};
-ghost use Rattle.mcs_state.specs.Tables.{HAND, ROOM};
+ghost use Rattle.mcs_state.specs.Now.{so_far};
+ghost use Rattle.mcs_state.specs.Doing.{Does, Fits};
 ghost use Rattle.mcs_state.specs.Entering.{IsEntering, OpenStand};
-ghost use Rattle.mcs_kernel.specs.declared.fault.EnterFault.{EnterFault};
-ghost use Rattle.mcs_kernel.specs.Faults.{fault_of, entered};
+ghost use Rattle.mcs_ipc.specs.Ready.{NoChains};
+ghost use Rattle.mcs_kernel.specs.Faults.{fault_of, with_entry, FailsForMemory};
 
 mod queries;
 
@@ -23,133 +20,65 @@ use crate::fault::EnterFault;
 use mcs_book::Book;
 use mcs_caps::{copy_cap, mint_cap, move_cap};
 use mcs_ipc::{bind_context, nb_receive, nb_send, nb_wait, receive, send, unbind_context, wait};
-use mcs_queues::{Lines, ThreadNo};
+use mcs_queues::Lines;
 use mcs_state::State;
-use mcs_types::{
-    Answer, BOOK_LINES, Badge, CoreId, Entry, ObjId, OutOfMemory, Place, Status, Step,
-};
+use mcs_types::{Answer, BOOK_LINES, CoreId, Entry, ObjId, OutOfMemory, Status, Step};
+use mcs_waiting::{ObjectQueues, Waiting};
 use std::alloc::Global;
 use std::marker::Model;
 
 /// The kernel. Clauses see its book.
 #[derive(Drop)]
 pub struct Kernel<L: Lines> {
-    state: State<L>,
+    state: State<ObjectQueues<L>>,
 }
 
 impl<L: Lines> Model for Kernel<L> {
-    ghost use Rattle.std.specs.Prelude.{◌≡◌, ◌<◌, [], length};
-    ghost use Rattle.mcs_book.specs.History.{Book, IsLegal, line_limit};
+    ghost use Rattle.mcs_book.specs.History.{Book};
+    ghost use Rattle.mcs_kernel.specs.Resting.{IsResting};
 
     ghost Value = { Book };
 
     ghost view = { λ k. k.state.book };
 
-    ghost invariant = { λ k. (k.state.hand ≡ []) × IsLegal k.state.book × (length k.state.book.lines < line_limit) };
-}
-
-/// The numbers of a place are in their ranges.
-fn place_is_in_range(place: &Place)
-    ensures { IsPlace place.now }
-{
-    let _index = place.index;
-    let _depth = place.depth;
-}
-
-/// A badge is a word.
-fn badge_is_in_range(badge: &Badge)
-    ensures { IsWord badge.now.0 }
-{
-    let _badge = badge.0;
-}
-
-/// The numbers of an entry are in their ranges.
-fn is_in_range(entry: &Entry)
-    requires { IsServed entry.now }
-    ensures { InRange entry.now }
-{
-    match entry {
-        Entry::Send { cap, message } | Entry::NbSend { cap, message } => {
-            let _cap = *cap;
-            message.is_in_range();
-        }
-        Entry::Recv { cap, reply } | Entry::NbRecv { cap, reply } => {
-            let _cap = *cap;
-            let _reply = *reply;
-        }
-        Entry::Wait { cap } | Entry::NbWait { cap } => {
-            let _cap = *cap;
-        }
-        Entry::BindCtx { context, thread } => {
-            let _context = *context;
-            let _thread = *thread;
-        }
-        Entry::UnbindCtx { context } => {
-            let _context = *context;
-        }
-        Entry::CopyCap {
-            source,
-            dest,
-            rights,
-        } => {
-            place_is_in_range(source);
-            place_is_in_range(dest);
-            let _rights = rights.bits();
-        }
-        Entry::MintCap {
-            source,
-            dest,
-            rights,
-            badge,
-        } => {
-            place_is_in_range(source);
-            place_is_in_range(dest);
-            let _rights = rights.bits();
-            badge_is_in_range(badge);
-        }
-        Entry::MoveCap { source, dest } => {
-            place_is_in_range(source);
-            place_is_in_range(dest);
-        }
-        _ => unreachable!(),
-    }
+    ghost invariant = { λ k. IsResting k.state };
 }
 
 /// Does an entry of a thread that may enter.
-fn operate<L: Lines>(state: &mut State<L>, thread: ThreadNo, entry: &Entry) -> Answer
+fn operate<W: Waiting>(state: &mut State<W>, core: CoreId, thread: ObjId, entry: &Entry) -> Answer
     requires served { IsServed entry.now }
-    requires entering { IsEntering (so_far state.old) (thread_at thread.0) }
+    requires entering { IsEntering (so_far state.old) thread }
     requires stand { OpenStand (so_far state.old) }
-    requires known { thread.0 < ROOM }
+    requires plain { IsPlain (so_far state.old) }
+    requires chains { NoChains (so_far state.old) }
     requires few { length state.old.book.lines < BOOK_LINES }
-    requires room { length state.old.hand + 10 < HAND }
-    ensures records { (core : CoreId) → state.new ≡ adds_all (does (so_far state.old) core (thread_at thread.0) entry.now).records state.old }
-    ensures answer { (core : CoreId) → result ≡ (does (so_far state.old) core (thread_at thread.0) entry.now).answer }
+    requires room { Fits state.old core thread entry.now }
+    ensures { Does state.old core thread entry.now result state.new }
 {
     match entry {
-        Entry::Send { cap, message } => send(state, thread, *cap, message.copy()),
-        Entry::NbSend { cap, message } => nb_send(state, thread, *cap, message.copy()),
-        Entry::Recv { cap, reply } => receive(state, thread, *cap, *reply),
-        Entry::NbRecv { cap, reply } => nb_receive(state, thread, *cap, *reply),
-        Entry::Wait { cap } => wait(state, thread, *cap),
-        Entry::NbWait { cap } => nb_wait(state, thread, *cap),
+        Entry::Send { cap, message } => send(state, core, thread, *cap, message.copy()),
+        Entry::NbSend { cap, message } => nb_send(state, core, thread, *cap, message.copy()),
+        Entry::Recv { cap, reply } => receive(state, core, thread, *cap, *reply),
+        Entry::NbRecv { cap, reply } => nb_receive(state, core, thread, *cap, *reply),
+        Entry::Wait { cap } => wait(state, core, thread, *cap),
+        Entry::NbWait { cap } => nb_wait(state, core, thread, *cap),
         Entry::BindCtx {
             context,
             thread: holder,
-        } => bind_context(state, thread, *context, *holder),
-        Entry::UnbindCtx { context } => unbind_context(state, thread, *context),
+        } => bind_context(state, core, thread, *context, *holder),
+        Entry::UnbindCtx { context } => unbind_context(state, core, thread, *context),
         Entry::CopyCap {
             source,
             dest,
             rights,
-        } => copy_cap(state, thread, *source, *dest, *rights),
+        } => copy_cap(state, core, thread, *source, *dest, *rights),
         Entry::MintCap {
             source,
             dest,
             rights,
             badge,
-        } => mint_cap(state, thread, *source, *dest, *rights, *badge),
-        Entry::MoveCap { source, dest } => move_cap(state, thread, *source, *dest),
+        } => mint_cap(state, core, thread, *source, *dest, *rights, *badge),
+        Entry::MoveCap { source, dest } => move_cap(state, core, thread, *source, *dest),
         _ => unreachable!(),
     }
 }
@@ -160,9 +89,8 @@ impl<L: Lines> Kernel<L> {
         ensures { IfOk result (λ k. k ≡ record { boot = boot.now; lines = [] }) }
     {
         boot.is_faultless();
-        Ok(Kernel {
-            state: boot_state(alloc, boot)?,
-        })
+        let state = boot_state(alloc, boot)?;
+        Ok(Kernel { state })
     }
 
     /// The book of all entries that were let in.
@@ -216,17 +144,14 @@ impl<L: Lines> Kernel<L> {
     fn serve(&mut self, core: CoreId, thread: ObjId, entry: Entry) -> Result<Answer, OutOfMemory>
         requires served { IsServed entry }
         requires let_in { fault_of self.old core thread ≡ None }
-        ensures line { OnOk result (self.new ≡ entered self.old (record { core = core; thread = thread; entry = entry })) }
+        ensures line { OnOk result (self.new ≡ with_entry self.old core thread entry) }
         ensures answer { IfOk result (λ a. a ≡ (does (log_of self.old) core thread entry).answer) }
         ensures err { OnErr result (self.new ≡ self.old) }
     {
-        let number = match self.state.thread(thread) {
-            None => unreachable!(),
-            Some(number) => number,
-        };
         self.state.reserve()?;
-        is_in_range(&entry);
-        let answer = operate(&mut self.state, number, &entry);
+        entry.is_in_range();
+        self.state.is_sound();
+        let answer = operate(&mut self.state, core, thread, &entry);
         let told = answer.copy();
         self.state.is_sound();
         let step = Step {
@@ -251,8 +176,8 @@ impl<L: Lines> Kernel<L> {
         requires served { IsServed entry }
         ensures turned { IfSome (fault_of self.old core thread) (λ f. result ≡ Err f) }
         ensures let_in { OnOk result (fault_of self.old core thread ≡ None) }
-        ensures memory { IfNone (fault_of self.old core thread) (IfErr result (λ f. f ≡ EnterFault.OutOfMemory)) }
-        ensures line { OnOk result (self.new ≡ entered self.old (record { core = core; thread = thread; entry = entry })) }
+        ensures memory { IfNone (fault_of self.old core thread) (FailsForMemory result) }
+        ensures line { OnOk result (self.new ≡ with_entry self.old core thread entry) }
         ensures answer { IfOk result (λ a. a ≡ (does (log_of self.old) core thread entry).answer) }
         ensures err { OnErr result (self.new ≡ self.old) }
         ensures legal { IsLegal self.new }

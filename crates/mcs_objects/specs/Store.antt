@@ -1,9 +1,9 @@
 -- What a contract sees of a `Store`: a finite map from ids.
-use Rattle.std.specs.Prelude.{◌≡◌, ◌<◌, ◌≤◌, ◌+◌, ℕ, Bool, false, ◌||◌, ◌==◌, cond, List, [], ◌∷◌, ◌++◌, length, Option, Some, None}
+use Rattle.std.specs.Prelude.{◌≡◌, ◌<◌, ◌≤◌, ◌+◌, ℕ, Bool, false, ◌||◌, ◌==◌, cond, List, [], ◌∷◌, ◌++◌, length, Option, Some, None, option_map}
 use Rattle.std.specs.List.{list_any}
 use Rattle.mcs_types.specs.declared.id.ObjId.{ObjId}
 use Rattle.mcs_types.specs.declared.id.Kind.{Kind}
-use Rattle.mcs_types.specs.Ids.{same_kind}
+use Rattle.mcs_types.specs.Ids.{same, same_kind, value_after}
 
 -- an object with its serial, its place and its value
 pub record Object (T : Type 0) : Type 0 where
@@ -17,6 +17,21 @@ pub record Objects (T : Type 0) : Type 0 where
   pub room : ℕ
   pub given : ℕ
   pub list : List (Object T)
+
+-- a store's kind and room, how many serials were given, and how many objects are there
+pub record Shape : Type 0 where
+  pub kind : Kind
+  pub room : ℕ
+  pub given : ℕ
+  pub there : ℕ
+
+-- one more was made
+abbrev pub one_more : Shape → Shape
+one_more s = record s { given = s.given + 1; there = s.there + 1 }
+
+-- one is there less, and at least one was
+abbrev pub IsOneFewer : Shape → Shape → Type 0
+IsOneFewer old new = one_more new ≡ record old { given = old.given + 1 }
 
 module _ {T : Type 0} where
   -- the object of a serial
@@ -44,6 +59,14 @@ module _ {T : Type 0} where
   abbrev pub place_at : Objects T → ObjId → Option ℕ
   place_at s id = place_of (object_at s id)
 
+  -- the id of the object that has a place
+  abbrev pub serial_at : ℕ → List (Object T) → Option ℕ
+  serial_at p [] = None
+  serial_at p (o ∷ os) = cond (o.place == p) (Some o.serial) (serial_at p os)
+
+  abbrev pub id_at : Objects T → ℕ → Option ObjId
+  id_at s p = option_map (λ n. record { kind = s.kind; serial = n }) (serial_at p s.list)
+
   -- the id of the next object
   abbrev pub next_id : Objects T → ObjId
   next_id s = record { kind = s.kind; serial = s.given + 1 }
@@ -52,10 +75,22 @@ module _ {T : Type 0} where
   abbrev pub is_full : Objects T → Bool
   is_full s = (length s.list == s.room) || (s.given == 4294967295)
 
+  -- what is counted of a store: how many serials were given, and how many objects are there
+  abbrev pub shape : Objects T → Shape
+  shape s = record { kind = s.kind; room = s.room; given = s.given; there = length s.list }
+
   -- one object more, at some place
   pub record Adds (old new : Objects T) (value : T) : Type 0 where
     pub place : ℕ
     pub is : new ≡ record old { given = old.given + 1; list = old.list ++ (record { serial = old.given + 1; place = place; value = value }) ∷ [] }
+
+  -- this value was written at an id, and all others are as they were
+  abbrev pub WritesAt : Objects T → Objects T → ObjId → T → Type 0
+  WritesAt old new id value = (x : ObjId) → value_at new x ≡ value_after x id (Some value) (value_at old x)
+
+  -- all others have their places
+  abbrev pub PlacesOthers : Objects T → Objects T → ObjId → Type 0
+  PlacesOthers old new id = (x : ObjId) → same x id ≡ false → place_at new x ≡ place_at old x
 
   -- the list without the object of a serial
   abbrev pub without : ℕ → List (Object T) → List (Object T)
@@ -89,3 +124,9 @@ module _ {T : Type 0} where
     pub few : length s.list ≤ s.room
     pub small : s.room ≤ 256
     pub apart : AreApart s.room s.given 0 s.list
+
+  -- the serial of an id was given, and it is of the store's kind
+  pub record WasGiven (s : Objects T) (id : ObjId) : Type 0 where
+    pub kind : id.kind ≡ s.kind
+    pub low : 1 ≤ id.serial
+    pub high : id.serial ≤ s.given

@@ -1,9 +1,11 @@
 //! A store of objects in a slab, and which serial lies where.
-ghost use Rattle.std.specs.Prelude.{◌≡◌, ◌≤◌, ◌↔◌, [], IsTrue, OnOk, IsErr, IfOk, IfErr, OnErr, IfNone, option_copied, position};
+ghost use Rattle.std.specs.Prelude.{ℕ, ◌≡◌, ◌<◌, ◌≤◌, ◌↔◌, is_some, IsTrue, IfOk, OnOk, IfErr, OnErr, IsErr, IfNone, OnSome, IsSome, Some, None, false, option_copied, position};
 ghost use Rattle.std.specs.Option.{option_copied_mut};
 ghost use Rattle.std.specs.Borrow.{sem};
-ghost use Rattle.mcs_objects.specs.Store.{IsMap, Adds, next_id, is_full, value_at, place_at, removed};
-ghost use Rattle.mcs_objects.specs.Rows.{is_of, row_for};
+ghost use Rattle.mcs_objects.specs.Store.{IsMap, Adds, next_id, is_full, shape, one_more, WasGiven, IsOneFewer, WritesAt, PlacesOthers, value_at, place_at, id_at, removed};
+ghost use Rattle.mcs_types.specs.declared.id.ObjId.{ObjId};
+ghost use Rattle.mcs_types.specs.Ids.{same, value_after};
+ghost use Rattle.mcs_objects.specs.Rows.{is_of, row_for, Rises};
 
 use crate::full::NoRoom;
 use mcs_types::{Kind, ObjId, OutOfMemory};
@@ -42,35 +44,39 @@ impl<T> Model for Store<T> {
     ghost invariant = { λ s. IsSound s.room s.given s.rows.items (vec_capacity s.rows) s.values };
 }
 
-/// Where the row of a serial stands.
+/// Where the row of a serial stands, among rows whose serials rise.
 fn row_of(rows: &[Row], serial: u32) -> Option<usize>
+    requires { Rises 0 rows.now }
     ensures { result ≡ position (is_of serial) rows.now }
 {
-    rows.iter().position(|row| row.serial == serial)
+    match rows.binary_search_by_key(&serial, |row| row.serial) {
+        Ok(at) => Some(at),
+        Err(_) => None,
+    }
 }
 
 /// The row of an id among rows of objects of a kind.
 fn find(rows: &[Row], kind: Kind, id: ObjId) -> Option<Row>
+    requires { Rises 0 rows.now }
     ensures { result ≡ row_for kind id rows.now }
 {
     if !id.kind.is_same(kind) {
         return None;
     }
-    for row in rows {
-        if row.serial == id.serial {
-            return Some(*row);
-        }
-    }
-    None
+    let at = row_of(rows, id.serial)?;
+    Some(rows[at])
 }
 
 impl<T: Drop> Store<T> {
     ghost use Rattle.mcs_objects.specs.Lends.{lends_value};
 
-    /// An empty store with room for n objects of this kind, 256 at most.
+    /// An empty store with room for n objects of this kind, 256 at most (own).
     pub fn with_room(alloc: Global, kind: Kind, n: u16) -> Result<Store<T>, OutOfMemory>
         requires { n ≤ 256 }
-        ensures { IfOk result (λ s. s ≡ record { kind = kind; room = n; given = 0; list = [] }) }
+        ensures shape { IfOk result (λ s.
+            shape s ≡ record { kind = kind; room = n; given = 0; there = 0 }) }
+        ensures values { IfOk result (λ s. (x : ObjId) → value_at s x ≡ None) }
+        ensures places { IfOk result (λ s. (x : ObjId) → place_at s x ≡ None) }
     {
         let values = Slab::with_capacity(alloc, n as usize)?;
         // A place must be below n, and the slab's keys are below its capacity.
@@ -87,37 +93,87 @@ impl<T: Drop> Store<T> {
     }
 
     /// The store is a map: its serials rise and were given, and its places are below its room and different.
-    pub fn is_map(&self)
+    fn is_map(&self)
         ensures { IsMap self.now }
     {
         let _ = &self.values;
     }
 
-    /// Adds an object, and takes no memory. Its id has the store's kind and the serial after the one given last. Refused
-    /// where the room is full or each serial was given: then the value comes back, and the store is as it was.
-    pub fn make(&mut self, value: T) -> Result<ObjId, NoRoom<T>>
-        ensures refused { IsErr result ↔ IsTrue (is_full self.old) }
-        ensures id { IfOk result (λ id. id ≡ next_id self.old) }
-        ensures added { OnOk result (Adds self.old self.new value) }
-        ensures value { IfErr result (λ e. e.value ≡ value) }
-        ensures unchanged { OnErr result (self.new ≡ self.old) }
+    /// Two objects that are there have different places, below the store's room, so a place tells its object. What is there was
+    /// given (own).
+    pub fn are_apart(&self)
+        ensures room { (x : ObjId) (p : ℕ) →
+            place_at self.now x ≡ Some p → p < (shape self.now).room }
+        ensures apart { (x y : ObjId) (p : ℕ) →
+            place_at self.now x ≡ Some p → place_at self.now y ≡ Some p → x ≡ y }
+        ensures owner { (x : ObjId) (p : ℕ) →
+            place_at self.now x ≡ Some p → id_at self.now p ≡ Some x }
+        ensures owned { (x : ObjId) (p : ℕ) →
+            id_at self.now p ≡ Some x → place_at self.now x ≡ Some p }
+        ensures both { (x : ObjId) → is_some (place_at self.now x) ≡ is_some (value_at self.now x) }
+        ensures given { (x : ObjId) → IsSome (value_at self.now x) → WasGiven self.now x }
     {
-        if self.rows.len() >= self.room as usize || self.given == u32::MAX {
-            return Err(NoRoom { value });
-        }
+        self.is_map();
+    }
+
+    /// Whether no object can be made: the room is full, or each serial was given (own).
+    pub fn is_full(&self) -> bool
+        ensures { result ≡ is_full self.now }
+    {
+        self.rows.len() >= self.room as usize || self.given == u32::MAX
+    }
+
+    /// Adds an object at some place.
+    fn push(&mut self, value: T) -> ObjId
+        requires { is_full self.old ≡ false }
+        ensures id { result ≡ next_id self.old }
+        ensures added { Adds self.old self.new value }
+    {
         let place = self.values.insert_reserved(value);
         self.given += 1;
         self.rows.push_reserved(Row {
             serial: self.given,
             place: place as u16,
         });
-        Ok(ObjId {
+        ObjId {
             kind: self.kind,
             serial: self.given,
-        })
+        }
     }
 
-    /// The value of an object, or None where it is not there.
+    /// How many serials were given: each object that was made got one (own).
+    pub fn given(&self) -> u32
+        ensures { result ≡ (shape self.now).given }
+    {
+        self.given
+    }
+
+    /// How many objects are there (own).
+    pub fn len(&self) -> usize
+        ensures { result ≡ (shape self.now).there }
+    {
+        self.rows.len()
+    }
+
+    /// Adds an object, and takes no memory. Its id has the store's kind and the serial after the one given last. Refused
+    /// where the room is full or each serial was given: then the value comes back, and the store is as it was (own).
+    pub fn make(&mut self, value: T) -> Result<ObjId, NoRoom<T>>
+        ensures refused { IsErr result ↔ IsTrue (is_full self.old) }
+        ensures id { IfOk result (λ id. id ≡ next_id self.old) }
+        ensures shape { OnOk result (shape self.new ≡ one_more (shape self.old)) }
+        ensures values { OnOk result (WritesAt self.old self.new (next_id self.old) value) }
+        ensures places { OnOk result (PlacesOthers self.old self.new (next_id self.old)) }
+        ensures value { IfErr result (λ e. e.value ≡ value) }
+        ensures unchanged { OnErr result (self.new ≡ self.old) }
+    {
+        if self.is_full() {
+            return Err(NoRoom { value });
+        }
+        self.is_map();
+        Ok(self.push(value))
+    }
+
+    /// The value of an object, or None where it is not there (own).
     pub fn get(&self, id: ObjId) -> Option<&T>
         ensures { option_copied result ≡ value_at self.now id }
     {
@@ -125,7 +181,7 @@ impl<T: Drop> Store<T> {
         self.values.get(row.place as usize)
     }
 
-    /// The value of an object for writing, or None where it is not there.
+    /// The value of an object for writing, or None where it is not there (own).
     pub fn get_mut(&mut self, id: ObjId) -> Option<&mut T>
         ensures* writes_back { sem 𝓛 (lends_value T.row self.entry id result) }
         ensures value { option_copied_mut result ≡ value_at self.old id }
@@ -134,8 +190,21 @@ impl<T: Drop> Store<T> {
         self.values.get_mut(row.place as usize)
     }
 
-    /// Takes an object out and gives its value, or None where it is not there: then the store is as it was.
-    pub fn remove(&mut self, id: ObjId) -> Option<T>
+    /// Keeps another value for an object that is there (own).
+    pub fn set(&mut self, id: ObjId, value: T)
+        requires { IsSome (value_at self.old id) }
+        ensures shape { shape self.new ≡ shape self.old }
+        ensures values { WritesAt self.old self.new id value }
+        ensures places { (x : ObjId) → place_at self.new x ≡ place_at self.old x }
+    {
+        match self.get_mut(id) {
+            None => unreachable!(),
+            Some(place) => *place = value,
+        }
+    }
+
+    /// Takes an object out.
+    fn take(&mut self, id: ObjId) -> Option<T>
         ensures value { result ≡ value_at self.old id }
         ensures removed { self.new ≡ removed self.old id }
         ensures absent { IfNone result (self.new ≡ self.old) }
@@ -148,8 +217,22 @@ impl<T: Drop> Store<T> {
         Some(self.values.remove(row.place as usize))
     }
 
+    /// Takes an object out and gives its value, or None where it is not there: then the store is as it was (own).
+    pub fn remove(&mut self, id: ObjId) -> Option<T>
+        ensures value { result ≡ value_at self.old id }
+        ensures shape { OnSome result (IsOneFewer (shape self.old) (shape self.new)) }
+        ensures values { (x : ObjId) →
+            value_at self.new x ≡ value_after x id None (value_at self.old x) }
+        ensures places { (x : ObjId) →
+            place_at self.new x ≡ value_after x id None (place_at self.old x) }
+        ensures absent { IfNone result (self.new ≡ self.old) }
+    {
+        self.is_map();
+        self.take(id)
+    }
+
     /// The place of an object, below the store's room, or None where the object is not there. It is the same as long as the
-    /// object is there, and different for two objects that are there.
+    /// object is there, and different for two objects that are there (own).
     pub fn place(&self, id: ObjId) -> Option<u16>
         ensures { result ≡ place_at self.now id }
     {

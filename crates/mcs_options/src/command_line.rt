@@ -28,7 +28,8 @@ fn commands<'a>(alloc: Global) -> Result<Command<'a>, Error>
 /// has the help that was asked for: it is of a kind that the rules of the command line give these words, or tells that there
 /// was no memory; and where they give a kind it comes. The one word `replay` is right.
 pub fn options<'a>(alloc: Global, words: &'a [&'a str]) -> Result<Options, Error>
-    ensures replay { (name : List ℕ) → map (λ w. w.now) words.entry.now ≡ name ∷ codes "replay" ∷ [] → IfErr result (λ e. kind_of e ≡ ErrorKind.OutOfMemory) }
+    ensures replay { (name : List ℕ) → map (λ w. w.now) words.entry.now ≡ name ∷ codes "replay" ∷ []
+        → IfErr result (λ e. kind_of e ≡ ErrorKind.OutOfMemory) }
     ensures fails { FailsBy (fault_of mcssim_line (map (λ w. w.now) words.entry.now)) result }
 {
     // `replay` is the only command, so that each line that is accepted asks for it

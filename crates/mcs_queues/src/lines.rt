@@ -42,10 +42,15 @@ pub trait Lines: Sized + Drop {
     /// Puts thread `t` into line `q`, as the last of priority `p`. Answers false, and changes nothing, where a number is out
     /// of range or the thread stands in a line.
     fn join(&mut self, t: ThreadNo, q: LineNo, p: Prio) -> bool
-        ensures answer { result ≡ (nat_lt t.0 (thread_room self.old) && nat_lt q.0 (line_room self.old) && is_none (place self.old t.0)) }
-        ensures line { (k : ℕ) → line self.new k ≡ (if result && (q.0 == k) then insert_behind (record { thread = t.0; priority = p.0 }) (line self.old k) else line self.old k) }
-        ensures put { result ≡ true → IsPut (record { thread = t.0; priority = p.0 }) (line self.old q.0) (line self.new q.0) }
-        ensures place { (u : ℕ) → place self.new u ≡ (if result && (t.0 == u) then Some q.0 else place self.old u) }
+        ensures answer { result ≡ (nat_lt t.0 (thread_room self.old) && nat_lt q.0
+            (line_room self.old) && is_none (place self.old t.0)) }
+        ensures line { (k : ℕ) → line self.new k
+            ≡ (if result && (q.0 == k) then insert_behind (record { thread = t.0; priority = p.0 })
+            (line self.old k) else line self.old k) }
+        ensures put { result ≡ true → IsPut (record { thread = t.0; priority = p.0 })
+            (line self.old q.0) (line self.new q.0) }
+        ensures place { (u : ℕ) → place self.new u
+            ≡ (if result && (t.0 == u) then Some q.0 else place self.old u) }
         ensures threads { thread_room self.new ≡ thread_room self.old }
         ensures lines { line_room self.new ≡ line_room self.old };
 
@@ -70,8 +75,13 @@ pub trait Lines: Sized + Drop {
     /// before (own). Answers false, and changes nothing, where it stands in no line.
     fn shift(&mut self, t: ThreadNo, p: Prio) -> bool
         ensures answer { result ≡ is_some (place self.old t.0) }
-        ensures line { (k : ℕ) → line self.new k ≡ (if is_place (place self.old t.0) k then insert_behind (record { thread = t.0; priority = p.0 }) (without t.0 (line self.old k)) else line self.old k) }
-        ensures put { (k : ℕ) → place self.old t.0 ≡ Some k → IsPut (record { thread = t.0; priority = p.0 }) (without t.0 (line self.old k)) (line self.new k) }
+        ensures line { (k : ℕ) → line self.new k
+            ≡ (if is_place (place self.old t.0) k then insert_behind
+            (record { thread = t.0; priority = p.0 }) (without t.0 (line self.old k)) else line
+            self.old k) }
+        ensures put { (k : ℕ) → place self.old t.0 ≡ Some k
+            → IsPut (record { thread = t.0; priority = p.0 }) (without t.0 (line self.old k))
+            (line self.new k) }
         ensures place { (u : ℕ) → place self.new u ≡ place self.old u }
         ensures threads { thread_room self.new ≡ thread_room self.old }
         ensures lines { line_room self.new ≡ line_room self.old };
@@ -79,5 +89,6 @@ pub trait Lines: Sized + Drop {
     /// The line in which thread `t` stands. None where it stands in none.
     fn where_is(&self, t: ThreadNo) -> Option<LineNo>
         ensures answer { line_number result ≡ place self.now t.0 }
-        ensures stands { (k : ℕ) → stands_in t.0 (line self.now k) ≡ is_place (place self.now t.0) k };
+        ensures stands { (k : ℕ) → stands_in t.0 (line self.now k)
+            ≡ is_place (place self.now t.0) k };
 }

@@ -16,7 +16,7 @@ use Rattle.mcs_types.specs.Ids.{same_kind}
 use Rattle.mcs_book.specs.Logs.{Log}
 use Rattle.mcs_book.specs.Lookup.{radix_kept}
 use Rattle.mcs_book.specs.Objects.{was_made, form_of}
-use Rattle.mcs_book.specs.Placing.{core_limit}
+use Rattle.mcs_types.specs.Limits.{core_limit}
 use Rattle.mcs_book.specs.Sound.{Sound}
 use Rattle.mcs_book.specs.Boots.{Boot, IsFaultless, boot_log, boot_check, is_object, is_context_any, fits_cnode, fits_guard, fits_kind}
 use Rattle.mcs_book.specs.History.{IsLegal}

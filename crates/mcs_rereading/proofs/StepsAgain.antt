@@ -15,8 +15,8 @@ use Rattle.mcs_book.specs.Logs.{Log, onto, counted}
 use Rattle.mcs_book.specs.Objects.{makes_kind, was_made}
 use Rattle.mcs_book.specs.Threads.{threads}
 use Rattle.mcs_book.specs.Boots.{Boot, boot_line, boot_log}
-use Rattle.mcs_book.specs.Served.{IsServed}
-use Rattle.mcs_book.specs.Placing.{core_limit}
+use Rattle.mcs_types.specs.Served.{IsServed}
+use Rattle.mcs_types.specs.Limits.{core_limit}
 use Rattle.mcs_book.specs.Sound.{Sound}
 use Rattle.mcs_book.specs.History.{Line, IsLegal, past, steps_of}
 use Rattle.mcs_book.proofs.EntersLaws.{enters-made}
@@ -26,7 +26,6 @@ use Rattle.mcs_book.proofs.MadeLaws.{made-in, serial-below, made-serial}
 use Rattle.mcs_book.proofs.SoundBooks.{legal-sound}
 use Rattle.mcs_book.proofs.Sorted.{In}
 use Rattle.mcs_kernel.specs.Runs.{AreServed}
-use Rattle.mcs_text.specs.Reading.{IsRead}
 use Rattle.mcs_text.proofs.EntryLines.{step_line_again}
 use Rattle.mcs_sim.specs.Script.{threads_of}
 use Rattle.mcs_rereading.proofs.Scripts.{IsStepAgain}
@@ -68,23 +67,6 @@ boot-serial lines o sound made =
       few = omega (arith, serial-below (boot_log lines) o o.kind sound (made-in (boot_log lines) o o.kind refl made), counted-boot o.kind lines);
     }
 
--- ---- steps
-
--- the entries that are served are read
-read-served : (e : Entry) → IsServed e → IsRead e
-read-served (Send a m) h = tt
-read-served (NbSend a m) h = tt
-read-served (Recv a r) h = tt
-read-served (NbRecv a r) h = tt
-read-served (Wait a) h = tt
-read-served (NbWait a) h = tt
-read-served (BindCtx s x) h = tt
-read-served (UnbindCtx s) h = tt
-read-served (CopyCap source dest rights) h = tt
-read-served (MintCap source dest rights badge) h = tt
-read-served (MoveCap source dest) h = tt
-read-served _ h = absurd h
-
 -- ---- the steps of a book
 
 -- the last of steps that are served
@@ -108,7 +90,7 @@ newest-again b l ls legal served few =
     let cores : b.cores ≤ core_limit = legal.boot.few_cores in
     let some : 0 < l.step.thread.serial = omega (arith, (made-serial R l.step.thread sound who.1).0) in
     let made : l.step.thread.serial ≤ threads_of b = serial-below B l.step.thread kind.Thread first in_boot in
-    step_line_again b.cores (threads_of b) l.step (read-served l.step.entry served) legal.lines.0.in_range core (omega arith) who.0 some made (omega (arith, counted-boot kind.Thread b.lines))
+    step_line_again b.cores (threads_of b) l.step served legal.lines.0.in_range core (omega arith) who.0 some made (omega (arith, counted-boot kind.Thread b.lines))
 
 -- each step of these lines is read again
 unfoldable pub AreStepsAgain : Boot → List Line → Type 0

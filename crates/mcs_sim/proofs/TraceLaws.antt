@@ -1,5 +1,5 @@
 -- The trace of one record and of one line more.
-use Rattle.std.proofs.Common.{◌≡◌, ℕ, ◌+◌, ◌<◌, ◌≤◌, List, [], ◌∷◌, ◌++◌, length, get_or, take, refl, sym, ap, ◌∙◌, append_assoc, append-nil, arith}
+use Rattle.std.proofs.Common.{◌≡◌, ℕ, zero, suc, Some, slice_get, ◌+◌, ◌<◌, ◌≤◌, List, [], ◌∷◌, ◌++◌, length, get_or, take, refl, sym, ap, ◌∙◌, append_assoc, append-nil, arith}
 use Rattle.std.proofs.lemmas.List.{take_more}
 use Rattle.mcs_types.specs.declared.record.Rec.{Rec}
 use Rattle.mcs_types.specs.declared.record.Rec.TheVariants.{Sent}
@@ -37,6 +37,12 @@ pub sent_after-next : (n : ℕ) (rs : List Rec) (i : ℕ) (r : Rec) (m : ℕ) �
 sent_after-next n rs i r m lt here count =
     ap (λ (m : ℕ). sent_with m r) count ∙ ap (λ (r : Rec). sent_with (sent_after n (take i rs)) r) here
     ∙ sym (ap (sent_after n) (take_more rs i r lt) ∙ sent_after-end n (take i rs) (get_or rs i r))
+
+-- the record at a number
+pub get_or-at : (rs : List Rec) (i : ℕ) (r : Rec) → slice_get rs i ≡ Some r → r ≡ get_or rs i r
+get_or-at [] i r at = absurd cc
+get_or-at (q ∷ rs) zero r at = let it : q ≡ r = cc in sym it
+get_or-at (q ∷ rs) (suc i) r at = get_or-at rs i r at
 
 sent_in-end : (n : ℕ) (ls : List Line) (l : Line) → sent_in n (ls ++ l ∷ []) ≡ sent_after (sent_in n ls) l.records
 sent_in-end n [] l = refl

@@ -10,7 +10,7 @@ use Rattle.mcs_types.specs.declared.boot.BootFault.{BootFault}
 use Rattle.mcs_types.specs.declared.boot.BootFault.TheVariants as why
 use Rattle.mcs_book.specs.Logs.{Log}
 use Rattle.mcs_book.specs.Checks.{Passed}
-use Rattle.mcs_book.specs.Placing.{core_limit}
+use Rattle.mcs_types.specs.Limits.{core_limit}
 use Rattle.mcs_book.specs.Boots.{Boot, boot_log, boot_check, is_object}
 use Rattle.mcs_text.specs.declared.fault.LineFault.{LineFault}
 use Rattle.mcs_text.specs.declared.fault.LineFault.TheVariants as fault

@@ -46,8 +46,10 @@ fn replay_script<W: Write>(
     script: Script,
     sink: &mut Sink<W>,
 ) -> Result<(), SimFault>
-    ensures ok { OnOk result (Appends (W.contents sink.old.writer) (W.contents sink.new.writer) (script_trace script.boot script.steps)) }
-    ensures err { IfErr result (λ e. Stops e (W.contents sink.old.writer) (W.contents sink.new.writer) script) }
+    ensures ok { OnOk result (Appends (W.contents sink.old.writer) (W.contents sink.new.writer)
+        (script_trace script.boot script.steps)) }
+    ensures err { IfErr result (λ e. Stops e (W.contents sink.old.writer)
+        (W.contents sink.new.writer) script) }
     ensures room { OnOk result (IsRoomy script.boot script.steps) }
     ensures rose { result ≡ Err SimFault.Write → Rose sink.old.failed sink.new.failed }
     ensures count { sink.old.failed ≤ sink.new.failed }
@@ -66,9 +68,11 @@ fn replay_script<W: Write>(
 
 /// Replays the script of a text and writes the trace.
 fn run_text<W: Write>(alloc: Global, text: &[u8], sink: &mut Sink<W>) -> Result<(), SimFault>
-    ensures ok { OnOk result (Appends (W.contents sink.old.writer) (W.contents sink.new.writer) (written text.now)) }
+    ensures ok { OnOk result (Appends (W.contents sink.old.writer) (W.contents sink.new.writer)
+        (written text.now)) }
     ensures faultless { OnOk result ((steps text.now).1 ≡ None) }
-    ensures err { IfErr result (λ e. Leaves e (W.contents sink.old.writer) (W.contents sink.new.writer) text.now) }
+    ensures err { IfErr result (λ e. Leaves e (W.contents sink.old.writer)
+        (W.contents sink.new.writer) text.now) }
     ensures rose { result ≡ Err SimFault.Write → Rose sink.old.failed sink.new.failed }
     ensures count { sink.old.failed ≤ sink.new.failed }
 {
@@ -93,8 +97,10 @@ pub fn simulate<R: Read, W: Write>(
     source: &mut Source<R>,
     sink: &mut Sink<W>,
 ) -> Result<(), SimFault>
-    ensures ok { OnOk result (Finishes (R.remaining source.old.reader) (R.remaining source.new.reader) (W.contents sink.old.writer) (W.contents sink.new.writer)) }
-    ensures err { IfErr result (λ e. Ends e (R.remaining source.old.reader) (R.remaining source.new.reader) (W.contents sink.old.writer) (W.contents sink.new.writer)) }
+    ensures ok { OnOk result (Finishes (R.remaining source.old.reader)
+        (R.remaining source.new.reader) (W.contents sink.old.writer) (W.contents sink.new.writer)) }
+    ensures err { IfErr result (λ e. Ends e (R.remaining source.old.reader)
+        (R.remaining source.new.reader) (W.contents sink.old.writer) (W.contents sink.new.writer)) }
     ensures read_failed { result ≡ Err SimFault.Read → Rose source.old.failed source.new.failed }
     ensures write_failed { result ≡ Err SimFault.Write → Rose sink.old.failed sink.new.failed }
     ensures counts { (source.old.failed ≤ source.new.failed) × (sink.old.failed ≤ sink.new.failed) }

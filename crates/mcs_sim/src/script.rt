@@ -119,7 +119,9 @@ fn cap_of(cap: RawCap) -> Result<Cap, LineFault>
 
 /// An index of a slot. That of a CNode that is not made is not tested.
 fn index_in(boot: &Boot, cnode: RawNumber, index: RawNumber) -> Result<u8, LineFault>
-    ensures { Gives (λ i. i) result (index_of (is_object (boot_log boot.now.lines) Kind.CNode (object_of Kind.CNode cnode)) index) }
+    ensures { Gives (λ i. i) result
+        (index_of (is_object (boot_log boot.now.lines) Kind.CNode (object_of Kind.CNode cnode))
+        index) }
 {
     match boot.radix(object(Kind::CNode, cnode)) {
         Some(_) => byte(index),
@@ -217,7 +219,8 @@ fn read_next_boot(boot: &mut Boot, key: Key, words: &mut Words<'_>) -> Result<()
 fn read_next_step(boot: &Boot, steps: &mut Vec<Step>, line: &[u8]) -> Result<(), ReadFault>
     requires { AreServed steps.old.items }
     ensures served { AreServed steps.new.items }
-    ensures reads { Reads (λ u. steps.new.items) result (next_steps boot.now steps.old.items line.now) }
+    ensures reads { Reads (λ u. steps.new.items) result
+        (next_steps boot.now steps.old.items line.now) }
     ensures unchanged { OnErr result (steps.new.items ≡ steps.old.items) }
 {
     let step = read_step(boot.cores(), boot.made(Kind::Thread), line)?;
@@ -238,7 +241,8 @@ fn read_later_line(
 ) -> Result<(), ReadFault>
     requires { AreServed steps.old.items }
     ensures served { AreServed steps.new.items }
-    ensures reads { Reads (λ u. record { boot = Some boot.new; steps = steps.new.items }) result (later_line boot.old steps.old.items line.now key words.old) }
+    ensures reads { Reads (λ u. record { boot = Some boot.new; steps = steps.new.items }) result
+        (later_line boot.old steps.old.items line.now key words.old) }
     ensures boot_unchanged { OnErr result (boot.new ≡ boot.old) }
     ensures steps_unchanged { OnErr result (steps.new.items ≡ steps.old.items) }
 {

@@ -41,7 +41,8 @@ const PIECE: usize = 65_536;
 /// One read, tried again where it is interrupted, a bounded number of times.
 fn read_some<R: Read>(reader: &mut R, failed: &mut u64, buf: &mut [u8]) -> Result<usize, ReadFault>
     ensures ok { IfOk result (λ n. n ≤ length buf.new) }
-    ensures consumed { IfOk result (λ n. Consumes (R.remaining reader.old) (R.remaining reader.new) (take n buf.new)) }
+    ensures consumed { IfOk result (λ n. Consumes (R.remaining reader.old) (R.remaining reader.new)
+        (take n buf.new)) }
     ensures end { IfOk result (λ n. n ≡ 0 → 0 < length buf.old → IsAtEnd (R.remaining reader.new)) }
     ensures err { OnErr result (Keeps (R.remaining reader.old) (R.remaining reader.new)) }
     ensures count { failed.old ≤ failed.new }
@@ -122,9 +123,11 @@ impl<R: Read> Source<R> {
     /// All bytes to the end, or to the first byte of the line after the last that a script may have, or as many bytes as all
     /// lines may have and one more.
     pub fn read_all(&mut self, alloc: Global) -> Result<Vec<u8>, ReadFault>
-        ensures bytes { IfOk result (λ v. Consumes (R.remaining self.old.reader) (R.remaining self.new.reader) v.items) }
+        ensures bytes { IfOk result (λ v. Consumes (R.remaining self.old.reader)
+            (R.remaining self.new.reader) v.items) }
         ensures end { IfOk result (λ v. IsAtEnd (R.remaining self.new.reader) ⊎ IsTooLong v.items) }
-        ensures err { OnErr result ((bytes : List ℕ) × Consumes (R.remaining self.old.reader) (R.remaining self.new.reader) bytes) }
+        ensures err { OnErr result ((bytes : List ℕ)
+            × Consumes (R.remaining self.old.reader) (R.remaining self.new.reader) bytes) }
         ensures count { self.old.failed ≤ self.new.failed }
         ensures rose { result ≡ Err ReadFault.Read → Rose self.old.failed self.new.failed }
     {

@@ -29,16 +29,22 @@ fn count_sent(sent: u128, fact: &Rec) -> u128
     }
 }
 
-/// Writes records before which so many messages were sent, and answers how many were sent with them.
-fn put_records<W: Write>(sink: &mut Sink<W>, sent: u128, records: &[Rec]) -> u128
-    requires { sent + length records.now < 2 ^ 128 }
-    ensures puts { Puts W.contents sink.old sink.new (records_trace sent records.now) }
-    ensures sent { result ≡ sent_after sent records.now }
+/// Writes the records of a line before which so many messages were sent, and answers how many were sent with them.
+fn put_records<W: Write>(sink: &mut Sink<W>, sent: u128, line: &Line<'_>) -> u128
+    requires { sent + 2 ^ 64 < 2 ^ 128 }
+    ensures puts { Puts W.contents sink.old sink.new (records_trace sent line.now.records) }
+    ensures sent { result ≡ sent_after sent line.now.records }
+    ensures few { result ≤ sent + 2 ^ 64 }
 {
     let mut count = sent;
-    for fact in records {
-        put_record(sink, count, fact);
-        count = count_sent(count, fact);
+    for i in 0..line.record_count() {
+        match line.record(i) {
+            Some(fact) => {
+                put_record(sink, count, &fact);
+                count = count_sent(count, &fact);
+            }
+            None => unreachable!(),
+        }
     }
     count
 }
@@ -50,9 +56,9 @@ fn put_book_line<W: Write>(sink: &mut Sink<W>, sent: u128, line: &Line<'_>) -> u
     ensures sent { result ≡ sent_after sent line.now.records }
     ensures few { result ≤ sent + 2 ^ 64 }
 {
-    put_step(sink, line.step());
-    put_answer(sink, line.answer());
-    put_records(sink, sent, line.records())
+    put_step(sink, &line.step());
+    put_answer(sink, &line.answer());
+    put_records(sink, sent, line)
 }
 
 fn put_lines<W: Write>(sink: &mut Sink<W>, book: &Book)
@@ -81,8 +87,11 @@ fn put_book<W: Write>(sink: &mut Sink<W>, book: &Book)
 /// Writes the trace of a book: its boot, and then for each line its step, its answer and its records. What the sink kept back
 /// is dropped first. Only the writer can fail it.
 pub fn trace<W: Write>(book: &Book, sink: &mut Sink<W>) -> Result<(), SimFault>
-    ensures ok { OnOk result (Appends (W.contents sink.old.writer) (W.contents sink.new.writer) (trace book.now.book)) }
-    ensures err { OnErr result ((rest : List ℕ) × Moves (W.contents sink.old.writer) (W.contents sink.new.writer) (trace book.now.book) rest) }
+    ensures ok { OnOk result (Appends (W.contents sink.old.writer) (W.contents sink.new.writer)
+        (trace book.now.book)) }
+    ensures err { OnErr result ((rest : List ℕ)
+        × Moves (W.contents sink.old.writer) (W.contents sink.new.writer) (trace book.now.book)
+        rest) }
     ensures fault { OnErr result (result ≡ Err SimFault.Write) }
     ensures rose { OnErr result (Rose sink.old.failed sink.new.failed) }
     ensures count { sink.old.failed ≤ sink.new.failed }

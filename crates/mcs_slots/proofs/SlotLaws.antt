@@ -229,6 +229,3 @@ set-filled items S at number cap p same has is value =
 
 radix-few : (r : ℕ) → r ≤ 8 → 2 ^ r ≤ 256
 radix-few r h = omega (arith, pow_mono {i = r} {j = 8} h)
-
-pub page-few : (p : Page) → IsPage p → length p.caps ≤ 256
-page-few p is = omega (arith, radix-few p.radix is.1, is.2)

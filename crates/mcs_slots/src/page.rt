@@ -3,7 +3,7 @@ ghost use Rattle.std.specs.Prelude.{◌≡◌, ◌<◌, ◌≤◌, ◌^◌, IfOk
 ghost use Rattle.mcs_book.specs.Slots.{is_cap_to};
 ghost use Rattle.mcs_types.specs.Ids.{same};
 
-use mcs_types::{Cap, ObjId, OutOfMemory};
+use mcs_types::{Cap, ObjId, OutOfMemory, cap_again};
 use std::alloc::Global;
 use std::marker::Model;
 
@@ -23,13 +23,6 @@ impl Model for Page {
     ghost view = { λ p. record { radix = p.radix; caps = p.caps.items } };
 
     ghost invariant = { λ p. (1 ≤ p.radix) × (p.radix ≤ 8) × (length p.caps.items ≡ 2 ^ p.radix) };
-}
-
-/// An equal capability, if there is one.
-fn cap_again(cap: &Option<Cap>) -> Option<Cap>
-    ensures { result ≡ cap.now }
-{
-    *cap
 }
 
 /// Whether two ids name one object.

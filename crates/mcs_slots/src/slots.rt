@@ -83,6 +83,13 @@ impl Slots {
         let _ = &self.pages;
     }
 
+    /// How many CNodes there are.
+    pub fn len(&self) -> usize
+        ensures { result ≡ length self.now }
+    {
+        self.pages.len()
+    }
+
     fn page(&self, cnode: ObjId) -> Option<&Page>
         ensures { option_copied result ≡ page_at self.now cnode }
     {
@@ -191,7 +198,8 @@ impl Slots {
         requires source { HasSlot self.old source }
         requires dest { HasSlot self.old dest }
         ensures answer { result ≡ answered (copy_of self.old source dest rights) }
-        ensures filled { IfOk (copy_of self.old source dest rights) (λ cap. self.new ≡ filled self.old dest (Some cap)) }
+        ensures filled { IfOk (copy_of self.old source dest rights)
+            (λ cap. self.new ≡ filled self.old dest (Some cap)) }
         ensures refused { OnErr result (self.new ≡ self.old) }
     {
         let cap = self.copied(source, dest, rights)?;
@@ -211,7 +219,8 @@ impl Slots {
         requires source { HasSlot self.old source }
         requires dest { HasSlot self.old dest }
         ensures answer { result ≡ answered (mint_of self.old source dest rights badge) }
-        ensures filled { IfOk (mint_of self.old source dest rights badge) (λ cap. self.new ≡ filled self.old dest (Some cap)) }
+        ensures filled { IfOk (mint_of self.old source dest rights badge)
+            (λ cap. self.new ≡ filled self.old dest (Some cap)) }
         ensures refused { OnErr result (self.new ≡ self.old) }
     {
         let cap = self.minted(source, dest, rights, badge)?;
@@ -224,7 +233,8 @@ impl Slots {
         requires source { HasSlot self.old source }
         requires dest { HasSlot self.old dest }
         ensures answer { result ≡ answered (source_cap self.old source dest) }
-        ensures moved { IfOk (source_cap self.old source dest) (λ cap. self.new ≡ filled (filled self.old dest (Some cap)) source None) }
+        ensures moved { IfOk (source_cap self.old source dest)
+            (λ cap. self.new ≡ filled (filled self.old dest (Some cap)) source None) }
         ensures refused { OnErr result (self.new ≡ self.old) }
     {
         let cap = self.source_of(source, dest)?;

@@ -13,10 +13,10 @@ use Rattle.mcs_book.specs.Threads.{prio_of}
 use Rattle.mcs_book.specs.Contexts.{context_of}
 use Rattle.mcs_book.specs.Standing.{may_enter, is_ready, is_on_core, status_of}
 use Rattle.mcs_book.specs.Picking.{is_candidate, GoesBefore, IsPick}
-use Rattle.mcs_book.specs.Sound.{Sound}
-use Rattle.mcs_state.specs.Numbers.{thread_at, object_of}
-use Rattle.mcs_state.specs.Picking.{is_above, better_of, best_below}
-use Rattle.mcs_state.proofs.Answering.{status-unmade, made-where}
+use Rattle.mcs_book.specs.Sound.{Sound, IsThere}
+use Rattle.mcs_state.specs.Picking.{thread_at, picked, is_above, better_of, best_below}
+use Rattle.mcs_book.proofs.EntersLaws.{enters-ready}
+use Rattle.mcs_book.proofs.MadeLaws.{alive-made, made-serial}
 
 -- o goes before all other candidates of the numbers below n
 abbrev IsBest : Log → CoreId → List Bool → ℕ → Option ℕ → Type 0
@@ -78,34 +78,26 @@ pub entrant : (R : Log) (core : CoreId) (t : ObjId) → (is_ready (status_of R t
 unfolding may_enter
 entrant R core t = refl
 
--- who may enter is a thread that was made
-pub entrant-made : (R : Log) (core : CoreId) (t : ObjId) → may_enter R core t ≡ true → same_kind t.kind kind.Thread && was_made R t ≡ true
-unfolding may_enter
-entrant-made R core t may = go (same_kind t.kind kind.Thread && was_made R t) refl
-  where
-    go : (b : Bool) → same_kind t.kind kind.Thread && was_made R t ≡ b → b ≡ true
-    go true made = refl
-    go false unmade =
-        let ready : is_ready (status_of R t) ≡ true = (parts (is_ready (status_of R t)) _ may).0 in
-        let no : false ≡ true = sym (ap (λ s. is_ready s) (status-unmade R t unmade)) ∙ ready in absurd cc
+-- who may enter is there
+pub entrant-there : (R : Log) (core : CoreId) (t : ObjId) → may_enter R core t ≡ true → IsThere R kind.Thread t
+entrant-there R core t may = let e = enters-ready R core t may in (e.thread, e.alive)
 
 -- a candidate is the thread of a number below the count of threads
 candidate-number : (R : Log) (core : CoreId) (passed : List Bool) (n : ℕ) (t : ObjId) → Sound R → n ≡ counted (makes_kind kind.Thread) R → is_candidate R core passed t ≡ true
     → (t ≡ thread_at (t.serial - 1)) × (t.serial - 1 < n)
 candidate-number R core passed n t sound e is =
-    let made : (same_kind t.kind kind.Thread ≡ true) × (was_made R t ≡ true) = parts _ _ (entrant-made R core t (parts (may_enter R core t) _ is).0) in
-    let kinds : t.kind ≡ kind.Thread = same_kind-equal t.kind kind.Thread made.0 in
-    let where_made : (nat_le 1 t.serial && nat_le t.serial (counted (makes_kind t.kind) R)) ≡ true = sym (made-where R t sound) ∙ made.1 in
-    let low : 1 ≤ t.serial = grind (arith, common_steps, (parts (nat_le 1 t.serial) _ where_made).0) in
-    let high : t.serial ≤ counted (makes_kind t.kind) R = grind (arith, common_steps, (parts (nat_le 1 t.serial) _ where_made).1) in
-    let few : t.serial ≤ n = subst (λ m. t.serial ≤ m) (ap (λ k. counted (makes_kind k) R) kinds ∙ sym e) high in
+    let there : IsThere R kind.Thread t = entrant-there R core t (parts (may_enter R core t) _ is).0 in
+    let kinds : t.kind ≡ kind.Thread = there.0 in
+    let given = made-serial R t sound (alive-made R t there.1) in
+    let low : 1 ≤ t.serial = given.0 in
+    let few : t.serial ≤ n = subst (λ m. t.serial ≤ m) (ap (λ k. counted (makes_kind k) R) kinds ∙ sym e) given.1 in
     let serial : t.serial ≡ t.serial - 1 + 1 = omega (arith, low) in
     (λ i. record { kind = kinds i; serial = serial i }, omega (arith, low, few))
 
-pub pick-is : (R : Log) (core : CoreId) (passed : List Bool) (n : ℕ) → Sound R → n ≡ counted (makes_kind kind.Thread) R → IsPick R core passed (object_of kind.Thread (best_below R core passed n))
+pub pick-is : (R : Log) (core : CoreId) (passed : List Bool) (n : ℕ) → Sound R → n ≡ counted (makes_kind kind.Thread) R → IsPick R core passed (picked (best_below R core passed n))
 pick-is R core passed n sound e = go (best_below R core passed n) (best-is R core passed n)
   where
-    go : (o : Option ℕ) → IsBest R core passed n o → IsPick R core passed (object_of kind.Thread o)
+    go : (o : Option ℕ) → IsBest R core passed n o → IsPick R core passed (picked o)
     go None best = λ u is.
         let at : (u ≡ thread_at (u.serial - 1)) × (u.serial - 1 < n) = candidate-number R core passed n u sound e is in
         let no : true ≡ false = sym is ∙ ap (λ x. is_candidate R core passed x) at.0 ∙ best (u.serial - 1) at.1 in absurd cc

@@ -1,5 +1,5 @@
 -- What the log says of threads, and that it says nothing of what was never made.
-use Rattle.std.specs.Prelude.{◌≡◌, Bool, true, false, ◌&&◌, ◌||◌, [], ◌∷◌, Option, Some, None, IsSome, unwrap_or}
+use Rattle.std.specs.Prelude.{◌≡◌, Bool, true, false, cond, find, ◌||◌, [], ◌∷◌, Option, Some, None, IsSome, unwrap_or}
 use Rattle.std.proofs.Common.{refl, ap, sym, ◌∙◌, subst, arith}
 use Rattle.mcs_types.specs.declared.id.ObjId.{ObjId}
 use Rattle.mcs_types.specs.declared.id.Kind.{Kind}
@@ -8,23 +8,25 @@ use Rattle.mcs_types.specs.declared.record.Form.{Form}
 use Rattle.mcs_types.specs.declared.record.Form.TheVariants as form
 use Rattle.mcs_types.specs.declared.record.Mode.TheVariants.{Inactive}
 use Rattle.mcs_types.specs.declared.record.Queue.{Queue}
-use Rattle.mcs_types.specs.declared.record.Queue.TheVariants.{Senders, Receivers, Waiters}
+use Rattle.mcs_types.specs.declared.record.Rec.{Rec}
 use Rattle.mcs_types.specs.declared.record.Rec.TheVariants as rec
-use Rattle.mcs_types.specs.Ids.{same}
+use Rattle.mcs_types.specs.Ids.{same, same_kind}
 use Rattle.mcs_threads.specs.declared.row.ThreadRow.{ThreadRow}
-use Rattle.mcs_threads.specs.Rows.{queue_in}
-use Rattle.mcs_book.specs.Logs.{Log, is_just, given, latest_knowing}
-use Rattle.mcs_book.specs.Objects.{was_made, is_alive, form_of, next_id}
+use Rattle.mcs_book.specs.Logs.{Log, given, latest_knowing}
+use Rattle.mcs_types.specs.Ids.{is_just}
+use Rattle.mcs_book.specs.Objects.{was_made, was_closed, is_alive, form_of}
 use Rattle.mcs_book.specs.Threads.{prio_of, mode_of}
-use Rattle.mcs_book.specs.Queues.{queue_of, reply_with, receives_at, is_receiving}
+use Rattle.mcs_book.specs.Queues.{queue_of, reply_with}
 use Rattle.mcs_book.specs.Notifications.{bound_of}
-use Rattle.mcs_book.specs.Replies.{owed_by}
 use Rattle.mcs_book.specs.Standing.{mail_brought}
 use Rattle.mcs_book.specs.Sound.{Sound, IsThere, IsFormOf}
 use Rattle.mcs_types.proofs.Ids.{same-equal}
-use Rattle.mcs_book.proofs.MadeLaws.{alive-made, made-serial}
+use Rattle.mcs_book.proofs.MadeLaws.{alive-made}
+use Rattle.mcs_book.specs.Replies.{owed_by, owing, replies}
+use Rattle.mcs_book.proofs.CountLaws.{closed-made}
+use Rattle.mcs_book.proofs.FirmLaws.{owing-owed}
+use Rattle.mcs_book.proofs.KeptLaws.{standing-owed, owed-there}
 use Rattle.mcs_state.specs.Saying.{block_said, row_with, row_said}
-use Rattle.mcs_state.specs.Tables.{is_receiver}
 
 -- the log says nothing of t
 abbrev pub IsUnsaid : Log → ObjId → Type 0
@@ -106,14 +108,6 @@ unmailed (rec.Paid r x message ∷ R) t sound h = unset _ _ _ None (apart R t x 
 unmailed (rec.Heard u n word ∷ R) t sound h = unset _ _ _ None (other R t u h sound.0.0.1) (unmailed R t sound.1 h)
 unmailed (_ ∷ R) t sound h = unmailed R t sound.1 h
 
--- the next object of a kind was never made
-pub unmade-next : (R : Log) (k : Kind) → Sound R → was_made R (next_id R k) ≡ false
-unmade-next R k sound = go (was_made R (next_id R k)) refl
-  where
-    go : (b : Bool) → was_made R (next_id R k) ≡ b → b ≡ false
-    go true h = let serial = made-serial R (next_id R k) sound h in absurd (omega (arith, serial.1))
-    go false h = refl
-
 -- what has no form was never made
 pub formless : (R : Log) (t : ObjId) → form_of R t ≡ None → was_made R t ≡ false
 formless [] t e = refl
@@ -147,47 +141,114 @@ form-fits (rec.Made u g ∷ R) o f sound e = go (same o u) refl e (form-fits R o
     go false is k later = later k
 form-fits (_ ∷ R) o f sound e = form-fits R o f sound.1 e
 
+-- no reply object owes what was never made
+pub unowed : (R : Log) (t : ObjId) → Sound R → was_made R t ≡ false → owing R t ≡ None
+unowed R t sound h = go (owing R t) refl
+  where
+    go : (o : Option ObjId) → owing R t ≡ o → o ≡ None
+    go None e = refl
+    go (Some r) e = let no : true ≡ false = sym (owed-made R r t sound (owing-owed R t r e)) ∙ h in absurd cc
+
+-- nor who stands in a queue
+pub standing-unowed : (R : Log) (t : ObjId) (q : Queue) → Sound R → queue_of R t ≡ Some q → owing R t ≡ None
+standing-unowed R t q sound h = go (owing R t) refl
+  where
+    go : (o : Option ObjId) → owing R t ≡ o → o ≡ None
+    go None e = refl
+    go (Some r) e = absurd (standing-owed R t q r sound h (owing-owed R t r e))
+
+-- what was never made owes nobody
+pub owes-none : (R : Log) (r : ObjId) → Sound R → was_made R r ≡ false → owed_by R r ≡ None
+owes-none R r sound h = go (owed_by R r) refl
+  where
+    go : (o : Option ObjId) → owed_by R r ≡ o → o ≡ None
+    go None e = refl
+    go (Some x) e = let there = (owed-there R r x sound e).0 in let no : true ≡ false = sym (alive-made R r there.1) ∙ h in absurd cc
+
+-- whether a record neither makes an object nor makes or ends a debt
+abbrev pub is_debtless : Rec → Bool
+is_debtless (rec.Made o f) = false
+is_debtless (rec.Owes r x s) = false
+is_debtless (rec.Paid r x message) = false
+is_debtless (rec.Void r x ending) = false
+is_debtless _ = true
+
+-- such a record leaves who owes whom
+pub owing-kept : (r : Rec) (R : Log) (t : ObjId) → is_debtless r ≡ true → owing (r ∷ R) t ≡ owing R t
+unfolding owing
+owing-kept (rec.Made o f) R t h = absurd cc
+owing-kept (rec.Owes u x s) R t h = absurd cc
+owing-kept (rec.Paid u x message) R t h = absurd cc
+owing-kept (rec.Void u x ending) R t h = absurd cc
+owing-kept _ R t h = refl
+
+-- and so does the making of an object
+pub owing-made : (R : Log) (o t : ObjId) (f : Form) → Sound R → was_made R o ≡ false → owing (rec.Made o f ∷ R) t ≡ owing R t
+unfolding owing
+owing-made R o t f sound h = go (same_kind o.kind kind.Reply)
+  where
+    skip : cond (is_just (owed_by R o) t) (Some o) (find (λ r. is_just (owed_by R r) t) (replies R)) ≡ find (λ r. is_just (owed_by R r) t) (replies R)
+    skip = ap (λ d. cond (is_just d t) (Some o) (find (λ r. is_just (owed_by R r) t) (replies R))) (owes-none R o sound h)
+
+    go : (b : Bool) → find (λ r. is_just (owed_by R r) t) (cond b (o ∷ replies R) (replies R)) ≡ find (λ r. is_just (owed_by R r) t) (replies R)
+    go true = skip
+    go false = refl
+
+-- what was never made was not closed
+pub unclosed : (R : Log) (o : ObjId) → Sound R → was_made R o ≡ false → was_closed R o ≡ false
+unclosed R o sound h = go (was_closed R o) refl
+  where
+    go : (b : Bool) → was_closed R o ≡ b → b ≡ false
+    go false e = refl
+    go true e = let no : true ≡ false = sym (closed-made R o sound e) ∙ h in absurd cc
+
 -- what a row of the log says
 pub record Says (R : Log) (t : ObjId) (r : ThreadRow) : Type 0 where
+  pub alive : is_alive R t ≡ true
   pub form : form_of R t ≡ Some (form.Runner r.maximum r.root)
   pub priority : r.priority.0 ≡ prio_of R t
   pub mode : r.mode ≡ mode_of R t
-  pub block : r.block ≡ block_said (queue_of R t) (reply_with R t)
+  pub block : r.block ≡ block_said (queue_of R t) (reply_with R t) (owing R t)
 
 pub said : (R : Log) (t : ObjId) (r : ThreadRow) → Some r ≡ row_said R t → Says R t r
-said R t r h = go (form_of R t) refl h
+said R t r h = go (is_alive R t) refl (form_of R t) refl h
   where
-    go : (o : Option Form) → form_of R t ≡ o → Some r ≡ row_with o (prio_of R t) (mode_of R t) (queue_of R t) (reply_with R t) (bound_of R t) → Says R t r
-    go (Some (form.Runner maximum root)) e k =
-        let it : r ≡ record { maximum = maximum; root = root; priority = record { 0 = prio_of R t }; mode = mode_of R t; block = block_said (queue_of R t) (reply_with R t); notification = bound_of R t } = cc in
+    go : (b : Bool) → is_alive R t ≡ b → (o : Option Form) → form_of R t ≡ o
+        → Some r ≡ cond b (row_with o (prio_of R t) (mode_of R t) (block_said (queue_of R t) (reply_with R t) (owing R t)) (bound_of R t)) None → Says R t r
+    go false a o e k = absurd cc
+    go true a (Some (form.Runner maximum root)) e k =
+        let it : r ≡ record { maximum = maximum; root = root; priority = record { 0 = prio_of R t }; mode = mode_of R t; block = block_said (queue_of R t) (reply_with R t) (owing R t); notification = bound_of R t } = cc in
         record {
+          alive = a;
           form = e ∙ ap (λ (x : ThreadRow). Some (form.Runner x.maximum x.root)) (sym it);
           priority = ap (λ (x : ThreadRow). x.priority.0) it;
           mode = ap (λ (x : ThreadRow). x.mode) it;
           block = ap (λ (x : ThreadRow). x.block) it;
         }
-    go None e k = absurd cc
-    go (Some form.Plain) e k = absurd cc
-    go (Some (form.Slots radix)) e k = absurd cc
-    go (Some (form.OnCore core)) e k = absurd cc
+    go true a None e k = absurd cc
+    go true a (Some form.Plain) e k = absurd cc
+    go true a (Some (form.Slots radix)) e k = absurd cc
+    go true a (Some (form.OnCore core)) e k = absurd cc
 
--- a thread without a row was never made
-pub rowless : (R : Log) (t : ObjId) → Sound R → t.kind ≡ kind.Thread → None ≡ row_said R t → was_made R t ≡ false
-rowless R t sound is h = go (form_of R t) refl h
+-- a thread without a row is not there
+pub rowless : (R : Log) (t : ObjId) → Sound R → t.kind ≡ kind.Thread → None ≡ row_said R t → is_alive R t ≡ false
+rowless R t sound is h = go (is_alive R t) refl (form_of R t) refl h
   where
     no : (f : Form) → form_of R t ≡ Some f → IsFormOf kind.Thread f
     no f e = subst (λ k. IsFormOf k f) is (form-fits R t f sound e)
 
-    go : (o : Option Form) → form_of R t ≡ o → None ≡ row_with o (prio_of R t) (mode_of R t) (queue_of R t) (reply_with R t) (bound_of R t) → was_made R t ≡ false
-    go None e k = formless R t e
-    go (Some (form.Runner maximum root)) e k = absurd cc
-    go (Some form.Plain) e k = absurd (no form.Plain e)
-    go (Some (form.Slots radix)) e k = absurd (no (form.Slots radix) e)
-    go (Some (form.OnCore core)) e k = absurd (no (form.OnCore core) e)
+    go : (b : Bool) → is_alive R t ≡ b → (o : Option Form) → form_of R t ≡ o
+        → None ≡ cond b (row_with o (prio_of R t) (mode_of R t) (block_said (queue_of R t) (reply_with R t) (owing R t)) (bound_of R t)) None → b ≡ false
+    go false a o e k = refl
+    go true a None e k = let never : true ≡ false = sym (alive-made R t a) ∙ formless R t e in absurd cc
+    go true a (Some (form.Runner maximum root)) e k = absurd cc
+    go true a (Some form.Plain) e k = absurd (no form.Plain e)
+    go true a (Some (form.Slots radix)) e k = absurd (no (form.Slots radix) e)
+    go true a (Some (form.OnCore core)) e k = absurd (no (form.OnCore core) e)
 
--- what has a row is a thread
-pub row-kind : (R : Log) (t : ObjId) (r : ThreadRow) → Sound R → Some r ≡ row_said R t → t.kind ≡ kind.Thread
-row-kind R t r sound h = go t.kind refl (form-fits R t (form.Runner r.maximum r.root) sound (said R t r h).form)
+-- what has a row is a thread that is there
+pub row-there : (R : Log) (t : ObjId) (r : ThreadRow) → Sound R → Some r ≡ row_said R t → IsThere R kind.Thread t
+row-there R t r sound h = (go t.kind refl (form-fits R t (form.Runner r.maximum r.root) sound (said R t r h).form), (said R t r h).alive)
   where
     go : (k : Kind) → t.kind ≡ k → IsFormOf k (form.Runner r.maximum r.root) → t.kind ≡ kind.Thread
     go kind.Thread e fits = e
@@ -203,27 +264,4 @@ has-row R t sound there = go (row_said R t) refl
   where
     go : (o : Option ThreadRow) → row_said R t ≡ o → IsSome o
     go (Some r) e = refl
-    go None e = let no : true ≡ false = sym (alive-made R t there.1) ∙ rowless R t sound there.0 (sym e) in absurd cc
-
--- the line of a row is the one that the log says
-pub queue-said : (R : Log) (t : ObjId) (r : ThreadRow) → Some r ≡ row_said R t → queue_in r ≡ queue_of R t
-queue-said R t r h = by_block (queue_of R t) r (said R t r h).block
-  where
-    by_block : (q : Option Queue) (row : ThreadRow) → row.block ≡ block_said q (reply_with R t) → queue_in row ≡ q
-    by_block None row e = rw e refl
-    by_block (Some q) row e = rw e refl
-
--- who receives with a reply object by its row does by the log
-pub receiver-said : (R : Log) (t r : ObjId) → Sound R → t.kind ≡ kind.Thread → is_receiver (row_said R t) r ≡ (is_receiving R t && is_just (reply_with R t) r)
-receiver-said R t r sound is = go (row_said R t) refl
-  where
-    by_block : (q : Option Queue) (w : Option ObjId) (row : ThreadRow) → row.block ≡ block_said q w → is_receiver (Some row) r ≡ (receives_at q && is_just w r)
-    by_block None w row e = rw e refl
-    by_block (Some (Senders x)) w row e = rw e refl
-    by_block (Some (Waiters x)) w row e = rw e refl
-    by_block (Some (Receivers x)) None row e = rw e refl
-    by_block (Some (Receivers x)) (Some own) row e = rw e refl
-
-    go : (o : Option ThreadRow) → row_said R t ≡ o → is_receiver o r ≡ (is_receiving R t && is_just (reply_with R t) r)
-    go (Some row) e = by_block (queue_of R t) (reply_with R t) row (said R t row (sym e)).block
-    go None e = sym (ap (λ q. receives_at q && is_just (reply_with R t) r) ((unsaid R t sound (rowless R t sound is (sym e))).3))
+    go None e = let no : true ≡ false = sym there.1 ∙ rowless R t sound there.0 (sym e) in absurd cc

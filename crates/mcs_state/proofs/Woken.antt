@@ -1,23 +1,14 @@
--- What holds of a thread that enters, and after it was woken.
-use Rattle.std.specs.Prelude.{◌≡◌, Some, None}
-use Rattle.std.proofs.Common.{refl, sym, ◌∙◌}
+-- What holds of a thread that enters, after it was woken.
+use Rattle.std.specs.Prelude.{◌≡◌}
+use Rattle.std.proofs.Common.{refl}
 use Rattle.mcs_types.specs.declared.id.ObjId.{ObjId}
-use Rattle.mcs_types.specs.declared.id.Kind.{Kind}
 use Rattle.mcs_types.specs.declared.record.Mode.{Mode}
 use Rattle.mcs_types.specs.declared.record.Mode.TheVariants.{Running, Restart, Inactive}
 use Rattle.mcs_book.specs.Logs.{Log, onto}
 use Rattle.mcs_book.specs.Threads.{mode_of}
-use Rattle.mcs_book.specs.Queues.{queue_of}
 use Rattle.mcs_book.specs.Table.{wakes}
-use Rattle.mcs_book.specs.Sound.{IsThere, IsIdle}
-use Rattle.mcs_book.specs.Served.{AreServed}
 use Rattle.mcs_types.proofs.Ids.{same-self}
 use Rattle.mcs_state.specs.Entering.{IsEntering, IsActing}
-use Rattle.mcs_state.proofs.Answering.{none-owed}
-
--- who stands in no line is idle
-pub idle : (R : Log) (t : ObjId) → AreServed R → queue_of R t ≡ None → IsIdle R t
-idle R t served none = (none, λ r owes. let no : None ≡ Some t = sym (none-owed R r served) ∙ owes in absurd cc)
 
 -- who was woken acts
 pub woken : (R : Log) (t : ObjId) → IsEntering R t → IsActing (onto (wakes (mode_of R t) t R) R) t
@@ -28,8 +19,8 @@ woken R t enters = go (mode_of R t) refl
     go Restart e = record { there = enters.there; idle = enters.idle; runs = rw (same-self t) refl }
     go Inactive e = absurd (enters.awake e)
 
--- what is there is there still when a thread was woken
-pub woken-there : (R : Log) (t : ObjId) (m : Mode) (k : Kind) (o : ObjId) → IsThere R k o → IsThere (onto (wakes m t R) R) k o
-woken-there R t Running k o there = there
-woken-there R t Restart k o there = there
-woken-there R t Inactive k o there = there
+-- what is said of a log in ways that no waking changes
+pub woken-same : (P : Log → Type 0) (R : Log) (t : ObjId) (m : Mode) → P R → ((S : Log) → S ≡ onto (wakes Restart t R) R → P R → P S) → P (onto (wakes m t R) R)
+woken-same P R t Running h f = h
+woken-same P R t Inactive h f = h
+woken-same P R t Restart h f = f (onto (wakes Restart t R) R) refl h

@@ -9,19 +9,19 @@ use Rattle.mcs_book.specs.Logs.{Log}
 use Rattle.mcs_book.specs.Threads.{mode_of, root_of}
 use Rattle.mcs_book.specs.Queues.{queue_of}
 use Rattle.mcs_book.specs.Fair.{IsOpenOf}
-use Rattle.mcs_book.specs.Sound.{IsThere}
+use Rattle.mcs_book.specs.Sound.{IsThere, IsIdle}
 
--- t is a thread that is there, stands in no line, and is not inactive; its root is a CNode that is there
+-- t is a thread that is there, is blocked on nothing, and is not inactive; its root is a CNode that is there
 pub record IsEntering (R : Log) (t : ObjId) : Type 0 where
   pub there : IsThere R kind.Thread t
-  pub idle : queue_of R t ≡ None
+  pub idle : IsIdle R t
   pub awake : mode_of R t ≢ Inactive
   pub rooted : (root : Cap) → root_of R t ≡ Some root → IsThere R kind.CNode root.obj
 
 -- the same, after it was woken
 pub record IsActing (R : Log) (t : ObjId) : Type 0 where
   pub there : IsThere R kind.Thread t
-  pub idle : queue_of R t ≡ None
+  pub idle : IsIdle R t
   pub runs : mode_of R t ≡ Running
 
 -- who has an open message stands among the senders of its endpoint

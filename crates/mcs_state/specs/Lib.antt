@@ -1,6 +1,9 @@
-pub mod Numbers
 pub mod Now
 pub mod Saying
 pub mod Tables
+pub mod Following
+pub mod Making
 pub mod Picking
 pub mod Entering
+pub mod Doing
+pub mod Checks

@@ -1,127 +1,129 @@
 -- How the tables agree with the records.
-use Rattle.std.specs.Prelude.{ℕ, zero, suc, Bool, false, cond, ◌≡◌, ◌<◌, ◌≤◌, ◌+◌, ◌*◌, List, [], ◌∷◌, length, slice_index_or, Option, Some, None, map, unwrap_or, option_and_then}
+use Rattle.std.specs.Prelude.{ℕ, cond, ◌≡◌, ◌≤◌, ◌+◌, ◌*◌, ◌&&◌, Bool, true, List, length, unwrap_or, Option, Some, None, option_and_then}
 use Rattle.mcs_types.specs.declared.id.ObjId.{ObjId}
 use Rattle.mcs_types.specs.declared.id.Kind.{Kind}
 use Rattle.mcs_types.specs.declared.id.Kind.TheVariants as kind
 use Rattle.mcs_types.specs.declared.id.CoreId.{CoreId}
-use Rattle.mcs_types.specs.declared.cap.Cap.{Cap}
 use Rattle.mcs_types.specs.declared.record.Form.{Form}
 use Rattle.mcs_types.specs.declared.record.Form.TheVariants.{OnCore}
 use Rattle.mcs_types.specs.declared.record.Letter.{Letter}
 use Rattle.mcs_types.specs.declared.record.Queue.{Queue}
-use Rattle.mcs_types.specs.Waiters.{Waiter}
+use Rattle.mcs_types.specs.Limits.{object_limit, record_limit}
+use Rattle.mcs_types.specs.Ids.{same_kind}
 use Rattle.mcs_book.specs.Logs.{Log, counted}
-use Rattle.mcs_book.specs.Objects.{form_of, makes_kind}
+use Rattle.mcs_book.specs.Objects.{is_alive, form_of, makes_kind, number_of}
 use Rattle.mcs_book.specs.Slots.{slot}
 use Rattle.mcs_book.specs.Lookup.{radix_kept}
-use Rattle.mcs_contexts.specs.Holding.{Holding, core_in, holder_in}
-use Rattle.mcs_slots.specs.Pages.{Page, radix_of, slot_at}
-use Rattle.mcs_threads.specs.declared.row.ThreadRow.{ThreadRow}
-use Rattle.mcs_threads.specs.Rows.{receives_in}
-use Rattle.mcs_threads.specs.Tables.{Table, row_of, mail_of as mail_in}
 use Rattle.mcs_book.specs.Queues.{queue_of}
 use Rattle.mcs_book.specs.Standing.{mail_of}
 use Rattle.mcs_book.specs.Messages.{next_message, is_sent}
 use Rattle.mcs_book.specs.Contexts.{holder_of}
-use Rattle.mcs_book.specs.Growing.{Waiter as Standing, growing_line, growing_open}
-use Rattle.mcs_book.specs.Served.{AreServed}
+use Rattle.mcs_book.specs.Replies.{receiver_with}
+use Rattle.mcs_book.specs.Growing.{Waiter, growing_line, growing_open}
+use Rattle.mcs_book.specs.Fits.{AllFit}
 use Rattle.mcs_book.specs.Sound.{Sound}
-use Rattle.mcs_state.specs.Numbers.{thread_at, IsLineName, line_number, number_of_line, standing}
+use Rattle.mcs_places.specs.Places.{kept_at}
+use Rattle.mcs_objects.specs.Store.{Objects, Shape, value_at, shape}
+use Rattle.mcs_contexts.specs.Holding.{Holding, counts, core_in, holder_in}
+use Rattle.mcs_slots.specs.Pages.{Page, radix_of, slot_at}
+use Rattle.mcs_threads.specs.Tables.{Table, made, row_of, mail_of as mail_in}
+use Rattle.mcs_waiting.specs.Queues.{queue_object, queue_kind, has_queues}
 use Rattle.mcs_state.specs.Saying.{row_said}
-use Rattle.mcs_state.specs.declared.rows.Counts.{Counts}
 
 -- how many objects of most kinds there may be
 abbrev pub ROOM : ℕ
-ROOM = 256
-
--- how many lines there may be: senders and receivers of each endpoint, and waiters of each notification
-abbrev pub LINES : ℕ
-LINES = 768
+ROOM = object_limit
 
 -- how many records the line in hand may have
 abbrev pub HAND : ℕ
-HAND = 1056
+HAND = record_limit
 
--- nothing is in a list
-abbrev pub AreNone : {A : Type 0} → List (Option A) → Type 0
-AreNone [] = Unit {0}
-AreNone (x ∷ xs) = (x ≡ None) × AreNone xs
+-- the threads of each queue, the queue of each thread, whether the object of a queue is there, and how many endpoints and
+-- notifications were made and are there
+pub record Queueing : Type 0 where
+  pub line : Queue → List Waiter
+  pub queue : ObjId → Option Queue
+  pub has : Queue → Bool
+  pub made : Kind → ℕ
+  pub there : Kind → ℕ
 
--- how many of each kind were made
-pub record CountsAgree (counts : Counts) (made : Kind → ℕ) : Type 0 where
-  pub cnodes : counts.cnodes ≡ made kind.CNode
-  pub threads : counts.threads ≡ made kind.Thread
-  pub endpoints : counts.endpoints ≡ made kind.Endpoint
-  pub notifications : counts.notifications ≡ made kind.Notification
-  pub replies : counts.replies ≡ made kind.Reply
-  pub contexts : counts.contexts ≡ made kind.Context
-  pub few_cnodes : counts.cnodes ≤ 64
-  pub few_threads : counts.threads ≤ ROOM
-  pub few_endpoints : counts.endpoints ≤ ROOM
-  pub few_notifications : counts.notifications ≤ ROOM
-  pub few_replies : counts.replies ≤ ROOM
-  pub few_contexts : counts.contexts ≤ ROOM
+-- all tables
+pub record Tables : Type 0 where
+  pub threads : Table
+  pub letters : List (Option Letter)
+  pub contexts : Holding
+  pub queues : Queueing
+  pub replies : Objects (Option ObjId)
+  pub slots : List Page
+  pub sent : ℕ
 
--- how many of a kind there are
-abbrev pub count_in : Counts → Kind → ℕ
-count_in counts kind.CNode = counts.cnodes
-count_in counts kind.Thread = counts.threads
-count_in counts kind.Endpoint = counts.endpoints
-count_in counts kind.Notification = counts.notifications
-count_in counts kind.Reply = counts.replies
-count_in counts kind.Context = counts.contexts
+-- how many objects of a kind were made and are there
+abbrev pub shape_said : Kind → Log → Shape
+shape_said k R = record { kind = k; room = ROOM; given = counted (makes_kind k) R; there = number_of R k }
 
--- whether the thread of a row, if there is one, receives with this reply object
-abbrev pub is_receiver : Option ThreadRow → ObjId → Bool
-is_receiver None reply = false
-is_receiver (Some row) reply = receives_in row reply
+-- the threads, their rows and their mail
+pub record ThreadsAgree (T : Table) (R : Log) : Type 0 where
+  pub made : made T ≡ counted (makes_kind kind.Thread) R
+  pub rows : (t : ObjId) → row_of T t ≡ row_said R t
+  pub mails : (t : ObjId) → mail_in T t ≡ mail_of R t
 
--- the greatest number below n that passes the test
-abbrev pub last_number : (ℕ → Bool) → ℕ → Option ℕ
-last_number p zero = None
-last_number p (suc n) = cond (p n) (Some n) (last_number p n)
-
--- the open messages, by their senders' numbers
-abbrev pub LettersAgree : List (Option Letter) → (ObjId → Option Letter) → Type 0
-LettersAgree letters opens = (i : ℕ) (d : Option Letter) → i < ROOM → slice_index_or letters i d ≡ opens (thread_at i)
+-- the open messages, by their senders
+pub record LettersAgree (kept : List (Option Letter)) (R : Log) : Type 0 where
+  pub places : length kept ≡ ROOM
+  pub letters : (x : ObjId) → kept_at kind.Thread kept x ≡ growing_open R x
 
 -- the core that a context keeps
 abbrev pub core_kept : Form → Option CoreId
 core_kept (OnCore core) = Some core
 core_kept _ = None
 
--- the contexts, with their cores and their holders
-pub record ContextsAgree (contexts : Holding) (forms : ObjId → Option Form) (holders : ObjId → Option ObjId) : Type 0 where
-  pub cores_are : (s : ObjId) → core_in contexts s ≡ option_and_then core_kept (forms s)
-  pub holders_are : (s : ObjId) → holder_in contexts s ≡ holders s
+-- the core of a context that is there
+abbrev pub core_said : Log → ObjId → Option CoreId
+core_said R s = cond (is_alive R s) (option_and_then core_kept (form_of R s)) None
+
+-- the contexts, their cores and their holders
+pub record ContextsAgree (v : Holding) (R : Log) : Type 0 where
+  pub shape : counts v ≡ shape_said kind.Context R
+  pub cores : (s : ObjId) → core_in v s ≡ core_said R s
+  pub holders : (s : ObjId) → holder_in v s ≡ holder_of R s
+
+-- whether an object of this kind is there
+abbrev pub is_there : Log → Kind → ObjId → Bool
+is_there R k o = same_kind o.kind k && is_alive R o
+
+-- the queues
+pub record QueuesAgree (v : Queueing) (R : Log) : Type 0 where
+  pub made : (k : Kind) → has_queues k ≡ true → v.made k ≡ counted (makes_kind k) R
+  pub there : (k : Kind) → has_queues k ≡ true → v.there k ≡ number_of R k
+  pub line : (q : Queue) → v.line q ≡ growing_line R q
+  pub queue : (t : ObjId) → v.queue t ≡ queue_of R t
+  pub has : (q : Queue) → v.has q ≡ is_there R (queue_kind q) (queue_object q)
+
+-- the reply objects, each with the receiver that stands with it
+pub record RepliesAgree (v : Objects (Option ObjId)) (R : Log) : Type 0 where
+  pub shape : shape v ≡ shape_said kind.Reply R
+  pub receivers : (r : ObjId) → value_at v r ≡ cond (is_there R kind.Reply r) (Some (receiver_with R r)) None
 
 -- the pages of the CNodes: as many as were made, with their radices and what their slots hold
-pub record SlotsAgree (slots : List Page) (made : ℕ) (radices : ObjId → ℕ) (said : ObjId → ℕ → Option Cap) : Type 0 where
-  pub pages : length slots ≡ made
-  pub radices_are : (c : ObjId) → unwrap_or (radix_of slots c) 0 ≡ radices c
-  pub slots_are : (c : ObjId) (i : ℕ) → slot_at slots c i ≡ said c i
+pub record SlotsAgree (pages : List Page) (R : Log) : Type 0 where
+  pub made : length pages ≡ counted (makes_kind kind.CNode) R
+  pub radices : (c : ObjId) → unwrap_or (radix_of pages c) 0 ≡ radix_kept (form_of R c)
+  pub slots : (c : ObjId) (i : ℕ) → slot_at pages c i ≡ slot R c i
 
--- the lines, and the line of each thread
-pub record LinesAgree (line : ℕ → List Waiter) (place : ℕ → Option ℕ) (waiters : Queue → List Standing) (queues : ObjId → Option Queue) : Type 0 where
-  pub lines : (q : Queue) → IsLineName q → waiters q ≡ map standing (line (line_number q))
-  pub places : (i : ℕ) → i < ROOM → place i ≡ number_of_line (queues (thread_at i))
+-- how many messages were sent: as many as so many lines and the records in hand can have
+pub record SentAgrees (sent lines : ℕ) (hand R : Log) : Type 0 where
+  pub all : sent ≡ next_message R
+  pub few : sent ≤ HAND * lines + counted is_sent hand
 
--- what holds of all records so far: those of each line are few, each was allowed, and is of a kind that is served
-pub record LogAgrees (sent lines : ℕ) (hand R : Log) : Type 0 where
-  pub sent_are : sent ≡ next_message R
-  pub sent_few : sent ≤ HAND * lines + counted is_sent hand
-  pub hand_few : length hand ≤ HAND
-  pub served : AreServed R
+-- each record was allowed and fits, those in hand are few, and each table agrees with all of them
+pub record IsKept (T : Tables) (lines : ℕ) (hand R : Log) : Type 0 where
+  pub few : length hand ≤ HAND
   pub sound : Sound R
-
--- each table agrees with all records so far
-pub record Agrees (counts : Counts) (threads : Table) (letters : List (Option Letter)) (contexts : Holding) (slots : List Page)
-    (line : ℕ → List Waiter) (place : ℕ → Option ℕ) (sent lines : ℕ) (hand R : Log) : Type 0 where
-  pub of_counts : CountsAgree counts (λ k. counted (makes_kind k) R)
-  pub of_threads : (t : ObjId) → row_of threads t ≡ row_said R t
-  pub of_mails : (t : ObjId) → mail_in threads t ≡ mail_of R t
-  pub of_letters : LettersAgree letters (λ x. growing_open R x)
-  pub of_contexts : ContextsAgree contexts (λ s. form_of R s) (λ s. holder_of R s)
-  pub of_slots : SlotsAgree slots (counted (makes_kind kind.CNode) R) (λ c. radix_kept (form_of R c)) (λ c i. slot R c i)
-  pub of_lines : LinesAgree line place (λ q. growing_line R q) (λ t. queue_of R t)
-  pub of_log : LogAgrees sent lines hand R
+  pub fits : AllFit R
+  pub threads : ThreadsAgree T.threads R
+  pub letters : LettersAgree T.letters R
+  pub contexts : ContextsAgree T.contexts R
+  pub queues : QueuesAgree T.queues R
+  pub replies : RepliesAgree T.replies R
+  pub slots : SlotsAgree T.slots R
+  pub sent : SentAgrees T.sent lines hand R

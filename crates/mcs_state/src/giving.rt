@@ -1,19 +1,21 @@
-//! Contexts given and taken.
-ghost use Rattle.std.specs.Prelude.{◌≡◌, ◌≢◌, IsSome, IfSome, cond};
+//! Contexts given and taken, and receivers that come to stand with reply objects.
+ghost use Rattle.std.specs.Prelude.{◌≡◌, ◌≢◌, IsSome, IfSome};
 ghost use Rattle.mcs_types.specs.declared.id.ObjId.{ObjId};
-ghost use Rattle.mcs_types.specs.Ids.{same};
-ghost use Rattle.mcs_contexts.specs.Holding.{core_in, holder_in, IsThread};
+ghost use Rattle.mcs_types.specs.Ids.{IsThread};
+ghost use Rattle.mcs_contexts.specs.Holding.{core_in, holder_in};
+ghost use Rattle.mcs_objects.specs.Store.{value_at};
+ghost use Rattle.mcs_state.specs.Following.{GivesContext, SetsAny, attended};
 
 use mcs_contexts::Contexts;
-use mcs_types::ObjId;
+use mcs_objects::Store;
+use mcs_types::{ObjId, Queue};
 
 /// A context that was made is held by this thread now, which holds none, or by nobody.
 pub fn give(contexts: &mut Contexts, context: ObjId, thread: Option<ObjId>)
     requires made { IsSome (core_in contexts.old context) }
     requires thread { IfSome thread IsThread }
     requires idle { IfSome thread (λ t. (x : ObjId) → holder_in contexts.old x ≢ Some t) }
-    ensures cores { contexts.new.cores ≡ contexts.old.cores }
-    ensures holders { (x : ObjId) → holder_in contexts.new x ≡ cond (same x context) thread (holder_in contexts.old x) }
+    ensures { GivesContext context thread contexts.old contexts.new }
 {
     contexts.is_one_to_one();
     match (contexts.holder(context), thread) {
@@ -30,5 +32,26 @@ pub fn give(contexts: &mut Contexts, context: ObjId, thread: Option<ObjId>)
             let is_lent = contexts.lend(from, to);
             prove!(is_lent);
         }
+    }
+}
+
+/// The reply object with which a thread stands in a queue: in one of receivers it may be one.
+pub fn attended(queue: Queue, reply: Option<ObjId>) -> Option<ObjId>
+    ensures { result ≡ attended queue reply }
+{
+    match queue {
+        Queue::Receivers(_) => reply,
+        Queue::Senders(_) | Queue::Waiters(_) => None,
+    }
+}
+
+/// The receiver of a reply object that is there, if one is named, is this one now.
+pub fn attend(replies: &mut Store<Option<ObjId>>, reply: Option<ObjId>, receiver: Option<ObjId>)
+    requires { IfSome reply (λ r. IsSome (value_at replies.old r)) }
+    ensures { SetsAny reply receiver replies.old replies.new }
+{
+    match reply {
+        None => {}
+        Some(reply) => replies.set(reply, receiver),
     }
 }

@@ -1,25 +1,19 @@
 //! A thread in Restart becomes Running with its first entry that is not refused (own).
-ghost use Rattle.std.specs.Prelude.{◌≡◌, ◌<◌, ◌≤◌, ◌+◌, length};
 ghost use Rattle.mcs_book.specs.Threads.{mode_of};
 ghost use Rattle.mcs_book.specs.Table.{wakes};
-ghost use Rattle.mcs_book.specs.Sound.{Allowed, IsIdle, IsThere};
-ghost use Rattle.mcs_types.specs.declared.id.Kind.{Kind};
-ghost use Rattle.mcs_state.specs.Numbers.{thread_at};
-ghost use Rattle.mcs_state.specs.Now.{so_far, adds_all};
-ghost use Rattle.mcs_state.specs.Tables.{HAND, ROOM};
+ghost use Rattle.mcs_state.specs.Now.{so_far};
+ghost use Rattle.mcs_state.specs.Entering.{IsEntering};
+ghost use Rattle.mcs_state.specs.Doing.{Makes, HasRoomFor};
 
 use crate::state::State;
-use mcs_queues::{Lines, ThreadNo};
-use mcs_types::Mode;
+use mcs_types::{Mode, ObjId};
+use mcs_waiting::Waiting;
 
 /// The thread becomes Running where it is in Restart.
-pub fn wake<L: Lines>(state: &mut State<L>, thread: ThreadNo)
-    requires there { IsThere (so_far state.old) Kind.Thread (thread_at thread.0) }
-    requires idle { IsIdle (so_far state.old) (thread_at thread.0) }
-    requires known { thread.0 < ROOM }
-    requires room { length state.old.hand < HAND }
-    ensures few { length state.new.hand ≤ length state.old.hand + 1 }
-    ensures records { state.new ≡ adds_all (wakes (mode_of (so_far state.old) (thread_at thread.0)) (thread_at thread.0) (so_far state.old)) state.old }
+pub fn wake<W: Waiting>(state: &mut State<W>, thread: ObjId)
+    requires entering { IsEntering (so_far state.old) thread }
+    requires room { HasRoomFor (wakes (mode_of (so_far state.old) thread) thread) state.old }
+    ensures { Makes (wakes (mode_of (so_far state.old) thread) thread) state.old state.new }
 {
     match state.mode(thread) {
         Mode::Restart => state.turns(thread, Mode::Running),

@@ -9,7 +9,7 @@ fn objects_are_found(rt: HostRuntime) {
     let Ok(mut store) = made else {
         return;
     };
-    store.is_map();
+    store.are_apart();
     let a = ObjId {
         kind: Kind::Endpoint,
         serial: 1,
@@ -24,6 +24,7 @@ fn objects_are_found(rt: HostRuntime) {
     };
     assert!(rt; store.make(10u64).is_ok_and(|id| id == a));
     assert!(rt; store.make(20).is_ok_and(|id| id == b));
+    assert!(rt; store.is_full());
     assert!(rt;
         store.make(30).is_err_and(|full| full.value == 30),
         "two are there"
@@ -37,6 +38,8 @@ fn objects_are_found(rt: HostRuntime) {
     assert_eq!(rt; store.get(b).copied(), Some(21));
     assert_eq!(rt; store.remove(a), Some(10));
     assert_eq!(rt; store.remove(a), None);
+    assert_eq!(rt; store.given(), 2);
+    assert_eq!(rt; store.len(), 1);
     assert!(rt; store.make(30).is_ok_and(|id| id == c));
     assert_eq!(rt;
         store.get(a).copied(),

@@ -1,12 +1,12 @@
 //! The table of threads.
-ghost use Rattle.std.specs.Prelude.{◌≡◌, ◌<◌, ◌≤◌, ◌+◌, ◌↔◌, cond, IsSome, IfOk, IfNone, Some, None, option_copied};
+ghost use Rattle.std.specs.Prelude.{◌≡◌, ◌<◌, ◌≤◌, ◌+◌, ◌↔◌, IsSome, IfOk, IfNone, Some, None, option_copied};
 ghost use Rattle.mcs_types.specs.declared.id.ObjId.{ObjId};
-ghost use Rattle.mcs_types.specs.Ids.{same};
+ghost use Rattle.mcs_types.specs.Ids.{IsThread, value_after};
 ghost use Rattle.mcs_threads.specs.declared.row.Block.{Block};
 ghost use Rattle.mcs_threads.specs.Rows.{new_row};
 
-use crate::place::{keep, kept_at};
 use crate::row::{Block, ThreadRow};
+use mcs_places::{keep, kept_at};
 use mcs_types::{Cap, Kind, Mail, Mode, OBJECTS, ObjId, OutOfMemory, Prio};
 use std::alloc::Global;
 use std::marker::Model;
@@ -53,13 +53,22 @@ impl Threads {
         self.rows.len() as u16
     }
 
+    /// Who is there is a thread of a serial from 1 to 256 (own).
+    pub fn are_few(&self)
+        ensures { (t : ObjId) → IsSome (row_of self.now t) → IsThread t }
+    {
+        let _ = &self.rows;
+    }
+
     /// Makes a thread, where fewer than 256 were made, and gives its id: its serial is the next. Its priority is 0, it is inactive,
     /// and no mail has reached it (manual: Threads and Execution).
     pub fn add(&mut self, maximum: Prio, root: Cap) -> ObjId
         requires { made self.old < 256 }
         ensures id { result ≡ next_thread self.old }
         ensures made { made self.new ≡ made self.old + 1 }
-        ensures rows { (t : ObjId) → row_of self.new t ≡ cond (same t result) (Some (new_row maximum root)) (row_of self.old t) }
+        ensures rows { (t : ObjId) →
+            row_of self.new t
+            ≡ value_after t result (Some (new_row maximum root)) (row_of self.old t) }
         ensures mails { SameMails self.old self.new }
     {
         let id = ObjId {
@@ -75,7 +84,7 @@ impl Threads {
     pub fn get(&self, id: ObjId) -> Option<&ThreadRow>
         ensures { option_copied result ≡ row_of self.now id }
     {
-        kept_at(&self.rows, id)
+        kept_at(Kind::Thread, &self.rows, id)
     }
 
     /// What last reached a thread; None where nothing did, and for what is no thread, was never made or was closed (manual:
@@ -83,26 +92,27 @@ impl Threads {
     pub fn mail(&self, id: ObjId) -> Option<&Mail>
         ensures { option_copied result ≡ mail_of self.now id }
     {
-        kept_at(&self.mails, id)
+        kept_at(Kind::Thread, &self.mails, id)
     }
 
     /// Keeps this row, or none, for a thread that is there.
     fn put(&mut self, id: ObjId, row: Option<ThreadRow>)
         requires { IsSome (row_of self.old id) }
-        ensures rows { (t : ObjId) → row_of self.new t ≡ cond (same t id) row (row_of self.old t) }
+        ensures rows { (t : ObjId) → row_of self.new t ≡ value_after t id row (row_of self.old t) }
         ensures mails { self.new.mails ≡ self.old.mails }
         ensures made { made self.new ≡ made self.old }
     {
-        keep(&mut self.rows, id, row);
+        keep(Kind::Thread, &mut self.rows, id, row);
     }
 
     /// Keeps this mail, or none, for a thread that is there.
     fn put_mail(&mut self, id: ObjId, mail: Option<Mail>)
         requires { IsSome (row_of self.old id) }
-        ensures mails { (t : ObjId) → mail_of self.new t ≡ cond (same t id) mail (mail_of self.old t) }
+        ensures mails { (t : ObjId) →
+            mail_of self.new t ≡ value_after t id mail (mail_of self.old t) }
         ensures rows { self.new.rows ≡ self.old.rows }
     {
-        keep(&mut self.mails, id, mail);
+        keep(Kind::Thread, &mut self.mails, id, mail);
     }
 
     /// Sets the mode of a thread; None for what is no thread, was never made or was closed: then nothing changes (manual: Threads
@@ -155,7 +165,8 @@ impl Threads {
     /// Binds a notification to a thread; None like `set_mode` (manual: Notifications).
     pub fn tie(&mut self, id: ObjId, notification: ObjId) -> Option<()>
         ensures found { IsSome result ↔ IsSome (row_of self.old id) }
-        ensures changed { ChangesRow (λ r. record r { notification = Some notification }) self.old self.new id }
+        ensures changed { ChangesRow (λ r. record r { notification = Some notification })
+            self.old self.new id }
         ensures missing { IfNone result (self.new ≡ self.old) }
     {
         let row = *self.get(id)?;
@@ -191,7 +202,8 @@ impl Threads {
     /// Gives a thread a mail in place of the one that it had; None like `set_mode` (manual: Message Passing).
     pub fn set_mail(&mut self, id: ObjId, mail: Mail) -> Option<()>
         ensures found { IsSome result ↔ IsSome (row_of self.old id) }
-        ensures mails { IsSome (row_of self.old id) → (t : ObjId) → mail_of self.new t ≡ cond (same t id) (Some mail) (mail_of self.old t) }
+        ensures mails { IsSome (row_of self.old id) → (t : ObjId) → mail_of self.new t
+            ≡ value_after t id (Some mail) (mail_of self.old t) }
         ensures rows { SameRows self.old self.new }
         ensures made { made self.new ≡ made self.old }
         ensures missing { IfNone result (self.new ≡ self.old) }
@@ -204,8 +216,9 @@ impl Threads {
     /// Forgets a thread and its mail: its serial is never given again. None like `set_mode` (manual: Kernel Services and Objects).
     pub fn close(&mut self, id: ObjId) -> Option<()>
         ensures found { IsSome result ↔ IsSome (row_of self.old id) }
-        ensures rows { (t : ObjId) → row_of self.new t ≡ cond (same t id) None (row_of self.old t) }
-        ensures mails { IsSome (row_of self.old id) → (t : ObjId) → mail_of self.new t ≡ cond (same t id) None (mail_of self.old t) }
+        ensures rows { (t : ObjId) → row_of self.new t ≡ value_after t id None (row_of self.old t) }
+        ensures mails { IsSome (row_of self.old id) → (t : ObjId) → mail_of self.new t
+            ≡ value_after t id None (mail_of self.old t) }
         ensures made { made self.new ≡ made self.old }
         ensures missing { IfNone result (self.new ≡ self.old) }
     {

@@ -1,44 +1,29 @@
 //! What may be wrong with a line of the boot (own).
 ghost use Rattle.std.specs.Prelude.{◌≡◌, ◌≤◌, ◌<◌, ◌^◌, ◌&&◌, nat_le, nat_lt, IsTrue, OnOk, IfErr, is_ok, Err};
 ghost use Rattle.mcs_types.specs.declared.id.Kind.{Kind};
-ghost use Rattle.mcs_book.specs.Objects.{was_made, number_of};
+ghost use Rattle.mcs_book.specs.Objects.{number_of};
 ghost use Rattle.mcs_book.specs.Boots.{is_object, fits_guard, has_no_guard, has_no_rights, fits_kind, fits_cnode, has_numbers, is_context_any, has_objects, has_room, is_free_any, is_free, boot_check};
-ghost use Rattle.mcs_state.specs.Numbers.{context_at, IsName};
 ghost use Rattle.mcs_state.specs.Now.{so_far};
+ghost use Rattle.mcs_kernel.specs.Booted.{IsBooting};
 
-use mcs_queues::Lines;
 use mcs_slots::SlotId;
-use mcs_state::{State, context_no};
-use mcs_types::{BootFault, BootLine, CNODES, Cap, Guard, Kind, OBJECTS, ObjId, Prio, RADIX};
-
-/// Whether a serial is one of so many.
-fn is_serial(serial: u32, count: u16) -> bool
-    ensures { result ≡ (nat_le 1 serial && nat_le serial count) }
-{
-    1 <= serial && serial <= count as u32
-}
-
-/// Whether an object was made.
-fn exists<L: Lines>(state: &State<L>, object: ObjId) -> bool
-    ensures { result ≡ was_made (so_far state.now) object }
-{
-    state.is_sound();
-    is_serial(object.serial, state.made(object.kind))
-}
+use mcs_state::State;
+use mcs_types::{BootFault, BootLine, CNODES, Cap, Guard, Kind, OBJECTS, ObjId, RADIX};
+use mcs_waiting::Waiting;
 
 /// Whether an object of this kind was made.
-pub(crate) fn exists_as<L: Lines>(state: &State<L>, kind: Kind, object: ObjId) -> bool
+pub(crate) fn exists_as<W: Waiting>(state: &State<W>, kind: Kind, object: ObjId) -> bool
     ensures { result ≡ is_object (so_far state.now) kind object }
 {
-    object.kind.is_same(kind) && exists(state, object)
+    object.kind.is_same(kind) && state.was_made(object)
 }
 
 /// Whether fewer objects of a kind are there than this.
-fn are_fewer<L: Lines>(state: &State<L>, kind: Kind, limit: u16) -> bool
+fn are_fewer<W: Waiting>(state: &State<W>, kind: Kind, limit: u16) -> bool
+    requires { IsBooting (so_far state.now) }
     ensures { result ≡ nat_lt (number_of (so_far state.now) kind) limit }
 {
-    state.is_sound();
-    state.made(kind) < limit
+    state.made(kind) < limit as u32
 }
 
 /// Whether a guard's value fits its size.
@@ -83,7 +68,7 @@ fn has_bits(index: u8, bits: u8) -> bool
 }
 
 /// Whether the index is below the CNode's number of slots, where the CNode was made.
-fn index_fits<L: Lines>(state: &State<L>, cnode: ObjId, index: u8) -> bool
+fn index_fits<W: Waiting>(state: &State<W>, cnode: ObjId, index: u8) -> bool
     ensures { result ≡ fits_cnode (so_far state.now) cnode index }
 {
     if !exists_as(state, Kind::CNode, cnode) {
@@ -93,7 +78,7 @@ fn index_fits<L: Lines>(state: &State<L>, cnode: ObjId, index: u8) -> bool
 }
 
 /// Whether the numbers of a line are in their ranges.
-fn numbers_fit<L: Lines>(state: &State<L>, line: BootLine) -> bool
+fn numbers_fit<W: Waiting>(state: &State<W>, line: BootLine) -> bool
     ensures { result ≡ has_numbers state.now.book.boot.cores (so_far state.now) line }
 {
     match line {
@@ -106,7 +91,7 @@ fn numbers_fit<L: Lines>(state: &State<L>, line: BootLine) -> bool
 }
 
 /// Whether a context that is named was made.
-fn context_exists<L: Lines>(state: &State<L>, context: Option<ObjId>) -> bool
+fn context_exists<W: Waiting>(state: &State<W>, context: Option<ObjId>) -> bool
     ensures { result ≡ is_context_any (so_far state.now) context }
 {
     match context {
@@ -116,7 +101,7 @@ fn context_exists<L: Lines>(state: &State<L>, context: Option<ObjId>) -> bool
 }
 
 /// Whether the objects that a line names were made.
-fn objects_exist<L: Lines>(state: &State<L>, line: &BootLine) -> bool
+fn objects_exist<W: Waiting>(state: &State<W>, line: &BootLine) -> bool
     ensures { result ≡ has_objects (so_far state.now) line.now }
 {
     match *line {
@@ -124,14 +109,15 @@ fn objects_exist<L: Lines>(state: &State<L>, line: &BootLine) -> bool
             exists_as(state, Kind::CNode, root) && context_exists(state, context)
         }
         BootLine::Slot { cnode, cap, .. } => {
-            exists_as(state, Kind::CNode, cnode) && exists(state, cap.obj)
+            exists_as(state, Kind::CNode, cnode) && state.was_made(cap.obj)
         }
         _ => true,
     }
 }
 
 /// Whether there is room for the object that a line makes.
-fn is_room<L: Lines>(state: &State<L>, line: &BootLine) -> bool
+fn is_room<W: Waiting>(state: &State<W>, line: &BootLine) -> bool
+    requires { IsBooting (so_far state.now) }
     ensures { result ≡ has_room (so_far state.now) line.now }
 {
     match *line {
@@ -146,23 +132,17 @@ fn is_room<L: Lines>(state: &State<L>, line: &BootLine) -> bool
 }
 
 /// Whether a context that is named is held by nobody.
-fn context_is_free<L: Lines>(state: &State<L>, context: Option<ObjId>) -> bool
-    requires { IsTrue (is_context_any (so_far state.now) context) }
+fn context_is_free<W: Waiting>(state: &State<W>, context: Option<ObjId>) -> bool
     ensures { result ≡ is_free_any (so_far state.now) context }
 {
     match context {
         None => true,
-        Some(context) => {
-            state.is_sound();
-            let _made = state.made(Kind::Context);
-            state.holder(context_no(context)).is_none()
-        }
+        Some(context) => state.holder(context).is_none(),
     }
 }
 
 /// Whether what a line fills, gives or binds is free.
-fn place_is_free<L: Lines>(state: &State<L>, line: &BootLine) -> bool
-    requires { IsTrue (has_objects (so_far state.now) line.now) }
+fn place_is_free<W: Waiting>(state: &State<W>, line: &BootLine) -> bool
     ensures { result ≡ is_free (so_far state.now) line.now }
 {
     match *line {
@@ -175,9 +155,12 @@ fn place_is_free<L: Lines>(state: &State<L>, line: &BootLine) -> bool
 /// What is wrong with a line of the boot: Number where a number is out of its range, NoObject where an object that it
 /// names was not made, Limit where there are too many objects, and Taken where a slot is filled or a context is held;
 /// the first of these.
-pub(crate) fn check<L: Lines>(state: &State<L>, line: &BootLine) -> Result<(), BootFault>
-    ensures ok { OnOk result (IsTrue (is_ok (boot_check state.now.book.boot.cores (so_far state.now) line.now))) }
-    ensures fault { IfErr result (λ f. boot_check state.now.book.boot.cores (so_far state.now) line.now ≡ Err f) }
+pub(crate) fn check<W: Waiting>(state: &State<W>, line: &BootLine) -> Result<(), BootFault>
+    requires { IsBooting (so_far state.now) }
+    ensures ok { OnOk result (IsTrue
+        (is_ok (boot_check state.now.book.boot.cores (so_far state.now) line.now))) }
+    ensures fault { IfErr result (λ f. boot_check state.now.book.boot.cores (so_far state.now)
+        line.now ≡ Err f) }
 {
     if !numbers_fit(state, *line) {
         return Err(BootFault::Number);

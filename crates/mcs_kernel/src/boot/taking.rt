@@ -6,17 +6,17 @@ ghost use Rattle.mcs_types.specs.declared.record.Form.{Form};
 ghost use Rattle.mcs_book.specs.Logs.{counted, onto};
 ghost use Rattle.mcs_book.specs.Objects.{next_id, makes_kind};
 ghost use Rattle.mcs_book.specs.Boots.{begins, begins_with, root_cap, boot_line, boot_check};
-ghost use Rattle.mcs_book.specs.Served.{IsServedForm};
-ghost use Rattle.mcs_book.specs.Placing.{core_limit};
+ghost use Rattle.mcs_book.specs.Fits.{FitsForm};
+ghost use Rattle.mcs_types.specs.Limits.{core_limit};
 ghost use Rattle.mcs_book.specs.Sound.{Allowed};
-ghost use Rattle.mcs_state.specs.Numbers.{thread_at, IsName};
 ghost use Rattle.mcs_state.specs.Now.{so_far, adds, adds_all};
 ghost use Rattle.mcs_state.specs.Tables.{HAND, ROOM};
+ghost use Rattle.mcs_kernel.specs.Booted.{IsBooting};
 
-use mcs_queues::{Lines, ThreadNo};
 use mcs_slots::SlotId;
-use mcs_state::{State, context_no, thread_id};
+use mcs_state::State;
 use mcs_types::{Badge, BootLine, Cap, Guard, Kind, Mode, ObjId, OutOfMemory, Prio, Rights};
+use mcs_waiting::Waiting;
 
 /// A capability to a CNode, with a guard.
 fn cap_to(cnode: ObjId, guard: Guard) -> Cap
@@ -41,22 +41,28 @@ fn first_mode(runs: bool) -> Mode
 }
 
 /// Makes a thread, which begins with this priority and in this mode.
-fn takes_thread<L: Lines>(
-    state: &mut State<L>,
+fn takes_thread<W: Waiting>(
+    state: &mut State<W>,
     priority: Prio,
     maximum: Prio,
     root: Cap,
     mode: Mode,
-) -> ThreadNo
-    requires served { IsServedForm (Form.Runner maximum root) }
+) -> ObjId
+    requires booting { IsBooting (so_far state.old) }
+    requires fits { FitsForm (Form.Runner maximum root) }
     requires few { counted (makes_kind Kind.Thread) (so_far state.old) < ROOM }
     requires room { state.old.hand ≡ [] }
-    ensures thread { thread_at result.0 ≡ next_id (so_far state.old) Kind.Thread }
-    ensures known { result.0 < ROOM }
-    ensures made { state.new ≡ adds_all (Rec.Made (next_id (so_far state.old) Kind.Thread) (Form.Runner maximum root) ∷ Rec.Prio (next_id (so_far state.old) Kind.Thread) priority ∷ Rec.Turns (next_id (so_far state.old) Kind.Thread) mode ∷ []) state.old }
+    ensures thread { result ≡ next_id (so_far state.old) Kind.Thread }
+    ensures made { state.new ≡ adds_all
+        (Rec.Made (next_id (so_far state.old) Kind.Thread) (Form.Runner maximum root)
+        ∷ Rec.Prio (next_id (so_far state.old) Kind.Thread) priority
+        ∷ Rec.Turns (next_id (so_far state.old) Kind.Thread) mode ∷ []) state.old }
 {
     state.is_sound();
-    let thread = ThreadNo(state.made(Kind::Thread));
+    let thread = ObjId {
+        kind: Kind::Thread,
+        serial: state.made(Kind::Thread) + 1,
+    };
     state.makes_thread(maximum, root);
     state.prio(thread, priority);
     state.turns(thread, mode);
@@ -64,32 +70,33 @@ fn takes_thread<L: Lines>(
 }
 
 /// Gives a thread the context with which it begins, if there is one.
-fn takes_context<L: Lines>(state: &mut State<L>, thread: ThreadNo, context: Option<ObjId>)
-    requires allowed { IfSome context (λ s. Allowed (so_far state.old) (Rec.Holds s (Some (thread_at thread.0)))) }
-    requires named { IfSome context (λ s. IsName Kind.Context s) }
+fn takes_context<W: Waiting>(state: &mut State<W>, thread: ObjId, context: Option<ObjId>)
+    requires allowed { IfSome context (λ s. Allowed (so_far state.old) (Rec.Holds s (Some thread))) }
     requires room { length state.old.hand < HAND }
-    ensures { state.new ≡ adds_all (begins_with context (thread_at thread.0)) state.old }
+    ensures { state.new ≡ adds_all (begins_with context thread) state.old }
 {
     if let Some(context) = context {
-        state.holds(context_no(context), Some(thread_id(thread)));
+        state.holds(context, Some(thread));
     }
 }
 
 /// Makes the records of a line, which nothing is wrong with; where memory is refused the state is as it was.
-fn takes_records<L: Lines>(state: &mut State<L>, line: &BootLine) -> Result<(), OutOfMemory>
+fn takes_records<W: Waiting>(state: &mut State<W>, line: &BootLine) -> Result<(), OutOfMemory>
     requires cores { state.old.book.boot.cores ≤ core_limit }
-    requires faultless { IsTrue (is_ok (boot_check state.old.book.boot.cores (so_far state.old) line.now)) }
+    requires faultless { IsTrue (is_ok
+        (boot_check state.old.book.boot.cores (so_far state.old) line.now)) }
+    requires booting { IsBooting (so_far state.old) }
     requires hand { state.old.hand ≡ [] }
-    ensures made { OnOk result (state.new ≡ adds_all (boot_line (so_far state.old) line.now) state.old) }
+    ensures made { OnOk result (state.new
+        ≡ adds_all (boot_line (so_far state.old) line.now) state.old) }
     ensures unchanged { OnErr result (state.new ≡ state.old) }
 {
     state.is_sound();
-    let _contexts = state.made(Kind::Context);
     match *line {
         BootLine::CNode { radix } => state.makes_cnode(radix)?,
-        BootLine::Endpoint => state.makes_endpoint(),
-        BootLine::Notification => state.makes_notification(),
-        BootLine::Reply => state.makes_reply(),
+        BootLine::Endpoint => state.makes(Kind::Endpoint),
+        BootLine::Notification => state.makes(Kind::Notification),
+        BootLine::Reply => state.makes(Kind::Reply),
         BootLine::Context { core } => state.makes_context(core),
         BootLine::Thread {
             priority,
@@ -114,12 +121,20 @@ fn takes_records<L: Lines>(state: &mut State<L>, line: &BootLine) -> Result<(), 
 }
 
 /// Takes a line of the boot, which nothing is wrong with: the boot has it, or is as it was.
-pub(crate) fn takes_line<L: Lines>(state: &mut State<L>, line: BootLine) -> Result<(), OutOfMemory>
+pub(crate) fn takes_line<W: Waiting>(
+    state: &mut State<W>,
+    line: BootLine,
+) -> Result<(), OutOfMemory>
     requires cores { state.old.book.boot.cores ≤ core_limit }
-    requires faultless { IsTrue (is_ok (boot_check state.old.book.boot.cores (so_far state.old) line)) }
+    requires faultless { IsTrue (is_ok
+        (boot_check state.old.book.boot.cores (so_far state.old) line)) }
     requires hand { state.old.hand ≡ [] }
     requires boot { state.old.book.lines ≡ [] }
-    ensures ok { OnOk result (state.new.book ≡ record state.old.book { boot = record state.old.book.boot { lines = line ∷ state.old.book.boot.lines } }) }
+    ensures ok { OnOk result (state.new.book
+        ≡ record state.old.book {
+          boot = record state.old.book.boot
+              { lines = line ∷ state.old.book.boot.lines };
+        }) }
     ensures unchanged { OnErr result (state.new.book ≡ state.old.book) }
     ensures hand { state.new.hand ≡ [] }
 {

@@ -1,18 +1,18 @@
 //! Which thread a core runs next (own).
-ghost use Rattle.std.specs.Prelude.{◌≡◌, ◌<◌, ◌≤◌, IfSome, option_and_then};
-ghost use Rattle.mcs_book.specs.Objects.{form_of};
+ghost use Rattle.std.specs.Prelude.{◌≡◌, ◌≤◌, IfSome, IsTrue, option_and_then};
+ghost use Rattle.mcs_types.specs.declared.id.Kind.{Kind};
+ghost use Rattle.mcs_book.specs.Logs.{counted};
+ghost use Rattle.mcs_book.specs.Objects.{makes_kind, form_of};
 ghost use Rattle.mcs_book.specs.Contexts.{context_of};
+ghost use Rattle.mcs_book.specs.Sound.{IsThere};
 ghost use Rattle.mcs_book.specs.Standing.{may_enter, is_ready, is_on_core};
-ghost use Rattle.mcs_book.specs.Picking.{IsPick};
-ghost use Rattle.mcs_queues.specs.Numbers.{thread_number};
+ghost use Rattle.mcs_book.specs.Picking.{IsPick, is_candidate};
 ghost use Rattle.mcs_state.specs.Now.{so_far};
-ghost use Rattle.mcs_state.specs.Tables.{ROOM};
-ghost use Rattle.mcs_state.specs.Picking.{better_of};
+ghost use Rattle.mcs_state.specs.Picking.{thread_at, is_above, better_of};
 
 use super::State;
-use crate::numbers::thread_id;
-use mcs_queues::{Lines, ThreadNo};
 use mcs_types::{CoreId, Kind, ObjId, Status, ThreadSet};
+use mcs_waiting::Waiting;
 
 /// Whether a thread of this status can run.
 fn is_ready(status: Option<Status>) -> bool
@@ -21,10 +21,22 @@ fn is_ready(status: Option<Status>) -> bool
     matches!(status, Some(Status::Running | Status::Restart))
 }
 
-impl<L: Lines> State<L> {
+/// The thread of a number: the one of serial n has the number n - 1.
+fn thread_id(number: u16) -> ObjId
+    ensures { result ≡ thread_at number }
+{
+    ObjId {
+        kind: Kind::Thread,
+        serial: number as u32 + 1,
+    }
+}
+
+impl<W: Waiting> State<W> {
     /// Whether a thread holds a context of a core.
     fn has_context_of(&self, core: CoreId, thread: ObjId) -> bool
-        ensures { result ≡ is_on_core core (option_and_then (λ s. form_of (so_far self.now) s) (context_of (so_far self.now) thread)) }
+        ensures { result ≡ is_on_core core
+            (option_and_then (λ s. form_of (so_far self.now) s)
+            (context_of (so_far self.now) thread)) }
     {
         match self.context(thread) {
             None => false,
@@ -39,29 +51,53 @@ impl<L: Lines> State<L> {
         is_ready(self.status(thread)) && self.has_context_of(core, thread)
     }
 
-    /// The better of a thread and of the best of those before it, where a set is passed over.
+    /// Whether a thread may enter on a core, and a set does not pass it over.
+    fn is_candidate(&self, core: CoreId, passed: &ThreadSet, thread: ObjId) -> bool
+        ensures candidate { result ≡ is_candidate (so_far self.now) core passed.now thread }
+        ensures there { IsTrue result → IsThere (so_far self.now) Kind.Thread thread }
+    {
+        self.may_enter(core, thread) && !passed.contains(thread)
+    }
+
+    /// Whether the thread of a number has a greater priority than the best of those before it, if there is one.
+    fn is_above(&self, number: u16, best: Option<u16>) -> bool
+        requires there { IsThere (so_far self.now) Kind.Thread (thread_at number) }
+        requires best { IfSome best (λ n. IsThere (so_far self.now) Kind.Thread (thread_at n)) }
+        ensures { result ≡ is_above (so_far self.now) number best }
+    {
+        match best {
+            None => true,
+            Some(before) => {
+                self.priority(thread_id(before)).0 < self.priority(thread_id(number)).0
+            }
+        }
+    }
+
+    /// The better of the thread of a number and of the best of those before it, where a set is passed over.
     fn better(
         &self,
         core: CoreId,
         passed: &ThreadSet,
-        thread: ThreadNo,
-        best: Option<ThreadNo>,
-    ) -> Option<ThreadNo>
-        requires known { thread.0 < ROOM }
-        requires found { IfSome best (λ t. t.0 < ROOM) }
-        ensures better { thread_number result ≡ better_of (so_far self.now) core passed.now thread.0 (thread_number best) }
-        ensures found { IfSome result (λ t. t.0 < ROOM) }
+        number: u16,
+        best: Option<u16>,
+    ) -> Option<u16>
+        requires { IfSome best (λ n. IsThere (so_far self.now) Kind.Thread (thread_at n)) }
+        ensures better { result ≡ better_of (so_far self.now) core passed.now number best }
+        ensures there { IfSome result (λ n. IsThere (so_far self.now) Kind.Thread (thread_at n)) }
     {
-        let id = thread_id(thread);
-        let is_above = match best {
-            None => true,
-            Some(best) => self.priority(thread).0 > self.priority(best).0,
-        };
-        if self.may_enter(core, id) && !passed.contains(id) && is_above {
-            Some(thread)
+        if self.is_candidate(core, passed, thread_id(number)) && self.is_above(number, best) {
+            Some(number)
         } else {
             best
         }
+    }
+
+    /// How many threads were made.
+    fn thread_count(&self) -> u16
+        ensures count { result ≡ counted (makes_kind Kind.Thread) (so_far self.now) }
+        ensures few { result ≤ 256 }
+    {
+        self.threads.made()
     }
 
     /// Of the threads that may enter on a core and are not in the set, the one of greatest priority, then of lowest
@@ -70,16 +106,16 @@ impl<L: Lines> State<L> {
         ensures { IsPick (so_far self.now) core passed.now result }
     {
         self.is_sound();
-        let count = self.made(Kind::Thread);
+        let count = self.thread_count();
         let mut best = None;
         let mut number = 0;
         while number < count {
-            best = self.better(core, passed, ThreadNo(number), best);
+            best = self.better(core, passed, number, best);
             number += 1;
         }
         match best {
             None => None,
-            Some(thread) => Some(thread_id(thread)),
+            Some(number) => Some(thread_id(number)),
         }
     }
 }

@@ -1,43 +1,49 @@
 //! Questions to the tables: each answers its definition over all records so far.
-ghost use Rattle.std.specs.Prelude.{ℕ, ◌≡◌, ◌<◌, ◌≤◌, ◌&&◌, if◌then◌else◌, IfSome, IfOk, Some, None, Option, option_copied, length};
+ghost use Rattle.std.specs.Prelude.{◌≡◌, ◌≤◌, IfSome, Some, option_copied, length};
 ghost use Rattle.mcs_types.specs.declared.id.Kind.{Kind};
-ghost use Rattle.mcs_types.specs.declared.record.Queue.{Queue};
-ghost use Rattle.mcs_types.specs.Ids.{same_kind};
 ghost use Rattle.mcs_book.specs.Logs.{counted};
 ghost use Rattle.mcs_book.specs.Objects.{makes_kind, was_made, form_of};
 ghost use Rattle.mcs_book.specs.Slots.{slot};
 ghost use Rattle.mcs_book.specs.Threads.{prio_of, mode_of, root_of};
-ghost use Rattle.mcs_book.specs.Queues.{queue_of, first_in};
+ghost use Rattle.mcs_book.specs.Queues.{queue_of, reply_with, first_in};
 ghost use Rattle.mcs_book.specs.Messages.{next_message, open_of};
 ghost use Rattle.mcs_book.specs.Contexts.{holder_of, context_of};
 ghost use Rattle.mcs_book.specs.Replies.{receiver_with};
 ghost use Rattle.mcs_book.specs.Standing.{status_of, mail_of, is_on_core};
 ghost use Rattle.mcs_book.specs.Lookup.{radix_kept, capability, slot_named};
 ghost use Rattle.mcs_cspace.specs.Spaces.{named_by};
-ghost use Rattle.mcs_book.specs.Sound.{Sound, IsLineThere};
-ghost use Rattle.mcs_book.specs.Served.{AreServed};
-ghost use Rattle.mcs_state.specs.Numbers.{thread_at, context_at, object_at, thread_of, IsName};
+ghost use Rattle.mcs_book.specs.Fits.{AllFit};
+ghost use Rattle.mcs_book.specs.Sound.{Sound, IsThere};
 ghost use Rattle.mcs_state.specs.Now.{so_far};
 ghost use Rattle.mcs_state.specs.Tables.{HAND, ROOM};
+ghost use Rattle.mcs_state.specs.Following.{attended};
 
 use super::State;
-use crate::numbers::{ContextNo, context_id, line_no, thread_id, thread_named, thread_no};
-use crate::rows::last_receiver;
-use mcs_cspace::{in_range, lookup, lookup_slot, radix_in};
-use mcs_queues::{Lines, ThreadNo};
+use crate::giving::attended;
+use mcs_cspace::{lookup, lookup_slot, radix_in};
+use mcs_places::kept_at;
 use mcs_slots::SlotId;
+use mcs_threads::Block;
 use mcs_types::{
     Cap, CoreId, Kind, Letter, Mail, Mode, ObjId, Place, Prio, Queue, Refusal, Status,
 };
+use mcs_waiting::Waiting;
 
-impl<L: Lines> State<L> {
+impl<W: Waiting> State<W> {
     /// How many objects of a kind were made.
-    #[tactic(auto, using(crate::proofs::Answering::count_is, crate::proofs::Answering::count_few))]
-    pub fn made(&self, kind: Kind) -> u16
-        ensures count { result ≡ counted (makes_kind kind) (so_far self.now) }
-        ensures few { result ≤ ROOM }
+    pub fn made(&self, kind: Kind) -> u32
+        ensures { result ≡ counted (makes_kind kind) (so_far self.now) }
     {
-        self.counts.of(kind)
+        match kind {
+            Kind::CNode => {
+                self.slots.are_pages();
+                self.slots.len() as u32
+            }
+            Kind::Thread => self.threads.made() as u32,
+            Kind::Endpoint | Kind::Notification => self.queues.made(kind),
+            Kind::Reply => self.replies.given(),
+            Kind::Context => self.contexts.made(),
+        }
     }
 
     /// How many messages were accepted.
@@ -47,32 +53,48 @@ impl<L: Lines> State<L> {
         self.sent
     }
 
-    /// The mode of a thread.
-    pub fn mode(&self, thread: ThreadNo) -> Mode
-        requires { thread.0 < ROOM }
-        ensures { result ≡ mode_of (so_far self.now) (thread_at thread.0) }
+    /// The mode of a thread that is there (manual: Threads and Execution).
+    pub fn mode(&self, thread: ObjId) -> Mode
+        requires { IsThere (so_far self.now) Kind.Thread thread }
+        ensures { result ≡ mode_of (so_far self.now) thread }
     {
-        match self.threads.get(thread_id(thread)) {
-            None => Mode::Inactive,
+        match self.threads.get(thread) {
+            None => unreachable!(),
             Some(row) => row.mode,
         }
     }
 
-    /// The line in which a thread stands.
-    pub fn queue(&self, thread: ThreadNo) -> Option<Queue>
-        requires { thread.0 < ROOM }
-        ensures { result ≡ queue_of (so_far self.now) (thread_at thread.0) }
+    /// The queue in which a thread stands.
+    pub fn queue(&self, thread: ObjId) -> Option<Queue>
+        ensures { result ≡ queue_of (so_far self.now) thread }
     {
-        let row = self.threads.get(thread_id(thread))?;
-        row.queue()
+        match self.threads.get(thread) {
+            None => None,
+            Some(row) => row.queue(),
+        }
     }
 
-    /// The priority of a thread; 0 where it was never made (manual: Threads and Execution).
-    pub fn priority(&self, thread: ThreadNo) -> Prio
-        ensures { result.0 ≡ prio_of (so_far self.now) (thread_at thread.0) }
+    /// The reply object with which a thread stands in a queue.
+    pub(super) fn reply_with(&self, thread: ObjId, queue: Queue) -> Option<ObjId>
+        requires { queue_of (so_far self.now) thread ≡ Some queue }
+        ensures { result ≡ attended queue (reply_with (so_far self.now) thread) }
     {
-        match self.threads.get(thread_id(thread)) {
-            None => Prio(0),
+        match self.threads.get(thread) {
+            None => None,
+            Some(row) => match row.block {
+                Some(Block::Queued { queue, reply }) => attended(queue, reply),
+                _ => None,
+            },
+        }
+    }
+
+    /// The priority of a thread that is there (manual: Threads and Execution).
+    pub fn priority(&self, thread: ObjId) -> Prio
+        requires { IsThere (so_far self.now) Kind.Thread thread }
+        ensures { result.0 ≡ prio_of (so_far self.now) thread }
+    {
+        match self.threads.get(thread) {
+            None => unreachable!(),
             Some(row) => row.priority,
         }
     }
@@ -84,20 +106,22 @@ impl<L: Lines> State<L> {
         self.threads.mail(id)
     }
 
-    /// The capability to the root of a thread's capability space; None where it was never made.
-    fn root(&self, thread: ThreadNo) -> Option<Cap>
-        ensures { result ≡ root_of (so_far self.now) (thread_at thread.0) }
+    /// The capability to the root of the capability space of a thread that is there.
+    fn root(&self, thread: ObjId) -> Cap
+        requires { IsThere (so_far self.now) Kind.Thread thread }
+        ensures { root_of (so_far self.now) thread ≡ Some result }
     {
-        let row = self.threads.get(thread_id(thread))?;
-        Some(row.root)
+        match self.threads.get(thread) {
+            None => unreachable!(),
+            Some(row) => row.root,
+        }
     }
 
     /// The thread that holds a context.
-    pub fn holder(&self, context: ContextNo) -> Option<ObjId>
-        requires { context.0 < ROOM }
-        ensures { result ≡ holder_of (so_far self.now) (context_at context.0) }
+    pub fn holder(&self, context: ObjId) -> Option<ObjId>
+        ensures { result ≡ holder_of (so_far self.now) context }
     {
-        self.contexts.holder(context_id(context))
+        self.contexts.holder(context)
     }
 
     /// The capability in a slot, or None where the slot is empty or not there.
@@ -116,52 +140,58 @@ impl<L: Lines> State<L> {
     }
 
     /// The open message of a thread.
-    #[tactic(auto, using(crate::proofs::Answering::open_is))]
-    pub fn letter(&self, thread: ThreadNo) -> Option<&Letter>
-        requires { thread.0 < ROOM }
-        ensures { option_copied result ≡ open_of (so_far self.now) (thread_at thread.0) }
+    pub fn letter(&self, thread: ObjId) -> Option<&Letter>
+        ensures { option_copied result ≡ open_of (so_far self.now) thread }
     {
-        self.letters[thread.0 as usize].as_ref()
+        kept_at(Kind::Thread, &self.letters, thread)
     }
 
-    /// Each record was allowed when it was made, and is of a kind that is served; there are 64 CNodes at most.
+    /// Each record was allowed when it was made, radices and guards fit, few threads were made, and the hand has at most as
+    /// many records as a line.
     pub fn is_sound(&self)
         ensures few { length self.now.hand ≤ HAND }
+        ensures threads { counted (makes_kind Kind.Thread) (so_far self.now) ≤ ROOM }
         ensures sound { Sound (so_far self.now) }
-        ensures served { AreServed (so_far self.now) }
-        ensures cnodes { counted (makes_kind Kind.CNode) (so_far self.now) ≤ 64 }
+        ensures fits { AllFit (so_far self.now) }
     {
-        let _ = &self.sent;
+        let _made = self.threads.made();
     }
 
-    /// The number of a thread that was made.
-    pub fn thread(&self, id: ObjId) -> Option<ThreadNo>
-        ensures thread { thread_of result ≡ (if same_kind id.kind Kind.Thread && was_made (so_far self.now) id then Some id else None) }
-        ensures known { IfSome result (λ t. t.0 < ROOM) }
+    /// Whether an object was ever made.
+    pub fn was_made(&self, id: ObjId) -> bool
+        ensures { result ≡ was_made (so_far self.now) id }
     {
-        thread_named(id, self.counts.threads)
+        self.is_sound();
+        if id.serial == 0 {
+            return false;
+        }
+        id.serial <= self.made(id.kind)
     }
 
     /// What a thread does; None for what is no thread or was never made.
     pub fn status(&self, id: ObjId) -> Option<Status>
         ensures { result ≡ status_of (so_far self.now) id }
     {
-        let row = self.threads.get(id)?;
-        Some(row.status())
+        self.is_sound();
+        match self.threads.get(id) {
+            Some(row) => Some(row.status()),
+            None if id.kind.is_same(Kind::Thread) && self.was_made(id) => Some(Status::Closed),
+            None => None,
+        }
     }
 
     /// The context that a thread holds.
     pub fn context(&self, thread: ObjId) -> Option<ObjId>
         ensures context { result ≡ context_of (so_far self.now) thread }
-        ensures known { IfSome result (IsName Kind.Context) }
+        ensures there { IfSome result (λ s. IsThere (so_far self.now) Kind.Context s) }
     {
         self.contexts.is_one_to_one();
         self.contexts.of(thread)
     }
 
-    /// Whether a context is of this core.
+    /// Whether a context that is there is of this core.
     pub fn runs_on(&self, context: ObjId, core: CoreId) -> bool
-        requires { IsName Kind.Context context }
+        requires { IsThere (so_far self.now) Kind.Context context }
         ensures { result ≡ is_on_core core (form_of (so_far self.now) context) }
     {
         match self.contexts.core(context) {
@@ -170,45 +200,37 @@ impl<L: Lines> State<L> {
         }
     }
 
-    /// The first thread of a line.
-    pub fn first(&self, queue: Queue) -> Option<ThreadNo>
-        requires { IsLineThere (so_far self.now) queue }
-        ensures first { thread_of result ≡ first_in (so_far self.now) queue }
-        ensures known { IfSome result (λ t. t.0 < ROOM) }
+    /// The first thread of a queue; None where its object is not there.
+    pub fn first(&self, queue: Queue) -> Option<ObjId>
+        ensures { result ≡ first_in (so_far self.now) queue }
     {
-        self.lines.first(line_no(queue))
+        self.is_sound();
+        self.queues.first(queue)
     }
 
-    /// The thread that receives with a reply object.
-    pub fn receiver_with(&self, reply: ObjId) -> Option<ThreadNo>
-        ensures receiver { thread_of result ≡ receiver_with (so_far self.now) reply }
-        ensures known { IfSome result (λ t. t.0 < ROOM) }
+    /// The thread that receives with a reply object that is there.
+    pub fn receiver_with(&self, reply: ObjId) -> Option<ObjId>
+        requires { IsThere (so_far self.now) Kind.Reply reply }
+        ensures { result ≡ receiver_with (so_far self.now) reply }
     {
-        thread_no(last_receiver(&self.threads, reply))
+        *self.replies.get(reply)?
     }
 
-    /// The capability that a thread names by an address: Missing where there is none, GuardMismatch and DepthMismatch
-    /// where the address leads nowhere.
-    pub fn capability(&self, thread: ThreadNo, address: u64) -> Result<Cap, Refusal>
-        requires { thread.0 < ROOM }
-        ensures { result ≡ capability (so_far self.now) (thread_at thread.0) address }
+    /// The capability that a thread that is there names by an address: Missing where there is none, GuardMismatch and
+    /// DepthMismatch where the address leads nowhere.
+    pub fn capability(&self, thread: ObjId, address: u64) -> Result<Cap, Refusal>
+        requires { IsThere (so_far self.now) Kind.Thread thread }
+        ensures { result ≡ capability (so_far self.now) thread address }
     {
-        match self.root(thread) {
-            None => Err(Refusal::Missing),
-            Some(root) => lookup(&self.slots, root, address),
-        }
+        lookup(&self.slots, self.root(thread), address)
     }
 
-    /// The slot that a thread names by an index and a depth: Range for a depth of 0 or above 64, which comes first, and
-    /// GuardMismatch and DepthMismatch where the bits lead to no slot.
-    pub fn slot_named(&self, thread: ThreadNo, place: Place) -> Result<SlotId, Refusal>
-        requires { thread.0 < ROOM }
-        ensures { named_by result ≡ slot_named (so_far self.now) (thread_at thread.0) place }
+    /// The slot that a thread that is there names by an index and a depth: Range for a depth of 0 or above 64, which comes
+    /// first, and GuardMismatch and DepthMismatch where the bits lead to no slot.
+    pub fn slot_named(&self, thread: ObjId, place: Place) -> Result<SlotId, Refusal>
+        requires { IsThere (so_far self.now) Kind.Thread thread }
+        ensures { named_by result ≡ slot_named (so_far self.now) thread place }
     {
-        match self.root(thread) {
-            None if in_range(place.depth) => Err(Refusal::Missing),
-            None => Err(Refusal::Range),
-            Some(root) => lookup_slot(&self.slots, root, place),
-        }
+        lookup_slot(&self.slots, self.root(thread), place)
     }
 }

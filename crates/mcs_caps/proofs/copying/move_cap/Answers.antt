@@ -1,33 +1,20 @@
-use Rattle.std.proofs.Common.{sym, ◌∙◌, ap}
-use Rattle.mcs_types.specs.declared.id.ObjId.{ObjId}
-use Rattle.mcs_book.specs.Logs.{Log}
-use Rattle.mcs_book.specs.Pieces.{Outcome}
-use Rattle.mcs_state.specs.Numbers.{thread_at}
-use Rattle.mcs_state.specs.Now.{so_far, adds_all}
-use Rattle.mcs_caps.specs.Rows.{moves}
-use Rattle.mcs_caps.proofs.Rows.{move-refused, move-acts, done-after}
+use Rattle.mcs_types.specs.declared.entry.Entry.TheVariants.{MoveCap}
+use Rattle.mcs_state.specs.Now.{so_far}
+use Rattle.mcs_caps.specs.Rows.{moves_act}
+use Rattle.mcs_caps.proofs.Rows.{row-move, row-refused, row-room, row-acts}
 use Rattle.mcs_caps.proofs.copying.move_cap.Goals as goal
 
-pub returns-in-Err-clause-records : goal.returns-in-Err-clause-records
-returns-in-Err-clause-records g c = λ core.
-    let R : Log = so_far c.args.state.now in
-    let t : ObjId = thread_at c.args.thread.0 in
-    ap (λ (o : Outcome). adds_all o.records c.args.state.now) (sym (move-refused R core t c.args.source c.args.dest c.find_places.result c.in-Err.refusal c.find_places.ensures.places (c.in-Err.is)))
+pub shift-requires-clause-room : goal.shift-requires-clause-room
+shift-requires-clause-room g c =
+    let row = row-move (so_far c.args.state.now) c.args.core c.args.thread c.args.source c.args.dest c.find_places.result c.find_places.ensures.places in
+    row-room c.args.state.now c.args.core c.args.thread (MoveCap c.args.source c.args.dest) c.find_places.result moves_act c.in-Ok.at row c.in-Ok.is c.requires.room
 
-pub returns-in-Err-clause-answer : goal.returns-in-Err-clause-answer
-returns-in-Err-clause-answer g c = λ core.
-    let R : Log = so_far c.args.state.now in
-    let t : ObjId = thread_at c.args.thread.0 in
-    ap (λ (o : Outcome). o.answer) (sym (move-refused R core t c.args.source c.args.dest c.find_places.result c.in-Err.refusal c.find_places.ensures.places (c.in-Err.is)))
+pub returns-in-Err : goal.returns-in-Err
+returns-in-Err g c =
+    let row = row-move (so_far c.args.state.now) c.args.core c.args.thread c.args.source c.args.dest c.find_places.result c.find_places.ensures.places in
+    row-refused c.args.state.now c.args.core c.args.thread (MoveCap c.args.source c.args.dest) c.find_places.result moves_act c.in-Err.refusal row c.in-Err.is
 
-pub returns-in-Ok-clause-records : goal.returns-in-Ok-clause-records
-returns-in-Ok-clause-records g c = λ core.
-    let R : Log = so_far c.args.state.now in
-    let t : ObjId = thread_at c.args.thread.0 in
-    c.shift.ensures ∙ ap (λ (o : Outcome). adds_all o.records c.args.state.now) (sym (move-acts R core t c.args.source c.args.dest c.find_places.result c.in-Ok.at c.find_places.ensures.places (c.in-Ok.is)))
-
-pub returns-in-Ok-clause-answer : goal.returns-in-Ok-clause-answer
-returns-in-Ok-clause-answer g c = λ core.
-    let R : Log = so_far c.args.state.now in
-    let t : ObjId = thread_at c.args.thread.0 in
-    sym (done-after R t (moves c.in-Ok.at)) ∙ ap (λ (o : Outcome). o.answer) (sym (move-acts R core t c.args.source c.args.dest c.find_places.result c.in-Ok.at c.find_places.ensures.places (c.in-Ok.is)))
+pub returns-in-Ok : goal.returns-in-Ok
+returns-in-Ok g c =
+    let row = row-move (so_far c.args.state.now) c.args.core c.args.thread c.args.source c.args.dest c.find_places.result c.find_places.ensures.places in
+    row-acts c.args.state.now c.shift.new.state c.args.core c.args.thread (MoveCap c.args.source c.args.dest) c.find_places.result moves_act c.in-Ok.at _ row c.in-Ok.is c.shift.ensures

@@ -1,57 +1,50 @@
-use Rattle.std.proofs.Common.{◌≡◌, sym, ◌∙◌, ap, Some, None, option_copied}
-use Rattle.mcs_types.specs.declared.id.ObjId.{ObjId}
-use Rattle.mcs_types.specs.declared.record.Queue.TheVariants.{Senders}
+use Rattle.std.proofs.Common.{◌≡◌, Some, None, ap, sym, ◌∙◌, subst, option_copied}
+use Rattle.mcs_types.specs.declared.record.Queue.TheVariants.{Senders, Receivers}
+use Rattle.mcs_types.specs.declared.record.Rec.TheVariants as rec
 use Rattle.mcs_types.specs.declared.entry.Answer.TheVariants.{Got}
 use Rattle.mcs_book.specs.Logs.{Log}
 use Rattle.mcs_book.specs.Queues.{first_in}
 use Rattle.mcs_book.specs.Messages.{open_of}
 use Rattle.mcs_book.specs.Pieces.{Outcome}
-use Rattle.mcs_book.specs.Receiving.{open_of_any}
-use Rattle.mcs_state.specs.Numbers.{thread_at, thread_of}
-use Rattle.mcs_state.specs.Now.{so_far, adds_all}
-use Rattle.mcs_ipc.proofs.Freeing.{receive-alone, receive-takes}
+use Rattle.mcs_book.specs.Receiving.{joins_or, open_of_any}
+use Rattle.mcs_state.specs.Now.{so_far}
+use Rattle.mcs_state.specs.Doing.{Gives, Holds}
+use Rattle.mcs_ipc.proofs.Freeing.{receive-alone, receive-acts}
 use Rattle.mcs_ipc.proofs.receiving.receive_over.Goals as goal
 
-pub returns-in-None-clause-records : goal.returns-in-None-clause-records
-returns-in-None-clause-records g c =
+pub stand-requires-clause-room : goal.stand-requires-clause-room
+stand-requires-clause-room g c =
     let R : Log = so_far c.args.state.now in
-    let t : ObjId = thread_at c.args.thread.0 in
-    let none : open_of_any R (first_in R (Senders c.args.at.endpoint)) ≡ None = ap (λ o. open_of_any R o) (sym c.first.ensures.first ∙ ap (λ o. thread_of o) c.in-None.is) in
-    c.stand.ensures.records ∙ ap (λ (o : Outcome). adds_all o.records c.args.state.now) (sym (receive-alone R c.args.blocks t c.args.at.endpoint c.args.at.reply c.is_sound.ensures.served none))
+    let none : open_of_any R (first_in R (Senders c.args.at.endpoint)) ≡ None = ap (λ o. open_of_any R o) (sym c.first.ensures ∙ c.in-None.is) in
+    subst (λ (o : Outcome). Holds o.records c.args.state.now) (receive-alone R c.args.blocks c.args.thread c.args.at.endpoint c.args.at.reply c.requires.plain none) c.requires.room
 
-pub returns-in-None-clause-answer : goal.returns-in-None-clause-answer
-returns-in-None-clause-answer g c =
+pub stand-requires-in-None-letter-clause-room : goal.stand-requires-in-None-letter-clause-room
+stand-requires-in-None-letter-clause-room g c =
     let R : Log = so_far c.args.state.now in
-    let t : ObjId = thread_at c.args.thread.0 in
-    let none : open_of_any R (first_in R (Senders c.args.at.endpoint)) ≡ None = ap (λ o. open_of_any R o) (sym c.first.ensures.first ∙ ap (λ o. thread_of o) c.in-None.is) in
-    c.stand.ensures.answer ∙ ap (λ (o : Outcome). o.answer) (sym (receive-alone R c.args.blocks t c.args.at.endpoint c.args.at.reply c.is_sound.ensures.served none))
+    let none : open_of_any R (first_in R (Senders c.args.at.endpoint)) ≡ None = ap (λ o. open_of_any R o) (sym c.first.ensures ∙ c.in-Some.is) ∙ sym c.letter.ensures ∙ ap (λ o. option_copied o) c.in-None-letter.is in
+    subst (λ (o : Outcome). Holds o.records c.args.state.now) (receive-alone R c.args.blocks c.args.thread c.args.at.endpoint c.args.at.reply c.requires.plain none) c.requires.room
 
-pub returns-in-None-letter-clause-records : goal.returns-in-None-letter-clause-records
-returns-in-None-letter-clause-records g c =
+pub take-requires-clause-room : goal.take-requires-clause-room
+take-requires-clause-room g c =
     let R : Log = so_far c.args.state.now in
-    let t : ObjId = thread_at c.args.thread.0 in
-    let none : open_of_any R (first_in R (Senders c.args.at.endpoint)) ≡ None = ap (λ o. open_of_any R o) (sym c.first.ensures.first ∙ ap (λ o. thread_of o) c.in-Some.is) ∙ sym c.letter.ensures ∙ ap (λ o. option_copied o) c.in-None-letter.is in
-    c.stand-in-None-letter.ensures.records ∙ ap (λ (o : Outcome). adds_all o.records c.args.state.now) (sym (receive-alone R c.args.blocks t c.args.at.endpoint c.args.at.reply c.is_sound.ensures.served none))
+    let is : open_of R c.in-Some.sender ≡ Some c.in-Some-letter.letter.now = sym c.letter.ensures ∙ ap (λ o. option_copied o) c.in-Some-letter.is in
+    subst (λ (o : Outcome). Holds o.records c.args.state.now) (receive-acts R c.args.blocks c.args.thread c.args.at.endpoint c.args.at.reply c.in-Some.sender c.in-Some-letter.letter.now c.requires.plain c.requires.ready.stand (sym c.first.ensures ∙ c.in-Some.is) is) c.requires.room
 
-pub returns-in-None-letter-clause-answer : goal.returns-in-None-letter-clause-answer
-returns-in-None-letter-clause-answer g c =
+pub returns-in-None : goal.returns-in-None
+returns-in-None g c =
     let R : Log = so_far c.args.state.now in
-    let t : ObjId = thread_at c.args.thread.0 in
-    let none : open_of_any R (first_in R (Senders c.args.at.endpoint)) ≡ None = ap (λ o. open_of_any R o) (sym c.first.ensures.first ∙ ap (λ o. thread_of o) c.in-Some.is) ∙ sym c.letter.ensures ∙ ap (λ o. option_copied o) c.in-None-letter.is in
-    c.stand-in-None-letter.ensures.answer ∙ ap (λ (o : Outcome). o.answer) (sym (receive-alone R c.args.blocks t c.args.at.endpoint c.args.at.reply c.is_sound.ensures.served none))
+    let none : open_of_any R (first_in R (Senders c.args.at.endpoint)) ≡ None = ap (λ o. open_of_any R o) (sym c.first.ensures ∙ c.in-None.is) in
+    subst (λ (o : Outcome). Gives o c.args.state.now c.stand.result c.stand.new.state) (sym (receive-alone R c.args.blocks c.args.thread c.args.at.endpoint c.args.at.reply c.requires.plain none)) c.stand.ensures
 
-pub returns-in-Some-letter-clause-records : goal.returns-in-Some-letter-clause-records
-returns-in-Some-letter-clause-records g c =
+pub returns-in-None-letter : goal.returns-in-None-letter
+returns-in-None-letter g c =
     let R : Log = so_far c.args.state.now in
-    let t : ObjId = thread_at c.args.thread.0 in
-    let first : first_in R (Senders c.args.at.endpoint) ≡ Some (thread_at c.in-Some.sender.0) = sym c.first.ensures.first ∙ ap (λ o. thread_of o) c.in-Some.is in
-    let is : open_of R (thread_at c.in-Some.sender.0) ≡ Some c.in-Some-letter.letter.now = sym c.letter.ensures ∙ ap (λ o. option_copied o) c.in-Some-letter.is in
-    c.take.ensures ∙ ap (λ (o : Outcome). adds_all o.records c.args.state.now) (sym (receive-takes R c.args.blocks t c.args.at.endpoint c.args.at.reply (thread_at c.in-Some.sender.0) c.in-Some-letter.letter.now c.is_sound.ensures.served c.requires.ready.stand first is))
+    let none : open_of_any R (first_in R (Senders c.args.at.endpoint)) ≡ None = ap (λ o. open_of_any R o) (sym c.first.ensures ∙ c.in-Some.is) ∙ sym c.letter.ensures ∙ ap (λ o. option_copied o) c.in-None-letter.is in
+    subst (λ (o : Outcome). Gives o c.args.state.now c.stand-in-None-letter.result c.stand-in-None-letter.new.state) (sym (receive-alone R c.args.blocks c.args.thread c.args.at.endpoint c.args.at.reply c.requires.plain none)) c.stand-in-None-letter.ensures
 
-pub returns-in-Some-letter-clause-answer : goal.returns-in-Some-letter-clause-answer
-returns-in-Some-letter-clause-answer g c =
+pub returns-in-Some-letter : goal.returns-in-Some-letter
+returns-in-Some-letter g c =
     let R : Log = so_far c.args.state.now in
-    let t : ObjId = thread_at c.args.thread.0 in
-    let first : first_in R (Senders c.args.at.endpoint) ≡ Some (thread_at c.in-Some.sender.0) = sym c.first.ensures.first ∙ ap (λ o. thread_of o) c.in-Some.is in
-    let is : open_of R (thread_at c.in-Some.sender.0) ≡ Some c.in-Some-letter.letter.now = sym c.letter.ensures ∙ ap (λ o. option_copied o) c.in-Some-letter.is in
-    ap (λ m. Got c.in-Some-letter.letter.now.badge m) c.copy-message.ensures ∙ ap (λ (o : Outcome). o.answer) (sym (receive-takes R c.args.blocks t c.args.at.endpoint c.args.at.reply (thread_at c.in-Some.sender.0) c.in-Some-letter.letter.now c.is_sound.ensures.served c.requires.ready.stand first is))
+    let is : open_of R c.in-Some.sender ≡ Some c.in-Some-letter.letter.now = sym c.letter.ensures ∙ ap (λ o. option_copied o) c.in-Some-letter.is in
+    subst (λ (o : Outcome). Gives o c.args.state.now (Got c.in-Some-letter.letter.now.badge c.copy-message.result) c.take.new.state) (sym (receive-acts R c.args.blocks c.args.thread c.args.at.endpoint c.args.at.reply c.in-Some.sender c.in-Some-letter.letter.now c.requires.plain c.requires.ready.stand (sym c.first.ensures ∙ c.in-Some.is) is))
+    (record { records = c.take.ensures; answer = ap (λ m. Got c.in-Some-letter.letter.now.badge m) c.copy-message.ensures })

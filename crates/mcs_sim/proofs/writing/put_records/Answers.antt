@@ -1,15 +1,18 @@
-use Rattle.std.proofs.Common.{◌∙◌, arith}
+use Rattle.std.proofs.Common.{◌<◌, length, sym, ◌∙◌, arith}
 use Rattle.mcs_text.proofs.Outputs.{Puts-then, Puts-text}
-use Rattle.mcs_sim.proofs.TraceLaws.{sent_with-le, records_trace-next, sent_after-next}
+use Rattle.mcs_sim.proofs.TraceLaws.{get_or-at, sent_with-le, records_trace-next, sent_after-next}
 use Rattle.mcs_sim.proofs.writing.put_records.Goals as goal
 
-pub loop-fact-preserved : goal.loop-fact-preserved
-loop-fact-preserved g c =
-    let r = c.fact-item.result in
-    let before = c.loop-fact.invariant in
+pub loop-i-preserved : goal.loop-i-preserved
+loop-i-preserved g c =
+    let rs = c.args.line.now.records in
+    let r = c.in-Some.fact in
+    let i = c.loop-i.i in
+    let before = c.loop-i.invariant in
+    let within : i < length rs = omega (arith, c.loop-i-test.true, c.record_count-i-end.ensures) in
+    let it = get_or-at rs i r (sym c.record.ensures ∙ c.in-Some.is) in
     record {
-      puts = Puts-text _ _ _ _ _ (Puts-then _ _ _ _ _ _ before.puts c.put_record.ensures)
-          (records_trace-next c.args.sent c.args.records.now c.loop-fact.fact-index r c.loop-fact.count c.loop-fact-test.true c.fact-item.is before.sent);
-      sent = c.count_sent-count.ensures ∙ sent_after-next c.args.sent c.args.records.now c.loop-fact.fact-index r c.loop-fact.count c.loop-fact-test.true c.fact-item.is before.sent;
-      few = omega (arith, before.few, c.count_sent-count.ensures, sent_with-le c.loop-fact.count r);
+      puts = Puts-text _ _ _ _ _ (Puts-then _ _ _ _ _ _ before.puts c.put_record.ensures) (records_trace-next c.args.sent rs i r c.loop-i.count within it before.sent);
+      sent = c.count_sent-count.ensures ∙ sent_after-next c.args.sent rs i r c.loop-i.count within it before.sent;
+      few = omega (arith, before.few, c.count_sent-count.ensures, sent_with-le c.loop-i.count r);
     }

@@ -4,4 +4,4 @@ use Rattle.mcs_kernel.proofs.Booting.{number-made}
 use Rattle.mcs_kernel.proofs.boot.checks.are_fewer.Goals as goal
 
 pub returns : goal.returns
-returns g c = ap (λ n. nat_lt n c.args.limit) (c.made.ensures.count ∙ sym (number-made (so_far c.args.state.now) c.args.kind c.is_sound.ensures.served))
+returns g c = ap (λ n. nat_lt n c.args.limit) (c.made.ensures ∙ sym (number-made (so_far c.args.state.now) c.args.kind c.requires))

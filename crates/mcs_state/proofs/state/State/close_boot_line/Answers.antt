@@ -1,13 +1,11 @@
-use Rattle.std.proofs.Common.{◌≡◌, ◌≤◌, ◌*◌, ◌++◌, length, reverse, sym, ◌∙◌, subst, ap, arith}
-use Rattle.mcs_book.specs.Logs.{Log, counted}
+use Rattle.std.proofs.Common.{◌≡◌, ◌≤◌, ◌*◌, ◌++◌, List, [], length, reverse, sym, ◌∙◌, subst, ap, arith}
+use Rattle.mcs_book.specs.Logs.{Log, counted, onto}
 use Rattle.mcs_book.specs.Messages.{is_sent}
 use Rattle.mcs_book.specs.History.{Book, Line, log_of}
 use Rattle.mcs_book.specs.Boots.{boot_line}
-use Rattle.mcs_book.specs.Logs.{onto}
-use Rattle.std.proofs.Common.{List, []}
 use Rattle.mcs_state.specs.Now.{Now}
 use Rattle.mcs_state.specs.Tables.{HAND}
-use Rattle.mcs_state.proofs.Opening.{moved-agrees, boot-moved, boot-sends-none}
+use Rattle.mcs_state.proofs.Opening.{moved-kept, boot-moved, boot-sends-none}
 use Rattle.mcs_state.proofs.state.State.close_boot_line.Goals as goal
 
 pub invariant_of-self : goal.invariant_of-self
@@ -20,13 +18,6 @@ invariant_of-self g c =
     let none = ap (λ (h : Log). counted is_sent h) was.1 ∙ boot-sends-none (log_of book) c.args.line in
     let empty = ap (λ (ls : List Line). length ls) was.0 in
     let kept = ap (λ (b : Book). length b.lines) c.add_boot_line.ensures in
-    let few : c.self.inside.sent ≤ HAND * length c.add_boot_line.new.self.book.lines = omega (arith, i.6.of_log.sent_few, none, empty, kept) in
-    let same : log_of c.add_boot_line.new.self.book ≡ hand ++ log_of book = ap (λ (b : Book). log_of b) c.add_boot_line.ensures ∙ boot-moved book.boot.lines book.lines c.args.line hand was.0 was.1 in (
-      omega (arith, i.0, c.clear.ensures.capacity),
-      i.1,
-      i.2,
-      i.3,
-      i.4,
-      i.5,
-      rw c.clear.ensures.items (moved-agrees (length c.add_boot_line.new.self.book.lines) (log_of c.add_boot_line.new.self.book) same few i.6),
-    )
+    let few : c.self.inside.sent ≤ HAND * length c.add_boot_line.new.self.book.lines = omega (arith, i.1.sent.few, none, empty, kept) in
+    let same : log_of c.add_boot_line.new.self.book ≡ hand ++ log_of book = ap (λ (b : Book). log_of b) c.add_boot_line.ensures ∙ boot-moved book.boot.lines book.lines c.args.line hand was.0 was.1 in
+    (omega (arith, i.0, c.clear.ensures.capacity), rw c.clear.ensures.items (moved-kept (length c.add_boot_line.new.self.book.lines) (log_of c.add_boot_line.new.self.book) same few i.1))

@@ -1,35 +1,19 @@
-use Rattle.std.proofs.Common.{◌<◌, ◌++◌, length, reverse, sym, subst, arith}
-use Rattle.std.proofs.lemmas.List.{reverse-append}
+use Rattle.std.proofs.Common.{◌≡◌}
+use Rattle.mcs_state.proofs.SlotLaws.{has-slot}
+use Rattle.mcs_slots.specs.Filling.{filled}
+use Rattle.std.proofs.Common.{refl, arith}
 use Rattle.mcs_types.specs.declared.record.Rec.TheVariants as rec
-use Rattle.mcs_book.specs.Logs.{Log}
-use Rattle.mcs_book.specs.History.{log_of}
-use Rattle.mcs_book.specs.Sound.{Allowed}
-use Rattle.mcs_state.specs.Now.{Now, so_far}
-use Rattle.mcs_state.specs.Tables.{HAND}
-use Rattle.mcs_state.proofs.Making.{slot-agrees}
-use Rattle.mcs_state.proofs.Slotting.{has-slot}
+use Rattle.mcs_state.proofs.Following.{follows, inside, inside-room}
 use Rattle.mcs_state.proofs.state.State.fills.Goals as goal
 
 pub set-requires : goal.set-requires
 set-requires g c =
-    let i = c.self.invariant in
-    let R : Log = reverse c.self.inside.hand.items ++ log_of c.self.inside.book.book in
-    let P : Now → Type 0 = λ n. Allowed (so_far n) (rec.Slot c.args.at.cnode c.args.at.index c.args.cap) in
-    let was : P (record { book = c.self.inside.book.book; hand = reverse c.self.inside.hand.items; boot_room = c.self.inside.book.boot_room; room = c.self.inside.book.room }) = subst P (sym c.self.view_is) c.requires.allowed in
-    has-slot R c.self.inside.slots c.args.at i.6.of_slots i.6.of_log.sound was.0 was.1
+    let ok = inside (rec.Slot c.args.at.cnode c.args.at.index c.args.cap) c.self.view_is c.requires.allowed in
+    has-slot _ c.self.inside.slots c.args.at c.self.invariant.1.slots c.self.invariant.1.sound ok.0 ok.1
 
 pub invariant_of-self : goal.invariant_of-self
-invariant_of-self g c =
-    let i = c.self.invariant in
-    let R : Log = reverse c.self.inside.hand.items ++ log_of c.self.inside.book.book in
-    let P : Now → Type 0 = λ n. (length n.hand < HAND) × Allowed (so_far n) (rec.Slot c.args.at.cnode c.args.at.index c.args.cap) in
-    let was : P (record { book = c.self.inside.book.book; hand = reverse c.self.inside.hand.items; boot_room = c.self.inside.book.boot_room; room = c.self.inside.book.room }) = subst P (sym c.self.view_is) (c.requires.room, c.requires.allowed) in (
-      omega (arith, i.0, c.note.ensures.capacity),
-      i.1,
-      i.2,
-      i.3,
-      i.4,
-      i.5,
-      rw (c.note.ensures.items, reverse-append, c.set.ensures, c.cap_again.ensures)
-          (slot-agrees c.args.at c.args.cap c.are_pages.ensures.pages was.0 was.1 c.requires.guard i.6),
-    )
+invariant_of-self g c = let set = rw c.cap_again.ensures at c.set.ensures in (
+  omega (arith, c.self.invariant.0, c.note.ensures.capacity),
+  follows (rec.Slot c.args.at.cnode c.args.at.index c.args.cap) _ _ _ _ _ _ c.note.ensures.items (inside-room c.self.view_is c.requires.room) (inside (rec.Slot c.args.at.cnode c.args.at.index c.args.cap) c.self.view_is c.requires.allowed) c.requires.guard
+      (record { threads = refl; letters = refl; contexts = refl; queues = refl; replies = refl; slots = (c.are_pages.ensures.pages, set); sent = refl }) c.self.invariant.1,
+)

@@ -1,38 +1,23 @@
-use Rattle.std.proofs.Common.{◌≡◌, ◌<◌, ◌++◌, length, reverse, sym, ◌∙◌, subst, ap, arith}
-use Rattle.std.proofs.lemmas.List.{reverse-append}
+use Rattle.std.specs.Prelude.{◌≡◌, ◌++◌, ◌+◌, reverse}
+use Rattle.std.proofs.Common.{refl, ap, ◌∙◌, arith}
 use Rattle.mcs_types.specs.declared.id.Kind.TheVariants as kind
-use Rattle.mcs_types.specs.declared.record.Form.TheVariants as form
+use Rattle.mcs_types.specs.declared.id.ObjId.{ObjId}
 use Rattle.mcs_types.specs.declared.record.Rec.TheVariants as rec
-use Rattle.mcs_book.specs.Logs.{Log, counted}
-use Rattle.mcs_book.specs.Objects.{next_id, makes_kind}
+use Rattle.mcs_types.specs.declared.record.Form.TheVariants as form
+use Rattle.mcs_book.specs.Logs.{Log}
 use Rattle.mcs_book.specs.History.{log_of}
-use Rattle.mcs_book.specs.Sound.{Allowed}
-use Rattle.mcs_state.specs.Numbers.{object_at}
-use Rattle.mcs_state.specs.Now.{Now, so_far}
-use Rattle.mcs_state.specs.Tables.{HAND}
-use Rattle.mcs_state.proofs.Making.{cnode-agrees}
+use Rattle.mcs_book.specs.Objects.{next_id}
+use Rattle.mcs_state.proofs.Following.{inside-made}
+use Rattle.mcs_state.proofs.Following.{follows, inside, inside-room, seen}
 use Rattle.mcs_state.proofs.state.State.makes_cnode.Goals as goal
-
-pub add-requires-clause-few : goal.add-requires-clause-few
-add-requires-clause-few g c =
-    let i = c.self.invariant in
-    let P : Now → Type 0 = λ n. counted (makes_kind kind.CNode) (so_far n) < 64 in
-    let few : P (record { book = c.self.inside.book.book; hand = reverse c.self.inside.hand.items; boot_room = c.self.inside.book.boot_room; room = c.self.inside.book.room }) = subst P (sym c.self.view_is) c.requires.few in
-    omega (arith, few, i.6.of_slots.pages)
 
 pub invariant_of-self-2 : goal.invariant_of-self-2
 invariant_of-self-2 g c =
-    let i = c.self.invariant in
     let R : Log = reverse c.self.inside.hand.items ++ log_of c.self.inside.book.book in
-    let P : Now → Type 0 = λ n. (length n.hand < HAND) × Allowed (so_far n) (rec.Made (next_id (so_far n) kind.CNode) (form.Slots c.args.radix)) × (counted (makes_kind kind.CNode) (so_far n) < 64) in
-    let was : P (record { book = c.self.inside.book.book; hand = reverse c.self.inside.hand.items; boot_room = c.self.inside.book.boot_room; room = c.self.inside.book.room }) = subst P (sym c.self.view_is) (c.requires.room, c.requires.allowed, c.requires.few) in
-    let id : c.object_id-object.result ≡ next_id R kind.CNode = c.object_id-object.ensures ∙ ap (λ n. object_at kind.CNode n) i.6.of_counts.cnodes in (
-      omega (arith, i.0, c.note.ensures.capacity),
-      i.1,
-      i.2,
-      i.3,
-      i.4,
-      i.5,
-      rw (c.note.ensures.items, reverse-append, id, c.in_ok-add.ensures.added)
-          (cnode-agrees c.args.radix was.0 (omega (arith, was.2, i.6.of_counts.cnodes)) was.1 c.requires.served i.6),
+    let is : record { kind = kind.CNode; serial = c.len.result + 1 } ≡ next_id R kind.CNode = ap (λ n. record { kind = kind.CNode; serial = n + 1 }) (c.len.ensures ∙ c.self.invariant.1.slots.made) in
+    let items = rw is at c.note.ensures.items in
+    let made = rec.Made (next_id R kind.CNode) (form.Slots c.args.radix) in (
+      omega (arith, c.self.invariant.0, c.note.ensures.capacity),
+      follows made _ _ _ _ _ _ items (inside-room c.self.view_is c.requires.room) (inside-made kind.CNode (form.Slots c.args.radix) c.self.view_is c.requires.allowed) c.requires.fits
+          (record { threads = refl; letters = refl; contexts = refl; queues = refl; replies = refl; slots = c.in_ok-add.ensures.added; sent = refl }) c.self.invariant.1,
     )

@@ -1,31 +1,28 @@
-use Rattle.std.proofs.Common.{◌≡◌, ◌<◌, ◌++◌, length, reverse, sym, ◌∙◌, subst, ap, arith}
-use Rattle.std.proofs.lemmas.List.{reverse-append}
+use Rattle.std.specs.Prelude.{◌≡◌, ◌++◌, ◌+◌, reverse, Some, None}
+use Rattle.std.proofs.Common.{refl, ap, ◌∙◌, arith}
 use Rattle.mcs_types.specs.declared.id.Kind.TheVariants as kind
-use Rattle.mcs_types.specs.declared.record.Form.TheVariants as form
+use Rattle.mcs_types.specs.declared.id.ObjId.{ObjId}
 use Rattle.mcs_types.specs.declared.record.Rec.TheVariants as rec
-use Rattle.mcs_book.specs.Logs.{Log, counted}
-use Rattle.mcs_book.specs.Objects.{next_id, makes_kind}
+use Rattle.mcs_types.specs.declared.record.Form.TheVariants as form
+use Rattle.mcs_types.specs.Ids.{value_after}
+use Rattle.mcs_objects.specs.Store.{value_at}
+use Rattle.mcs_book.specs.Logs.{Log}
 use Rattle.mcs_book.specs.History.{log_of}
-use Rattle.mcs_book.specs.Sound.{Allowed}
-use Rattle.mcs_state.specs.Numbers.{object_at}
-use Rattle.mcs_state.specs.Now.{Now, so_far}
-use Rattle.mcs_state.specs.Tables.{HAND, ROOM}
-use Rattle.mcs_state.proofs.Making.{reply-agrees}
+use Rattle.mcs_book.specs.Objects.{next_id}
+use Rattle.mcs_state.proofs.MakingLaws.{next-of}
+use Rattle.mcs_state.proofs.Following.{inside-made}
+use Rattle.mcs_state.proofs.Following.{follows, inside, inside-room, seen}
 use Rattle.mcs_state.proofs.state.State.makes_reply.Goals as goal
 
 pub invariant_of-self : goal.invariant_of-self
 invariant_of-self g c =
-    let i = c.self.invariant in
     let R : Log = reverse c.self.inside.hand.items ++ log_of c.self.inside.book.book in
-    let P : Now → Type 0 = λ n. (length n.hand < HAND) × Allowed (so_far n) (rec.Made (next_id (so_far n) kind.Reply) form.Plain) × (counted (makes_kind kind.Reply) (so_far n) < ROOM) in
-    let was : P (record { book = c.self.inside.book.book; hand = reverse c.self.inside.hand.items; boot_room = c.self.inside.book.boot_room; room = c.self.inside.book.room }) = subst P (sym c.self.view_is) (c.requires.room, c.requires.allowed, c.requires.few) in
-    let id : c.object_id-object.result ≡ next_id R kind.Reply = c.object_id-object.ensures ∙ ap (λ n. object_at kind.Reply n) i.6.of_counts.replies in (
-      omega (arith, i.0, c.note.ensures.capacity),
-      i.1,
-      i.2,
-      i.3,
-      i.4,
-      i.5,
-      rw (c.note.ensures.items, reverse-append, id)
-          (reply-agrees was.0 (omega (arith, was.2, i.6.of_counts.replies)) was.1 i.6),
+    let is : c.in-Ok.object ≡ next_id R kind.Reply = c.in-Ok.ensures.id ∙ next-of R kind.Reply _ c.self.invariant.1.replies.shape in
+    let items = rw is at c.note.ensures.items in
+    let next = next-of R kind.Reply _ c.self.invariant.1.replies.shape in
+    let values = λ (x : ObjId). c.in-Ok.ensures.values x ∙ ap (λ (r : ObjId). value_after x r (Some None) (value_at c.self.inside.replies x)) next in
+    let made = rec.Made (next_id R kind.Reply) (form.Plain) in (
+      omega (arith, c.self.invariant.0, c.note.ensures.capacity),
+      follows made _ _ _ _ _ _ items (inside-room c.self.view_is c.requires.room) (inside-made kind.Reply form.Plain c.self.view_is c.requires.allowed) tt
+          (record { threads = refl; letters = refl; contexts = refl; queues = refl; replies = record { shape = c.in-Ok.ensures.shape; receivers = values }; slots = refl; sent = refl }) c.self.invariant.1,
     )

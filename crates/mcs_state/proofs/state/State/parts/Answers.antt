@@ -1,28 +1,25 @@
-use Rattle.std.proofs.Common.{◌<◌, ◌++◌, length, reverse, sym, ◌∙◌, subst, arith}
-use Rattle.std.proofs.lemmas.List.{reverse-append}
+use Rattle.std.proofs.Common.{◌≡◌, sym, subst}
+use Rattle.mcs_types.specs.declared.id.ObjId.{ObjId}
+use Rattle.std.proofs.Common.{Option, None}
+use Rattle.mcs_book.specs.Queues.{reply_with}
+use Rattle.mcs_state.specs.Following.{attended, SetsAny}
+use Rattle.mcs_state.proofs.ReplyLaws.{attended-there}
+use Rattle.mcs_state.proofs.Following.{seen}
+use Rattle.std.proofs.Common.{refl, arith}
 use Rattle.mcs_types.specs.declared.record.Rec.TheVariants as rec
-use Rattle.mcs_book.specs.Logs.{Log}
-use Rattle.mcs_book.specs.History.{log_of}
-use Rattle.mcs_book.specs.Sound.{Allowed}
-use Rattle.mcs_state.specs.Numbers.{thread_at}
-use Rattle.mcs_state.specs.Now.{Now, so_far}
-use Rattle.mcs_state.specs.Tables.{HAND}
-use Rattle.mcs_state.proofs.Lining.{parts-agrees}
+use Rattle.mcs_state.proofs.Following.{follows, inside, inside-room}
 use Rattle.mcs_state.proofs.state.State.parts.Goals as goal
 
+pub attend-requires : goal.attend-requires
+attend-requires g c =
+    let ok = inside (rec.Parts c.args.thread c.args.queue) c.self.view_is c.requires.allowed in
+    let is = seen c.self.view_is (λ R. c.reply_with-reply.result ≡ attended c.args.queue (reply_with R c.args.thread)) c.reply_with-reply.ensures in
+    rw is (attended-there _ c.self.inside.replies c.args.thread c.args.queue c.self.invariant.1.sound ok c.self.invariant.1.replies)
+
 pub invariant_of-self : goal.invariant_of-self
-invariant_of-self g c =
-    let i = c.self.invariant in
-    let R : Log = reverse c.self.inside.hand.items ++ log_of c.self.inside.book.book in
-    let P : Now → Type 0 = λ n. (length n.hand < HAND) × Allowed (so_far n) (rec.Parts (thread_at c.args.thread.0) c.args.queue) in
-    let was : P (record { book = c.self.inside.book.book; hand = reverse c.self.inside.hand.items; boot_room = c.self.inside.book.boot_room; room = c.self.inside.book.room }) = subst P (sym c.self.view_is) (c.requires.room, c.requires.allowed) in
-    let changed = rw c.thread_id-2.ensures at c.unblock.ensures.changed in (
-      omega (arith, i.0, c.note.ensures.capacity),
-      changed.count ∙ i.1,
-      i.2,
-      i.3,
-      c.part.ensures.threads ∙ i.4,
-      c.part.ensures.lines ∙ i.5,
-      rw (c.note.ensures.items, reverse-append, c.thread_id.ensures)
-          (parts-agrees c.args.thread.0 c.args.queue changed was.0 was.1 c.part.ensures.line c.part.ensures.place i.6),
+invariant_of-self g c = let is = seen c.self.view_is (λ R. c.reply_with-reply.result ≡ attended c.args.queue (reply_with R c.args.thread)) c.reply_with-reply.ensures in
+    let replies = subst (λ (o : Option ObjId). SetsAny o None c.self.inside.replies c.attend.new.replies) is c.attend.ensures in (
+      omega (arith, c.self.invariant.0, c.note.ensures.capacity),
+      follows (rec.Parts c.args.thread c.args.queue) _ _ _ _ _ _ c.note.ensures.items (inside-room c.self.view_is c.requires.room) (inside (rec.Parts c.args.thread c.args.queue) c.self.view_is c.requires.allowed) tt
+          (record { threads = c.unblock.ensures.changed; letters = refl; contexts = refl; queues = record { line = c.part.ensures.line; queue = c.part.ensures.queue; objects = record { has = c.part.ensures.has; made = c.part.ensures.given; there = c.part.ensures.there } }; replies = replies; slots = refl; sent = refl }) c.self.invariant.1,
     )

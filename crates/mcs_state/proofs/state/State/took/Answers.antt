@@ -1,54 +1,30 @@
-use Rattle.std.proofs.Common.{◌<◌, ◌++◌, length, reverse, sym, subst, arith}
-use Rattle.std.proofs.lemmas.List.{reverse-append}
-use Rattle.mcs_types.specs.declared.record.Rec.TheVariants as rec
-use Rattle.mcs_book.specs.Logs.{Log}
-use Rattle.mcs_book.specs.Messages.{open_of}
-use Rattle.mcs_book.specs.History.{log_of}
-use Rattle.mcs_book.specs.Sound.{Allowed}
-use Rattle.mcs_state.specs.Numbers.{thread_at}
-use Rattle.mcs_state.specs.Now.{Now, so_far, IsNumberOf}
-use Rattle.mcs_state.specs.Tables.{HAND}
-use Rattle.std.proofs.Common.{◌≡◌, ◌∙◌, cond, Some, None, IsSome, ap₂}
-use Rattle.mcs_types.specs.declared.id.ObjId.{ObjId}
+use Rattle.std.proofs.Common.{◌≡◌, sym, ap, ◌∙◌, Some}
 use Rattle.mcs_types.specs.declared.record.Letter.{Letter}
-use Rattle.mcs_types.specs.declared.record.Mail.{Mail}
-use Rattle.mcs_types.specs.Ids.{same}
-use Rattle.mcs_threads.specs.Tables.{row_of, mail_of}
-use Rattle.mcs_book.specs.Growing.{growing_open}
-use Rattle.mcs_book.specs.Standing.{letter_mail}
-use Rattle.mcs_state.proofs.Saying.{has-row}
-use Rattle.mcs_state.proofs.Lettering.{took-agrees, open-number}
+use Rattle.mcs_book.specs.Messages.{open_of, letter}
+use Rattle.mcs_state.specs.Now.{IsNumberOf}
+use Rattle.mcs_state.proofs.LetterLaws.{number-open, opened}
+use Rattle.mcs_state.proofs.ThreadLaws.{thread-there}
+use Rattle.mcs_state.proofs.Following.{seen}
+use Rattle.std.proofs.Common.{refl, arith}
+use Rattle.mcs_types.specs.declared.record.Rec.TheVariants as rec
+use Rattle.mcs_state.proofs.Following.{follows, inside, inside-room}
 use Rattle.mcs_state.proofs.state.State.took.Goals as goal
-
-pub invariant_of-self : goal.invariant_of-self
-invariant_of-self g c =
-    let i = c.self.invariant in
-    let R : Log = reverse c.self.inside.hand.items ++ log_of c.self.inside.book.book in
-    let P : Now → Type 0 = λ n. (length n.hand < HAND) × Allowed (so_far n) (rec.Took c.args.number (thread_at c.args.receiver.0)) × IsNumberOf c.args.number (open_of (so_far n) (thread_at c.args.sender.0)) in
-    let was : P (record { book = c.self.inside.book.book; hand = reverse c.self.inside.hand.items; boot_room = c.self.inside.book.boot_room; room = c.self.inside.book.room }) = subst P (sym c.self.view_is) (c.requires.room, c.requires.allowed, c.requires.open) in
-    let x : ObjId = thread_at c.args.sender.0 in
-    let p : ObjId = thread_at c.args.receiver.0 in
-    let letter : Letter = c.in-Some.letter in
-    let is : Some letter ≡ growing_open R x = c.in-Some.ensures.value ∙ c.index_mut.ensures.value ∙ i.6.of_letters c.args.sender.0 c.index_mut.result.now c.requires.known in
-    let there : IsSome (row_of c.self.inside.threads c.thread_id-in-Some.result) = rw (c.thread_id-in-Some.ensures, i.6.of_threads p) (has-row R p i.6.of_log.sound was.1.0) in
-    let mails : (t : ObjId) → mail_of c.set_mail.new.self t ≡ cond (same t p) (Some (letter_mail letter)) (mail_of c.self.inside.threads t) = λ t. c.set_mail.ensures.mails there t ∙ ap₂ (λ (u : ObjId) (m : Mail). cond (same t u) (Some m) (mail_of c.self.inside.threads t)) c.thread_id-in-Some.ensures c.mail_of.ensures in (
-      omega (arith, i.0, c.note.ensures.capacity),
-      c.set_mail.ensures.made ∙ i.1,
-      i.2,
-      i.3,
-      i.4,
-      i.5,
-      rw (c.note.ensures.items, reverse-append, c.thread_id.ensures, c.take.ensures.after)
-          (took-agrees c.args.sender.0 c.args.number p letter (omega (arith, i.2, c.self.inside.letters.ok.0)) c.requires.known was.0 was.1 (sym is)
-          (open-number R x c.args.number (Some letter) i.6.of_log.sound was.2 is) c.set_mail.ensures.rows mails i.6),
-    )
 
 pub unreachable-requires : goal.unreachable-requires
 unreachable-requires g c =
-    let i = c.self.invariant in
-    let R : Log = reverse c.self.inside.hand.items ++ log_of c.self.inside.book.book in
-    let x : ObjId = thread_at c.args.sender.0 in
-    let P : Now → Type 0 = λ n. IsNumberOf c.args.number (open_of (so_far n) x) in
-    let number : P (record { book = c.self.inside.book.book; hand = reverse c.self.inside.hand.items; boot_room = c.self.inside.book.boot_room; room = c.self.inside.book.room }) = subst P (sym c.self.view_is) c.requires.open in
-    let is : None ≡ growing_open R x = c.in-None.ensures.value ∙ c.index_mut.ensures.value ∙ i.6.of_letters c.args.sender.0 c.index_mut.result.now c.requires.known in
-    open-number R x c.args.number None i.6.of_log.sound number is
+    let number = seen c.self.view_is (λ R. IsNumberOf c.args.number (open_of R c.args.sender)) c.requires.open in
+    let found = number-open _ c.args.sender c.args.number c.self.invariant.1.sound number in
+    let no = c.in-None.ensures.value ∙ c.self.invariant.1.letters.letters c.args.sender ∙ found.1.0 in
+    absurd cc
+
+pub invariant_of-self : goal.invariant_of-self
+invariant_of-self g c = let ok = inside (rec.Took c.args.number c.args.receiver) c.self.view_is c.requires.allowed in
+    let number = seen c.self.view_is (λ R. IsNumberOf c.args.number (open_of R c.args.sender)) c.requires.open in
+    let is = c.in-Some.ensures.value ∙ c.self.invariant.1.letters.letters c.args.sender in
+    let taken = opened _ c.args.sender c.args.number c.in-Some.letter c.self.invariant.1.sound number (sym is) in
+    let there = thread-there _ c.self.inside.threads c.args.receiver c.self.invariant.1.sound c.self.invariant.1.threads ok.0 in
+    let mails = rw c.mail_of.ensures at c.set_mail.ensures.mails there in (
+      omega (arith, c.self.invariant.0, c.note.ensures.capacity),
+      follows (rec.Took c.args.number c.args.receiver) _ _ _ _ _ _ c.note.ensures.items (inside-room c.self.view_is c.requires.room) (inside (rec.Took c.args.number c.args.receiver) c.self.view_is c.requires.allowed) tt
+          (record { threads = (c.in-Some.letter, (taken.letter, record { made = c.set_mail.ensures.made; rows = c.set_mail.ensures.rows; mails = mails })); letters = (c.in-Some.letter, (taken.kept, taken.number, record { places = c.in-Some.ensures.places; letters = rw taken.sender c.in-Some.ensures.kept })); contexts = refl; queues = refl; replies = refl; slots = refl; sent = refl }) c.self.invariant.1,
+    )

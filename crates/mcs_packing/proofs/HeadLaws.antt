@@ -1,0 +1,124 @@
+-- What is added to an arena leaves earlier heads as they were.
+use Rattle.std.proofs.Common.{◌≡◌, ℕ, zero, suc, Some, None, slice_get, ◌<◌, ◌+◌, List, [], ◌∷◌, ◌++◌, length, refl, ap, arith, length-append}
+use Rattle.mcs_packing.specs.declared.heads.Head.{Head}
+use Rattle.mcs_packing.specs.declared.entries.PackedEntry.{PackedEntry}
+use Rattle.mcs_packing.specs.declared.entries.PackedEntry.TheVariants.{Send, NbSend, Call, Recv, NbRecv, Wait, NbWait, ReplyRecv, Signal, SetPriority, Suspend, Resume, BindNtfn, UnbindNtfn, BindCtx, UnbindCtx, CancelBadged, CopyCap, MintCap, MoveCap, DeleteCap, MakeEndpoint, MakeNotification, MakeReply, MakeContext}
+use Rattle.mcs_packing.specs.declared.heads.PackedAnswer.{PackedAnswer}
+use Rattle.mcs_packing.specs.declared.heads.PackedAnswer.TheVariants.{Done, Got, Heard, Empty, Waits, Refused}
+use Rattle.mcs_packing.specs.Packing.{GrowsBy}
+use Rattle.mcs_packing.specs.Entries.{EntryFits, entry_of}
+use Rattle.mcs_packing.specs.Heads.{answer_of, entered_of, all_entered, AnswerFits, HeadFits, AllHeadsFit}
+use Rattle.mcs_packing.proofs.Packings.{word_at-grows, content_at-grows, IsMessageAt-grows}
+
+-- an entry
+pub entry_of-grows : (e : PackedEntry) (ws more : List ℕ) → EntryFits e ws → entry_of e (ws ++ more) ≡ entry_of e ws
+entry_of-grows (Send len at cap) ws more h = rw (content_at-grows ws more at len h) refl
+entry_of-grows (NbSend len at cap) ws more h = rw (content_at-grows ws more at len h) refl
+entry_of-grows (Call len at cap) ws more h = rw (content_at-grows ws more at len h) refl
+entry_of-grows (Recv _ _) ws more h = refl
+entry_of-grows (NbRecv _ _) ws more h = refl
+entry_of-grows (Wait _) ws more h = refl
+entry_of-grows (NbWait _) ws more h = refl
+entry_of-grows (ReplyRecv len at cap reply) ws more h = rw (content_at-grows ws more at len h) refl
+entry_of-grows (Signal _) ws more h = refl
+entry_of-grows (SetPriority _ _ _) ws more h = refl
+entry_of-grows (Suspend _) ws more h = refl
+entry_of-grows (Resume _) ws more h = refl
+entry_of-grows (BindNtfn _ _) ws more h = refl
+entry_of-grows (UnbindNtfn _) ws more h = refl
+entry_of-grows (BindCtx _ _) ws more h = refl
+entry_of-grows (UnbindCtx _) ws more h = refl
+entry_of-grows (CancelBadged _) ws more h = refl
+entry_of-grows (CopyCap _ _ _ _ _) ws more h = refl
+entry_of-grows (MintCap source_depth dest_depth rights at source dest) ws more h = rw (word_at-grows ws more at h) refl
+entry_of-grows (MoveCap _ _ _ _) ws more h = refl
+entry_of-grows (DeleteCap _ _) ws more h = refl
+entry_of-grows (MakeEndpoint _ _) ws more h = refl
+entry_of-grows (MakeNotification _ _) ws more h = refl
+entry_of-grows (MakeReply _ _) ws more h = refl
+entry_of-grows (MakeContext _ _) ws more h = refl
+
+pub EntryFits-grows : (e : PackedEntry) (ws more : List ℕ) → EntryFits e ws → EntryFits e (ws ++ more)
+EntryFits-grows (Send len at cap) ws more h = IsMessageAt-grows ws more at len h
+EntryFits-grows (NbSend len at cap) ws more h = IsMessageAt-grows ws more at len h
+EntryFits-grows (Call len at cap) ws more h = IsMessageAt-grows ws more at len h
+EntryFits-grows (Recv _ _) ws more h = h
+EntryFits-grows (NbRecv _ _) ws more h = h
+EntryFits-grows (Wait _) ws more h = h
+EntryFits-grows (NbWait _) ws more h = h
+EntryFits-grows (ReplyRecv len at cap reply) ws more h = IsMessageAt-grows ws more at len h
+EntryFits-grows (Signal _) ws more h = h
+EntryFits-grows (SetPriority _ _ _) ws more h = h
+EntryFits-grows (Suspend _) ws more h = h
+EntryFits-grows (Resume _) ws more h = h
+EntryFits-grows (BindNtfn _ _) ws more h = h
+EntryFits-grows (UnbindNtfn _) ws more h = h
+EntryFits-grows (BindCtx _ _) ws more h = h
+EntryFits-grows (UnbindCtx _) ws more h = h
+EntryFits-grows (CancelBadged _) ws more h = h
+EntryFits-grows (CopyCap _ _ _ _ _) ws more h = h
+EntryFits-grows (MintCap source_depth dest_depth rights at source dest) ws more h = omega (arith, h, length-append ws more)
+EntryFits-grows (MoveCap _ _ _ _) ws more h = h
+EntryFits-grows (DeleteCap _ _) ws more h = h
+EntryFits-grows (MakeEndpoint _ _) ws more h = h
+EntryFits-grows (MakeNotification _ _) ws more h = h
+EntryFits-grows (MakeReply _ _) ws more h = h
+EntryFits-grows (MakeContext _ _) ws more h = h
+
+-- an answer
+pub answer_of-grows : (a : PackedAnswer) (ws more : List ℕ) → AnswerFits a ws → answer_of a (ws ++ more) ≡ answer_of a ws
+answer_of-grows Done ws more h = refl
+answer_of-grows (Got len at) ws more h =
+    let badge : at + 1 + len < length ws = omega (arith, h.ends) in
+    rw (content_at-grows ws more at len h, word_at-grows ws more (at + 1 + len) badge) refl
+answer_of-grows (Heard at) ws more h = rw (word_at-grows ws more at h) refl
+answer_of-grows Empty ws more h = refl
+answer_of-grows Waits ws more h = refl
+answer_of-grows (Refused _) ws more h = refl
+
+pub AnswerFits-grows : (a : PackedAnswer) (ws more : List ℕ) → AnswerFits a ws → AnswerFits a (ws ++ more)
+AnswerFits-grows Done ws more h = h
+AnswerFits-grows (Got len at) ws more h = IsMessageAt-grows ws more at len h
+AnswerFits-grows (Heard at) ws more h = omega (arith, h, length-append ws more)
+AnswerFits-grows Empty ws more h = h
+AnswerFits-grows Waits ws more h = h
+AnswerFits-grows (Refused _) ws more h = h
+
+-- heads
+pub all_entered-grows : (hs : List Head) (ws vs : List ℕ) → GrowsBy ws vs → AllHeadsFit hs ws → all_entered hs vs ≡ all_entered hs ws
+all_entered-grows [] ws vs w f = refl
+all_entered-grows (h ∷ hs) ws vs w f =
+    rw (all_entered-grows hs ws vs w f.1, w.is, entry_of-grows h.entry ws w.more f.0.entry, answer_of-grows h.answer ws w.more f.0.answer) refl
+
+pub AllHeadsFit-grows : (hs : List Head) (ws vs : List ℕ) → GrowsBy ws vs → AllHeadsFit hs ws → AllHeadsFit hs vs
+AllHeadsFit-grows [] ws vs w f = f
+AllHeadsFit-grows (h ∷ hs) ws vs w f =
+    (record { entry = rw w.is (EntryFits-grows h.entry ws w.more f.0.entry); answer = rw w.is (AnswerFits-grows h.answer ws w.more f.0.answer) }, AllHeadsFit-grows hs ws vs w f.1)
+
+pub all_entered-push : (hs : List Head) (h : Head) (ws : List ℕ) → all_entered (hs ++ h ∷ []) ws ≡ all_entered hs ws ++ entered_of h ws ∷ []
+all_entered-push [] h ws = refl
+all_entered-push (j ∷ hs) h ws = ap (λ l. entered_of j ws ∷ l) (all_entered-push hs h ws)
+
+pub AllHeadsFit-push : (hs : List Head) (h : Head) (ws : List ℕ) → AllHeadsFit hs ws → HeadFits h ws → AllHeadsFit (hs ++ h ∷ []) ws
+AllHeadsFit-push [] h ws f g = (g, f)
+AllHeadsFit-push (j ∷ hs) h ws f g = (f.0, AllHeadsFit-push hs h ws f.1 g)
+
+-- one of the heads
+pub slice_get-heads : (hs : List Head) (ws : List ℕ) (i : ℕ) (h : Head) → slice_get hs i ≡ Some h → slice_get (all_entered hs ws) i ≡ Some (entered_of h ws)
+slice_get-heads [] ws i h at = absurd cc
+slice_get-heads (j ∷ hs) ws zero h at = let it : j ≡ h = cc in ap (λ k. Some (entered_of k ws)) it
+slice_get-heads (j ∷ hs) ws (suc i) h at = slice_get-heads hs ws i h at
+
+pub slice_get-heads_none : (hs : List Head) (ws : List ℕ) (i : ℕ) → slice_get hs i ≡ None → slice_get (all_entered hs ws) i ≡ None
+slice_get-heads_none [] ws i at = refl
+slice_get-heads_none (j ∷ hs) ws zero at = absurd cc
+slice_get-heads_none (j ∷ hs) ws (suc i) at = slice_get-heads_none hs ws i at
+
+pub HeadFits-at : (hs : List Head) (ws : List ℕ) (i : ℕ) (h : Head) → slice_get hs i ≡ Some h → AllHeadsFit hs ws → HeadFits h ws
+HeadFits-at [] ws i h at f = absurd cc
+HeadFits-at (j ∷ hs) ws zero h at f = let it : j ≡ h = cc in rw (← it) f.0
+HeadFits-at (j ∷ hs) ws (suc i) h at f = HeadFits-at hs ws i h at f.1
+
+pub length-heads : (hs : List Head) (ws : List ℕ) → length (all_entered hs ws) ≡ length hs
+length-heads [] ws = refl
+length-heads (h ∷ hs) ws = ap (λ n. suc n) (length-heads hs ws)

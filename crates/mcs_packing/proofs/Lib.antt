@@ -1,0 +1,2 @@
+pub mod Packings
+pub mod HeadLaws

@@ -1,0 +1,180 @@
+-- What is added to an arena leaves earlier unpackings as they were.
+use Rattle.std.proofs.Common.{◌≡◌, ◌∙◌, ℕ, zero, suc, Some, None, slice_get, ◌<◌, ◌≤◌, ◌+◌, List, [], ◌∷◌, ◌++◌, length, take, drop, refl, sym, ap, arith, length-drop, length-append, append-nil, append_assoc, drop_at}
+use Rattle.std.proofs.Math.Seq.{take-length}
+use Rattle.std.proofs.lemmas.List.{take-append-le, drop-append-le, get_or_append_left, get_or_at}
+use Rattle.mcs_types.specs.declared.record.Rec.{Rec}
+use Rattle.mcs_packing.specs.declared.arena.Arena.{Arena}
+use Rattle.mcs_packing.specs.declared.packed.Packed.{Packed}
+use Rattle.mcs_packing.specs.declared.packed.Packed.TheVariants.{Made, MadeOn, Closed, Emptied, Filled, FilledBadged, FilledGuarded, Prio, Turns, Joins, JoinsWith, Parts, Sent, Took, Dropped, Owes, OwesWith, Paid, Void, Held, Unheld, Raised, Heard, Tied, Untied, Wide}
+use Rattle.mcs_packing.specs.Packing.{word_at, content_at, record_of, records_of, IsMessageAt, Fits, AllFit, GrowsBy, Grew, no_record}
+
+-- a word
+pub word_at-grows : (ws more : List ℕ) (at : ℕ) → at < length ws → word_at (ws ++ more) at ≡ word_at ws at
+word_at-grows ws more at h = get_or_append_left ws more 0 at h
+
+-- a message
+pub content_at-grows : (ws more : List ℕ) (at len : ℕ) → IsMessageAt ws at len → content_at (ws ++ more) at len ≡ content_at ws at len
+content_at-grows ws more at len h =
+    let start : at + 1 ≤ length ws = omega (arith, h.ends) in
+    let end : len ≤ length (drop (at + 1) ws) = omega (arith, h.ends, length-drop (at + 1) ws) in
+    let first : at < length ws = omega (arith, h.ends) in
+    rw (word_at-grows ws more at first, drop-append-le (at + 1) ws more start, take-append-le len (drop (at + 1) ws) more end) refl
+
+pub IsMessageAt-grows : (ws more : List ℕ) (at len : ℕ) → IsMessageAt ws at len → IsMessageAt (ws ++ more) at len
+IsMessageAt-grows ws more at len h =
+    let first : at < length ws = omega (arith, h.ends) in
+    record { ends = omega (arith, h.ends, length-append ws more); label = rw (word_at-grows ws more at first) h.label; few = h.few }
+
+-- a record
+pub record_of-grows : (p : Packed) (ws more : List ℕ) (rs others : List Rec) → Fits p ws rs → record_of p (ws ++ more) (rs ++ others) ≡ record_of p ws rs
+record_of-grows (Made _ _) ws more rs others h = refl
+record_of-grows (MadeOn _ _) ws more rs others h = refl
+record_of-grows (Closed _ _) ws more rs others h = refl
+record_of-grows (Emptied _ _) ws more rs others h = refl
+record_of-grows (Filled _ _ _ _ _) ws more rs others h = refl
+record_of-grows (FilledBadged i rights k c n at) ws more rs others h = rw (word_at-grows ws more at h) refl
+record_of-grows (FilledGuarded i rights bits c n at) ws more rs others h = rw (word_at-grows ws more at h) refl
+record_of-grows (Prio _ _) ws more rs others h = refl
+record_of-grows (Turns _ _) ws more rs others h = refl
+record_of-grows (Joins _ _ _) ws more rs others h = refl
+record_of-grows (JoinsWith _ _ _ _) ws more rs others h = refl
+record_of-grows (Parts _ _ _) ws more rs others h = refl
+record_of-grows (Sent m len t e at) ws more rs others h =
+    let badge : at + 1 + len < length ws = omega (arith, h.ends) in
+    rw (content_at-grows ws more at len h, word_at-grows ws more (at + 1 + len) badge) refl
+record_of-grows (Took _ _) ws more rs others h = refl
+record_of-grows (Dropped _) ws more rs others h = refl
+record_of-grows (Owes _ _) ws more rs others h = refl
+record_of-grows (OwesWith _ _ _) ws more rs others h = refl
+record_of-grows (Paid len r t at) ws more rs others h = rw (content_at-grows ws more at len h) refl
+record_of-grows (Void _ _ _) ws more rs others h = refl
+record_of-grows (Held _ _) ws more rs others h = refl
+record_of-grows (Unheld _) ws more rs others h = refl
+record_of-grows (Raised _ _) ws more rs others h = refl
+record_of-grows (Heard t n at) ws more rs others h = rw (word_at-grows ws more at h) refl
+record_of-grows (Tied _ _) ws more rs others h = refl
+record_of-grows (Untied _) ws more rs others h = refl
+record_of-grows (Wide at) ws more rs others h = get_or_append_left rs others no_record at h
+
+pub Fits-grows : (p : Packed) (ws more : List ℕ) (rs others : List Rec) → Fits p ws rs → Fits p (ws ++ more) (rs ++ others)
+Fits-grows (Made _ _) ws more rs others h = h
+Fits-grows (MadeOn _ _) ws more rs others h = h
+Fits-grows (Closed _ _) ws more rs others h = h
+Fits-grows (Emptied _ _) ws more rs others h = h
+Fits-grows (Filled _ _ _ _ _) ws more rs others h = h
+Fits-grows (FilledBadged i rights k c n at) ws more rs others h = omega (arith, h, length-append ws more)
+Fits-grows (FilledGuarded i rights bits c n at) ws more rs others h = omega (arith, h, length-append ws more)
+Fits-grows (Prio _ _) ws more rs others h = h
+Fits-grows (Turns _ _) ws more rs others h = h
+Fits-grows (Joins _ _ _) ws more rs others h = h
+Fits-grows (JoinsWith _ _ _ _) ws more rs others h = h
+Fits-grows (Parts _ _ _) ws more rs others h = h
+Fits-grows (Sent m len t e at) ws more rs others h = IsMessageAt-grows ws more at len h
+Fits-grows (Took _ _) ws more rs others h = h
+Fits-grows (Dropped _) ws more rs others h = h
+Fits-grows (Owes _ _) ws more rs others h = h
+Fits-grows (OwesWith _ _ _) ws more rs others h = h
+Fits-grows (Paid len r t at) ws more rs others h = IsMessageAt-grows ws more at len h
+Fits-grows (Void _ _ _) ws more rs others h = h
+Fits-grows (Held _ _) ws more rs others h = h
+Fits-grows (Unheld _) ws more rs others h = h
+Fits-grows (Raised _ _) ws more rs others h = h
+Fits-grows (Heard t n at) ws more rs others h = omega (arith, h, length-append ws more)
+Fits-grows (Tied _ _) ws more rs others h = h
+Fits-grows (Untied _) ws more rs others h = h
+Fits-grows (Wide at) ws more rs others h = omega (arith, h, length-append rs others)
+
+-- many records
+pub records_of-grows : (ps : List Packed) (ws vs : List ℕ) (rs qs : List Rec) → GrowsBy ws vs → GrowsBy rs qs → AllFit ps ws rs → records_of ps vs qs ≡ records_of ps ws rs
+records_of-grows [] ws vs rs qs w r h = refl
+records_of-grows (p ∷ ps) ws vs rs qs w r h =
+    rw (records_of-grows ps ws vs rs qs w r h.1, w.is, r.is, record_of-grows p ws w.more rs r.more h.0) refl
+
+pub AllFit-grows : (ps : List Packed) (ws vs : List ℕ) (rs qs : List Rec) → GrowsBy ws vs → GrowsBy rs qs → AllFit ps ws rs → AllFit ps vs qs
+AllFit-grows [] ws vs rs qs w r h = h
+AllFit-grows (p ∷ ps) ws vs rs qs w r h =
+    (rw (w.is, r.is) (Fits-grows p ws w.more rs r.more h.0), AllFit-grows ps ws vs rs qs w r h.1)
+
+-- one record more
+pub records_of-push : (ps : List Packed) (p : Packed) (ws : List ℕ) (rs : List Rec) → records_of (ps ++ p ∷ []) ws rs ≡ records_of ps ws rs ++ record_of p ws rs ∷ []
+records_of-push [] p ws rs = refl
+records_of-push (q ∷ ps) p ws rs = ap (λ l. record_of q ws rs ∷ l) (records_of-push ps p ws rs)
+
+pub AllFit-push : (ps : List Packed) (p : Packed) (ws : List ℕ) (rs : List Rec) → AllFit ps ws rs → Fits p ws rs → AllFit (ps ++ p ∷ []) ws rs
+AllFit-push [] p ws rs h f = (f, h)
+AllFit-push (q ∷ ps) p ws rs h f = (h.0, AllFit-push ps p ws rs h.1 f)
+
+-- nothing more
+pub GrowsBy-self : {X : Type 0} (xs : List X) → GrowsBy xs xs
+GrowsBy-self xs = record { more = []; is = sym (append-nil xs) }
+
+pub GrowsBy-then : {X : Type 0} (xs ys zs : List X) → GrowsBy xs ys → GrowsBy ys zs → GrowsBy xs zs
+GrowsBy-then xs ys zs g h = record { more = g.more ++ h.more; is = h.is ∙ ap (λ l. l ++ h.more) g.is ∙ append_assoc xs g.more h.more }
+
+-- a packed record that needs nothing of an arena is the same over any
+pub small_anywhere : (p : Packed) (ws : List ℕ) (rs : List Rec) → Fits p [] [] → (record_of p ws rs ≡ record_of p [] []) × Fits p ws rs
+small_anywhere p ws rs h = (record_of-grows p [] ws [] rs h, Fits-grows p [] ws [] rs h)
+
+pub Grew-self : (a : Arena) → Grew a a
+Grew-self a = record {
+  words = GrowsBy-self a.words.items;
+  wide = GrowsBy-self a.wide.items;
+  room = λ n h. record { words = omega (arith, h.words); named = omega (arith, h.named); wide = omega (arith, h.wide); named_wide = omega (arith, h.named_wide) };
+}
+
+-- a block of words that was just added
+pub content_at-block : (ws us : List ℕ) (label badge : ℕ) → content_at (((ws ++ label ∷ []) ++ us) ++ badge ∷ []) (length ws) (length us) ≡ record { label = label; words = us }
+content_at-block ws us label badge =
+    let long : length (ws ++ label ∷ []) ≡ length ws + 1 = length-append ws (label ∷ []) in
+    let first : word_at (ws ++ label ∷ (us ++ badge ∷ [])) (length ws) ≡ label = get_or_at ws label (us ++ badge ∷ []) 0 (length ws) refl in
+    let rest : drop (length ws + 1) ((ws ++ label ∷ []) ++ (us ++ badge ∷ [])) ≡ us ++ badge ∷ [] = drop_at (ws ++ label ∷ []) (us ++ badge ∷ []) (length ws + 1) long in
+    let front : take (length us) (us ++ badge ∷ []) ≡ us = take-append-le (length us) us (badge ∷ []) (omega arith) ∙ take-length us in
+    let one : ((ws ++ label ∷ []) ++ us) ++ badge ∷ [] ≡ (ws ++ label ∷ []) ++ (us ++ badge ∷ []) = append_assoc (ws ++ label ∷ []) us (badge ∷ []) in
+    let two : (ws ++ label ∷ []) ++ (us ++ badge ∷ []) ≡ ws ++ label ∷ (us ++ badge ∷ []) = append_assoc ws (label ∷ []) (us ++ badge ∷ []) in
+    let words : take (length us) (drop (length ws + 1) (((ws ++ label ∷ []) ++ us) ++ badge ∷ [])) ≡ us = ap (λ l. take (length us) (drop (length ws + 1) l)) one ∙ ap (take (length us)) rest ∙ front in
+    let head : word_at (((ws ++ label ∷ []) ++ us) ++ badge ∷ []) (length ws) ≡ label = ap (λ l. word_at l (length ws)) (one ∙ two) ∙ first in
+    rw (words, head) refl
+
+pub badge-block : (ws us : List ℕ) (label badge : ℕ) → word_at (((ws ++ label ∷ []) ++ us) ++ badge ∷ []) (length ws + 1 + length us) ≡ badge
+badge-block ws us label badge = get_or_at ((ws ++ label ∷ []) ++ us) badge [] 0 (length ws + 1 + length us) (length-append (ws ++ label ∷ []) us ∙ ap (λ n. n + length us) (length-append ws (label ∷ [])))
+
+-- one of the records
+pub slice_get-record_of : (ps : List Packed) (ws : List ℕ) (rs : List Rec) (i : ℕ) (p : Packed) → slice_get ps i ≡ Some p → slice_get (records_of ps ws rs) i ≡ Some (record_of p ws rs)
+slice_get-record_of [] ws rs i p at = absurd cc
+slice_get-record_of (q ∷ ps) ws rs zero p at = let it : q ≡ p = cc in ap (λ k. Some (record_of k ws rs)) it
+slice_get-record_of (q ∷ ps) ws rs (suc i) p at = slice_get-record_of ps ws rs i p at
+
+pub slice_get-unpacked_none : (ps : List Packed) (ws : List ℕ) (rs : List Rec) (i : ℕ) → slice_get ps i ≡ None → slice_get (records_of ps ws rs) i ≡ None
+slice_get-unpacked_none [] ws rs i at = refl
+slice_get-unpacked_none (q ∷ ps) ws rs zero at = absurd cc
+slice_get-unpacked_none (q ∷ ps) ws rs (suc i) at = slice_get-unpacked_none ps ws rs i at
+
+pub Fits-at : (ps : List Packed) (ws : List ℕ) (rs : List Rec) (i : ℕ) (p : Packed) → slice_get ps i ≡ Some p → AllFit ps ws rs → Fits p ws rs
+Fits-at [] ws rs i p at f = absurd cc
+Fits-at (q ∷ ps) ws rs zero p at f = let it : q ≡ p = cc in rw (← it) f.0
+Fits-at (q ∷ ps) ws rs (suc i) p at f = Fits-at ps ws rs i p at f.1
+
+pub length-record_of : (ps : List Packed) (ws : List ℕ) (rs : List Rec) → length (records_of ps ws rs) ≡ length ps
+length-record_of [] ws rs = refl
+length-record_of (p ∷ ps) ws rs = ap (λ n. suc n) (length-record_of ps ws rs)
+
+-- a part of the records
+pub take-record_of : (n : ℕ) (ps : List Packed) (ws : List ℕ) (rs : List Rec) → take n (records_of ps ws rs) ≡ records_of (take n ps) ws rs
+take-record_of zero ps ws rs = refl
+take-record_of (suc n) [] ws rs = refl
+take-record_of (suc n) (p ∷ ps) ws rs = ap (λ l. record_of p ws rs ∷ l) (take-record_of n ps ws rs)
+
+pub drop-record_of : (n : ℕ) (ps : List Packed) (ws : List ℕ) (rs : List Rec) → drop n (records_of ps ws rs) ≡ records_of (drop n ps) ws rs
+drop-record_of zero ps ws rs = refl
+drop-record_of (suc n) [] ws rs = refl
+drop-record_of (suc n) (p ∷ ps) ws rs = drop-record_of n ps ws rs
+
+pub AllFit-take : (n : ℕ) (ps : List Packed) (ws : List ℕ) (rs : List Rec) → AllFit ps ws rs → AllFit (take n ps) ws rs
+AllFit-take zero ps ws rs f = tt
+AllFit-take (suc n) [] ws rs f = tt
+AllFit-take (suc n) (p ∷ ps) ws rs f = (f.0, AllFit-take n ps ws rs f.1)
+
+pub AllFit-drop : (n : ℕ) (ps : List Packed) (ws : List ℕ) (rs : List Rec) → AllFit ps ws rs → AllFit (drop n ps) ws rs
+AllFit-drop zero ps ws rs f = f
+AllFit-drop (suc n) [] ws rs f = f
+AllFit-drop (suc n) (p ∷ ps) ws rs f = AllFit-drop n ps ws rs f.1

@@ -1,0 +1,8 @@
+use Rattle.mcs_packing.proofs.HeadLaws.{entry_of-grows, EntryFits-grows}
+use Rattle.mcs_packing.proofs.laws.entries_kept.Goals as goal
+
+pub returns-clause-value : goal.returns-clause-value
+returns-clause-value g c = rw c.requires.1.words.is (entry_of-grows g.at.0 g.at.1.words.items c.requires.1.words.more c.requires.0)
+
+pub returns-clause-fits : goal.returns-clause-fits
+returns-clause-fits g c = rw c.requires.1.words.is (EntryFits-grows g.at.0 g.at.1.words.items c.requires.1.words.more c.requires.0)

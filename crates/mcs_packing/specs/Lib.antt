@@ -1,0 +1,4 @@
+pub mod Packing
+pub mod Copies
+pub mod Entries
+pub mod Heads

@@ -1,0 +1,18 @@
+//! Records, entries and answers in few bytes: what names objects in 16 or 24 bytes, and the words of messages in one
+//! list that only grows.
+#![tactic(auto)]
+
+mod arena;
+mod copying;
+mod entries;
+mod heads;
+mod laws;
+mod packed;
+mod unpacking;
+
+pub use arena::Arena;
+pub use entries::{PackedEntry, unpack_entry};
+pub use heads::{Head, PackedAnswer, unpack_answer};
+pub use laws::{answers_kept, entries_kept, records_kept};
+pub use packed::{Packed, Side};
+pub use unpacking::unpack;

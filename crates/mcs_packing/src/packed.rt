@@ -1,0 +1,610 @@
+//! Records in 16 bytes each: objects by their serials, the words of messages by their place.
+ghost use Rattle.std.specs.Prelude.{◌≡◌, [], IfSome, IfNone};
+ghost use Rattle.mcs_packing.specs.Packing.{Fits, FitsIn, Grew, HasRoom, MayFit, MayStandFor, line_of, record_in, record_of};
+
+use crate::arena::{Arena, length_of};
+use mcs_types::{
+    Badge, Cap, CoreId, Ending, Form, Kind, Message, Mode, ObjId, Prio, Queue, Rec, Rights,
+    SendMode,
+};
+
+/// Which line of an object.
+#[derive(Clone, Copy, PartialEq, Eq, Debug)]
+pub enum Side {
+    Senders,
+    Receivers,
+    Waiters,
+}
+
+/// A record, packed: an object whose kind the record tells is its serial, and `at` is a place among the words.
+#[derive(Clone, Copy, PartialEq, Eq, Debug)]
+pub enum Packed {
+    /// An object that keeps nothing was made.
+    Made {
+        kind: Kind,
+        serial: u32,
+    },
+    /// A scheduling context of a core was made.
+    MadeOn {
+        core: CoreId,
+        context: u32,
+    },
+    Closed {
+        kind: Kind,
+        serial: u32,
+    },
+    /// A slot holds no capability now.
+    Emptied {
+        index: u8,
+        cnode: u32,
+    },
+    /// A slot holds a capability without a badge and a guard.
+    Filled {
+        index: u8,
+        rights: Rights,
+        kind: Kind,
+        cnode: u32,
+        serial: u32,
+    },
+    /// A slot holds a capability with a badge, which stands among the words.
+    FilledBadged {
+        index: u8,
+        rights: Rights,
+        kind: Kind,
+        cnode: u32,
+        serial: u32,
+        at: u32,
+    },
+    /// A slot holds a capability to a CNode with a guard of so many bits, whose value stands among the words.
+    FilledGuarded {
+        index: u8,
+        rights: Rights,
+        bits: u8,
+        cnode: u32,
+        serial: u32,
+        at: u32,
+    },
+    Prio {
+        priority: Prio,
+        thread: u32,
+    },
+    Turns {
+        mode: Mode,
+        thread: u32,
+    },
+    Joins {
+        side: Side,
+        thread: u32,
+        object: u32,
+    },
+    /// A thread stands in a line with a reply object.
+    JoinsWith {
+        side: Side,
+        thread: u32,
+        object: u32,
+        reply: u32,
+    },
+    Parts {
+        side: Side,
+        thread: u32,
+        object: u32,
+    },
+    Sent {
+        mode: SendMode,
+        len: u8,
+        sender: u32,
+        endpoint: u32,
+        at: u32,
+    },
+    Took {
+        message: u32,
+        thread: u32,
+    },
+    Dropped {
+        message: u32,
+    },
+    /// A reply object owes a caller that brought no context.
+    Owes {
+        reply: u32,
+        caller: u32,
+    },
+    /// A reply object owes a caller that brought a context.
+    OwesWith {
+        reply: u32,
+        caller: u32,
+        context: u32,
+    },
+    Paid {
+        len: u8,
+        reply: u32,
+        caller: u32,
+        at: u32,
+    },
+    Void {
+        ending: Ending,
+        reply: u32,
+        caller: u32,
+    },
+    Held {
+        context: u32,
+        thread: u32,
+    },
+    /// Nobody holds a context now.
+    Unheld {
+        context: u32,
+    },
+    Raised {
+        notification: u32,
+        badge: Badge,
+    },
+    Heard {
+        thread: u32,
+        notification: u32,
+        at: u32,
+    },
+    Tied {
+        thread: u32,
+        notification: u32,
+    },
+    /// A thread is bound to no notification now.
+    Untied {
+        thread: u32,
+    },
+    /// One that none of these fits, at a place among the wide ones.
+    Wide {
+        at: u32,
+    },
+}
+
+const _: () = prove!(size_of::<Packed>() == 16);
+
+/// The serial of an object of a kind.
+fn serial_of(id: &ObjId, kind: Kind) -> Option<u32>
+    ensures { IfSome result (λ n. id.now ≡ record { kind = kind; serial = n }) }
+{
+    if id.kind.is_same(kind) {
+        Some(id.serial)
+    } else {
+        None
+    }
+}
+
+/// The side of a line, and the serial of its object.
+fn side_of(queue: &Queue) -> Option<(Side, u32)>
+    ensures { IfSome result (λ s. queue.now ≡ line_of s.0 s.1) }
+{
+    Some(match queue {
+        Queue::Senders(id) => (Side::Senders, serial_of(id, Kind::Endpoint)?),
+        Queue::Receivers(id) => (Side::Receivers, serial_of(id, Kind::Endpoint)?),
+        Queue::Waiters(id) => (Side::Waiters, serial_of(id, Kind::Notification)?),
+    })
+}
+
+/// Packs what was made and what ended.
+fn pack_object(fact: &Rec) -> Option<Packed>
+    ensures value { IfSome result (λ p. record_of p [] [] ≡ fact.now) }
+    ensures fits { IfSome result (λ p. Fits p [] []) }
+{
+    match fact {
+        Rec::Made {
+            object,
+            form: Form::Plain,
+        } => Some(Packed::Made {
+            kind: object.kind,
+            serial: object.serial,
+        }),
+        Rec::Made {
+            object,
+            form: Form::OnCore { core },
+        } => Some(Packed::MadeOn {
+            core: *core,
+            context: serial_of(object, Kind::Context)?,
+        }),
+        Rec::Closed { object } => Some(Packed::Closed {
+            kind: object.kind,
+            serial: object.serial,
+        }),
+        _ => None,
+    }
+}
+
+/// Packs how a thread stands in a line.
+fn pack_joins(fact: &Rec) -> Option<Packed>
+    ensures value { IfSome result (λ p. record_of p [] [] ≡ fact.now) }
+    ensures fits { IfSome result (λ p. Fits p [] []) }
+{
+    let Rec::Joins {
+        thread,
+        queue,
+        reply,
+    } = fact
+    else {
+        return None;
+    };
+    let thread = serial_of(thread, Kind::Thread)?;
+    let (side, object) = side_of(queue)?;
+    Some(match reply {
+        None => Packed::Joins {
+            side,
+            thread,
+            object,
+        },
+        Some(reply) => Packed::JoinsWith {
+            side,
+            thread,
+            object,
+            reply: serial_of(reply, Kind::Reply)?,
+        },
+    })
+}
+
+/// Packs how a thread runs and where it stands.
+fn pack_thread(fact: &Rec) -> Option<Packed>
+    ensures value { IfSome result (λ p. record_of p [] [] ≡ fact.now) }
+    ensures fits { IfSome result (λ p. Fits p [] []) }
+{
+    Some(match fact {
+        Rec::Prio { thread, priority } => Packed::Prio {
+            priority: *priority,
+            thread: serial_of(thread, Kind::Thread)?,
+        },
+        Rec::Turns { thread, mode } => Packed::Turns {
+            mode: *mode,
+            thread: serial_of(thread, Kind::Thread)?,
+        },
+        Rec::Joins { .. } => return pack_joins(fact),
+        Rec::Parts { thread, queue } => {
+            let (side, object) = side_of(queue)?;
+            Packed::Parts {
+                side,
+                thread: serial_of(thread, Kind::Thread)?,
+                object,
+            }
+        }
+        _ => return None,
+    })
+}
+
+/// Packs what a reply object owes.
+fn pack_owes(fact: &Rec) -> Option<Packed>
+    ensures value { IfSome result (λ p. record_of p [] [] ≡ fact.now) }
+    ensures fits { IfSome result (λ p. Fits p [] []) }
+{
+    let Rec::Owes {
+        reply,
+        caller,
+        context,
+    } = fact
+    else {
+        return None;
+    };
+    let reply = serial_of(reply, Kind::Reply)?;
+    let caller = serial_of(caller, Kind::Thread)?;
+    Some(match context {
+        None => Packed::Owes { reply, caller },
+        Some(context) => Packed::OwesWith {
+            reply,
+            caller,
+            context: serial_of(context, Kind::Context)?,
+        },
+    })
+}
+
+/// Packs what became of a message, and of the debt for it.
+fn pack_debt(fact: &Rec) -> Option<Packed>
+    ensures value { IfSome result (λ p. record_of p [] [] ≡ fact.now) }
+    ensures fits { IfSome result (λ p. Fits p [] []) }
+{
+    Some(match fact {
+        Rec::Took { message, thread } => Packed::Took {
+            message: *message,
+            thread: serial_of(thread, Kind::Thread)?,
+        },
+        Rec::Dropped { message } => Packed::Dropped { message: *message },
+        Rec::Owes { .. } => return pack_owes(fact),
+        Rec::Void {
+            reply,
+            caller,
+            ending,
+        } => Packed::Void {
+            ending: *ending,
+            reply: serial_of(reply, Kind::Reply)?,
+            caller: serial_of(caller, Kind::Thread)?,
+        },
+        _ => return None,
+    })
+}
+
+/// Packs who holds a context.
+fn pack_holds(fact: &Rec) -> Option<Packed>
+    ensures value { IfSome result (λ p. record_of p [] [] ≡ fact.now) }
+    ensures fits { IfSome result (λ p. Fits p [] []) }
+{
+    let Rec::Holds { context, thread } = fact else {
+        return None;
+    };
+    let context = serial_of(context, Kind::Context)?;
+    Some(match thread {
+        None => Packed::Unheld { context },
+        Some(thread) => Packed::Held {
+            context,
+            thread: serial_of(thread, Kind::Thread)?,
+        },
+    })
+}
+
+/// Packs which notification a thread is bound to.
+fn pack_tied(fact: &Rec) -> Option<Packed>
+    ensures value { IfSome result (λ p. record_of p [] [] ≡ fact.now) }
+    ensures fits { IfSome result (λ p. Fits p [] []) }
+{
+    let Rec::Tied {
+        thread,
+        notification,
+    } = fact
+    else {
+        return None;
+    };
+    let thread = serial_of(thread, Kind::Thread)?;
+    Some(match notification {
+        None => Packed::Untied { thread },
+        Some(notification) => Packed::Tied {
+            thread,
+            notification: serial_of(notification, Kind::Notification)?,
+        },
+    })
+}
+
+/// Packs who holds a context, is bound to a notification, and what was signalled.
+fn pack_bond(fact: &Rec) -> Option<Packed>
+    ensures value { IfSome result (λ p. record_of p [] [] ≡ fact.now) }
+    ensures fits { IfSome result (λ p. Fits p [] []) }
+{
+    match fact {
+        Rec::Holds { .. } => pack_holds(fact),
+        Rec::Raised {
+            notification,
+            badge,
+        } => Some(Packed::Raised {
+            notification: serial_of(notification, Kind::Notification)?,
+            badge: *badge,
+        }),
+        Rec::Tied { .. } => pack_tied(fact),
+        _ => None,
+    }
+}
+
+/// Packs a slot without a capability, or with one that has no badge and no guard.
+fn pack_filled(fact: &Rec) -> Option<Packed>
+    ensures value { IfSome result (λ p. record_of p [] [] ≡ fact.now) }
+    ensures fits { IfSome result (λ p. Fits p [] []) }
+{
+    let Rec::Slot { cnode, index, cap } = fact else {
+        return None;
+    };
+    let cnode = serial_of(cnode, Kind::CNode)?;
+    match cap {
+        None => Some(Packed::Emptied {
+            index: *index,
+            cnode,
+        }),
+        Some(cap) => {
+            if cap.badge.0 == 0 && cap.guard.bits == 0 && cap.guard.value == 0 {
+                Some(Packed::Filled {
+                    index: *index,
+                    rights: cap.rights,
+                    kind: cap.obj.kind,
+                    cnode,
+                    serial: cap.obj.serial,
+                })
+            } else {
+                None
+            }
+        }
+    }
+}
+
+/// Packs a record that needs no words.
+fn pack_small(fact: &Rec) -> Option<Packed>
+    ensures value { IfSome result (λ p. record_of p [] [] ≡ fact.now) }
+    ensures fits { IfSome result (λ p. Fits p [] []) }
+{
+    match fact {
+        Rec::Made { .. } | Rec::Closed { .. } => pack_object(fact),
+        Rec::Slot { .. } => pack_filled(fact),
+        Rec::Prio { .. } | Rec::Turns { .. } | Rec::Joins { .. } | Rec::Parts { .. } => {
+            pack_thread(fact)
+        }
+        Rec::Took { .. } | Rec::Dropped { .. } | Rec::Owes { .. } | Rec::Void { .. } => {
+            pack_debt(fact)
+        }
+        Rec::Holds { .. } | Rec::Raised { .. } | Rec::Tied { .. } => pack_bond(fact),
+        _ => None,
+    }
+}
+
+impl Arena {
+    /// Packs a message that was sent.
+    fn pack_sent(&mut self, fact: &Rec) -> Option<Packed>
+        requires { HasRoom self.old 1 }
+        ensures value { MayStandFor result self.new fact.now }
+        ensures fits { MayFit result self.new }
+        ensures grew { Grew self.old self.new }
+        ensures unchanged { IfNone result (self.new ≡ self.old) }
+    {
+        let Rec::Sent {
+            sender,
+            endpoint,
+            mode,
+            badge,
+            message,
+        } = fact
+        else {
+            return None;
+        };
+        let sender = serial_of(sender, Kind::Thread)?;
+        let endpoint = serial_of(endpoint, Kind::Endpoint)?;
+        let len = length_of(message);
+        let at = self.keep(message, *badge);
+        Some(Packed::Sent {
+            mode: *mode,
+            len,
+            sender,
+            endpoint,
+            at,
+        })
+    }
+
+    /// Packs an answer to a caller.
+    fn pack_paid(&mut self, fact: &Rec) -> Option<Packed>
+        requires { HasRoom self.old 1 }
+        ensures value { MayStandFor result self.new fact.now }
+        ensures fits { MayFit result self.new }
+        ensures grew { Grew self.old self.new }
+        ensures unchanged { IfNone result (self.new ≡ self.old) }
+    {
+        let Rec::Paid {
+            reply,
+            caller,
+            message,
+        } = fact
+        else {
+            return None;
+        };
+        let reply = serial_of(reply, Kind::Reply)?;
+        let caller = serial_of(caller, Kind::Thread)?;
+        let len = length_of(message);
+        let at = self.keep(message, Badge(0));
+        Some(Packed::Paid {
+            len,
+            reply,
+            caller,
+            at,
+        })
+    }
+
+    /// Packs a word that was heard.
+    fn pack_heard(&mut self, fact: &Rec) -> Option<Packed>
+        requires { HasRoom self.old 1 }
+        ensures value { MayStandFor result self.new fact.now }
+        ensures fits { MayFit result self.new }
+        ensures grew { Grew self.old self.new }
+        ensures unchanged { IfNone result (self.new ≡ self.old) }
+    {
+        let Rec::Heard {
+            thread,
+            notification,
+            word,
+        } = fact
+        else {
+            return None;
+        };
+        let thread = serial_of(thread, Kind::Thread)?;
+        let notification = serial_of(notification, Kind::Notification)?;
+        let at = self.keep_word(*word);
+        Some(Packed::Heard {
+            thread,
+            notification,
+            at,
+        })
+    }
+
+    /// Packs a slot with a capability that has a badge and no guard.
+    fn pack_badged(&mut self, fact: &Rec) -> Option<Packed>
+        requires { HasRoom self.old 1 }
+        ensures value { MayStandFor result self.new fact.now }
+        ensures fits { MayFit result self.new }
+        ensures grew { Grew self.old self.new }
+        ensures unchanged { IfNone result (self.new ≡ self.old) }
+    {
+        let Rec::Slot {
+            cnode,
+            index,
+            cap: Some(cap),
+        } = fact
+        else {
+            return None;
+        };
+        let cnode = serial_of(cnode, Kind::CNode)?;
+        if cap.guard.bits != 0 || cap.guard.value != 0 {
+            return None;
+        }
+        let at = self.keep_word(cap.badge.0);
+        Some(Packed::FilledBadged {
+            index: *index,
+            rights: cap.rights,
+            kind: cap.obj.kind,
+            cnode,
+            serial: cap.obj.serial,
+            at,
+        })
+    }
+
+    /// Packs a slot with a capability to a CNode that has a guard and no badge.
+    fn pack_guarded(&mut self, fact: &Rec) -> Option<Packed>
+        requires { HasRoom self.old 1 }
+        ensures value { MayStandFor result self.new fact.now }
+        ensures fits { MayFit result self.new }
+        ensures grew { Grew self.old self.new }
+        ensures unchanged { IfNone result (self.new ≡ self.old) }
+    {
+        let Rec::Slot {
+            cnode,
+            index,
+            cap: Some(cap),
+        } = fact
+        else {
+            return None;
+        };
+        let cnode = serial_of(cnode, Kind::CNode)?;
+        let serial = serial_of(&cap.obj, Kind::CNode)?;
+        if cap.badge.0 != 0 {
+            return None;
+        }
+        let at = self.keep_word(cap.guard.value);
+        Some(Packed::FilledGuarded {
+            index: *index,
+            rights: cap.rights,
+            bits: cap.guard.bits,
+            cnode,
+            serial,
+            at,
+        })
+    }
+
+    /// Packs a record that needs words.
+    fn pack_large(&mut self, fact: &Rec) -> Option<Packed>
+        requires { HasRoom self.old 1 }
+        ensures value { MayStandFor result self.new fact.now }
+        ensures fits { MayFit result self.new }
+        ensures grew { Grew self.old self.new }
+        ensures unchanged { IfNone result (self.new ≡ self.old) }
+    {
+        match fact {
+            Rec::Sent { .. } => self.pack_sent(fact),
+            Rec::Paid { .. } => self.pack_paid(fact),
+            Rec::Heard { .. } => self.pack_heard(fact),
+            Rec::Slot { .. } => match self.pack_badged(fact) {
+                Some(packed) => Some(packed),
+                None => self.pack_guarded(fact),
+            },
+            _ => None,
+        }
+    }
+
+    /// Packs a record, for which there is room. What was packed before stands for what it stood for.
+    pub fn pack(&mut self, fact: &Rec) -> Packed
+        requires { HasRoom self.old 1 }
+        ensures value { record_in result self.new ≡ fact.now }
+        ensures fits { FitsIn result self.new }
+        ensures grew { Grew self.old self.new }
+    {
+        if let Some(packed) = pack_small(fact) {
+            return packed;
+        }
+        match self.pack_large(fact) {
+            Some(packed) => packed,
+            None => self.keep_wide(fact),
+        }
+    }
+}

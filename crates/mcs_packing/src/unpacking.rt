@@ -1,0 +1,340 @@
+//! What packed records stand for.
+ghost use Rattle.std.specs.Prelude.{◌≡◌};
+ghost use Rattle.mcs_packing.specs.Packing.{Fits, IsOfBond, IsOfDebt, IsOfMessage, IsOfObject, IsOfSlot, IsOfThread, IsOfWord, guarded_cap, line_of, object, plain_cap, record_of};
+
+use crate::arena::message_at;
+use crate::copying::copy_of;
+use crate::packed::{Packed, Side};
+use mcs_types::{Badge, Cap, Form, Guard, Kind, ObjId, Queue, Rec, Rights};
+
+fn id_of(kind: Kind, serial: u32) -> ObjId
+    ensures { result ≡ object kind serial }
+{
+    ObjId { kind, serial }
+}
+
+/// The line of this side of an object.
+fn queue_of(side: Side, serial: u32) -> Queue
+    ensures { result ≡ line_of side serial }
+{
+    match side {
+        Side::Senders => Queue::Senders(id_of(Kind::Endpoint, serial)),
+        Side::Receivers => Queue::Receivers(id_of(Kind::Endpoint, serial)),
+        Side::Waiters => Queue::Waiters(id_of(Kind::Notification, serial)),
+    }
+}
+
+/// A capability without a guard.
+fn plain(obj: ObjId, rights: Rights, badge: u64) -> Cap
+    ensures { result ≡ plain_cap obj rights badge }
+{
+    Cap {
+        obj,
+        rights,
+        badge: Badge(badge),
+        guard: Guard { bits: 0, value: 0 },
+    }
+}
+
+/// A capability to a CNode with a guard.
+fn guarded(serial: u32, rights: Rights, bits: u8, value: u64) -> Cap
+    ensures { result ≡ guarded_cap serial rights bits value }
+{
+    Cap {
+        obj: id_of(Kind::CNode, serial),
+        rights,
+        badge: Badge(0),
+        guard: Guard { bits, value },
+    }
+}
+
+/// What was made and what ended.
+fn unpack_object(packed: &Packed, words: &[u64], wide: &[Rec]) -> Rec
+    requires { IsOfObject packed.now }
+    ensures { result ≡ record_of packed.now words.now wide.now }
+{
+    match packed {
+        Packed::Made { kind, serial } => Rec::Made {
+            object: id_of(*kind, *serial),
+            form: Form::Plain,
+        },
+        Packed::MadeOn { core, context } => Rec::Made {
+            object: id_of(Kind::Context, *context),
+            form: Form::OnCore { core: *core },
+        },
+        Packed::Closed { kind, serial } => Rec::Closed {
+            object: id_of(*kind, *serial),
+        },
+        _ => unreachable!(),
+    }
+}
+
+/// A slot without a capability, or with one that has no badge and no guard.
+fn unpack_slot(packed: &Packed, words: &[u64], wide: &[Rec]) -> Rec
+    requires { IsOfSlot packed.now }
+    ensures { result ≡ record_of packed.now words.now wide.now }
+{
+    match packed {
+        Packed::Emptied { index, cnode } => slot(*cnode, *index, None),
+        Packed::Filled {
+            index,
+            rights,
+            kind,
+            cnode,
+            serial,
+        } => {
+            let cap = plain(id_of(*kind, *serial), *rights, 0);
+            slot(*cnode, *index, Some(cap))
+        }
+        _ => unreachable!(),
+    }
+}
+
+fn slot(cnode: u32, index: u8, cap: Option<Cap>) -> Rec
+    ensures { result ≡ Rec.Slot (object Kind.CNode cnode) index cap }
+{
+    Rec::Slot {
+        cnode: id_of(Kind::CNode, cnode),
+        index,
+        cap,
+    }
+}
+
+/// How a thread runs and where it stands.
+fn unpack_thread(packed: &Packed, words: &[u64], wide: &[Rec]) -> Rec
+    requires { IsOfThread packed.now }
+    ensures { result ≡ record_of packed.now words.now wide.now }
+{
+    match packed {
+        Packed::Prio { priority, thread } => Rec::Prio {
+            thread: id_of(Kind::Thread, *thread),
+            priority: *priority,
+        },
+        Packed::Turns { mode, thread } => Rec::Turns {
+            thread: id_of(Kind::Thread, *thread),
+            mode: *mode,
+        },
+        Packed::Joins {
+            side,
+            thread,
+            object,
+        } => joins(*thread, queue_of(*side, *object), None),
+        Packed::JoinsWith {
+            side,
+            thread,
+            object,
+            reply,
+        } => {
+            let reply = id_of(Kind::Reply, *reply);
+            joins(*thread, queue_of(*side, *object), Some(reply))
+        }
+        Packed::Parts {
+            side,
+            thread,
+            object,
+        } => Rec::Parts {
+            thread: id_of(Kind::Thread, *thread),
+            queue: queue_of(*side, *object),
+        },
+        _ => unreachable!(),
+    }
+}
+
+fn joins(thread: u32, queue: Queue, reply: Option<ObjId>) -> Rec
+    ensures { result ≡ Rec.Joins (object Kind.Thread thread) queue reply }
+{
+    Rec::Joins {
+        thread: id_of(Kind::Thread, thread),
+        queue,
+        reply,
+    }
+}
+
+/// What became of a message, and of the debt for it.
+fn unpack_debt(packed: &Packed, words: &[u64], wide: &[Rec]) -> Rec
+    requires { IsOfDebt packed.now }
+    ensures { result ≡ record_of packed.now words.now wide.now }
+{
+    match packed {
+        Packed::Took { message, thread } => Rec::Took {
+            message: *message,
+            thread: id_of(Kind::Thread, *thread),
+        },
+        Packed::Dropped { message } => Rec::Dropped { message: *message },
+        Packed::Owes { reply, caller } => Rec::Owes {
+            reply: id_of(Kind::Reply, *reply),
+            caller: id_of(Kind::Thread, *caller),
+            context: None,
+        },
+        Packed::OwesWith {
+            reply,
+            caller,
+            context,
+        } => Rec::Owes {
+            reply: id_of(Kind::Reply, *reply),
+            caller: id_of(Kind::Thread, *caller),
+            context: Some(id_of(Kind::Context, *context)),
+        },
+        Packed::Void {
+            ending,
+            reply,
+            caller,
+        } => Rec::Void {
+            reply: id_of(Kind::Reply, *reply),
+            caller: id_of(Kind::Thread, *caller),
+            ending: *ending,
+        },
+        _ => unreachable!(),
+    }
+}
+
+/// Who holds a context, is bound to a notification, and what was signalled.
+fn unpack_bond(packed: &Packed, words: &[u64], wide: &[Rec]) -> Rec
+    requires { IsOfBond packed.now }
+    ensures { result ≡ record_of packed.now words.now wide.now }
+{
+    match packed {
+        Packed::Held { context, thread } => Rec::Holds {
+            context: id_of(Kind::Context, *context),
+            thread: Some(id_of(Kind::Thread, *thread)),
+        },
+        Packed::Unheld { context } => Rec::Holds {
+            context: id_of(Kind::Context, *context),
+            thread: None,
+        },
+        Packed::Raised {
+            notification,
+            badge,
+        } => Rec::Raised {
+            notification: id_of(Kind::Notification, *notification),
+            badge: *badge,
+        },
+        Packed::Tied {
+            thread,
+            notification,
+        } => Rec::Tied {
+            thread: id_of(Kind::Thread, *thread),
+            notification: Some(id_of(Kind::Notification, *notification)),
+        },
+        Packed::Untied { thread } => Rec::Tied {
+            thread: id_of(Kind::Thread, *thread),
+            notification: None,
+        },
+        _ => unreachable!(),
+    }
+}
+
+/// What keeps one word: a badge, the value of a guard, or what was heard.
+fn unpack_word(packed: &Packed, words: &[u64], wide: &[Rec]) -> Rec
+    requires of { IsOfWord packed.now }
+    requires fits { Fits packed.now words.now wide.now }
+    ensures { result ≡ record_of packed.now words.now wide.now }
+{
+    match packed {
+        Packed::FilledBadged {
+            index,
+            rights,
+            kind,
+            cnode,
+            serial,
+            at,
+        } => {
+            let cap = plain(id_of(*kind, *serial), *rights, words[*at as usize]);
+            slot(*cnode, *index, Some(cap))
+        }
+        Packed::FilledGuarded {
+            index,
+            rights,
+            bits,
+            cnode,
+            serial,
+            at,
+        } => {
+            let cap = guarded(*serial, *rights, *bits, words[*at as usize]);
+            slot(*cnode, *index, Some(cap))
+        }
+        Packed::Heard {
+            thread,
+            notification,
+            at,
+        } => heard(*thread, *notification, words[*at as usize]),
+        _ => unreachable!(),
+    }
+}
+
+fn heard(thread: u32, on: u32, word: u64) -> Rec
+    ensures { result ≡ Rec.Heard (object Kind.Thread thread) (object Kind.Notification on) word }
+{
+    Rec::Heard {
+        thread: id_of(Kind::Thread, thread),
+        notification: id_of(Kind::Notification, on),
+        word,
+    }
+}
+
+/// What was sent and paid.
+fn unpack_message(packed: &Packed, words: &[u64], wide: &[Rec]) -> Rec
+    requires of { IsOfMessage packed.now }
+    requires fits { Fits packed.now words.now wide.now }
+    ensures { result ≡ record_of packed.now words.now wide.now }
+{
+    match packed {
+        Packed::Sent {
+            mode,
+            len,
+            sender,
+            endpoint,
+            at,
+        } => Rec::Sent {
+            sender: id_of(Kind::Thread, *sender),
+            endpoint: id_of(Kind::Endpoint, *endpoint),
+            mode: *mode,
+            badge: Badge(words[*at as usize + 1 + *len as usize]),
+            message: message_at(words, *at, *len),
+        },
+        Packed::Paid {
+            len,
+            reply,
+            caller,
+            at,
+        } => Rec::Paid {
+            reply: id_of(Kind::Reply, *reply),
+            caller: id_of(Kind::Thread, *caller),
+            message: message_at(words, *at, *len),
+        },
+        _ => unreachable!(),
+    }
+}
+
+/// The record that a packed one stands for.
+pub fn unpack(packed: &Packed, words: &[u64], wide: &[Rec]) -> Rec
+    requires { Fits packed.now words.now wide.now }
+    ensures { result ≡ record_of packed.now words.now wide.now }
+{
+    match packed {
+        Packed::Made { .. } | Packed::MadeOn { .. } | Packed::Closed { .. } => {
+            unpack_object(packed, words, wide)
+        }
+        Packed::Emptied { .. } | Packed::Filled { .. } => unpack_slot(packed, words, wide),
+        Packed::Prio { .. }
+        | Packed::Turns { .. }
+        | Packed::Joins { .. }
+        | Packed::JoinsWith { .. }
+        | Packed::Parts { .. } => unpack_thread(packed, words, wide),
+        Packed::Took { .. }
+        | Packed::Dropped { .. }
+        | Packed::Owes { .. }
+        | Packed::OwesWith { .. }
+        | Packed::Void { .. } => unpack_debt(packed, words, wide),
+        Packed::Held { .. }
+        | Packed::Unheld { .. }
+        | Packed::Raised { .. }
+        | Packed::Tied { .. }
+        | Packed::Untied { .. } => unpack_bond(packed, words, wide),
+        Packed::FilledBadged { .. } | Packed::FilledGuarded { .. } | Packed::Heard { .. } => {
+            unpack_word(packed, words, wide)
+        }
+        Packed::Sent { .. } | Packed::Paid { .. } => unpack_message(packed, words, wide),
+        Packed::Wide { at } => copy_of(&wide[*at as usize]),
+    }
+}

@@ -1,0 +1,63 @@
+-- The state after one record more.
+use Rattle.std.specs.Prelude.{ℕ, ◌≡◌, ◌<◌, ◌≤◌, ◌+◌, ◌*◌, ◌++◌, ◌∷◌, List, [], length, reverse}
+use Rattle.std.proofs.Common.{ap, sym, ◌∙◌, subst, arith}
+use Rattle.std.proofs.lemmas.List.{reverse-append}
+use Rattle.mcs_types.specs.declared.record.Rec.{Rec}
+use Rattle.mcs_types.specs.declared.record.Rec.TheVariants as rec
+use Rattle.mcs_types.specs.declared.id.Kind.{Kind}
+use Rattle.mcs_types.specs.declared.record.Form.{Form}
+use Rattle.mcs_book.specs.Logs.{Log, counted}
+use Rattle.mcs_book.specs.Objects.{next_id}
+use Rattle.mcs_book.specs.Messages.{is_sent}
+use Rattle.mcs_book.specs.Fits.{FitsRecord}
+use Rattle.mcs_book.specs.Sound.{Allowed}
+use Rattle.mcs_state.specs.Now.{Now, so_far}
+use Rattle.mcs_state.specs.Tables.{HAND, Tables, IsKept, SentAgrees}
+use Rattle.mcs_state.specs.Following.{Follows, SentFollows}
+use Rattle.mcs_state.proofs.ThreadLaws.{threads-follow}
+use Rattle.mcs_state.proofs.LetterLaws.{letters-follow}
+use Rattle.mcs_state.proofs.ContextLaws.{contexts-follow}
+use Rattle.mcs_state.proofs.QueueLaws.{queues-follow}
+use Rattle.mcs_state.proofs.ReplyLaws.{replies-follow}
+use Rattle.mcs_state.proofs.SlotLaws.{slots-follow}
+
+-- what holds of all records so far, as they are seen, holds of them inside
+pub seen : {n m : Now} → n ≡ m → (P : Log → Type 0) → P (so_far m) → P (so_far n)
+seen is P h = subst (λ (k : Now). P (so_far k)) (sym is) h
+
+-- what was allowed of what is seen is allowed inside
+pub inside : {n m : Now} (r : Rec) → n ≡ m → Allowed (so_far m) r → Allowed (so_far n) r
+inside r is ok = subst (λ (k : Now). Allowed (so_far k) r) (sym is) ok
+
+-- and there is as much room
+pub inside-room : {n m : Now} → n ≡ m → length m.hand < HAND → length n.hand < HAND
+inside-room is room = subst (λ (k : Now). length k.hand < HAND) (sym is) room
+
+-- the number of messages follows a record
+sent-follows : (r : Rec) (sent sent' lines : ℕ) (hand R : Log) → SentFollows r sent sent' → SentAgrees sent lines hand R → SentAgrees sent' lines (r ∷ hand) (r ∷ R)
+sent-follows (rec.Sent x e mode badge message) sent sent' lines hand R h a = record { all = h ∙ ap (λ n. n + 1) a.all; few = let few = a.few in omega (arith, h, few) }
+sent-follows _ sent sent' lines hand R h a = rw h (record { all = a.all; few = a.few })
+
+-- after any record
+pub follows : (r : Rec) (T T' : Tables) (lines : ℕ) (items items' : List Rec) (B : Log) → items' ≡ items ++ r ∷ [] → length (reverse items) < HAND → Allowed (reverse items ++ B) r → FitsRecord (reverse items ++ B) r → Follows (reverse items ++ B) r T T'
+    → IsKept T lines (reverse items) (reverse items ++ B) → IsKept T' lines (reverse items') (reverse items' ++ B)
+follows r T T' lines items items' B noted room ok fits f a = rw (noted, reverse-append) (record {
+  few = omega (arith, room);
+  sound = (ok, a.sound);
+  fits = (fits, a.fits);
+  threads = threads-follow r (reverse items ++ B) T.threads T'.threads a.sound ok f.threads a.threads;
+  letters = letters-follow r (reverse items ++ B) T.letters T'.letters a.sound ok f.letters a.letters;
+  contexts = contexts-follow r (reverse items ++ B) T.contexts T'.contexts a.sound ok f.contexts a.contexts;
+  queues = queues-follow r (reverse items ++ B) T.queues T'.queues a.sound ok f.queues a.queues;
+  replies = replies-follow r (reverse items ++ B) T.replies T'.replies a.sound ok f.replies a.replies;
+  slots = slots-follow r (reverse items ++ B) T.slots T'.slots a.sound ok f.slots a.slots;
+  sent = sent-follows r T.sent T'.sent lines (reverse items) (reverse items ++ B) f.sent a.sent;
+})
+
+-- as many lines are seen as there are
+pub fewer-lines : {n m : Now} {k : ℕ} → n ≡ m → length m.book.lines < k → length n.book.lines < k
+fewer-lines {k = k} is few = subst (λ (x : Now). length x.book.lines < k) (sym is) few
+
+-- what may be made as it is seen may be made inside
+pub inside-made : {n m : Now} (k : Kind) (f : Form) → n ≡ m → Allowed (so_far m) (rec.Made (next_id (so_far m) k) f) → Allowed (so_far n) (rec.Made (next_id (so_far n) k) f)
+inside-made k f is ok = subst (λ (x : Now). Allowed (so_far x) (rec.Made (next_id (so_far x) k) f)) (sym is) ok

@@ -1,0 +1,44 @@
+-- What an operation claims: its answer, and the records that it adds.
+use Rattle.std.specs.Prelude.{◌≡◌, ◌≤◌, ◌+◌, length, List}
+use Rattle.mcs_types.specs.declared.id.ObjId.{ObjId}
+use Rattle.mcs_types.specs.declared.id.CoreId.{CoreId}
+use Rattle.mcs_types.specs.declared.record.Rec.{Rec}
+use Rattle.mcs_types.specs.declared.entry.Answer.{Answer}
+use Rattle.mcs_types.specs.declared.entry.Entry.{Entry}
+use Rattle.mcs_book.specs.Pieces.{Piece, Act, Outcome}
+use Rattle.mcs_book.specs.Table.{does}
+use Rattle.mcs_state.specs.Now.{Now, so_far, adds_all}
+use Rattle.mcs_state.specs.Tables.{HAND}
+
+-- the outcome was answered, and its records are made
+pub record Gives (outcome : Outcome) (old : Now) (said : Answer) (new : Now) : Type 0 where
+  pub records : new ≡ adds_all outcome.records old
+  pub answer : said ≡ outcome.answer
+
+-- the hand has room for so many records
+abbrev pub Holds : List Rec → Now → Type 0
+Holds records n = length records + length n.hand ≤ HAND
+
+-- a piece made its records
+abbrev pub Makes : Piece → Now → Now → Type 0
+Makes piece old new = new ≡ adds_all (piece (so_far old)) old
+
+-- the hand has room for a piece's records
+abbrev pub HasRoomFor : Piece → Now → Type 0
+HasRoomFor piece n = Holds (piece (so_far n)) n
+
+-- an act did what it does
+abbrev pub Acts : Act → Now → Answer → Now → Type 0
+Acts act old answer new = Gives (act (so_far old)) old answer new
+
+-- the hand has room for an act's records
+abbrev pub FitsAct : Act → Now → Type 0
+FitsAct act n = Holds (act (so_far n)).records n
+
+-- an entry did what its row says
+abbrev pub Does : Now → CoreId → ObjId → Entry → Answer → Now → Type 0
+Does old core t entry answer new = Gives (does (so_far old) core t entry) old answer new
+
+-- the hand has room for an entry's records
+abbrev pub Fits : Now → CoreId → ObjId → Entry → Type 0
+Fits old core t entry = Holds (does (so_far old) core t entry).records old

@@ -1,0 +1,195 @@
+-- How each table follows one more record. A record that no primitive makes yet is followed by no table that it may change.
+use Rattle.std.specs.Prelude.{ℕ, cond, ◌≡◌, ◌+◌, ◌++◌, ◌∷◌, [], ◌||◌, Bool, List, length, Option, Some, None, option_map}
+use Rattle.std.specs.Option.{IfSome}
+use Rattle.mcs_types.specs.Views.{Content}
+use Rattle.mcs_types.specs.declared.id.ObjId.{ObjId}
+use Rattle.mcs_types.specs.declared.id.Badge.{Badge}
+use Rattle.mcs_types.specs.declared.id.CoreId.{CoreId}
+use Rattle.mcs_types.specs.declared.id.Kind.{Kind}
+use Rattle.mcs_types.specs.declared.id.Kind.TheVariants as kind
+use Rattle.mcs_types.specs.declared.id.Prio.{Prio}
+use Rattle.mcs_types.specs.declared.cap.Cap.{Cap}
+use Rattle.mcs_types.specs.declared.record.Form.{Form}
+use Rattle.mcs_types.specs.declared.record.Form.TheVariants as form
+use Rattle.mcs_types.specs.declared.record.Letter.{Letter}
+use Rattle.mcs_types.specs.declared.record.Mail.{Mail}
+use Rattle.mcs_types.specs.declared.record.Queue.{Queue}
+use Rattle.mcs_types.specs.declared.record.Queue.TheVariants.{Receivers}
+use Rattle.mcs_types.specs.declared.record.Rec.{Rec}
+use Rattle.mcs_types.specs.declared.record.Rec.TheVariants as rec
+use Rattle.mcs_types.specs.declared.record.SendMode.{SendMode}
+use Rattle.mcs_types.specs.Ids.{same, same_kind, value_after}
+use Rattle.mcs_book.specs.Logs.{Log}
+use Rattle.mcs_book.specs.Growing.{Waiter, without, shifted, growing_open}
+use Rattle.mcs_book.specs.Messages.{next_message, letter}
+use Rattle.mcs_book.specs.Queues.{queue_of, reply_with}
+use Rattle.mcs_book.specs.Standing.{letter_mail}
+use Rattle.mcs_book.specs.Threads.{prio_of}
+use Rattle.mcs_places.specs.Places.{kept_at}
+use Rattle.mcs_objects.specs.Store.{Objects, value_at, shape, one_more}
+use Rattle.mcs_contexts.specs.Holding.{Holding, core_in, holder_in, counts}
+use Rattle.mcs_slots.specs.declared.slots.SlotId.{SlotId}
+use Rattle.mcs_slots.specs.Filling.{filled}
+use Rattle.mcs_slots.specs.Pages.{Page, HasSlot, ArePages, empty_page}
+use Rattle.mcs_threads.specs.declared.row.Block.TheVariants.{Queued}
+use Rattle.mcs_threads.specs.Rows.{new_row}
+use Rattle.mcs_threads.specs.Tables.{Table, made, row_of, mail_of, ChangesRow, SameRows, SameMails}
+use Rattle.mcs_waiting.specs.Queues.{is_queue_of, line_after, count_after}
+use Rattle.mcs_state.specs.Tables.{Tables, Queueing}
+
+-- a thread was made
+pub record AddsThread (t : ObjId) (maximum : Prio) (root : Cap) (old new : Table) : Type 0 where
+  pub made : made new ≡ made old + 1
+  pub rows : (x : ObjId) → row_of new x ≡ value_after x t (Some (new_row maximum root)) (row_of old x)
+  pub mails : SameMails old new
+
+-- a thread got a mail
+pub record Mails (t : ObjId) (mail : Mail) (old new : Table) : Type 0 where
+  pub made : made new ≡ made old
+  pub rows : SameRows old new
+  pub mails : (x : ObjId) → mail_of new x ≡ value_after x t (Some mail) (mail_of old x)
+
+-- how the threads follow a record; R stands before it
+abbrev pub ThreadsFollow : Log → Rec → Table → Table → Type 0
+ThreadsFollow R (rec.Made o (form.Runner maximum root)) old new = AddsThread o maximum root old new
+ThreadsFollow R (rec.Made o f) old new = new ≡ old
+ThreadsFollow R (rec.Slot c i cap) old new = new ≡ old
+ThreadsFollow R (rec.Prio u p) old new = ChangesRow (λ r. record r { priority = p }) old new u
+ThreadsFollow R (rec.Turns u m) old new = ChangesRow (λ r. record r { mode = m }) old new u
+ThreadsFollow R (rec.Joins u q reply) old new = ChangesRow (λ r. record r { block = Some (Queued q reply) }) old new u
+ThreadsFollow R (rec.Parts u q) old new = ChangesRow (λ r. record r { block = None }) old new u
+ThreadsFollow R (rec.Sent x e mode badge message) old new = new ≡ old
+ThreadsFollow R (rec.Took m p) old new = (s : Letter) × ((letter R m ≡ Some s) × Mails p (letter_mail s) old new)
+ThreadsFollow R (rec.Holds s t) old new = new ≡ old
+ThreadsFollow R _ old new = ⊥
+
+-- the open message of a thread is this one from now on, or none
+pub record KeepsLetter (x : ObjId) (s : Option Letter) (old new : List (Option Letter)) : Type 0 where
+  pub places : length new ≡ length old
+  pub letters : (t : ObjId) → kept_at kind.Thread new t ≡ value_after t x s (kept_at kind.Thread old t)
+
+-- how the open messages follow a record
+abbrev pub LettersFollow : Log → Rec → List (Option Letter) → List (Option Letter) → Type 0
+LettersFollow R (rec.Sent x e mode badge message) old new = KeepsLetter x (Some (record { number = next_message R; sender = x; endpoint = e; mode = mode; badge = badge; message = message })) old new
+LettersFollow R (rec.Took m p) old new = (s : Letter) × ((growing_open R s.sender ≡ Some s) × (s.number ≡ m) × KeepsLetter s.sender None old new)
+LettersFollow R (rec.Dropped m) old new = ⊥
+LettersFollow R _ old new = new ≡ old
+
+-- a context was made
+pub record AddsContext (s : ObjId) (core : CoreId) (old new : Holding) : Type 0 where
+  pub counts : counts new ≡ one_more (counts old)
+  pub cores : (x : ObjId) → core_in new x ≡ value_after x s (Some core) (core_in old x)
+  pub holders : (x : ObjId) → holder_in new x ≡ holder_in old x
+
+-- a context is held by this thread now, or by nobody
+pub record GivesContext (s : ObjId) (t : Option ObjId) (old new : Holding) : Type 0 where
+  pub counts : counts new ≡ counts old
+  pub cores : (x : ObjId) → core_in new x ≡ core_in old x
+  pub holders : (x : ObjId) → holder_in new x ≡ value_after x s t (holder_in old x)
+
+-- how the contexts follow a record
+abbrev pub ContextsFollow : Rec → Holding → Holding → Type 0
+ContextsFollow (rec.Made o (form.OnCore core)) old new = AddsContext o core old new
+ContextsFollow (rec.Closed o) old new = ⊥
+ContextsFollow (rec.Holds s t) old new = GivesContext s t old new
+ContextsFollow _ old new = new ≡ old
+
+-- an endpoint or a notification was made
+pub record OpensQueues (o : ObjId) (old new : Queueing) : Type 0 where
+  pub line : (q : Queue) → new.line q ≡ old.line q
+  pub queue : (t : ObjId) → new.queue t ≡ old.queue t
+  pub has : (q : Queue) → new.has q ≡ (is_queue_of o q || old.has q)
+  pub made : (k : Kind) → new.made k ≡ count_after k o.kind (old.made k + 1) (old.made k)
+  pub there : (k : Kind) → new.there k ≡ count_after k o.kind (old.there k + 1) (old.there k)
+
+-- the objects of the queues are those that were there
+pub record SameObjects (old new : Queueing) : Type 0 where
+  pub has : (q : Queue) → new.has q ≡ old.has q
+  pub made : (k : Kind) → new.made k ≡ old.made k
+  pub there : (k : Kind) → new.there k ≡ old.there k
+
+-- a thread stands in a queue from now on
+pub record JoinsQueue (u : ObjId) (p : ℕ) (q : Queue) (old new : Queueing) : Type 0 where
+  pub line : (k : Queue) → new.line k ≡ line_after k q (record { thread = u; priority = p }) (old.line k)
+  pub queue : (t : ObjId) → new.queue t ≡ value_after t u (Some q) (old.queue t)
+  pub objects : SameObjects old new
+
+-- a thread stands in no queue any more
+pub record PartsQueue (u : ObjId) (old new : Queueing) : Type 0 where
+  pub line : (k : Queue) → new.line k ≡ without u (old.line k)
+  pub queue : (t : ObjId) → new.queue t ≡ value_after t u None (old.queue t)
+  pub objects : SameObjects old new
+
+-- a thread queues anew with another priority
+pub record ShiftsInQueue (u : ObjId) (p : ℕ) (old new : Queueing) : Type 0 where
+  pub line : (k : Queue) → new.line k ≡ shifted u p (old.line k)
+  pub queue : (t : ObjId) → new.queue t ≡ old.queue t
+  pub objects : SameObjects old new
+
+-- how the queues follow the making of an object
+abbrev pub QueuesFollowMade : Kind → ObjId → Queueing → Queueing → Type 0
+QueuesFollowMade kind.Endpoint o old new = OpensQueues o old new
+QueuesFollowMade kind.Notification o old new = OpensQueues o old new
+QueuesFollowMade _ o old new = new ≡ old
+
+-- how the queues follow a record
+abbrev pub QueuesFollow : Log → Rec → Queueing → Queueing → Type 0
+QueuesFollow R (rec.Made o f) old new = QueuesFollowMade o.kind o old new
+QueuesFollow R (rec.Closed o) old new = ⊥
+QueuesFollow R (rec.Prio u p) old new = ShiftsInQueue u p.0 old new
+QueuesFollow R (rec.Joins u q reply) old new = JoinsQueue u (prio_of R u) q old new
+QueuesFollow R (rec.Parts u q) old new = PartsQueue u old new
+QueuesFollow R _ old new = new ≡ old
+
+-- a reply object was made, or its receiver is this one from now on
+pub record AddsReply (r : ObjId) (old new : Objects (Option ObjId)) : Type 0 where
+  pub shape : shape new ≡ one_more (shape old)
+  pub receivers : (x : ObjId) → value_at new x ≡ value_after x r (Some None) (value_at old x)
+
+pub record SetsReceiver (r : ObjId) (t : Option ObjId) (old new : Objects (Option ObjId)) : Type 0 where
+  pub shape : shape new ≡ shape old
+  pub receivers : (x : ObjId) → value_at new x ≡ value_after x r (Some t) (value_at old x)
+
+-- how the reply objects follow the making of an object
+abbrev pub RepliesFollowMade : Kind → ObjId → Objects (Option ObjId) → Objects (Option ObjId) → Type 0
+RepliesFollowMade kind.Reply o old new = AddsReply o old new
+RepliesFollowMade _ o old new = new ≡ old
+
+-- the receiver of a reply object, if there is one, is this one from now on
+abbrev pub SetsAny : Option ObjId → Option ObjId → Objects (Option ObjId) → Objects (Option ObjId) → Type 0
+SetsAny None t old new = new ≡ old
+SetsAny (Some r) t old new = SetsReceiver r t old new
+
+-- the reply object with which a thread stands in a queue: in one of receivers it may be one
+abbrev pub attended : Queue → Option ObjId → Option ObjId
+attended (Receivers e) reply = reply
+attended _ reply = None
+
+-- how the reply objects follow a record
+abbrev pub RepliesFollow : Log → Rec → Objects (Option ObjId) → Objects (Option ObjId) → Type 0
+RepliesFollow R (rec.Made o f) old new = RepliesFollowMade o.kind o old new
+RepliesFollow R (rec.Closed o) old new = ⊥
+RepliesFollow R (rec.Joins u q reply) old new = SetsAny (attended q reply) (Some u) old new
+RepliesFollow R (rec.Parts u q) old new = SetsAny (attended q (reply_with R u)) None old new
+RepliesFollow R _ old new = new ≡ old
+
+-- how the pages follow a record
+abbrev pub SlotsFollow : Rec → List Page → List Page → Type 0
+SlotsFollow (rec.Made o (form.Slots radix)) old new = new ≡ old ++ empty_page radix ∷ []
+SlotsFollow (rec.Slot c i cap) old new = ArePages old × (new ≡ filled old (record { cnode = c; index = i }) cap)
+SlotsFollow _ old new = new ≡ old
+
+-- how the number of messages follows a record
+abbrev pub SentFollows : Rec → ℕ → ℕ → Type 0
+SentFollows (rec.Sent x e mode badge message) old new = new ≡ old + 1
+SentFollows _ old new = new ≡ old
+
+-- each table follows a record
+pub record Follows (R : Log) (r : Rec) (old new : Tables) : Type 0 where
+  pub threads : ThreadsFollow R r old.threads new.threads
+  pub letters : LettersFollow R r old.letters new.letters
+  pub contexts : ContextsFollow r old.contexts new.contexts
+  pub queues : QueuesFollow R r old.queues new.queues
+  pub replies : RepliesFollow R r old.replies new.replies
+  pub slots : SlotsFollow r old.slots new.slots
+  pub sent : SentFollows r old.sent new.sent

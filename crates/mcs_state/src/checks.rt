@@ -1,0 +1,57 @@
+//! What is tested before anything is done.
+ghost use Rattle.std.specs.Prelude.{◌≡◌};
+ghost use Rattle.mcs_types.specs.declared.id.Kind.{Kind};
+ghost use Rattle.mcs_book.specs.Sound.{IsThere};
+ghost use Rattle.mcs_state.specs.Now.{so_far};
+ghost use Rattle.mcs_state.specs.Checks.{kinded, writable, readable, object_named};
+
+use crate::state::State;
+use mcs_types::{Cap, Kind, ObjId, Refusal};
+use mcs_waiting::Waiting;
+
+/// What was found, where it is a capability to an object of this kind.
+pub fn of_kind(found: Result<Cap, Refusal>, kind: Kind) -> Result<Cap, Refusal>
+    ensures { result ≡ kinded kind found }
+{
+    let cap = found?;
+    if !cap.obj.kind.is_same(kind) {
+        return Err(Refusal::WrongKind);
+    }
+    Ok(cap)
+}
+
+/// What was found, where one may send or signal over it.
+pub fn with_write(found: Result<Cap, Refusal>) -> Result<Cap, Refusal>
+    ensures { result ≡ writable found }
+{
+    let cap = found?;
+    if !cap.rights.can_write() {
+        return Err(Refusal::NoRight);
+    }
+    Ok(cap)
+}
+
+/// What was found, where one may receive or wait over it.
+pub fn with_read(found: Result<Cap, Refusal>) -> Result<Cap, Refusal>
+    ensures { result ≡ readable found }
+{
+    let cap = found?;
+    if !cap.rights.can_read() {
+        return Err(Refusal::NoRight);
+    }
+    Ok(cap)
+}
+
+/// The object of a kind that a thread that is there names by an address.
+pub fn find_object<W: Waiting>(
+    state: &State<W>,
+    thread: ObjId,
+    kind: Kind,
+    address: u64,
+) -> Result<ObjId, Refusal>
+    requires { IsThere (so_far state.now) Kind.Thread thread }
+    ensures { result ≡ object_named (so_far state.now) thread kind address }
+{
+    let cap = of_kind(state.capability(thread, address), kind)?;
+    Ok(cap.obj)
+}

@@ -1,0 +1,391 @@
+//! A book gives back the lines that were added to it.
+use mcs_book::{Book, Line};
+use mcs_text::{Sink, put_answer, put_record, put_step};
+use mcs_types::{
+    Answer, Badge, Cap, CoreId, Ending, Entry, Form, Guard, Kind, Message, Mode, ObjId, Place,
+    Prio, Queue, Rec, Refusal, Rights, SendMode, Step,
+};
+use std::alloc::Global;
+use std::io::Write;
+use std::test::Fail;
+
+/// An object of each kind.
+#[derive(Drop)]
+struct Ids {
+    cnode: ObjId,
+    thread: ObjId,
+    endpoint: ObjId,
+    notification: ObjId,
+    reply: ObjId,
+    context: ObjId,
+}
+
+fn id(kind: Kind, below: u32) -> ObjId {
+    ObjId {
+        kind,
+        serial: u32::MAX - below,
+    }
+}
+
+/// Objects of their kinds, with great serials.
+fn own_ids() -> Ids {
+    Ids {
+        cnode: id(Kind::CNode, 0),
+        thread: id(Kind::Thread, 1),
+        endpoint: id(Kind::Endpoint, 2),
+        notification: id(Kind::Notification, 3),
+        reply: id(Kind::Reply, 4),
+        context: id(Kind::Context, 5),
+    }
+}
+
+/// Objects of other kinds than their names say: no run records them, but a record may name them.
+fn odd_ids() -> Ids {
+    Ids {
+        cnode: id(Kind::Thread, 0),
+        thread: id(Kind::Endpoint, 1),
+        endpoint: id(Kind::Notification, 2),
+        notification: id(Kind::Reply, 3),
+        reply: id(Kind::Context, 4),
+        context: id(Kind::CNode, 5),
+    }
+}
+
+fn rights() -> Result<Rights, Fail> {
+    Ok(Rights::new(15).ok_or("rights")?)
+}
+
+fn cap_to(obj: ObjId, badge: u64, bits: u8, value: u64) -> Result<Option<Cap>, Fail> {
+    Ok(Some(Cap {
+        obj,
+        rights: rights()?,
+        badge: Badge(badge),
+        guard: Guard { bits, value },
+    }))
+}
+
+/// The greatest label, and so many words as are given.
+fn message(words: &[u64]) -> Result<Message, Fail> {
+    Ok(Message::new((1 << 52) - 1, words).ok_or("message")?)
+}
+
+/// What was made and ended, and what slots hold.
+fn slots(alloc: Global, ids: &Ids) -> Result<Vec<Rec>, Fail> {
+    let mut facts = Vec::new(alloc);
+    let root = cap_to(ids.cnode, 0, 63, u64::MAX)?.ok_or("root")?;
+    let maximum = Prio(255);
+    let core = CoreId(255);
+    for (object, form) in [
+        (ids.endpoint, Form::Plain),
+        (ids.cnode, Form::Slots { radix: 8 }),
+        (ids.context, Form::OnCore { core }),
+        (ids.thread, Form::Runner { maximum, root }),
+    ] {
+        facts.push(Rec::Made { object, form })?;
+    }
+    facts.push(Rec::Closed { object: ids.reply })?;
+    let caps = [
+        None,
+        cap_to(ids.endpoint, 0, 0, 0)?,
+        cap_to(ids.endpoint, u64::MAX, 0, 0)?,
+        cap_to(ids.cnode, 0, 63, u64::MAX)?,
+        cap_to(ids.cnode, 0, 0, 1)?,
+        cap_to(ids.notification, 7, 5, 3)?,
+    ];
+    for cap in caps {
+        facts.push(Rec::Slot {
+            cnode: ids.cnode,
+            index: 255,
+            cap,
+        })?;
+    }
+    Ok(facts)
+}
+
+/// How threads run, stand in lines, hold contexts and are bound.
+fn threads(alloc: Global, ids: &Ids) -> Result<Vec<Rec>, Fail> {
+    let mut facts = Vec::new(alloc);
+    let thread = ids.thread;
+    let priority = Prio(255);
+    facts.push(Rec::Prio { thread, priority })?;
+    for mode in [Mode::Running, Mode::Restart, Mode::Inactive] {
+        facts.push(Rec::Turns { thread, mode })?;
+    }
+    let queues = [
+        Queue::Senders(ids.endpoint),
+        Queue::Receivers(ids.endpoint),
+        Queue::Waiters(ids.notification),
+    ];
+    for queue in queues {
+        for reply in [None, Some(ids.reply)] {
+            facts.push(Rec::Joins {
+                thread,
+                queue,
+                reply,
+            })?;
+        }
+        facts.push(Rec::Parts { thread, queue })?;
+    }
+    let context = ids.context;
+    for thread in [None, Some(thread)] {
+        facts.push(Rec::Holds { context, thread })?;
+    }
+    for notification in [None, Some(ids.notification)] {
+        facts.push(Rec::Tied {
+            thread,
+            notification,
+        })?;
+    }
+    Ok(facts)
+}
+
+/// What was sent, taken, dropped, raised and heard.
+fn messages(alloc: Global, ids: &Ids) -> Result<Vec<Rec>, Fail> {
+    let mut facts = Vec::new(alloc);
+    let texts = [
+        (SendMode::Plain, 0, message(&[])?),
+        (SendMode::Call, 9, message(&[1])?),
+        (SendMode::Mute, u64::MAX, message(&[1, 2, 3, u64::MAX])?),
+    ];
+    for (mode, badge, message) in texts {
+        facts.push(Rec::Sent {
+            sender: ids.thread,
+            endpoint: ids.endpoint,
+            mode,
+            badge: Badge(badge),
+            message,
+        })?;
+    }
+    for message in [0, 2, u32::MAX] {
+        let thread = ids.thread;
+        facts.push(Rec::Took { message, thread })?;
+        facts.push(Rec::Dropped { message })?;
+    }
+    for word in [0, u64::MAX] {
+        facts.push(Rec::Raised {
+            notification: ids.notification,
+            badge: Badge(word),
+        })?;
+        facts.push(Rec::Heard {
+            thread: ids.thread,
+            notification: ids.notification,
+            word,
+        })?;
+    }
+    Ok(facts)
+}
+
+/// What reply objects owe, and how that ends.
+fn debts(alloc: Global, ids: &Ids) -> Result<Vec<Rec>, Fail> {
+    let mut facts = Vec::new(alloc);
+    let (reply, caller) = (ids.reply, ids.thread);
+    for context in [None, Some(ids.context)] {
+        facts.push(Rec::Owes {
+            reply,
+            caller,
+            context,
+        })?;
+    }
+    facts.push(Rec::Paid {
+        reply,
+        caller,
+        message: message(&[4, 3, 2, 1])?,
+    })?;
+    for ending in [Ending::Deleted, Ending::Cancelled] {
+        facts.push(Rec::Void {
+            reply,
+            caller,
+            ending,
+        })?;
+    }
+    Ok(facts)
+}
+
+/// Records of all kinds.
+fn records(alloc: Global, ids: &Ids) -> Result<Vec<Rec>, Fail> {
+    let mut facts = slots(alloc, ids)?;
+    facts.append(&mut threads(alloc, ids)?)?;
+    facts.append(&mut messages(alloc, ids)?)?;
+    facts.append(&mut debts(alloc, ids)?)?;
+    Ok(facts)
+}
+
+/// The entries that name addresses alone.
+fn addresses(alloc: Global) -> Result<Vec<Entry>, Fail> {
+    let (cap, reply, thread) = (u64::MAX, 1, u64::MAX - 1);
+    let (notification, context, endpoint) = (2, u64::MAX - 2, 3);
+    let entries = vec![in alloc;
+        Entry::Recv { cap, reply },
+        Entry::NbRecv { cap, reply },
+        Entry::Wait { cap },
+        Entry::NbWait { cap },
+        Entry::Signal { cap },
+        Entry::SetPriority {
+            thread,
+            authority: 4,
+            priority: Prio(255)
+        },
+        Entry::Suspend { thread },
+        Entry::Resume { thread },
+        Entry::BindNtfn {
+            thread,
+            notification
+        },
+        Entry::UnbindNtfn { thread },
+        Entry::BindCtx { context, thread },
+        Entry::UnbindCtx { context },
+        Entry::CancelBadged { endpoint },
+    ]?;
+    Ok(entries)
+}
+
+/// The entries that send messages.
+fn sends(alloc: Global) -> Result<Vec<Entry>, Fail> {
+    let (cap, reply) = (u64::MAX, 1);
+    let mut entries = Vec::new(alloc);
+    entries.push(Entry::Send {
+        cap,
+        message: message(&[])?,
+    })?;
+    entries.push(Entry::NbSend {
+        cap,
+        message: message(&[1])?,
+    })?;
+    entries.push(Entry::Call {
+        cap,
+        message: message(&[1, 2, 3, u64::MAX])?,
+    })?;
+    entries.push(Entry::ReplyRecv {
+        cap,
+        reply,
+        message: message(&[4, 3, 2, 1])?,
+    })?;
+    Ok(entries)
+}
+
+/// The entries that name places.
+fn placed(alloc: Global) -> Result<Vec<Entry>, Fail> {
+    let (rights, badge, index) = (rights()?, Badge(u64::MAX), u64::MAX);
+    let source = Place { index, depth: 64 };
+    let dest = Place {
+        index: 1,
+        depth: 255,
+    };
+    let place = dest;
+    let entries = vec![in alloc;
+        Entry::CopyCap {
+            source,
+            dest,
+            rights
+        },
+        Entry::MintCap {
+            source,
+            dest,
+            rights,
+            badge
+        },
+        Entry::MoveCap { source, dest },
+        Entry::DeleteCap { place },
+        Entry::MakeEndpoint { place },
+        Entry::MakeNotification { place },
+        Entry::MakeReply { place },
+        Entry::MakeContext { place },
+    ]?;
+    Ok(entries)
+}
+
+fn answers(alloc: Global) -> Result<Vec<Answer>, Fail> {
+    let badge = Badge(u64::MAX);
+    let answers = vec![in alloc;
+        Answer::Done,
+        Answer::Got {
+            badge,
+            message: message(&[1, 2, 3, u64::MAX])?
+        },
+        Answer::Got {
+            badge: Badge(0),
+            message: message(&[1, 2, 3, u64::MAX])?
+        },
+        Answer::Heard { word: u64::MAX },
+        Answer::Empty,
+        Answer::Waits,
+        Answer::Refused(Refusal::LastCNode),
+    ]?;
+    Ok(answers)
+}
+
+fn put<W: Write>(sink: &mut Sink<W>, step: &Step, answer: &Answer, records: &[Rec]) {
+    put_step(sink, step);
+    put_answer(sink, answer);
+    for fact in records {
+        put_record(sink, 0, fact);
+    }
+}
+
+fn put_line<W: Write>(sink: &mut Sink<W>, line: &Line<'_>) {
+    put_step(sink, &line.step());
+    put_answer(sink, &line.answer());
+    for i in 0..line.record_count() {
+        if let Some(fact) = line.record(i) {
+            put_record(sink, 0, &fact);
+        }
+    }
+}
+
+/// Adds a line for each of the entries, whose answers take turns, and writes what was added.
+fn add_lines<W: Write>(alloc: Global, book: &mut Book, sink: &mut Sink<W>) -> Result<(), Fail> {
+    let answers = answers(alloc)?;
+    let mut entries = addresses(alloc)?;
+    entries.append(&mut sends(alloc)?)?;
+    entries.append(&mut placed(alloc)?)?;
+    for entry in entries {
+        let at = book.lines() % 7;
+        let (core, thread) = (CoreId(255), id(Kind::Thread, 9));
+        let step = Step {
+            core,
+            thread,
+            entry,
+        };
+        let answer = answers.get(at).ok_or("answer")?.copy();
+        let names = if at % 2 == 0 { own_ids() } else { odd_ids() };
+        let mut facts = records(alloc, &names)?;
+        put(sink, &step, &answer, &facts);
+        book.reserve(facts.len())?;
+        book.append(step, answer, &mut facts);
+    }
+    sink.flush();
+    Ok(())
+}
+
+/// Adds lines to a book, and gives the text of what was added.
+fn fill(alloc: Global, book: &mut Book) -> Result<Vec<u8>, Fail> {
+    let mut written = Vec::new(alloc);
+    add_lines(alloc, book, &mut Sink::new(alloc, &mut written))?;
+    Ok(written)
+}
+
+fn put_lines<W: Write>(sink: &mut Sink<W>, book: &Book) {
+    for i in 0..book.lines() {
+        if let Some(line) = book.line(i) {
+            put_line(sink, &line);
+        }
+    }
+    sink.flush();
+}
+
+/// The text of all lines of a book.
+fn text_of(alloc: Global, book: &Book) -> Vec<u8> {
+    let mut written = Vec::new(alloc);
+    put_lines(&mut Sink::new(alloc, &mut written), book);
+    written
+}
+
+#[test]
+fn a_book_gives_back_its_lines(rt: HostRuntime) -> Result<(), Fail> {
+    let mut book = Book::new(rt.alloc(), 2);
+    let added = fill(rt.alloc(), &mut book)?;
+    assert_eq!(rt; book.lines(), 26);
+    assert!(rt; added.len() > 25 * 1_000);
+    assert_eq!(rt; text_of(rt.alloc(), &book), added);
+    Ok(())
+}
