@@ -1,5 +1,5 @@
 -- What a packed record stands for, over an arena of words and the wide records.
-use Rattle.std.specs.Prelude.{ℕ, vec_len, vec_capacity, ◌*◌, ◌≡◌, ◌<◌, ◌≤◌, ◌+◌, ◌^◌, List, [], ◌∷◌, ◌++◌, length, take, drop, slice_index_or, Option, Some, None, IfSome}
+use Rattle.std.specs.Prelude.{ℕ, vec_len, vec_capacity, ◌*◌, ◌≡◌, ◌<◌, ◌≤◌, ◌+◌, ◌^◌, List, [], ◌∷◌, ◌++◌, length, take, drop, slice_index_or, Option, Some, None, IfSome, IfNone}
 use Rattle.mcs_types.specs.Views.{Content}
 use Rattle.mcs_types.specs.declared.id.ObjId.{ObjId}
 use Rattle.mcs_types.specs.declared.id.Kind.{Kind}
@@ -194,3 +194,11 @@ MayStandFor o a r = IfSome o (λ p. record_in p a ≡ r)
 -- what an answer names is in an arena, if there is one
 abbrev pub MayFit : Option Packed → Arena → Type 0
 MayFit o a = IfSome o (λ p. FitsIn p a)
+
+-- an answer stands for this record and needs nothing of an arena, if there is one
+abbrev pub IsPlain : Option Packed → Rec → Type 0
+IsPlain o fact = IfSome o (λ p. record_of p [] [] ≡ fact) × IfSome o (λ p. Fits p [] [])
+
+-- a record was packed into an arena, which only grew; or it is not of the form, and the arena is as it was
+abbrev pub Packs : Arena → Arena → Option Packed → Rec → Type 0
+Packs old new packed fact = MayStandFor packed new fact × MayFit packed new × Grew old new × IfNone packed (new ≡ old)

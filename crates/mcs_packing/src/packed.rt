@@ -1,6 +1,6 @@
 //! Records in 16 bytes each: objects by their serials, the words of messages by their place.
-ghost use Rattle.std.specs.Prelude.{◌≡◌, [], IfSome, IfNone};
-ghost use Rattle.mcs_packing.specs.Packing.{Fits, FitsIn, Grew, HasRoom, MayFit, MayStandFor, line_of, record_in, record_of};
+ghost use Rattle.std.specs.Prelude.{◌≡◌, IfSome, Some};
+ghost use Rattle.mcs_packing.specs.Packing.{FitsIn, Grew, HasRoom, IsPlain, Packs, line_of, record_in};
 
 use crate::arena::{Arena, length_of};
 use mcs_types::{
@@ -182,8 +182,7 @@ fn side_of(queue: &Queue) -> Option<(Side, u32)>
 
 /// Packs what was made and what ended.
 fn pack_object(fact: &Rec) -> Option<Packed>
-    ensures value { IfSome result (λ p. record_of p [] [] ≡ fact.now) }
-    ensures fits { IfSome result (λ p. Fits p [] []) }
+    ensures { IsPlain result fact.now }
 {
     match fact {
         Rec::Made {
@@ -209,18 +208,9 @@ fn pack_object(fact: &Rec) -> Option<Packed>
 }
 
 /// Packs how a thread stands in a line.
-fn pack_joins(fact: &Rec) -> Option<Packed>
-    ensures value { IfSome result (λ p. record_of p [] [] ≡ fact.now) }
-    ensures fits { IfSome result (λ p. Fits p [] []) }
+fn pack_joins(thread: &ObjId, queue: &Queue, reply: &Option<ObjId>) -> Option<Packed>
+    ensures { IsPlain result (Rec.Joins thread.now queue.now reply.now) }
 {
-    let Rec::Joins {
-        thread,
-        queue,
-        reply,
-    } = fact
-    else {
-        return None;
-    };
     let thread = serial_of(thread, Kind::Thread)?;
     let (side, object) = side_of(queue)?;
     Some(match reply {
@@ -240,8 +230,7 @@ fn pack_joins(fact: &Rec) -> Option<Packed>
 
 /// Packs how a thread runs and where it stands.
 fn pack_thread(fact: &Rec) -> Option<Packed>
-    ensures value { IfSome result (λ p. record_of p [] [] ≡ fact.now) }
-    ensures fits { IfSome result (λ p. Fits p [] []) }
+    ensures { IsPlain result fact.now }
 {
     Some(match fact {
         Rec::Prio { thread, priority } => Packed::Prio {
@@ -252,7 +241,11 @@ fn pack_thread(fact: &Rec) -> Option<Packed>
             mode: *mode,
             thread: serial_of(thread, Kind::Thread)?,
         },
-        Rec::Joins { .. } => return pack_joins(fact),
+        Rec::Joins {
+            thread,
+            queue,
+            reply,
+        } => return pack_joins(thread, queue, reply),
         Rec::Parts { thread, queue } => {
             let (side, object) = side_of(queue)?;
             Packed::Parts {
@@ -266,18 +259,9 @@ fn pack_thread(fact: &Rec) -> Option<Packed>
 }
 
 /// Packs what a reply object owes.
-fn pack_owes(fact: &Rec) -> Option<Packed>
-    ensures value { IfSome result (λ p. record_of p [] [] ≡ fact.now) }
-    ensures fits { IfSome result (λ p. Fits p [] []) }
+fn pack_owes(reply: &ObjId, caller: &ObjId, context: &Option<ObjId>) -> Option<Packed>
+    ensures { IsPlain result (Rec.Owes reply.now caller.now context.now) }
 {
-    let Rec::Owes {
-        reply,
-        caller,
-        context,
-    } = fact
-    else {
-        return None;
-    };
     let reply = serial_of(reply, Kind::Reply)?;
     let caller = serial_of(caller, Kind::Thread)?;
     Some(match context {
@@ -292,8 +276,7 @@ fn pack_owes(fact: &Rec) -> Option<Packed>
 
 /// Packs what became of a message, and of the debt for it.
 fn pack_debt(fact: &Rec) -> Option<Packed>
-    ensures value { IfSome result (λ p. record_of p [] [] ≡ fact.now) }
-    ensures fits { IfSome result (λ p. Fits p [] []) }
+    ensures { IsPlain result fact.now }
 {
     Some(match fact {
         Rec::Took { message, thread } => Packed::Took {
@@ -301,7 +284,11 @@ fn pack_debt(fact: &Rec) -> Option<Packed>
             thread: serial_of(thread, Kind::Thread)?,
         },
         Rec::Dropped { message } => Packed::Dropped { message: *message },
-        Rec::Owes { .. } => return pack_owes(fact),
+        Rec::Owes {
+            reply,
+            caller,
+            context,
+        } => return pack_owes(reply, caller, context),
         Rec::Void {
             reply,
             caller,
@@ -316,13 +303,9 @@ fn pack_debt(fact: &Rec) -> Option<Packed>
 }
 
 /// Packs who holds a context.
-fn pack_holds(fact: &Rec) -> Option<Packed>
-    ensures value { IfSome result (λ p. record_of p [] [] ≡ fact.now) }
-    ensures fits { IfSome result (λ p. Fits p [] []) }
+fn pack_holds(context: &ObjId, thread: &Option<ObjId>) -> Option<Packed>
+    ensures { IsPlain result (Rec.Holds context.now thread.now) }
 {
-    let Rec::Holds { context, thread } = fact else {
-        return None;
-    };
     let context = serial_of(context, Kind::Context)?;
     Some(match thread {
         None => Packed::Unheld { context },
@@ -334,17 +317,9 @@ fn pack_holds(fact: &Rec) -> Option<Packed>
 }
 
 /// Packs which notification a thread is bound to.
-fn pack_tied(fact: &Rec) -> Option<Packed>
-    ensures value { IfSome result (λ p. record_of p [] [] ≡ fact.now) }
-    ensures fits { IfSome result (λ p. Fits p [] []) }
+fn pack_tied(thread: &ObjId, notification: &Option<ObjId>) -> Option<Packed>
+    ensures { IsPlain result (Rec.Tied thread.now notification.now) }
 {
-    let Rec::Tied {
-        thread,
-        notification,
-    } = fact
-    else {
-        return None;
-    };
     let thread = serial_of(thread, Kind::Thread)?;
     Some(match notification {
         None => Packed::Untied { thread },
@@ -357,11 +332,10 @@ fn pack_tied(fact: &Rec) -> Option<Packed>
 
 /// Packs who holds a context, is bound to a notification, and what was signalled.
 fn pack_bond(fact: &Rec) -> Option<Packed>
-    ensures value { IfSome result (λ p. record_of p [] [] ≡ fact.now) }
-    ensures fits { IfSome result (λ p. Fits p [] []) }
+    ensures { IsPlain result fact.now }
 {
     match fact {
-        Rec::Holds { .. } => pack_holds(fact),
+        Rec::Holds { context, thread } => pack_holds(context, thread),
         Rec::Raised {
             notification,
             badge,
@@ -369,29 +343,25 @@ fn pack_bond(fact: &Rec) -> Option<Packed>
             notification: serial_of(notification, Kind::Notification)?,
             badge: *badge,
         }),
-        Rec::Tied { .. } => pack_tied(fact),
+        Rec::Tied {
+            thread,
+            notification,
+        } => pack_tied(thread, notification),
         _ => None,
     }
 }
 
 /// Packs a slot without a capability, or with one that has no badge and no guard.
-fn pack_filled(fact: &Rec) -> Option<Packed>
-    ensures value { IfSome result (λ p. record_of p [] [] ≡ fact.now) }
-    ensures fits { IfSome result (λ p. Fits p [] []) }
+fn pack_filled(cnode: &ObjId, index: u8, cap: &Option<Cap>) -> Option<Packed>
+    ensures { IsPlain result (Rec.Slot cnode.now index cap.now) }
 {
-    let Rec::Slot { cnode, index, cap } = fact else {
-        return None;
-    };
     let cnode = serial_of(cnode, Kind::CNode)?;
     match cap {
-        None => Some(Packed::Emptied {
-            index: *index,
-            cnode,
-        }),
+        None => Some(Packed::Emptied { index, cnode }),
         Some(cap) => {
             if cap.badge.0 == 0 && cap.guard.bits == 0 && cap.guard.value == 0 {
                 Some(Packed::Filled {
-                    index: *index,
+                    index,
                     rights: cap.rights,
                     kind: cap.obj.kind,
                     cnode,
@@ -406,12 +376,11 @@ fn pack_filled(fact: &Rec) -> Option<Packed>
 
 /// Packs a record that needs no words.
 fn pack_small(fact: &Rec) -> Option<Packed>
-    ensures value { IfSome result (λ p. record_of p [] [] ≡ fact.now) }
-    ensures fits { IfSome result (λ p. Fits p [] []) }
+    ensures { IsPlain result fact.now }
 {
     match fact {
         Rec::Made { .. } | Rec::Closed { .. } => pack_object(fact),
-        Rec::Slot { .. } => pack_filled(fact),
+        Rec::Slot { cnode, index, cap } => pack_filled(cnode, *index, cap),
         Rec::Prio { .. } | Rec::Turns { .. } | Rec::Joins { .. } | Rec::Parts { .. } => {
             pack_thread(fact)
         }
@@ -425,29 +394,23 @@ fn pack_small(fact: &Rec) -> Option<Packed>
 
 impl Arena {
     /// Packs a message that was sent.
-    fn pack_sent(&mut self, fact: &Rec) -> Option<Packed>
+    fn pack_sent(
+        &mut self,
+        sender: &ObjId,
+        endpoint: &ObjId,
+        mode: SendMode,
+        badge: Badge,
+        message: &Message,
+    ) -> Option<Packed>
         requires { HasRoom self.old 1 }
-        ensures value { MayStandFor result self.new fact.now }
-        ensures fits { MayFit result self.new }
-        ensures grew { Grew self.old self.new }
-        ensures unchanged { IfNone result (self.new ≡ self.old) }
+        ensures { Packs self.old self.new result (Rec.Sent sender.now endpoint.now mode badge message.now) }
     {
-        let Rec::Sent {
-            sender,
-            endpoint,
-            mode,
-            badge,
-            message,
-        } = fact
-        else {
-            return None;
-        };
         let sender = serial_of(sender, Kind::Thread)?;
         let endpoint = serial_of(endpoint, Kind::Endpoint)?;
         let len = length_of(message);
-        let at = self.keep(message, *badge);
+        let at = self.keep(message, badge);
         Some(Packed::Sent {
-            mode: *mode,
+            mode,
             len,
             sender,
             endpoint,
@@ -456,21 +419,10 @@ impl Arena {
     }
 
     /// Packs an answer to a caller.
-    fn pack_paid(&mut self, fact: &Rec) -> Option<Packed>
+    fn pack_paid(&mut self, reply: &ObjId, caller: &ObjId, message: &Message) -> Option<Packed>
         requires { HasRoom self.old 1 }
-        ensures value { MayStandFor result self.new fact.now }
-        ensures fits { MayFit result self.new }
-        ensures grew { Grew self.old self.new }
-        ensures unchanged { IfNone result (self.new ≡ self.old) }
+        ensures { Packs self.old self.new result (Rec.Paid reply.now caller.now message.now) }
     {
-        let Rec::Paid {
-            reply,
-            caller,
-            message,
-        } = fact
-        else {
-            return None;
-        };
         let reply = serial_of(reply, Kind::Reply)?;
         let caller = serial_of(caller, Kind::Thread)?;
         let len = length_of(message);
@@ -484,24 +436,13 @@ impl Arena {
     }
 
     /// Packs a word that was heard.
-    fn pack_heard(&mut self, fact: &Rec) -> Option<Packed>
+    fn pack_heard(&mut self, thread: &ObjId, notification: &ObjId, word: u64) -> Option<Packed>
         requires { HasRoom self.old 1 }
-        ensures value { MayStandFor result self.new fact.now }
-        ensures fits { MayFit result self.new }
-        ensures grew { Grew self.old self.new }
-        ensures unchanged { IfNone result (self.new ≡ self.old) }
+        ensures { Packs self.old self.new result (Rec.Heard thread.now notification.now word) }
     {
-        let Rec::Heard {
-            thread,
-            notification,
-            word,
-        } = fact
-        else {
-            return None;
-        };
         let thread = serial_of(thread, Kind::Thread)?;
         let notification = serial_of(notification, Kind::Notification)?;
-        let at = self.keep_word(*word);
+        let at = self.keep_word(word);
         Some(Packed::Heard {
             thread,
             notification,
@@ -509,61 +450,30 @@ impl Arena {
         })
     }
 
-    /// Packs a slot with a capability that has a badge and no guard.
-    fn pack_badged(&mut self, fact: &Rec) -> Option<Packed>
+    /// Packs a slot with a capability that has a badge and no guard, or is to a CNode and has a guard and no badge.
+    fn pack_marked(&mut self, cnode: &ObjId, index: u8, cap: &Cap) -> Option<Packed>
         requires { HasRoom self.old 1 }
-        ensures value { MayStandFor result self.new fact.now }
-        ensures fits { MayFit result self.new }
-        ensures grew { Grew self.old self.new }
-        ensures unchanged { IfNone result (self.new ≡ self.old) }
+        ensures { Packs self.old self.new result (Rec.Slot cnode.now index (Some cap.now)) }
     {
-        let Rec::Slot {
-            cnode,
-            index,
-            cap: Some(cap),
-        } = fact
-        else {
-            return None;
-        };
         let cnode = serial_of(cnode, Kind::CNode)?;
-        if cap.guard.bits != 0 || cap.guard.value != 0 {
-            return None;
+        if cap.guard.bits == 0 && cap.guard.value == 0 {
+            let at = self.keep_word(cap.badge.0);
+            return Some(Packed::FilledBadged {
+                index,
+                rights: cap.rights,
+                kind: cap.obj.kind,
+                cnode,
+                serial: cap.obj.serial,
+                at,
+            });
         }
-        let at = self.keep_word(cap.badge.0);
-        Some(Packed::FilledBadged {
-            index: *index,
-            rights: cap.rights,
-            kind: cap.obj.kind,
-            cnode,
-            serial: cap.obj.serial,
-            at,
-        })
-    }
-
-    /// Packs a slot with a capability to a CNode that has a guard and no badge.
-    fn pack_guarded(&mut self, fact: &Rec) -> Option<Packed>
-        requires { HasRoom self.old 1 }
-        ensures value { MayStandFor result self.new fact.now }
-        ensures fits { MayFit result self.new }
-        ensures grew { Grew self.old self.new }
-        ensures unchanged { IfNone result (self.new ≡ self.old) }
-    {
-        let Rec::Slot {
-            cnode,
-            index,
-            cap: Some(cap),
-        } = fact
-        else {
-            return None;
-        };
-        let cnode = serial_of(cnode, Kind::CNode)?;
-        let serial = serial_of(&cap.obj, Kind::CNode)?;
         if cap.badge.0 != 0 {
             return None;
         }
+        let serial = serial_of(&cap.obj, Kind::CNode)?;
         let at = self.keep_word(cap.guard.value);
         Some(Packed::FilledGuarded {
-            index: *index,
+            index,
             rights: cap.rights,
             bits: cap.guard.bits,
             cnode,
@@ -575,19 +485,31 @@ impl Arena {
     /// Packs a record that needs words.
     fn pack_large(&mut self, fact: &Rec) -> Option<Packed>
         requires { HasRoom self.old 1 }
-        ensures value { MayStandFor result self.new fact.now }
-        ensures fits { MayFit result self.new }
-        ensures grew { Grew self.old self.new }
-        ensures unchanged { IfNone result (self.new ≡ self.old) }
+        ensures { Packs self.old self.new result fact.now }
     {
         match fact {
-            Rec::Sent { .. } => self.pack_sent(fact),
-            Rec::Paid { .. } => self.pack_paid(fact),
-            Rec::Heard { .. } => self.pack_heard(fact),
-            Rec::Slot { .. } => match self.pack_badged(fact) {
-                Some(packed) => Some(packed),
-                None => self.pack_guarded(fact),
-            },
+            Rec::Sent {
+                sender,
+                endpoint,
+                mode,
+                badge,
+                message,
+            } => self.pack_sent(sender, endpoint, *mode, *badge, message),
+            Rec::Paid {
+                reply,
+                caller,
+                message,
+            } => self.pack_paid(reply, caller, message),
+            Rec::Heard {
+                thread,
+                notification,
+                word,
+            } => self.pack_heard(thread, notification, *word),
+            Rec::Slot {
+                cnode,
+                index,
+                cap: Some(cap),
+            } => self.pack_marked(cnode, *index, cap),
             _ => None,
         }
     }
