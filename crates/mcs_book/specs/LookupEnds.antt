@@ -1,5 +1,5 @@
 -- What lookup answers, said without its steps: the end of the complete path, or the refusal of the longest path (manual: Capability Spaces, lookup).
-use Rattle.std.specs.Prelude.{ℕ, ◌≤◌, Bool, ◌≡◌, ◌≢◌, ◌⊎◌, Option, Some, None, List, [], ◌∷◌, ◌++◌, length}
+use Rattle.std.specs.Prelude.{ℕ, ◌≤◌, Bool, ◌≡◌, ◌≢◌, ◌⊎◌, ◌↔◌, Option, Some, None, Ok, Err, List, [], ◌∷◌, ◌++◌, length}
 use Rattle.mcs_types.specs.declared.id.ObjId.{ObjId}
 use Rattle.mcs_types.specs.declared.cap.Cap.{Cap}
 use Rattle.mcs_types.specs.declared.cap.Place.{Place}
@@ -8,8 +8,8 @@ use Rattle.mcs_types.specs.declared.entry.Refusal.TheVariants.{Missing, DepthMis
 use Rattle.mcs_book.specs.Logs.{Log}
 use Rattle.mcs_book.specs.Slots.{SlotName}
 use Rattle.mcs_book.specs.Threads.{root_of}
-use Rattle.mcs_book.specs.Lookup.{Space, space_of, Reached, bits_of}
-use Rattle.mcs_book.specs.Paths.{guard_of, next_cnode, IsPath, spelling, IsComplete}
+use Rattle.mcs_book.specs.Lookup.{Space, space_of, Reached, bits_of, capability, slot_named}
+use Rattle.mcs_book.specs.Paths.{guard_of, next_cnode, IsPath, spelling, IsComplete, IsNamed}
 
 -- a path spells the beginning of the bits, and these are left
 pub record Spells (S : Space) (cap : Cap) (bits : List Bool) (path : List (List Bool)) (left : List Bool) : Type 0 where
@@ -105,3 +105,18 @@ HasOnePathFrom S root bits = (path other : List (List Bool)) (at to : Reached) �
 -- at most one complete path from the root of t spells the bits
 abbrev pub HasOnePath : Log → ObjId → List Bool → Type 0
 HasOnePath R t bits = (root : Cap) → root_of R t ≡ Some root → HasOnePathFrom (space_of R) root bits
+
+-- lookup of a capability by t finds one exactly where a complete path names it
+abbrev pub FindsNamed : Log → ObjId → ℕ → Type 0
+FindsNamed R t address = (cap : Cap) → (capability R t address ≡ Ok cap) ↔ IsNamed R t address cap
+
+-- and is refused exactly where none is named, for the reason that the paths give
+abbrev pub RefusesUnnamed : Log → ObjId → ℕ → Type 0
+RefusesUnnamed R t address = (why : Refusal) → (capability R t address ≡ Err why) ↔ IsUnnamed R t address why
+
+-- the same of slots
+abbrev pub FindsSlot : Log → ObjId → Place → Type 0
+FindsSlot R t place = (name : SlotName) → (slot_named R t place ≡ Ok name) ↔ IsSlotNamed R t place name
+
+abbrev pub RefusesSlot : Log → ObjId → Place → Type 0
+RefusesSlot R t place = (why : Refusal) → (slot_named R t place ≡ Err why) ↔ IsSlotUnnamed R t place why

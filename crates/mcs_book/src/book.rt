@@ -1,7 +1,8 @@
 //! The book: all lines, kept packed, with their records side by side.
-ghost use Rattle.std.specs.Prelude.{◌≡◌, ◌<◌, ◌≤◌, ◌∷◌, ◌++◌, [], ◌+◌, ◌-◌, ◌==◌, take, drop, if◌then◌else◌, OnOk, OnErr, reverse, length, slice_get, vec_len, vec_capacity};
+ghost use Rattle.std.specs.Prelude.{◌≡◌, ◌<◌, ◌≤◌, ◌∷◌, ◌++◌, [], ◌+◌, ◌-◌, take, drop, OnOk, OnErr, reverse, length, slice_get, vec_len, vec_capacity};
 ghost use Rattle.mcs_packing.specs.Packing.{AllFit, GrowsBy, HasRoom, records_of};
 ghost use Rattle.mcs_packing.specs.Heads.{AllHeadsFit, all_entered};
+ghost use Rattle.mcs_book.specs.History.{with_boot_line, with_line, line_of_number};
 ghost use Rattle.mcs_book.specs.Pages.{EndsRise, facts, lines_of, start_at};
 
 use mcs_packing::{Arena, Head, Packed, unpack, unpack_answer, unpack_entry};
@@ -258,8 +259,7 @@ impl Book {
     /// Adds a line to the boot, for which there is room.
     pub fn add_boot_line(&mut self, line: BootLine)
         requires { 0 < self.old.boot_room }
-        ensures { self.new.book ≡ record self.old.book
-            { boot = record self.old.book.boot { lines = line ∷ self.old.book.boot.lines } } }
+        ensures { self.new.book ≡ with_boot_line self.old.book line }
     {
         match self.boot.push(line) {
             Ok(()) => {}
@@ -295,10 +295,7 @@ impl Book {
     /// Adds a line, and empties the records, whose room stays.
     pub fn append(&mut self, step: Step, answer: Answer, records: &mut Vec<Rec>)
         requires { vec_len records.old < self.old.room }
-        ensures line { self.new.book ≡ record self.old.book {
-          lines = (record { step = step; answer = answer; records = records.old.items })
-              ∷ self.old.book.lines;
-        } }
+        ensures line { self.new.book ≡ with_line self.old.book step answer records.old.items }
         ensures empty { records.new.items ≡ [] }
         ensures capacity { vec_capacity records.new ≡ vec_capacity records.old }
     {
@@ -332,8 +329,7 @@ impl Book {
     /// The line of number `i`, if there is one: the boot is number 0 and no line, and the first line after it is
     /// number 1.
     pub fn line(&self, i: usize) -> Option<Line<'_>>
-        ensures { result ≡ (if i == 0 then None else slice_get (reverse self.now.book.lines)
-            (i - 1)) }
+        ensures { result ≡ line_of_number self.now.book i }
     {
         if i == 0 {
             return None;

@@ -22,5 +22,5 @@ pub use laws::{
     serials_counted, sound, taken_once, word_joined,
 };
 pub use limits::{entry_short, lines_short};
-pub use lookup::{capability_found, capability_refused, one_path, slot_found, slot_refused};
+pub use lookup::{capability_lookup, one_path, slot_lookup};
 pub use whole::messages_whole;

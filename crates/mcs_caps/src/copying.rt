@@ -1,10 +1,7 @@
 //! CopyCap, MintCap and MoveCap.
 ghost use Rattle.std.specs.Prelude.{◌≡◌};
 ghost use Rattle.mcs_types.specs.declared.entry.Entry.{Entry};
-ghost use Rattle.mcs_book.specs.Pieces.{before};
-ghost use Rattle.mcs_book.specs.Table.{wakes};
-ghost use Rattle.mcs_book.specs.Threads.{mode_of};
-ghost use Rattle.mcs_state.specs.Doing.{Acts, FitsAct, Does, Fits};
+ghost use Rattle.mcs_state.specs.Doing.{ActsAwake, FitsAwake, Does, Fits};
 ghost use Rattle.mcs_state.specs.Entering.{IsEntering};
 ghost use Rattle.mcs_state.specs.Now.{so_far};
 ghost use Rattle.mcs_caps.specs.Placed.{IsPlaced, IsLike};
@@ -21,12 +18,8 @@ fn fill<W: Waiting>(state: &mut State<W>, thread: ObjId, at: &Placing, cap: Cap)
     requires entering { IsEntering (so_far state.old) thread }
     requires placed { IsPlaced (so_far state.old) at.now }
     requires like { IsLike at.now.cap cap }
-    requires room { FitsAct (before (wakes (mode_of (so_far state.old) thread) thread)
-        (fills_act at.now cap))
-        state.old }
-    ensures { Acts (before (wakes (mode_of (so_far state.old) thread) thread)
-        (fills_act at.now cap))
-        state.old result state.new }
+    requires room { FitsAwake thread (fills_act at.now cap) state.old }
+    ensures { ActsAwake thread (fills_act at.now cap) state.old result state.new }
 {
     state.is_sound();
     wake(state, thread);
@@ -38,11 +31,8 @@ fn fill<W: Waiting>(state: &mut State<W>, thread: ObjId, at: &Placing, cap: Cap)
 fn shift<W: Waiting>(state: &mut State<W>, thread: ObjId, at: &Placing) -> Answer
     requires entering { IsEntering (so_far state.old) thread }
     requires placed { IsPlaced (so_far state.old) at.now }
-    requires room { FitsAct (before (wakes (mode_of (so_far state.old) thread) thread)
-        (moves_act at.now))
-        state.old }
-    ensures { Acts (before (wakes (mode_of (so_far state.old) thread) thread) (moves_act at.now))
-        state.old result state.new }
+    requires room { FitsAwake thread (moves_act at.now) state.old }
+    ensures { ActsAwake thread (moves_act at.now) state.old result state.new }
 {
     state.is_sound();
     wake(state, thread);

@@ -1,9 +1,11 @@
 -- What a contract sees of `Contexts`: what is kept of each context that is there, and what each thread holds.
-use Rattle.std.specs.Prelude.{◌≡◌, Bool, false, cond, List, length, Option, Some, None, option_map, option_and_then}
+use Rattle.std.specs.Prelude.{◌≡◌, Bool, false, cond, ◌&&◌, ◌||◌, List, length, Option, Some, None, is_some, is_none, option_map, option_and_then, Result, Ok, Err}
 use Rattle.mcs_types.specs.declared.id.ObjId.{ObjId}
 use Rattle.mcs_types.specs.declared.id.CoreId.{CoreId}
 use Rattle.mcs_types.specs.declared.id.Kind.TheVariants.{Context, Thread}
-use Rattle.mcs_types.specs.Ids.{same, is_just, value_after}
+use Rattle.mcs_types.specs.declared.entry.Refusal.{Refusal}
+use Rattle.mcs_types.specs.declared.entry.Refusal.TheVariants.{AlreadyBound, NotBound}
+use Rattle.mcs_types.specs.Ids.{same, is_just, value_after, ChangesAt}
 use Rattle.mcs_objects.specs.Store.{Objects, Shape, value_at, shape, next_id, is_full}
 use Rattle.mcs_places.specs.Places.{kept_at}
 use Rattle.mcs_contexts.specs.declared.contexts.ContextRow.{ContextRow}
@@ -58,6 +60,42 @@ lent_holder v from to s = cond (holds v from s) (Some to) (holder_in v s)
 -- the context of the thread x after the context of one thread went to another
 abbrev pub lent_context : Holding → ObjId → ObjId → ObjId → Option ObjId
 lent_context v from to x = value_after x to (context_in v from) (value_after x from None (context_in v x))
+
+-- this is the holder of one context now, and the others have those that they had
+abbrev pub SetsHolder : Holding → Holding → ObjId → Option ObjId → Type 0
+SetsHolder old new s holder = ChangesAt (holder_in old) (holder_in new) s holder
+
+-- this is the context of one thread now, and the others have those that they had
+abbrev pub SetsContext : Holding → Holding → ObjId → Option ObjId → Type 0
+SetsContext old new t context = ChangesAt (context_in old) (context_in new) t context
+
+-- the thread that held s holds none, and the others hold what they held
+abbrev pub FreesHolder : Holding → Holding → ObjId → Type 0
+FreesHolder old new s = (x : ObjId) → context_in new x ≡ context_but old s x
+
+-- the holders after the context of one thread went to another
+abbrev pub LendsHolders : Holding → Holding → ObjId → ObjId → Type 0
+LendsHolders old new from to = (x : ObjId) → holder_in new x ≡ lent_holder old from to x
+
+-- the contexts of threads after that
+abbrev pub LendsContexts : Holding → Holding → ObjId → ObjId → Type 0
+LendsContexts old new from to = (x : ObjId) → context_in new x ≡ lent_context old from to x
+
+-- whether a thread may lend its context to another: the first holds one, and the second none
+abbrev pub may_lend : Holding → ObjId → ObjId → Bool
+may_lend v from to = is_some (context_in v from) && is_none (context_in v to)
+
+-- done where nobody holds the context and the thread holds none
+abbrev pub bound : Holding → ObjId → ObjId → Result (Unit {0}) Refusal
+bound v s t = cond (is_some (holder_in v s) || is_some (context_in v t)) (Err AlreadyBound) (Ok tt)
+
+-- done where somebody holds the context
+abbrev pub unbound : Holding → ObjId → Result (Unit {0}) Refusal
+unbound v s = cond (is_some (holder_in v s)) (Ok tt) (Err NotBound)
+
+-- two contexts with one holder are one
+abbrev pub HoldersDiffer : Holding → Type 0
+HoldersDiffer v = (s u t : ObjId) → holder_in v s ≡ Some t → holder_in v u ≡ Some t → s ≡ u
 
 -- a thread holds a context exactly where the context's holder is that thread
 pub record IsOneToOne (v : Holding) : Type 0 where

@@ -1,11 +1,11 @@
 //! The scheduling contexts and their holders.
-ghost use Rattle.std.specs.Prelude.{◌≡◌, ◌&&◌, ◌||◌, IfOk, OnOk, OnErr, IsSome, is_some, is_none, if◌then◌else◌, false, Some, None, Ok, Err};
+ghost use Rattle.std.specs.Prelude.{◌≡◌, IfOk, OnOk, OnErr, IsSome, false, Some, None};
 ghost use Rattle.std.specs.Bool.{OnTrue, OnFalse};
 ghost use Rattle.mcs_types.specs.declared.id.ObjId.{ObjId};
-ghost use Rattle.mcs_types.specs.Ids.{IsThread, value_after};
+ghost use Rattle.mcs_types.specs.Ids.{IsThread, ChangesAt};
 ghost use Rattle.mcs_types.specs.declared.id.Kind.{Kind};
-ghost use Rattle.mcs_objects.specs.Store.{shape, one_more, next_id, is_full, IsOneFewer, WritesAt};
-ghost use Rattle.mcs_contexts.specs.Holding.{counts, no_room, next_context, core_at, holder_at, core_in, holder_in, context_in, context_but, lent_holder, lent_context, IsOneToOne};
+ghost use Rattle.mcs_objects.specs.Store.{shape, empty_shape, one_more, next_id, is_full, IsOneFewer, WritesAt};
+ghost use Rattle.mcs_contexts.specs.Holding.{counts, no_room, next_context, core_at, holder_at, core_in, holder_in, context_in, bound, unbound, may_lend, SetsHolder, SetsContext, FreesHolder, LendsHolders, LendsContexts, HoldersDiffer, IsOneToOne};
 
 use mcs_objects::Store;
 use mcs_places::{keep, kept_at};
@@ -57,8 +57,7 @@ fn set_holder(rows: &mut Store<ContextRow>, context: ObjId, holder: Option<ObjId
     requires { IsSome (core_at rows.old context) }
     ensures shape { shape rows.new ≡ shape rows.old }
     ensures cores { (x : ObjId) → core_at rows.new x ≡ core_at rows.old x }
-    ensures holders { (x : ObjId) →
-        holder_at rows.new x ≡ value_after x context holder (holder_at rows.old x) }
+    ensures holders { ChangesAt (holder_at rows.old) (holder_at rows.new) context holder }
 {
     match rows.get(context) {
         None => unreachable!(),
@@ -72,8 +71,7 @@ fn set_holder(rows: &mut Store<ContextRow>, context: ObjId, holder: Option<ObjId
 impl Contexts {
     /// No context, and room for 256 (own).
     pub fn new(alloc: Global) -> Result<Contexts, OutOfMemory>
-        ensures counts { IfOk result (λ v.
-            counts v ≡ record { kind = Kind.Context; room = 256; given = 0; there = 0 }) }
+        ensures counts { IfOk result (λ v. counts v ≡ empty_shape Kind.Context 256) }
         ensures cores { IfOk result (λ v. (x : ObjId) → core_in v x ≡ None) }
         ensures holders { IfOk result (λ v. (x : ObjId) → holder_in v x ≡ None) }
         ensures contexts { IfOk result (λ v. (x : ObjId) → context_in v x ≡ None) }
@@ -104,8 +102,7 @@ impl Contexts {
         requires { no_room self.old ≡ false }
         ensures id { result ≡ next_context self.old }
         ensures counts { counts self.new ≡ one_more (counts self.old) }
-        ensures cores { (x : ObjId) →
-            core_in self.new x ≡ value_after x result (Some core) (core_in self.old x) }
+        ensures cores { ChangesAt (core_in self.old) (core_in self.new) result (Some core) }
         ensures holders { (x : ObjId) → holder_in self.new x ≡ holder_in self.old x }
         ensures contexts { (x : ObjId) → context_in self.new x ≡ context_in self.old x }
     {
@@ -118,8 +115,7 @@ impl Contexts {
         requires there { IsSome (core_in self.old context) }
         requires free { holder_in self.old context ≡ None }
         ensures counts { IsOneFewer (counts self.old) (counts self.new) }
-        ensures cores { (x : ObjId) →
-            core_in self.new x ≡ value_after x context None (core_in self.old x) }
+        ensures cores { ChangesAt (core_in self.old) (core_in self.new) context None }
         ensures holders { (x : ObjId) → holder_in self.new x ≡ holder_in self.old x }
         ensures contexts { (x : ObjId) → context_in self.new x ≡ context_in self.old x }
     {
@@ -154,8 +150,7 @@ impl Contexts {
     /// a serial from 1 to 256 (own).
     pub fn is_one_to_one(&self)
         ensures pairs { IsOneToOne self.now }
-        ensures one_context { (s u t : ObjId) →
-            holder_in self.now s ≡ Some t → holder_in self.now u ≡ Some t → s ≡ u }
+        ensures one_context { HoldersDiffer self.now }
         ensures made { (s t : ObjId) → holder_in self.now s ≡ Some t → IsSome (core_in self.now s) }
         ensures threads { (s t : ObjId) → holder_in self.now s ≡ Some t → IsThread t }
     {
@@ -168,10 +163,8 @@ impl Contexts {
         requires thread { IsThread thread }
         requires free { holder_in self.old context ≡ None }
         requires idle { context_in self.old thread ≡ None }
-        ensures holders { (x : ObjId) →
-            holder_in self.new x ≡ value_after x context (Some thread) (holder_in self.old x) }
-        ensures contexts { (x : ObjId) →
-            context_in self.new x ≡ value_after x thread (Some context) (context_in self.old x) }
+        ensures holders { SetsHolder self.old self.new context (Some thread) }
+        ensures contexts { SetsContext self.old self.new thread (Some context) }
         ensures counts { counts self.new ≡ counts self.old }
         ensures cores { (x : ObjId) → core_in self.new x ≡ core_in self.old x }
     {
@@ -182,10 +175,8 @@ impl Contexts {
     /// Takes a context from the thread that holds it.
     fn release(&mut self, context: ObjId, thread: ObjId)
         requires { holder_in self.old context ≡ Some thread }
-        ensures holders { (x : ObjId) →
-            holder_in self.new x ≡ value_after x context None (holder_in self.old x) }
-        ensures contexts { (x : ObjId) →
-            context_in self.new x ≡ value_after x thread None (context_in self.old x) }
+        ensures holders { SetsHolder self.old self.new context None }
+        ensures contexts { SetsContext self.old self.new thread None }
         ensures counts { counts self.new ≡ counts self.old }
         ensures cores { (x : ObjId) → core_in self.new x ≡ core_in self.old x }
     {
@@ -198,15 +189,10 @@ impl Contexts {
     pub fn bind(&mut self, context: ObjId, thread: ObjId) -> Result<(), Refusal>
         requires made { IsSome (core_in self.old context) }
         requires thread { IsThread thread }
-        ensures answer { result ≡
-            (if is_some (holder_in self.old context) || is_some (context_in self.old thread)
-            then Err Refusal.AlreadyBound
-            else Ok tt) }
+        ensures answer { result ≡ bound self.old context thread }
         ensures refused { OnErr result (self.new ≡ self.old) }
-        ensures holders { OnOk result ((x : ObjId) →
-            holder_in self.new x ≡ value_after x context (Some thread) (holder_in self.old x)) }
-        ensures contexts { OnOk result ((x : ObjId) →
-            context_in self.new x ≡ value_after x thread (Some context) (context_in self.old x)) }
+        ensures holders { OnOk result (SetsHolder self.old self.new context (Some thread)) }
+        ensures contexts { OnOk result (SetsContext self.old self.new thread (Some context)) }
         ensures counts { counts self.new ≡ counts self.old }
         ensures cores { (x : ObjId) → core_in self.new x ≡ core_in self.old x }
     {
@@ -219,15 +205,10 @@ impl Contexts {
 
     /// Takes a context from its holder. NotBound where nobody holds it: then nothing changes (manual: Threads and Execution).
     pub fn unbind(&mut self, context: ObjId) -> Result<(), Refusal>
-        ensures answer { result ≡
-            (if is_some (holder_in self.old context)
-            then Ok tt
-            else Err Refusal.NotBound) }
+        ensures answer { result ≡ unbound self.old context }
         ensures refused { OnErr result (self.new ≡ self.old) }
-        ensures holders { OnOk result ((x : ObjId) →
-            holder_in self.new x ≡ value_after x context None (holder_in self.old x)) }
-        ensures contexts { OnOk result ((x : ObjId) →
-            context_in self.new x ≡ context_but self.old context x) }
+        ensures holders { OnOk result (SetsHolder self.old self.new context None) }
+        ensures contexts { OnOk result (FreesHolder self.old self.new context) }
         ensures counts { counts self.new ≡ counts self.old }
         ensures cores { (x : ObjId) → core_in self.new x ≡ core_in self.old x }
     {
@@ -245,13 +226,10 @@ impl Contexts {
     /// holds one: then nothing changes (manual: Threads and Execution).
     pub fn lend(&mut self, from: ObjId, to: ObjId) -> bool
         requires { IsThread to }
-        ensures answer { result
-            ≡ (is_some (context_in self.old from) && is_none (context_in self.old to)) }
+        ensures answer { result ≡ may_lend self.old from to }
         ensures refused { OnFalse result (self.new ≡ self.old) }
-        ensures holders { OnTrue result ((x : ObjId) →
-            holder_in self.new x ≡ lent_holder self.old from to x) }
-        ensures contexts { OnTrue result ((x : ObjId) →
-            context_in self.new x ≡ lent_context self.old from to x) }
+        ensures holders { OnTrue result (LendsHolders self.old self.new from to) }
+        ensures contexts { OnTrue result (LendsContexts self.old self.new from to) }
         ensures counts { counts self.new ≡ counts self.old }
         ensures cores { (x : ObjId) → core_in self.new x ≡ core_in self.old x }
     {

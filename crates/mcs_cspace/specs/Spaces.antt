@@ -2,10 +2,12 @@
 use Rattle.std.specs.Prelude.{ℕ, ◌≡◌, ◌==◌, cond, List, Option, Some, None, Result, Ok, Err, unwrap_or}
 use Rattle.mcs_types.specs.declared.id.ObjId.{ObjId}
 use Rattle.mcs_types.specs.declared.cap.Cap.{Cap}
+use Rattle.mcs_types.specs.declared.cap.Place.{Place}
 use Rattle.mcs_types.specs.declared.entry.Refusal.{Refusal}
 use Rattle.mcs_book.specs.Checks.{Checked}
 use Rattle.mcs_book.specs.Slots.{SlotName}
-use Rattle.mcs_book.specs.Lookup.{Space, Reached, bits_of, cnode_cap}
+use Rattle.mcs_book.specs.Lookup.{Space, Reached, bits_of, cnode_cap, walk}
+use Rattle.mcs_book.specs.LookupEnds.{IsSlotNamedFrom, IsSlotUnnamedFrom}
 use Rattle.mcs_book.specs.Guards.{FitsGuard}
 use Rattle.mcs_slots.specs.declared.slots.SlotId.{SlotId}
 use Rattle.mcs_slots.specs.Pages.{Page, radix_of, slot_at}
@@ -32,9 +34,21 @@ abbrev pub walked_by : ℕ → Result End Refusal → Checked Reached
 walked_by a (Ok end) = Ok (reached_by a end)
 walked_by a (Err why) = Err why
 
+-- the walk from a root along the low bits of an address
+abbrev pub walk_from : List Page → Cap → ℕ → ℕ → Checked Reached
+walk_from P root depth address = walk 64 (slots_space P) root (bits_of depth address)
+
 -- the name of a slot
 abbrev pub name_of : SlotId → SlotName
 name_of at = record { cnode = at.cnode; index = at.index }
+
+-- a complete path from a root ends at a slot with no bits left
+abbrev pub EndsAt : List Page → Cap → Place → SlotId → Type 0
+EndsAt P root place at = IsSlotNamedFrom (slots_space P) root place (name_of at)
+
+-- no path from a root ends at a slot so, for this reason
+abbrev pub EndsNowhere : List Page → Cap → Place → Refusal → Type 0
+EndsNowhere P root place why = IsSlotUnnamedFrom (slots_space P) root place why
 
 -- so with its refusals
 abbrev pub named_by : Result SlotId Refusal → Checked SlotName

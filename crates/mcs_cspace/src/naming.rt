@@ -5,9 +5,9 @@ ghost use Rattle.mcs_book.specs.Lookup.{capability_from, slot_from, is_depth};
 ghost use Rattle.mcs_types.specs.declared.entry.Refusal.TheVariants.{Missing, DepthMismatch};
 ghost use Rattle.mcs_book.specs.Checks.{needed};
 ghost use Rattle.mcs_book.specs.Paths.{IsNamedFrom};
-ghost use Rattle.mcs_book.specs.LookupEnds.{IsUnnamedFrom, IsSlotNamedFrom, IsSlotUnnamedFrom};
+ghost use Rattle.mcs_book.specs.LookupEnds.{IsUnnamedFrom};
 ghost use Rattle.mcs_slots.specs.Pages.{slot_at};
-ghost use Rattle.mcs_cspace.specs.Spaces.{slots_space, GuardsFit, name_of, named_by};
+ghost use Rattle.mcs_cspace.specs.Spaces.{slots_space, GuardsFit, EndsAt, EndsNowhere, named_by};
 
 use crate::paths::{End, find};
 use mcs_slots::{SlotId, Slots};
@@ -86,9 +86,8 @@ pub fn lookup_slot(slots: &Slots, root: Cap, place: Place) -> Result<SlotId, Ref
     requires root { FitsGuard root.guard }
     requires inner { GuardsFit slots.now }
     ensures value { named_by result ≡ slot_from (slots_space slots.now) root place }
-    ensures named { IfOk result (λ at. IsSlotNamedFrom (slots_space slots.now) root place
-        (name_of at)) }
-    ensures unnamed { IfErr result (λ why. IsSlotUnnamedFrom (slots_space slots.now) root place why) }
+    ensures named { IfOk result (EndsAt slots.now root place) }
+    ensures unnamed { IfErr result (EndsNowhere slots.now root place) }
 {
     slots.are_pages();
     place_from(slots, root, place)

@@ -1,8 +1,8 @@
 //! The way from a root to the slot at the end of the path that an address spells.
 ghost use Rattle.std.specs.Prelude.{◌≡◌, ◌≤◌};
 ghost use Rattle.mcs_book.specs.Guards.{FitsGuard};
-ghost use Rattle.mcs_book.specs.Lookup.{bits_of, walk, cnode_cap};
-ghost use Rattle.mcs_cspace.specs.Spaces.{slots_space, GuardsFit, next_at, walked_by};
+ghost use Rattle.mcs_book.specs.Lookup.{cnode_cap};
+ghost use Rattle.mcs_cspace.specs.Spaces.{slots_space, GuardsFit, next_at, walk_from, walked_by};
 
 use crate::levels::level;
 use mcs_slots::{SlotId, Slots};
@@ -49,8 +49,7 @@ pub(crate) fn find(slots: &Slots, root: Cap, depth: u32, address: u64) -> Result
     requires within { depth ≤ 64 }
     requires root { FitsGuard root.guard }
     requires inner { GuardsFit slots.now }
-    ensures { walked_by address result
-        ≡ walk 64 (slots_space slots.now) root (bits_of depth address) }
+    ensures { walked_by address result ≡ walk_from slots.now root depth address }
 {
     let mut cap = root;
     let mut left = depth;

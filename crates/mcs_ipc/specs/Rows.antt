@@ -12,11 +12,11 @@ use Rattle.mcs_book.specs.Logs.{Log}
 use Rattle.mcs_book.specs.Checks.{Checked}
 use Rattle.mcs_book.specs.Lookup.{capability}
 use Rattle.mcs_types.specs.declared.record.Mode.TheVariants.{Running}
-use Rattle.mcs_types.specs.declared.record.Queue.TheVariants.{Senders}
-use Rattle.mcs_types.specs.declared.record.Rec.TheVariants.{Took, Parts, Turns}
+use Rattle.mcs_types.specs.declared.record.Queue.TheVariants.{Senders, Receivers}
+use Rattle.mcs_types.specs.declared.record.Rec.TheVariants.{Took, Parts, Turns, Joins}
 use Rattle.mcs_book.specs.Pieces.{Piece, Act, ◌then◌, say, nothing, answers}
 use Rattle.mcs_book.specs.Sending.{letter_over, sends, queues}
-use Rattle.mcs_book.specs.Receiving.{receive_on}
+use Rattle.mcs_book.specs.Receiving.{receive_on, joins_or}
 use Rattle.mcs_state.specs.Checks.{kinded, writable, readable, object_named}
 use Rattle.mcs_ipc.specs.declared.checks.Receiving.{Receiving}
 
@@ -64,6 +64,10 @@ alone_act false t cap message = answers Done nothing
 -- t sends over a capability to an endpoint
 unfoldable pub send_act : Bool → ObjId → Cap → Content → Act
 send_act blocking t cap message = sends (letter_over t cap how.Plain message) Done (alone_act blocking t cap message)
+
+-- what t does where nobody sends: it waits among the receivers, or is answered at once
+abbrev pub stand_act : Bool → ObjId → Receiving → Act
+stand_act blocks t at = joins_or blocks (Joins t (Receivers at.endpoint) at.reply)
 
 -- t receives on an endpoint, with a reply object or without
 unfoldable pub receive_act : Bool → ObjId → Receiving → Act

@@ -3,12 +3,9 @@ ghost use Rattle.std.specs.Prelude.{◌≡◌};
 ghost use Rattle.mcs_types.specs.declared.entry.Entry.{Entry};
 ghost use Rattle.mcs_types.specs.declared.record.Rec.{Rec};
 ghost use Rattle.mcs_types.specs.declared.id.Kind.{Kind};
-ghost use Rattle.mcs_book.specs.Pieces.{before};
 ghost use Rattle.mcs_book.specs.Sound.{Allowed, IsThere};
-ghost use Rattle.mcs_book.specs.Table.{wakes};
-ghost use Rattle.mcs_book.specs.Threads.{mode_of};
 ghost use Rattle.mcs_state.specs.Now.{so_far};
-ghost use Rattle.mcs_state.specs.Doing.{Acts, FitsAct, Does, Fits};
+ghost use Rattle.mcs_state.specs.Doing.{ActsAwake, FitsAwake, Does, Fits};
 ghost use Rattle.mcs_state.specs.Entering.{IsEntering};
 ghost use Rattle.mcs_ipc.specs.Ready.{NoChains};
 ghost use Rattle.mcs_ipc.specs.Holding.{bindable, unbindable, holds_act};
@@ -67,9 +64,8 @@ fn hold<W: Waiting>(
 ) -> Answer
     requires entering { IsEntering (so_far state.old) thread }
     requires allowed { Allowed (so_far state.old) (Rec.Holds context holder) }
-    requires room { FitsAct (before (wakes (mode_of (so_far state.old) thread) thread) (holds_act context holder)) state.old }
-    ensures { Acts (before (wakes (mode_of (so_far state.old) thread) thread) (holds_act context holder))
-        state.old result state.new }
+    requires room { FitsAwake thread (holds_act context holder) state.old }
+    ensures { ActsAwake thread (holds_act context holder) state.old result state.new }
 {
     wake(state, thread);
     state.holds(context, holder);

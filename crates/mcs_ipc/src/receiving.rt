@@ -3,18 +3,17 @@ ghost use Rattle.std.specs.Prelude.{◌≡◌, Some, IfSome};
 ghost use Rattle.mcs_types.specs.declared.entry.Entry.{Entry};
 ghost use Rattle.mcs_types.specs.declared.id.Kind.{Kind};
 ghost use Rattle.mcs_types.specs.declared.record.Queue.{Queue};
-ghost use Rattle.mcs_types.specs.declared.record.Rec.{Rec};
 ghost use Rattle.mcs_book.specs.Messages.{open_of};
 ghost use Rattle.mcs_book.specs.Pieces.{with_any};
 ghost use Rattle.mcs_book.specs.Queues.{first_in};
-ghost use Rattle.mcs_book.specs.Receiving.{free as freed, joins_or, receive_message};
+ghost use Rattle.mcs_book.specs.Receiving.{free as freed, receive_message};
 ghost use Rattle.mcs_book.specs.Served.{IsPlain};
 ghost use Rattle.mcs_book.specs.Sound.{IsThere};
 ghost use Rattle.mcs_state.specs.Now.{so_far, IsNumberOf};
 ghost use Rattle.mcs_state.specs.Doing.{Makes, HasRoomFor, Acts, FitsAct, Does, Fits};
 ghost use Rattle.mcs_state.specs.Entering.{IsEntering, OpenStand};
 ghost use Rattle.mcs_ipc.specs.Ready.{IsReady};
-ghost use Rattle.mcs_ipc.specs.Rows.{taking, receive_entry};
+ghost use Rattle.mcs_ipc.specs.Rows.{taking, receive_entry, stand_act};
 
 use crate::checks::{Receiving, objects_to_receive};
 use mcs_state::{State, wake};
@@ -57,9 +56,8 @@ fn free_any<W: Waiting>(state: &mut State<W>, reply: Option<ObjId>)
 /// Waits among the receivers, where the thread blocks.
 fn stand<W: Waiting>(state: &mut State<W>, thread: ObjId, at: Receiving, blocks: bool) -> Answer
     requires ready { IsReady (so_far state.old) thread at.endpoint at.reply }
-    requires room { FitsAct (joins_or blocks (Rec.Joins thread (Queue.Receivers at.endpoint) at.reply)) state.old }
-    ensures { Acts (joins_or blocks (Rec.Joins thread (Queue.Receivers at.endpoint) at.reply))
-        state.old result state.new }
+    requires room { FitsAct (stand_act blocks thread at) state.old }
+    ensures { Acts (stand_act blocks thread at) state.old result state.new }
 {
     if blocks {
         state.joins(thread, Queue::Receivers(at.endpoint), at.reply);

@@ -1,9 +1,9 @@
 -- What a contract sees of a `Store`: a finite map from ids.
-use Rattle.std.specs.Prelude.{◌≡◌, ◌<◌, ◌≤◌, ◌+◌, ℕ, Bool, false, ◌||◌, ◌==◌, cond, List, [], ◌∷◌, ◌++◌, length, Option, Some, None, option_map}
+use Rattle.std.specs.Prelude.{◌≡◌, ◌<◌, ◌≤◌, ◌+◌, ℕ, Bool, false, ◌||◌, ◌==◌, cond, List, [], ◌∷◌, ◌++◌, length, Option, Some, None, is_some, IsSome, option_map}
 use Rattle.std.specs.List.{list_any}
 use Rattle.mcs_types.specs.declared.id.ObjId.{ObjId}
 use Rattle.mcs_types.specs.declared.id.Kind.{Kind}
-use Rattle.mcs_types.specs.Ids.{same, same_kind, value_after}
+use Rattle.mcs_types.specs.Ids.{same, same_kind, ChangesAt}
 
 -- an object with its serial, its place and its value
 pub record Object (T : Type 0) : Type 0 where
@@ -24,6 +24,10 @@ pub record Shape : Type 0 where
   pub room : ℕ
   pub given : ℕ
   pub there : ℕ
+
+-- a store with nothing in it
+abbrev pub empty_shape : Kind → ℕ → Shape
+empty_shape kind room = record { kind = kind; room = room; given = 0; there = 0 }
 
 -- one more was made
 abbrev pub one_more : Shape → Shape
@@ -86,7 +90,7 @@ module _ {T : Type 0} where
 
   -- this value was written at an id, and all others are as they were
   abbrev pub WritesAt : Objects T → Objects T → ObjId → T → Type 0
-  WritesAt old new id value = (x : ObjId) → value_at new x ≡ value_after x id (Some value) (value_at old x)
+  WritesAt old new id value = ChangesAt (value_at old) (value_at new) id (Some value)
 
   -- all others have their places
   abbrev pub PlacesOthers : Objects T → Objects T → ObjId → Type 0
@@ -130,3 +134,12 @@ module _ {T : Type 0} where
     pub kind : id.kind ≡ s.kind
     pub low : 1 ≤ id.serial
     pub high : id.serial ≤ s.given
+
+  -- places are below the room and different, so a place tells its object; what has a place has a value, and was given
+  pub record HasPlaces (s : Objects T) : Type 0 where
+    pub room : (x : ObjId) (p : ℕ) → place_at s x ≡ Some p → p < s.room
+    pub apart : (x y : ObjId) (p : ℕ) → place_at s x ≡ Some p → place_at s y ≡ Some p → x ≡ y
+    pub owner : (x : ObjId) (p : ℕ) → place_at s x ≡ Some p → id_at s p ≡ Some x
+    pub owned : (x : ObjId) (p : ℕ) → id_at s p ≡ Some x → place_at s x ≡ Some p
+    pub both : (x : ObjId) → is_some (place_at s x) ≡ is_some (value_at s x)
+    pub given : (x : ObjId) → IsSome (value_at s x) → WasGiven s x

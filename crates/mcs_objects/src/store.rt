@@ -2,9 +2,9 @@
 ghost use Rattle.std.specs.Prelude.{ℕ, ◌≡◌, ◌<◌, ◌≤◌, ◌↔◌, is_some, IsTrue, IfOk, OnOk, IfErr, OnErr, IsErr, IfNone, OnSome, IsSome, Some, None, false, option_copied, position};
 ghost use Rattle.std.specs.Option.{option_copied_mut};
 ghost use Rattle.std.specs.Borrow.{sem};
-ghost use Rattle.mcs_objects.specs.Store.{IsMap, Adds, next_id, is_full, shape, one_more, WasGiven, IsOneFewer, WritesAt, PlacesOthers, value_at, place_at, id_at, removed};
+ghost use Rattle.mcs_objects.specs.Store.{IsMap, Adds, next_id, is_full, shape, empty_shape, one_more, IsOneFewer, WritesAt, PlacesOthers, HasPlaces, value_at, place_at, removed};
 ghost use Rattle.mcs_types.specs.declared.id.ObjId.{ObjId};
-ghost use Rattle.mcs_types.specs.Ids.{same, value_after};
+ghost use Rattle.mcs_types.specs.Ids.{same, ChangesAt};
 ghost use Rattle.mcs_objects.specs.Rows.{is_of, row_for, Rises};
 
 use crate::full::NoRoom;
@@ -73,8 +73,7 @@ impl<T: Drop> Store<T> {
     /// An empty store with room for n objects of this kind, 256 at most (own).
     pub fn with_room(alloc: Global, kind: Kind, n: u16) -> Result<Store<T>, OutOfMemory>
         requires { n ≤ 256 }
-        ensures shape { IfOk result (λ s.
-            shape s ≡ record { kind = kind; room = n; given = 0; there = 0 }) }
+        ensures shape { IfOk result (λ s. shape s ≡ empty_shape kind n) }
         ensures values { IfOk result (λ s. (x : ObjId) → value_at s x ≡ None) }
         ensures places { IfOk result (λ s. (x : ObjId) → place_at s x ≡ None) }
     {
@@ -102,16 +101,7 @@ impl<T: Drop> Store<T> {
     /// Two objects that are there have different places, below the store's room, so a place tells its object. What is there was
     /// given (own).
     pub fn are_apart(&self)
-        ensures room { (x : ObjId) (p : ℕ) →
-            place_at self.now x ≡ Some p → p < (shape self.now).room }
-        ensures apart { (x y : ObjId) (p : ℕ) →
-            place_at self.now x ≡ Some p → place_at self.now y ≡ Some p → x ≡ y }
-        ensures owner { (x : ObjId) (p : ℕ) →
-            place_at self.now x ≡ Some p → id_at self.now p ≡ Some x }
-        ensures owned { (x : ObjId) (p : ℕ) →
-            id_at self.now p ≡ Some x → place_at self.now x ≡ Some p }
-        ensures both { (x : ObjId) → is_some (place_at self.now x) ≡ is_some (value_at self.now x) }
-        ensures given { (x : ObjId) → IsSome (value_at self.now x) → WasGiven self.now x }
+        ensures { HasPlaces self.now }
     {
         self.is_map();
     }
@@ -221,10 +211,8 @@ impl<T: Drop> Store<T> {
     pub fn remove(&mut self, id: ObjId) -> Option<T>
         ensures value { result ≡ value_at self.old id }
         ensures shape { OnSome result (IsOneFewer (shape self.old) (shape self.new)) }
-        ensures values { (x : ObjId) →
-            value_at self.new x ≡ value_after x id None (value_at self.old x) }
-        ensures places { (x : ObjId) →
-            place_at self.new x ≡ value_after x id None (place_at self.old x) }
+        ensures values { ChangesAt (value_at self.old) (value_at self.new) id None }
+        ensures places { ChangesAt (place_at self.old) (place_at self.new) id None }
         ensures absent { IfNone result (self.new ≡ self.old) }
     {
         self.is_map();

@@ -4,8 +4,7 @@
 ghost use Rattle.std.specs.Prelude.{◌≡◌, IfOk, None, length, option_copied, vec_len, vec_capacity};
 ghost use Rattle.mcs_types.specs.declared.id.Kind.{Kind};
 ghost use Rattle.mcs_types.specs.declared.id.ObjId.{ObjId};
-ghost use Rattle.mcs_types.specs.Ids.{value_after};
-ghost use Rattle.mcs_places.specs.Places.{kept_at, HasPlace, AreEmpty};
+ghost use Rattle.mcs_places.specs.Places.{kept_at, HasPlace, AreEmpty, KeepsAt};
 
 use mcs_types::{Kind, ObjId};
 use std::alloc::{AllocError, Global};
@@ -42,9 +41,7 @@ pub fn kept_at<T: Drop>(kind: Kind, places: &[Option<T>], id: ObjId) -> Option<&
 /// Keeps this, or nothing, of an object of a kind that has a place, in place of what was kept of it (own).
 pub fn keep<T: Drop>(kind: Kind, places: &mut Vec<Option<T>>, id: ObjId, kept: Option<T>)
     requires { HasPlace kind places.old.items id }
-    ensures kept { (x : ObjId) →
-        kept_at kind places.new.items x
-        ≡ value_after x id kept (kept_at kind places.old.items x) }
+    ensures kept { KeepsAt kind places.old.items places.new.items id kept }
     ensures length { vec_len places.new ≡ vec_len places.old }
     ensures places { length places.new.items ≡ length places.old.items }
     ensures capacity { vec_capacity places.new ≡ vec_capacity places.old }
@@ -59,8 +56,7 @@ pub fn keep<T: Drop>(kind: Kind, places: &mut Vec<Option<T>>, id: ObjId, kept: O
 /// another kind or beyond the places (own).
 pub fn take<T: Drop>(kind: Kind, places: &mut Vec<Option<T>>, id: ObjId) -> Option<T>
     ensures value { result ≡ kept_at kind places.old.items id }
-    ensures kept { (x : ObjId) →
-        kept_at kind places.new.items x ≡ value_after x id None (kept_at kind places.old.items x) }
+    ensures kept { KeepsAt kind places.old.items places.new.items id None }
     ensures length { vec_len places.new ≡ vec_len places.old }
     ensures places { length places.new.items ≡ length places.old.items }
     ensures capacity { vec_capacity places.new ≡ vec_capacity places.old }

@@ -1,5 +1,6 @@
-ghost use Rattle.std.specs.Prelude.{◌≡◌, ℕ, ◌==◌, ◌&&◌, nat_lt, List, [], IfOk, Option, is_some, is_none, None, Some, if◌then◌else◌, true};
-ghost use Rattle.mcs_types.specs.Waiters.{Waiter, insert_behind, without, first_waiter, behind_in, stands_in, is_place, NeverRises, IsPut};
+ghost use Rattle.std.specs.Prelude.{◌≡◌, ℕ, ◌==◌, List, [], IfOk, Option, is_some, None, if◌then◌else◌, true};
+ghost use Rattle.mcs_types.specs.Waiters.{Waiter, without, first_waiter, behind_in, NeverRises, IsPut};
+ghost use Rattle.mcs_queues.specs.Changes.{Rooms, waiter, may_join, JoinsLine, JoinsPlace, ShiftsLine, IsPutAnew, StandsAtPlace};
 ghost use Rattle.mcs_queues.specs.Numbers.{thread_number, line_number};
 
 use mcs_types::{OutOfMemory, Prio};
@@ -26,33 +27,23 @@ pub trait Lines: Sized + Drop {
     /// The line in which a thread stands.
     ghost place: { Self → ℕ → Option ℕ };
 
-    /// How many threads there are: their numbers are below it.
-    ghost thread_room: { Self → ℕ };
-
-    /// How many lines there are: their numbers are below it.
-    ghost line_room: { Self → ℕ };
+    /// How many threads and how many lines there are: their numbers are below it.
+    ghost rooms: { Self → Rooms };
 
     /// That many lines with nobody in them, for that many threads. Refused where memory is: no later call needs any.
     fn new(alloc: Global, threads: u16, lines: u16) -> Result<Self, OutOfMemory>
         ensures empty { IfOk result (λ s. (k : ℕ) → line s k ≡ []) }
         ensures nowhere { IfOk result (λ s. (u : ℕ) → place s u ≡ None) }
-        ensures threads { IfOk result (λ s. thread_room s ≡ threads) }
-        ensures lines { IfOk result (λ s. line_room s ≡ lines) };
+        ensures rooms { IfOk result (λ s. rooms s ≡ record { threads = threads; lines = lines }) };
 
     /// Puts thread `t` into line `q`, as the last of priority `p`. Answers false, and changes nothing, where a number is out
     /// of range or the thread stands in a line.
     fn join(&mut self, t: ThreadNo, q: LineNo, p: Prio) -> bool
-        ensures answer { result ≡ (nat_lt t.0 (thread_room self.old) && nat_lt q.0
-            (line_room self.old) && is_none (place self.old t.0)) }
-        ensures line { (k : ℕ) → line self.new k
-            ≡ (if result && (q.0 == k) then insert_behind (record { thread = t.0; priority = p.0 })
-            (line self.old k) else line self.old k) }
-        ensures put { result ≡ true → IsPut (record { thread = t.0; priority = p.0 })
-            (line self.old q.0) (line self.new q.0) }
-        ensures place { (u : ℕ) → place self.new u
-            ≡ (if result && (t.0 == u) then Some q.0 else place self.old u) }
-        ensures threads { thread_room self.new ≡ thread_room self.old }
-        ensures lines { line_room self.new ≡ line_room self.old };
+        ensures answer { result ≡ may_join (rooms self.old) (place self.old) t.0 q.0 }
+        ensures line { JoinsLine (line self.old) (line self.new) result (waiter t p) q.0 }
+        ensures put { result ≡ true → IsPut (waiter t p) (line self.old q.0) (line self.new q.0) }
+        ensures place { JoinsPlace (place self.old) (place self.new) result t.0 q.0 }
+        ensures rooms { rooms self.new ≡ rooms self.old };
 
     /// The first thread of line `q`. None where nobody stands in it.
     fn first(&self, q: LineNo) -> Option<ThreadNo>
@@ -68,27 +59,19 @@ pub trait Lines: Sized + Drop {
         ensures answer { line_number result ≡ place self.old t.0 }
         ensures line { (k : ℕ) → line self.new k ≡ without t.0 (line self.old k) }
         ensures place { (u : ℕ) → place self.new u ≡ (if t.0 == u then None else place self.old u) }
-        ensures threads { thread_room self.new ≡ thread_room self.old }
-        ensures lines { line_room self.new ≡ line_room self.old };
+        ensures rooms { rooms self.new ≡ rooms self.old };
 
     /// Gives thread `t` the priority `p` in its line: it goes behind all of that priority, even where it had that priority
     /// before (own). Answers false, and changes nothing, where it stands in no line.
     fn shift(&mut self, t: ThreadNo, p: Prio) -> bool
         ensures answer { result ≡ is_some (place self.old t.0) }
-        ensures line { (k : ℕ) → line self.new k
-            ≡ (if is_place (place self.old t.0) k then insert_behind
-            (record { thread = t.0; priority = p.0 }) (without t.0 (line self.old k)) else line
-            self.old k) }
-        ensures put { (k : ℕ) → place self.old t.0 ≡ Some k
-            → IsPut (record { thread = t.0; priority = p.0 }) (without t.0 (line self.old k))
-            (line self.new k) }
+        ensures line { ShiftsLine (line self.old) (line self.new) (place self.old) (waiter t p) }
+        ensures put { IsPutAnew (line self.old) (line self.new) (place self.old) (waiter t p) }
         ensures place { (u : ℕ) → place self.new u ≡ place self.old u }
-        ensures threads { thread_room self.new ≡ thread_room self.old }
-        ensures lines { line_room self.new ≡ line_room self.old };
+        ensures rooms { rooms self.new ≡ rooms self.old };
 
     /// The line in which thread `t` stands. None where it stands in none.
     fn where_is(&self, t: ThreadNo) -> Option<LineNo>
         ensures answer { line_number result ≡ place self.now t.0 }
-        ensures stands { (k : ℕ) → stands_in t.0 (line self.now k)
-            ≡ is_place (place self.now t.0) k };
+        ensures stands { StandsAtPlace (line self.now) (place self.now) t.0 };
 }

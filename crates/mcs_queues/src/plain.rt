@@ -116,9 +116,7 @@ impl Lines for PlainLines {
 
     ghost place = { λ s. place_in s.rows };
 
-    ghost thread_room = { λ s. s.threads };
-
-    ghost line_room = { λ s. s.lines };
+    ghost rooms = { λ s. record { threads = s.threads; lines = s.lines } };
 
     fn new(alloc: Global, threads: u16, lines: u16) -> Result<PlainLines, OutOfMemory> {
         Ok(PlainLines {

@@ -1,8 +1,9 @@
 -- One slot gets a capability, or is emptied.
-use Rattle.std.specs.Prelude.{◌≡◌, ◌-◌, ◌+◌, ℕ, zero, suc, cond, ◌&&◌, ◌==◌, List, [], ◌∷◌, Option, slice_set}
+use Rattle.std.specs.Prelude.{◌≡◌, ◌-◌, ◌+◌, ℕ, zero, suc, cond, ◌&&◌, ◌==◌, List, [], ◌∷◌, Option, Some, None, IfOk, slice_set}
 use Rattle.mcs_types.specs.declared.id.ObjId.{ObjId}
 use Rattle.mcs_types.specs.declared.cap.Cap.{Cap}
 use Rattle.mcs_types.specs.Ids.{same}
+use Rattle.mcs_book.specs.Checks.{Checked}
 use Rattle.mcs_book.specs.Slots.{is_cap_to}
 use Rattle.mcs_slots.specs.declared.slots.SlotId.{SlotId}
 use Rattle.mcs_slots.specs.Pages.{Page, radix_of, slot_at, held}
@@ -16,6 +17,14 @@ fills_in (p ∷ ps) (suc k) i cap = p ∷ fills_in ps k i cap
 -- the slots with this in a slot that is there
 abbrev pub filled : List Page → SlotId → Option Cap → List Page
 filled S at cap = fills_in S (at.cnode.serial - 1) at.index cap
+
+-- the capability that was got, if one was, is in a slot
+abbrev pub Fills : List Page → List Page → SlotId → Checked Cap → Type 0
+Fills old new at got = IfOk got (λ cap. new ≡ filled old at (Some cap))
+
+-- it is in one slot, and another is empty
+abbrev pub Moves : List Page → List Page → SlotId → SlotId → Checked Cap → Type 0
+Moves old new source dest got = IfOk got (λ cap. new ≡ filled (filled old dest (Some cap)) source None)
 
 -- slots, and what one of them is given
 pub record Filling : Type 0 where

@@ -44,7 +44,7 @@ fn page_number(cnode: ObjId) -> Option<usize>
 
 impl Slots {
     ghost use Rattle.mcs_slots.specs.Pages.{empty_page, page_at, radix_of, slot_at, HasSlot, held, ArePages};
-    ghost use Rattle.mcs_slots.specs.Filling.{filled};
+    ghost use Rattle.mcs_slots.specs.Filling.{filled, Fills, Moves};
     ghost use Rattle.mcs_slots.specs.Copying.{source_cap, copy_of, mint_of, answered};
 
     /// Empty CNodes of these radices, each 1 to 8, in order: their serials are 1, 2 and so on. There are 64 at most.
@@ -198,8 +198,7 @@ impl Slots {
         requires source { HasSlot self.old source }
         requires dest { HasSlot self.old dest }
         ensures answer { result ≡ answered (copy_of self.old source dest rights) }
-        ensures filled { IfOk (copy_of self.old source dest rights)
-            (λ cap. self.new ≡ filled self.old dest (Some cap)) }
+        ensures filled { Fills self.old self.new dest (copy_of self.old source dest rights) }
         ensures refused { OnErr result (self.new ≡ self.old) }
     {
         let cap = self.copied(source, dest, rights)?;
@@ -219,8 +218,7 @@ impl Slots {
         requires source { HasSlot self.old source }
         requires dest { HasSlot self.old dest }
         ensures answer { result ≡ answered (mint_of self.old source dest rights badge) }
-        ensures filled { IfOk (mint_of self.old source dest rights badge)
-            (λ cap. self.new ≡ filled self.old dest (Some cap)) }
+        ensures filled { Fills self.old self.new dest (mint_of self.old source dest rights badge) }
         ensures refused { OnErr result (self.new ≡ self.old) }
     {
         let cap = self.minted(source, dest, rights, badge)?;
@@ -233,8 +231,7 @@ impl Slots {
         requires source { HasSlot self.old source }
         requires dest { HasSlot self.old dest }
         ensures answer { result ≡ answered (source_cap self.old source dest) }
-        ensures moved { IfOk (source_cap self.old source dest)
-            (λ cap. self.new ≡ filled (filled self.old dest (Some cap)) source None) }
+        ensures moved { Moves self.old self.new source dest (source_cap self.old source dest) }
         ensures refused { OnErr result (self.new ≡ self.old) }
     {
         let cap = self.source_of(source, dest)?;

@@ -5,8 +5,9 @@ use Rattle.mcs_types.specs.declared.id.CoreId.{CoreId}
 use Rattle.mcs_types.specs.declared.record.Rec.{Rec}
 use Rattle.mcs_types.specs.declared.entry.Answer.{Answer}
 use Rattle.mcs_types.specs.declared.entry.Entry.{Entry}
-use Rattle.mcs_book.specs.Pieces.{Piece, Act, Outcome}
-use Rattle.mcs_book.specs.Table.{does}
+use Rattle.mcs_book.specs.Pieces.{Piece, Act, Outcome, before}
+use Rattle.mcs_book.specs.Table.{does, wakes}
+use Rattle.mcs_book.specs.Threads.{mode_of}
 use Rattle.mcs_state.specs.Now.{Now, so_far, adds_all}
 use Rattle.mcs_state.specs.Tables.{HAND}
 
@@ -34,6 +35,14 @@ Acts act old answer new = Gives (act (so_far old)) old answer new
 -- the hand has room for an act's records
 abbrev pub FitsAct : Act → Now → Type 0
 FitsAct act n = Holds (act (so_far n)).records n
+
+-- an act did what it does, after its thread woke
+abbrev pub ActsAwake : ObjId → Act → Now → Answer → Now → Type 0
+ActsAwake t act old answer new = Acts (before (wakes (mode_of (so_far old) t) t) act) old answer new
+
+-- the hand has room for the records of an act and of its thread that wakes
+abbrev pub FitsAwake : ObjId → Act → Now → Type 0
+FitsAwake t act n = FitsAct (before (wakes (mode_of (so_far n) t) t) act) n
 
 -- an entry did what its row says
 abbrev pub Does : Now → CoreId → ObjId → Entry → Answer → Now → Type 0

@@ -3,7 +3,7 @@ ghost use Rattle.std.specs.Prelude.{◌≡◌, ◌<◌, ◌≤◌, ◌∷◌, �
 ghost use Rattle.mcs_types.specs.declared.record.Rec.{Rec};
 ghost use Rattle.mcs_book.specs.Logs.{onto};
 ghost use Rattle.mcs_book.specs.Boots.{boot_line};
-ghost use Rattle.mcs_book.specs.History.{log_of};
+ghost use Rattle.mcs_book.specs.History.{log_of, with_boot_line, with_line};
 ghost use Rattle.mcs_book.specs.Guards.{FitsSlot};
 ghost use Rattle.mcs_book.specs.Messages.{open_of};
 ghost use Rattle.mcs_book.specs.Sound.{Allowed};
@@ -139,8 +139,7 @@ impl<W: Waiting> State<W> {
         requires room { 0 < self.old.boot_room }
         requires boot { self.old.book.lines ≡ [] }
         requires records { self.old.hand ≡ onto (boot_line (log_of self.old.book) line) [] }
-        ensures book { self.new.book ≡ record self.old.book
-            { boot = record self.old.book.boot { lines = line ∷ self.old.book.boot.lines } } }
+        ensures book { self.new.book ≡ with_boot_line self.old.book line }
         ensures hand { self.new.hand ≡ [] }
     {
         self.hand.clear();
@@ -150,10 +149,7 @@ impl<W: Waiting> State<W> {
     /// Moves the records in hand to a line of the book.
     pub fn close(&mut self, step: Step, answer: Answer)
         requires { length self.old.hand < self.old.room }
-        ensures book { self.new.book ≡ record self.old.book {
-          lines = (record { step = step; answer = answer; records = reverse self.old.hand })
-              ∷ self.old.book.lines;
-        } }
+        ensures book { self.new.book ≡ with_line self.old.book step answer (reverse self.old.hand) }
         ensures hand { self.new.hand ≡ [] }
     {
         self.book.append(step, answer, &mut self.hand);

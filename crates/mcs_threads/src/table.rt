@@ -1,9 +1,9 @@
 //! The table of threads.
 ghost use Rattle.std.specs.Prelude.{◌≡◌, ◌<◌, ◌≤◌, ◌+◌, ◌↔◌, IsSome, IfOk, IfNone, Some, None, option_copied};
 ghost use Rattle.mcs_types.specs.declared.id.ObjId.{ObjId};
-ghost use Rattle.mcs_types.specs.Ids.{IsThread, value_after};
+ghost use Rattle.mcs_types.specs.Ids.{IsThread};
 ghost use Rattle.mcs_threads.specs.declared.row.Block.{Block};
-ghost use Rattle.mcs_threads.specs.Rows.{new_row};
+ghost use Rattle.mcs_threads.specs.Rows.{new_row, with_notification};
 
 use crate::row::{Block, ThreadRow};
 use mcs_places::{keep, kept_at};
@@ -31,7 +31,7 @@ impl Model for Threads {
 }
 
 impl Threads {
-    ghost use Rattle.mcs_threads.specs.Tables.{made, row_of, mail_of, next_thread, ChangesRow, SameRows, SameMails};
+    ghost use Rattle.mcs_threads.specs.Tables.{made, row_of, mail_of, next_thread, ChangesRow, SameRows, SameMails, SetsRow, SetsMail};
 
     /// A table with no thread, and the room for 256 (own).
     pub fn new(alloc: Global) -> Result<Threads, OutOfMemory>
@@ -66,9 +66,7 @@ impl Threads {
         requires { made self.old < 256 }
         ensures id { result ≡ next_thread self.old }
         ensures made { made self.new ≡ made self.old + 1 }
-        ensures rows { (t : ObjId) →
-            row_of self.new t
-            ≡ value_after t result (Some (new_row maximum root)) (row_of self.old t) }
+        ensures rows { SetsRow self.old self.new result (Some (new_row maximum root)) }
         ensures mails { SameMails self.old self.new }
     {
         let id = ObjId {
@@ -98,7 +96,7 @@ impl Threads {
     /// Keeps this row, or none, for a thread that is there.
     fn put(&mut self, id: ObjId, row: Option<ThreadRow>)
         requires { IsSome (row_of self.old id) }
-        ensures rows { (t : ObjId) → row_of self.new t ≡ value_after t id row (row_of self.old t) }
+        ensures rows { SetsRow self.old self.new id row }
         ensures mails { self.new.mails ≡ self.old.mails }
         ensures made { made self.new ≡ made self.old }
     {
@@ -108,8 +106,7 @@ impl Threads {
     /// Keeps this mail, or none, for a thread that is there.
     fn put_mail(&mut self, id: ObjId, mail: Option<Mail>)
         requires { IsSome (row_of self.old id) }
-        ensures mails { (t : ObjId) →
-            mail_of self.new t ≡ value_after t id mail (mail_of self.old t) }
+        ensures mails { SetsMail self.old self.new id mail }
         ensures rows { self.new.rows ≡ self.old.rows }
     {
         keep(Kind::Thread, &mut self.mails, id, mail);
@@ -165,8 +162,7 @@ impl Threads {
     /// Binds a notification to a thread; None like `set_mode` (manual: Notifications).
     pub fn tie(&mut self, id: ObjId, notification: ObjId) -> Option<()>
         ensures found { IsSome result ↔ IsSome (row_of self.old id) }
-        ensures changed { ChangesRow (λ r. record r { notification = Some notification })
-            self.old self.new id }
+        ensures changed { ChangesRow (with_notification (Some notification)) self.old self.new id }
         ensures missing { IfNone result (self.new ≡ self.old) }
     {
         let row = *self.get(id)?;
@@ -184,7 +180,7 @@ impl Threads {
     /// No notification is bound to a thread any more; None like `set_mode` (manual: Notifications).
     pub fn untie(&mut self, id: ObjId) -> Option<()>
         ensures found { IsSome result ↔ IsSome (row_of self.old id) }
-        ensures changed { ChangesRow (λ r. record r { notification = None }) self.old self.new id }
+        ensures changed { ChangesRow (with_notification None) self.old self.new id }
         ensures missing { IfNone result (self.new ≡ self.old) }
     {
         let row = *self.get(id)?;
@@ -202,8 +198,7 @@ impl Threads {
     /// Gives a thread a mail in place of the one that it had; None like `set_mode` (manual: Message Passing).
     pub fn set_mail(&mut self, id: ObjId, mail: Mail) -> Option<()>
         ensures found { IsSome result ↔ IsSome (row_of self.old id) }
-        ensures mails { IsSome (row_of self.old id) → (t : ObjId) → mail_of self.new t
-            ≡ value_after t id (Some mail) (mail_of self.old t) }
+        ensures mails { IsSome (row_of self.old id) → SetsMail self.old self.new id (Some mail) }
         ensures rows { SameRows self.old self.new }
         ensures made { made self.new ≡ made self.old }
         ensures missing { IfNone result (self.new ≡ self.old) }
@@ -216,9 +211,8 @@ impl Threads {
     /// Forgets a thread and its mail: its serial is never given again. None like `set_mode` (manual: Kernel Services and Objects).
     pub fn close(&mut self, id: ObjId) -> Option<()>
         ensures found { IsSome result ↔ IsSome (row_of self.old id) }
-        ensures rows { (t : ObjId) → row_of self.new t ≡ value_after t id None (row_of self.old t) }
-        ensures mails { IsSome (row_of self.old id) → (t : ObjId) → mail_of self.new t
-            ≡ value_after t id None (mail_of self.old t) }
+        ensures rows { SetsRow self.old self.new id None }
+        ensures mails { IsSome (row_of self.old id) → SetsMail self.old self.new id None }
         ensures made { made self.new ≡ made self.old }
         ensures missing { IfNone result (self.new ≡ self.old) }
     {

@@ -10,7 +10,7 @@ use Rattle.mcs_types.specs.declared.record.Queue.TheVariants.{Senders, Receivers
 use Rattle.mcs_types.specs.Ids.{same, same_kind, value_after}
 use Rattle.mcs_types.specs.Waiters.{Waiter}
 use Rattle.mcs_types.proofs.Ids.{both, parts, same-equal, same-self, same-other, same_kind-self, same_kind-equal}
-use Rattle.mcs_objects.specs.Store.{Objects, value_at, place_at, id_at, next_id, shape, one_more, IsOneFewer, WasGiven, PlacesOthers}
+use Rattle.mcs_objects.specs.Store.{Objects, value_at, place_at, id_at, next_id, shape, one_more, IsOneFewer, WasGiven, PlacesOthers, HasPlaces}
 use Rattle.mcs_waiting.specs.Places.{standing, lined, numbered, number_of, line_of, queue_at, has_object, there_of, IsRoomy}
 use Rattle.mcs_waiting.specs.Queues.{is_queue_of, count_after}
 use Rattle.mcs_waiting.proofs.Numbering.{IsNumbering}
@@ -22,9 +22,8 @@ pub record IsApart {T : Type 0} (S : Objects T) : Type 0 where
   pub owned : (x : ObjId) (p : ℕ) → id_at S p ≡ Some x → place_at S x ≡ Some p
 
 module _ {T : Type 0} where
-  pub apart : (S : Objects T) → S.room ≡ 256 → ((x : ObjId) (p : ℕ) → place_at S x ≡ Some p → p < (shape S).room)
-      → ((x : ObjId) (p : ℕ) → place_at S x ≡ Some p → id_at S p ≡ Some x) → ((x : ObjId) (p : ℕ) → id_at S p ≡ Some x → place_at S x ≡ Some p) → IsApart S
-  apart S room below owner owned = record { below = λ x p h. let low = below x p h in omega (arith, low, room); owner = owner; owned = owned }
+  apart : (kind : Kind) (S : Objects T) → IsRoomy kind S → HasPlaces S → IsApart S
+  apart kind S roomy h = record { below = λ x p is. let low = h.room x p is in omega (arith, low, roomy.room_is); owner = h.owner; owned = h.owned }
 
 module _ {T : Type 0} (E N : Objects T) (e : IsApart E) (n : IsApart N) where
   -- the queue at a number of each sort
@@ -82,8 +81,13 @@ module _ {T : Type 0} (E N : Objects T) (e : IsApart E) (n : IsApart N) where
       go false f true g k = let sum : 256 + (m - 256) ≡ m = grind (arith, common_steps, f) in found (λ x. Receivers x) 256 (m - 256) E (λ x. refl) e sum (id_at E (m - 256)) refl k
       go false f false g k = let sum : 512 + (m - 512) ≡ m = grind (arith, common_steps, g) in found (λ x. Waiters x) 512 (m - 512) N (λ x. refl) n sum (id_at N (m - 512)) refl k
 
-  pub numbering : IsNumbering (number_of E N) (queue_at E N)
-  numbering = record { there = number-queue; back = queue-number }
+  numbers : IsNumbering (number_of E N) (queue_at E N)
+  numbers = record { there = number-queue; back = queue-number }
+
+module _ {T : Type 0} where
+  -- numbers and queues answer to one another where the places of both stores do
+  pub numbering : (E N : Objects T) → IsRoomy Endpoint E → IsRoomy Notification N → HasPlaces E → HasPlaces N → IsNumbering (number_of E N) (queue_at E N)
+  numbering E N e n he hn = numbers E N (apart Endpoint E e he) (apart Notification N n hn)
 
 -- who had a place has it still
 abbrev pub Grows : {T : Type 0} → Objects T → Objects T → Type 0

@@ -8,6 +8,7 @@ use Rattle.mcs_types.specs.declared.record.Queue.TheVariants.{Senders, Receivers
 use Rattle.mcs_types.specs.Ids.{place_of}
 use Rattle.mcs_types.specs.Waiters.{Waiter, stands_in, is_place}
 use Rattle.mcs_book.specs.Growing.{Waiter as Standing}
+use Rattle.mcs_queues.specs.Changes.{Rooms}
 use Rattle.mcs_objects.specs.Store.{Objects, place_at, id_at, shape}
 
 -- the id of a thread with a number, and a thread in a line by its id
@@ -90,9 +91,8 @@ pub record Placed (T A : Type 0) : Type 0 where
   pub notifications : Objects T
   pub lines : A
 
-pub record IsPlaced {T : Type 0} (E N : Objects T) (line : ℕ → List Waiter) (place : ℕ → Option ℕ) (threads lines : ℕ) : Type 0 where
+pub record IsPlaced {T : Type 0} (E N : Objects T) (line : ℕ → List Waiter) (place : ℕ → Option ℕ) (rooms : Rooms) : Type 0 where
   pub endpoints : IsRoomy Endpoint E
   pub notifications : IsRoomy Notification N
   pub lined_up : IsLined (queue_at E N) line place
-  pub threads_are : threads ≡ 256
-  pub lines_are : lines ≡ 768
+  pub rooms_are : rooms ≡ record { threads = 256; lines = 768 }

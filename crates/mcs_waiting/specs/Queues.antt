@@ -1,7 +1,8 @@
 -- The queues of endpoints and notifications, and what changes in one of them.
-use Rattle.std.specs.Prelude.{ℕ, Bool, true, false, cond, ◌&&◌, ◌||◌, ◌==◌, List, [], ◌∷◌, Option, Some, None}
+use Rattle.std.specs.Prelude.{ℕ, ◌≡◌, ◌+◌, Bool, true, false, not, cond, ◌&&◌, ◌||◌, ◌==◌, List, [], ◌∷◌, Option, Some, None}
 use Rattle.mcs_types.specs.declared.id.ObjId.{ObjId}
 use Rattle.mcs_types.specs.declared.id.Kind.{Kind}
+use Rattle.mcs_types.specs.declared.id.Prio.{Prio}
 use Rattle.mcs_types.specs.declared.id.Kind.TheVariants.{Endpoint, Notification}
 use Rattle.mcs_types.specs.declared.record.Queue.{Queue}
 use Rattle.mcs_types.specs.declared.record.Queue.TheVariants.{Senders, Receivers, Waiters}
@@ -38,9 +39,21 @@ no_room given there = (there == 256) || (given == 4294967295)
 abbrev pub count_after : Kind → Kind → ℕ → ℕ → ℕ
 count_after l k count before = cond (same_kind l k) count before
 
+-- one more is counted of a kind, and of every other as many as before
+abbrev pub CountsOneMore : (Kind → ℕ) → (Kind → ℕ) → Kind → Type 0
+CountsOneMore old new kind = (k : Kind) → new k ≡ count_after k kind (old k + 1) (old k)
+
+-- the queues that were there are, but those of this object
+abbrev pub LosesQueues : (Queue → Bool) → (Queue → Bool) → ObjId → Type 0
+LosesQueues old new object = (q : Queue) → new q ≡ (not (is_queue_of object q) && old q)
+
 -- who stands in the queue k after a thread joined q: the other queues are as before
 abbrev pub line_after : Queue → Queue → Waiter → List Waiter → List Waiter
 line_after k q w before = cond (same_queue q k) (insert_behind w before) before
+
+-- a thread of a priority joined a queue
+abbrev pub JoinsQueue : (Queue → List Waiter) → (Queue → List Waiter) → ObjId → Queue → Prio → Type 0
+JoinsQueue old new t into p = (q : Queue) → new q ≡ line_after q into (record { thread = t; priority = p.0 }) (old q)
 
 -- the thread behind another
 abbrev pub behind : ObjId → List Waiter → Option ObjId

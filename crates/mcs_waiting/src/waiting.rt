@@ -1,12 +1,12 @@
 //! Queues in which threads wait, by ids.
-ghost use Rattle.std.specs.Prelude.{ℕ, ◌≡◌, ◌+◌, ◌&&◌, ◌||◌, not, Bool, true, false, List, [], Option, Some, None, IfOk};
+ghost use Rattle.std.specs.Prelude.{ℕ, ◌≡◌, ◌+◌, ◌||◌, Bool, true, false, List, [], Option, Some, None, IfOk};
 ghost use Rattle.mcs_types.specs.declared.id.ObjId.{ObjId};
 ghost use Rattle.mcs_types.specs.declared.id.Kind.{Kind};
 ghost use Rattle.mcs_types.specs.declared.record.Queue.{Queue};
-ghost use Rattle.mcs_types.specs.Ids.{IsThread, value_after};
+ghost use Rattle.mcs_types.specs.Ids.{IsThread, ChangesAt};
 ghost use Rattle.mcs_book.specs.Queues.{head_of};
 ghost use Rattle.mcs_book.specs.Growing.{Waiter, threads_in, without, shifted};
-ghost use Rattle.mcs_waiting.specs.Queues.{has_queues, is_queue_of, no_room, count_after, line_after, behind_in};
+ghost use Rattle.mcs_waiting.specs.Queues.{has_queues, is_queue_of, no_room, behind_in, CountsOneMore, LosesQueues, JoinsQueue};
 
 use mcs_types::{Kind, ObjId, OutOfMemory, Prio, Queue};
 use std::alloc::Global;
@@ -62,10 +62,8 @@ pub trait Waiting: Sized + Drop {
         ensures line { (q : Queue) → line self.new q ≡ line self.old q }
         ensures queue { (t : ObjId) → queue self.new t ≡ queue self.old t }
         ensures has { (q : Queue) → has self.new q ≡ (is_queue_of result q || has self.old q) }
-        ensures given { (k : Kind) →
-            given self.new k ≡ count_after k kind (given self.old k + 1) (given self.old k) }
-        ensures there { (k : Kind) →
-            there self.new k ≡ count_after k kind (there self.old k + 1) (there self.old k) };
+        ensures given { CountsOneMore (given self.old) (given self.new) kind }
+        ensures there { CountsOneMore (there self.old) (there self.new) kind };
 
     /// Forgets an endpoint or a notification that is there, and in whose queues nobody stands: its serial is never given again
     /// (manual: Kernel Services and Objects).
@@ -75,13 +73,10 @@ pub trait Waiting: Sized + Drop {
         requires empty { (q : Queue) → is_queue_of object q ≡ true → line self.old q ≡ [] }
         ensures line { (q : Queue) → line self.new q ≡ line self.old q }
         ensures queue { (t : ObjId) → queue self.new t ≡ queue self.old t }
-        ensures has { (q : Queue) →
-            has self.new q ≡ (not (is_queue_of object q) && has self.old q) }
+        ensures has { LosesQueues (has self.old) (has self.new) object }
         ensures given { (k : Kind) → given self.new k ≡ given self.old k }
         // One is there less, and at least one was.
-        ensures there { (k : Kind) →
-            let left = there self.new k in
-            there self.old k ≡ count_after k object.kind (left + 1) left };
+        ensures there { CountsOneMore (there self.new) (there self.old) object.kind };
 
     /// Puts a thread that stands in no queue into one whose object is there, behind all of its priority (manual: Message
     /// Passing).
@@ -89,10 +84,8 @@ pub trait Waiting: Sized + Drop {
         requires known { IsThread thread }
         requires there { has self.old into ≡ true }
         requires idle { queue self.old thread ≡ None }
-        ensures line { let waiter : Waiter = record { thread = thread; priority = priority.0 } in
-            (k : Queue) → line self.new k ≡ line_after k into waiter (line self.old k) }
-        ensures queue { (t : ObjId) →
-            queue self.new t ≡ value_after t thread (Some into) (queue self.old t) }
+        ensures line { JoinsQueue (line self.old) (line self.new) thread into priority }
+        ensures queue { ChangesAt (queue self.old) (queue self.new) thread (Some into) }
         ensures has { (q : Queue) → has self.new q ≡ has self.old q }
         ensures given { (k : Kind) → given self.new k ≡ given self.old k }
         ensures there { (k : Kind) → there self.new k ≡ there self.old k };
@@ -100,8 +93,7 @@ pub trait Waiting: Sized + Drop {
     /// Takes a thread out of its queue, if it stands in one (manual: Message Passing).
     fn part(&mut self, thread: ObjId)
         ensures line { (q : Queue) → line self.new q ≡ without thread (line self.old q) }
-        ensures queue { (t : ObjId) →
-            queue self.new t ≡ value_after t thread None (queue self.old t) }
+        ensures queue { ChangesAt (queue self.old) (queue self.new) thread None }
         ensures has { (q : Queue) → has self.new q ≡ has self.old q }
         ensures given { (k : Kind) → given self.new k ≡ given self.old k }
         ensures there { (k : Kind) → there self.new k ≡ there self.old k };

@@ -3,16 +3,14 @@ use Rattle.std.specs.Prelude.{option_map}
 use Rattle.mcs_waiting.specs.Places.{thread_at, number_of, queue_at}
 use Rattle.mcs_waiting.proofs.Lists.{below}
 use Rattle.mcs_waiting.proofs.Numbering.{next-behind}
-use Rattle.mcs_waiting.proofs.PlaceLaws.{apart, numbering}
+use Rattle.mcs_waiting.proofs.PlaceLaws.{numbering}
 use Rattle.mcs_waiting.proofs.queues.ObjectQueuesWaiting.next.Goals as goal
 
 pub returns-in_err-next : goal.returns-in_err-next
 returns-in_err-next g c =
     let s = c.self.inside in
     let kept = c.self.invariant in
-    let apart_e = c.are_apart.ensures in
-    let apart_n = c.are_apart-2.ensures in
-    let iso = numbering s.endpoints s.notifications (apart s.endpoints kept.endpoints.room_is apart_e.room apart_e.owner apart_e.owned) (apart s.notifications kept.notifications.room_is apart_n.room apart_n.owner apart_n.owned) in
+    let iso = numbering s.endpoints s.notifications kept.endpoints kept.notifications c.are_apart.ensures c.are_apart-2.ensures in
     let who = below _ _ (sym c.in_ok-number.ensures) in
     let behind = next-behind (number_of s.endpoints s.notifications) (queue_at s.endpoints s.notifications) iso (g.L.Lines.line s.lines) (g.L.Lines.place s.lines) kept.lined_up c.args.thread c.in_ok-number.number.0 who.0 in
     rw (c.from_residual-in_err-next.ensures, ← c.self.view_is) (ap (λ o. option_map thread_at o) c.in_err-next.ensures ∙ sym behind)
@@ -21,9 +19,7 @@ pub returns : goal.returns
 returns g c =
     let s = c.self.inside in
     let kept = c.self.invariant in
-    let apart_e = c.are_apart.ensures in
-    let apart_n = c.are_apart-2.ensures in
-    let iso = numbering s.endpoints s.notifications (apart s.endpoints kept.endpoints.room_is apart_e.room apart_e.owner apart_e.owned) (apart s.notifications kept.notifications.room_is apart_n.room apart_n.owner apart_n.owned) in
+    let iso = numbering s.endpoints s.notifications kept.endpoints kept.notifications c.are_apart.ensures c.are_apart-2.ensures in
     let who = below _ _ (sym c.in_ok-number.ensures) in
     let behind = next-behind (number_of s.endpoints s.notifications) (queue_at s.endpoints s.notifications) iso (g.L.Lines.line s.lines) (g.L.Lines.place s.lines) kept.lined_up c.args.thread c.in_ok-number.number.0 who.0 in
     rw (← c.self.view_is) (ap (λ t. Some t) c.thread_id.ensures ∙ ap (λ o. option_map thread_at o) c.in_ok-next.ensures ∙ sym behind)

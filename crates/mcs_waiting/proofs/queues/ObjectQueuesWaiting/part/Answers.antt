@@ -13,8 +13,7 @@ invariant_of-self g c =
       endpoints = kept.endpoints;
       notifications = kept.notifications;
       lined_up = parted (queue_at s.endpoints s.notifications) (g.L.Lines.line s.lines) (g.L.Lines.line c.part.new.self) (g.L.Lines.place s.lines) (g.L.Lines.place c.part.new.self) c.in-Some.number.0 c.part.ensures.line c.part.ensures.place kept.lined_up;
-      threads_are = c.part.ensures.threads ∙ kept.threads_are;
-      lines_are = c.part.ensures.lines ∙ kept.lines_are;
+      rooms_are = c.part.ensures.rooms ∙ kept.rooms_are;
     }
 
 pub returns-in-Some-clause-line : goal.returns-in-Some-clause-line

@@ -13,8 +13,7 @@ invariant_of-self g c =
       endpoints = kept.endpoints;
       notifications = kept.notifications;
       lined_up = moved (queue_at s.endpoints s.notifications) (g.L.Lines.line s.lines) (g.L.Lines.line c.shift.new.self) (g.L.Lines.place s.lines) (g.L.Lines.place c.shift.new.self) c.in-Some.number.0 c.args.priority.0 c.shift.ensures.line c.shift.ensures.place kept.lined_up;
-      threads_are = c.shift.ensures.threads ∙ kept.threads_are;
-      lines_are = c.shift.ensures.lines ∙ kept.lines_are;
+      rooms_are = c.shift.ensures.rooms ∙ kept.rooms_are;
     }
 
 pub returns-in-Some-clause-line : goal.returns-in-Some-clause-line
