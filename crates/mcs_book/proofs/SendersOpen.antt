@@ -6,7 +6,6 @@ use Rattle.std.proofs.Common.{sym, ◌∙◌, ap, inl, inr, subst}
 use Rattle.std.proofs.lemmas.Bool.{eqb-true, eq-eqb}
 use Rattle.mcs_types.specs.declared.id.ObjId.{ObjId}
 use Rattle.mcs_types.specs.declared.id.CoreId.{CoreId}
-use Rattle.mcs_types.specs.declared.id.Kind.TheVariants as kind
 use Rattle.mcs_types.specs.declared.entry.Entry.{Entry}
 use Rattle.mcs_types.specs.declared.record.Letter.{Letter}
 use Rattle.mcs_types.specs.declared.record.Queue.{Queue}
@@ -15,7 +14,6 @@ use Rattle.mcs_types.specs.declared.record.Rec.{Rec}
 use Rattle.mcs_types.specs.declared.record.Rec.TheVariants as rec
 use Rattle.mcs_types.specs.Ids.{same}
 use Rattle.mcs_book.specs.Logs.{Log, onto, given}
-use Rattle.mcs_book.specs.Objects.{was_made}
 use Rattle.mcs_book.specs.Queues.{queue_of, first_in}
 use Rattle.mcs_book.specs.Messages.{next_message, letters, letter, settles, is_open, open_of}
 use Rattle.mcs_book.specs.Standing.{may_enter}
@@ -23,7 +21,7 @@ use Rattle.mcs_book.specs.Boots.{boot_log}
 use Rattle.mcs_book.specs.Table.{does}
 use Rattle.mcs_book.specs.History.{Book, IsLegal, log_of}
 use Rattle.mcs_book.specs.Each.{AfterEachLine}
-use Rattle.mcs_book.specs.Fair.{IsOpenOf, SendersAreOpen, NoneWaitBeside}
+use Rattle.mcs_book.specs.Fair.{IsOpenOf, SendersAreOpen}
 use Rattle.mcs_types.proofs.Ids.{same-self, same-equal, parts, both}
 use Rattle.mcs_book.proofs.LineLaws.{first-stands}
 use Rattle.mcs_book.proofs.MessageLaws.{open_of-open, open_of-letter}

@@ -1,6 +1,6 @@
 -- What the served entries leave: no reply object owes anybody, no thread is bound to a notification, and no open message is a call.
-use Rattle.std.specs.Prelude.{ℕ, Bool, true, false, cond, ◌≡◌, ◌==◌, List, [], ◌∷◌, ◌++◌, Option, Some, None, unwrap_or, Ok, Err, refl}
-use Rattle.std.proofs.Common.{ap, sym, ◌∙◌}
+use Rattle.std.specs.Prelude.{ℕ, Bool, true, false, cond, ◌≡◌, ◌==◌, List, [], ◌∷◌, Option, Some, None, unwrap_or, Ok, Err, refl}
+use Rattle.std.proofs.Common.{ap, sym}
 use Rattle.mcs_types.specs.Views.{Content}
 use Rattle.mcs_types.specs.declared.id.ObjId.{ObjId}
 use Rattle.mcs_types.specs.declared.id.CoreId.{CoreId}
@@ -35,7 +35,7 @@ use Rattle.mcs_book.specs.Checks.{Checked, ◌>>◌, need}
 use Rattle.mcs_book.specs.Pieces.{Piece, ◌then◌, nothing, say, with_any, Act, answers, before}
 use Rattle.mcs_book.specs.Taking.{handed, taken}
 use Rattle.mcs_book.specs.Sending.{letter_over, sends_to, sends, queues, send_by, send_over}
-use Rattle.mcs_book.specs.Receiving.{free, joins_or, hear, take_open, receive_message, receive_on, wait_on, receive_by, receive_over, open_of_any}
+use Rattle.mcs_book.specs.Receiving.{free, joins_or, hear, take_open, receive_message, receive_on, receive_by, receive_over, open_of_any}
 use Rattle.mcs_book.specs.Table.{row, wakes, outcome_of, does}
 use Rattle.mcs_book.specs.Boots.{boot_line, boot_log}
 use Rattle.mcs_book.specs.Served.{is_served, AreServed, IsPlain, serves_kind}

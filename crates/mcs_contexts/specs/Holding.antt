@@ -1,11 +1,11 @@
 -- What a contract sees of `Contexts`: what is kept of each context that is there, and what each thread holds.
-use Rattle.std.specs.Prelude.{◌≡◌, Bool, false, cond, ◌&&◌, ◌||◌, List, length, Option, Some, None, is_some, is_none, option_map, option_and_then, Result, Ok, Err}
+use Rattle.std.specs.Prelude.{◌≡◌, Bool, cond, ◌&&◌, ◌||◌, List, length, Option, Some, None, is_some, is_none, option_map, option_and_then, Result, Ok, Err}
 use Rattle.mcs_types.specs.declared.id.ObjId.{ObjId}
 use Rattle.mcs_types.specs.declared.id.CoreId.{CoreId}
 use Rattle.mcs_types.specs.declared.id.Kind.TheVariants.{Context, Thread}
 use Rattle.mcs_types.specs.declared.entry.Refusal.{Refusal}
 use Rattle.mcs_types.specs.declared.entry.Refusal.TheVariants.{AlreadyBound, NotBound}
-use Rattle.mcs_types.specs.Ids.{same, is_just, value_after, ChangesAt}
+use Rattle.mcs_types.specs.Ids.{is_just, value_after, ChangesAt}
 use Rattle.mcs_objects.specs.Store.{Objects, Shape, value_at, shape, next_id, is_full}
 use Rattle.mcs_places.specs.Places.{kept_at}
 use Rattle.mcs_contexts.specs.declared.contexts.ContextRow.{ContextRow}

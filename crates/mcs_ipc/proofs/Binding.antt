@@ -1,26 +1,23 @@
 -- The rows of BindCtx and UnbindCtx are what the code does, and what it does is allowed.
-use Rattle.std.specs.Prelude.{ℕ, ◌≡◌, ◌∷◌, ◌&&◌, ◌||◌, Bool, true, false, cond, List, [], Option, Some, None, is_some, is_none, IsSome, Ok, Err}
-use Rattle.std.proofs.Common.{refl, ap, sym, ◌∙◌, subst}
+use Rattle.std.specs.Prelude.{ℕ, ◌≡◌, ◌&&◌, ◌||◌, Bool, true, false, cond, List, [], Option, Some, None, is_some, is_none, IsSome, Ok, Err}
+use Rattle.std.proofs.Common.{refl, sym, subst}
 use Rattle.mcs_types.specs.declared.id.ObjId.{ObjId}
 use Rattle.mcs_types.specs.declared.id.CoreId.{CoreId}
 use Rattle.mcs_types.specs.declared.id.Kind.TheVariants as kind
 use Rattle.mcs_types.specs.declared.cap.Cap.{Cap}
 use Rattle.mcs_types.specs.declared.record.Mode.{Mode}
 use Rattle.mcs_types.specs.declared.record.Mode.TheVariants.{Running, Restart, Inactive}
-use Rattle.mcs_types.specs.declared.record.Rec.{Rec}
 use Rattle.mcs_types.specs.declared.record.Rec.TheVariants as rec
 use Rattle.mcs_types.specs.declared.entry.Entry.TheVariants.{BindCtx, UnbindCtx}
-use Rattle.mcs_types.specs.declared.entry.Answer.TheVariants.{Done, Refused}
 use Rattle.mcs_types.specs.declared.entry.Refusal.TheVariants.{AlreadyBound, NotBound}
 use Rattle.mcs_book.specs.Logs.{Log, onto}
 use Rattle.mcs_book.specs.Checks.{Checked, ◌>>=◌, ◌>>◌, need}
-use Rattle.mcs_book.specs.Threads.{mode_of}
 use Rattle.mcs_book.specs.Contexts.{holder_of, context_of}
 use Rattle.mcs_book.specs.Chains.{chain_of}
 use Rattle.mcs_book.specs.Placing.{is_empty}
-use Rattle.mcs_book.specs.Pieces.{Act, before}
+use Rattle.mcs_book.specs.Pieces.{Act}
 use Rattle.mcs_book.specs.Sound.{Sound, Allowed, IsThere}
-use Rattle.mcs_book.specs.Table.{row, wakes, does}
+use Rattle.mcs_book.specs.Table.{row, wakes}
 use Rattle.mcs_book.proofs.FirmLaws.{context-none}
 use Rattle.mcs_state.specs.Checks.{kinded, object_found, object_named, act_of}
 use Rattle.mcs_state.proofs.Named.{object-is, named-there}

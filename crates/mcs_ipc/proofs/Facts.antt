@@ -1,7 +1,7 @@
 -- What holds of a thread that sends, of one that receives, and of who is first in a queue.
 use Rattle.std.specs.Option.{IfSome}
-use Rattle.std.specs.Prelude.{ℕ, ◌==◌, unwrap_or, Ok, Err, ◌≡◌, Bool, true, false, cond, [], ◌∷◌, Option, Some, None, IsTrue}
-use Rattle.std.proofs.Common.{refl, ap, sym, ◌∙◌, subst}
+use Rattle.std.specs.Prelude.{ℕ, Ok, Err, ◌≡◌, Bool, true, false, [], ◌∷◌, Option, Some, None, IsTrue}
+use Rattle.std.proofs.Common.{refl, sym, ◌∙◌, subst}
 use Rattle.mcs_types.specs.Views.{Content}
 use Rattle.mcs_types.specs.declared.id.ObjId.{ObjId}
 use Rattle.mcs_types.specs.declared.id.Badge.{Badge}
@@ -16,7 +16,6 @@ use Rattle.mcs_types.specs.declared.record.SendMode.{SendMode}
 use Rattle.mcs_types.specs.declared.record.SendMode.TheVariants as how
 use Rattle.mcs_types.specs.declared.record.Rec.TheVariants as rec
 use Rattle.mcs_types.specs.declared.entry.Answer.TheVariants.{Done, Waits}
-use Rattle.mcs_types.specs.Ids.{same}
 use Rattle.mcs_types.proofs.Ids.{same-self}
 use Rattle.mcs_book.specs.Logs.{Log, onto}
 use Rattle.mcs_book.specs.Checks.{Checked}
@@ -34,8 +33,8 @@ use Rattle.mcs_book.proofs.LineLaws.{first-stands}
 use Rattle.mcs_book.proofs.MessageLaws.{sent-open}
 use Rattle.mcs_book.proofs.OpenLaws.{sound-ends, open_of-growing}
 use Rattle.mcs_state.specs.Now.{IsNumberOf}
-use Rattle.mcs_state.specs.Checks.{kinded, writable, readable, object_named}
-use Rattle.mcs_state.specs.Entering.{IsEntering, IsActing, OpenStand}
+use Rattle.mcs_state.specs.Checks.{kinded, readable, object_named}
+use Rattle.mcs_state.specs.Entering.{IsEntering, OpenStand}
 use Rattle.mcs_state.proofs.Named.{kinded-ok, writable-ok, readable-ok, found-alive, named-there}
 use Rattle.mcs_state.proofs.Woken.{woken}
 use Rattle.mcs_ipc.specs.declared.checks.Receiving.{Receiving}

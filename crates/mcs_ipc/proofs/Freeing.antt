@@ -1,5 +1,5 @@
 -- A reply object whose present user is cancelled, and what a receive then finds.
-use Rattle.std.specs.Prelude.{ℕ, ◌≡◌, ◌==◌, Bool, true, false, cond, [], ◌∷◌, Option, Some, None, unwrap_or, IsTrue}
+use Rattle.std.specs.Prelude.{ℕ, ◌≡◌, Bool, true, false, [], ◌∷◌, Option, Some, None, unwrap_or, IsTrue}
 use Rattle.std.specs.Option.{option_or, IfSome}
 use Rattle.std.proofs.Common.{refl, ap, sym, ◌∙◌, subst}
 use Rattle.mcs_types.specs.declared.id.ObjId.{ObjId}
@@ -17,7 +17,7 @@ use Rattle.mcs_types.specs.declared.entry.Answer.TheVariants.{Got, Waits, Empty}
 use Rattle.mcs_types.specs.Ids.{same}
 use Rattle.mcs_book.specs.Logs.{Log, onto, given}
 use Rattle.mcs_book.specs.Queues.{queue_of, first_in}
-use Rattle.mcs_book.specs.Messages.{letter, next_message, is_open, open_of}
+use Rattle.mcs_book.specs.Messages.{letter, is_open, open_of}
 use Rattle.mcs_state.specs.Now.{IsNumberOf}
 use Rattle.mcs_book.specs.Replies.{receiver_with}
 use Rattle.mcs_book.specs.Pieces.{◌then◌, with_any}

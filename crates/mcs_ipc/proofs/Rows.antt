@@ -1,5 +1,5 @@
 -- The rows of the table are what the code does.
-use Rattle.std.specs.Prelude.{ℕ, ◌≡◌, Bool, true, false, cond, Option, Some, None, Result, Ok, Err, []}
+use Rattle.std.specs.Prelude.{ℕ, ◌≡◌, Bool, true, false, cond, Option, Some, None, Ok, Err}
 use Rattle.std.proofs.Common.{refl, ap, sym, ◌∙◌}
 use Rattle.mcs_types.specs.Views.{Content}
 use Rattle.mcs_types.specs.declared.id.ObjId.{ObjId}
@@ -8,21 +8,19 @@ use Rattle.mcs_types.specs.declared.id.Kind.{Kind}
 use Rattle.mcs_types.specs.declared.id.Kind.TheVariants.{CNode, Thread, Endpoint, Notification, Reply, Context}
 use Rattle.mcs_types.specs.declared.cap.Cap.{Cap}
 use Rattle.mcs_types.specs.declared.record.SendMode.TheVariants as how
-use Rattle.mcs_types.specs.declared.entry.Answer.TheVariants.{Done, Refused}
+use Rattle.mcs_types.specs.declared.entry.Answer.TheVariants.{Done}
 use Rattle.mcs_types.specs.declared.entry.Refusal.{Refusal}
 use Rattle.mcs_types.specs.declared.entry.Refusal.TheVariants.{WrongKind, NoRight}
 use Rattle.mcs_types.specs.Ids.{same_kind}
 use Rattle.mcs_book.specs.Logs.{Log}
 use Rattle.mcs_book.specs.Checks.{Checked, ◌>>=◌, ◌>>◌, need}
-use Rattle.mcs_book.specs.Rights.{may_write, may_read, is_kind}
-use Rattle.mcs_book.specs.Threads.{mode_of}
-use Rattle.mcs_book.specs.Lookup.{capability, of_kind}
+use Rattle.mcs_book.specs.Rights.{may_write, may_read}
+use Rattle.mcs_book.specs.Lookup.{capability}
 use Rattle.mcs_book.specs.Pieces.{with_any, Act, before}
 use Rattle.mcs_book.specs.Served.{serves_kind}
 use Rattle.mcs_book.specs.Sending.{letter_over, sends, send_by, send_over}
 use Rattle.mcs_book.specs.Receiving.{receive_by, receive_over, reply_at, receive_on, free, receive_message}
-use Rattle.mcs_book.specs.Table.{row, wakes, does}
-use Rattle.mcs_book.proofs.TableLaws.{does-refused, does-acts}
+use Rattle.mcs_book.specs.Table.{row}
 use Rattle.mcs_state.specs.Checks.{kinded, writable, readable, object_found, object_named, act_of}
 use Rattle.mcs_state.proofs.Named.{bind-ok, bind-err, object-is}
 use Rattle.mcs_ipc.specs.declared.checks.Receiving.{Receiving}

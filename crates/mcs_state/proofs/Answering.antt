@@ -1,10 +1,9 @@
 -- What the tables answer is what the definitions say.
-use Rattle.std.specs.Prelude.{ℕ, ◌≡◌, ◌≢◌, ◌<◌, ◌≤◌, ◌+◌, ◌-◌, ◌&&◌, ◌||◌, not, Bool, true, false, cond, List, [], ◌∷◌, length, suc, nat_le, Ok, Option, Some, None, option_and_then, unwrap_or}
+use Rattle.std.specs.Prelude.{ℕ, ◌≡◌, ◌≢◌, ◌≤◌, ◌+◌, ◌-◌, ◌&&◌, ◌||◌, not, Bool, true, false, cond, List, [], ◌∷◌, length, suc, nat_le, Ok, Option, Some, None, option_and_then, unwrap_or}
 use Rattle.std.proofs.Common.{refl, ap, sym, ◌∙◌, subst, arith}
 use Rattle.std.proofs.lemmas.Grind.{common_steps}
 use Rattle.std.proofs.lemmas.Bool.{eq-eqb}
 use Rattle.mcs_types.specs.declared.id.ObjId.{ObjId}
-use Rattle.mcs_types.specs.declared.id.Kind.{Kind}
 use Rattle.mcs_types.specs.declared.id.Kind.TheVariants as kind
 use Rattle.mcs_types.specs.declared.cap.Cap.{Cap}
 use Rattle.mcs_types.specs.declared.cap.Place.{Place}
@@ -18,14 +17,14 @@ use Rattle.mcs_types.specs.declared.record.Rec.TheVariants as rec
 use Rattle.mcs_types.specs.declared.record.Status.TheVariants as status
 use Rattle.mcs_types.specs.declared.entry.Refusal.TheVariants.{DepthMismatch, Range}
 use Rattle.mcs_types.specs.Ids.{same, same_kind, place_of, IsThread}
-use Rattle.mcs_types.proofs.Ids.{same_kind-equal, same_kind-self, parts}
+use Rattle.mcs_types.proofs.Ids.{same_kind-equal, same_kind-self}
 use Rattle.mcs_book.specs.Logs.{Log, given, counted}
-use Rattle.mcs_book.specs.Objects.{makes_kind, was_made, was_closed, is_alive, form_of}
+use Rattle.mcs_book.specs.Objects.{makes_kind, was_made, was_closed, form_of}
 use Rattle.mcs_book.specs.Threads.{mode_of, root_of, root_kept}
 use Rattle.mcs_book.specs.Queues.{queue_of, reply_with, first_in, head_of}
 use Rattle.mcs_book.specs.Replies.{owing}
 use Rattle.mcs_book.specs.Standing.{status_of, status_by}
-use Rattle.mcs_book.specs.Messages.{open_of, is_sent}
+use Rattle.mcs_book.specs.Messages.{open_of}
 use Rattle.mcs_book.specs.Growing.{Waiter, growing_line, growing_open, threads_in}
 use Rattle.mcs_book.specs.Checks.{Checked, ◌>>=◌, ◌>>◌, need, needed}
 use Rattle.mcs_book.specs.Slots.{SlotName}
@@ -44,7 +43,7 @@ use Rattle.mcs_threads.specs.declared.row.ThreadRow.{ThreadRow}
 use Rattle.mcs_threads.specs.Rows.{status_in, status_under}
 use Rattle.mcs_state.specs.Saying.{block_said, row_said}
 use Rattle.mcs_state.specs.Tables.{SlotsAgree}
-use Rattle.mcs_state.proofs.Saying.{Says, said, rowless, row-there, has-row}
+use Rattle.mcs_state.proofs.Saying.{Says, said, rowless, row-there}
 use Rattle.mcs_state.proofs.SlotLaws.{space-is}
 
 -- a thread that is there has a row

@@ -1,5 +1,5 @@
 -- The contexts follow a record.
-use Rattle.std.specs.Prelude.{◌≡◌, ◌≢◌, ◌+◌, ◌&&◌, ◌||◌, not, Bool, true, false, cond, ◌∷◌, Option, Some, None, IsSome, unwrap_or, option_and_then}
+use Rattle.std.specs.Prelude.{◌≡◌, ◌≢◌, ◌&&◌, ◌||◌, not, Bool, true, false, cond, ◌∷◌, Option, Some, None, IsSome, unwrap_or, option_and_then}
 use Rattle.std.specs.Option.{IfSome}
 use Rattle.std.proofs.Common.{refl, ap, sym, ◌∙◌}
 use Rattle.mcs_types.specs.declared.id.ObjId.{ObjId}
@@ -13,15 +13,15 @@ use Rattle.mcs_types.specs.declared.record.Rec.TheVariants as rec
 use Rattle.mcs_types.specs.Ids.{same, same_kind}
 use Rattle.mcs_types.proofs.Ids.{same-equal}
 use Rattle.mcs_book.specs.Logs.{Log, given}
-use Rattle.mcs_book.specs.Objects.{form_of, was_made, was_closed, is_alive}
+use Rattle.mcs_book.specs.Objects.{form_of, was_made, was_closed}
 use Rattle.mcs_book.specs.Contexts.{holder_of, context_of}
 use Rattle.mcs_book.specs.Sound.{Sound, Allowed, IsThere, IsFormOf}
 use Rattle.mcs_book.proofs.MadeLaws.{alive-made}
 use Rattle.mcs_book.proofs.HoldingLaws.{context_of-holder, holder-context_of}
 use Rattle.mcs_book.proofs.KeptLaws.{held-there}
 use Rattle.mcs_objects.specs.Store.{one_more}
-use Rattle.mcs_contexts.specs.Holding.{Holding, counts, core_in, holder_in, context_in, IsOneToOne}
-use Rattle.mcs_state.specs.Tables.{shape_said, core_kept, core_said, ContextsAgree}
+use Rattle.mcs_contexts.specs.Holding.{Holding, core_in, holder_in, context_in, IsOneToOne}
+use Rattle.mcs_state.specs.Tables.{core_kept, core_said, ContextsAgree}
 use Rattle.mcs_state.specs.Following.{ContextsFollow, AddsContext, GivesContext}
 use Rattle.mcs_state.proofs.CountLaws.{never-made, shape-made, shape-beside}
 use Rattle.mcs_state.proofs.Saying.{formless, form-fits, unclosed}

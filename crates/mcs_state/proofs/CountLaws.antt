@@ -8,7 +8,7 @@ use Rattle.mcs_types.specs.declared.record.Rec.TheVariants as rec
 use Rattle.mcs_types.specs.Ids.{same, same_kind}
 use Rattle.mcs_types.proofs.Ids.{same-self}
 use Rattle.mcs_book.specs.Logs.{Log, counted}
-use Rattle.mcs_book.specs.Objects.{made_of, was_made, was_closed, is_alive, makes_kind, number_of, next_id}
+use Rattle.mcs_book.specs.Objects.{made_of, was_made, was_closed, is_alive, number_of}
 use Rattle.mcs_book.specs.Sound.{Sound, Allowed}
 use Rattle.mcs_book.proofs.CountLaws.{next-unmade}
 use Rattle.mcs_book.proofs.FirmLaws.{in-made}

@@ -1,14 +1,13 @@
 -- The state after one record more.
-use Rattle.std.specs.Prelude.{ℕ, ◌≡◌, ◌<◌, ◌≤◌, ◌+◌, ◌*◌, ◌++◌, ◌∷◌, List, [], length, reverse}
+use Rattle.std.specs.Prelude.{ℕ, ◌≡◌, ◌<◌, ◌+◌, ◌++◌, ◌∷◌, List, [], length, reverse}
 use Rattle.std.proofs.Common.{ap, sym, ◌∙◌, subst, arith}
 use Rattle.std.proofs.lemmas.List.{reverse-append}
 use Rattle.mcs_types.specs.declared.record.Rec.{Rec}
 use Rattle.mcs_types.specs.declared.record.Rec.TheVariants as rec
 use Rattle.mcs_types.specs.declared.id.Kind.{Kind}
 use Rattle.mcs_types.specs.declared.record.Form.{Form}
-use Rattle.mcs_book.specs.Logs.{Log, counted}
+use Rattle.mcs_book.specs.Logs.{Log}
 use Rattle.mcs_book.specs.Objects.{next_id}
-use Rattle.mcs_book.specs.Messages.{is_sent}
 use Rattle.mcs_book.specs.Fits.{FitsRecord}
 use Rattle.mcs_book.specs.Sound.{Allowed}
 use Rattle.mcs_state.specs.Now.{Now, so_far}

@@ -1,9 +1,8 @@
 -- The open messages follow a record.
 use Rattle.std.specs.Prelude.{ℕ, ◌≡◌, ◌≢◌, ◌==◌, Bool, true, false, cond, List, ◌∷◌, Option, Some, None}
-use Rattle.std.proofs.Common.{refl, ap, sym, ◌∙◌, subst}
+use Rattle.std.proofs.Common.{refl, ap, sym, ◌∙◌}
 use Rattle.std.proofs.lemmas.Bool.{eqb-true, eq-eqb}
 use Rattle.mcs_types.specs.declared.id.ObjId.{ObjId}
-use Rattle.mcs_types.specs.declared.id.Kind.TheVariants as kind
 use Rattle.mcs_types.specs.declared.record.Letter.{Letter}
 use Rattle.mcs_types.specs.declared.record.Rec.{Rec}
 use Rattle.mcs_types.specs.declared.record.Rec.TheVariants as rec
@@ -15,7 +14,6 @@ use Rattle.mcs_book.specs.Messages.{letter, open_of, next_message}
 use Rattle.mcs_book.specs.Sound.{Allowed, Sound}
 use Rattle.mcs_book.proofs.MessageLaws.{open_of-letter, open_of-open}
 use Rattle.mcs_book.proofs.OpenLaws.{open_of-growing}
-use Rattle.mcs_places.specs.Places.{kept_at}
 use Rattle.mcs_state.specs.Now.{IsNumberOf}
 use Rattle.mcs_state.specs.Tables.{LettersAgree}
 use Rattle.mcs_state.specs.Following.{LettersFollow}

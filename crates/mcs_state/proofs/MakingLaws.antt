@@ -1,15 +1,15 @@
 -- What is made is the next object of its kind, and there is room for it.
-use Rattle.std.specs.Prelude.{ℕ, ◌≡◌, ◌<◌, ◌+◌, ◌==◌, ◌||◌, Bool, true, false, Option}
-use Rattle.std.proofs.Common.{refl, ap, sym, ◌∙◌, subst, arith}
+use Rattle.std.specs.Prelude.{◌≡◌, ◌+◌, ◌==◌, ◌||◌, true, false, Option}
+use Rattle.std.proofs.Common.{refl, ap, arith}
 use Rattle.std.proofs.lemmas.Grind.{common_steps}
 use Rattle.mcs_types.specs.declared.id.ObjId.{ObjId}
 use Rattle.mcs_types.specs.declared.id.Kind.{Kind}
 use Rattle.mcs_types.specs.declared.id.Kind.TheVariants as kind
 use Rattle.mcs_book.specs.Logs.{Log, counted}
 use Rattle.mcs_book.specs.Objects.{makes_kind, number_of, next_id}
-use Rattle.mcs_objects.specs.Store.{Objects, Shape, shape, is_full}
+use Rattle.mcs_objects.specs.Store.{Objects, Shape}
 use Rattle.mcs_waiting.specs.Queues.{has_queues, no_room}
-use Rattle.mcs_state.specs.Tables.{Queueing, QueuesAgree, RepliesAgree, ContextsAgree, shape_said}
+use Rattle.mcs_state.specs.Tables.{Queueing, QueuesAgree, shape_said}
 use Rattle.mcs_state.specs.Making.{HasRoom}
 use Rattle.mcs_state.specs.Following.{OpensQueues, QueuesFollowMade, RepliesFollowMade}
 

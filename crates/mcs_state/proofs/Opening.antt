@@ -1,11 +1,10 @@
 -- A state in which nothing is made, and one whose records in hand moved to the book.
-use Rattle.std.specs.Prelude.{ℕ, ◌≡◌, ◌≤◌, ◌*◌, ◌+◌, ◌∷◌, ◌++◌, ◌&&◌, List, [], length, reverse, false, true, Bool, Option, Some, None, unwrap_or}
+use Rattle.std.specs.Prelude.{ℕ, ◌≡◌, ◌≤◌, ◌*◌, ◌∷◌, ◌++◌, ◌&&◌, List, [], length, reverse, false, true, Bool, Option, Some, None, unwrap_or}
 use Rattle.std.proofs.Common.{refl, ap, sym, ◌∙◌, arith, append_assoc}
 use Rattle.std.proofs.lemmas.List.{reverse-append}
 use Rattle.mcs_types.specs.declared.id.ObjId.{ObjId}
 use Rattle.mcs_types.specs.declared.id.Kind.{Kind}
 use Rattle.mcs_types.specs.declared.id.Kind.TheVariants as kind
-use Rattle.mcs_types.specs.declared.record.Letter.{Letter}
 use Rattle.mcs_types.specs.declared.record.Queue.{Queue}
 use Rattle.mcs_types.specs.declared.record.Rec.{Rec}
 use Rattle.mcs_types.specs.declared.boot.BootLine.{BootLine}
@@ -17,13 +16,13 @@ use Rattle.mcs_book.specs.Boots.{boot_line, boot_log}
 use Rattle.mcs_book.specs.History.{Line, past, Book, log_of}
 use Rattle.mcs_book.specs.Standing.{mail_of}
 use Rattle.mcs_places.specs.Places.{kept_at}
-use Rattle.mcs_objects.specs.Store.{Objects, value_at, shape}
-use Rattle.mcs_contexts.specs.Holding.{Holding, counts, core_in, holder_in}
+use Rattle.mcs_objects.specs.Store.{value_at, shape}
+use Rattle.mcs_contexts.specs.Holding.{counts, core_in, holder_in}
 use Rattle.mcs_slots.specs.Numbers.{number_of}
 use Rattle.mcs_slots.specs.Pages.{page_of, page_radix, page_slot, radix_of, slot_at}
-use Rattle.mcs_threads.specs.Tables.{Table, made, row_of, mail_of as mail_in}
+use Rattle.mcs_threads.specs.Tables.{made, row_of, mail_of as mail_in}
 use Rattle.mcs_waiting.specs.Queues.{queue_object, queue_kind}
-use Rattle.mcs_state.specs.Tables.{ROOM, HAND, Tables, Queueing, IsKept, is_there}
+use Rattle.mcs_state.specs.Tables.{ROOM, HAND, Tables, IsKept, is_there}
 
 -- a book without lines has no records
 pub log-empty : (b : Book) → b.boot.lines ≡ [] → b.lines ≡ [] → log_of b ≡ []

@@ -1,14 +1,13 @@
 -- What the search finds is the pick.
-use Rattle.std.specs.Prelude.{ℕ, zero, suc, ◌≡◌, ◌<◌, ◌≤◌, ◌+◌, ◌-◌, Bool, true, false, cond, ◌&&◌, nat_lt, nat_le, List, Option, Some, None, option_and_then}
+use Rattle.std.specs.Prelude.{ℕ, zero, suc, ◌≡◌, ◌<◌, ◌≤◌, ◌+◌, ◌-◌, Bool, true, false, cond, ◌&&◌, nat_lt, List, Option, Some, None, option_and_then}
 use Rattle.std.proofs.Common.{refl, ap, sym, ◌∙◌, subst, arith}
 use Rattle.std.proofs.lemmas.Grind.{common_steps}
 use Rattle.mcs_types.specs.declared.id.ObjId.{ObjId}
 use Rattle.mcs_types.specs.declared.id.CoreId.{CoreId}
 use Rattle.mcs_types.specs.declared.id.Kind.TheVariants as kind
-use Rattle.mcs_types.specs.Ids.{same_kind}
-use Rattle.mcs_types.proofs.Ids.{parts, same_kind-equal}
+use Rattle.mcs_types.proofs.Ids.{parts}
 use Rattle.mcs_book.specs.Logs.{Log, counted}
-use Rattle.mcs_book.specs.Objects.{makes_kind, was_made, form_of}
+use Rattle.mcs_book.specs.Objects.{makes_kind, form_of}
 use Rattle.mcs_book.specs.Threads.{prio_of}
 use Rattle.mcs_book.specs.Contexts.{context_of}
 use Rattle.mcs_book.specs.Standing.{may_enter, is_ready, is_on_core, status_of}

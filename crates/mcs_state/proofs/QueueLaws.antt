@@ -16,9 +16,9 @@ use Rattle.mcs_book.specs.Objects.{makes_kind, number_of}
 use Rattle.mcs_book.specs.Queues.{queue_of}
 use Rattle.mcs_book.specs.Sound.{Sound, Allowed, IsLineThere}
 use Rattle.mcs_book.specs.Threads.{prio_of}
-use Rattle.mcs_waiting.specs.Queues.{queue_object, queue_kind, has_queues, is_queue_of, line_after, count_after}
+use Rattle.mcs_waiting.specs.Queues.{queue_object, queue_kind, has_queues, line_after, count_after}
 use Rattle.mcs_state.specs.Tables.{Queueing, QueuesAgree, is_there}
-use Rattle.mcs_state.specs.Following.{QueuesFollow, QueuesFollowMade, OpensQueues, JoinsQueue, PartsQueue, ShiftsInQueue}
+use Rattle.mcs_state.specs.Following.{QueuesFollow, QueuesFollowMade, OpensQueues, JoinsQueue, PartsQueue}
 use Rattle.mcs_state.proofs.CountLaws.{never-made, number-made}
 use Rattle.mcs_state.proofs.ThereLaws.{kind-flip, there-made, there-beside, there}
 

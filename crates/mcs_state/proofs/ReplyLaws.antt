@@ -1,6 +1,6 @@
 -- The reply objects, and the receivers that stand with them, follow a record.
 use Rattle.std.specs.Option.{IfSome}
-use Rattle.std.specs.Prelude.{◌≡◌, ◌+◌, ◌&&◌, ◌||◌, IsSome, Bool, true, false, cond, find, List, [], ◌∷◌, Option, Some, None, unwrap_or}
+use Rattle.std.specs.Prelude.{◌≡◌, ◌&&◌, ◌||◌, IsSome, Bool, true, false, cond, find, List, [], ◌∷◌, Option, Some, None, unwrap_or}
 use Rattle.std.proofs.Common.{refl, ap, sym, ◌∙◌, inl, inr}
 use Rattle.mcs_types.specs.declared.id.ObjId.{ObjId}
 use Rattle.mcs_types.specs.declared.id.Kind.{Kind}
@@ -22,7 +22,7 @@ use Rattle.mcs_book.specs.Threads.{threads}
 use Rattle.mcs_book.proofs.KeptLaws.{reply-there, set-split}
 use Rattle.mcs_book.proofs.MadeLaws.{alive-made}
 use Rattle.mcs_book.proofs.UserLaws.{one_user, receiver_with-named, receiver_with-found}
-use Rattle.mcs_objects.specs.Store.{Objects, value_at, shape, one_more}
+use Rattle.mcs_objects.specs.Store.{Objects, value_at, one_more}
 use Rattle.mcs_state.specs.Tables.{RepliesAgree, is_there}
 use Rattle.mcs_state.specs.Following.{RepliesFollow, RepliesFollowMade, AddsReply, SetsReceiver, SetsAny, attended}
 use Rattle.mcs_state.proofs.CountLaws.{never-made, shape-made, shape-beside}

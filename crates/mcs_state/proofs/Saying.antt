@@ -1,6 +1,6 @@
 -- What the log says of threads, and that it says nothing of what was never made.
 use Rattle.std.specs.Prelude.{◌≡◌, Bool, true, false, cond, find, ◌||◌, [], ◌∷◌, Option, Some, None, IsSome, unwrap_or}
-use Rattle.std.proofs.Common.{refl, ap, sym, ◌∙◌, subst, arith}
+use Rattle.std.proofs.Common.{refl, ap, sym, ◌∙◌, subst}
 use Rattle.mcs_types.specs.declared.id.ObjId.{ObjId}
 use Rattle.mcs_types.specs.declared.id.Kind.{Kind}
 use Rattle.mcs_types.specs.declared.id.Kind.TheVariants as kind

@@ -21,10 +21,10 @@ use Rattle.mcs_threads.specs.declared.row.Block.{Block}
 use Rattle.mcs_threads.specs.declared.row.Block.TheVariants.{Queued}
 use Rattle.mcs_threads.specs.declared.row.ThreadRow.{ThreadRow}
 use Rattle.mcs_threads.specs.Rows.{new_row}
-use Rattle.mcs_threads.specs.Tables.{Table, made, row_of, mail_of as mail_in, ChangesRow, SameMails}
+use Rattle.mcs_threads.specs.Tables.{Table, row_of, mail_of as mail_in, ChangesRow, SameMails}
 use Rattle.mcs_book.specs.Logs.{Log, given, counted, latest_knowing}
 use Rattle.mcs_book.specs.Messages.{letter}
-use Rattle.mcs_book.specs.Objects.{was_made, was_closed, is_alive, form_of, makes_kind, next_id}
+use Rattle.mcs_book.specs.Objects.{was_made, was_closed, is_alive, form_of, makes_kind}
 use Rattle.mcs_book.specs.Threads.{prio_of, mode_of}
 use Rattle.mcs_book.specs.Queues.{queue_of, reply_with}
 use Rattle.mcs_book.specs.Replies.{owing}
@@ -35,9 +35,9 @@ use Rattle.mcs_types.proofs.Ids.{same-equal}
 use Rattle.mcs_book.proofs.MailLaws.{is_still, mail-still, mail-took}
 use Rattle.mcs_state.specs.Saying.{block_said, row_with, row_said}
 use Rattle.mcs_state.specs.Tables.{ThreadsAgree}
-use Rattle.mcs_state.specs.Following.{ThreadsFollow, AddsThread, Mails}
+use Rattle.mcs_state.specs.Following.{ThreadsFollow, Mails}
 use Rattle.mcs_state.proofs.CountLaws.{never-made}
-use Rattle.mcs_state.proofs.Saying.{unsaid, unmailed, unowed, unclosed, standing-unowed, is_debtless, owing-kept, owing-made, has-row}
+use Rattle.mcs_state.proofs.Saying.{unsaid, unmailed, unowed, unclosed, standing-unowed, owing-kept, owing-made, has-row}
 
 -- a change of a row, by what is said
 changed-with : (g : ThreadRow → ThreadRow) (a : Bool) (f : Option Form) (p p' : ℕ) (m m' : Mode) (k k' : Option Block) (n : Option ObjId)

@@ -1,5 +1,5 @@
 -- What holds where a thread enters.
-use Rattle.std.specs.Prelude.{ℕ, ◌≡◌, ◌≢◌, Some, None}
+use Rattle.std.specs.Prelude.{ℕ, ◌≡◌, ◌≢◌, Some}
 use Rattle.mcs_types.specs.declared.id.ObjId.{ObjId}
 use Rattle.mcs_types.specs.declared.cap.Cap.{Cap}
 use Rattle.mcs_types.specs.declared.id.Kind.TheVariants as kind

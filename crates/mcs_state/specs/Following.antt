@@ -1,15 +1,11 @@
 -- How each table follows one more record. A record that no primitive makes yet is followed by no table that it may change.
-use Rattle.std.specs.Prelude.{ℕ, cond, ◌≡◌, ◌+◌, ◌++◌, ◌∷◌, [], ◌||◌, Bool, List, length, Option, Some, None, option_map}
-use Rattle.std.specs.Option.{IfSome}
-use Rattle.mcs_types.specs.Views.{Content}
+use Rattle.std.specs.Prelude.{ℕ, ◌≡◌, ◌+◌, ◌++◌, ◌∷◌, [], ◌||◌, List, length, Option, Some, None}
 use Rattle.mcs_types.specs.declared.id.ObjId.{ObjId}
-use Rattle.mcs_types.specs.declared.id.Badge.{Badge}
 use Rattle.mcs_types.specs.declared.id.CoreId.{CoreId}
 use Rattle.mcs_types.specs.declared.id.Kind.{Kind}
 use Rattle.mcs_types.specs.declared.id.Kind.TheVariants as kind
 use Rattle.mcs_types.specs.declared.id.Prio.{Prio}
 use Rattle.mcs_types.specs.declared.cap.Cap.{Cap}
-use Rattle.mcs_types.specs.declared.record.Form.{Form}
 use Rattle.mcs_types.specs.declared.record.Form.TheVariants as form
 use Rattle.mcs_types.specs.declared.record.Letter.{Letter}
 use Rattle.mcs_types.specs.declared.record.Mail.{Mail}
@@ -17,20 +13,18 @@ use Rattle.mcs_types.specs.declared.record.Queue.{Queue}
 use Rattle.mcs_types.specs.declared.record.Queue.TheVariants.{Receivers}
 use Rattle.mcs_types.specs.declared.record.Rec.{Rec}
 use Rattle.mcs_types.specs.declared.record.Rec.TheVariants as rec
-use Rattle.mcs_types.specs.declared.record.SendMode.{SendMode}
-use Rattle.mcs_types.specs.Ids.{same, same_kind, value_after}
+use Rattle.mcs_types.specs.Ids.{value_after}
 use Rattle.mcs_book.specs.Logs.{Log}
-use Rattle.mcs_book.specs.Growing.{Waiter, without, shifted, growing_open}
+use Rattle.mcs_book.specs.Growing.{without, shifted, growing_open}
 use Rattle.mcs_book.specs.Messages.{next_message, letter}
-use Rattle.mcs_book.specs.Queues.{queue_of, reply_with}
+use Rattle.mcs_book.specs.Queues.{reply_with}
 use Rattle.mcs_book.specs.Standing.{letter_mail}
 use Rattle.mcs_book.specs.Threads.{prio_of}
 use Rattle.mcs_places.specs.Places.{kept_at}
 use Rattle.mcs_objects.specs.Store.{Objects, value_at, shape, one_more}
 use Rattle.mcs_contexts.specs.Holding.{Holding, core_in, holder_in, counts}
-use Rattle.mcs_slots.specs.declared.slots.SlotId.{SlotId}
 use Rattle.mcs_slots.specs.Filling.{filled}
-use Rattle.mcs_slots.specs.Pages.{Page, HasSlot, ArePages, empty_page}
+use Rattle.mcs_slots.specs.Pages.{Page, ArePages, empty_page}
 use Rattle.mcs_threads.specs.declared.row.Block.TheVariants.{Queued}
 use Rattle.mcs_threads.specs.Rows.{new_row}
 use Rattle.mcs_threads.specs.Tables.{Table, made, row_of, mail_of, ChangesRow, SameRows, SameMails}

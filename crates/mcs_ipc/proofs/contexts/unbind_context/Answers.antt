@@ -1,11 +1,7 @@
-use Rattle.std.proofs.Common.{◌≡◌, Some, None, Ok, Err, ap, sym, ◌∙◌, subst}
+use Rattle.std.proofs.Common.{ap, sym, ◌∙◌}
 use Rattle.mcs_types.specs.declared.entry.Entry.TheVariants.{UnbindCtx}
-use Rattle.mcs_book.specs.Pieces.{Outcome}
-use Rattle.mcs_book.specs.Table.{wakes}
-use Rattle.mcs_book.specs.Threads.{mode_of}
 use Rattle.mcs_state.specs.Checks.{act_of}
 use Rattle.mcs_state.specs.Now.{so_far}
-use Rattle.mcs_state.specs.Doing.{Gives, Holds}
 use Rattle.mcs_state.proofs.Doing.{refused, did, room-did}
 use Rattle.mcs_ipc.proofs.Binding.{unbinds, row-unbind, unbind-allowed}
 use Rattle.mcs_ipc.proofs.contexts.unbind_context.Goals as goal

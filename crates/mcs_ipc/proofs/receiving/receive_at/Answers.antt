@@ -1,12 +1,11 @@
-use Rattle.std.proofs.Common.{◌≡◌, Ok, Err, ap, sym, ◌∙◌, subst}
-use Rattle.mcs_types.specs.declared.id.ObjId.{ObjId}
+use Rattle.std.proofs.Common.{sym, ◌∙◌, subst}
 use Rattle.mcs_types.specs.declared.id.Kind.TheVariants as kind
 use Rattle.mcs_book.specs.Logs.{Log}
 use Rattle.mcs_book.specs.Pieces.{Act, with_any, before}
 use Rattle.mcs_book.specs.Receiving.{free, receive_message}
 use Rattle.mcs_book.specs.Served.{IsPlain}
 use Rattle.mcs_book.specs.Sound.{IsThere}
-use Rattle.std.proofs.Common.{Option, IfSome}
+use Rattle.std.proofs.Common.{IfSome}
 use Rattle.mcs_book.specs.Table.{wakes}
 use Rattle.mcs_book.specs.Threads.{mode_of}
 use Rattle.mcs_state.specs.Now.{so_far}

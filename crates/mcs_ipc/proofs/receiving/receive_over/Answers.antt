@@ -1,12 +1,11 @@
 use Rattle.std.proofs.Common.{◌≡◌, Some, None, ap, sym, ◌∙◌, subst, option_copied}
-use Rattle.mcs_types.specs.declared.record.Queue.TheVariants.{Senders, Receivers}
-use Rattle.mcs_types.specs.declared.record.Rec.TheVariants as rec
+use Rattle.mcs_types.specs.declared.record.Queue.TheVariants.{Senders}
 use Rattle.mcs_types.specs.declared.entry.Answer.TheVariants.{Got}
 use Rattle.mcs_book.specs.Logs.{Log}
 use Rattle.mcs_book.specs.Queues.{first_in}
 use Rattle.mcs_book.specs.Messages.{open_of}
 use Rattle.mcs_book.specs.Pieces.{Outcome}
-use Rattle.mcs_book.specs.Receiving.{joins_or, open_of_any}
+use Rattle.mcs_book.specs.Receiving.{open_of_any}
 use Rattle.mcs_state.specs.Now.{so_far}
 use Rattle.mcs_state.specs.Doing.{Gives, Holds}
 use Rattle.mcs_ipc.proofs.Freeing.{receive-alone, receive-acts}

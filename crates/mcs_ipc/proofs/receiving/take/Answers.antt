@@ -1,4 +1,4 @@
-use Rattle.std.proofs.Common.{◌≡◌, ◌∷◌, [], List, sym, ap, subst, ◌∙◌, arith}
+use Rattle.std.proofs.Common.{List, sym, ap, subst, ◌∙◌, arith}
 use Rattle.mcs_types.specs.declared.record.Rec.{Rec}
 use Rattle.mcs_types.specs.declared.record.Queue.TheVariants.{Senders}
 use Rattle.mcs_book.specs.Logs.{Log}

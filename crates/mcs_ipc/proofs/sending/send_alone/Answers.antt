@@ -1,11 +1,8 @@
-use Rattle.std.proofs.Common.{◌≡◌, ◌≤◌, ◌∷◌, [], Some, None, Ok, Err, length, refl, ap, sym, ◌∙◌, subst, arith}
-use Rattle.mcs_types.specs.declared.id.ObjId.{ObjId}
-use Rattle.mcs_types.specs.declared.record.Mode.TheVariants.{Running, Inactive}
-use Rattle.mcs_types.specs.declared.record.Queue.TheVariants.{Senders, Receivers}
+use Rattle.std.proofs.Common.{None, refl, ap, sym, ◌∙◌, subst, arith}
+use Rattle.mcs_types.specs.declared.record.Queue.TheVariants.{Senders}
 use Rattle.mcs_types.specs.declared.record.SendMode.TheVariants as how
 use Rattle.mcs_types.specs.declared.record.Rec.TheVariants as rec
 use Rattle.mcs_types.specs.declared.entry.Answer.TheVariants.{Waits}
-use Rattle.mcs_book.specs.Logs.{Log}
 use Rattle.mcs_book.specs.Pieces.{Outcome}
 use Rattle.mcs_state.specs.Now.{Now, so_far, adds}
 use Rattle.mcs_state.specs.Doing.{Gives, Holds}

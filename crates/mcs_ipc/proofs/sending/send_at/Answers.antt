@@ -1,5 +1,4 @@
-use Rattle.std.proofs.Common.{◌≡◌, Ok, Err, ap, sym, ◌∙◌, subst}
-use Rattle.mcs_types.specs.declared.cap.Cap.{Cap}
+use Rattle.std.proofs.Common.{sym, ◌∙◌, subst}
 use Rattle.mcs_book.specs.Table.{wakes}
 use Rattle.mcs_book.specs.Threads.{mode_of}
 use Rattle.mcs_state.specs.Now.{so_far}

@@ -1,6 +1,4 @@
-use Rattle.std.proofs.Common.{◌≡◌}
 use Rattle.mcs_state.proofs.SlotLaws.{has-slot}
-use Rattle.mcs_slots.specs.Filling.{filled}
 use Rattle.std.proofs.Common.{refl, arith}
 use Rattle.mcs_types.specs.declared.record.Rec.TheVariants as rec
 use Rattle.mcs_state.proofs.Following.{follows, inside, inside-room}

@@ -1,7 +1,6 @@
-use Rattle.std.specs.Prelude.{◌≡◌, ◌++◌, ◌+◌, reverse}
-use Rattle.std.proofs.Common.{refl, ap, ◌∙◌, arith}
+use Rattle.std.specs.Prelude.{◌≡◌, ◌++◌, reverse}
+use Rattle.std.proofs.Common.{refl, ◌∙◌, arith}
 use Rattle.mcs_types.specs.declared.id.Kind.TheVariants as kind
-use Rattle.mcs_types.specs.declared.id.ObjId.{ObjId}
 use Rattle.mcs_types.specs.declared.record.Rec.TheVariants as rec
 use Rattle.mcs_types.specs.declared.record.Form.TheVariants as form
 use Rattle.mcs_book.specs.Logs.{Log}
@@ -9,7 +8,7 @@ use Rattle.mcs_book.specs.History.{log_of}
 use Rattle.mcs_book.specs.Objects.{next_id}
 use Rattle.mcs_state.proofs.MakingLaws.{next-of}
 use Rattle.mcs_state.proofs.Following.{inside-made}
-use Rattle.mcs_state.proofs.Following.{follows, inside, inside-room, seen}
+use Rattle.mcs_state.proofs.Following.{follows, inside-room}
 use Rattle.mcs_state.proofs.state.State.makes_context.Goals as goal
 
 pub invariant_of-self : goal.invariant_of-self

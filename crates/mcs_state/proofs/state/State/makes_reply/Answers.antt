@@ -1,4 +1,4 @@
-use Rattle.std.specs.Prelude.{◌≡◌, ◌++◌, ◌+◌, reverse, Some, None}
+use Rattle.std.specs.Prelude.{◌≡◌, ◌++◌, reverse, Some, None}
 use Rattle.std.proofs.Common.{refl, ap, ◌∙◌, arith}
 use Rattle.mcs_types.specs.declared.id.Kind.TheVariants as kind
 use Rattle.mcs_types.specs.declared.id.ObjId.{ObjId}
@@ -11,7 +11,7 @@ use Rattle.mcs_book.specs.History.{log_of}
 use Rattle.mcs_book.specs.Objects.{next_id}
 use Rattle.mcs_state.proofs.MakingLaws.{next-of}
 use Rattle.mcs_state.proofs.Following.{inside-made}
-use Rattle.mcs_state.proofs.Following.{follows, inside, inside-room, seen}
+use Rattle.mcs_state.proofs.Following.{follows, inside-room}
 use Rattle.mcs_state.proofs.state.State.makes_reply.Goals as goal
 
 pub invariant_of-self : goal.invariant_of-self

@@ -1,4 +1,4 @@
-use Rattle.std.proofs.Common.{◌≡◌, sym, subst}
+use Rattle.std.proofs.Common.{◌≡◌, subst}
 use Rattle.mcs_types.specs.declared.id.ObjId.{ObjId}
 use Rattle.std.proofs.Common.{Option, None}
 use Rattle.mcs_book.specs.Queues.{reply_with}

@@ -1,4 +1,4 @@
-use Rattle.std.proofs.Common.{◌≡◌, Some, sym, ◌∙◌}
+use Rattle.std.proofs.Common.{◌≡◌, Some, ◌∙◌}
 use Rattle.mcs_book.specs.Queues.{queue_of}
 use Rattle.mcs_state.proofs.Answering.{unqueued}
 use Rattle.mcs_state.proofs.Following.{seen}

@@ -1,8 +1,5 @@
-use Rattle.std.proofs.Common.{◌≡◌, ◌≤◌, length, reverse, subst, Some}
-use Rattle.mcs_types.specs.declared.record.Letter.{Letter}
+use Rattle.std.proofs.Common.{reverse}
 use Rattle.mcs_book.specs.Messages.{is_sent}
-use Rattle.mcs_state.specs.Following.{KeepsLetter}
-use Rattle.mcs_state.specs.Now.{Now}
 use Rattle.mcs_state.proofs.Answering.{counted-le, thread-place}
 use Rattle.mcs_state.proofs.ThreadLaws.{thread-there}
 use Rattle.mcs_state.proofs.Following.{fewer-lines}

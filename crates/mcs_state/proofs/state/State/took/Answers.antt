@@ -1,6 +1,5 @@
-use Rattle.std.proofs.Common.{◌≡◌, sym, ap, ◌∙◌, Some}
-use Rattle.mcs_types.specs.declared.record.Letter.{Letter}
-use Rattle.mcs_book.specs.Messages.{open_of, letter}
+use Rattle.std.proofs.Common.{sym, ◌∙◌}
+use Rattle.mcs_book.specs.Messages.{open_of}
 use Rattle.mcs_state.specs.Now.{IsNumberOf}
 use Rattle.mcs_state.proofs.LetterLaws.{number-open, opened}
 use Rattle.mcs_state.proofs.ThreadLaws.{thread-there}
