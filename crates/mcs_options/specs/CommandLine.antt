@@ -10,6 +10,10 @@ replay_command = new_app (codes "replay")
 abbrev pub with_command_required : App → App
 with_command_required a = record a { top = record a.top { subcommand_required = true } }
 
+-- a command line that tells its version
+abbrev pub with_version : App → App
+with_version a = record a { top = record a.top { has_version = true } }
+
 -- the command line of the program
 abbrev pub mcssim_line : App
-mcssim_line = with_subcommand (with_command_required (new_app (codes "mcssim"))) replay_command.top
+mcssim_line = with_subcommand (with_command_required (with_version (new_app (codes "mcssim")))) replay_command.top

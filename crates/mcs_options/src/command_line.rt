@@ -1,12 +1,15 @@
 //! What the command line asks for.
-ghost use Rattle.std.specs.Prelude.{◌≡◌, ℕ, List, ◌∷◌, [], IfOk, IfErr, map, codes};
-ghost use Rattle.clap.specs.Words.{FailsBy, app_of, fault_of, kind_of};
+ghost use Rattle.std.specs.Prelude.{◌≡◌, ℕ, List, ◌∷◌, [], IfOk, IfErr, IsErrAnd, map, codes};
+ghost use Rattle.clap.specs.Words.{FailsBy, HasKind, app_of, fault_of, kind_of};
 ghost use Rattle.mcs_options.specs.CommandLine.{mcssim_line};
 
 use crate::choice::Options;
 use clap::error::ErrorKind;
 use clap::{Command, Error};
 use std::alloc::Global;
+
+/// The version of the program (own).
+const VERSION: &str = "0.1.0";
 
 /// The program's commands.
 fn commands<'a>(alloc: Global) -> Result<Command<'a>, Error>
@@ -18,6 +21,7 @@ fn commands<'a>(alloc: Global) -> Result<Command<'a>, Error>
     );
     Ok(
         Command::new(alloc, "mcssim")
+            .version(VERSION)
             .about("Simulates the message passing of seL4 MCS")
             .subcommand_required(true)
             .subcommand(replay)?,
@@ -25,11 +29,15 @@ fn commands<'a>(alloc: Global) -> Result<Command<'a>, Error>
 }
 
 /// What the words of the command line ask for; the first is the program's name. An error says what is wrong with them, or
-/// has the help that was asked for: it is of a kind that the rules of the command line give these words, or tells that there
-/// was no memory; and where they give a kind it comes. The one word `replay` is right.
+/// has the help or the version that was asked for: it is of a kind that the rules of the command line give these words, or
+/// tells that there was no memory; and where they give a kind it comes. The one word `replay` is right, and the one word
+/// `--version` asks for the version.
 pub fn options<'a>(alloc: Global, words: &'a [&'a str]) -> Result<Options, Error>
     ensures replay { (name : List ℕ) → map (λ w. w.now) words.entry.now ≡ name ∷ codes "replay" ∷ []
         → IfErr result (λ e. kind_of e ≡ ErrorKind.OutOfMemory) }
+    ensures version { (name : List ℕ)
+        → map (λ w. w.now) words.entry.now ≡ name ∷ codes "--version" ∷ []
+        → IsErrAnd result (HasKind (ErrorKind.DisplayVersion ∷ [])) }
     ensures fails { FailsBy (fault_of mcssim_line (map (λ w. w.now) words.entry.now)) result }
 {
     // `replay` is the only command, so that each line that is accepted asks for it
