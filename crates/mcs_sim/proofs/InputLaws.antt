@@ -1,17 +1,20 @@
 -- How many lines begin in a text, and how long a text without fault is.
-use Rattle.std.proofs.Common.{◌≡◌, ℕ, suc, ◌+◌, ◌*◌, ◌<◌, ◌≤◌, ◌⊎◌, inl, inr, Bool, true, false, not, if◌then◌else◌, ltb, eqb, Option, Some, None, Result, Ok, Err, IfErr, OnOk, List, [], ◌∷◌, ◌++◌, length, get_or, drop, refl, sym, ap, ◌∙◌, arith}
+use Rattle.std.proofs.Common.{◌≡◌, ℕ, suc, ◌+◌, ◌*◌, ◌<◌, ◌≤◌, inl, inr, Bool, true, false, not, if◌then◌else◌, ltb, eqb, Option, Some, None, Result, Ok, Err, IfErr, OnOk, List, [], ◌∷◌, ◌++◌, length, get_or, drop, refl, sym, ap, subst, ◌∙◌, arith}
 use Rattle.std.proofs.Math.Seq.{drop-cons}
 use Rattle.std.proofs.lemmas.Bool.{ltb-false}
-use Rattle.std.specs.Io.KnownBytes.{Appends, Consumes, IsAtEnd}
+use Rattle.std.specs.Io.KnownBytes.{Appends, Consumes}
+use Rattle.mcs_book.specs.Boots.{Boot}
+use Rattle.mcs_book.specs.History.{book_of}
 use Rattle.mcs_text.specs.declared.fault.LineFault.{LineFault}
 use Rattle.mcs_text.specs.declared.fault.LineFault.TheVariants.{LongLine, ManyLines}
 use Rattle.mcs_text.specs.Reading.{onto_first, lines_of}
 use Rattle.mcs_sim.specs.declared.fault.SimFault.{SimFault}
 use Rattle.mcs_sim.specs.declared.fault.SimFault.TheVariants as fault
 use Rattle.mcs_sim.specs.declared.source.Begun.{Begun}
-use Rattle.mcs_sim.specs.Input.{none_begun, begun_with, begun_after, IsTooLong}
-use Rattle.mcs_sim.specs.Script.{Script, no_script, read_line, script_from, steps}
-use Rattle.mcs_sim.specs.Runs.{written, Finishes, Leaves, Ends}
+use Rattle.mcs_sim.specs.Input.{none_begun, begun_with, begun_after, EndsReading, IsTooLong, IsWithin}
+use Rattle.mcs_sim.specs.Script.{Script, no_script, ending, read_line, script_from, steps}
+use Rattle.mcs_sim.specs.Trace.{trace}
+use Rattle.mcs_sim.specs.Runs.{script_trace, told, written, IsFairRun, Finishes, Leaves, Ends}
 use Rattle.mcs_sim.proofs.ScriptLaws.{script_from-ok, script_from-err}
 
 begun_after-append : (s : Begun) (xs ys : List ℕ) → begun_after s (xs ++ ys) ≡ begun_after (begun_after s xs) ys
@@ -42,7 +45,7 @@ after-byte : (n b : ℕ) (o : Bool) (bs : List ℕ) (t : Bool) → eqb b 10 ≡ 
 unfolding begun_after
 after-byte n b o bs t e = ap (λ (t : Bool). begun_after (record { lines = if o then n else n + 1; is_open = not t }) bs) e
 
-lines-byte : (b : ℕ) (bs : List ℕ) (t : Bool) → eqb b 10 ≡ t → lines_of (b ∷ bs) ≡ (if t then [] ∷ lines_of bs else onto_first b (lines_of bs))
+pub lines-byte : (b : ℕ) (bs : List ℕ) (t : Bool) → eqb b 10 ≡ t → lines_of (b ∷ bs) ≡ (if t then [] ∷ lines_of bs else onto_first b (lines_of bs))
 lines-byte b bs t e = ap (λ (t : Bool). if t then [] ∷ lines_of bs else onto_first b (lines_of bs)) e
 
 begins-more : (b : ℕ) (bs : List ℕ) → ((n : ℕ) → Begins n bs) → (n : ℕ) → Begins n (b ∷ bs)
@@ -74,7 +77,7 @@ unfolding Begins
 begun-lines bs = omega (arith, (begins bs 0).0)
 
 -- the bytes of lines with a newline each
-total : List (List ℕ) → ℕ
+unfoldable pub total : List (List ℕ) → ℕ
 total [] = 0
 total (l ∷ ls) = length l + 1 + total ls
 
@@ -83,7 +86,7 @@ unfolding total
 total-onto_first b [] = omega arith
 total-onto_first b (l ∷ ls) = omega arith
 
-length-total : (bs : List ℕ) → length bs ≤ total (lines_of bs)
+pub length-total : (bs : List ℕ) → length bs ≤ total (lines_of bs)
 unfolding total
 length-total [] = omega arith
 length-total (b ∷ bs) = go (length-total bs) (eqb b 10) refl
@@ -93,7 +96,7 @@ length-total (b ∷ bs) = go (length-total bs) (eqb b 10) refl
     go le false e = rw e (omega (arith, le, total-onto_first b (lines_of bs)))
 
 -- a line without fault is not beyond the last, and not too long
-within : (s t : Script) (n : ℕ) (line : List ℕ) → read_line s n line ≡ Ok t → (n ≤ 2000000) × (length line ≤ 4096)
+pub within : (s t : Script) (n : ℕ) (line : List ℕ) → read_line s n line ≡ Ok t → (n ≤ 2000000) × (length line ≤ 4096)
 unfolding read_line
 within s t n line ok = go (ltb 2000000 n) refl
   where
@@ -134,21 +137,53 @@ not-too-long text none long =
     let f = fits (lines_of text) no_script 1 none (omega arith) in
     elim long [
       | inl bytes ↦ absurd (omega (arith, bytes, f.0, f.1, length-total text))
-      | inr lines ↦ absurd (omega (arith, lines, f.0))
+      | inr lines ↦ absurd (omega (arith, lines.next, f.0))
     ]
 
+-- lines without fault say the number of cores
+boot-said : (lines : List (List ℕ)) (s : Script) (n : ℕ) → (script_from s n lines).1 ≡ None → (b : Boot) × ((script_from s n lines).0.boot ≡ Some b)
+unfolding script_from
+boot-said [] s n none = go s.boot refl none
+  where
+    go : (b : Option Boot) → s.boot ≡ b → (ending s n b).1 ≡ None → (boot : Boot) × ((ending s n b).0.boot ≡ Some boot)
+    go None is none = absurd cc
+    go (Some b) is none = (b, is)
+boot-said (line ∷ lines) s n none = go (λ t. boot-said lines t (n + 1)) (read_line s n line) refl
+  where
+    go : ((t : Script) → (script_from t (n + 1) lines).1 ≡ None → (b : Boot) × ((script_from t (n + 1) lines).0.boot ≡ Some b)) → (r : Result Script LineFault) → read_line s n line ≡ r
+        → (b : Boot) × ((script_from s n (line ∷ lines)).0.boot ≡ Some b)
+    go rest (Ok t) e =
+        let same = script_from-ok s t n line lines e in
+        let said = rest t (ap (λ (r : Script × Option (ℕ × LineFault)). r.1) (sym same) ∙ none) in
+        (said.0, ap (λ (r : Script × Option (ℕ × LineFault)). r.0.boot) same ∙ said.1)
+    go rest (Err why) e = absurd (let some : (script_from s n (line ∷ lines)).1 ≡ Some (n, why) = ap (λ (r : Script × Option (ℕ × LineFault)). r.1) (script_from-err s n line lines why e) in cc)
+
 -- a run without fault has read its input to the end
-pub OnOk-finishes : (r : Result (Unit {0}) SimFault) (left left' out out' : Option (List ℕ)) (text : List ℕ) → Consumes left left' text → (IsAtEnd left' ⊎ IsTooLong text)
-    → OnOk r (Appends out out' (written text)) → OnOk r ((steps text).1 ≡ None) → OnOk r (Finishes left left' out out')
-OnOk-finishes (Ok u) left left' out out' text read end wrote none =
+finishes : (left left' out out' : Option (List ℕ)) (text : List ℕ) (b : Boot) → Consumes left left' text → EndsReading left' text → (steps text).0.boot ≡ Some b
+    → Appends out out' (written text) → (steps text).1 ≡ None → IsFairRun (steps text).0.boot (steps text).0.steps → Finishes left left' out out'
+unfolding written script_trace
+finishes left left' out out' text b read end said wrote none fair =
+    let here : steps text ≡ (record { boot = Some b; steps = (steps text).0.steps }, None) = λ i. (record { boot = said i; steps = (steps text).0.steps }, none i) in
+    let told_is : written text ≡ trace (book_of b (steps text).0.steps) = ap (λ (r : Script × Option (ℕ × LineFault)). told r.0 r.1) here in
+    let laws : IsFairRun (Some b) (steps text).0.steps = subst (λ (o : Option Boot). IsFairRun o (steps text).0.steps) said fair in
     record {
       text = text;
+      boot = b;
+      taken = (steps text).0.steps;
       read = read;
-      ended = elim end [ inl ended ↦ ended | inr long ↦ absurd (not-too-long text none long) ];
-      wrote = wrote;
-      faultless = none;
+      ended = elim end [ inl ended ↦ ended.0 | inr long ↦ absurd (not-too-long text none long) ];
+      faultless = here;
+      wrote = subst (Appends out out') told_is wrote;
+      legal = laws.0;
+      fair = laws.1;
     }
-OnOk-finishes (Err e) left left' out out' text read end wrote none = tt
+
+pub OnOk-finishes : (r : Result (Unit {0}) SimFault) (left left' out out' : Option (List ℕ)) (text : List ℕ) → Consumes left left' text → EndsReading left' text
+    → OnOk r (Appends out out' (written text)) → OnOk r ((steps text).1 ≡ None) → OnOk r (IsFairRun (steps text).0.boot (steps text).0.steps) → OnOk r (Finishes left left' out out')
+unfolding steps
+OnOk-finishes (Ok u) left left' out out' text read end wrote none fair =
+    let said = boot-said (lines_of text) no_script 1 none in finishes left left' out out' text said.0 read end said.1 wrote none fair
+OnOk-finishes (Err e) left left' out out' text read end wrote none fair = tt
 
 -- a byte of a text, and those behind it
 pub begun_after-next : (s : Begun) (w : List ℕ) (i : ℕ) → i < length w → begun_after (begun_with s (get_or w i 0)) (drop (i + 1) w) ≡ begun_after s (drop i w)
@@ -164,12 +199,17 @@ lines-begun_with-le s b = go s.is_open
     go true = omega arith
     go false = omega arith
 
+-- no byte is read behind the end, and none behind the one that makes a text too long
+within-ends : (left : Option (List ℕ)) (text : List ℕ) → EndsReading left text → IsWithin text
+within-ends left text end = elim end [ inl ended ↦ inl ended.1 | inr long ↦ inr long ]
+
 -- a run that read its input and stopped later
-pub IfErr-ends : (r : Result (Unit {0}) SimFault) (left left' out out' : Option (List ℕ)) (text : List ℕ) → Consumes left left' text → (IsAtEnd left' ⊎ IsTooLong text)
+pub IfErr-ends : (r : Result (Unit {0}) SimFault) (left left' out out' : Option (List ℕ)) (text : List ℕ) → Consumes left left' text → EndsReading left' text
     → IfErr r (λ e. Leaves e out out' text) → IfErr r (λ e. Ends e left left' out out')
 IfErr-ends (Ok u) left left' out out' text read end leaves = tt
+IfErr-ends (Err fault.Argument) left left' out out' text read end leaves = absurd leaves
 IfErr-ends (Err (fault.Script line why)) left left' out out' text read end leaves = (text, read, end, leaves)
 IfErr-ends (Err fault.Read) left left' out out' text read end leaves = absurd leaves
 IfErr-ends (Err fault.Write) left left' out out' text read end leaves = (text, read, end, leaves)
 IfErr-ends (Err fault.BookFull) left left' out out' text read end leaves = (text, read, end, leaves)
-IfErr-ends (Err fault.OutOfMemory) left left' out out' text read end leaves = (text, read, leaves)
+IfErr-ends (Err fault.OutOfMemory) left left' out out' text read end leaves = (text, read, within-ends left' text end, leaves)

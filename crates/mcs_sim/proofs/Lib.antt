@@ -2,5 +2,6 @@ pub mod SmallScripts
 pub mod ScriptLaws
 pub mod RunLaws
 pub mod InputLaws
+pub mod LongLaws
 pub mod ServedLaws
 pub mod TraceLaws

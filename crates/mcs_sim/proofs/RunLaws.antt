@@ -1,5 +1,5 @@
 -- What a run writes.
-use Rattle.std.proofs.Common.{◌≡◌, ℕ, true, false, eqb, length, Option, Some, None, Result, Ok, Err, IfErr, OnErr, List, [], ◌∷◌, arith, refl, sym, ap, subst, append-nil}
+use Rattle.std.proofs.Common.{◌≡◌, ℕ, true, false, eqb, length, Option, Some, None, Result, Ok, Err, IfErr, OnErr, OnOk, List, [], ◌∷◌, arith, refl, sym, ap, subst, append-nil}
 use Rattle.std.specs.Prelude.{IsErrAnd}
 use Rattle.std.proofs.lemmas.Bool.{ne_eqb}
 use Rattle.std.specs.Io.KnownBytes.{Appends, Consumes}
@@ -8,8 +8,11 @@ use Rattle.mcs_sim.specs.declared.fault.SimFault.{SimFault}
 use Rattle.mcs_sim.specs.declared.fault.SimFault.TheVariants as fault
 use Rattle.mcs_types.specs.declared.entry.Step.{Step}
 use Rattle.mcs_book.specs.Boots.{Boot}
+use Rattle.mcs_sim.specs.Input.{IsWithin}
 use Rattle.mcs_sim.specs.Script.{Script, steps}
-use Rattle.mcs_sim.specs.Runs.{script_trace, trace_before, told, written, Begins, Leaves, Stops, IsFull, IsRoomy}
+use Rattle.mcs_book.specs.History.{Book, IsLegal, book_of}
+use Rattle.mcs_book.specs.Fair.{IsFair}
+use Rattle.mcs_sim.specs.Runs.{script_trace, trace_before, told, written, Begins, Leaves, Stops, IsFull, IsRoomy, IsFairRun, IsFairBefore}
 
 -- a writer that took nothing
 pub Appends-nil : (a : Option (List ℕ)) → Appends a a []
@@ -26,6 +29,7 @@ unfolding written
 written-is text s f e = ap (λ (r : Script × Option (ℕ × LineFault)). told r.0 r.1) e
 
 pub Leaves-stops : (e : SimFault) (a b : Option (List ℕ)) (text : List ℕ) (s : Script) → written text ≡ script_trace s.boot s.steps → (steps text).0 ≡ s → Stops e a b s → Leaves e a b text
+Leaves-stops fault.Argument a b text s same is stops = stops
 Leaves-stops (fault.Script line why) a b text s same is stops = absurd stops
 Leaves-stops fault.Read a b text s same is stops = stops
 Leaves-stops fault.Write a b text s same is stops = subst (Begins a b) (sym same) stops
@@ -50,6 +54,25 @@ IsRoomy-none None ss none = tt
 IsRoomy-none (Some b) [] none = refl
 IsRoomy-none (Some b) (s ∷ ss) none = absurd (let other : eqb (length (s ∷ ss)) 0 ≡ false = ne_eqb _ _ (λ e. omega arith) in cc)
 
+-- the run of a book that is legal and fair
+pub IsFairRun-of : (k : Book) (o : Option Boot) (b : Boot) (ss : List Step) → o ≡ Some b → k ≡ book_of b ss → IsLegal k → IsFair k → IsFairRun o ss
+IsFairRun-of k o b ss said is legal fair =
+    subst (λ (o : Option Boot). IsFairRun o ss) (sym said) (subst (λ (k : Book). IsLegal k × IsFair k) is (legal, fair))
+
+pub IsFairBefore-run : (b : Option Boot) (ss : List Step) → IsFairRun b ss → IsFairBefore b ss
+IsFairBefore-run b [] fair = tt
+IsFairBefore-run b (s ∷ ss) fair = fair
+
+-- without a step there is no such run
+pub IsFairBefore-none : (b : Option Boot) (ss : List Step) → eqb (length ss) 0 ≡ true → IsFairBefore b ss
+IsFairBefore-none b [] none = tt
+IsFairBefore-none b (s ∷ ss) none = absurd (let other : eqb (length (s ∷ ss)) 0 ≡ false = ne_eqb _ _ (λ e. omega arith) in cc)
+
+-- what holds in any case
+pub OnOk-always : {T E : Type 0} (r : Result T E) (P : Type 0) → P → OnOk r P
+OnOk-always (Ok x) P p = p
+OnOk-always (Err e) P p = tt
+
 -- where steps were read, all of the trace is written before a faulty line
 pub trace_before-some : (b : Option Boot) (ss : List Step) → eqb (length ss) 0 ≡ false → trace_before b ss ≡ script_trace b ss
 unfolding trace_before
@@ -67,9 +90,9 @@ IfErr-same (Ok u) e Q same q = tt
 IfErr-same (Err x) e Q same q = subst Q (sym same) q
 
 -- some bytes were read, whatever was answered
-pub OnErr-consumes : {T E : Type 0} (r : Result T E) (a b : Option (List ℕ)) (bytes : List ℕ) → Consumes a b bytes → OnErr r ((x : List ℕ) × Consumes a b x)
-OnErr-consumes (Ok x) a b bytes c = tt
-OnErr-consumes (Err e) a b bytes c = (bytes, c)
+pub OnErr-consumes : {T E : Type 0} (r : Result T E) (a b : Option (List ℕ)) (bytes : List ℕ) → Consumes a b bytes → IsWithin bytes → OnErr r ((x : List ℕ) × Consumes a b x × IsWithin x)
+OnErr-consumes (Ok x) a b bytes c within = tt
+OnErr-consumes (Err e) a b bytes c within = (bytes, c, within)
 
 -- no byte was read
 pub Consumes-nil : (a : Option (List ℕ)) (bytes : List ℕ) → bytes ≡ [] → Consumes a a bytes

@@ -1,3 +1,4 @@
+pub mod Faults
 pub mod Trace
 pub mod BootLines
 pub mod Script

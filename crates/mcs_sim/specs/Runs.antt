@@ -1,9 +1,10 @@
 -- What a run writes.
-use Rattle.std.specs.Prelude.{◌≡◌, ◌⊎◌, ℕ, List, [], ◌∷◌, Option, Some, None}
+use Rattle.std.specs.Prelude.{◌≡◌, ℕ, List, [], ◌∷◌, Option, Some, None}
 use Rattle.std.specs.Io.KnownBytes.{Appends, Consumes, IsAtEnd}
 use Rattle.mcs_types.specs.declared.entry.Step.{Step}
 use Rattle.mcs_book.specs.Boots.{Boot}
-use Rattle.mcs_book.specs.History.{book_of}
+use Rattle.mcs_book.specs.History.{book_of, IsLegal}
+use Rattle.mcs_book.specs.Fair.{IsFair}
 use Rattle.mcs_kernel.specs.Runs.{full_after}
 use Rattle.mcs_text.specs.declared.fault.LineFault.{LineFault}
 use Rattle.mcs_text.specs.Output.{Moves}
@@ -11,7 +12,7 @@ use Rattle.mcs_sim.specs.declared.fault.SimFault.{SimFault}
 use Rattle.mcs_sim.specs.declared.fault.SimFault.TheVariants as fault
 use Rattle.mcs_sim.specs.Trace.{trace}
 use Rattle.mcs_sim.specs.Script.{Script, steps}
-use Rattle.mcs_sim.specs.Input.{IsTooLong}
+use Rattle.mcs_sim.specs.Input.{IsWithin, EndsReading}
 
 -- the trace of the book that the steps make after a boot
 unfoldable pub script_trace : Option Boot → List Step → List ℕ
@@ -46,8 +47,19 @@ abbrev pub IsRoomy : Option Boot → List Step → Type 0
 IsRoomy None ss = Unit {0}
 IsRoomy (Some b) ss = full_after 0 (record { boot = b; lines = [] }) ss ≡ None
 
+-- the book that the steps make after a boot is legal and fair
+abbrev pub IsFairRun : Option Boot → List Step → Type 0
+IsFairRun None ss = Unit {0}
+IsFairRun (Some b) ss = IsLegal (book_of b ss) × IsFair (book_of b ss)
+
+-- so is the book whose trace is written before a faulty line
+abbrev pub IsFairBefore : Option Boot → List Step → Type 0
+IsFairBefore b [] = Unit {0}
+IsFairBefore b (s ∷ ss) = IsFairRun b (s ∷ ss)
+
 -- a fault of the replay of a script, or of the writing of its trace: it leaves a beginning of the trace
 abbrev pub Stops : SimFault → (old new : Option (List ℕ)) → Script → Type 0
+Stops fault.Argument old new s = ⊥
 Stops (fault.Script line why) old new s = ⊥
 Stops fault.Read old new s = ⊥
 Stops fault.Write old new s = Begins old new (script_trace s.boot s.steps)
@@ -56,23 +68,31 @@ Stops fault.OutOfMemory old new s = Begins old new (script_trace s.boot s.steps)
 
 -- what a run of a text leaves that ended early, but for a read fault: all that is told before a faulty line, or a beginning of that
 abbrev pub Leaves : SimFault → (old new : Option (List ℕ)) (text : List ℕ) → Type 0
+Leaves fault.Argument old new text = ⊥
 Leaves (fault.Script line why) old new text = Appends old new (written text) × ((steps text).1 ≡ Some (line, why)) × IsRoomy (steps text).0.boot (steps text).0.steps
+    × IsFairBefore (steps text).0.boot (steps text).0.steps
 Leaves fault.Read old new text = ⊥
 Leaves fault.Write old new text = Begins old new (written text)
 Leaves fault.BookFull old new text = Begins old new (written text) × IsFull (steps text).0.boot (steps text).0.steps
 Leaves fault.OutOfMemory old new text = Begins old new (written text)
 
--- what a run leaves that ended without fault: it read a text to the end of the input, in which nothing is wrong, and wrote all of it
+-- what a run leaves that ended without fault: it read a text to the end of the input, in which nothing is wrong, and wrote all of the
+-- trace of the book that its steps make after its boot, which is legal and fair
 pub record Finishes (left left' out out' : Option (List ℕ)) : Type 0 where
   pub text : List ℕ
+  pub boot : Boot
+  pub taken : List Step
   pub read : Consumes left left' text
   pub ended : IsAtEnd left'
-  pub wrote : Appends out out' (written text)
-  pub faultless : (steps text).1 ≡ None
+  pub faultless : steps text ≡ (record { boot = Some boot; steps = taken }, None)
+  pub wrote : Appends out out' (trace (book_of boot taken))
+  pub legal : IsLegal (book_of boot taken)
+  pub fair : IsFair (book_of boot taken)
 
--- what a run leaves that ended early. It read a text, to the end of the input or until that was too long for a script, and left what
--- the text gives before the fault. Where a read failed or memory was refused, it may have read less; after a read fault it wrote nothing
+-- what a run leaves that ended early. It read a text, to the end of the input or until that was too long for a script, and no byte
+-- behind, and left what the text gives before the fault. Where a read failed or memory was refused, it may have read less; after a read
+-- fault it wrote nothing
 abbrev pub Ends : SimFault → (left left' out out' : Option (List ℕ)) → Type 0
-Ends fault.Read left left' out out' = (text : List ℕ) × Consumes left left' text × Appends out out' []
-Ends fault.OutOfMemory left left' out out' = (text : List ℕ) × Consumes left left' text × Begins out out' (written text)
-Ends e left left' out out' = (text : List ℕ) × Consumes left left' text × (IsAtEnd left' ⊎ IsTooLong text) × Leaves e out out' text
+Ends fault.Read left left' out out' = (text : List ℕ) × Consumes left left' text × IsWithin text × Appends out out' []
+Ends fault.OutOfMemory left left' out out' = (text : List ℕ) × Consumes left left' text × IsWithin text × Begins out out' (written text)
+Ends e left left' out out' = (text : List ℕ) × Consumes left left' text × EndsReading left' text × Leaves e out out' text

@@ -2,14 +2,18 @@
 #![tactic(auto)]
 
 mod fault;
+mod laws;
 mod run;
 mod script;
 mod source;
+mod startup;
 mod writing;
 
 pub use fault::SimFault;
+pub use laws::{replayed_legal, too_long_stands};
 pub use mcs_options::{Options, options};
 pub use mcs_text::Sink;
 pub use run::simulate;
 pub use source::{ReadFault, Source};
+pub use startup::{answer_status, arguments};
 pub use writing::trace;

@@ -3,7 +3,7 @@ ghost use Rattle.std.specs.Prelude.{◌≡◌, ◌≤◌, IfOk, IfErr, OnOk, OnE
 ghost use Rattle.std.specs.Io.KnownBytes.{Appends};
 ghost use Rattle.mcs_text.specs.Output.{Rose};
 ghost use Rattle.mcs_sim.specs.Script.{steps};
-ghost use Rattle.mcs_sim.specs.Runs.{script_trace, written, IsRoomy, Leaves, Stops, Finishes, Ends};
+ghost use Rattle.mcs_sim.specs.Runs.{script_trace, written, IsRoomy, IsFairRun, Leaves, Stops, Finishes, Ends};
 
 use crate::fault::SimFault;
 use crate::script::{ReadFault, Script};
@@ -51,6 +51,7 @@ fn replay_script<W: Write>(
     ensures err { IfErr result (λ e. Stops e (W.contents sink.old.writer)
         (W.contents sink.new.writer) script) }
     ensures room { OnOk result (IsRoomy script.boot script.steps) }
+    ensures fair { OnOk result (IsFairRun script.boot script.steps) }
     ensures rose { result ≡ Err SimFault.Write → Rose sink.old.failed sink.new.failed }
     ensures count { sink.old.failed ≤ sink.new.failed }
 {
@@ -71,6 +72,7 @@ fn run_text<W: Write>(alloc: Global, text: &[u8], sink: &mut Sink<W>) -> Result<
     ensures ok { OnOk result (Appends (W.contents sink.old.writer) (W.contents sink.new.writer)
         (written text.now)) }
     ensures faultless { OnOk result ((steps text.now).1 ≡ None) }
+    ensures fair { OnOk result (IsFairRun (steps text.now).0.boot (steps text.now).0.steps) }
     ensures err { IfErr result (λ e. Leaves e (W.contents sink.old.writer)
         (W.contents sink.new.writer) text.now) }
     ensures rose { result ≡ Err SimFault.Write → Rose sink.old.failed sink.new.failed }
@@ -88,10 +90,11 @@ fn run_text<W: Write>(alloc: Global, text: &[u8], sink: &mut Sink<W>) -> Result<
     Err(SimFault::Script { line, why })
 }
 
-/// Reads a script, replays it and writes its trace. After Ok the whole trace is written. Where a line is faulty the
-/// trace of the steps before it is written, and nothing where the fault stands in the boot. After any other fault a
-/// beginning of the trace of the steps is written; BookFull comes only where the book is full at a step. A read or a
-/// write that is interrupted is tried again, at most 1,000 times in a row; a write that takes no byte is a fault.
+/// Reads a script, replays it and writes its trace. After Ok the whole trace is written, of a book that is legal and fair.
+/// Where a line is faulty the trace of the steps before it is written, of such a book, and nothing where the fault stands in
+/// the boot. After any other fault a beginning of the trace of the steps is written; BookFull comes only where the book is
+/// full at a step. A read or a write that is interrupted is tried again, at most 1,000 times in a row; a write that takes no
+/// byte is a fault.
 pub fn simulate<R: Read, W: Write>(
     alloc: Global,
     source: &mut Source<R>,

@@ -6,8 +6,9 @@ use Rattle.mcs_kernel.specs.Runs.{full_after, EndsAt}
 use Rattle.mcs_kernel.specs.declared.fault.ReplayFault.{ReplayFault}
 use Rattle.mcs_sim.specs.Script.{Script}
 use Rattle.mcs_sim.specs.Trace.{trace}
-use Rattle.mcs_sim.specs.Runs.{script_trace, IsFull}
-use Rattle.mcs_sim.proofs.RunLaws.{Begins-nil, IfErr-write}
+use Rattle.mcs_book.specs.Fair.{IsFair}
+use Rattle.mcs_sim.specs.Runs.{script_trace, IsFull, IsFairRun}
+use Rattle.mcs_sim.proofs.RunLaws.{Begins-nil, IfErr-write, IsFairRun-of, OnOk-always}
 use Rattle.mcs_sim.proofs.run.replay_script.Goals as goal
 
 pub returns-in-Err-BookFull-clause-err : goal.returns-in-Err-BookFull-clause-err
@@ -19,6 +20,24 @@ returns-in-Err-BookFull-clause-err g c =
 
 pub returns-in-Err-OutOfMemory-clause-err : goal.returns-in-Err-OutOfMemory-clause-err
 returns-in-Err-OutOfMemory-clause-err g c = Begins-nil _ _
+
+pub returns-clause-fair : goal.returns-clause-fair
+returns-clause-fair g c =
+    let k = c.in-Ok.ensures in
+    let book = k.book ∙ ap (book_of c.in-Some.boot) c.deref.ensures.value in
+    let fair : IsFair _ = record {
+      taken_once = k.taken_once;
+      whole = k.whole;
+      by_priority = k.by_priority;
+      in_order = k.in_order;
+      not_deleted = k.not_deleted;
+      not_cancelled = k.not_cancelled;
+      answered_once = k.answered_once;
+      answered_whole = k.answered_whole;
+      none_beside = k.none_beside;
+    } in
+    let run = IsFairRun-of _ _ c.in-Some.boot c.script.inside.steps.items c.in-Some.is book k.legal fair in
+    OnOk-always _ _ (subst (λ (s : Script). IsFairRun s.boot s.steps) c.script.view_is run)
 
 pub returns-clause-err : goal.returns-clause-err
 unfolding script_trace

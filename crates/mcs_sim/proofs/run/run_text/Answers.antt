@@ -2,8 +2,8 @@ use Rattle.std.proofs.Common.{◌≡◌, ℕ, false, true, eqb, length, Option, 
 use Rattle.std.specs.Io.KnownBytes.{Appends}
 use Rattle.mcs_text.specs.declared.fault.LineFault.{LineFault}
 use Rattle.mcs_sim.specs.Script.{Script}
-use Rattle.mcs_sim.specs.Runs.{IsRoomy, told}
-use Rattle.mcs_sim.proofs.RunLaws.{Appends-nil, Begins-nil, written-is, Leaves-stops, IfErr-leaves, IfErr-same, trace_before-some, trace_before-none, IsRoomy-none}
+use Rattle.mcs_sim.specs.Runs.{IsRoomy, IsFairRun, IsFairBefore, told}
+use Rattle.mcs_sim.proofs.RunLaws.{Appends-nil, Begins-nil, written-is, Leaves-stops, IfErr-leaves, IfErr-same, trace_before-some, trace_before-none, IsRoomy-none, IsFairBefore-run, IsFairBefore-none}
 use Rattle.mcs_sim.proofs.run.run_text.Goals as goal
 
 pub returns-in_default-clause-err : goal.returns-in_default-clause-err
@@ -13,6 +13,10 @@ pub returns-in_default-fault-clause-ok : goal.returns-in_default-fault-clause-ok
 returns-in_default-fault-clause-ok g c =
     let said = written-is _ _ _ c.in-Ok.ensures ∙ ap (told c.in-Ok.script) c.in_default-fault.is in
     subst (λ (text : List ℕ). OnOk c.replay_script.result (Appends (g.W.Write.contents c.args.sink.now.writer) (g.W.Write.contents c.replay_script.new.sink.writer) text)) (sym said) c.replay_script.ensures.ok
+
+pub returns-in_default-fault-clause-fair : goal.returns-in_default-fault-clause-fair
+returns-in_default-fault-clause-fair g c =
+    subst (λ (s : Script). OnOk c.replay_script.result (IsFairRun s.boot s.steps)) (sym (ap (λ (r : Script × Option (ℕ × LineFault)). r.0) c.in-Ok.ensures)) c.replay_script.ensures.fair
 
 pub returns-in_default-fault-clause-err : goal.returns-in_default-fault-clause-err
 returns-in_default-fault-clause-err g c =
@@ -34,6 +38,7 @@ returns-in_ok-replay_script-clause-err g c =
       subst (Appends _ _) (sym said) c.in_ok-replay_script.ensures.ok,
       ap (λ (r : Script × Option (ℕ × LineFault)). r.1) c.in-Ok.ensures ∙ c.in-Some.is,
       subst (λ (s : Script). IsRoomy s.boot s.steps) (sym (ap (λ (r : Script × Option (ℕ × LineFault)). r.0) c.in-Ok.ensures)) c.in_ok-replay_script.ensures.room,
+      subst (λ (s : Script). IsFairBefore s.boot s.steps) (sym (ap (λ (r : Script × Option (ℕ × LineFault)). r.0) c.in-Ok.ensures)) (IsFairBefore-run c.in-Ok.script.boot c.in-Ok.script.steps c.in_ok-replay_script.ensures.fair),
     )
 
 pub returns-else-not-is_empty-clause-err : goal.returns-else-not-is_empty-clause-err
@@ -44,4 +49,5 @@ returns-else-not-is_empty-clause-err g c =
       subst (Appends _ _) (sym said) (Appends-nil _),
       ap (λ (r : Script × Option (ℕ × LineFault)). r.1) c.in-Ok.ensures ∙ c.in-Some.is,
       subst (λ (s : Script). IsRoomy s.boot s.steps) (sym (ap (λ (r : Script × Option (ℕ × LineFault)). r.0) c.in-Ok.ensures)) (IsRoomy-none c.in-Ok.script.boot c.in-Ok.script.steps none),
+      subst (λ (s : Script). IsFairBefore s.boot s.steps) (sym (ap (λ (r : Script × Option (ℕ × LineFault)). r.0) c.in-Ok.ensures)) (IsFairBefore-none c.in-Ok.script.boot c.in-Ok.script.steps none),
     )

@@ -1,15 +1,15 @@
-use Rattle.std.proofs.Common.{ℕ, List, ◌⊎◌, sym, subst}
-use Rattle.std.specs.Io.KnownBytes.{Consumes, IsAtEnd}
-use Rattle.mcs_sim.specs.Input.{IsTooLong}
+use Rattle.std.proofs.Common.{ℕ, List, sym, subst}
+use Rattle.std.specs.Io.KnownBytes.{Consumes}
+use Rattle.mcs_sim.specs.Input.{EndsReading}
 use Rattle.mcs_sim.proofs.InputLaws.{OnOk-finishes, IfErr-ends}
 use Rattle.mcs_sim.proofs.RunLaws.{Appends-nil, Begins-nil}
 use Rattle.mcs_sim.proofs.run.simulate.Goals as goal
 
 pub returns-in-Err-Read-clause-err : goal.returns-in-Err-Read-clause-err
-returns-in-Err-Read-clause-err g c = let read = c.in-Err-Read.ensures.err in (read.0, read.1, Appends-nil _)
+returns-in-Err-Read-clause-err g c = let read = c.in-Err-Read.ensures.err in (read.0, read.1, read.2, Appends-nil _)
 
 pub returns-in-Err-OutOfMemory-clause-err : goal.returns-in-Err-OutOfMemory-clause-err
-returns-in-Err-OutOfMemory-clause-err g c = let read = c.in-Err-OutOfMemory.ensures.err in (read.0, read.1, Begins-nil _ _)
+returns-in-Err-OutOfMemory-clause-err g c = let read = c.in-Err-OutOfMemory.ensures.err in (read.0, read.1, read.2, Begins-nil _ _)
 
 pub returns-clause-ok : goal.returns-clause-ok
 returns-clause-ok g c =
@@ -17,7 +17,7 @@ returns-clause-ok g c =
     let before = g.R.Read.remaining c.args.source.now.reader in
     let after = g.R.Read.remaining c.read_all.new.self.reader in
     OnOk-finishes _ before after _ _ c.deref.result.now (subst (λ (text : List ℕ). Consumes before after text) same c.in-Ok.ensures.bytes)
-    (subst (λ (text : List ℕ). IsAtEnd after ⊎ IsTooLong text) same c.in-Ok.ensures.end) c.run_text.ensures.ok c.run_text.ensures.faultless
+    (subst (λ (text : List ℕ). EndsReading after text) same c.in-Ok.ensures.end) c.run_text.ensures.ok c.run_text.ensures.faultless c.run_text.ensures.fair
 
 pub returns-clause-err : goal.returns-clause-err
 returns-clause-err g c =
@@ -25,4 +25,4 @@ returns-clause-err g c =
     let before = g.R.Read.remaining c.args.source.now.reader in
     let after = g.R.Read.remaining c.read_all.new.self.reader in
     IfErr-ends _ before after _ _ c.deref.result.now (subst (λ (text : List ℕ). Consumes before after text) same c.in-Ok.ensures.bytes)
-    (subst (λ (text : List ℕ). IsAtEnd after ⊎ IsTooLong text) same c.in-Ok.ensures.end) c.run_text.ensures.err
+    (subst (λ (text : List ℕ). EndsReading after text) same c.in-Ok.ensures.end) c.run_text.ensures.err

@@ -1,0 +1,160 @@
+-- What is said by a text that is too long stands whatever bytes follow.
+use Rattle.std.proofs.Common.{◌≡◌, ℕ, ◌+◌, ◌*◌, ◌<◌, ◌≤◌, ◌⊎◌, inl, inr, Bool, true, false, ltb, eqb, Result, Ok, Err, List, [], ◌∷◌, ◌++◌, length, take, refl, sym, ap, ◌∙◌, append_assoc, arith}
+use Rattle.std.proofs.lemmas.Bool.{lt-ltb, ltb-true, ltb-false}
+use Rattle.std.proofs.lemmas.List.{length-append, length-take-le, take-append-le}
+use Rattle.mcs_text.specs.declared.fault.LineFault.{LineFault}
+use Rattle.mcs_text.specs.declared.fault.LineFault.TheVariants.{LongLine, ManyLines}
+use Rattle.mcs_text.specs.Reading.{onto_first, lines_of}
+use Rattle.mcs_sim.specs.declared.source.Begun.{Begun}
+use Rattle.mcs_sim.specs.Input.{none_begun, begun_with, begun_after, BeginsNext, IsShort, IsTooLong, IsWithin}
+use Rattle.mcs_sim.specs.Script.{Script, no_script, read_line, script_from, steps}
+use Rattle.mcs_sim.proofs.InputLaws.{begun-lines, begun_after-grown, lines-begun_with-le, lines-byte, total, length-total, within}
+use Rattle.mcs_sim.proofs.ScriptLaws.{script_from-ok, script_from-err}
+
+-- ---- lines that go on
+
+-- the same lines, the last of which may go on, and lines behind them
+abbrev Extends : List (List ℕ) → List (List ℕ) → Type 0
+Extends [] ms = Unit {0}
+Extends (l ∷ ls) [] = ⊥
+Extends (l ∷ []) (m ∷ ms) = (more : List ℕ) × (m ≡ l ++ more)
+Extends (l ∷ k ∷ ls) (m ∷ ms) = (m ≡ l) × Extends (k ∷ ls) ms
+
+-- behind an empty line
+extends-empty : (ls ms : List (List ℕ)) → Extends ls ms → Extends ([] ∷ ls) ([] ∷ ms)
+extends-empty [] ms e = ([], refl)
+extends-empty (l ∷ ls) ms e = (refl, e)
+
+-- with a byte more before the first
+extends-onto : (b : ℕ) (ls ms : List (List ℕ)) → Extends ls ms → Extends (onto_first b ls) (onto_first b ms)
+extends-onto b [] [] e = ([], refl)
+extends-onto b [] (m ∷ ms) e = (m, refl)
+extends-onto b (l ∷ ls) [] e = absurd e
+extends-onto b (l ∷ []) (m ∷ ms) e = (e.0, ap (λ (line : List ℕ). b ∷ line) e.1)
+extends-onto b (l ∷ k ∷ ls) (m ∷ ms) e = (ap (λ (line : List ℕ). b ∷ line) e.0, e.1)
+
+-- the lines of a text that goes on
+lines-extend : (text more : List ℕ) → Extends (lines_of text) (lines_of (text ++ more))
+lines-extend [] more = tt
+lines-extend (b ∷ bs) more = go (lines-extend bs more) (eqb b 10) refl
+  where
+    go : Extends (lines_of bs) (lines_of (bs ++ more)) → (t : Bool) → eqb b 10 ≡ t → Extends (lines_of (b ∷ bs)) (lines_of (b ∷ bs ++ more))
+    go rest true e = rw (lines-byte b bs true e, lines-byte b (bs ++ more) true e) (extends-empty (lines_of bs) (lines_of (bs ++ more)) rest)
+    go rest false e = rw (lines-byte b bs false e, lines-byte b (bs ++ more) false e) (extends-onto b (lines_of bs) (lines_of (bs ++ more)) rest)
+
+-- ---- faults that stand
+
+-- a line behind the last
+many : (s : Script) (n : ℕ) (line : List ℕ) → 2000000 < n → read_line s n line ≡ Err ManyLines
+unfolding read_line
+many s n line lt = rw (lt-ltb 2000000 n lt) refl
+
+-- a line that is too long
+long : (s : Script) (n : ℕ) (line : List ℕ) → n ≤ 2000000 → 4096 < length line → read_line s n line ≡ Err LongLine
+unfolding read_line
+long s n line le lt = let few : ltb 2000000 n ≡ false = grind arith in rw (few, lt-ltb 4096 (length line) lt) refl
+
+-- two lines that are refused alike
+refused : (s : Script) (n : ℕ) (l m : List ℕ) (ls ms : List (List ℕ)) (why : LineFault) → read_line s n l ≡ Err why → read_line s n m ≡ Err why
+    → script_from s n (m ∷ ms) ≡ script_from s n (l ∷ ls)
+refused s n l m ls ms why one other = script_from-err s n m ms why other ∙ sym (script_from-err s n l ls why one)
+
+-- lines that are too many from this number on, or too long together
+LongFrom : ℕ → List (List ℕ) → Type 0
+LongFrom n ls = (2000001 < n + length ls) ⊎ (8194004097 < 4097 * n + total ls)
+
+-- the last line, where it is too long
+last-stands : (s : Script) (n : ℕ) (l m more : List ℕ) (ms : List (List ℕ)) → m ≡ l ++ more → n ≤ 2000001 → LongFrom n (l ∷ []) → script_from s n (m ∷ ms) ≡ script_from s n (l ∷ [])
+unfolding LongFrom total
+last-stands s n l m more ms goes le too = go (ltb 2000000 n) refl
+  where
+    short : n ≤ 2000000 → (b : Bool) → ltb 4096 (length l) ≡ b → script_from s n (m ∷ ms) ≡ script_from s n (l ∷ [])
+    short few true e =
+        let over : 4096 < length l = ltb-true _ _ e in
+        let grown : length m ≡ length l + length more = ap (λ (line : List ℕ). length line) goes ∙ length-append l more in
+        refused s n l m [] ms LongLine (long s n l few over) (long s n m few (omega (arith, over, grown)))
+    short few false e =
+        let fits : length l ≤ 4096 = ltb-false _ _ e in
+        elim too [ inl lines ↦ absurd (omega (arith, lines, few)) | inr bytes ↦ absurd (omega (arith, bytes, few, fits)) ]
+
+    go : (b : Bool) → ltb 2000000 n ≡ b → script_from s n (m ∷ ms) ≡ script_from s n (l ∷ [])
+    go true e = let over : 2000000 < n = ltb-true _ _ e in refused s n l m [] ms ManyLines (many s n l over) (many s n m over)
+    go false e = short (ltb-false _ _ e) (ltb 4096 (length l)) refl
+
+-- a line that is taken leaves those behind it too long
+long-next : (n : ℕ) (l : List ℕ) (ls : List (List ℕ)) → length l ≤ 4096 → LongFrom n (l ∷ ls) → LongFrom (n + 1) ls
+unfolding LongFrom total
+long-next n l ls fits too = elim too [ inl lines ↦ inl (omega (arith, lines)) | inr bytes ↦ inr (omega (arith, bytes, fits)) ]
+
+-- lines that are too long
+lines-stand : (ls ms : List (List ℕ)) (s : Script) (n : ℕ) → Extends ls ms → n ≤ 2000001 → LongFrom n ls → script_from s n ms ≡ script_from s n ls
+unfolding LongFrom total
+lines-stand [] ms s n e le too = elim too [ inl lines ↦ absurd (omega (arith, lines, le)) | inr bytes ↦ absurd (omega (arith, bytes, le)) ]
+lines-stand (l ∷ ls) [] s n e le too = absurd e
+lines-stand (l ∷ []) (m ∷ ms) s n e le too = last-stands s n l m e.0 ms e.1 le too
+lines-stand (l ∷ k ∷ ls) (m ∷ ms) s n e le too =
+    ap (λ (line : List ℕ). script_from s n (line ∷ ms)) e.0 ∙ go (λ t. lines-stand (k ∷ ls) ms t (n + 1) e.1) (read_line s n l) refl
+  where
+    go : ((t : Script) → n + 1 ≤ 2000001 → LongFrom (n + 1) (k ∷ ls) → script_from t (n + 1) ms ≡ script_from t (n + 1) (k ∷ ls)) → (r : Result Script LineFault) → read_line s n l ≡ r → script_from s n (l ∷ ms) ≡ script_from s n (l ∷ k ∷ ls)
+    go next (Err why) is = refused s n l l (k ∷ ls) ms why is is
+    go next (Ok t) is =
+        let w = within s t n l is in
+        let rest = next t (omega (arith, w.0)) (long-next n l (k ∷ ls) w.1 too) in
+        script_from-ok s t n l ms is ∙ rest ∙ sym (script_from-ok s t n l (k ∷ ls) is)
+
+-- the law: what a text says that is too long stands whatever follows
+pub long-stands : (text more : List ℕ) → IsTooLong text → steps (text ++ more) ≡ steps text
+unfolding LongFrom steps
+long-stands text more too =
+    let from : LongFrom 1 (lines_of text) = elim too [
+      | inl bytes ↦ inr (omega (arith, bytes, length-total text))
+      | inr next ↦ inl (omega (arith, next.next))
+    ] in
+    lines-stand (lines_of text) (lines_of (text ++ more)) no_script 1 (lines-extend text more) (omega arith) from
+
+-- ---- the first byte behind the last line
+
+-- so many bytes are taken of what was read
+pub length-piece : (n : ℕ) (xs ys : List ℕ) → n ≤ length xs → length (take n (xs ++ ys)) ≡ n
+length-piece n xs ys le = ap (λ (l : List ℕ). length l) (take-append-le n xs ys le) ∙ length-take-le n xs le
+
+-- where a piece was read of which no more bytes could begin a line than to the first behind the last, its last byte begins that line
+pub next-begun : (piece : List ℕ) (s t : Begun) (xs zs : List ℕ) → s ≡ begun_after none_begun xs → t ≡ begun_after s piece → zs ≡ xs ++ piece
+    → 0 < length piece → s.lines + length piece ≤ 2000001 → 2000000 < t.lines → BeginsNext zs
+unfolding begun_after
+next-begun [] s t xs zs before after grown some few over = absurd (omega (arith, some))
+next-begun (b ∷ []) s t xs zs before after grown some few over =
+    let lines : length (lines_of xs) ≡ s.lines = sym (begun-lines xs) ∙ ap (λ (s : Begun). s.lines) (sym before) in
+    let one : t.lines ≡ (begun_with s b).lines = ap (λ (s : Begun). s.lines) after in
+    let all : length (lines_of zs) ≡ t.lines =
+    sym (begun-lines zs) ∙ ap (λ (s : Begun). s.lines) (sym (begun_after-grown s t xs (b ∷ []) zs after before grown)) in
+    let most = lines-begun_with-le s b in
+    record { before = xs; first = b; split = grown; full = omega (arith, lines, one, most, few, over); next = omega (arith, all, one, most, few, over) }
+next-begun (b ∷ c ∷ bs) s t xs zs before after grown some few over =
+    next-begun (c ∷ bs) (begun_with s b) t (xs ++ b ∷ []) zs (begun_after-grown s (begun_with s b) xs (b ∷ []) (xs ++ b ∷ []) refl before refl) after
+    (grown ∙ sym (append_assoc xs (b ∷ []) (c ∷ bs))) (omega arith) (omega (arith, few, lines-begun_with-le s b)) over
+
+-- what was read that is not too long yet
+pub short-read : (s : Begun) (xs : List ℕ) → s ≡ begun_after none_begun xs → s.lines ≤ 2000000 → length xs < 8194000001 → IsShort xs
+short-read s xs before few short =
+    let lines : length (lines_of xs) ≡ s.lines = sym (begun-lines xs) ∙ ap (λ (s : Begun). s.lines) (sym before) in
+    (omega (arith, short), omega (arith, lines, few))
+
+-- what was read is short, or too long by one byte
+pub within-read : (s : Begun) (xs : List ℕ) → s ≡ begun_after none_begun xs → (2000000 < s.lines → BeginsNext xs) → length xs ≤ 8194000001 → IsWithin xs
+within-read s xs before next fits = go (ltb 2000000 s.lines) refl
+  where
+    few : s.lines ≤ 2000000 → (b : Bool) → ltb 8194000000 (length xs) ≡ b → IsWithin xs
+    few le true e = let over : 8194000000 < length xs = ltb-true _ _ e in inr (inl (omega (arith, over, fits)))
+    few le false e = let short : length xs ≤ 8194000000 = ltb-false _ _ e in inl (short-read s xs before le (omega (arith, short)))
+
+    go : (b : Bool) → ltb 2000000 s.lines ≡ b → IsWithin xs
+    go true e = inr (inr (next (ltb-true _ _ e)))
+    go false e = few (ltb-false _ _ e) (ltb 8194000000 (length xs)) refl
+
+-- what was read with a piece more
+pub within-grown : (piece : List ℕ) (s t : Begun) (xs zs : List ℕ) → s ≡ begun_after none_begun xs → t ≡ begun_after s piece → zs ≡ xs ++ piece
+    → 0 < length piece → s.lines + length piece ≤ 2000001 → length xs + length piece ≤ 8194000001 → IsWithin zs
+within-grown piece s t xs zs before after grown some few fits =
+    let all : length zs ≡ length xs + length piece = ap (λ (l : List ℕ). length l) grown ∙ length-append xs piece in
+    within-read t zs (begun_after-grown s t xs piece zs after before grown) (next-begun piece s t xs zs before after grown some few) (omega (arith, all, fits))
