@@ -1,10 +1,9 @@
 //! What the command line asks for.
-ghost use Rattle.std.specs.Prelude.{◌≡◌, ℕ, List, ◌∷◌, [], IfOk, IfErr, IsErrAnd, map, codes};
-ghost use Rattle.clap.specs.Words.{FailsBy, HasKind, app_of, fault_of, kind_of};
-ghost use Rattle.mcs_options.specs.CommandLine.{mcssim_line};
+ghost use Rattle.std.specs.Prelude.{◌≡◌, IfOk, IfErr, IsErrAnd, map, codes};
+ghost use Rattle.clap.specs.Words.{FailsBy, app_of, fault_of};
+ghost use Rattle.mcs_options.specs.CommandLine.{mcssim_line, AsksFor, IsMemory, IsVersion};
 
 use crate::choice::Options;
-use clap::error::ErrorKind;
 use clap::{Command, Error};
 use std::alloc::Global;
 
@@ -14,7 +13,7 @@ const VERSION: &str = "0.1.0";
 /// The program's commands.
 fn commands<'a>(alloc: Global) -> Result<Command<'a>, Error>
     ensures line { IfOk result (λ c. app_of c ≡ mcssim_line) }
-    ensures memory { IfErr result (λ e. kind_of e ≡ ErrorKind.OutOfMemory) }
+    ensures memory { IfErr result IsMemory }
 {
     let replay = Command::new(alloc, "replay").about(
         "Reads a script from standard input, and writes its trace to standard output",
@@ -33,11 +32,8 @@ fn commands<'a>(alloc: Global) -> Result<Command<'a>, Error>
 /// tells that there was no memory; and where they give a kind it comes. The one word `replay` is right, and the one word
 /// `--version` asks for the version.
 pub fn options<'a>(alloc: Global, words: &'a [&'a str]) -> Result<Options, Error>
-    ensures replay { (name : List ℕ) → map (λ w. w.now) words.entry.now ≡ name ∷ codes "replay" ∷ []
-        → IfErr result (λ e. kind_of e ≡ ErrorKind.OutOfMemory) }
-    ensures version { (name : List ℕ)
-        → map (λ w. w.now) words.entry.now ≡ name ∷ codes "--version" ∷ []
-        → IsErrAnd result (HasKind (ErrorKind.DisplayVersion ∷ [])) }
+    ensures replay { AsksFor words.entry.now (codes "replay") → IfErr result IsMemory }
+    ensures version { AsksFor words.entry.now (codes "--version") → IsErrAnd result IsVersion }
     ensures fails { FailsBy (fault_of mcssim_line (map (λ w. w.now) words.entry.now)) result }
 {
     // `replay` is the only command, so that each line that is accepted asks for it

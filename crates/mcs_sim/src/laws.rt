@@ -9,11 +9,15 @@ ghost use Rattle.mcs_sim.specs.Script.{steps};
 /// The book that steps make after a boot is legal, where nothing is wrong with the boot and the numbers of each step are in
 /// their ranges.
 pub fn replayed_legal()
-    ensures { (boot : Boot) (ss : List Step) → IsFaultless boot → AllInRange ss
-        → IsLegal (book_of boot ss) }
+    ghost run: { Boot × List Step }
+    requires boot { IsFaultless run.0 }
+    requires steps { AllInRange run.1 }
+    ensures { IsLegal (book_of run.0 run.1) }
 {}
 
 /// What a text says that is too long for a script stands whatever bytes follow it: the same boot, steps and fault.
 pub fn too_long_stands()
-    ensures { (text more : List ℕ) → IsTooLong text → steps (text ++ more) ≡ steps text }
+    ghost at: { List ℕ × List ℕ }
+    requires { IsTooLong at.0 }
+    ensures { steps (at.0 ++ at.1) ≡ steps at.0 }
 {}

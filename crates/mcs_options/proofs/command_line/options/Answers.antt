@@ -49,14 +49,14 @@ is_err_and-passed (Err x) e Q same q = subst Q (sym same) q
 
 pub returns-in_err-try_get_matches_from-clause-replay : goal.returns-in_err-try_get_matches_from-clause-replay
 returns-in_err-try_get_matches_from-clause-replay c =
-    λ name words_are. if_err-passed _ _ _ c.from_residual-in_err-try_get_matches_from.ensures.1
-    (c.in_err-try_get_matches_from.ensures.passes (ap₂ takes c.in_ok-commands.ensures.line words_are ∙ is_taken name))
+    λ asked. if_err-passed _ _ _ c.from_residual-in_err-try_get_matches_from.ensures.1
+    (c.in_err-try_get_matches_from.ensures.passes (ap₂ takes c.in_ok-commands.ensures.line asked.1 ∙ is_taken asked.0))
 
 pub returns-in_err-try_get_matches_from-clause-version : goal.returns-in_err-try_get_matches_from-clause-version
 returns-in_err-try_get_matches_from-clause-version c =
-    λ name words_are. is_err_and-passed _ _ _ c.from_residual-in_err-try_get_matches_from.ensures.1
-    (tells_version _ _ name c.in_err-try_get_matches_from.field-0.0 c.in_ok-commands.ensures.line words_are c.in_err-try_get_matches_from.ensures.kinds)
+    λ asked. is_err_and-passed _ _ _ c.from_residual-in_err-try_get_matches_from.ensures.1
+    (tells_version _ _ asked.0 c.in_err-try_get_matches_from.field-0.0 c.in_ok-commands.ensures.line asked.1 c.in_err-try_get_matches_from.ensures.kinds)
 
 pub returns-clause-version : goal.returns-clause-version
 returns-clause-version c =
-    λ name words_are. is_not_taken _ _ name c.in_ok-commands.ensures.line words_are c.in_ok-try_get_matches_from.ensures.kinds
+    λ asked. is_not_taken _ _ asked.0 c.in_ok-commands.ensures.line asked.1 c.in_ok-try_get_matches_from.ensures.kinds
