@@ -37,7 +37,6 @@ pub mod FirmTable
 pub mod FirmBoots
 pub mod SoundBooks
 pub mod Making
-pub mod ServedLaws
 pub mod MailLaws
 pub mod Safety
 pub mod WholeRecords

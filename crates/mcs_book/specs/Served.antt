@@ -1,29 +1,14 @@
--- What served entries leave, and the kinds that are served so far. This ends when all is built: then every kind is served.
-use Rattle.std.specs.Prelude.{Bool, true, false, ◌≡◌, Some, None, [], ◌∷◌}
+-- What holds until calls and notifications are served, and the kinds that are served so far. This ends when all is built.
+use Rattle.std.specs.Prelude.{Bool, true, false, ◌≡◌, Option, Some, None}
 use Rattle.mcs_types.specs.declared.id.ObjId.{ObjId}
 use Rattle.mcs_types.specs.declared.id.Kind.{Kind}
 use Rattle.mcs_types.specs.declared.id.Kind.TheVariants.{Notification, Reply}
-use Rattle.mcs_types.specs.declared.record.SendMode.TheVariants.{Plain, Call, Mute}
-use Rattle.mcs_types.specs.declared.record.Rec.{Rec}
-use Rattle.mcs_types.specs.declared.record.Rec.TheVariants.{Sent, Owes, Tied}
+use Rattle.mcs_types.specs.declared.record.SendMode.TheVariants.{Plain}
 use Rattle.mcs_types.specs.declared.record.Letter.{Letter}
 use Rattle.mcs_book.specs.Logs.{Log}
 use Rattle.mcs_book.specs.Messages.{open_of}
 use Rattle.mcs_book.specs.Notifications.{bound_of}
 use Rattle.mcs_book.specs.Replies.{owed_by}
-
--- whether a served entry may make this record: it is no debt, binds no notification, and is no call
-abbrev pub is_served : Rec → Bool
-is_served (Owes r x s) = false
-is_served (Tied t n) = false
-is_served (Sent x e Call badge message) = false
-is_served (Sent x e Mute badge message) = false
-is_served _ = true
-
--- each record is such
-abbrev pub AreServed : Log → Type 0
-AreServed [] = Unit {0}
-AreServed (rec ∷ R) = (is_served rec ≡ true) × AreServed R
 
 -- no reply object owes anybody, no thread is bound to a notification, and no open message is a call
 pub record IsPlain (R : Log) : Type 0 where

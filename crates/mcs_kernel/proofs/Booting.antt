@@ -21,7 +21,7 @@ use Rattle.mcs_book.specs.Queues.{queue_of}
 use Rattle.mcs_book.specs.Contexts.{holder_of}
 use Rattle.mcs_book.specs.Checks.{◌>>◌, need}
 use Rattle.mcs_book.specs.Boots.{is_object, has_numbers, has_objects, has_room, is_free, boot_check, boot_log, is_context_any, fits_guard, fits_kind, AreFaultless}
-use Rattle.mcs_book.proofs.ServedLaws.{boot-open, plain-served, served-boot}
+use Rattle.mcs_kernel.proofs.ServedLaws.{boot-open, plain-served, served-boot}
 use Rattle.mcs_book.specs.Guards.{FitsGuard, FitsSlot}
 use Rattle.mcs_types.specs.declared.cap.Guard.{Guard}
 use Rattle.mcs_book.specs.History.{Line, past}

@@ -1,3 +1,4 @@
+pub mod ServedLaws
 pub mod Booting
 pub mod Serving
 pub mod Stepping

@@ -35,11 +35,12 @@ use Rattle.mcs_book.specs.Logs.{counted}
 use Rattle.mcs_book.specs.Objects.{makes_kind}
 use Rattle.mcs_book.specs.Pieces.{Outcome}
 use Rattle.mcs_book.specs.Table.{does}
-use Rattle.mcs_book.specs.Served.{AreServed, IsPlain}
+use Rattle.mcs_book.specs.Served.{IsPlain}
+use Rattle.mcs_kernel.specs.Served.{IsServedLog}
 use Rattle.mcs_types.specs.Served.{IsServed}
 use Rattle.mcs_book.proofs.LengthRows.{does-short}
 use Rattle.mcs_book.proofs.SendersOpen.{legal-senders}
-use Rattle.mcs_book.proofs.ServedLaws.{plain-served, chain-none, served-does, served-boot}
+use Rattle.mcs_kernel.proofs.ServedLaws.{plain-served, chain-none, served-does, served-boot}
 use Rattle.mcs_book.specs.Boots.{Boot, IsFaultless}
 use Rattle.mcs_book.proofs.SoundBooks.{legal-firm}
 use Rattle.mcs_ipc.specs.Ready.{NoChains}
@@ -137,7 +138,7 @@ pub record IsServing (b : Book) (core : CoreId) (t : ObjId) (n : Now) : Type 0 w
   pub hand : n.hand ≡ []
   pub book : n.book ≡ b
   pub legal : IsLegal b
-  pub served : AreServed (log_of b)
+  pub served : IsServedLog (log_of b)
   pub may : may_enter (log_of b) core t ≡ true
   pub few : length b.lines + 1 < line_limit
 
@@ -145,7 +146,7 @@ pub record IsServing (b : Book) (core : CoreId) (t : ObjId) (n : Now) : Type 0 w
 pub serving : (b : Book) (core : CoreId) (t : ObjId) (n m : Now) → IsResting n → n.book ≡ b → fault_of b core t ≡ None → m.hand ≡ n.hand → m.book ≡ n.book → IsServing b core t m
 serving b core t n m rests is none hand book =
     let f = fault-none b core t none in
-    record { hand = hand ∙ rests.hand; book = book ∙ is; legal = subst IsLegal is rests.legal; served = subst (λ (x : Book). AreServed (log_of x)) is rests.served; may = f.0; few = f.1 }
+    record { hand = hand ∙ rests.hand; book = book ∙ is; legal = subst IsLegal is rests.legal; served = subst (λ (x : Book). IsServedLog (log_of x)) is rests.served; may = f.0; few = f.1 }
 
 module _ (b : Book) (core : CoreId) (t : ObjId) (n : Now) (s : IsServing b core t n) where
   -- the records so far are those of the book
@@ -180,7 +181,7 @@ module _ (b : Book) (core : CoreId) (t : ObjId) (n : Now) (s : IsServing b core 
         hand = hand;
         legal = subst IsLegal line (legal-entered b step s.legal s.may range);
         few = omega (arith, longer, few);
-        served = subst (λ (x : Book). AreServed (log_of x)) line (served-does (log_of b) core t entry served s.served);
+        served = subst (λ (x : Book). IsServedLog (log_of x)) line (served-does (log_of b) core t entry served s.served);
       }
 
 -- a state of a boot alone is at rest
@@ -190,4 +191,4 @@ rests-begun boot n faultless hand is =
     let legal : IsLegal begun = record { boot = faultless; lines = tt } in
     let back : begun ≡ n.book = sym is in
     let none = ap (λ (b : Book). length b.lines) is in
-    record { hand = hand; legal = subst IsLegal back legal; few = omega (arith, none); served = subst (λ (b : Book). AreServed (log_of b)) back (served-boot boot.lines) }
+    record { hand = hand; legal = subst IsLegal back legal; few = omega (arith, none); served = subst (λ (b : Book). IsServedLog (log_of b)) back (served-boot boot.lines) }

@@ -2,3 +2,4 @@ pub mod Faults
 pub mod Runs
 pub mod Resting
 pub mod Booted
+pub mod Served

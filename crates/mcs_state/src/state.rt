@@ -31,7 +31,6 @@ use std::alloc::Global;
 use std::marker::Model;
 
 /// All tables, beside the book and the records of the line in hand.
-#[derive(Drop)]
 pub struct State<W: Waiting> {
     book: Book,
     hand: Vec<Rec>,
@@ -42,6 +41,24 @@ pub struct State<W: Waiting> {
     replies: Store<Option<ObjId>>,
     slots: Slots,
     sent: u32,
+}
+
+// By hand, so that it is a function of its own: a derived drop would be proved anew wherever a state, a boot or a kernel is
+// let go.
+impl<W: Waiting> Drop for State<W> {
+    fn drop(self) {
+        let State {
+            book: _,
+            hand: _,
+            threads: _,
+            letters: _,
+            contexts: _,
+            queues: _,
+            replies: _,
+            slots: _,
+            sent: _,
+        } = self;
+    }
 }
 
 impl<W: Waiting> Model for State<W> {

@@ -38,14 +38,15 @@ use Rattle.mcs_book.specs.Sending.{letter_over, sends_to, sends, queues, send_by
 use Rattle.mcs_book.specs.Receiving.{free, joins_or, hear, take_open, receive_message, receive_on, receive_by, receive_over, open_of_any}
 use Rattle.mcs_book.specs.Table.{row, wakes, outcome_of, does}
 use Rattle.mcs_book.specs.Boots.{boot_line, boot_log}
-use Rattle.mcs_book.specs.Served.{is_served, AreServed, IsPlain, serves_kind}
+use Rattle.mcs_book.specs.Served.{IsPlain, serves_kind}
+use Rattle.mcs_kernel.specs.Served.{is_served, IsServedLog}
 use Rattle.mcs_types.specs.Served.{IsServed}
 use Rattle.mcs_book.proofs.Checking.{OnPassed, passed-ok, passed-err, passed-bind, passed-next}
 use Rattle.mcs_book.proofs.Making.{Passes, Makes, passes-append, makes-nothing, makes-say, makes-then, makes-any, makes-free}
 use Rattle.mcs_book.proofs.MessageLaws.{open_of-letter}
 
 -- the log after records that are all served
-pub served-onto : (made : List Rec) (R : Log) → Passes is_served made → AreServed R → AreServed (onto made R)
+pub served-onto : (made : List Rec) (R : Log) → Passes is_served made → IsServedLog R → IsServedLog (onto made R)
 served-onto [] R h k = k
 served-onto (rec ∷ made) R h k = served-onto made (rec ∷ R) h.1 (h.0, k)
 
@@ -55,7 +56,7 @@ ended true o h = refl
 ended false o h = h
 
 -- no served record is a debt
-owed-none : (R : Log) (r : ObjId) → AreServed R → owed_by R r ≡ None
+owed-none : (R : Log) (r : ObjId) → IsServedLog R → owed_by R r ≡ None
 owed-none [] r h = refl
 owed-none (rec.Owes u x s ∷ R) r h = absurd cc
 owed-none (rec.Paid u x message ∷ R) r h = ended (same r u) (owed_by R r) (owed-none R r h.1)
@@ -63,13 +64,13 @@ owed-none (rec.Void u x ending ∷ R) r h = ended (same r u) (owed_by R r) (owed
 owed-none (_ ∷ R) r h = owed-none R r h.1
 
 -- or binds a notification
-bound-none : (R : Log) (t : ObjId) → AreServed R → bound_of R t ≡ None
+bound-none : (R : Log) (t : ObjId) → IsServedLog R → bound_of R t ≡ None
 bound-none [] t h = refl
 bound-none (rec.Tied u n ∷ R) t h = absurd cc
 bound-none (_ ∷ R) t h = bound-none R t h.1
 
 -- or is a call
-letter-plain : (R : Log) (m : ℕ) (s : Letter) → AreServed R → letter R m ≡ Some s → s.mode ≡ how.Plain
+letter-plain : (R : Log) (m : ℕ) (s : Letter) → IsServedLog R → letter R m ≡ Some s → s.mode ≡ how.Plain
 letter-plain [] m s h e = absurd cc
 letter-plain (rec.Sent x e how.Plain badge message ∷ R) m s h is = go (next_message R == m) is (letter-plain R m s h.1)
   where
@@ -84,21 +85,21 @@ letter-plain (rec.Sent x e how.Mute badge message ∷ R) m s h is = absurd cc
 letter-plain (_ ∷ R) m s h is = letter-plain R m s h.1 is
 
 -- an open message is none
-pub open-plain : (R : Log) (x : ObjId) (s : Letter) → AreServed R → open_of R x ≡ Some s → s.mode ≡ how.Plain
+pub open-plain : (R : Log) (x : ObjId) (s : Letter) → IsServedLog R → open_of R x ≡ Some s → s.mode ≡ how.Plain
 open-plain R x s h is = letter-plain R s.number s h (open_of-letter R x s is)
 
 -- the law: after served records no one is owed or bound, and no open message is a call
-pub plain-served : (R : Log) → AreServed R → IsPlain R
+pub plain-served : (R : Log) → IsServedLog R → IsPlain R
 plain-served R h = record { owed = λ r. owed-none R r h; bound = λ t. bound-none R t h; sends = λ x s is. open-plain R x s h is }
 
 -- no context came along a debt
-kept-none : (R : Log) (s : ObjId) (later : List Rec) → AreServed R → kept s later R ≡ []
+kept-none : (R : Log) (s : ObjId) (later : List Rec) → IsServedLog R → kept s later R ≡ []
 kept-none [] s later h = refl
 kept-none (rec.Owes r x c ∷ R) s later h = absurd cc
 kept-none (made ∷ R) s later h = kept-none R s (made ∷ later) h.1
 
 -- the law: after served records every chain is empty
-pub chain-none : (R : Log) (s : ObjId) → AreServed R → chain_of R s ≡ []
+pub chain-none : (R : Log) (s : ObjId) → IsServedLog R → chain_of R s ≡ []
 unfolding chain_of
 chain-none R s h = go (was_closed R s) (kept-none R s [] h)
   where
@@ -108,7 +109,7 @@ chain-none R s h = go (was_closed R s) (kept-none R s [] h)
 
 -- an act whose records are served, where those before it are
 record ServedAct (act : Act) : Type 0 where
-  at : (S : Log) → AreServed S → Passes is_served ((act S).records)
+  at : (S : Log) → IsServedLog S → Passes is_served ((act S).records)
 
 -- a plain record that a cancellation makes is served
 free-served : (r : ObjId) → Makes is_served (free r)
@@ -137,7 +138,7 @@ served-sends : (t : ObjId) (held : Cap) (message : Content) (a : Answer) (alone 
 unfolding sends sends_to handed ◌then◌
 served-sends t held message a alone k = record { at = λ S h. go S h (first_in S (Receivers held.obj)) }
   where
-    go : (S : Log) → AreServed S → (o : Option ObjId) → Passes is_served ((sends_to (letter_over t held how.Plain message S) a alone o S).records)
+    go : (S : Log) → IsServedLog S → (o : Option ObjId) → Passes is_served ((sends_to (letter_over t held how.Plain message S) a alone o S).records)
     go S h None = k.at S h
     go S h (Some p) = (refl, (refl, (refl, (refl, tt))))
 
@@ -183,7 +184,7 @@ served-take t r None otherwise S plain h = h
 served-take t r (Some s) otherwise S plain h = rw (plain s refl) (refl, (refl, (refl, tt)))
 
 -- the first sender's open message is no call
-any-plain : (S : Log) (x : Option ObjId) (s : Letter) → AreServed S → open_of_any S x ≡ Some s → s.mode ≡ how.Plain
+any-plain : (S : Log) (x : Option ObjId) (s : Letter) → IsServedLog S → open_of_any S x ≡ Some s → s.mode ≡ how.Plain
 any-plain S None s h e = absurd cc
 any-plain S (Some x) s h e = open-plain S x s h e
 
@@ -239,16 +240,16 @@ wakes-served Running t = makes-nothing is_served
 wakes-served Inactive t = makes-nothing is_served
 
 -- the law: a served entry leaves served records
-pub served-does : (R : Log) (core : CoreId) (t : ObjId) (entry : Entry) → IsServed entry → AreServed R → AreServed (onto ((does R core t entry).records) R)
+pub served-does : (R : Log) (core : CoreId) (t : ObjId) (entry : Entry) → IsServed entry → IsServedLog R → IsServedLog (onto ((does R core t entry).records) R)
 unfolding does OnPassed
 served-does R core t entry u h = go (row R core t entry) (served-row R core t entry u)
   where
-    go : (m : Checked Act) → OnPassed ServedAct m → AreServed (onto ((outcome_of R t m).records) R)
+    go : (m : Checked Act) → OnPassed ServedAct m → IsServedLog (onto ((outcome_of R t m).records) R)
     go (Ok act) k = served-onto _ R ((served-before (wakes (mode_of R t) t) act (wakes-served (mode_of R t) t) k).at R h) h
     go (Err refusal) k = h
 
 -- a line of the boot makes served records
-line-served : (R : Log) (line : BootLine) → AreServed R → AreServed (onto (boot_line R line) R)
+line-served : (R : Log) (line : BootLine) → IsServedLog R → IsServedLog (onto (boot_line R line) R)
 line-served R (boot.Thread priority maximum root guard runs (Some s)) h = (refl, (refl, (refl, (refl, h))))
 line-served R (boot.Thread priority maximum root guard runs None) h = (refl, (refl, (refl, h)))
 line-served R (boot.CNode radix) h = (refl, h)
@@ -259,7 +260,7 @@ line-served R (boot.Context core) h = (refl, h)
 line-served R (boot.Slot c i cap) h = (refl, h)
 
 -- the law: a boot makes served records
-pub served-boot : (lines : List BootLine) → AreServed (boot_log lines)
+pub served-boot : (lines : List BootLine) → IsServedLog (boot_log lines)
 unfolding boot_log
 served-boot [] = tt
 served-boot (line ∷ lines) = line-served (boot_log lines) line (served-boot lines)
