@@ -1,4 +1,4 @@
-use Rattle.std.proofs.Common.{◌≡◌, ◌≤◌, ◌^◌, ◌&&◌, ◌∷◌, nat_le, nat_lt, Some, true, cond, [], refl, sym, ap, subst, ◌∙◌, arith}
+use Rattle.std.proofs.Common.{◌≡◌, ◌^◌, ◌&&◌, ◌∷◌, nat_le, nat_lt, Some, true, cond, [], refl, sym, ap, subst, ◌∙◌, arith}
 use Rattle.std.proofs.lemmas.Grind.{common_steps}
 use Rattle.mcs_types.specs.declared.id.ObjId.{ObjId}
 use Rattle.mcs_types.specs.declared.id.Kind.TheVariants as kind
@@ -7,8 +7,8 @@ use Rattle.mcs_types.specs.declared.cap.Cap.{Cap}
 use Rattle.mcs_types.specs.declared.record.Rec.TheVariants as rec
 use Rattle.mcs_types.specs.declared.record.Form.{Form}
 use Rattle.mcs_types.specs.declared.record.Form.TheVariants as form
-use Rattle.mcs_book.specs.Logs.{Log, counted}
-use Rattle.mcs_book.specs.Objects.{next_id, makes_kind, form_of}
+use Rattle.mcs_book.specs.Logs.{Log}
+use Rattle.mcs_book.specs.Objects.{next_id, form_of}
 use Rattle.mcs_book.specs.Lookup.{radix_kept}
 use Rattle.mcs_book.specs.Fits.{FitsForm}
 use Rattle.mcs_book.specs.Sound.{Allowed}

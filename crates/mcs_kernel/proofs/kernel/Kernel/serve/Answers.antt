@@ -1,6 +1,5 @@
 use Rattle.std.proofs.Common.{◌≡◌, ◌∙◌}
 use Rattle.mcs_types.specs.declared.entry.Step.{Step}
-use Rattle.mcs_book.specs.History.{Book}
 use Rattle.mcs_kernel.specs.Faults.{entered}
 use Rattle.mcs_kernel.proofs.Serving.{IsServing, serving, serving-enters, serving-stands, serving-plain, serving-chains, entry-fits, line-entered, rests-again}
 use Rattle.mcs_kernel.proofs.kernel.Kernel.serve.Goals as goal
