@@ -7,7 +7,7 @@ use Rattle.mcs_types.specs.declared.record.Queue.TheVariants.{Receivers}
 use Rattle.mcs_types.specs.declared.id.ObjId.{ObjId}
 use Rattle.mcs_types.specs.declared.id.Badge.{Badge}
 use Rattle.mcs_types.specs.declared.entry.Answer.TheVariants.{Got}
-use Rattle.mcs_book.specs.WorkedBoots.{t, e, s}
+use Rattle.mcs_book.specs.ExampleBoots.{t, e, s}
 use Rattle.mcs_book.specs.Each.{EachLine, AfterEachLine, EachRecord}
 use Rattle.mcs_book.specs.Fair.{EndsOpen, IsWholeLine, TakesFirst, TakesInOrder, TakesAlive, SendersAreOpen, AnswersOwed, AnswersWhole, NoneWaitBeside}
 use Rattle.mcs_book.specs.SmallBooks.{badge, text, second_take, wrong_badge, not_the_first, out_of_order, after_the_end, nothing_sent, paid_twice, kept_context, both_wait}

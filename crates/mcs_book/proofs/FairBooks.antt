@@ -20,12 +20,12 @@ use Rattle.mcs_types.specs.declared.boot.BootLine.{BootLine}
 use Rattle.mcs_types.specs.declared.boot.BootLine.TheVariants as boot
 use Rattle.mcs_book.specs.Boots.{boot_line, boot_log}
 use Rattle.mcs_book.specs.History.{Book, IsLegal, AllInRange, steps_of, book_of}
-use Rattle.mcs_book.specs.WorkedBoots.{boot_k, t, e, r, s}
+use Rattle.mcs_book.specs.ExampleBoots.{five_threads, t, e, r, s}
 use Rattle.mcs_book.specs.Each.{Each, EachLine, EachRecord}
 use Rattle.mcs_book.specs.Fair.{TakesFirst, TakesInOrder, TakesAlive, AnswersOwed, AnswersWhole, IsFirstOfOne, IsFair}
 use Rattle.mcs_book.specs.SmallBooks.{badge, text, answered}
 use Rattle.mcs_book.proofs.Computing.{computing}
-use Rattle.mcs_book.proofs.Rows.{k_faultless}
+use Rattle.mcs_book.proofs.Examples.{five_threads_faultless}
 use Rattle.mcs_types.proofs.Ids.{same-equal}
 use Rattle.mcs_book.proofs.ReplayLaws.{replayed-legal}
 use Rattle.mcs_book.proofs.TakenOnce.{legal-taken_once}
@@ -42,13 +42,13 @@ answered-in_range : AllInRange (steps_of answered)
 answered-in_range = ((omega arith, omega arith), (omega arith, ((omega arith, text-in_range 3 (omega arith)), ((omega arith, omega arith, text-in_range 4 (omega arith)), tt))))
 
 -- they make the book
-answered-replayed : book_of boot_k (steps_of answered) ≡ answered
+answered-replayed : book_of five_threads (steps_of answered) ≡ answered
 unfolding computing
 answered-replayed = refl
 
 -- the law: it is legal
 pub answered-legal : IsLegal answered
-answered-legal = subst (λ (b : Book). IsLegal b) answered-replayed (replayed-legal boot_k (steps_of answered) k_faultless answered-in_range)
+answered-legal = subst (λ (b : Book). IsLegal b) answered-replayed (replayed-legal five_threads (steps_of answered) five_threads_faultless answered-in_range)
 
 -- whether a boot makes records of this kind
 abbrev is_first : Rec → Bool
@@ -78,32 +78,32 @@ module _ (P : Log → Rec → Type 0) (first : (R : Log) (x : Rec) → is_first 
   boot-each (line ∷ lines) = boot_line-each (boot_log lines) (boot_log lines) line (boot-each lines)
 
 -- what is said of takes and answers is nothing for the records of a boot
-pub boot-takes_first : Each TakesFirst (boot_log boot_k.lines)
-boot-takes_first = boot-each TakesFirst none boot_k.lines
+pub boot-takes_first : Each TakesFirst (boot_log five_threads.lines)
+boot-takes_first = boot-each TakesFirst none five_threads.lines
   where
     none : (R : Log) (x : Rec) → is_first x ≡ true → TakesFirst R x
     none R (rec.Took m p) h = absurd cc
     none R _ h = tt
 
 -- the same of takes in order
-pub boot-takes_in_order : Each TakesInOrder (boot_log boot_k.lines)
-boot-takes_in_order = boot-each TakesInOrder none boot_k.lines
+pub boot-takes_in_order : Each TakesInOrder (boot_log five_threads.lines)
+boot-takes_in_order = boot-each TakesInOrder none five_threads.lines
   where
     none : (R : Log) (x : Rec) → is_first x ≡ true → TakesInOrder R x
     none R (rec.Took m p) h = absurd cc
     none R _ h = tt
 
 -- the same of takes at endpoints that are there
-pub boot-takes_alive : Each TakesAlive (boot_log boot_k.lines)
-boot-takes_alive = boot-each TakesAlive none boot_k.lines
+pub boot-takes_alive : Each TakesAlive (boot_log five_threads.lines)
+boot-takes_alive = boot-each TakesAlive none five_threads.lines
   where
     none : (R : Log) (x : Rec) → is_first x ≡ true → TakesAlive R x
     none R (rec.Took m p) h = absurd cc
     none R _ h = tt
 
 -- the same of answers
-pub boot-answers : Each AnswersOwed (boot_log boot_k.lines)
-boot-answers = boot-each AnswersOwed none boot_k.lines
+pub boot-answers : Each AnswersOwed (boot_log five_threads.lines)
+boot-answers = boot-each AnswersOwed none five_threads.lines
   where
     none : (R : Log) (x : Rec) → is_first x ≡ true → AnswersOwed R x
     none R (rec.Owes a x c) h = absurd cc
@@ -126,7 +126,7 @@ found-same k l is = cc
 
 -- the log before the call is taken
 call_log : Log
-call_log = rec.Sent (t 1) (e 1) how.Call (badge 0) (text 3) ∷ rec.Holds (s 2) None ∷ rec.Joins (t 2) (Receivers (e 1)) (Some (r 1)) ∷ boot_log boot_k.lines
+call_log = rec.Sent (t 1) (e 1) how.Call (badge 0) (text 3) ∷ rec.Holds (s 2) None ∷ rec.Joins (t 2) (Receivers (e 1)) (Some (r 1)) ∷ boot_log five_threads.lines
 
 -- its taker is the first of the receivers, and its sender stands in no line
 call-first : (l : Letter) → call_letter ≡ l → IsFirstOfOne call_log l (t 2)

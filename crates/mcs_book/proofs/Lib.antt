@@ -1,5 +1,5 @@
 pub mod Computing
-pub mod Rows
+pub mod Examples
 pub mod Cuts
 pub mod Appending
 pub mod Same

@@ -16,12 +16,12 @@ use Rattle.mcs_book.specs.Queues.{is_ahead}
 use Rattle.mcs_book.specs.Messages.{letter}
 use Rattle.mcs_book.specs.Boots.{boot_log}
 use Rattle.mcs_book.specs.History.{Book, IsLegal, AllInRange, steps_of, book_of}
-use Rattle.mcs_book.specs.WorkedBoots.{boot_k, t, e}
+use Rattle.mcs_book.specs.ExampleBoots.{five_threads, t, e}
 use Rattle.mcs_book.specs.Each.{EachLine, EachRecord}
 use Rattle.mcs_book.specs.Fair.{TakesFirst, TakesInOrder, TakesAlive, AnswersOwed, AnswersWhole, IsFirstOfOne, IsFair, takes}
 use Rattle.mcs_book.specs.SmallBooks.{badge, text, taken_in_turn}
 use Rattle.mcs_book.proofs.Computing.{computing}
-use Rattle.mcs_book.proofs.Rows.{k_faultless}
+use Rattle.mcs_book.proofs.Examples.{five_threads_faultless}
 use Rattle.mcs_types.proofs.Ids.{same-equal}
 use Rattle.mcs_book.proofs.ReplayLaws.{replayed-legal}
 use Rattle.mcs_book.proofs.TakenOnce.{legal-taken_once}
@@ -35,13 +35,13 @@ turns-in_range : AllInRange (steps_of taken_in_turn)
 turns-in_range = ((omega arith, text-in_range 1 (omega arith)), ((omega arith, text-in_range 2 (omega arith)), ((omega arith, omega arith), ((omega arith, omega arith), tt))))
 
 -- they make the book
-turns-replayed : book_of boot_k (steps_of taken_in_turn) ≡ taken_in_turn
+turns-replayed : book_of five_threads (steps_of taken_in_turn) ≡ taken_in_turn
 unfolding computing
 turns-replayed = refl
 
 -- the law: it is legal
 pub turns-legal : IsLegal taken_in_turn
-turns-legal = subst (λ (b : Book). IsLegal b) turns-replayed (replayed-legal boot_k (steps_of taken_in_turn) k_faultless turns-in_range)
+turns-legal = subst (λ (b : Book). IsLegal b) turns-replayed (replayed-legal five_threads (steps_of taken_in_turn) five_threads_faultless turns-in_range)
 
 -- the message of the first thread, and then that of the second
 letter_of : ℕ → ℕ → Letter
@@ -49,7 +49,7 @@ letter_of m i = record { number = m; sender = t i; endpoint = e 1; mode = how.Pl
 
 -- the log when both stand in line
 both_log : Log
-both_log = rec.Joins (t 2) (Senders (e 1)) None ∷ rec.Sent (t 2) (e 1) how.Plain (badge 9) (text 2) ∷ rec.Joins (t 1) (Senders (e 1)) None ∷ rec.Sent (t 1) (e 1) how.Plain (badge 9) (text 1) ∷ boot_log boot_k.lines
+both_log = rec.Joins (t 2) (Senders (e 1)) None ∷ rec.Sent (t 2) (e 1) how.Plain (badge 9) (text 2) ∷ rec.Joins (t 1) (Senders (e 1)) None ∷ rec.Sent (t 1) (e 1) how.Plain (badge 9) (text 1) ∷ boot_log five_threads.lines
 
 -- the log when the second was taken
 one_log : Log

@@ -33,7 +33,7 @@ pub mod Sound
 pub mod Serials
 pub mod Growing
 pub mod Pages
-pub mod WorkedBoots
+pub mod ExampleBoots
 pub mod Limits
 pub mod LookupEnds
 pub mod SmallBooks

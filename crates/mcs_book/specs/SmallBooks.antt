@@ -1,4 +1,4 @@
--- Small books after boot K: two that are legal, and for each law of fair books one that breaks it. Records stand in the order in which they were made, lines the newest first.
+-- Small books on one boot: two that are legal, and for each law of fair books one that breaks it. Records stand in the order in which they were made, lines the newest first.
 use Rattle.std.specs.Prelude.{ℕ, None, Some, List, [], ◌∷◌}
 use Rattle.mcs_types.specs.Views.{Content}
 use Rattle.mcs_types.specs.declared.id.Badge.{Badge}
@@ -13,7 +13,7 @@ use Rattle.mcs_types.specs.declared.entry.Entry.{Entry}
 use Rattle.mcs_types.specs.declared.entry.Entry.TheVariants as do_
 use Rattle.mcs_types.specs.declared.entry.Step.{Step}
 use Rattle.mcs_book.specs.History.{Line, Book}
-use Rattle.mcs_book.specs.WorkedBoots.{boot_k, t, e, r, s}
+use Rattle.mcs_book.specs.ExampleBoots.{five_threads, t, e, r, s}
 
 -- a badge
 abbrev pub badge : ℕ → Badge
@@ -31,9 +31,9 @@ by i entry = record { core = record { 0 = 0 }; thread = t i; entry = entry }
 abbrev pub line : ℕ → Entry → Answer → List Rec → Line
 line i entry answer records = record { step = by i entry; answer = answer; records = records }
 
--- a book after boot K
-abbrev pub after_k : List Line → Book
-after_k lines = record { boot = boot_k; lines = lines }
+-- a book on the boot of five threads
+abbrev pub on_five_threads : List Line → Book
+on_five_threads lines = record { boot = five_threads; lines = lines }
 
 -- thread i, whose capability has the badge 9, stands in line with a message of label i
 abbrev pub waits_to_send : ℕ → Line
@@ -61,44 +61,44 @@ called = calls ∷ line 1 (do_.UnbindCtx 22) Done (rec.Holds (s 2) None ∷ []) 
 
 -- a legal book: a call, its answer, and the context that returns
 abbrev pub answered : Book
-answered = after_k (answers_with (rec.Holds (s 1) (Some (t 1)) ∷ rec.Joins (t 2) (Receivers (e 1)) (Some (r 1)) ∷ []) ∷ called)
+answered = on_five_threads (answers_with (rec.Holds (s 1) (Some (t 1)) ∷ rec.Joins (t 2) (Receivers (e 1)) (Some (r 1)) ∷ []) ∷ called)
 
 -- a legal book: two senders in line, of whom the one of greater priority is taken first
 abbrev pub taken_in_turn : Book
-taken_in_turn = after_k (takes_with (badge 9) 5 0 1 ∷ takes_with (badge 9) 5 1 2 ∷ waits_to_send 2 ∷ waits_to_send 1 ∷ [])
+taken_in_turn = on_five_threads (takes_with (badge 9) 5 0 1 ∷ takes_with (badge 9) 5 1 2 ∷ waits_to_send 2 ∷ waits_to_send 1 ∷ [])
 
 -- a message is taken twice
 abbrev pub second_take : Book
-second_take = after_k (takes_with (badge 9) 5 0 1 ∷ takes_with (badge 9) 2 0 1 ∷ waits_to_send 1 ∷ [])
+second_take = on_five_threads (takes_with (badge 9) 5 0 1 ∷ takes_with (badge 9) 2 0 1 ∷ waits_to_send 1 ∷ [])
 
 -- a message is taken with another badge than it was sent with
 abbrev pub wrong_badge : Book
-wrong_badge = after_k (takes_with (badge 5) 2 0 1 ∷ waits_to_send 1 ∷ [])
+wrong_badge = on_five_threads (takes_with (badge 5) 2 0 1 ∷ waits_to_send 1 ∷ [])
 
 -- of two senders in line the one of lower priority is taken
 abbrev pub not_the_first : Book
-not_the_first = after_k (takes_with (badge 9) 5 0 1 ∷ waits_to_send 2 ∷ waits_to_send 1 ∷ [])
+not_the_first = on_five_threads (takes_with (badge 9) 5 0 1 ∷ waits_to_send 2 ∷ waits_to_send 1 ∷ [])
 
 -- of two messages of one sender the later is taken first
 abbrev pub out_of_order : Book
-out_of_order = after_k (takes_with (badge 9) 5 0 1 ∷ takes_with (badge 9) 5 1 1 ∷ waits_to_send 1 ∷ waits_to_send 1 ∷ [])
+out_of_order = on_five_threads (takes_with (badge 9) 5 0 1 ∷ takes_with (badge 9) 5 1 1 ∷ waits_to_send 1 ∷ waits_to_send 1 ∷ [])
 
 -- a message is taken once its endpoint was closed
 abbrev pub after_the_end : Book
-after_the_end = after_k (takes_with (badge 9) 2 0 1 ∷ line 5 (do_.DeleteCap (record { index = 2; depth = 64 })) Done (rec.Closed (e 1) ∷ []) ∷ waits_to_send 1 ∷ [])
+after_the_end = on_five_threads (takes_with (badge 9) 2 0 1 ∷ line 5 (do_.DeleteCap (record { index = 2; depth = 64 })) Done (rec.Closed (e 1) ∷ []) ∷ waits_to_send 1 ∷ [])
 
 -- a sender stands in line, and no message of it is open
 abbrev pub nothing_sent : Book
-nothing_sent = after_k (line 1 (do_.Send 1 (text 1)) Waits (rec.Joins (t 1) (Senders (e 1)) None ∷ []) ∷ [])
+nothing_sent = on_five_threads (line 1 (do_.Send 1 (text 1)) Waits (rec.Joins (t 1) (Senders (e 1)) None ∷ []) ∷ [])
 
 -- a call is answered twice
 abbrev pub paid_twice : Book
-paid_twice = after_k (answers_with [] ∷ answers_with (rec.Holds (s 1) (Some (t 1)) ∷ []) ∷ called)
+paid_twice = on_five_threads (answers_with [] ∷ answers_with (rec.Holds (s 1) (Some (t 1)) ∷ []) ∷ called)
 
 -- a call is answered, and the context that it brought does not return
 abbrev pub kept_context : Book
-kept_context = after_k (answers_with (rec.Joins (t 2) (Receivers (e 1)) (Some (r 1)) ∷ []) ∷ called)
+kept_context = on_five_threads (answers_with (rec.Joins (t 2) (Receivers (e 1)) (Some (r 1)) ∷ []) ∷ called)
 
 -- a sender stands in line where a receiver does
 abbrev pub both_wait : Book
-both_wait = after_k (waits_to_send 1 ∷ waits_to_receive 2 ∷ [])
+both_wait = on_five_threads (waits_to_send 1 ∷ waits_to_receive 2 ∷ [])

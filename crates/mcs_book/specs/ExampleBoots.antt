@@ -1,4 +1,4 @@
--- Boots of the worked rows.
+-- Boots of the examples.
 use Rattle.std.specs.Prelude.{ℕ, true, Some, List, [], ◌∷◌, reverse}
 use Rattle.mcs_types.specs.declared.id.ObjId.{ObjId}
 use Rattle.mcs_types.specs.declared.id.Kind.{Kind}
@@ -61,9 +61,9 @@ context = boot.Context (record { 0 = 0 })
 abbrev pub one_core : List BootLine → Boot
 one_core lines = record { cores = 1; lines = reverse lines }
 
--- boot K: one CNode, two endpoints, a notification, two reply objects and five threads
-unfoldable pub boot_k : Boot
-boot_k = one_core (boot.CNode 5 ∷ boot.Endpoint ∷ boot.Endpoint ∷ boot.Notification ∷ boot.Reply ∷ boot.Reply
+-- one CNode, two endpoints, a notification, two reply objects and five threads
+unfoldable pub five_threads : Boot
+five_threads = one_core (boot.CNode 5 ∷ boot.Endpoint ∷ boot.Endpoint ∷ boot.Notification ∷ boot.Reply ∷ boot.Reply
     ∷ context ∷ context ∷ context ∷ context ∷ context
     ∷ runner 10 (c 1) 59 1 ∷ runner 20 (c 1) 59 2 ∷ runner 10 (c 1) 59 3 ∷ runner 20 (c 1) 59 4 ∷ runner 30 (c 1) 59 5
     ∷ slot_line 1 (cap_to (e 1) 1 9) ∷ slot_line 2 (cap_to (e 1) 15 0) ∷ slot_line 3 (cap_to (e 2) 15 0)
@@ -73,13 +73,13 @@ boot_k = one_core (boot.CNode 5 ∷ boot.Endpoint ∷ boot.Endpoint ∷ boot.Not
     ∷ slot_line 21 (cap_to (s 1) 0 0) ∷ slot_line 22 (cap_to (s 2) 0 0) ∷ slot_line 23 (cap_to (s 3) 0 0) ∷ slot_line 24 (cap_to (s 4) 0 0) ∷ slot_line 25 (cap_to (s 5) 0 0)
     ∷ [])
 
--- boot L: two CNodes, whose threads have guards of their own
-unfoldable pub boot_l : Boot
-boot_l = one_core (boot.CNode 4 ∷ boot.CNode 8 ∷ boot.Endpoint ∷ context ∷ context
+-- two CNodes, whose threads have guards of their own
+unfoldable pub two_roots : Boot
+two_roots = one_core (boot.CNode 4 ∷ boot.CNode 8 ∷ boot.Endpoint ∷ context ∷ context
     ∷ runner 10 (c 1) 60 1 ∷ runner 10 (c 2) 4 2
     ∷ boot.Slot (c 1) 2 (cap_to (e 1) 1 5) ∷ boot.Slot (c 2) 1 (cap_to (e 1) 1 6) ∷ [])
 
--- boot N: a CNode within a CNode
-unfoldable pub boot_n : Boot
-boot_n = one_core (boot.CNode 4 ∷ boot.CNode 8 ∷ boot.Endpoint ∷ context ∷ runner 10 (c 1) 52 1
+-- a CNode within a CNode
+unfoldable pub nested_cnodes : Boot
+nested_cnodes = one_core (boot.CNode 4 ∷ boot.CNode 8 ∷ boot.Endpoint ∷ context ∷ runner 10 (c 1) 52 1
     ∷ boot.Slot (c 1) 1 (cap_to (c 2) 0 0) ∷ boot.Slot (c 2) 5 (cap_to (e 1) 1 3) ∷ [])
