@@ -1,5 +1,5 @@
 -- What holds until calls and notifications are served, and the kinds that are served so far. This ends when all is built.
-use Rattle.std.specs.Prelude.{Bool, true, false, ◌≡◌, Option, Some, None}
+use Rattle.std.specs.Prelude.{Bool, true, false, ◌≡◌, Some, None}
 use Rattle.mcs_types.specs.declared.id.ObjId.{ObjId}
 use Rattle.mcs_types.specs.declared.id.Kind.{Kind}
 use Rattle.mcs_types.specs.declared.id.Kind.TheVariants.{Notification, Reply}
