@@ -8,7 +8,11 @@ mod boots;
 #[cfg(test)]
 mod failing;
 #[cfg(test)]
+mod faults;
+#[cfg(test)]
 mod limits;
+#[cfg(test)]
+mod lookups;
 #[cfg(test)]
 mod objects;
 #[cfg(test)]
@@ -19,3 +23,6 @@ mod queues;
 mod runs;
 #[cfg(test)]
 mod slots;
+pub mod spaces;
+#[cfg(test)]
+mod tables;

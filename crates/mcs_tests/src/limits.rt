@@ -35,6 +35,24 @@ fn lines_have_at_most_4096_bytes(rt: HostRuntime) -> Result<(), Fail> {
     Ok(())
 }
 
+#[test]
+fn a_script_has_at_most_2_000_000_lines(rt: HostRuntime) -> Result<(), Fail> {
+    let mut script = Vec::new(rt.alloc());
+    script.extend_from_slice(b"cores 1")?;
+    for _ in 0..2_000_000u32 {
+        script.push(b'\n')?;
+    }
+    let (result, _) = run(rt.alloc(), script.as_slice())?;
+    assert_eq!(rt; result, Ok(()));
+    script.push(b'#')?;
+    let (result, written) = run(rt.alloc(), script.as_slice())?;
+    let line = 2_000_001;
+    let why = LineFault::ManyLines;
+    assert_eq!(rt; result, Err(SimFault::Script { line, why }));
+    assert!(rt; written.is_empty());
+    Ok(())
+}
+
 /// Lines behind the boot with a number at the end of its range.
 const AT_END: [&str; 14] = [
     "0 t1 send 18446744073709551615 0",

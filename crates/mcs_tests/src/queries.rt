@@ -1,9 +1,9 @@
 //! What a kernel tells of its threads.
-use mcs_kernel::{Boot, Kernel};
+use mcs_kernel::{Boot, EnterFault, Kernel, replay};
 use mcs_queues::PlainLines;
 use mcs_types::{
     Answer, Badge, BootFault, BootLine, Cap, CoreId, Entry, Guard, Kind, Mail, Message, ObjId,
-    Prio, Queue, Rights, Status, ThreadSet,
+    Prio, Queue, Rights, Status, Step, ThreadSet,
 };
 use std::alloc::Global;
 
@@ -96,9 +96,124 @@ fn status_and_mail_follow_a_message(rt: HostRuntime) {
     let got = kernel.enter(rt.alloc(), CoreId(0), thread(2), entry);
     assert!(rt; matches!(got, Ok(Answer::Got { .. })));
     assert_eq!(rt; kernel.status(thread(1)), Some(Status::Running));
-    let badge = match kernel.mail(thread(2)) {
-        Some(Mail::Message { badge, .. }) => Some(badge.0),
+    let got = match kernel.mail(thread(2)) {
+        Some(Mail::Message { badge, message }) => Some((*badge, message)),
         _ => None,
     };
-    assert_eq!(rt; badge, Some(9));
+    assert_eq!(rt; got.map(|(badge, _)| badge), Some(Badge(9)));
+    assert_eq!(rt; got.map(|(_, message)| message.label()), Some(7));
+    assert_eq!(rt;
+        got.map(|(_, message)| message.words()),
+        Some([5, 6].as_slice())
+    );
+}
+
+/// Two cores, four contexts, and five threads: one without a context, and one that does not run.
+fn two_cores(alloc: Global) -> Result<Boot, BootFault> {
+    let mut boot = Boot::new(alloc, 2)?;
+    boot.add(BootLine::CNode { radix: 5 })?;
+    for core in [0, 1, 1, 0] {
+        boot.add(BootLine::Context { core: CoreId(core) })?;
+    }
+    let threads = [
+        (10, true, Some(1)),
+        (30, true, Some(2)),
+        (20, true, Some(3)),
+        (40, true, None),
+        (50, false, Some(4)),
+    ];
+    for (priority, runs, context) in threads {
+        boot.add(BootLine::Thread {
+            priority: Prio(priority),
+            maximum: Prio(255),
+            root: object(Kind::CNode, 1),
+            guard: Guard { bits: 59, value: 0 },
+            runs,
+            context: context.map(|serial| object(Kind::Context, serial)),
+        })?;
+    }
+    Ok(boot)
+}
+
+fn two_cores_booted(alloc: Global) -> Option<Kernel<PlainLines>> {
+    let boot = two_cores(alloc).ok()?;
+    Kernel::new(alloc, &boot).ok()
+}
+
+#[test]
+fn each_core_picks_among_its_own(rt: HostRuntime) {
+    let booted = two_cores_booted(rt.alloc());
+    assert!(rt; booted.is_some());
+    let Some(kernel) = booted else {
+        return;
+    };
+    let mut passed = ThreadSet::new();
+    assert_eq!(rt; kernel.pick(CoreId(0), &passed), Some(thread(1)));
+    assert_eq!(rt; kernel.pick(CoreId(1), &passed), Some(thread(2)));
+    passed.insert(thread(2));
+    assert_eq!(rt; kernel.pick(CoreId(0), &passed), Some(thread(1)));
+    assert_eq!(rt; kernel.pick(CoreId(1), &passed), Some(thread(3)));
+    passed.insert(thread(3));
+    assert_eq!(rt; kernel.pick(CoreId(1), &passed), None);
+    assert_eq!(rt; kernel.pick(CoreId(2), &ThreadSet::new()), None);
+}
+
+#[test]
+fn who_may_not_enter_is_turned_away(rt: HostRuntime) {
+    let booted = two_cores_booted(rt.alloc());
+    assert!(rt; booted.is_some());
+    let Some(mut kernel) = booted else {
+        return;
+    };
+    let faults = [
+        (1, 1, EnterFault::WrongCore),
+        (0, 2, EnterFault::WrongCore),
+        (0, 4, EnterFault::NoContext),
+        (0, 5, EnterFault::NotRunning),
+        (0, 6, EnterFault::NotRunning),
+    ];
+    for (core, serial, want) in faults {
+        let entry = Entry::NbWait { cap: 1 };
+        let result = kernel.enter(rt.alloc(), CoreId(core), thread(serial), entry);
+        assert_eq!(rt; result.err(), Some(want));
+    }
+    assert_eq!(rt; kernel.book().lines(), 1);
+    let entry = Entry::NbWait { cap: 1 };
+    let result = kernel.enter(rt.alloc(), CoreId(1), thread(2), entry);
+    assert!(rt; matches!(result, Ok(Answer::Refused(_))));
+    assert_eq!(rt; kernel.book().lines(), 2);
+}
+
+#[test]
+fn steps_are_replayed(rt: HostRuntime) {
+    let (booted, message) = (five_threads(rt.alloc()), Message::new(7, &[5, 6]));
+    assert!(rt; booted.is_ok());
+    let (Ok(boot), Some(message)) = (booted, message) else {
+        return;
+    };
+    let steps = [
+        Step {
+            core: CoreId(0),
+            thread: thread(1),
+            entry: Entry::Send { cap: 1, message },
+        },
+        Step {
+            core: CoreId(0),
+            thread: thread(1),
+            entry: Entry::Wait { cap: 2 },
+        },
+        Step {
+            core: CoreId(0),
+            thread: thread(2),
+            entry: Entry::Recv { cap: 2, reply: 8 },
+        },
+    ];
+    let replayed = replay::<PlainLines>(rt.alloc(), boot, &steps);
+    assert!(rt; replayed.is_ok());
+    let Ok(kernel) = replayed else {
+        return;
+    };
+    assert_eq!(rt; kernel.book().lines(), 3, "the second step is turned away");
+    assert_eq!(rt; kernel.status(thread(1)), Some(Status::Running));
+    assert!(rt; kernel.mail(thread(2)).is_some());
 }

@@ -98,7 +98,7 @@ slot c1 1 t1
 ";
 
 /// A boot, steps after it, and what the trace has after it.
-pub const RUNS: [(&str, &str, &str); 11] = [
+pub const RUNS: [(&str, &str, &str); 13] = [
     // A message that waits for its receiver.
     (
         BOOT,
@@ -378,6 +378,88 @@ pub const RUNS: [(&str, &str, &str); 11] = [
 + joins t2 e1.recv -
 ",
     ),
+    // A message that does not wait, with each outcome: it is taken, dropped, or refused.
+    (
+        BOOT,
+        "\
+0 t2 recv 2 8
+0 t1 nbsend 1 7 5 6
+0 t1 nbsend 1 7 5 6
+0 t1 copy 2 64 26 64 r
+0 t1 nbsend 10 1
+0 t1 nbsend 26 1
+0 t1 nbsend 11 1
+0 t1 nbsend 32 1
+",
+        "\
+0 t2 recv 2 8
+= waits
++ joins t2 e1.recv r1
+0 t1 nbsend 1 7 5 6
+= done
++ sent m0 t1 e1 send 9 7 5 6
++ took m0 t2
++ parts t2 e1.recv
++ turns t2 running
+0 t1 nbsend 1 7 5 6
+= done
+0 t1 copy 2 64 26 64 r
+= done
++ slot c1 26 e1 r 0
+0 t1 nbsend 10 1
+= refused 1
+0 t1 nbsend 26 1
+= refused 5
+0 t1 nbsend 11 1
+= refused 4
+0 t1 nbsend 32 1
+= refused 3
+",
+    ),
+    // Sends and receives over capabilities to a notification and to a reply object.
+    (
+        BOOT,
+        "\
+0 t1 send 4 1
+0 t1 send 8 1
+0 t1 nbsend 4 1
+0 t1 nbsend 8 1
+0 t1 recv 4 8
+0 t1 recv 8 9
+0 t1 nbrecv 4 8
+0 t1 nbrecv 8 9
+0 t1 wait 4
+0 t1 wait 8
+0 t1 nbwait 4
+0 t1 nbwait 8
+",
+        "\
+0 t1 send 4 1
+= refused 4
+0 t1 send 8 1
+= refused 4
+0 t1 nbsend 4 1
+= refused 4
+0 t1 nbsend 8 1
+= refused 4
+0 t1 recv 4 8
+= refused 4
+0 t1 recv 8 9
+= refused 4
+0 t1 nbrecv 4 8
+= refused 4
+0 t1 nbrecv 8 9
+= refused 4
+0 t1 wait 4
+= refused 4
+0 t1 wait 8
+= refused 4
+0 t1 nbwait 4
+= refused 4
+0 t1 nbwait 8
+= refused 4
+",
+    ),
     // A wait on a core of which the thread has no context, which is turned away, and one over a capability to a thread.
     (
         TWO_CORES,
@@ -411,6 +493,16 @@ fn runs_give_their_traces(rt: HostRuntime) -> Result<(), Fail> {
         assert_eq!(rt; result, Ok(()));
         let want = format!(in rt.alloc(); "{boot}{trace}")?;
         assert_eq!(rt; written.as_slice(), want.as_bytes());
+    }
+    Ok(())
+}
+
+#[test]
+fn the_number_of_cores_is_written(rt: HostRuntime) -> Result<(), Fail> {
+    for script in ["cores 1\n", "cores 9\n", "cores 10\n", "cores 16\n"] {
+        let (result, written) = run(rt.alloc(), script.as_bytes())?;
+        assert_eq!(rt; result, Ok(()));
+        assert_eq!(rt; written.as_slice(), script.as_bytes());
     }
     Ok(())
 }

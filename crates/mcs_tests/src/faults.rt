@@ -1,0 +1,122 @@
+//! What the program tells of its faults, its arguments and its command line.
+use mcs_sim::{Options, SimFault, answer_status, arguments, options};
+use mcs_text::LineFault;
+use std::alloc::Global;
+use std::env::{Env, FillError};
+use std::test::Fail;
+
+/// The faults of a line in the order of their numbers.
+const LINE_FAULTS: [(LineFault, &str); 9] = [
+    (LineFault::NoCores, "mcssim: line 1: fault 1"),
+    (LineFault::Form, "mcssim: line 1: fault 2"),
+    (LineFault::Number, "mcssim: line 1: fault 3"),
+    (LineFault::NoObject, "mcssim: line 1: fault 4"),
+    (LineFault::Limit, "mcssim: line 1: fault 5"),
+    (LineFault::Taken, "mcssim: line 1: fault 6"),
+    (LineFault::LongLine, "mcssim: line 1: fault 7"),
+    (LineFault::LateBoot, "mcssim: line 1: fault 8"),
+    (LineFault::ManyLines, "mcssim: line 1: fault 9"),
+];
+
+#[test]
+fn faults_of_lines_are_told_by_their_numbers(rt: HostRuntime) -> Result<(), Fail> {
+    let mut number = 0;
+    for (why, text) in LINE_FAULTS {
+        number += 1;
+        assert_eq!(rt; why.number(), number);
+        let fault = SimFault::Script { line: 1, why };
+        assert_eq!(rt; fault.to_string(rt.alloc())?.as_str(), text);
+        assert_eq!(rt; fault.status(), 2);
+    }
+    let fault = SimFault::Script {
+        line: 2_000_001,
+        why: LineFault::ManyLines,
+    };
+    let text = fault.to_string(rt.alloc())?;
+    assert_eq!(rt; text.as_str(), "mcssim: line 2000001: fault 9");
+    Ok(())
+}
+
+#[test]
+fn other_faults_have_their_texts(rt: HostRuntime) -> Result<(), Fail> {
+    let faults = [
+        (SimFault::Argument, 1, "mcssim: an argument is not UTF-8"),
+        (SimFault::Read, 3, "mcssim: read fault"),
+        (SimFault::Write, 4, "mcssim: write fault"),
+        (SimFault::BookFull, 5, "mcssim: book full"),
+        (SimFault::OutOfMemory, 6, "mcssim: out of memory"),
+    ];
+    for (fault, status, text) in faults {
+        assert_eq!(rt; fault.status(), status);
+        assert_eq!(rt; fault.to_string(rt.alloc())?.as_str(), text);
+    }
+    Ok(())
+}
+
+/// An environment with these arguments.
+#[derive(Drop)]
+struct Given<'a> {
+    arguments: &'a [&'a [u8]],
+}
+
+impl<'a> Env for Given<'a> {
+    fn arg(&self, i: usize, buf: &mut [u8]) -> Result<usize, FillError> {
+        let Some(argument) = self.arguments.get(i) else {
+            return Err(FillError::NotPresent);
+        };
+        let length = argument.len();
+        if length > buf.len() {
+            return Err(FillError::TooLong);
+        }
+        buf[..length].copy_from_slice(argument);
+        Ok(length)
+    }
+
+    fn var(&self, _name: &str, _buf: &mut [u8]) -> Result<usize, FillError> {
+        Err(FillError::NotPresent)
+    }
+
+    fn var_at(&self, _i: usize, _buf: &mut [u8]) -> Result<usize, FillError> {
+        Err(FillError::NotPresent)
+    }
+}
+
+#[test]
+fn an_argument_that_is_no_text_is_a_fault(rt: HostRuntime) -> Result<(), Fail> {
+    let given: [&[u8]; 2] = [b"mcssim", b"replay"];
+    let words = arguments(&(Given { arguments: &given }, rt.alloc()))
+        .ok()
+        .ok_or("words")?;
+    assert_eq!(rt; words.len(), 2);
+    assert_eq!(rt; words[1].as_str(), "replay");
+    let given: [&[u8]; 2] = [b"mcssim", b"\xff"];
+    let fault = arguments(&(Given { arguments: &given }, rt.alloc())).err();
+    assert_eq!(rt; fault, Some(SimFault::Argument));
+    Ok(())
+}
+
+/// The status and the text of what the command line answers, where it asks for no run.
+fn answer(alloc: Global, words: &[&str]) -> Result<Option<(u8, String)>, Fail> {
+    match options(alloc, words) {
+        Ok(Options::Replay) => Ok(None),
+        Err(answer) => Ok(Some((answer_status(&answer), answer.to_string(alloc)?))),
+    }
+}
+
+#[test]
+fn the_command_line_asks_for_a_run_or_is_answered(rt: HostRuntime) -> Result<(), Fail> {
+    assert!(rt; answer(rt.alloc(), &["mcssim", "replay"])?.is_none());
+    let (status, text) = answer(rt.alloc(), &["mcssim", "--version"])?.ok_or("version")?;
+    assert_eq!(rt; status, 0);
+    assert_eq!(rt; text.as_str(), "mcssim 0.1.0\n");
+    let (status, text) = answer(rt.alloc(), &["mcssim", "--help"])?.ok_or("help")?;
+    assert_eq!(rt; status, 0);
+    assert!(rt; text.as_str().contains("replay"));
+    let (status, _) = answer(rt.alloc(), &["mcssim"])?.ok_or("no command")?;
+    assert_eq!(rt; status, 1);
+    let (status, _) = answer(rt.alloc(), &["mcssim", "again"])?.ok_or("no such command")?;
+    assert_eq!(rt; status, 1);
+    let (status, _) = answer(rt.alloc(), &["mcssim", "replay", "x"])?.ok_or("a word more")?;
+    assert_eq!(rt; status, 1);
+    Ok(())
+}
