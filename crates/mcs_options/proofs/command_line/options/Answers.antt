@@ -34,7 +34,7 @@ is_not_taken : (a : App) (words : List (List ℕ)) (name : List ℕ) → a ≡ m
     → words ≡ name ∷ codes "--version" ∷ [] → (is_simple_and_free a ≡ true → fault_of a words ≡ []) → ⊥
 is_not_taken a words name line words_are fails =
     let none : kind.DisplayVersion ∷ [] ≡ [] =
-        sym (ap₂ fault_of line words_are ∙ version_kinds name) ∙ fails (ap is_simple_and_free line ∙ is_simple) in
+    sym (ap₂ fault_of line words_are ∙ version_kinds name) ∙ fails (ap is_simple_and_free line ∙ is_simple) in
     absurd cc
 
 -- what an error hands on
