@@ -5,24 +5,22 @@ use std::alloc::Global;
 use std::env::{Env, FillError};
 use std::test::Fail;
 
-/// The faults of a line in the order of their numbers.
-const LINE_FAULTS: [(LineFault, &str); 9] = [
-    (LineFault::NoCores, "mcssim: line 1: fault 1"),
-    (LineFault::Form, "mcssim: line 1: fault 2"),
-    (LineFault::Number, "mcssim: line 1: fault 3"),
-    (LineFault::NoObject, "mcssim: line 1: fault 4"),
-    (LineFault::Limit, "mcssim: line 1: fault 5"),
-    (LineFault::Taken, "mcssim: line 1: fault 6"),
-    (LineFault::LongLine, "mcssim: line 1: fault 7"),
-    (LineFault::LateBoot, "mcssim: line 1: fault 8"),
-    (LineFault::ManyLines, "mcssim: line 1: fault 9"),
+/// The faults of a line, their numbers and their texts.
+const LINE_FAULTS: [(LineFault, u8, &str); 9] = [
+    (LineFault::NoCores, 1, "mcssim: line 1: fault 1"),
+    (LineFault::Form, 2, "mcssim: line 1: fault 2"),
+    (LineFault::Number, 3, "mcssim: line 1: fault 3"),
+    (LineFault::NoObject, 4, "mcssim: line 1: fault 4"),
+    (LineFault::Limit, 5, "mcssim: line 1: fault 5"),
+    (LineFault::Taken, 6, "mcssim: line 1: fault 6"),
+    (LineFault::LongLine, 7, "mcssim: line 1: fault 7"),
+    (LineFault::LateBoot, 8, "mcssim: line 1: fault 8"),
+    (LineFault::ManyLines, 9, "mcssim: line 1: fault 9"),
 ];
 
 #[test]
 fn faults_of_lines_are_told_by_their_numbers(rt: HostRuntime) -> Result<(), Fail> {
-    let mut number = 0;
-    for (why, text) in LINE_FAULTS {
-        number += 1;
+    for (why, number, text) in LINE_FAULTS {
         assert_eq!(rt; why.number(), number);
         let fault = SimFault::Script { line: 1, why };
         assert_eq!(rt; fault.to_string(rt.alloc())?.as_str(), text);

@@ -1,4 +1,6 @@
 //! What a kernel tells of its threads.
+ghost use Rattle.mcs_types.specs.Served.{IsServed};
+
 use mcs_kernel::{Boot, EnterFault, Kernel, replay};
 use mcs_queues::PlainLines;
 use mcs_types::{
@@ -79,6 +81,35 @@ fn the_first_of_those_that_may_enter_is_picked(rt: HostRuntime) {
     assert_eq!(rt; kernel.pick(CoreId(0), &passed), None);
 }
 
+/// Enters, and tells no more of the kernel than these tests ask for.
+fn enter(
+    alloc: Global,
+    kernel: &mut Kernel<PlainLines>,
+    core: u8,
+    serial: u32,
+    entry: Entry,
+) -> Result<Answer, EnterFault>
+    requires { IsServed entry }
+{
+    kernel.enter(alloc, CoreId(core), thread(serial), entry)
+}
+
+/// Whether this message is what last reached a thread.
+fn has_mail(
+    kernel: &Kernel<PlainLines>,
+    serial: u32,
+    from: u64,
+    label: u64,
+    words: &[u64],
+) -> bool {
+    match kernel.mail(thread(serial)) {
+        Some(Mail::Message { badge, message }) => {
+            badge.0 == from && message.label() == label && message.words() == words
+        }
+        _ => false,
+    }
+}
+
 #[test]
 fn status_and_mail_follow_a_message(rt: HostRuntime) {
     let booted = booted(rt.alloc());
@@ -87,25 +118,16 @@ fn status_and_mail_follow_a_message(rt: HostRuntime) {
         return;
     };
     let entry = Entry::Send { cap: 1, message };
-    let sent = kernel.enter(rt.alloc(), CoreId(0), thread(1), entry);
+    let sent = enter(rt.alloc(), &mut kernel, 0, 1, entry);
     assert!(rt; matches!(sent, Ok(Answer::Waits)));
     let senders = Queue::Senders(object(Kind::Endpoint, 1));
     assert_eq!(rt; kernel.status(thread(1)), Some(Status::Queued(senders)));
     assert!(rt; kernel.mail(thread(2)).is_none());
     let entry = Entry::Recv { cap: 2, reply: 8 };
-    let got = kernel.enter(rt.alloc(), CoreId(0), thread(2), entry);
+    let got = enter(rt.alloc(), &mut kernel, 0, 2, entry);
     assert!(rt; matches!(got, Ok(Answer::Got { .. })));
     assert_eq!(rt; kernel.status(thread(1)), Some(Status::Running));
-    let got = match kernel.mail(thread(2)) {
-        Some(Mail::Message { badge, message }) => Some((*badge, message)),
-        _ => None,
-    };
-    assert_eq!(rt; got.map(|(badge, _)| badge), Some(Badge(9)));
-    assert_eq!(rt; got.map(|(_, message)| message.label()), Some(7));
-    assert_eq!(rt;
-        got.map(|(_, message)| message.words()),
-        Some([5, 6].as_slice())
-    );
+    assert!(rt; has_mail(&kernel, 2, 9, 7, &[5, 6]));
 }
 
 /// Two cores, four contexts, and five threads: one without a context, and one that does not run.
@@ -174,46 +196,49 @@ fn who_may_not_enter_is_turned_away(rt: HostRuntime) {
     ];
     for (core, serial, want) in faults {
         let entry = Entry::NbWait { cap: 1 };
-        let result = kernel.enter(rt.alloc(), CoreId(core), thread(serial), entry);
+        let result = enter(rt.alloc(), &mut kernel, core, serial, entry);
         assert_eq!(rt; result.err(), Some(want));
     }
     assert_eq!(rt; kernel.book().lines(), 1);
     let entry = Entry::NbWait { cap: 1 };
-    let result = kernel.enter(rt.alloc(), CoreId(1), thread(2), entry);
+    let result = enter(rt.alloc(), &mut kernel, 1, 2, entry);
     assert!(rt; matches!(result, Ok(Answer::Refused(_))));
     assert_eq!(rt; kernel.book().lines(), 2);
 }
 
-#[test]
-fn steps_are_replayed(rt: HostRuntime) {
-    let (booted, message) = (five_threads(rt.alloc()), Message::new(7, &[5, 6]));
-    assert!(rt; booted.is_ok());
-    let (Ok(boot), Some(message)) = (booted, message) else {
-        return;
-    };
+/// A send, a wait of the sender, which is turned away, and a receive.
+fn replayed(alloc: Global) -> Option<Kernel<PlainLines>> {
+    let boot = five_threads(alloc).ok()?;
+    let message = Message::new(7, &[5, 6])?;
+    let core = CoreId(0);
     let steps = [
         Step {
-            core: CoreId(0),
+            core,
             thread: thread(1),
             entry: Entry::Send { cap: 1, message },
         },
         Step {
-            core: CoreId(0),
+            core,
             thread: thread(1),
             entry: Entry::Wait { cap: 2 },
         },
         Step {
-            core: CoreId(0),
+            core,
             thread: thread(2),
             entry: Entry::Recv { cap: 2, reply: 8 },
         },
     ];
-    let replayed = replay::<PlainLines>(rt.alloc(), boot, &steps);
-    assert!(rt; replayed.is_ok());
-    let Ok(kernel) = replayed else {
+    replay(alloc, boot, &steps).ok()
+}
+
+#[test]
+fn steps_are_replayed(rt: HostRuntime) {
+    let replayed = replayed(rt.alloc());
+    assert!(rt; replayed.is_some());
+    let Some(kernel) = replayed else {
         return;
     };
     assert_eq!(rt; kernel.book().lines(), 3, "the second step is turned away");
     assert_eq!(rt; kernel.status(thread(1)), Some(Status::Running));
-    assert!(rt; kernel.mail(thread(2)).is_some());
+    assert!(rt; has_mail(&kernel, 2, 9, 7, &[5, 6]));
 }
