@@ -1,10 +1,6 @@
-//! The tables of threads and of contexts.
-use mcs_contexts::Contexts;
+//! The table of threads.
 use mcs_threads::{Block, Threads};
-use mcs_types::{
-    Badge, Cap, CoreId, Guard, Kind, Mail, Message, Mode, ObjId, Prio, Queue, Refusal, Rights,
-    Status,
-};
+use mcs_types::{Badge, Cap, Guard, Kind, Mail, Message, Mode, ObjId, Prio, Queue, Rights, Status};
 
 fn object(kind: Kind, serial: u32) -> ObjId {
     ObjId { kind, serial }
@@ -120,43 +116,4 @@ fn threads_keep_their_mail_and_are_closed(rt: HostRuntime) {
     assert_eq!(rt; threads.close(a), None);
     assert_eq!(rt; threads.made(), 1);
     assert_eq!(rt; threads.add(Prio(1), root), object(Kind::Thread, 2));
-}
-
-#[test]
-fn contexts_are_bound_lent_and_closed(rt: HostRuntime) {
-    let made = Contexts::new(rt.alloc());
-    assert!(rt; made.is_ok());
-    let Ok(mut contexts) = made else {
-        return;
-    };
-    let (t, u) = (object(Kind::Thread, 1), object(Kind::Thread, 256));
-    assert!(rt; !contexts.is_full());
-    let a = contexts.add(CoreId(3));
-    assert!(rt; !contexts.is_full());
-    let b = contexts.add(CoreId(0));
-    assert_eq!(rt; a, object(Kind::Context, 1));
-    assert_eq!(rt; b, object(Kind::Context, 2));
-    assert_eq!(rt; contexts.made(), 2);
-    contexts.is_one_to_one();
-    assert_eq!(rt; contexts.core(a), Some(CoreId(3)));
-    assert_eq!(rt; contexts.holder(a), None);
-    assert!(rt; contexts.core(a).is_some());
-    assert_eq!(rt; contexts.bind(a, t), Ok(()));
-    assert_eq!(rt; contexts.holder(a), Some(t));
-    assert_eq!(rt; contexts.of(t), Some(a));
-    assert!(rt; contexts.core(b).is_some());
-    assert_eq!(rt; contexts.bind(b, t), Err(Refusal::AlreadyBound));
-    assert!(rt; contexts.lend(t, u));
-    assert_eq!(rt; contexts.of(t), None);
-    assert_eq!(rt; contexts.holder(a), Some(u));
-    assert!(rt; !contexts.lend(t, u));
-    assert_eq!(rt; contexts.unbind(a), Ok(()));
-    assert_eq!(rt; contexts.unbind(a), Err(Refusal::NotBound));
-    assert_eq!(rt; contexts.of(u), None);
-    if contexts.core(a).is_some() && contexts.holder(a).is_none() {
-        contexts.close(a);
-    }
-    assert_eq!(rt; contexts.core(a), None);
-    assert_eq!(rt; contexts.core(b), Some(CoreId(0)));
-    assert_eq!(rt; contexts.made(), 2);
 }
