@@ -1,0 +1,5 @@
+pub mod ChainLaws
+pub mod DebtLaws
+pub mod LeavingLaws
+pub mod OwingLaws
+pub mod PlaceLaws

@@ -1,0 +1,3 @@
+pub mod Debts
+pub mod Links
+pub mod Owing

@@ -1,0 +1,318 @@
+//! The table of reply objects.
+ghost use Rattle.std.specs.Prelude.{◌≡◌, true, false, [], Some, None, IfOk, IfSome, IfNone, option_map};
+ghost use Rattle.std.specs.Bool.{OnTrue, OnFalse};
+ghost use Rattle.mcs_types.specs.declared.id.ObjId.{ObjId};
+ghost use Rattle.mcs_types.specs.declared.id.Kind.{Kind};
+ghost use Rattle.mcs_types.specs.Ids.{ChangesAt};
+ghost use Rattle.mcs_types.specs.Chains.{head_of};
+ghost use Rattle.mcs_types.specs.Limits.{object_limit};
+ghost use Rattle.mcs_objects.specs.Store.{shape, empty_shape, one_more, next_id, is_full, IsOneFewer, WritesAt};
+ghost use Rattle.mcs_replies.specs.Owing.{counts, no_room, next_reply, has_row, receiver_at, owed_at, is_there, receiver_in, owed_in, chain_in, may_owe, LiesOnTop, NamesTopped, TakesOff, EndsDebt, IsChained};
+ghost use Rattle.mcs_replies.specs.Links.{rest_of};
+
+use crate::debts::{self, Chain, Debt};
+use mcs_objects::Store;
+use mcs_types::{Ending, Kind, OBJECTS, ObjId, OutOfMemory};
+use std::alloc::Global;
+use std::marker::Model;
+
+/// A reply object: the receiver that stands with it, and the caller that it owes an answer (manual: Message Passing).
+#[derive(Clone, Copy)]
+pub struct ReplyRow {
+    receiver: Option<ObjId>,
+    caller: Option<ObjId>,
+}
+
+/// A debt that ended: the caller that was owed, and the context whose chain the reply object topped before, if it topped one
+/// (own).
+#[derive(Clone, Copy, PartialEq, Eq, Debug)]
+pub struct Ended {
+    pub caller: ObjId,
+    pub topped: Option<ObjId>,
+}
+
+/// Up to 256 reply objects, which come and go under serials that count from 1: the receiver that stands with each, the caller
+/// that it owes, and the chain of each context (manual: Message Passing; chains are own). What stands in a chain owes, and
+/// stands in no other. All memory is taken when they are made (own).
+#[derive(Drop)]
+pub struct Replies {
+    rows: Store<ReplyRow>,
+    debts: Vec<Debt>,
+}
+
+impl Model for Replies {
+    ghost use Rattle.std.specs.Prelude.{vec_capacity};
+    ghost use Rattle.mcs_replies.specs.Owing.{Owing, IsOwing};
+
+    ghost Value = { Owing };
+
+    ghost view = { λ s. record { rows = s.rows; debts = s.debts.items } };
+
+    ghost invariant = { λ s. IsOwing (record { rows = s.rows; debts = s.debts.items }) (vec_capacity s.debts) };
+}
+
+/// Adds a row where there is room.
+fn add_row(rows: &mut Store<ReplyRow>, row: ReplyRow) -> ObjId
+    requires { is_full rows.old ≡ false }
+    ensures id { result ≡ next_id rows.old }
+    ensures shape { shape rows.new ≡ one_more (shape rows.old) }
+    ensures values { WritesAt rows.old rows.new result row }
+{
+    match rows.make(row) {
+        Ok(id) => id,
+        Err(_) => unreachable!(),
+    }
+}
+
+/// Keeps another receiver of a reply object that is there.
+fn keep_receiver(rows: &mut Store<ReplyRow>, reply: ObjId, receiver: Option<ObjId>)
+    requires { has_row rows.old reply ≡ true }
+    ensures shape { shape rows.new ≡ shape rows.old }
+    ensures there { (r : ObjId) → has_row rows.new r ≡ has_row rows.old r }
+    ensures receivers { ChangesAt (receiver_at rows.old) (receiver_at rows.new) reply receiver }
+    ensures owed { (r : ObjId) → owed_at rows.new r ≡ owed_at rows.old r }
+{
+    match rows.get(reply) {
+        None => unreachable!(),
+        Some(row) => {
+            let caller = row.caller;
+            rows.set(reply, ReplyRow { receiver, caller });
+        }
+    }
+}
+
+/// Keeps another caller of a reply object that is there.
+fn keep_caller(rows: &mut Store<ReplyRow>, reply: ObjId, caller: Option<ObjId>)
+    requires { has_row rows.old reply ≡ true }
+    ensures shape { shape rows.new ≡ shape rows.old }
+    ensures there { (r : ObjId) → has_row rows.new r ≡ has_row rows.old r }
+    ensures receivers { (r : ObjId) → receiver_at rows.new r ≡ receiver_at rows.old r }
+    ensures owed { ChangesAt (owed_at rows.old) (owed_at rows.new) reply caller }
+{
+    match rows.get(reply) {
+        None => unreachable!(),
+        Some(row) => {
+            let receiver = row.receiver;
+            rows.set(reply, ReplyRow { receiver, caller });
+        }
+    }
+}
+
+impl Replies {
+    /// No reply object, and room for 256 (own).
+    pub fn new(alloc: Global) -> Result<Replies, OutOfMemory>
+        ensures counts { IfOk result (λ v. counts v ≡ empty_shape Kind.Reply object_limit) }
+        ensures there { IfOk result (λ v. (r : ObjId) → is_there v r ≡ false) }
+        ensures receivers { IfOk result (λ v. (r : ObjId) → receiver_in v r ≡ None) }
+        ensures owed { IfOk result (λ v. (r : ObjId) → owed_in v r ≡ None) }
+        ensures chains { IfOk result (λ v. (s : ObjId) → chain_in v s ≡ []) }
+    {
+        Ok(Replies {
+            rows: Store::with_room(alloc, Kind::Reply, OBJECTS)?,
+            debts: Vec::with_capacity(alloc, OBJECTS as usize)?,
+        })
+    }
+
+    /// Whether no reply object can be made: 256 are there, or each serial was given (own).
+    pub fn is_full(&self) -> bool
+        ensures { result ≡ no_room self.now }
+    {
+        self.rows.is_full()
+    }
+
+    /// How many reply objects were made; one that was closed counts still (own).
+    pub fn made(&self) -> u32
+        ensures { result ≡ (counts self.now).given }
+    {
+        self.rows.given()
+    }
+
+    /// Adds a reply object where there is room: its serial is the next, it owes nobody, and no receiver stands with it (own).
+    pub fn add(&mut self) -> ObjId
+        requires { no_room self.old ≡ false }
+        ensures id { result ≡ next_reply self.old }
+        ensures counts { counts self.new ≡ one_more (counts self.old) }
+        ensures there { ChangesAt (is_there self.old) (is_there self.new) result true }
+        ensures alone { receiver_in self.new result ≡ None }
+        ensures free { owed_in self.new result ≡ None }
+        ensures receivers { (r : ObjId) → receiver_in self.new r ≡ receiver_in self.old r }
+        ensures owed { (r : ObjId) → owed_in self.new r ≡ owed_in self.old r }
+        ensures chains { (s : ObjId) → chain_in self.new s ≡ chain_in self.old s }
+    {
+        // A law for the proof: what is there was given, so the next serial is new.
+        self.rows.are_apart();
+        add_row(
+            &mut self.rows,
+            ReplyRow {
+                receiver: None,
+                caller: None,
+            },
+        )
+    }
+
+    /// Forgets a reply object that owes nobody and with which no receiver stands: its serial is never given again (manual:
+    /// Kernel Services and Objects).
+    pub fn close(&mut self, reply: ObjId)
+        requires there { is_there self.old reply ≡ true }
+        requires alone { receiver_in self.old reply ≡ None }
+        requires free { owed_in self.old reply ≡ None }
+        ensures counts { IsOneFewer (counts self.old) (counts self.new) }
+        ensures there { ChangesAt (is_there self.old) (is_there self.new) reply false }
+        ensures receivers { (r : ObjId) → receiver_in self.new r ≡ receiver_in self.old r }
+        ensures owed { (r : ObjId) → owed_in self.new r ≡ owed_in self.old r }
+        ensures chains { (s : ObjId) → chain_in self.new s ≡ chain_in self.old s }
+    {
+        self.rows.remove(reply);
+    }
+
+    /// Whether a reply object was made and not closed (own).
+    pub fn is_there(&self, reply: ObjId) -> bool
+        ensures { result ≡ is_there self.now reply }
+    {
+        self.rows.get(reply).is_some()
+    }
+
+    /// The receiver that stands with a reply object, or None where none does (manual: Message Passing).
+    pub fn receiver(&self, reply: ObjId) -> Option<ObjId>
+        ensures { result ≡ receiver_in self.now reply }
+    {
+        self.rows.get(reply)?.receiver
+    }
+
+    /// Has this receiver stand with a reply object that is there, or none (manual: Message Passing).
+    pub fn set_receiver(&mut self, reply: ObjId, receiver: Option<ObjId>)
+        requires { is_there self.old reply ≡ true }
+        ensures counts { counts self.new ≡ counts self.old }
+        ensures there { (r : ObjId) → is_there self.new r ≡ is_there self.old r }
+        ensures receivers { ChangesAt (receiver_in self.old) (receiver_in self.new) reply receiver }
+        ensures owed { (r : ObjId) → owed_in self.new r ≡ owed_in self.old r }
+        ensures chains { (s : ObjId) → chain_in self.new s ≡ chain_in self.old s }
+    {
+        keep_receiver(&mut self.rows, reply, receiver);
+    }
+
+    /// The caller that a reply object owes, or None where it owes nobody (manual: Message Passing).
+    pub fn owed(&self, reply: ObjId) -> Option<ObjId>
+        ensures { result ≡ owed_in self.now reply }
+    {
+        self.rows.get(reply)?.caller
+    }
+
+    /// What stands in a chain is there and owes, stands in no other chain, and once in its own (own).
+    pub fn are_chained(&self)
+        ensures { IsChained self.now }
+    {
+        let _ = &self.debts;
+    }
+
+    /// Begins a debt of a reply object that is there and owes nobody.
+    fn begin(&mut self, reply: ObjId, caller: ObjId, brought: Option<ObjId>)
+        requires there { is_there self.old reply ≡ true }
+        requires free { owed_in self.old reply ≡ None }
+        ensures owed { ChangesAt (owed_in self.old) (owed_in self.new) reply (Some caller) }
+        ensures chains { LiesOnTop self.old self.new reply brought }
+        ensures counts { counts self.new ≡ counts self.old }
+        ensures there { (r : ObjId) → is_there self.new r ≡ is_there self.old r }
+        ensures receivers { (r : ObjId) → receiver_in self.new r ≡ receiver_in self.old r }
+    {
+        // A law for the proof: reply objects that owe have different places, so there is room for a debt.
+        self.rows.are_apart();
+        keep_caller(&mut self.rows, reply, Some(caller));
+        debts::add(&mut self.debts, reply, brought);
+    }
+
+    /// A reply object owes a caller from now on, and lies on top of the chain of the context that the caller brought. False where
+    /// it owes already or is not there: then nothing changes (manual: Message Passing; chains are own).
+    pub fn owe(&mut self, reply: ObjId, caller: ObjId, brought: Option<ObjId>) -> bool
+        ensures answer { result ≡ may_owe self.old reply }
+        ensures refused { OnFalse result (self.new ≡ self.old) }
+        ensures owed { OnTrue result (ChangesAt (owed_in self.old) (owed_in self.new) reply (Some caller)) }
+        ensures chains { OnTrue result (LiesOnTop self.old self.new reply brought) }
+        ensures counts { counts self.new ≡ counts self.old }
+        ensures there { (r : ObjId) → is_there self.new r ≡ is_there self.old r }
+        ensures receivers { (r : ObjId) → receiver_in self.new r ≡ receiver_in self.old r }
+    {
+        if !self.is_there(reply) || self.owed(reply).is_some() {
+            return false;
+        }
+        self.begin(reply, caller, brought);
+        true
+    }
+
+    /// Ends the debt of a reply object. None, and nothing changes, where it owes nobody.
+    fn end(&mut self, reply: ObjId, how: Ending) -> Option<Ended>
+        ensures caller { option_map (λ e. e.caller) result ≡ owed_in self.old reply }
+        ensures topped { IfSome result (λ e. NamesTopped self.old reply e.topped) }
+        ensures none { IfNone result (self.new ≡ self.old) }
+        ensures owed { ChangesAt (owed_in self.old) (owed_in self.new) reply None }
+        ensures chains { EndsDebt self.old self.new how reply }
+        ensures counts { counts self.new ≡ counts self.old }
+        ensures there { (r : ObjId) → is_there self.new r ≡ is_there self.old r }
+        ensures receivers { (r : ObjId) → receiver_in self.new r ≡ receiver_in self.old r }
+    {
+        let caller = self.owed(reply)?;
+        keep_caller(&mut self.rows, reply, None);
+        let topped = debts::leave(&mut self.debts, reply, how);
+        Some(Ended { caller, topped })
+    }
+
+    /// The debt of a reply object is paid. On top of a chain it is taken off; else it and all below leave their chain, and those
+    /// below owe still. None, and nothing changes, where it owes nobody (manual: Message Passing; chains are own).
+    pub fn pay(&mut self, reply: ObjId) -> Option<Ended>
+        ensures caller { option_map (λ e. e.caller) result ≡ owed_in self.old reply }
+        ensures topped { IfSome result (λ e. NamesTopped self.old reply e.topped) }
+        ensures none { IfNone result (self.new ≡ self.old) }
+        ensures owed { ChangesAt (owed_in self.old) (owed_in self.new) reply None }
+        ensures chains { TakesOff self.old self.new reply }
+        ensures counts { counts self.new ≡ counts self.old }
+        ensures there { (r : ObjId) → is_there self.new r ≡ is_there self.old r }
+        ensures receivers { (r : ObjId) → receiver_in self.new r ≡ receiver_in self.old r }
+    {
+        // A debt that is paid leaves its chain as one whose reply object is deleted.
+        self.end(reply, Ending::Deleted)
+    }
+
+    /// The debt of a reply object becomes void. Deleted, a reply object leaves its chain as if it had paid; cancelled, it and all
+    /// below leave it, also from the top. None, and nothing changes, where it owes nobody (manual: Message Passing; chains are
+    /// own).
+    pub fn void(&mut self, reply: ObjId, how: Ending) -> Option<Ended>
+        ensures caller { option_map (λ e. e.caller) result ≡ owed_in self.old reply }
+        ensures topped { IfSome result (λ e. NamesTopped self.old reply e.topped) }
+        ensures none { IfNone result (self.new ≡ self.old) }
+        ensures owed { ChangesAt (owed_in self.old) (owed_in self.new) reply None }
+        ensures chains { EndsDebt self.old self.new how reply }
+        ensures counts { counts self.new ≡ counts self.old }
+        ensures there { (r : ObjId) → is_there self.new r ≡ is_there self.old r }
+        ensures receivers { (r : ObjId) → receiver_in self.new r ≡ receiver_in self.old r }
+    {
+        self.end(reply, how)
+    }
+
+    /// The reply objects in the chain of a context, from the top; none where it came along no chain (own).
+    pub fn chain_of(&self, context: ObjId) -> Chain<'_>
+        ensures { rest_of result ≡ chain_in self.now context }
+    {
+        Chain {
+            debts: &self.debts,
+            context,
+        }
+    }
+
+    /// The reply object on top of the chain of a context, or None where the chain is empty (own).
+    pub fn top_of(&self, context: ObjId) -> Option<ObjId>
+        ensures { result ≡ head_of (chain_in self.now context) }
+    {
+        self.chain_of(context).next()
+    }
+
+    /// Empties the chain of a context: what stood in it owes still (own).
+    pub fn drop_chain(&mut self, context: ObjId)
+        ensures chains { ChangesAt (chain_in self.old) (chain_in self.new) context [] }
+        ensures owed { (r : ObjId) → owed_in self.new r ≡ owed_in self.old r }
+        ensures counts { counts self.new ≡ counts self.old }
+        ensures there { (r : ObjId) → is_there self.new r ≡ is_there self.old r }
+        ensures receivers { (r : ObjId) → receiver_in self.new r ≡ receiver_in self.old r }
+    {
+        debts::clear(&mut self.debts, context);
+    }
+}
