@@ -1,6 +1,9 @@
-//! The table of threads.
+//! The tables of threads and of reply objects.
+use mcs_replies::{Ended, Replies};
 use mcs_threads::{Block, Threads};
-use mcs_types::{Badge, Cap, Guard, Kind, Mail, Message, Mode, ObjId, Prio, Queue, Rights, Status};
+use mcs_types::{
+    Badge, Cap, Ending, Guard, Kind, Mail, Message, Mode, ObjId, Prio, Queue, Rights, Status,
+};
 
 fn object(kind: Kind, serial: u32) -> ObjId {
     ObjId { kind, serial }
@@ -116,4 +119,86 @@ fn threads_keep_their_mail_and_are_closed(rt: HostRuntime) {
     assert_eq!(rt; threads.close(a), None);
     assert_eq!(rt; threads.made(), 1);
     assert_eq!(rt; threads.add(Prio(1), root), object(Kind::Thread, 2));
+}
+
+/// Adds a reply object where there is room.
+fn add(replies: &mut Replies) -> Option<ObjId> {
+    if replies.is_full() {
+        return None;
+    }
+    Some(replies.add())
+}
+
+/// Has a receiver stand with a reply object, or none, where the reply object is there.
+fn stand(replies: &mut Replies, reply: ObjId, receiver: Option<ObjId>) {
+    if replies.is_there(reply) {
+        replies.set_receiver(reply, receiver);
+    }
+}
+
+/// Closes a reply object that nobody uses. Whether it was one.
+fn close(replies: &mut Replies, reply: ObjId) -> bool {
+    if !replies.is_there(reply)
+        || replies.receiver(reply).is_some()
+        || replies.owed(reply).is_some()
+    {
+        return false;
+    }
+    replies.close(reply);
+    true
+}
+
+/// Whether these stand in the chain of a context, from the top.
+fn is_chain(replies: &Replies, context: ObjId, chain: &[ObjId]) -> bool {
+    replies.chain_of(context).eq(chain.iter().copied())
+}
+
+#[test]
+fn reply_objects_owe_and_stand_in_chains(rt: HostRuntime) {
+    let made = Replies::new(rt.alloc());
+    assert!(rt; made.is_ok());
+    let Ok(mut replies) = made else {
+        return;
+    };
+    let [t, u, x] = [1, 2, 3].map(|serial| object(Kind::Thread, serial));
+    let [s, o] = [1, 2].map(|serial| object(Kind::Context, serial));
+    let [a, b, c, d] = [1, 2, 3, 4].map(|serial| object(Kind::Reply, serial));
+    for reply in [a, b, c, d] {
+        assert_eq!(rt; add(&mut replies), Some(reply));
+    }
+    assert_eq!(rt; replies.made(), 4);
+    stand(&mut replies, d, Some(t));
+    assert_eq!(rt; replies.receiver(d), Some(t));
+    assert!(rt; replies.owe(a, t, Some(s)));
+    assert!(rt; replies.owe(b, u, Some(s)));
+    assert!(rt; replies.owe(d, x, Some(o)));
+    assert!(rt; replies.owe(c, x, Some(s)));
+    assert!(rt; !replies.owe(b, x, Some(o)));
+    assert_eq!(rt; replies.owed(b), Some(u));
+    assert!(rt; is_chain(&replies, s, &[c, b, a]));
+    assert_eq!(rt; replies.top_of(s), Some(c));
+    // Below the top: b and a leave the chain, and a owes still.
+    let ended = |caller, topped| Some(Ended { caller, topped });
+    assert_eq!(rt; replies.pay(b), ended(u, None));
+    assert!(rt; is_chain(&replies, s, &[c]));
+    assert_eq!(rt; replies.owed(a), Some(t));
+    assert_eq!(rt; replies.pay(b), None);
+    // At the top: b alone is taken off.
+    assert!(rt; replies.owe(b, u, Some(s)));
+    assert_eq!(rt; replies.pay(b), ended(u, Some(s)));
+    assert!(rt; is_chain(&replies, s, &[c]));
+    // Cancelled at the top: b leaves with c, which owes still.
+    assert!(rt; replies.owe(b, u, Some(s)));
+    assert_eq!(rt; replies.void(b, Ending::Cancelled), ended(u, Some(s)));
+    assert!(rt; is_chain(&replies, s, &[]));
+    assert_eq!(rt; replies.owed(c), Some(x));
+    replies.drop_chain(o);
+    assert!(rt; is_chain(&replies, o, &[]));
+    replies.are_chained();
+    assert_eq!(rt; replies.void(d, Ending::Deleted), ended(x, None));
+    assert!(rt; !close(&mut replies, d));
+    stand(&mut replies, d, None);
+    assert!(rt; close(&mut replies, d));
+    assert!(rt; !replies.is_there(d));
+    assert_eq!(rt; add(&mut replies), Some(object(Kind::Reply, 5)));
 }
