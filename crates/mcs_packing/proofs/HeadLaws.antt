@@ -2,7 +2,7 @@
 use Rattle.std.proofs.Common.{◌≡◌, ℕ, zero, suc, Some, None, slice_get, ◌<◌, ◌+◌, List, [], ◌∷◌, ◌++◌, length, refl, ap, arith, length-append}
 use Rattle.mcs_packing.specs.declared.heads.Head.{Head}
 use Rattle.mcs_packing.specs.declared.entries.PackedEntry.{PackedEntry}
-use Rattle.mcs_packing.specs.declared.entries.PackedEntry.TheVariants.{Send, NbSend, Call, Recv, NbRecv, Wait, NbWait, ReplyRecv, Signal, SetPriority, Suspend, Resume, BindNtfn, UnbindNtfn, BindCtx, UnbindCtx, CancelBadged, CopyCap, MintCap, MoveCap, DeleteCap, MakeEndpoint, MakeNotification, MakeReply, MakeContext}
+use Rattle.mcs_packing.specs.declared.entries.PackedEntry.TheVariants.{Sends, ReplyRecv, Pair, Address, AtPlace, SetPriority, CopyCap, MintCap, MoveCap}
 use Rattle.mcs_packing.specs.declared.heads.PackedAnswer.{PackedAnswer}
 use Rattle.mcs_packing.specs.declared.heads.PackedAnswer.TheVariants.{Done, Got, Heard, Empty, Waits, Refused}
 use Rattle.mcs_packing.specs.Packing.{GrowsBy}
@@ -12,58 +12,26 @@ use Rattle.mcs_packing.proofs.Packings.{word_at-grows, content_at-grows, IsMessa
 
 -- an entry
 pub entry_of-grows : (e : PackedEntry) (ws more : List ℕ) → EntryFits e ws → entry_of e (ws ++ more) ≡ entry_of e ws
-entry_of-grows (Send len at cap) ws more h = rw (content_at-grows ws more at len h) refl
-entry_of-grows (NbSend len at cap) ws more h = rw (content_at-grows ws more at len h) refl
-entry_of-grows (Call len at cap) ws more h = rw (content_at-grows ws more at len h) refl
-entry_of-grows (Recv _ _) ws more h = refl
-entry_of-grows (NbRecv _ _) ws more h = refl
-entry_of-grows (Wait _) ws more h = refl
-entry_of-grows (NbWait _) ws more h = refl
+entry_of-grows (Sends form len at cap) ws more h = rw (content_at-grows ws more at len h) refl
 entry_of-grows (ReplyRecv len at cap reply) ws more h = rw (content_at-grows ws more at len h) refl
-entry_of-grows (Signal _) ws more h = refl
+entry_of-grows (Pair _ _ _) ws more h = refl
+entry_of-grows (Address _ _) ws more h = refl
+entry_of-grows (AtPlace _ _ _) ws more h = refl
 entry_of-grows (SetPriority _ _ _) ws more h = refl
-entry_of-grows (Suspend _) ws more h = refl
-entry_of-grows (Resume _) ws more h = refl
-entry_of-grows (BindNtfn _ _) ws more h = refl
-entry_of-grows (UnbindNtfn _) ws more h = refl
-entry_of-grows (BindCtx _ _) ws more h = refl
-entry_of-grows (UnbindCtx _) ws more h = refl
-entry_of-grows (CancelBadged _) ws more h = refl
 entry_of-grows (CopyCap _ _ _ _ _) ws more h = refl
 entry_of-grows (MintCap source_depth dest_depth rights at source dest) ws more h = rw (word_at-grows ws more at h) refl
 entry_of-grows (MoveCap _ _ _ _) ws more h = refl
-entry_of-grows (DeleteCap _ _) ws more h = refl
-entry_of-grows (MakeEndpoint _ _) ws more h = refl
-entry_of-grows (MakeNotification _ _) ws more h = refl
-entry_of-grows (MakeReply _ _) ws more h = refl
-entry_of-grows (MakeContext _ _) ws more h = refl
 
 pub EntryFits-grows : (e : PackedEntry) (ws more : List ℕ) → EntryFits e ws → EntryFits e (ws ++ more)
-EntryFits-grows (Send len at cap) ws more h = IsMessageAt-grows ws more at len h
-EntryFits-grows (NbSend len at cap) ws more h = IsMessageAt-grows ws more at len h
-EntryFits-grows (Call len at cap) ws more h = IsMessageAt-grows ws more at len h
-EntryFits-grows (Recv _ _) ws more h = h
-EntryFits-grows (NbRecv _ _) ws more h = h
-EntryFits-grows (Wait _) ws more h = h
-EntryFits-grows (NbWait _) ws more h = h
+EntryFits-grows (Sends form len at cap) ws more h = IsMessageAt-grows ws more at len h
 EntryFits-grows (ReplyRecv len at cap reply) ws more h = IsMessageAt-grows ws more at len h
-EntryFits-grows (Signal _) ws more h = h
+EntryFits-grows (Pair _ _ _) ws more h = h
+EntryFits-grows (Address _ _) ws more h = h
+EntryFits-grows (AtPlace _ _ _) ws more h = h
 EntryFits-grows (SetPriority _ _ _) ws more h = h
-EntryFits-grows (Suspend _) ws more h = h
-EntryFits-grows (Resume _) ws more h = h
-EntryFits-grows (BindNtfn _ _) ws more h = h
-EntryFits-grows (UnbindNtfn _) ws more h = h
-EntryFits-grows (BindCtx _ _) ws more h = h
-EntryFits-grows (UnbindCtx _) ws more h = h
-EntryFits-grows (CancelBadged _) ws more h = h
 EntryFits-grows (CopyCap _ _ _ _ _) ws more h = h
 EntryFits-grows (MintCap source_depth dest_depth rights at source dest) ws more h = omega (arith, h, length-append ws more)
 EntryFits-grows (MoveCap _ _ _ _) ws more h = h
-EntryFits-grows (DeleteCap _ _) ws more h = h
-EntryFits-grows (MakeEndpoint _ _) ws more h = h
-EntryFits-grows (MakeNotification _ _) ws more h = h
-EntryFits-grows (MakeReply _ _) ws more h = h
-EntryFits-grows (MakeContext _ _) ws more h = h
 
 -- an answer
 pub answer_of-grows : (a : PackedAnswer) (ws more : List ℕ) → AnswerFits a ws → answer_of a (ws ++ more) ≡ answer_of a ws

@@ -1,41 +1,60 @@
 //! Entries in 24 bytes each, their messages and badges among the words.
-ghost use Rattle.std.specs.Prelude.{◌≡◌, ℕ, List};
+ghost use Rattle.std.specs.Prelude.{◌≡◌};
 ghost use Rattle.mcs_packing.specs.Packing.{Grew, HasRoom};
-ghost use Rattle.mcs_packing.specs.Entries.{Copies, EntryFits, IsOfCopies, IsOfManages, IsOfPlaces, IsOfReceives, IsOfSends, Manages, Places, Receives, Sends, place_of, entry_of};
+ghost use Rattle.mcs_packing.specs.declared.entries.PackedEntry.TheVariants.{AtPlace};
+ghost use Rattle.mcs_packing.specs.Entries.{EntryFits, sending, over_pair, over_address, over_place, place_of, entry_of};
 
 use crate::arena::{Arena, length_of, message_at};
-use mcs_types::{Badge, Entry, Place, Prio, Rights};
+use mcs_types::{Badge, Entry, Message, Place, Prio, Rights};
 
-/// An entry, packed: `at` is a place among the words, of a message with so many words or of a badge.
+/// The entries that send a message over one capability.
+#[derive(Clone, Copy, PartialEq, Eq, Debug)]
+pub enum Sending {
+    Send,
+    NbSend,
+    Call,
+}
+
+/// The entries with two addresses.
+#[derive(Clone, Copy, PartialEq, Eq, Debug)]
+pub enum OverPair {
+    Recv,
+    NbRecv,
+    BindNtfn,
+    BindCtx,
+}
+
+/// The entries with one address.
+#[derive(Clone, Copy, PartialEq, Eq, Debug)]
+pub enum OverAddress {
+    Wait,
+    NbWait,
+    Signal,
+    Suspend,
+    Resume,
+    UnbindNtfn,
+    UnbindCtx,
+    CancelBadged,
+}
+
+/// The entries with one place.
+#[derive(Clone, Copy, PartialEq, Eq, Debug)]
+pub enum OverPlace {
+    DeleteCap,
+    MakeEndpoint,
+    MakeNotification,
+    MakeReply,
+    MakeContext,
+}
+
+/// An entry, packed: `at` is a place among the words, of a message with `len` words or of a badge. Addresses stand in the order
+/// in which the entry names them, and a place as its depth and its index.
 #[derive(Clone, Copy, PartialEq, Eq, Debug)]
 pub enum PackedEntry {
-    Send {
+    Sends {
+        form: Sending,
         len: u8,
         at: u32,
-        cap: u64,
-    },
-    NbSend {
-        len: u8,
-        at: u32,
-        cap: u64,
-    },
-    Call {
-        len: u8,
-        at: u32,
-        cap: u64,
-    },
-    Recv {
-        cap: u64,
-        reply: u64,
-    },
-    NbRecv {
-        cap: u64,
-        reply: u64,
-    },
-    Wait {
-        cap: u64,
-    },
-    NbWait {
         cap: u64,
     },
     ReplyRecv {
@@ -44,36 +63,13 @@ pub enum PackedEntry {
         cap: u64,
         reply: u64,
     },
-    Signal {
-        cap: u64,
-    },
+    Pair(OverPair, u64, u64),
+    Address(OverAddress, u64),
+    AtPlace(OverPlace, u8, u64),
     SetPriority {
         priority: Prio,
         thread: u64,
         authority: u64,
-    },
-    Suspend {
-        thread: u64,
-    },
-    Resume {
-        thread: u64,
-    },
-    BindNtfn {
-        thread: u64,
-        notification: u64,
-    },
-    UnbindNtfn {
-        thread: u64,
-    },
-    BindCtx {
-        context: u64,
-        thread: u64,
-    },
-    UnbindCtx {
-        context: u64,
-    },
-    CancelBadged {
-        endpoint: u64,
     },
     CopyCap {
         source_depth: u8,
@@ -96,26 +92,6 @@ pub enum PackedEntry {
         source: u64,
         dest: u64,
     },
-    DeleteCap {
-        place_depth: u8,
-        place: u64,
-    },
-    MakeEndpoint {
-        place_depth: u8,
-        place: u64,
-    },
-    MakeNotification {
-        place_depth: u8,
-        place: u64,
-    },
-    MakeReply {
-        place_depth: u8,
-        place: u64,
-    },
-    MakeContext {
-        place_depth: u8,
-        place: u64,
-    },
 }
 
 const _: () = prove!(size_of::<PackedEntry>() == 24);
@@ -126,128 +102,52 @@ fn place_of(index: u64, depth: u8) -> Place
     Place { index, depth }
 }
 
-/// Packs what receives, waits and signals.
-fn pack_receive(entry: &Entry) -> PackedEntry
-    requires { Receives entry.now }
-    ensures value { (ws : List ℕ) → entry_of result ws ≡ entry.now }
-    ensures fits { (ws : List ℕ) → EntryFits result ws }
+/// An entry with one place, packed.
+fn at_place(form: OverPlace, place: &Place) -> PackedEntry
+    ensures { result ≡ AtPlace form place.now.depth place.now.index }
 {
-    match entry {
-        Entry::Recv { cap, reply } => PackedEntry::Recv {
-            cap: *cap,
-            reply: *reply,
-        },
-        Entry::NbRecv { cap, reply } => PackedEntry::NbRecv {
-            cap: *cap,
-            reply: *reply,
-        },
-        Entry::Wait { cap } => PackedEntry::Wait { cap: *cap },
-        Entry::NbWait { cap } => PackedEntry::NbWait { cap: *cap },
-        Entry::Signal { cap } => PackedEntry::Signal { cap: *cap },
-        _ => unreachable!(),
-    }
-}
-
-/// Packs what is asked of a thread, a context or an endpoint.
-fn pack_manage(entry: &Entry) -> PackedEntry
-    requires { Manages entry.now }
-    ensures value { (ws : List ℕ) → entry_of result ws ≡ entry.now }
-    ensures fits { (ws : List ℕ) → EntryFits result ws }
-{
-    match entry {
-        Entry::SetPriority {
-            thread,
-            authority,
-            priority,
-        } => PackedEntry::SetPriority {
-            priority: *priority,
-            thread: *thread,
-            authority: *authority,
-        },
-        Entry::Suspend { thread } => PackedEntry::Suspend { thread: *thread },
-        Entry::Resume { thread } => PackedEntry::Resume { thread: *thread },
-        Entry::BindNtfn {
-            thread,
-            notification,
-        } => PackedEntry::BindNtfn {
-            thread: *thread,
-            notification: *notification,
-        },
-        Entry::UnbindNtfn { thread } => PackedEntry::UnbindNtfn { thread: *thread },
-        Entry::BindCtx { context, thread } => PackedEntry::BindCtx {
-            context: *context,
-            thread: *thread,
-        },
-        Entry::UnbindCtx { context } => PackedEntry::UnbindCtx { context: *context },
-        Entry::CancelBadged { endpoint } => PackedEntry::CancelBadged {
-            endpoint: *endpoint,
-        },
-        _ => unreachable!(),
-    }
-}
-
-/// Packs what names places alone.
-fn pack_place(entry: &Entry) -> PackedEntry
-    requires { Places entry.now }
-    ensures value { (ws : List ℕ) → entry_of result ws ≡ entry.now }
-    ensures fits { (ws : List ℕ) → EntryFits result ws }
-{
-    match entry {
-        Entry::MoveCap { source, dest } => PackedEntry::MoveCap {
-            source_depth: source.depth,
-            dest_depth: dest.depth,
-            source: source.index,
-            dest: dest.index,
-        },
-        Entry::DeleteCap { place } => PackedEntry::DeleteCap {
-            place_depth: place.depth,
-            place: place.index,
-        },
-        Entry::MakeEndpoint { place } => PackedEntry::MakeEndpoint {
-            place_depth: place.depth,
-            place: place.index,
-        },
-        Entry::MakeNotification { place } => PackedEntry::MakeNotification {
-            place_depth: place.depth,
-            place: place.index,
-        },
-        Entry::MakeReply { place } => PackedEntry::MakeReply {
-            place_depth: place.depth,
-            place: place.index,
-        },
-        Entry::MakeContext { place } => PackedEntry::MakeContext {
-            place_depth: place.depth,
-            place: place.index,
-        },
-        _ => unreachable!(),
-    }
+    PackedEntry::AtPlace(form, place.depth, place.index)
 }
 
 impl Arena {
-    /// Packs what sends a message.
-    fn pack_send(&mut self, entry: &Entry, place: u32) -> PackedEntry
-        requires of { Sends entry.now }
-        requires room { HasRoom self.old 1 }
+    /// Packs an entry that sends a message.
+    fn pack_sending(
+        &mut self,
+        form: Sending,
+        cap: u64,
+        message: &Message,
+        place: u32,
+    ) -> PackedEntry
+        requires { HasRoom self.old 1 }
+        ensures value { entry_of result self.new.words.items ≡ sending form cap message.now }
+        ensures fits { EntryFits result self.new.words.items }
+        ensures grew { Grew self.old self.new }
+    {
+        PackedEntry::Sends {
+            form,
+            len: length_of(message),
+            at: self.share_plain(message, place),
+            cap,
+        }
+    }
+
+    /// Packs an entry, for which there is room. Its message or its badge may stand at a place already. What was packed before
+    /// stands for what it stood for.
+    pub fn pack_entry(&mut self, entry: &Entry, place: u32) -> PackedEntry
+        requires { HasRoom self.old 1 }
         ensures value { entry_of result self.new.words.items ≡ entry.now }
         ensures fits { EntryFits result self.new.words.items }
         ensures grew { Grew self.old self.new }
     {
         match entry {
-            Entry::Send { cap, message } => PackedEntry::Send {
-                len: length_of(message),
-                at: self.share_plain(message, place),
-                cap: *cap,
-            },
-            Entry::NbSend { cap, message } => PackedEntry::NbSend {
-                len: length_of(message),
-                at: self.share_plain(message, place),
-                cap: *cap,
-            },
-            Entry::Call { cap, message } => PackedEntry::Call {
-                len: length_of(message),
-                at: self.share_plain(message, place),
-                cap: *cap,
-            },
+            Entry::Send { cap, message } => self.pack_sending(Sending::Send, *cap, message, place),
+            Entry::NbSend { cap, message } => self.pack_sending(
+                Sending::NbSend,
+                *cap,
+                message,
+                place,
+            ),
+            Entry::Call { cap, message } => self.pack_sending(Sending::Call, *cap, message, place),
             Entry::ReplyRecv {
                 cap,
                 reply,
@@ -258,19 +158,39 @@ impl Arena {
                 cap: *cap,
                 reply: *reply,
             },
-            _ => unreachable!(),
-        }
-    }
-
-    /// Packs what copies a capability.
-    fn pack_copy(&mut self, entry: &Entry, place: u32) -> PackedEntry
-        requires of { Copies entry.now }
-        requires room { HasRoom self.old 1 }
-        ensures value { entry_of result self.new.words.items ≡ entry.now }
-        ensures fits { EntryFits result self.new.words.items }
-        ensures grew { Grew self.old self.new }
-    {
-        match entry {
+            Entry::Recv { cap, reply } => PackedEntry::Pair(OverPair::Recv, *cap, *reply),
+            Entry::NbRecv { cap, reply } => PackedEntry::Pair(OverPair::NbRecv, *cap, *reply),
+            Entry::BindNtfn {
+                thread,
+                notification,
+            } => PackedEntry::Pair(OverPair::BindNtfn, *thread, *notification),
+            Entry::BindCtx { context, thread } => {
+                PackedEntry::Pair(OverPair::BindCtx, *context, *thread)
+            }
+            Entry::Wait { cap } => PackedEntry::Address(OverAddress::Wait, *cap),
+            Entry::NbWait { cap } => PackedEntry::Address(OverAddress::NbWait, *cap),
+            Entry::Signal { cap } => PackedEntry::Address(OverAddress::Signal, *cap),
+            Entry::Suspend { thread } => PackedEntry::Address(OverAddress::Suspend, *thread),
+            Entry::Resume { thread } => PackedEntry::Address(OverAddress::Resume, *thread),
+            Entry::UnbindNtfn { thread } => PackedEntry::Address(OverAddress::UnbindNtfn, *thread),
+            Entry::UnbindCtx { context } => PackedEntry::Address(OverAddress::UnbindCtx, *context),
+            Entry::CancelBadged { endpoint } => {
+                PackedEntry::Address(OverAddress::CancelBadged, *endpoint)
+            }
+            Entry::DeleteCap { place } => at_place(OverPlace::DeleteCap, place),
+            Entry::MakeEndpoint { place } => at_place(OverPlace::MakeEndpoint, place),
+            Entry::MakeNotification { place } => at_place(OverPlace::MakeNotification, place),
+            Entry::MakeReply { place } => at_place(OverPlace::MakeReply, place),
+            Entry::MakeContext { place } => at_place(OverPlace::MakeContext, place),
+            Entry::SetPriority {
+                thread,
+                authority,
+                priority,
+            } => PackedEntry::SetPriority {
+                priority: *priority,
+                thread: *thread,
+                authority: *authority,
+            },
             Entry::CopyCap {
                 source,
                 dest,
@@ -295,66 +215,89 @@ impl Arena {
                 source: source.index,
                 dest: dest.index,
             },
-            _ => unreachable!(),
-        }
-    }
-
-    /// Packs an entry, for which there is room. Its message or its badge may stand at a place already. What was packed before
-    /// stands for what it stood for.
-    pub fn pack_entry(&mut self, entry: &Entry, place: u32) -> PackedEntry
-        requires { HasRoom self.old 1 }
-        ensures value { entry_of result self.new.words.items ≡ entry.now }
-        ensures fits { EntryFits result self.new.words.items }
-        ensures grew { Grew self.old self.new }
-    {
-        match entry {
-            Entry::Send { .. }
-            | Entry::NbSend { .. }
-            | Entry::Call { .. }
-            | Entry::ReplyRecv { .. } => self.pack_send(entry, place),
-            Entry::Recv { .. }
-            | Entry::NbRecv { .. }
-            | Entry::Wait { .. }
-            | Entry::NbWait { .. }
-            | Entry::Signal { .. } => pack_receive(entry),
-            Entry::SetPriority { .. }
-            | Entry::Suspend { .. }
-            | Entry::Resume { .. }
-            | Entry::BindNtfn { .. }
-            | Entry::UnbindNtfn { .. }
-            | Entry::BindCtx { .. }
-            | Entry::UnbindCtx { .. }
-            | Entry::CancelBadged { .. } => pack_manage(entry),
-            Entry::CopyCap { .. } | Entry::MintCap { .. } => self.pack_copy(entry, place),
-            Entry::MoveCap { .. }
-            | Entry::DeleteCap { .. }
-            | Entry::MakeEndpoint { .. }
-            | Entry::MakeNotification { .. }
-            | Entry::MakeReply { .. }
-            | Entry::MakeContext { .. } => pack_place(entry),
+            Entry::MoveCap { source, dest } => PackedEntry::MoveCap {
+                source_depth: source.depth,
+                dest_depth: dest.depth,
+                source: source.index,
+                dest: dest.index,
+            },
         }
     }
 }
 
-/// Unpacks what sends a message.
-fn unpack_send(entry: &PackedEntry, words: &[u64]) -> Entry
-    requires of { IsOfSends entry.now }
-    requires fits { EntryFits entry.now words.now }
+/// The entry that sends a message.
+fn unpack_sending(form: Sending, cap: u64, message: Message) -> Entry
+    ensures { result ≡ sending form cap message }
+{
+    match form {
+        Sending::Send => Entry::Send { cap, message },
+        Sending::NbSend => Entry::NbSend { cap, message },
+        Sending::Call => Entry::Call { cap, message },
+    }
+}
+
+/// The entry of two addresses.
+fn unpack_pair(form: OverPair, first: u64, second: u64) -> Entry
+    ensures { result ≡ over_pair form first second }
+{
+    match form {
+        OverPair::Recv => Entry::Recv {
+            cap: first,
+            reply: second,
+        },
+        OverPair::NbRecv => Entry::NbRecv {
+            cap: first,
+            reply: second,
+        },
+        OverPair::BindNtfn => Entry::BindNtfn {
+            thread: first,
+            notification: second,
+        },
+        OverPair::BindCtx => Entry::BindCtx {
+            context: first,
+            thread: second,
+        },
+    }
+}
+
+/// The entry of one address.
+fn unpack_address(form: OverAddress, address: u64) -> Entry
+    ensures { result ≡ over_address form address }
+{
+    match form {
+        OverAddress::Wait => Entry::Wait { cap: address },
+        OverAddress::NbWait => Entry::NbWait { cap: address },
+        OverAddress::Signal => Entry::Signal { cap: address },
+        OverAddress::Suspend => Entry::Suspend { thread: address },
+        OverAddress::Resume => Entry::Resume { thread: address },
+        OverAddress::UnbindNtfn => Entry::UnbindNtfn { thread: address },
+        OverAddress::UnbindCtx => Entry::UnbindCtx { context: address },
+        OverAddress::CancelBadged => Entry::CancelBadged { endpoint: address },
+    }
+}
+
+/// The entry of one place.
+fn unpack_at(form: OverPlace, place: Place) -> Entry
+    ensures { result ≡ over_place form place }
+{
+    match form {
+        OverPlace::DeleteCap => Entry::DeleteCap { place },
+        OverPlace::MakeEndpoint => Entry::MakeEndpoint { place },
+        OverPlace::MakeNotification => Entry::MakeNotification { place },
+        OverPlace::MakeReply => Entry::MakeReply { place },
+        OverPlace::MakeContext => Entry::MakeContext { place },
+    }
+}
+
+/// The entry that a packed one stands for.
+pub fn unpack_entry(entry: &PackedEntry, words: &[u64]) -> Entry
+    requires { EntryFits entry.now words.now }
     ensures { result ≡ entry_of entry.now words.now }
 {
     match entry {
-        PackedEntry::Send { len, at, cap } => Entry::Send {
-            cap: *cap,
-            message: message_at(words, *at, *len),
-        },
-        PackedEntry::NbSend { len, at, cap } => Entry::NbSend {
-            cap: *cap,
-            message: message_at(words, *at, *len),
-        },
-        PackedEntry::Call { len, at, cap } => Entry::Call {
-            cap: *cap,
-            message: message_at(words, *at, *len),
-        },
+        PackedEntry::Sends { form, len, at, cap } => {
+            unpack_sending(*form, *cap, message_at(words, *at, *len))
+        }
         PackedEntry::ReplyRecv {
             len,
             at,
@@ -365,37 +308,9 @@ fn unpack_send(entry: &PackedEntry, words: &[u64]) -> Entry
             reply: *reply,
             message: message_at(words, *at, *len),
         },
-        _ => unreachable!(),
-    }
-}
-
-/// Unpacks what receives, waits and signals.
-fn unpack_receive(entry: &PackedEntry, words: &[u64]) -> Entry
-    requires { IsOfReceives entry.now }
-    ensures { result ≡ entry_of entry.now words.now }
-{
-    match entry {
-        PackedEntry::Recv { cap, reply } => Entry::Recv {
-            cap: *cap,
-            reply: *reply,
-        },
-        PackedEntry::NbRecv { cap, reply } => Entry::NbRecv {
-            cap: *cap,
-            reply: *reply,
-        },
-        PackedEntry::Wait { cap } => Entry::Wait { cap: *cap },
-        PackedEntry::NbWait { cap } => Entry::NbWait { cap: *cap },
-        PackedEntry::Signal { cap } => Entry::Signal { cap: *cap },
-        _ => unreachable!(),
-    }
-}
-
-/// Unpacks what is asked of a thread, a context or an endpoint.
-fn unpack_manage(entry: &PackedEntry, words: &[u64]) -> Entry
-    requires { IsOfManages entry.now }
-    ensures { result ≡ entry_of entry.now words.now }
-{
-    match entry {
+        PackedEntry::Pair(form, first, second) => unpack_pair(*form, *first, *second),
+        PackedEntry::Address(form, address) => unpack_address(*form, *address),
+        PackedEntry::AtPlace(form, depth, index) => unpack_at(*form, place_of(*index, *depth)),
         PackedEntry::SetPriority {
             priority,
             thread,
@@ -405,35 +320,6 @@ fn unpack_manage(entry: &PackedEntry, words: &[u64]) -> Entry
             authority: *authority,
             priority: *priority,
         },
-        PackedEntry::Suspend { thread } => Entry::Suspend { thread: *thread },
-        PackedEntry::Resume { thread } => Entry::Resume { thread: *thread },
-        PackedEntry::BindNtfn {
-            thread,
-            notification,
-        } => Entry::BindNtfn {
-            thread: *thread,
-            notification: *notification,
-        },
-        PackedEntry::UnbindNtfn { thread } => Entry::UnbindNtfn { thread: *thread },
-        PackedEntry::BindCtx { context, thread } => Entry::BindCtx {
-            context: *context,
-            thread: *thread,
-        },
-        PackedEntry::UnbindCtx { context } => Entry::UnbindCtx { context: *context },
-        PackedEntry::CancelBadged { endpoint } => Entry::CancelBadged {
-            endpoint: *endpoint,
-        },
-        _ => unreachable!(),
-    }
-}
-
-/// Unpacks what copies a capability.
-fn unpack_copy(entry: &PackedEntry, words: &[u64]) -> Entry
-    requires of { IsOfCopies entry.now }
-    requires fits { EntryFits entry.now words.now }
-    ensures { result ≡ entry_of entry.now words.now }
-{
-    match entry {
         PackedEntry::CopyCap {
             source_depth,
             dest_depth,
@@ -458,16 +344,6 @@ fn unpack_copy(entry: &PackedEntry, words: &[u64]) -> Entry
             rights: *rights,
             badge: Badge(words[*at as usize]),
         },
-        _ => unreachable!(),
-    }
-}
-
-/// Unpacks what names places alone.
-fn unpack_place(entry: &PackedEntry, words: &[u64]) -> Entry
-    requires { IsOfPlaces entry.now }
-    ensures { result ≡ entry_of entry.now words.now }
-{
-    match entry {
         PackedEntry::MoveCap {
             source_depth,
             dest_depth,
@@ -477,54 +353,5 @@ fn unpack_place(entry: &PackedEntry, words: &[u64]) -> Entry
             source: place_of(*source, *source_depth),
             dest: place_of(*dest, *dest_depth),
         },
-        PackedEntry::DeleteCap { place_depth, place } => Entry::DeleteCap {
-            place: place_of(*place, *place_depth),
-        },
-        PackedEntry::MakeEndpoint { place_depth, place } => Entry::MakeEndpoint {
-            place: place_of(*place, *place_depth),
-        },
-        PackedEntry::MakeNotification { place_depth, place } => Entry::MakeNotification {
-            place: place_of(*place, *place_depth),
-        },
-        PackedEntry::MakeReply { place_depth, place } => Entry::MakeReply {
-            place: place_of(*place, *place_depth),
-        },
-        PackedEntry::MakeContext { place_depth, place } => Entry::MakeContext {
-            place: place_of(*place, *place_depth),
-        },
-        _ => unreachable!(),
-    }
-}
-
-/// The entry that a packed one stands for.
-pub fn unpack_entry(entry: &PackedEntry, words: &[u64]) -> Entry
-    requires { EntryFits entry.now words.now }
-    ensures { result ≡ entry_of entry.now words.now }
-{
-    match entry {
-        PackedEntry::Send { .. }
-        | PackedEntry::NbSend { .. }
-        | PackedEntry::Call { .. }
-        | PackedEntry::ReplyRecv { .. } => unpack_send(entry, words),
-        PackedEntry::Recv { .. }
-        | PackedEntry::NbRecv { .. }
-        | PackedEntry::Wait { .. }
-        | PackedEntry::NbWait { .. }
-        | PackedEntry::Signal { .. } => unpack_receive(entry, words),
-        PackedEntry::SetPriority { .. }
-        | PackedEntry::Suspend { .. }
-        | PackedEntry::Resume { .. }
-        | PackedEntry::BindNtfn { .. }
-        | PackedEntry::UnbindNtfn { .. }
-        | PackedEntry::BindCtx { .. }
-        | PackedEntry::UnbindCtx { .. }
-        | PackedEntry::CancelBadged { .. } => unpack_manage(entry, words),
-        PackedEntry::CopyCap { .. } | PackedEntry::MintCap { .. } => unpack_copy(entry, words),
-        PackedEntry::MoveCap { .. }
-        | PackedEntry::DeleteCap { .. }
-        | PackedEntry::MakeEndpoint { .. }
-        | PackedEntry::MakeNotification { .. }
-        | PackedEntry::MakeReply { .. }
-        | PackedEntry::MakeContext { .. } => unpack_place(entry, words),
     }
 }

@@ -1,7 +1,9 @@
-//! The first example twice, as calls of the kernel and as a script; a call that memory was refused to is given once more. A
-//! plain run is refused nothing; `tests/each-allocation.sh` has each allocation refused in turn, and wants the same traces.
+//! The first example twice: as calls of the kernel, and with the trace of these calls as a script. A call that memory was refused
+//! to is given once more. A plain run is refused nothing; `tests/each-allocation.sh` has each allocation refused in turn, and
+//! wants the same traces.
 #![tactic(auto)]
 
+use mcs_book::Book;
 use mcs_kernel::{Boot, EnterFault, Kernel};
 use mcs_queues::PlainLines;
 use mcs_sim::{SimFault, Sink, Source, simulate, trace};
@@ -10,48 +12,6 @@ use mcs_types::{
 };
 use std::io;
 use std::process::ExitCode;
-
-/// The script of the calls below.
-const SCRIPT: &str = "\
-cores 1
-cnode 5
-endpoint
-endpoint
-notification
-reply
-reply
-context 0
-context 0
-context 0
-context 0
-context 0
-thread 10 255 c1 59 0 run s1
-thread 20 255 c1 59 0 run s2
-thread 10 255 c1 59 0 run s3
-thread 20 255 c1 59 0 run s4
-thread 30 255 c1 59 0 run s5
-slot c1 1 e1 w 9
-slot c1 2 e1 rwgp 0
-slot c1 3 e2 rwgp 0
-slot c1 4 n1 rw 0
-slot c1 5 n1 w 1
-slot c1 6 n1 w 2
-slot c1 7 n1 w 4
-slot c1 8 r1
-slot c1 9 r2
-slot c1 11 t1
-slot c1 12 t2
-slot c1 13 t3
-slot c1 14 t4
-slot c1 15 t5
-slot c1 21 s1
-slot c1 22 s2
-slot c1 23 s3
-slot c1 24 s4
-slot c1 25 s5
-0 t1 send 1 7 5 6
-0 t2 recv 2 8
-";
 
 /// The objects that are made first.
 const OBJECTS: [BootLine; 11] = [
@@ -209,8 +169,18 @@ fn receive(rt: &HostRuntime, kernel: &mut Kernel<PlainLines>) -> Result<(), Fail
     }
 }
 
-/// The example by calls of the kernel.
-fn run_calls(rt: &HostRuntime) -> Result<(), Failed> {
+/// The trace of a book as a text, written once more where memory was refused.
+fn text_of(rt: &HostRuntime, book: &Book) -> Result<Vec<u8>, Failed> {
+    let mut text = Vec::new(rt.alloc());
+    if trace(book, &mut Sink::new(rt.alloc(), &mut text)).is_err() {
+        text.clear();
+        trace(book, &mut Sink::new(rt.alloc(), &mut text))?;
+    }
+    Ok(text)
+}
+
+/// The example by calls of the kernel: its trace is written, and is the result too.
+fn run_calls(rt: &HostRuntime) -> Result<Vec<u8>, Failed> {
     let boot = booted(rt)?;
     let mut kernel = match Kernel::new(rt.alloc(), &boot) {
         Ok(kernel) => kernel,
@@ -220,17 +190,17 @@ fn run_calls(rt: &HostRuntime) -> Result<(), Failed> {
     receive(rt, &mut kernel)?;
     let mut sink = Sink::new(rt.alloc(), io::writer(rt));
     trace(kernel.book(), &mut sink)?;
-    Ok(())
+    text_of(rt, kernel.book())
 }
 
-/// The example as a script.
-fn run_script(rt: &HostRuntime) -> Result<(), Failed> {
+/// The trace of the example as a script.
+fn run_script(rt: &HostRuntime, script: &[u8]) -> Result<(), Failed> {
     let mut sink = Sink::new(rt.alloc(), io::writer(rt));
-    let mut source = Source::new(SCRIPT.as_bytes());
+    let mut source = Source::new(script);
     match simulate(rt.alloc(), &mut source, &mut sink) {
         Ok(()) => Ok(()),
         Err(SimFault::OutOfMemory) => {
-            let mut source = Source::new(SCRIPT.as_bytes());
+            let mut source = Source::new(script);
             Ok(simulate(rt.alloc(), &mut source, &mut sink)?)
         }
         Err(_) => Err(Failed),
@@ -238,10 +208,11 @@ fn run_script(rt: &HostRuntime) -> Result<(), Failed> {
 }
 
 fn main(rt: HostRuntime) -> ExitCode {
-    if run_calls(&rt).is_err() {
+    let Ok(script) = run_calls(&rt) else {
         let _ = println!(rt; "a call failed, or changed something where it failed");
-    }
-    if run_script(&rt).is_err() {
+        return ExitCode::SUCCESS;
+    };
+    if run_script(&rt, &script).is_err() {
         let _ = println!(rt; "the script failed twice");
     }
     ExitCode::SUCCESS

@@ -8,6 +8,7 @@ use mcs_types::{
     Prio, Queue, Rights, Status, Step, ThreadSet,
 };
 use std::alloc::Global;
+use std::test::Fail;
 
 fn object(kind: Kind, serial: u32) -> ObjId {
     ObjId { kind, serial }
@@ -60,18 +61,14 @@ fn five_threads(alloc: Global) -> Result<Boot, BootFault> {
     Ok(boot)
 }
 
-fn booted(alloc: Global) -> Option<Kernel<PlainLines>> {
-    let boot = five_threads(alloc).ok()?;
-    Kernel::new(alloc, &boot).ok()
+/// The kernel over a boot.
+fn booted(alloc: Global, boot: Result<Boot, BootFault>) -> Result<Kernel<PlainLines>, Fail> {
+    Ok(Kernel::new(alloc, &boot?)?)
 }
 
 #[test]
-fn the_first_of_those_that_may_enter_is_picked(rt: HostRuntime) {
-    let booted = booted(rt.alloc());
-    assert!(rt; booted.is_some());
-    let Some(kernel) = booted else {
-        return;
-    };
+fn the_first_of_those_that_may_enter_is_picked(rt: HostRuntime) -> Result<(), Fail> {
+    let kernel = booted(rt.alloc(), five_threads(rt.alloc()))?;
     let mut passed = ThreadSet::new();
     for want in [5, 2, 4, 1, 3] {
         assert_eq!(rt; kernel.pick(CoreId(0), &passed), Some(thread(want)));
@@ -79,6 +76,7 @@ fn the_first_of_those_that_may_enter_is_picked(rt: HostRuntime) {
     }
     assert!(rt; passed.contains(thread(3)));
     assert_eq!(rt; kernel.pick(CoreId(0), &passed), None);
+    Ok(())
 }
 
 /// Enters, and tells no more of the kernel than these tests ask for.
@@ -111,12 +109,9 @@ fn has_mail(
 }
 
 #[test]
-fn status_and_mail_follow_a_message(rt: HostRuntime) {
-    let booted = booted(rt.alloc());
-    assert!(rt; booted.is_some());
-    let (Some(mut kernel), Some(message)) = (booted, Message::new(7, &[5, 6])) else {
-        return;
-    };
+fn status_and_mail_follow_a_message(rt: HostRuntime) -> Result<(), Fail> {
+    let mut kernel = booted(rt.alloc(), five_threads(rt.alloc()))?;
+    let message = Message::new(7, &[5, 6]).ok_or("too many words")?;
     let entry = Entry::Send { cap: 1, message };
     let sent = enter(rt.alloc(), &mut kernel, 0, 1, entry);
     assert!(rt; matches!(sent, Ok(Answer::Waits)));
@@ -128,6 +123,7 @@ fn status_and_mail_follow_a_message(rt: HostRuntime) {
     assert!(rt; matches!(got, Ok(Answer::Got { .. })));
     assert_eq!(rt; kernel.status(thread(1)), Some(Status::Running));
     assert!(rt; has_mail(&kernel, 2, 9, 7, &[5, 6]));
+    Ok(())
 }
 
 /// Two cores, four contexts, and five threads: one without a context, and one that does not run.
@@ -157,18 +153,9 @@ fn two_cores(alloc: Global) -> Result<Boot, BootFault> {
     Ok(boot)
 }
 
-fn two_cores_booted(alloc: Global) -> Option<Kernel<PlainLines>> {
-    let boot = two_cores(alloc).ok()?;
-    Kernel::new(alloc, &boot).ok()
-}
-
 #[test]
-fn each_core_picks_among_its_own(rt: HostRuntime) {
-    let booted = two_cores_booted(rt.alloc());
-    assert!(rt; booted.is_some());
-    let Some(kernel) = booted else {
-        return;
-    };
+fn each_core_picks_among_its_own(rt: HostRuntime) -> Result<(), Fail> {
+    let kernel = booted(rt.alloc(), two_cores(rt.alloc()))?;
     let mut passed = ThreadSet::new();
     assert_eq!(rt; kernel.pick(CoreId(0), &passed), Some(thread(1)));
     assert_eq!(rt; kernel.pick(CoreId(1), &passed), Some(thread(2)));
@@ -178,15 +165,12 @@ fn each_core_picks_among_its_own(rt: HostRuntime) {
     passed.insert(thread(3));
     assert_eq!(rt; kernel.pick(CoreId(1), &passed), None);
     assert_eq!(rt; kernel.pick(CoreId(2), &ThreadSet::new()), None);
+    Ok(())
 }
 
 #[test]
-fn who_may_not_enter_is_turned_away(rt: HostRuntime) {
-    let booted = two_cores_booted(rt.alloc());
-    assert!(rt; booted.is_some());
-    let Some(mut kernel) = booted else {
-        return;
-    };
+fn who_may_not_enter_is_turned_away(rt: HostRuntime) -> Result<(), Fail> {
+    let mut kernel = booted(rt.alloc(), two_cores(rt.alloc()))?;
     let faults = [
         (1, 1, EnterFault::WrongCore),
         (0, 2, EnterFault::WrongCore),
@@ -204,12 +188,13 @@ fn who_may_not_enter_is_turned_away(rt: HostRuntime) {
     let result = enter(rt.alloc(), &mut kernel, 1, 2, entry);
     assert!(rt; matches!(result, Ok(Answer::Refused(_))));
     assert_eq!(rt; kernel.book().lines(), 2);
+    Ok(())
 }
 
 /// A send, a wait of the sender, which is turned away, and a receive.
-fn replayed(alloc: Global) -> Option<Kernel<PlainLines>> {
-    let boot = five_threads(alloc).ok()?;
-    let message = Message::new(7, &[5, 6])?;
+fn replayed(alloc: Global) -> Result<Kernel<PlainLines>, Fail> {
+    let boot = five_threads(alloc)?;
+    let message = Message::new(7, &[5, 6]).ok_or("too many words")?;
     let core = CoreId(0);
     let steps = [
         Step {
@@ -228,17 +213,14 @@ fn replayed(alloc: Global) -> Option<Kernel<PlainLines>> {
             entry: Entry::Recv { cap: 2, reply: 8 },
         },
     ];
-    replay(alloc, boot, &steps).ok()
+    Ok(replay(alloc, boot, &steps)?)
 }
 
 #[test]
-fn steps_are_replayed(rt: HostRuntime) {
-    let replayed = replayed(rt.alloc());
-    assert!(rt; replayed.is_some());
-    let Some(kernel) = replayed else {
-        return;
-    };
+fn steps_are_replayed(rt: HostRuntime) -> Result<(), Fail> {
+    let kernel = replayed(rt.alloc())?;
     assert_eq!(rt; kernel.book().lines(), 3, "the second step is turned away");
     assert_eq!(rt; kernel.status(thread(1)), Some(Status::Running));
     assert!(rt; has_mail(&kernel, 2, 9, 7, &[5, 6]));
+    Ok(())
 }
