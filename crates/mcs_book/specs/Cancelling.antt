@@ -12,7 +12,7 @@ use Rattle.mcs_types.specs.declared.record.Rec.TheVariants.{Turns, Parts, Droppe
 use Rattle.mcs_book.specs.Logs.{Log}
 use Rattle.mcs_types.specs.declared.record.Letter.{Letter}
 use Rattle.mcs_book.specs.Messages.{open_of}
-use Rattle.mcs_book.specs.Queues.{queue_of, line_of}
+use Rattle.mcs_book.specs.Queues.{queue_of, queued_in}
 use Rattle.mcs_book.specs.Contexts.{context_of, holder_of}
 use Rattle.mcs_book.specs.Replies.{owed_by, owing, receiver_with}
 use Rattle.mcs_book.specs.Chains.{topped_by}
@@ -25,7 +25,7 @@ abbrev pub drop_message : Option Letter → Piece
 drop_message None = nothing
 drop_message (Some s) = say (Dropped s.number)
 
--- x leaves the line, or the reply object, on which it is blocked
+-- x leaves the queue, or the reply object, on which it is blocked
 abbrev pub leave : Log → ObjId → Option Queue → Piece
 leave R x (Some (Senders e)) = drop_message (open_of R x) then say (Parts x (Senders e))
 leave R x (Some (Receivers e)) = say (Parts x (Receivers e))
@@ -55,8 +55,8 @@ void_deleted r R = with_any (owed_by R r) (λ x. say (Void r x Deleted) then say
 -- what the end of o does to others
 abbrev pub release : Log → ObjId → Kind → Piece
 release R o CNode = nothing
-release R o Endpoint = cancel_all (line_of R (Senders o) ++ line_of R (Receivers o)) Restart
-release R o Notification = cancel_all (line_of R (Waiters o)) Restart then untie (tied_to R o)
+release R o Endpoint = cancel_all (queued_in R (Senders o) ++ queued_in R (Receivers o)) Restart
+release R o Notification = cancel_all (queued_in R (Waiters o)) Restart then untie (tied_to R o)
 release R o Reply = with_any (receiver_with R o) (λ x. cancel x Inactive) then void_deleted o
 release R o Context = with_any (holder_of R o) (λ t. say (Holds o None))
 release R o Thread = cancel o Inactive then with_any (bound_of R o) (λ n. say (Tied o None)) then let_go (context_of R o)

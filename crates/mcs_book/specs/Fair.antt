@@ -64,7 +64,7 @@ IsTakenWhole after l R _ = Unit {0}
 abbrev pub IsWholeLine : Log → Line → Type 0
 IsWholeLine R l = EachOf (IsSentWhole R l) R l.records × EachOf (IsTakenWhole (onto l.records R) l) R l.records
 
--- t is in line q, and ahead of all others there
+-- t is in queue q, and ahead of all others there
 abbrev pub IsFirst : Log → Queue → ObjId → Type 0
 IsFirst R q t = (queue_of R t ≡ Some q) × ((u : ObjId) → queue_of R u ≡ Some q → u ≢ t → IsTrue (is_ahead R t u))
 
@@ -73,7 +73,7 @@ abbrev pub IsFirstOfOne : Log → Letter → ObjId → Type 0
 IsFirstOfOne R s p = (IsFirst R (Senders s.endpoint) s.sender × queue_of R p ≢ Some (Receivers s.endpoint))
     ⊎ (IsFirst R (Receivers s.endpoint) p × queue_of R s.sender ≢ Some (Senders s.endpoint))
 
--- By priority, and then by place in line.
+-- By priority, and then by place in the queue.
 abbrev pub TakesFirst : Log → Rec → Type 0
 TakesFirst R (Took m p) = (s : Letter) → letter R m ≡ Some s → IsFirstOfOne R s p
 TakesFirst R _ = Unit {0}
@@ -128,7 +128,7 @@ IsPaidWhole after l R _ = Unit {0}
 abbrev pub AnswersWhole : Log → Line → Type 0
 AnswersWhole R l = EachOf (GivesBack (onto l.records R)) R l.records × EachOf (IsPaidWhole (onto l.records R) l) R l.records
 
--- No pair left waiting: no endpoint has both a sender and a receiver in line.
+-- No pair left waiting: no endpoint has both a sender and a receiver in its queues.
 abbrev pub NoneWaitBeside : Log → Type 0
 NoneWaitBeside R = (e x p : ObjId) → queue_of R x ≡ Some (Senders e) → queue_of R p ≡ Some (Receivers e) → ⊥
 

@@ -14,7 +14,7 @@ use Rattle.mcs_types.specs.declared.record.Letter.{Letter}
 use Rattle.mcs_book.specs.Messages.{next_message}
 use Rattle.mcs_book.specs.Notifications.{with_badge}
 
--- a thread in a line, with its priority
+-- a thread in a queue, with its priority
 pub record Waiter : Type 0 where
   pub thread : ObjId
   pub priority : ℕ
@@ -38,13 +38,13 @@ is_among t (v ∷ vs) = same t v.thread || is_among t vs
 abbrev pub shifted : ObjId → ℕ → List Waiter → List Waiter
 shifted t p vs = cond (is_among t vs) (insert_behind (record { thread = t; priority = p }) (without t vs)) vs
 
--- the threads in line q with their priorities, first to last
-abbrev pub growing_line : Log → Queue → List Waiter
-growing_line [] q = []
-growing_line (Joins t k reply ∷ R) q = cond (same_queue k q) (insert_behind (record { thread = t; priority = prio_of R t }) (growing_line R q)) (growing_line R q)
-growing_line (Parts t k ∷ R) q = without t (growing_line R q)
-growing_line (Prio t p ∷ R) q = shifted t p.0 (growing_line R q)
-growing_line (_ ∷ R) q = growing_line R q
+-- the threads in queue q with their priorities, first to last
+abbrev pub growing_queue : Log → Queue → List Waiter
+growing_queue [] q = []
+growing_queue (Joins t k reply ∷ R) q = cond (same_queue k q) (insert_behind (record { thread = t; priority = prio_of R t }) (growing_queue R q)) (growing_queue R q)
+growing_queue (Parts t k ∷ R) q = without t (growing_queue R q)
+growing_queue (Prio t p ∷ R) q = shifted t p.0 (growing_queue R q)
+growing_queue (_ ∷ R) q = growing_queue R q
 
 -- the threads of a list of waiters
 abbrev pub threads_in : List Waiter → List ObjId

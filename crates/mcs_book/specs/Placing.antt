@@ -16,7 +16,7 @@ use Rattle.mcs_book.specs.Objects.{next_id, number_of}
 use Rattle.mcs_book.specs.Slots.{SlotName, slot, count_of}
 use Rattle.mcs_types.specs.declared.record.Letter.{Letter}
 use Rattle.mcs_book.specs.Messages.{open_of}
-use Rattle.mcs_book.specs.Queues.{line_of}
+use Rattle.mcs_book.specs.Queues.{queued_in}
 use Rattle.mcs_book.specs.Checks.{Checked, ◌>>=◌, ◌>>◌, need, needed}
 use Rattle.mcs_book.specs.Lookup.{slot_named}
 use Rattle.mcs_book.specs.Rights.{is_kind}
@@ -78,4 +78,4 @@ has_badge badge (Some s) = s.badge.0 == badge
 
 -- the queued senders of e whose message has this badge, first to last
 abbrev pub senders_with : Log → ObjId → ℕ → List ObjId
-senders_with R e badge = filter (λ x. has_badge badge (open_of R x)) (line_of R (Senders e))
+senders_with R e badge = filter (λ x. has_badge badge (open_of R x)) (queued_in R (Senders e))

@@ -35,11 +35,11 @@ line i entry answer records = record { step = by i entry; answer = answer; recor
 abbrev pub on_five_threads : List Line → Book
 on_five_threads lines = record { boot = five_threads; lines = lines }
 
--- thread i, whose capability has the badge 9, stands in line with a message of label i
+-- thread i, whose capability has the badge 9, stands in its queue with a message of label i
 abbrev pub waits_to_send : ℕ → Line
 waits_to_send i = line i (do_.Send 1 (text i)) Waits (rec.Sent (t i) (e 1) how.Plain (badge 9) (text i) ∷ rec.Joins (t i) (Senders (e 1)) None ∷ [])
 
--- thread i stands in line to receive
+-- thread i stands in its queue to receive
 abbrev pub waits_to_receive : ℕ → Line
 waits_to_receive i = line i (do_.Recv 2 8) Waits (rec.Joins (t i) (Receivers (e 1)) (Some (r 1)) ∷ [])
 
@@ -47,7 +47,7 @@ waits_to_receive i = line i (do_.Recv 2 8) Waits (rec.Joins (t i) (Receivers (e 
 abbrev pub takes_with : Badge → ℕ → ℕ → ℕ → Line
 takes_with b i m j = line i (do_.Recv 2 8) (Got b (text j)) (rec.Took m (t i) ∷ rec.Parts (t j) (Senders (e 1)) ∷ rec.Turns (t j) Running ∷ [])
 
--- the first thread, whose context is its own, calls the second, which stands in line without one and gets it
+-- the first thread, whose context is its own, calls the second, which stands in its queue without one and gets it
 abbrev pub calls : Line
 calls = line 1 (do_.Call 2 (text 3)) Waits (rec.Sent (t 1) (e 1) how.Call (badge 0) (text 3) ∷ rec.Took 0 (t 2) ∷ rec.Parts (t 2) (Receivers (e 1)) ∷ rec.Owes (r 1) (t 1) (Some (s 1)) ∷ rec.Holds (s 1) (Some (t 2)) ∷ rec.Turns (t 2) Running ∷ [])
 
@@ -63,7 +63,7 @@ called = calls ∷ line 1 (do_.UnbindCtx 22) Done (rec.Holds (s 2) None ∷ []) 
 abbrev pub answered : Book
 answered = on_five_threads (answers_with (rec.Holds (s 1) (Some (t 1)) ∷ rec.Joins (t 2) (Receivers (e 1)) (Some (r 1)) ∷ []) ∷ called)
 
--- a legal book: two senders in line, of whom the one of greater priority is taken first
+-- a legal book: two senders in the queue, of whom the one of greater priority is taken first
 abbrev pub taken_in_turn : Book
 taken_in_turn = on_five_threads (takes_with (badge 9) 5 0 1 ∷ takes_with (badge 9) 5 1 2 ∷ waits_to_send 2 ∷ waits_to_send 1 ∷ [])
 
@@ -75,7 +75,7 @@ second_take = on_five_threads (takes_with (badge 9) 5 0 1 ∷ takes_with (badge 
 abbrev pub wrong_badge : Book
 wrong_badge = on_five_threads (takes_with (badge 5) 2 0 1 ∷ waits_to_send 1 ∷ [])
 
--- of two senders in line the one of lower priority is taken
+-- of two senders in the queue the one of lower priority is taken
 abbrev pub not_the_first : Book
 not_the_first = on_five_threads (takes_with (badge 9) 5 0 1 ∷ waits_to_send 2 ∷ waits_to_send 1 ∷ [])
 
@@ -87,7 +87,7 @@ out_of_order = on_five_threads (takes_with (badge 9) 5 0 1 ∷ takes_with (badge
 abbrev pub after_the_end : Book
 after_the_end = on_five_threads (takes_with (badge 9) 2 0 1 ∷ line 5 (do_.DeleteCap (record { index = 2; depth = 64 })) Done (rec.Closed (e 1) ∷ []) ∷ waits_to_send 1 ∷ [])
 
--- a sender stands in line, and no message of it is open
+-- a sender stands in its queue, and no message of it is open
 abbrev pub nothing_sent : Book
 nothing_sent = on_five_threads (line 1 (do_.Send 1 (text 1)) Waits (rec.Joins (t 1) (Senders (e 1)) None ∷ []) ∷ [])
 
@@ -99,6 +99,6 @@ paid_twice = on_five_threads (answers_with [] ∷ answers_with (rec.Holds (s 1) 
 abbrev pub kept_context : Book
 kept_context = on_five_threads (answers_with (rec.Joins (t 2) (Receivers (e 1)) (Some (r 1)) ∷ []) ∷ called)
 
--- a sender stands in line where a receiver does
+-- a sender stands in its queue where a receiver does
 abbrev pub both_wait : Book
 both_wait = on_five_threads (waits_to_send 1 ∷ waits_to_receive 2 ∷ [])

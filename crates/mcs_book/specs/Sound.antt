@@ -44,7 +44,7 @@ IsLineThere R (Senders e) = IsThere R kind.Endpoint e
 IsLineThere R (Receivers e) = IsThere R kind.Endpoint e
 IsLineThere R (Waiters n) = IsThere R kind.Notification n
 
--- nobody stands in a line
+-- nobody stands in a queue
 abbrev pub IsEmptyLine : Log → Queue → Type 0
 IsEmptyLine R q = (x : ObjId) → queue_of R x ≢ Some q
 

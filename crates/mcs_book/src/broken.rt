@@ -15,7 +15,7 @@ pub fn wrong_badge_refused()
     ensures { EachLine IsWholeLine wrong_badge → ⊥ }
 {}
 
-/// A book in which a message is taken from a sender who is not the first in line is not fair.
+/// A book in which a message is taken from a sender who is not the first in the queue is not fair.
 pub fn not_the_first_refused()
     ensures { EachRecord TakesFirst not_the_first → ⊥ }
 {}
@@ -30,7 +30,7 @@ pub fn after_the_end_refused()
     ensures { EachRecord TakesAlive after_the_end → ⊥ }
 {}
 
-/// A book in which a sender stands in line with no open message is not fair.
+/// A book in which a sender stands in its queue with no open message is not fair.
 pub fn nothing_sent_refused()
     ensures { AfterEachLine SendersAreOpen nothing_sent → ⊥ }
 {}
@@ -45,7 +45,7 @@ pub fn kept_context_refused()
     ensures { EachLine AnswersWhole kept_context → ⊥ }
 {}
 
-/// A book in which a sender stands in line where a receiver does is not fair.
+/// A book in which a sender stands in its queue where a receiver does is not fair.
 pub fn both_wait_refused()
     ensures { AfterEachLine NoneWaitBeside both_wait → ⊥ }
 {}
@@ -56,7 +56,7 @@ pub fn answered_is_fair()
     ensures fair { IsFair answered }
 {}
 
-/// A book in which two senders stand in line and are taken by priority is legal, and fair.
+/// A book in which two senders stand in their queues and are taken by priority is legal, and fair.
 pub fn taken_in_turn_is_fair()
     ensures legal { IsLegal taken_in_turn }
     ensures fair { IsFair taken_in_turn }

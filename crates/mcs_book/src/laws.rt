@@ -4,13 +4,13 @@ ghost use Rattle.mcs_types.specs.declared.cap.Cap.{Cap};
 ghost use Rattle.mcs_types.specs.declared.id.ObjId.{ObjId};
 ghost use Rattle.mcs_types.specs.declared.record.Queue.{Queue};
 ghost use Rattle.mcs_book.specs.Logs.{Log};
-ghost use Rattle.mcs_book.specs.Queues.{line_of};
+ghost use Rattle.mcs_book.specs.Queues.{queued_in};
 ghost use Rattle.mcs_book.specs.Chains.{chain_of};
 ghost use Rattle.mcs_book.specs.Lookup.{capability};
 ghost use Rattle.mcs_book.specs.Messages.{open_of};
 ghost use Rattle.mcs_book.specs.Notifications.{pending};
 ghost use Rattle.mcs_book.specs.Paths.{IsNamed};
-ghost use Rattle.mcs_book.specs.Growing.{growing_line, threads_in, growing_chain, growing_open, growing_word};
+ghost use Rattle.mcs_book.specs.Growing.{growing_queue, threads_in, growing_chain, growing_open, growing_word};
 ghost use Rattle.mcs_book.specs.Serials.{TakesNextId, MadeOnce};
 ghost use Rattle.mcs_book.specs.Sound.{Sound};
 ghost use Rattle.mcs_book.specs.History.{Book, IsLegal, log_of, steps_of, book_of};
@@ -68,7 +68,7 @@ pub fn not_deleted()
     ensures { EachRecord TakesAlive book }
 {}
 
-/// When a message of a legal book is taken, its sender is the first of the senders in line, or its taker the first of
+/// When a message of a legal book is taken, its sender is the first of the senders in the queue, or its taker the first of
 /// the receivers, never both.
 pub fn by_priority()
     ghost book: { Book }
@@ -111,11 +111,11 @@ pub fn replayed()
     ensures { book_of book.boot (steps_of book) ≡ book }
 {}
 
-/// The line that joins, parts and priorities build is the line in order.
-pub fn line_in_order()
+/// The queue that joins, parts and priorities build is the queue in order.
+pub fn queue_in_order()
     ghost at: { Log × Queue }
     requires { Sound at.0 }
-    ensures { line_of at.0 at.1 ≡ threads_in (growing_line at.0 at.1) }
+    ensures { queued_in at.0 at.1 ≡ threads_in (growing_queue at.0 at.1) }
 {}
 
 /// The word that signals build is the bits of the badges raised since it was heard.

@@ -17,8 +17,8 @@ pub use broken::{
 };
 pub use cores::{core_lines, known_cores, own_core};
 pub use laws::{
-    answered_once, answered_whole, by_priority, chain_kept, fair, found_named, line_in_order,
-    made_once, none_beside, not_cancelled, not_deleted, open_found, replayed, sent_in_order,
+    answered_once, answered_whole, by_priority, chain_kept, fair, found_named, made_once,
+    none_beside, not_cancelled, not_deleted, open_found, queue_in_order, replayed, sent_in_order,
     serials_counted, sound, taken_once, word_joined,
 };
 pub use limits::{entry_short, lines_short};

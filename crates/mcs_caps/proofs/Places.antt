@@ -18,9 +18,9 @@ use Rattle.mcs_book.specs.Guards.{FitsGuard, FitsSlot}
 use Rattle.mcs_book.specs.Table.{wakes}
 use Rattle.mcs_book.specs.Sound.{Sound, Allowed}
 use Rattle.mcs_book.specs.Fits.{AllFit}
-use Rattle.mcs_book.proofs.Checking.{OnPassed}
-use Rattle.mcs_book.proofs.FirmLookup.{IsSlotOf, slot_named-rooted}
-use Rattle.mcs_book.proofs.KeptLaws.{slot-alive}
+use Rattle.mcs_book.proofs.Books.Checking.{OnPassed}
+use Rattle.mcs_book.proofs.Firm.Lookup.{IsSlotOf, slot_named-rooted}
+use Rattle.mcs_book.proofs.SoundLogs.KeptLaws.{slot-alive}
 use Rattle.mcs_slots.specs.declared.slots.SlotId.{SlotId}
 use Rattle.mcs_cspace.specs.Spaces.{named_by}
 use Rattle.mcs_state.specs.Entering.{IsEntering}

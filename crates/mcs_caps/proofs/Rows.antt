@@ -18,7 +18,7 @@ use Rattle.mcs_book.specs.Threads.{mode_of}
 use Rattle.mcs_book.specs.Pieces.{◌then◌, Act, Outcome, before}
 use Rattle.mcs_book.specs.Placing.{source_and_dest}
 use Rattle.mcs_book.specs.Table.{row, wakes}
-use Rattle.mcs_book.proofs.TableLaws.{does-acts}
+use Rattle.mcs_book.proofs.Books.TableLaws.{does-acts}
 use Rattle.mcs_slots.specs.Masks.{masked, badged}
 use Rattle.mcs_state.specs.Now.{Now, so_far}
 use Rattle.mcs_state.specs.Checks.{act_of}

@@ -10,10 +10,10 @@ use Rattle.mcs_book.specs.Slots.{SlotName}
 use Rattle.mcs_book.specs.Lookup.{Space, Reached, bits_of, walk, capability_from, slot_from, is_depth, is_none_left}
 use Rattle.mcs_book.specs.Paths.{IsNamedFrom}
 use Rattle.mcs_book.specs.LookupEnds.{IsUnnamedFrom, IsSlotNamedFrom, IsSlotUnnamedFrom}
-use Rattle.mcs_book.proofs.PathRefusals.{Narrows}
-use Rattle.mcs_book.proofs.PathLaws.{capability_from-named}
-use Rattle.mcs_book.proofs.LookupLaws.{refused-unnamed_from}
-use Rattle.mcs_book.proofs.SlotLookup.{slot_from-named, slot_from-unnamed}
+use Rattle.mcs_book.proofs.Paths.PathRefusals.{Narrows}
+use Rattle.mcs_book.proofs.Paths.PathLaws.{capability_from-named}
+use Rattle.mcs_book.proofs.Paths.LookupLaws.{refused-unnamed_from}
+use Rattle.mcs_book.proofs.Paths.SlotLookup.{slot_from-named, slot_from-unnamed}
 use Rattle.mcs_slots.specs.declared.slots.SlotId.{SlotId}
 use Rattle.mcs_cspace.specs.declared.paths.End.{End}
 use Rattle.mcs_cspace.specs.Spaces.{walked_by, name_of, named_by}

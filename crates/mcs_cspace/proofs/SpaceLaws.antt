@@ -4,7 +4,7 @@ use Rattle.std.proofs.Common.{refl, subst, arith}
 use Rattle.mcs_types.specs.declared.id.ObjId.{ObjId}
 use Rattle.mcs_types.specs.declared.cap.Cap.{Cap}
 use Rattle.mcs_book.specs.Lookup.{cnode_cap}
-use Rattle.mcs_book.proofs.PathRefusals.{Narrows}
+use Rattle.mcs_book.proofs.Paths.PathRefusals.{Narrows}
 use Rattle.mcs_slots.specs.Pages.{Page, IsPage, ArePages, page_of, page_at, page_radix, page_slot, radix_of, slot_at}
 use Rattle.mcs_slots.specs.Numbers.{number_of}
 use Rattle.mcs_cspace.specs.Spaces.{slots_space}

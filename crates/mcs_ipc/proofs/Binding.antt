@@ -18,7 +18,7 @@ use Rattle.mcs_book.specs.Placing.{is_empty}
 use Rattle.mcs_book.specs.Pieces.{Act}
 use Rattle.mcs_book.specs.Sound.{Sound, Allowed, IsThere}
 use Rattle.mcs_book.specs.Table.{row, wakes}
-use Rattle.mcs_book.proofs.FirmLaws.{context-none}
+use Rattle.mcs_book.proofs.Firm.Laws.{context-none}
 use Rattle.mcs_state.specs.Checks.{kinded, object_found, object_named, act_of}
 use Rattle.mcs_state.proofs.Named.{object-is, named-there}
 use Rattle.mcs_ipc.specs.declared.contexts.Binding.{Binding}

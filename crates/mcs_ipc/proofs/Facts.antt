@@ -28,10 +28,10 @@ use Rattle.mcs_book.specs.Taking.{handed}
 use Rattle.mcs_book.specs.Sending.{sends_to, sends, queues}
 use Rattle.mcs_book.specs.Table.{wakes}
 use Rattle.mcs_book.specs.Sound.{Sound, Allowed, IsThere, IsIdle, HasNoneOpen}
-use Rattle.mcs_book.proofs.KeptLaws.{standing-thread, standing-owed}
-use Rattle.mcs_book.proofs.LineLaws.{first-stands}
-use Rattle.mcs_book.proofs.MessageLaws.{sent-open}
-use Rattle.mcs_book.proofs.OpenLaws.{sound-ends, open_of-growing}
+use Rattle.mcs_book.proofs.SoundLogs.KeptLaws.{standing-thread, standing-owed}
+use Rattle.mcs_book.proofs.Queues.QueueLaws.{first-stands}
+use Rattle.mcs_book.proofs.Messages.MessageLaws.{sent-open}
+use Rattle.mcs_book.proofs.Messages.OpenLaws.{sound-ends, open_of-growing}
 use Rattle.mcs_state.specs.Now.{IsNumberOf}
 use Rattle.mcs_state.specs.Checks.{kinded, readable, object_named}
 use Rattle.mcs_state.specs.Entering.{IsEntering, OpenStand}
@@ -70,7 +70,7 @@ pub send-alone : (R : Log) (b : Bool) (t : ObjId) (cap : Cap) (message : Content
 unfolding send_act sends sends_to
 send-alone R b t cap message none = rw none refl
 
--- it waits, and stands in line
+-- it waits, and stands in its queue
 pub alone-waits : (R : Log) (t : ObjId) (cap : Cap) (message : Content)
     → alone_act true t cap message R ≡ record { answer = Waits; records = rec.Sent t cap.obj how.Plain cap.badge message ∷ rec.Joins t (Senders cap.obj) None ∷ [] }
 unfolding queues ◌then◌
@@ -82,7 +82,7 @@ pub send-hands : (R : Log) (b : Bool) (t : ObjId) (cap : Cap) (message : Content
 unfolding send_act sends sends_to handed ◌then◌
 send-hands R b t cap message p first = rw first refl
 
--- once a thread was woken, whoever has an open message stands in line still
+-- once a thread was woken, whoever has an open message stands in its queue still
 pub woken-stand : (R : Log) (t : ObjId) → OpenStand R → OpenStand (onto (wakes (mode_of R t) t R) R)
 woken-stand R t stand = go (mode_of R t)
   where
@@ -138,7 +138,7 @@ woken-sends R t a c sound enters stand e = record {
   endpoint = woken-there R t (mode_of R t) kind.Endpoint c.obj (sendable-there R t a c sound e);
 }
 
--- it is accepted, and its sender stands in line
+-- it is accepted, and its sender stands in its queue
 pub alone-is : (R : Log) (t : ObjId) (cap : Cap) (message : Content) → first_in R (Receivers cap.obj) ≡ None
     → send_act true t cap message R ≡ record { answer = Waits; records = rec.Sent t cap.obj how.Plain cap.badge message ∷ rec.Joins t (Senders cap.obj) None ∷ [] }
 alone-is R t cap message none = send-alone R true t cap message none ∙ alone-waits R t cap message

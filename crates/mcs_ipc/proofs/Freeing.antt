@@ -28,9 +28,9 @@ use Rattle.mcs_book.specs.Fair.{IsOpenOf}
 use Rattle.mcs_book.specs.Sound.{Sound, IsThere}
 use Rattle.mcs_book.specs.Served.{IsPlain}
 use Rattle.mcs_types.proofs.Ids.{same-equal}
-use Rattle.mcs_book.proofs.LineLaws.{first-stands}
-use Rattle.mcs_book.proofs.MessageLaws.{open_of-open, open_of-letter}
-use Rattle.mcs_book.proofs.UserLaws.{receiver_with-named, unattended-none, unattended-parted}
+use Rattle.mcs_book.proofs.Queues.QueueLaws.{first-stands}
+use Rattle.mcs_book.proofs.Messages.MessageLaws.{open_of-open, open_of-letter}
+use Rattle.mcs_book.proofs.Threads.UserLaws.{receiver_with-named, unattended-none, unattended-parted}
 use Rattle.mcs_book.specs.Threads.{mode_of}
 use Rattle.mcs_state.specs.Entering.{IsEntering, IsActing, OpenStand}
 use Rattle.mcs_state.proofs.Woken.{woken}
@@ -60,7 +60,7 @@ pub record Before (R : Log) (t e : ObjId) (r : Option ObjId) : Type 0 where
   pub endpoint : IsThere R kind.Endpoint e
   pub reply : IfSome r (λ o. IsThere R kind.Reply o)
 
--- who stands in no line is not the receiver that is cancelled
+-- who stands in no queue is not the receiver that is cancelled
 other : (R : Log) (t x e : ObjId) → queue_of R t ≡ None → queue_of R x ≡ Some (Receivers e) → same t x ≡ false
 other R t x e none stands = go (same t x) refl
   where

@@ -56,7 +56,7 @@ receive_entry false a (Some r) = NbRecv a r
 receive_entry true a None = Wait a
 receive_entry false a None = NbWait a
 
--- what t does where nobody receives: it waits in line, or the message is dropped
+-- what t does where nobody receives: it waits in the queue, or the message is dropped
 abbrev pub alone_act : Bool → ObjId → Cap → Content → Act
 alone_act true t cap message = queues (letter_over t cap how.Plain message)
 alone_act false t cap message = answers Done nothing

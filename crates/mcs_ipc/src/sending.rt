@@ -14,7 +14,7 @@ use mcs_state::{State, wake};
 use mcs_types::{Answer, BOOK_LINES, Cap, CoreId, Message, Mode, ObjId, Queue, SendMode};
 use mcs_waiting::Waiting;
 
-/// Sends a message, and waits in line, where nobody receives.
+/// Sends a message, and waits in the queue, where nobody receives.
 fn send_alone<W: Waiting>(state: &mut State<W>, thread: ObjId, cap: Cap, message: Message) -> Answer
     requires sending { IsSending (so_far state.old) thread cap.obj }
     requires few { length state.old.book.lines < BOOK_LINES }

@@ -25,14 +25,14 @@ use Rattle.mcs_kernel.proofs.ServedLaws.{boot-open, plain-served, served-boot}
 use Rattle.mcs_book.specs.Guards.{FitsGuard, FitsSlot}
 use Rattle.mcs_types.specs.declared.cap.Guard.{Guard}
 use Rattle.mcs_book.specs.History.{Line, past}
-use Rattle.mcs_book.proofs.MadeLaws.{made-serial}
+use Rattle.mcs_book.proofs.Objects.MadeLaws.{made-serial}
 use Rattle.mcs_state.specs.Now.{Now, so_far}
 use Rattle.mcs_types.specs.declared.record.Mode.{Mode}
 use Rattle.mcs_types.specs.declared.id.Prio.{Prio}
 use Rattle.mcs_book.specs.Sound.{Sound, Allowed, IsThere, HoldsNone}
 use Rattle.mcs_types.proofs.Ids.{both, parts, same-self, same_kind-equal}
-use Rattle.mcs_book.proofs.Sorted.{In}
-use Rattle.mcs_book.proofs.LineLaws.{standing-made}
+use Rattle.mcs_book.proofs.Queues.Sorted.{In}
+use Rattle.mcs_book.proofs.Queues.QueueLaws.{standing-made}
 use Rattle.mcs_types.specs.Limits.{object_limit}
 use Rattle.mcs_state.specs.Making.{HasRoom}
 use Rattle.mcs_kernel.specs.Booted.{IsBooting}
@@ -116,7 +116,7 @@ holder-made (_ ∷ R) s t sound h = holder-made R s t sound.1 h
 pub next-holds-none : (R : Log) → Sound R → HoldsNone R (next_id R kind.Thread)
 next-holds-none R sound s h = next-unmade R kind.Thread sound (holder-made R s (next_id R kind.Thread) sound h)
 
--- the next thread stands in no line
+-- the next thread stands in no queue
 pub next-stands-none : (R : Log) → Sound R → queue_of R (next_id R kind.Thread) ≡ None
 next-stands-none R sound = go (queue_of R (next_id R kind.Thread)) refl
   where

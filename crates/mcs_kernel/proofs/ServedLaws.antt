@@ -41,9 +41,9 @@ use Rattle.mcs_book.specs.Boots.{boot_line, boot_log}
 use Rattle.mcs_book.specs.Served.{IsPlain, serves_kind}
 use Rattle.mcs_kernel.specs.Served.{is_served, IsServedLog}
 use Rattle.mcs_types.specs.Served.{IsServed}
-use Rattle.mcs_book.proofs.Checking.{OnPassed, passed-ok, passed-err, passed-bind, passed-next}
-use Rattle.mcs_book.proofs.Making.{Passes, Makes, passes-append, makes-nothing, makes-say, makes-then, makes-any, makes-free}
-use Rattle.mcs_book.proofs.MessageLaws.{open_of-letter}
+use Rattle.mcs_book.proofs.Books.Checking.{OnPassed, passed-ok, passed-err, passed-bind, passed-next}
+use Rattle.mcs_book.proofs.SoundLogs.Making.{Passes, Makes, passes-append, makes-nothing, makes-say, makes-then, makes-any, makes-free}
+use Rattle.mcs_book.proofs.Messages.MessageLaws.{open_of-letter}
 
 -- the log after records that are all served
 pub served-onto : (made : List Rec) (R : Log) → Passes is_served made → IsServedLog R → IsServedLog (onto made R)
@@ -124,7 +124,7 @@ served-before p act hp ha = record { at = λ S h. passes-append is_served (p S) 
 act-piece : (a : Answer) (p : Piece) → Makes is_served p → OnPassed ServedAct (Ok (answers a p))
 act-piece a p h = passed-ok _ _ (record { at = λ S k. h.passes S })
 
--- a message is sent, and its sender stands in line
+-- a message is sent, and its sender stands in its queue
 served-queues : (t : ObjId) (held : Cap) (message : Content) → ServedAct (queues (letter_over t held how.Plain message))
 unfolding queues ◌then◌
 served-queues t held message = record { at = λ S h. (refl, (refl, tt)) }
@@ -163,7 +163,7 @@ served-send : (t : ObjId) (held : Cap) (message : Content) (alone : Act) → Ser
 unfolding send_over
 served-send t held message alone h = passed-need _ (serves_kind held.obj.kind) _ _ (λ e. served-send_by held.obj.kind t held message alone e h)
 
--- t joins a line, or is answered at once
+-- t joins a queue, or is answered at once
 served-joins : (b : Bool) (t : ObjId) (q : Queue) (r : Option ObjId) (S : Log) → Passes is_served ((joins_or b (rec.Joins t q r) S).records)
 unfolding joins_or
 served-joins true t q r S = (refl, tt)

@@ -23,8 +23,8 @@ use Rattle.mcs_book.specs.History.{Book, IsLegal, log_of}
 use Rattle.mcs_types.specs.Limits.{line_limit}
 use Rattle.mcs_types.specs.Ranges.{InRange}
 use Rattle.mcs_types.proofs.Ids.{parts, both}
-use Rattle.mcs_book.proofs.EntersLaws.{enters-ready}
-use Rattle.mcs_book.proofs.FirmLaws.{Firm, firm-sound, owing-none, root-there}
+use Rattle.mcs_book.proofs.Threads.EntersLaws.{enters-ready}
+use Rattle.mcs_book.proofs.Firm.Laws.{Firm, firm-sound, owing-none, root-there}
 use Rattle.mcs_state.proofs.Opening.{onto-reverse}
 use Rattle.mcs_state.specs.Entering.{IsEntering, OpenStand}
 use Rattle.mcs_state.specs.Doing.{Does, Fits}
@@ -38,11 +38,11 @@ use Rattle.mcs_book.specs.Table.{does}
 use Rattle.mcs_book.specs.Served.{IsPlain}
 use Rattle.mcs_kernel.specs.Served.{IsServedLog}
 use Rattle.mcs_types.specs.Served.{IsServed}
-use Rattle.mcs_book.proofs.LengthRows.{does-short}
-use Rattle.mcs_book.proofs.SendersOpen.{legal-senders}
+use Rattle.mcs_book.proofs.Lengths.Rows.{does-short}
+use Rattle.mcs_book.proofs.Messages.SendersOpen.{legal-senders}
 use Rattle.mcs_kernel.proofs.ServedLaws.{plain-served, chain-none, served-does, served-boot}
 use Rattle.mcs_book.specs.Boots.{Boot, IsFaultless}
-use Rattle.mcs_book.proofs.SoundBooks.{legal-firm}
+use Rattle.mcs_book.proofs.SoundLogs.SoundBooks.{legal-firm}
 use Rattle.mcs_ipc.specs.Ready.{NoChains}
 use Rattle.mcs_kernel.specs.Resting.{IsResting}
 use Rattle.mcs_kernel.proofs.Booting.{length-made}

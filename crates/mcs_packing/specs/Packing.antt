@@ -20,7 +20,7 @@ use Rattle.mcs_packing.specs.declared.packed.Packed.TheVariants.{Made, MadeOn, C
 abbrev pub object : Kind → ℕ → ObjId
 object k n = record { kind = k; serial = n }
 
--- the line of a side and an object
+-- the queue of a side and an object
 abbrev pub line_of : Side → ℕ → Queue
 line_of Senders n = in_senders (object Endpoint n)
 line_of Receivers n = in_receivers (object Endpoint n)

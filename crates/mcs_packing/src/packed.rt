@@ -77,7 +77,7 @@ pub enum Packed {
         thread: u32,
         object: u32,
     },
-    /// A thread stands in a line with a reply object.
+    /// A thread stands in a queue with a reply object.
     JoinsWith {
         side: Side,
         thread: u32,
@@ -207,7 +207,7 @@ fn pack_object(fact: &Rec) -> Option<Packed>
     }
 }
 
-/// Packs how a thread stands in a line.
+/// Packs how a thread stands in a queue.
 fn pack_joins(thread: &ObjId, queue: &Queue, reply: &Option<ObjId>) -> Option<Packed>
     ensures { IsPlain result (Rec.Joins thread.now queue.now reply.now) }
 {

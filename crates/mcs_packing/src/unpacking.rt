@@ -13,7 +13,7 @@ fn id_of(kind: Kind, serial: u32) -> ObjId
     ObjId { kind, serial }
 }
 
-/// The line of this side of an object.
+/// The queue of this side of an object.
 fn queue_of(side: Side, serial: u32) -> Queue
     ensures { result ≡ line_of side serial }
 {

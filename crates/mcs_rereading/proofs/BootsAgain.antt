@@ -21,8 +21,8 @@ use Rattle.mcs_book.specs.Sound.{Sound}
 use Rattle.mcs_book.specs.Boots.{Boot, IsFaultless, boot_log, boot_check, is_object, is_context_any, fits_cnode, fits_guard, fits_kind}
 use Rattle.mcs_book.specs.History.{IsLegal}
 use Rattle.mcs_types.proofs.Ids.{parts}
-use Rattle.mcs_book.proofs.SoundBooks.{legal-sound}
-use Rattle.mcs_book.proofs.Standings.{line-checked}
+use Rattle.mcs_book.proofs.SoundLogs.SoundBooks.{legal-sound}
+use Rattle.mcs_book.proofs.Queues.Standings.{line-checked}
 use Rattle.mcs_text.specs.Table.{form_line, boot_form, cores_form}
 use Rattle.mcs_text.specs.Laws.{IsContextName, FitsLine, raw_context, raw_cap, raw_of, IsLineReadAgain}
 use Rattle.mcs_text.proofs.RoundTrip.{below-is}

@@ -31,8 +31,8 @@ use Rattle.mcs_book.specs.Receiving.{joins_or, hear, take_open, open_of_any, pen
 use Rattle.mcs_book.specs.Placing.{delete, make}
 use Rattle.mcs_book.specs.Table.{row, wakes, outcome_of, does}
 use Rattle.mcs_book.specs.Each.{Each}
-use Rattle.mcs_book.proofs.Checking.{OnPassed, passed-ok, passed-err, passed-after, passed-bind, passed-next}
-use Rattle.mcs_book.proofs.Keeping.{onto-append}
+use Rattle.mcs_book.proofs.Books.Checking.{OnPassed, passed-ok, passed-err, passed-after, passed-bind, passed-next}
+use Rattle.mcs_book.proofs.SoundLogs.Keeping.{onto-append}
 
 -- ---- records
 

@@ -10,7 +10,7 @@ use Rattle.mcs_sim.specs.Trace.{trace}
 use Rattle.mcs_sim.specs.Script.{steps}
 use Rattle.mcs_sim.specs.Runs.{script_trace, written}
 use Rattle.mcs_sim.proofs.RunLaws.{written-is}
-use Rattle.mcs_book.proofs.ReplayLaws.{legal-replayed}
+use Rattle.mcs_book.proofs.Books.ReplayLaws.{legal-replayed}
 use Rattle.mcs_rereading.specs.Readable.{IsReadable}
 use Rattle.mcs_rereading.proofs.Lines.{lines_forms, trace_forms, lines_of-trace}
 use Rattle.mcs_rereading.proofs.WholeTraces.{IsAgain, AreLinesAgain, trace-again}

@@ -21,9 +21,9 @@ use Rattle.mcs_book.specs.Table.{does}
 use Rattle.mcs_book.specs.History.{Line, Book, IsLegal, Follows, AreLegal, past}
 use Rattle.mcs_book.specs.Each.{Each, EachOf, EachLineAfter}
 use Rattle.mcs_book.specs.Fair.{carried, IsSentWhole, IsPaidWhole, IsWholeLine, AnswersWhole}
-use Rattle.mcs_book.proofs.Safety.{each-onto}
-use Rattle.mcs_book.proofs.SoundBooks.{legal-sound}
-use Rattle.mcs_book.proofs.WholeLines.{legal-whole, sound-answers_whole}
+use Rattle.mcs_book.proofs.SoundLogs.Safety.{each-onto}
+use Rattle.mcs_book.proofs.SoundLogs.SoundBooks.{legal-sound}
+use Rattle.mcs_book.proofs.WholeMessages.Lines.{legal-whole, sound-answers_whole}
 use Rattle.mcs_text.specs.Table.{entry_form, answer_form, rec_form, joins_form}
 use Rattle.mcs_sim.specs.Trace.{sent_with}
 use Rattle.mcs_rereading.proofs.Lengths.{IsSmall}

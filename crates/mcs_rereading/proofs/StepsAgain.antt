@@ -19,12 +19,12 @@ use Rattle.mcs_types.specs.Served.{IsServed}
 use Rattle.mcs_types.specs.Limits.{core_limit}
 use Rattle.mcs_book.specs.Sound.{Sound}
 use Rattle.mcs_book.specs.History.{Line, IsLegal, past, steps_of}
-use Rattle.mcs_book.proofs.EntersLaws.{enters-made}
-use Rattle.mcs_book.proofs.KnownCores.{legal-cores}
-use Rattle.mcs_book.proofs.LengthRows.{past-threads}
-use Rattle.mcs_book.proofs.MadeLaws.{made-in, serial-below, made-serial}
-use Rattle.mcs_book.proofs.SoundBooks.{legal-sound}
-use Rattle.mcs_book.proofs.Sorted.{In}
+use Rattle.mcs_book.proofs.Threads.EntersLaws.{enters-made}
+use Rattle.mcs_book.proofs.Books.KnownCores.{legal-cores}
+use Rattle.mcs_book.proofs.Lengths.Rows.{past-threads}
+use Rattle.mcs_book.proofs.Objects.MadeLaws.{made-in, serial-below, made-serial}
+use Rattle.mcs_book.proofs.SoundLogs.SoundBooks.{legal-sound}
+use Rattle.mcs_book.proofs.Queues.Sorted.{In}
 use Rattle.mcs_kernel.specs.Runs.{AreServed}
 use Rattle.mcs_text.proofs.EntryLines.{step_line_again}
 use Rattle.mcs_sim.specs.Script.{threads_of}

@@ -25,17 +25,17 @@ use Rattle.mcs_book.specs.Queues.{queue_of, reply_with, first_in, head_of}
 use Rattle.mcs_book.specs.Replies.{owing}
 use Rattle.mcs_book.specs.Standing.{status_of, status_by}
 use Rattle.mcs_book.specs.Messages.{open_of}
-use Rattle.mcs_book.specs.Growing.{Waiter, growing_line, growing_open, threads_in}
+use Rattle.mcs_book.specs.Growing.{Waiter, growing_queue, growing_open, threads_in}
 use Rattle.mcs_book.specs.Checks.{Checked, ◌>>=◌, ◌>>◌, need, needed}
 use Rattle.mcs_book.specs.Slots.{SlotName}
 use Rattle.mcs_book.specs.Lookup.{space_of, bits_of, is_none_left, is_depth, walk, capability_from, capability, slot_from, slot_named}
 use Rattle.mcs_book.specs.Guards.{FitsGuard}
 use Rattle.mcs_book.specs.Fits.{AllFit, FitsForm}
 use Rattle.mcs_book.specs.Sound.{Sound, IsThere}
-use Rattle.mcs_book.proofs.MadeLaws.{alive-made, made-serial}
-use Rattle.mcs_book.proofs.KeptLaws.{standing-thread}
-use Rattle.mcs_book.proofs.LineLaws.{line_of-growing}
-use Rattle.mcs_book.proofs.OpenLaws.{open_of-growing}
+use Rattle.mcs_book.proofs.Objects.MadeLaws.{alive-made, made-serial}
+use Rattle.mcs_book.proofs.SoundLogs.KeptLaws.{standing-thread}
+use Rattle.mcs_book.proofs.Queues.QueueLaws.{queued_in-growing}
+use Rattle.mcs_book.proofs.Messages.OpenLaws.{open_of-growing}
 use Rattle.mcs_places.specs.Places.{HasPlace}
 use Rattle.mcs_slots.specs.Pages.{Page}
 use Rattle.mcs_cspace.specs.Spaces.{slots_space}
@@ -67,9 +67,9 @@ pub open-is : (R : Log) (x : ObjId) (o : Option Letter) → Sound R → o ≡ gr
 open-is R x o sound e = e ∙ sym (open_of-growing R x sound)
 
 -- the first of a queue in the table is the first in order
-pub first-is : (R : Log) (q : Queue) (ws : List Waiter) → Sound R → ws ≡ growing_line R q → head_of (threads_in ws) ≡ first_in R q
+pub first-is : (R : Log) (q : Queue) (ws : List Waiter) → Sound R → ws ≡ growing_queue R q → head_of (threads_in ws) ≡ first_in R q
 unfolding first_in
-first-is R q ws sound e = ap (λ vs. head_of (threads_in vs)) e ∙ sym (ap (λ ts. head_of ts) (line_of-growing R q sound))
+first-is R q ws sound e = ap (λ vs. head_of (threads_in vs)) e ∙ sym (ap (λ ts. head_of ts) (queued_in-growing R q sound))
 
 -- an object was made exactly where its serial is one of those of its kind
 pub made-from : (R : Log) (o : ObjId) → Sound R → 1 ≤ o.serial → o.serial ≤ counted (makes_kind o.kind) R → was_made R o ≡ true

@@ -16,9 +16,9 @@ use Rattle.mcs_book.specs.Logs.{Log, given}
 use Rattle.mcs_book.specs.Objects.{form_of, was_made, was_closed}
 use Rattle.mcs_book.specs.Contexts.{holder_of, context_of}
 use Rattle.mcs_book.specs.Sound.{Sound, Allowed, IsThere, IsFormOf}
-use Rattle.mcs_book.proofs.MadeLaws.{alive-made}
-use Rattle.mcs_book.proofs.HoldingLaws.{context_of-holder, holder-context_of}
-use Rattle.mcs_book.proofs.KeptLaws.{held-there}
+use Rattle.mcs_book.proofs.Objects.MadeLaws.{alive-made}
+use Rattle.mcs_book.proofs.Threads.HoldingLaws.{context_of-holder, holder-context_of}
+use Rattle.mcs_book.proofs.SoundLogs.KeptLaws.{held-there}
 use Rattle.mcs_objects.specs.Store.{one_more}
 use Rattle.mcs_contexts.specs.Holding.{Holding, core_in, holder_in, context_in, IsOneToOne}
 use Rattle.mcs_state.specs.Tables.{core_kept, core_said, ContextsAgree}

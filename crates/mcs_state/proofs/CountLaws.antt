@@ -10,9 +10,9 @@ use Rattle.mcs_types.proofs.Ids.{same-self}
 use Rattle.mcs_book.specs.Logs.{Log, counted}
 use Rattle.mcs_book.specs.Objects.{made_of, was_made, was_closed, is_alive, number_of}
 use Rattle.mcs_book.specs.Sound.{Sound, Allowed}
-use Rattle.mcs_book.proofs.CountLaws.{next-unmade}
-use Rattle.mcs_book.proofs.FirmLaws.{in-made}
-use Rattle.mcs_book.proofs.Sorted.{In}
+use Rattle.mcs_book.proofs.Objects.CountLaws.{next-unmade}
+use Rattle.mcs_book.proofs.Firm.Laws.{in-made}
+use Rattle.mcs_book.proofs.Queues.Sorted.{In}
 use Rattle.mcs_objects.specs.Store.{one_more}
 use Rattle.mcs_state.specs.Tables.{shape_said}
 use Rattle.mcs_state.proofs.Saying.{unclosed}

@@ -14,8 +14,8 @@ use Rattle.mcs_book.specs.History.{log_of}
 use Rattle.mcs_book.specs.Pieces.{Piece, Act, Outcome, ◌then◌, before}
 use Rattle.mcs_book.specs.Table.{row, wakes}
 use Rattle.mcs_book.specs.Threads.{mode_of}
-use Rattle.mcs_book.proofs.Keeping.{onto-append}
-use Rattle.mcs_book.proofs.TableLaws.{does-refused, does-acts}
+use Rattle.mcs_book.proofs.SoundLogs.Keeping.{onto-append}
+use Rattle.mcs_book.proofs.Books.TableLaws.{does-refused, does-acts}
 use Rattle.mcs_state.specs.Now.{Now, so_far, adds_all}
 use Rattle.mcs_state.specs.Doing.{Gives, Holds, Makes, HasRoomFor, Acts, FitsAct, Does, Fits}
 use Rattle.mcs_state.proofs.Opening.{onto-top}

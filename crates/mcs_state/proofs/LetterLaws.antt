@@ -12,8 +12,8 @@ use Rattle.mcs_book.specs.Logs.{Log}
 use Rattle.mcs_book.specs.Growing.{growing_open, unless_number}
 use Rattle.mcs_book.specs.Messages.{letter, open_of, next_message}
 use Rattle.mcs_book.specs.Sound.{Allowed, Sound}
-use Rattle.mcs_book.proofs.MessageLaws.{open_of-letter, open_of-open}
-use Rattle.mcs_book.proofs.OpenLaws.{open_of-growing}
+use Rattle.mcs_book.proofs.Messages.MessageLaws.{open_of-letter, open_of-open}
+use Rattle.mcs_book.proofs.Messages.OpenLaws.{open_of-growing}
 use Rattle.mcs_state.specs.Now.{IsNumberOf}
 use Rattle.mcs_state.specs.Tables.{LettersAgree}
 use Rattle.mcs_state.specs.Following.{LettersFollow}

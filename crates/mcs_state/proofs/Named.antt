@@ -13,8 +13,8 @@ use Rattle.mcs_book.specs.Objects.{is_alive}
 use Rattle.mcs_book.specs.Paths.{IsNamed}
 use Rattle.mcs_book.specs.Rights.{is_kind, may_write, may_read}
 use Rattle.mcs_book.specs.Sound.{Sound, IsThere}
-use Rattle.mcs_book.proofs.KeptLaws.{slot-alive}
-use Rattle.mcs_book.proofs.PathLaws.{capability-named}
+use Rattle.mcs_book.proofs.SoundLogs.KeptLaws.{slot-alive}
+use Rattle.mcs_book.proofs.Paths.PathLaws.{capability-named}
 use Rattle.mcs_state.specs.Checks.{kinded, writable, readable, object_found, object_named}
 
 -- checks that were passed or not, and then others

@@ -14,8 +14,8 @@ use Rattle.mcs_book.specs.Standing.{may_enter, is_ready, is_on_core, status_of}
 use Rattle.mcs_book.specs.Picking.{is_candidate, GoesBefore, IsPick}
 use Rattle.mcs_book.specs.Sound.{Sound, IsThere}
 use Rattle.mcs_state.specs.Picking.{thread_at, picked, is_above, better_of, best_below}
-use Rattle.mcs_book.proofs.EntersLaws.{enters-ready}
-use Rattle.mcs_book.proofs.MadeLaws.{alive-made, made-serial}
+use Rattle.mcs_book.proofs.Threads.EntersLaws.{enters-ready}
+use Rattle.mcs_book.proofs.Objects.MadeLaws.{alive-made, made-serial}
 
 -- o goes before all other candidates of the numbers below n
 abbrev IsBest : Log → CoreId → List Bool → ℕ → Option ℕ → Type 0

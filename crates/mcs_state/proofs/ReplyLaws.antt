@@ -19,9 +19,9 @@ use Rattle.mcs_book.specs.Queues.{queue_of, reply_with, receives_at, is_receivin
 use Rattle.mcs_book.specs.Replies.{receiver_with}
 use Rattle.mcs_book.specs.Sound.{Sound, Allowed, IsThere, IsFreeReply}
 use Rattle.mcs_book.specs.Threads.{threads}
-use Rattle.mcs_book.proofs.KeptLaws.{reply-there, set-split}
-use Rattle.mcs_book.proofs.MadeLaws.{alive-made}
-use Rattle.mcs_book.proofs.UserLaws.{one_user, receiver_with-named, receiver_with-found}
+use Rattle.mcs_book.proofs.SoundLogs.KeptLaws.{reply-there, set-split}
+use Rattle.mcs_book.proofs.Objects.MadeLaws.{alive-made}
+use Rattle.mcs_book.proofs.Threads.UserLaws.{one_user, receiver_with-named, receiver_with-found}
 use Rattle.mcs_objects.specs.Store.{Objects, value_at, one_more}
 use Rattle.mcs_state.specs.Tables.{RepliesAgree, is_there}
 use Rattle.mcs_state.specs.Following.{RepliesFollow, RepliesFollowMade, AddsReply, SetsReceiver, SetsAny, attended}

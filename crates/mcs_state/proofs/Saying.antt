@@ -21,11 +21,11 @@ use Rattle.mcs_book.specs.Notifications.{bound_of}
 use Rattle.mcs_book.specs.Standing.{mail_brought}
 use Rattle.mcs_book.specs.Sound.{Sound, IsThere, IsFormOf}
 use Rattle.mcs_types.proofs.Ids.{same-equal}
-use Rattle.mcs_book.proofs.MadeLaws.{alive-made}
+use Rattle.mcs_book.proofs.Objects.MadeLaws.{alive-made}
 use Rattle.mcs_book.specs.Replies.{owed_by, owing, replies}
-use Rattle.mcs_book.proofs.CountLaws.{closed-made}
-use Rattle.mcs_book.proofs.FirmLaws.{owing-owed}
-use Rattle.mcs_book.proofs.KeptLaws.{standing-owed, owed-there}
+use Rattle.mcs_book.proofs.Objects.CountLaws.{closed-made}
+use Rattle.mcs_book.proofs.Firm.Laws.{owing-owed}
+use Rattle.mcs_book.proofs.SoundLogs.KeptLaws.{standing-owed, owed-there}
 use Rattle.mcs_state.specs.Saying.{block_said, row_with, row_said}
 
 -- the log says nothing of t

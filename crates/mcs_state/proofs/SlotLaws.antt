@@ -21,7 +21,7 @@ use Rattle.mcs_book.specs.Guards.{FitsGuard, FitsSlot}
 use Rattle.mcs_book.specs.Sound.{Sound, Allowed, IsThere, IsFormOf}
 use Rattle.mcs_book.specs.Fits.{AllFit}
 use Rattle.mcs_types.proofs.Ids.{same-equal}
-use Rattle.mcs_book.proofs.MadeLaws.{alive-made, made-serial}
+use Rattle.mcs_book.proofs.Objects.MadeLaws.{alive-made, made-serial}
 use Rattle.mcs_slots.specs.declared.slots.SlotId.{SlotId}
 use Rattle.mcs_slots.specs.Numbers.{number_of}
 use Rattle.mcs_slots.specs.Pages.{Page, ArePages, HasSlot, empty_page, page_of, page_at, page_radix, page_slots, radix_of, slot_at}

@@ -32,7 +32,7 @@ use Rattle.mcs_book.specs.Notifications.{bound_of}
 use Rattle.mcs_book.specs.Standing.{letter_mail, mail_brought, mail_of}
 use Rattle.mcs_book.specs.Sound.{Sound, Allowed, IsThere, IsFormOf}
 use Rattle.mcs_types.proofs.Ids.{same-equal}
-use Rattle.mcs_book.proofs.MailLaws.{is_still, mail-still, mail-took}
+use Rattle.mcs_book.proofs.Messages.MailLaws.{is_still, mail-still, mail-took}
 use Rattle.mcs_state.specs.Saying.{block_said, row_with, row_said}
 use Rattle.mcs_state.specs.Tables.{ThreadsAgree}
 use Rattle.mcs_state.specs.Following.{ThreadsFollow, Mails}

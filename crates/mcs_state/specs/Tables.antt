@@ -19,7 +19,7 @@ use Rattle.mcs_book.specs.Standing.{mail_of}
 use Rattle.mcs_book.specs.Messages.{next_message, is_sent}
 use Rattle.mcs_book.specs.Contexts.{holder_of}
 use Rattle.mcs_book.specs.Replies.{receiver_with}
-use Rattle.mcs_book.specs.Growing.{Waiter, growing_line, growing_open}
+use Rattle.mcs_book.specs.Growing.{Waiter, growing_queue, growing_open}
 use Rattle.mcs_book.specs.Fits.{AllFit}
 use Rattle.mcs_book.specs.Sound.{Sound}
 use Rattle.mcs_places.specs.Places.{kept_at}
@@ -95,7 +95,7 @@ is_there R k o = same_kind o.kind k && is_alive R o
 pub record QueuesAgree (v : Queueing) (R : Log) : Type 0 where
   pub made : (k : Kind) → has_queues k ≡ true → v.made k ≡ counted (makes_kind k) R
   pub there : (k : Kind) → has_queues k ≡ true → v.there k ≡ number_of R k
-  pub line : (q : Queue) → v.line q ≡ growing_line R q
+  pub line : (q : Queue) → v.line q ≡ growing_queue R q
   pub queue : (t : ObjId) → v.queue t ≡ queue_of R t
   pub has : (q : Queue) → v.has q ≡ is_there R (queue_kind q) (queue_object q)
 

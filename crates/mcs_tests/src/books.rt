@@ -102,7 +102,7 @@ fn slots(alloc: Global, ids: &Ids) -> Result<Vec<Rec>, Fail> {
     Ok(facts)
 }
 
-/// How threads run, stand in lines, hold contexts and are bound.
+/// How threads run, stand in queues, hold contexts and are bound.
 fn threads(alloc: Global, ids: &Ids) -> Result<Vec<Rec>, Fail> {
     let mut facts = Vec::new(alloc);
     let thread = ids.thread;

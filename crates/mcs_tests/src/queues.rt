@@ -1,4 +1,4 @@
-//! Lines of threads.
+//! Queues of threads.
 use mcs_queues::{LineNo, Lines, PlainLines, ThreadNo};
 use mcs_types::Prio;
 

@@ -135,7 +135,7 @@ impl Threads {
         Some(())
     }
 
-    /// Blocks a thread on a line or on a reply object, whatever blocked it before; None like `set_mode` (manual: Message Passing).
+    /// Blocks a thread on a queue or on a reply object, whatever blocked it before; None like `set_mode` (manual: Message Passing).
     pub fn block(&mut self, id: ObjId, block: Block) -> Option<()>
         ensures found { IsSome result ↔ IsSome (row_of self.old id) }
         ensures changed { ChangesRow (λ r. record r { block = Some block }) self.old self.new id }

@@ -12,7 +12,7 @@ use Rattle.mcs_types.proofs.Waiters.{stands-insert, stands-without}
 use Rattle.mcs_types.proofs.Ids.{same-other}
 use Rattle.mcs_book.specs.Growing.{insert_behind as put_behind, without as without_id, is_among, shifted}
 use Rattle.mcs_book.specs.Queues.{same_queue}
-use Rattle.mcs_book.proofs.Same.{same_queue-self, same_queue-equal}
+use Rattle.mcs_book.proofs.Objects.Same.{same_queue-self, same_queue-equal}
 use Rattle.mcs_waiting.specs.Places.{thread_at, standing, below_room, lined, IsLined}
 use Rattle.mcs_waiting.specs.Queues.{line_after, behind, behind_in}
 use Rattle.mcs_waiting.proofs.Lists.{number-thread, same-number, map-insert, map-without, without-absent, map-among, nobody-among, behind-map}

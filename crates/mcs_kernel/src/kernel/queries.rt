@@ -9,7 +9,7 @@ use mcs_queues::Lines;
 use mcs_types::{CoreId, Mail, ObjId, Status, ThreadSet};
 
 impl<L: Lines> Kernel<L> {
-    /// What a thread does: the line in which it stands, the reply object that owes it an answer, or else its mode; None
+    /// What a thread does: the queue in which it stands, the reply object that owes it an answer, or else its mode; None
     /// for what is no thread or was never made (manual: Threads and Execution).
     pub fn status(&self, id: ObjId) -> Option<Status>
         ensures { result ≡ status_of (log_of self.now) id }

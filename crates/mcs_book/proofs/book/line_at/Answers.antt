@@ -7,7 +7,7 @@ use Rattle.mcs_book.specs.History.{Line}
 use Rattle.mcs_book.specs.Pages.{start_at}
 use Rattle.mcs_packing.proofs.Packings.{AllFit-drop, AllFit-take, drop-record_of, length-record_of, take-record_of}
 use Rattle.mcs_packing.proofs.HeadLaws.{HeadFits-at, slice_get-heads, slice_get-heads_none}
-use Rattle.mcs_book.proofs.Cuts.{start-within, slice_get-cut, slice_get-cut_none}
+use Rattle.mcs_book.proofs.Books.Cuts.{start-within, slice_get-cut, slice_get-cut_none}
 use Rattle.mcs_book.proofs.book.line_at.Goals as goal
 
 pub part-requires-clause-starts : goal.part-requires-clause-starts

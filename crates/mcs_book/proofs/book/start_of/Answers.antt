@@ -4,7 +4,7 @@ use Rattle.mcs_packing.specs.declared.heads.Head.{Head}
 use Rattle.mcs_packing.specs.Heads.{entered_of, all_entered}
 use Rattle.mcs_book.specs.Pages.{start_at}
 use Rattle.mcs_packing.proofs.HeadLaws.{slice_get-heads}
-use Rattle.mcs_book.proofs.Cuts.{start_at-end}
+use Rattle.mcs_book.proofs.Books.Cuts.{start_at-end}
 use Rattle.mcs_book.proofs.book.start_of.Goals as goal
 
 pub returns-else-at-eq0 : goal.returns-else-at-eq0

@@ -1,4 +1,4 @@
-use Rattle.mcs_book.proofs.BrokenBooks.{breaks-none_beside}
+use Rattle.mcs_book.proofs.Small.BrokenBooks.{breaks-none_beside}
 use Rattle.mcs_book.proofs.broken.both_wait_refused.Goals as goal
 
 pub returns : goal.returns

@@ -1,4 +1,4 @@
-use Rattle.mcs_book.proofs.BrokenBooks.{breaks-answered_once}
+use Rattle.mcs_book.proofs.Small.BrokenBooks.{breaks-answered_once}
 use Rattle.mcs_book.proofs.broken.paid_twice_refused.Goals as goal
 
 pub returns : goal.returns

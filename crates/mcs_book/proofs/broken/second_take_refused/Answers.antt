@@ -1,4 +1,4 @@
-use Rattle.mcs_book.proofs.BrokenBooks.{breaks-taken_once}
+use Rattle.mcs_book.proofs.Small.BrokenBooks.{breaks-taken_once}
 use Rattle.mcs_book.proofs.broken.second_take_refused.Goals as goal
 
 pub returns : goal.returns

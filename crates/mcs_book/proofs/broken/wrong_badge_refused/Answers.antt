@@ -1,4 +1,4 @@
-use Rattle.mcs_book.proofs.BrokenBooks.{breaks-whole}
+use Rattle.mcs_book.proofs.Small.BrokenBooks.{breaks-whole}
 use Rattle.mcs_book.proofs.broken.wrong_badge_refused.Goals as goal
 
 pub returns : goal.returns

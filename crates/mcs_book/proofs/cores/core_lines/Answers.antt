@@ -1,4 +1,4 @@
-use Rattle.mcs_book.proofs.CoreLines.{core-lines}
+use Rattle.mcs_book.proofs.Books.CoreLines.{core-lines}
 use Rattle.mcs_book.proofs.cores.core_lines.Goals as goal
 
 pub returns : goal.returns

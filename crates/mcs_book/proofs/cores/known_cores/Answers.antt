@@ -1,4 +1,4 @@
-use Rattle.mcs_book.proofs.KnownCores.{legal-cores}
+use Rattle.mcs_book.proofs.Books.KnownCores.{legal-cores}
 use Rattle.mcs_book.proofs.cores.known_cores.Goals as goal
 
 pub returns : goal.returns

@@ -1,4 +1,4 @@
-use Rattle.mcs_book.proofs.CoreLines.{own-core}
+use Rattle.mcs_book.proofs.Books.CoreLines.{own-core}
 use Rattle.mcs_book.proofs.cores.own_core.Goals as goal
 
 pub returns : goal.returns

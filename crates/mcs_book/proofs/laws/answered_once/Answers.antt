@@ -1,4 +1,4 @@
-use Rattle.mcs_book.proofs.SoundBooks.{legal-answers_owed}
+use Rattle.mcs_book.proofs.SoundLogs.SoundBooks.{legal-answers_owed}
 use Rattle.mcs_book.proofs.laws.answered_once.Goals as goal
 
 pub returns : goal.returns

@@ -1,5 +1,5 @@
-use Rattle.mcs_book.proofs.SoundBooks.{legal-sound}
-use Rattle.mcs_book.proofs.WholeLines.{sound-answers_whole}
+use Rattle.mcs_book.proofs.SoundLogs.SoundBooks.{legal-sound}
+use Rattle.mcs_book.proofs.WholeMessages.Lines.{sound-answers_whole}
 use Rattle.mcs_book.proofs.laws.answered_whole.Goals as goal
 
 pub returns : goal.returns

@@ -1,4 +1,4 @@
-use Rattle.mcs_book.proofs.SoundBooks.{legal-takes_first}
+use Rattle.mcs_book.proofs.SoundLogs.SoundBooks.{legal-takes_first}
 use Rattle.mcs_book.proofs.laws.by_priority.Goals as goal
 
 pub returns : goal.returns

@@ -1,4 +1,4 @@
-use Rattle.mcs_book.proofs.LegalFair.{legal-fair}
+use Rattle.mcs_book.proofs.Books.LegalFair.{legal-fair}
 use Rattle.mcs_book.proofs.laws.fair.Goals as goal
 
 pub returns : goal.returns

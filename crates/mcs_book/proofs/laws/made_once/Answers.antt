@@ -1,4 +1,4 @@
-use Rattle.mcs_book.proofs.SoundBooks.{legal-made_once}
+use Rattle.mcs_book.proofs.SoundLogs.SoundBooks.{legal-made_once}
 use Rattle.mcs_book.proofs.laws.made_once.Goals as goal
 
 pub returns : goal.returns

@@ -1,4 +1,4 @@
-use Rattle.mcs_book.proofs.SendersOpen.{legal-not_cancelled}
+use Rattle.mcs_book.proofs.Messages.SendersOpen.{legal-not_cancelled}
 use Rattle.mcs_book.proofs.laws.not_cancelled.Goals as goal
 
 pub returns : goal.returns

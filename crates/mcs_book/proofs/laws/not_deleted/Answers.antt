@@ -1,4 +1,4 @@
-use Rattle.mcs_book.proofs.SoundBooks.{legal-takes_alive}
+use Rattle.mcs_book.proofs.SoundLogs.SoundBooks.{legal-takes_alive}
 use Rattle.mcs_book.proofs.laws.not_deleted.Goals as goal
 
 pub returns : goal.returns

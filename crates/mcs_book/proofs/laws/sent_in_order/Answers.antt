@@ -1,4 +1,4 @@
-use Rattle.mcs_book.proofs.SoundBooks.{legal-takes_in_order}
+use Rattle.mcs_book.proofs.SoundLogs.SoundBooks.{legal-takes_in_order}
 use Rattle.mcs_book.proofs.laws.sent_in_order.Goals as goal
 
 pub returns : goal.returns

@@ -1,4 +1,4 @@
-use Rattle.mcs_book.proofs.SoundBooks.{legal-next_id}
+use Rattle.mcs_book.proofs.SoundLogs.SoundBooks.{legal-next_id}
 use Rattle.mcs_book.proofs.laws.serials_counted.Goals as goal
 
 pub returns : goal.returns

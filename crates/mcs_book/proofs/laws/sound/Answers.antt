@@ -1,4 +1,4 @@
-use Rattle.mcs_book.proofs.SoundBooks.{legal-sound}
+use Rattle.mcs_book.proofs.SoundLogs.SoundBooks.{legal-sound}
 use Rattle.mcs_book.proofs.laws.sound.Goals as goal
 
 pub returns : goal.returns

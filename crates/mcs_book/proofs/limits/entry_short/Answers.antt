@@ -1,4 +1,4 @@
-use Rattle.mcs_book.proofs.LengthRows.{does-short}
+use Rattle.mcs_book.proofs.Lengths.Rows.{does-short}
 use Rattle.mcs_book.proofs.limits.entry_short.Goals as goal
 
 pub returns : goal.returns

@@ -1,4 +1,4 @@
-use Rattle.mcs_book.proofs.LengthRows.{legal-short}
+use Rattle.mcs_book.proofs.Lengths.Rows.{legal-short}
 use Rattle.mcs_book.proofs.limits.lines_short.Goals as goal
 
 pub returns : goal.returns

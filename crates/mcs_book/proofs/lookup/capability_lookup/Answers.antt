@@ -1,7 +1,7 @@
 use Rattle.mcs_book.specs.History.{log_of}
-use Rattle.mcs_book.proofs.LegalLookup.{legal-bits}
-use Rattle.mcs_book.proofs.PathLaws.{capability-named}
-use Rattle.mcs_book.proofs.LookupLaws.{named-found, refused-unnamed, unnamed-refused}
+use Rattle.mcs_book.proofs.Paths.LegalLookup.{legal-bits}
+use Rattle.mcs_book.proofs.Paths.PathLaws.{capability-named}
+use Rattle.mcs_book.proofs.Paths.LookupLaws.{named-found, refused-unnamed, unnamed-refused}
 use Rattle.mcs_book.proofs.lookup.capability_lookup.Goals as goal
 
 pub returns : goal.returns

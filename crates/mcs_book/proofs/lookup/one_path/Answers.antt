@@ -1,4 +1,4 @@
-use Rattle.mcs_book.proofs.LegalLookup.{legal-one_path}
+use Rattle.mcs_book.proofs.Paths.LegalLookup.{legal-one_path}
 use Rattle.mcs_book.proofs.lookup.one_path.Goals as goal
 
 pub returns : goal.returns

@@ -1,6 +1,6 @@
 use Rattle.mcs_book.specs.History.{log_of}
-use Rattle.mcs_book.proofs.LegalLookup.{legal-bits}
-use Rattle.mcs_book.proofs.SlotLookup.{slot-is_named, slot-found, slot-is_unnamed, slot-refused}
+use Rattle.mcs_book.proofs.Paths.LegalLookup.{legal-bits}
+use Rattle.mcs_book.proofs.Paths.SlotLookup.{slot-is_named, slot-found, slot-is_unnamed, slot-refused}
 use Rattle.mcs_book.proofs.lookup.slot_lookup.Goals as goal
 
 pub returns : goal.returns

@@ -1,4 +1,4 @@
-use Rattle.mcs_book.proofs.WholeLines.{legal-whole}
+use Rattle.mcs_book.proofs.WholeMessages.Lines.{legal-whole}
 use Rattle.mcs_book.proofs.whole.messages_whole.Goals as goal
 
 pub returns : goal.returns

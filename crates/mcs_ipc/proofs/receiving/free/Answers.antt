@@ -7,8 +7,8 @@ use Rattle.mcs_book.specs.Logs.{Log}
 use Rattle.mcs_book.specs.Queues.{queue_of}
 use Rattle.mcs_book.specs.Receiving.{free}
 use Rattle.mcs_book.specs.Replies.{receiver_with}
-use Rattle.mcs_book.proofs.KeptLaws.{standing-thread}
-use Rattle.mcs_book.proofs.UserLaws.{receiver_with-named}
+use Rattle.mcs_book.proofs.SoundLogs.KeptLaws.{standing-thread}
+use Rattle.mcs_book.proofs.Threads.UserLaws.{receiver_with-named}
 use Rattle.mcs_state.specs.Now.{Now, so_far, adds, adds_all}
 use Rattle.mcs_state.specs.Doing.{Holds}
 use Rattle.mcs_ipc.proofs.Facts.{parted}

@@ -1,6 +1,6 @@
 use Rattle.std.proofs.Common.{subst}
 use Rattle.mcs_book.specs.History.{IsLegal}
-use Rattle.mcs_book.proofs.LegalFair.{legal-fair}
+use Rattle.mcs_book.proofs.Books.LegalFair.{legal-fair}
 use Rattle.mcs_kernel.proofs.kernel.Kernel.is_fair.Goals as goal
 
 pub returns-clause-taken_once : goal.returns-clause-taken_once
