@@ -13,8 +13,6 @@ pub mod Picking
 pub mod Checks
 pub mod Rights
 pub mod Lookup
-pub mod Guards
-pub mod Fits
 pub mod Paths
 pub mod Served
 pub mod Pieces

@@ -1,32 +1,26 @@
 -- What may be put into the slots that were found.
-use Rattle.std.specs.Prelude.{◌≡◌, ◌∷◌, Bool, true, false, cond, Some, None, Ok, IsTrue}
-use Rattle.std.specs.Option.{IfSome}
-use Rattle.std.proofs.Common.{refl, ap, sym, subst}
+use Rattle.std.specs.Prelude.{◌≡◌, ◌∷◌, true, Some, None, Ok, IsTrue}
+use Rattle.std.proofs.Common.{sym, subst}
 use Rattle.mcs_types.specs.declared.id.ObjId.{ObjId}
-use Rattle.mcs_types.specs.declared.id.Kind.TheVariants as kind
 use Rattle.mcs_types.specs.declared.cap.Cap.{Cap}
 use Rattle.mcs_types.specs.declared.cap.Place.{Place}
 use Rattle.mcs_types.specs.declared.record.Mode.{Mode}
 use Rattle.mcs_types.specs.declared.record.Mode.TheVariants.{Running, Restart, Inactive}
 use Rattle.mcs_types.specs.declared.record.Rec.TheVariants as rec
-use Rattle.mcs_types.specs.Ids.{same_kind}
 use Rattle.mcs_book.specs.Logs.{Log, onto}
 use Rattle.mcs_book.specs.Objects.{is_alive}
 use Rattle.mcs_book.specs.Slots.{SlotName}
 use Rattle.mcs_book.specs.Lookup.{slot_named}
-use Rattle.mcs_book.specs.Guards.{FitsGuard, FitsSlot}
 use Rattle.mcs_book.specs.Table.{wakes}
 use Rattle.mcs_book.specs.Sound.{Sound, Allowed}
-use Rattle.mcs_book.specs.Fits.{AllFit}
 use Rattle.mcs_book.proofs.Books.Checking.{OnPassed}
 use Rattle.mcs_book.proofs.Firm.Lookup.{IsSlotOf, slot_named-rooted}
 use Rattle.mcs_book.proofs.SoundLogs.KeptLaws.{slot-alive}
 use Rattle.mcs_slots.specs.declared.slots.SlotId.{SlotId}
 use Rattle.mcs_cspace.specs.Spaces.{named_by}
 use Rattle.mcs_state.specs.Entering.{IsEntering}
-use Rattle.mcs_state.proofs.SlotLaws.{slot-fits}
 use Rattle.mcs_caps.specs.declared.checks.Placing.{Placing}
-use Rattle.mcs_caps.specs.Placed.{IsSlot, IsPlaced, IsLike}
+use Rattle.mcs_caps.specs.Placed.{IsSlot, IsPlaced}
 
 -- what was named is a slot of a CNode that is there
 pub named-slot : (R : Log) (t : ObjId) (place : Place) (at : SlotId) → Sound R → IsEntering R t → slot_named R t place ≡ named_by (Ok at) → IsSlot R at
@@ -47,26 +41,13 @@ woken-alive R t Running o h = h
 woken-alive R t Restart o h = h
 woken-alive R t Inactive o h = h
 
--- a capability like the one that was found may be put into the empty slot
-pub may-fill : (R : Log) (t : ObjId) (m : Mode) (at : Placing) (cap : Cap) → Sound R → IsPlaced R at → IsLike at.cap cap → Allowed (onto (wakes m t R) R) (rec.Slot at.dest.cnode at.dest.index (Some cap))
-may-fill R t m at cap sound placed like =
+-- a capability to the object of the one that was found may be put into the empty slot
+pub may-fill : (R : Log) (t : ObjId) (m : Mode) (at : Placing) (cap : Cap) → Sound R → IsPlaced R at → cap.obj ≡ at.cap.obj → Allowed (onto (wakes m t R) R) (rec.Slot at.dest.cnode at.dest.index (Some cap))
+may-fill R t m at cap sound placed object =
     let dest = woken-slot R t m at.dest placed.dest in
     let there : is_alive R at.cap.obj ≡ true = slot-alive R at.source.cnode at.source.index at.cap sound placed.held in
-    (dest.0, dest.1, subst (λ o. IsTrue (is_alive (onto (wakes m t R) R) o)) (sym like.obj) (woken-alive R t m at.cap.obj there))
-
--- and its guard fits
-pub fits-like : (R : Log) (at : Placing) (cap : Cap) → AllFit R → IsPlaced R at → IsLike at.cap cap → FitsSlot (Some cap)
-fits-like R at cap fits placed like =
-    go (same_kind cap.obj.kind kind.CNode) (ap (λ (o : ObjId). same_kind o.kind kind.CNode) (sym like.obj)) (subst FitsSlot placed.held (slot-fits R at.source.cnode at.source.index fits))
-  where
-    go : (b : Bool) → same_kind at.cap.obj.kind kind.CNode ≡ b → FitsSlot (Some at.cap) → IfSome (cond b (Some cap) None) (λ c. FitsGuard c.guard)
-    go true is h = subst FitsGuard (sym like.guard) (subst (λ b. IfSome (cond b (Some at.cap) None) (λ c. FitsGuard c.guard)) is h)
-    go false is h = tt
+    (dest.0, dest.1, subst (λ o. IsTrue (is_alive (onto (wakes m t R) R) o)) (sym object) (woken-alive R t m at.cap.obj there))
 
 -- the source may be emptied when the destination was filled
 pub may-empty : (R : Log) (t : ObjId) (m : Mode) (at : Placing) → IsPlaced R at → Allowed (rec.Slot at.dest.cnode at.dest.index (Some at.cap) ∷ onto (wakes m t R) R) (rec.Slot at.source.cnode at.source.index None)
 may-empty R t m at placed = let source = woken-slot R t m at.source placed.source in (source.0, source.1, tt)
-
--- a capability is like itself
-pub like-self : (cap : Cap) → IsLike cap cap
-like-self cap = record { obj = refl; guard = refl }

@@ -1,7 +1,6 @@
 -- What is known of the slots that were found.
 use Rattle.std.specs.Prelude.{◌≡◌, ◌<◌, ◌^◌, Some}
 use Rattle.mcs_types.specs.declared.id.Kind.TheVariants as kind
-use Rattle.mcs_types.specs.declared.cap.Cap.{Cap}
 use Rattle.mcs_book.specs.Logs.{Log}
 use Rattle.mcs_book.specs.Objects.{form_of}
 use Rattle.mcs_book.specs.Slots.{slot}
@@ -19,8 +18,3 @@ pub record IsPlaced (R : Log) (at : Placing) : Type 0 where
   pub source : IsSlot R at.source
   pub dest : IsSlot R at.dest
   pub held : slot R at.source.cnode at.source.index ≡ Some at.cap
-
--- a capability to the same object with the same guard
-pub record IsLike (cap like : Cap) : Type 0 where
-  pub obj : like.obj ≡ cap.obj
-  pub guard : like.guard ≡ cap.guard

@@ -4,7 +4,7 @@ ghost use Rattle.mcs_types.specs.declared.entry.Entry.{Entry};
 ghost use Rattle.mcs_state.specs.Doing.{ActsAwake, FitsAwake, Does, Fits};
 ghost use Rattle.mcs_state.specs.Entering.{IsEntering};
 ghost use Rattle.mcs_state.specs.Now.{so_far};
-ghost use Rattle.mcs_caps.specs.Placed.{IsPlaced, IsLike};
+ghost use Rattle.mcs_caps.specs.Placed.{IsPlaced};
 ghost use Rattle.mcs_caps.specs.Rows.{fills_act, moves_act};
 
 use crate::checks::{Placing, find_places, with_no_badge};
@@ -13,11 +13,11 @@ use mcs_state::{State, wake};
 use mcs_types::{Answer, Badge, Cap, CoreId, ObjId, Place, Rights};
 use mcs_waiting::Waiting;
 
-/// Wakes the thread, and puts a capability like the one that was found into the empty slot.
+/// Wakes the thread, and puts a capability to the object of the one that was found into the empty slot.
 fn fill<W: Waiting>(state: &mut State<W>, thread: ObjId, at: &Placing, cap: Cap) -> Answer
     requires entering { IsEntering (so_far state.old) thread }
     requires placed { IsPlaced (so_far state.old) at.now }
-    requires like { IsLike at.now.cap cap }
+    requires object { cap.obj ≡ at.now.cap.obj }
     requires room { FitsAwake thread (fills_act at.now cap) state.old }
     ensures { ActsAwake thread (fills_act at.now cap) state.old result state.new }
 {

@@ -4,7 +4,6 @@ use Rattle.std.specs.List.{starts_with}
 use Rattle.std.specs.Cmp.Lexicographic.{pointwise, unequal}
 use Rattle.std.proofs.Common.{refl, ap, sym, ◌∙◌, arith}
 use Rattle.std.proofs.lemmas.Grind.{common_steps}
-use Rattle.std.proofs.Math.Nat.{mod-eq_of_lt}
 use Rattle.mcs_types.specs.declared.cap.Cap.{Cap}
 use Rattle.mcs_types.specs.declared.entry.Refusal.TheVariants.{DepthMismatch, GuardMismatch}
 use Rattle.mcs_book.specs.Checks.{Checked, ◌>>=◌, ◌>>◌, need}
@@ -42,19 +41,17 @@ starts-short g n a v short =
         omega (arith, e, size, all, few, fewer)
 
 -- else they do exactly where the numbers are the same
-starts-long : (g n a v : ℕ) → nat_le g n ≡ true → v < 2 ^ g → starts_with same_bit (bits_of n a) (bits_of g v) ≡ (a / 2 ^ (n - g) % 2 ^ g == v)
-starts-long g n a v long hv =
+starts-long : (g n a v : ℕ) → nat_le g n ≡ true → starts_with same_bit (bits_of n a) (bits_of g v) ≡ (a / 2 ^ (n - g) % 2 ^ g == v % 2 ^ g)
+starts-long g n a v long =
     let whole : n ≡ g + (n - g) = grind (arith, common_steps, long) in
     ap (λ k. pointwise same_bit (bits_of g v) (take k (bits_of n a))) (length-bits g v)
     ∙ starts-bits g (n - g) n a v whole
-    ∙ ap (λ x. x == a / 2 ^ (n - g) % 2 ^ g) (mod-eq_of_lt hv)
-    ∙ same-test v (a / 2 ^ (n - g) % 2 ^ g) (a / 2 ^ (n - g) % 2 ^ g) v (λ e. sym e) (λ e. sym e)
+    ∙ same-test (v % 2 ^ g) (a / 2 ^ (n - g) % 2 ^ g) (a / 2 ^ (n - g) % 2 ^ g) (v % 2 ^ g) (λ e. sym e) (λ e. sym e)
 
 -- the law: one level by bits is one level by numbers
-pub level-is : (S : Space) (cap : Cap) (n a : ℕ) → cap.guard.value < 2 ^ cap.guard.bits
-    → level S cap (bits_of n a) ≡ (level_at cap.guard (S.radix cap.obj) n a >>= λ s. Ok (reached cap a s))
+pub level-is : (S : Space) (cap : Cap) (n a : ℕ) → level S cap (bits_of n a) ≡ (level_at cap.guard (S.radix cap.obj) n a >>= λ s. Ok (reached cap a s))
 unfolding level level_at ◌>>=◌ ◌>>◌ need
-level-is S cap n a hv = go (nat_le g n) refl
+level-is S cap n a = go (nat_le g n) refl
   where
     g : ℕ
     g = cap.guard.bits
@@ -104,8 +101,8 @@ level-is S cap n a hv = go (nat_le g n) refl
     ends true false h = refl
     ends false d h = refl
 
-    go : (b : Bool) → nat_le g n ≡ b → checks (starts_with same_bit (bits_of n a) (bits_of g v)) after (length after) ≡ (tests b (a / 2 ^ m % 2 ^ g == v) (nat_le radix m) >>= λ s. Ok (reached cap a s))
+    go : (b : Bool) → nat_le g n ≡ b → checks (starts_with same_bit (bits_of n a) (bits_of g v)) after (length after) ≡ (tests b (a / 2 ^ m % 2 ^ g == v % 2 ^ g) (nat_le radix m) >>= λ s. Ok (reached cap a s))
     go true e =
-        (λ i. checks (starts-long g n a v e hv i) (after-is e i) ((ap (λ bits. length bits) (after-is e) ∙ length-bits m a) i))
-        ∙ ends (a / 2 ^ m % 2 ^ g == v) (nat_le radix m) same
+        (λ i. checks (starts-long g n a v e i) (after-is e i) ((ap (λ bits. length bits) (after-is e) ∙ length-bits m a) i))
+        ∙ ends (a / 2 ^ m % 2 ^ g == v % 2 ^ g) (nat_le radix m) same
     go false e = ap (λ b. checks b after (length after)) (starts-short g n a v e)

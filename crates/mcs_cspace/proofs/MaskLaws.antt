@@ -1,4 +1,4 @@
--- The next bits of a word by a shift and a mask.
+-- The low bits of a word by a mask, and what is in front of others.
 use Rattle.std.specs.Prelude.{ℕ, ◌≡◌, ◌<◌, ◌≤◌, ◌-◌, ◌*◌, ◌/◌, ◌%◌, ◌^◌, bit_and}
 use Rattle.std.proofs.Common.{ap, ◌∙◌, sym, arith}
 use Rattle.std.proofs.lemmas.Nat.{and_mask}
@@ -14,9 +14,9 @@ mask-is count le =
     let small : 2 ^ count % 18446744073709551616 ≡ 2 ^ count = mod-eq_of_lt lt in
     ap (λ x. x % 18446744073709551616 - 1) one ∙ ap (λ x. x - 1) small
 
--- what is in front of the low bits, masked
-pub bits-masked : (front word below count : ℕ) → front ≡ word / 2 ^ below → count ≤ 63 → bit_and front (1 * 2 ^ count % 18446744073709551616 - 1) ≡ word / 2 ^ below % 2 ^ count
-bits-masked front word below count is le = ap (λ m. bit_and front m) (mask-is count le) ∙ and_mask front count ∙ ap (λ x. x % 2 ^ count) is
+-- the low bits of a word by a mask
+pub low-masked : (word count : ℕ) → count ≤ 63 → bit_and word (1 * 2 ^ count % 18446744073709551616 - 1) ≡ word % 2 ^ count
+low-masked word count le = ap (λ m. bit_and word m) (mask-is count le) ∙ and_mask word count
 
 -- nothing is in front of 64 bits
 pub none-in_front : (word below : ℕ) → word < 2 ^ 64 → below ≤ 64 → 64 ≤ below → 0 ≡ word / 2 ^ below

@@ -1,5 +1,5 @@
 -- Lookup by numbers, a level at a time, is lookup by bits.
-use Rattle.std.specs.Prelude.{ℕ, zero, suc, ◌≡◌, ◌<◌, ◌^◌, ◌==◌, Bool, true, false, cond, Option, Some, None, Ok, Err}
+use Rattle.std.specs.Prelude.{ℕ, zero, suc, ◌≡◌, ◌==◌, cond, Option, Some, None, Ok, Err}
 use Rattle.std.proofs.Common.{refl, ap, sym, ◌∙◌, arith}
 use Rattle.mcs_types.specs.declared.cap.Cap.{Cap}
 use Rattle.mcs_types.specs.declared.entry.Refusal.{Refusal}
@@ -28,33 +28,25 @@ on : ℕ → Space → Reached → Option Cap → Checked Reached
 on steps S at o = elim o [ None ↦ Ok at | Some next ↦ walk steps S next at.left ]
 
 -- what follows a level by numbers
-step : (steps : ℕ) (S : Space) (cap : Cap) (n a : ℕ) (m : Checked Step) → cap.guard.value < 2 ^ cap.guard.bits → level_at cap.guard (S.radix cap.obj) n a ≡ m
+step : (steps : ℕ) (S : Space) (cap : Cap) (n a : ℕ) (m : Checked Step) → level_at cap.guard (S.radix cap.obj) n a ≡ m
     → walk (suc steps) S cap (bits_of n a) ≡ ((m >>= λ s. Ok (reached cap a s)) >>= λ at. on steps S at (goes_on S at))
 unfolding on ◌>>=◌
-step steps S cap n a m fits is = ap (λ k. k >>= λ at. on steps S at (goes_on S at)) (level-is S cap n a fits ∙ ap (λ k. k >>= λ s. Ok (reached cap a s)) is)
+step steps S cap n a m is = ap (λ k. k >>= λ at. on steps S at (goes_on S at)) (level-is S cap n a ∙ ap (λ k. k >>= λ s. Ok (reached cap a s)) is)
 
 -- a level that is refused
-pub step-refused : (steps : ℕ) (S : Space) (cap : Cap) (n a : ℕ) (why : Refusal) → cap.guard.value < 2 ^ cap.guard.bits → level_at cap.guard (S.radix cap.obj) n a ≡ Err why
+pub step-refused : (steps : ℕ) (S : Space) (cap : Cap) (n a : ℕ) (why : Refusal) → level_at cap.guard (S.radix cap.obj) n a ≡ Err why
     → walk (suc steps) S cap (bits_of n a) ≡ Err why
 unfolding ◌>>=◌
-step-refused steps S cap n a why fits is = step steps S cap n a (Err why) fits is
+step-refused steps S cap n a why is = step steps S cap n a (Err why) is
 
 -- a level at which lookup ends
-pub step-ends : (steps : ℕ) (S : Space) (cap : Cap) (n a : ℕ) (s : Step) → cap.guard.value < 2 ^ cap.guard.bits → level_at cap.guard (S.radix cap.obj) n a ≡ Ok s
+pub step-ends : (steps : ℕ) (S : Space) (cap : Cap) (n a : ℕ) (s : Step) → level_at cap.guard (S.radix cap.obj) n a ≡ Ok s
     → next_of S cap s ≡ None → walk (suc steps) S cap (bits_of n a) ≡ Ok (reached cap a s)
 unfolding on ◌>>=◌
-step-ends steps S cap n a s fits is none = step steps S cap n a (Ok s) fits is ∙ ap (on steps S (reached cap a s)) (goes-is S cap a s ∙ none)
+step-ends steps S cap n a s is none = step steps S cap n a (Ok s) is ∙ ap (on steps S (reached cap a s)) (goes-is S cap a s ∙ none)
 
 -- a level after which it goes on
-pub step-on : (steps : ℕ) (S : Space) (cap next : Cap) (n a : ℕ) (s : Step) → cap.guard.value < 2 ^ cap.guard.bits → level_at cap.guard (S.radix cap.obj) n a ≡ Ok s
+pub step-on : (steps : ℕ) (S : Space) (cap next : Cap) (n a : ℕ) (s : Step) → level_at cap.guard (S.radix cap.obj) n a ≡ Ok s
     → next_of S cap s ≡ Some next → walk (suc steps) S cap (bits_of n a) ≡ walk steps S next (bits_of s.left a)
 unfolding on ◌>>=◌
-step-on steps S cap next n a s fits is some = step steps S cap n a (Ok s) fits is ∙ ap (on steps S (reached cap a s)) (goes-is S cap a s ∙ some)
-
--- where it goes on, the slot holds the capability
-pub next-held : (S : Space) (cap next : Cap) (s : Step) → next_of S cap s ≡ Some next → cnode_cap (S.slot cap.obj s.index) ≡ Some next
-next-held S cap next s h = go (s.left == 0) h
-  where
-    go : (b : Bool) → cond b None (cnode_cap (S.slot cap.obj s.index)) ≡ Some next → cnode_cap (S.slot cap.obj s.index) ≡ Some next
-    go true e = absurd cc
-    go false e = e
+step-on steps S cap next n a s is some = step steps S cap n a (Ok s) is ∙ ap (on steps S (reached cap a s)) (goes-is S cap a s ∙ some)

@@ -5,11 +5,11 @@ use Rattle.mcs_types.specs.declared.entry.Refusal.TheVariants.{DepthMismatch, Gu
 use Rattle.mcs_book.specs.Checks.{Checked}
 use Rattle.mcs_cspace.specs.declared.levels.Step.{Step}
 
--- where n bits of a are left: the first of these are the guard, the next the index, and the others are left
+-- where n bits of a are left: the first of these are the guard's low bits, the next the index, and the others are left
 unfoldable pub level_at : Guard → ℕ → ℕ → ℕ → Checked Step
 level_at guard radix n a =
     cond (nat_le guard.bits n)
-    (cond (a / 2 ^ (n - guard.bits) % 2 ^ guard.bits == guard.value)
+    (cond (a / 2 ^ (n - guard.bits) % 2 ^ guard.bits == guard.value % 2 ^ guard.bits)
     (cond (nat_le radix (n - guard.bits)) (Ok (record { index = a / 2 ^ (n - guard.bits - radix) % 2 ^ radix; left = n - guard.bits - radix })) (Err DepthMismatch))
     (Err GuardMismatch))
     (Err GuardMismatch)

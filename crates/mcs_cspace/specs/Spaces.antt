@@ -1,6 +1,5 @@
 -- The capability space of the slots of all CNodes (manual: Capability Spaces).
-use Rattle.std.specs.Prelude.{ℕ, ◌≡◌, ◌==◌, cond, List, Option, Some, None, Result, Ok, Err, unwrap_or}
-use Rattle.mcs_types.specs.declared.id.ObjId.{ObjId}
+use Rattle.std.specs.Prelude.{ℕ, ◌<◌, ◌^◌, ◌==◌, ◌↔◌, cond, List, Option, None, IsSome, Result, Ok, Err, unwrap_or}
 use Rattle.mcs_types.specs.declared.cap.Cap.{Cap}
 use Rattle.mcs_types.specs.declared.cap.Place.{Place}
 use Rattle.mcs_types.specs.declared.entry.Refusal.{Refusal}
@@ -8,18 +7,21 @@ use Rattle.mcs_book.specs.Checks.{Checked}
 use Rattle.mcs_book.specs.Slots.{SlotName}
 use Rattle.mcs_book.specs.Lookup.{Space, Reached, bits_of, cnode_cap, walk}
 use Rattle.mcs_book.specs.LookupEnds.{IsSlotNamedFrom, IsSlotUnnamedFrom}
-use Rattle.mcs_book.specs.Guards.{FitsGuard}
 use Rattle.mcs_slots.specs.declared.slots.SlotId.{SlotId}
-use Rattle.mcs_slots.specs.Pages.{Page, radix_of, slot_at}
+use Rattle.mcs_slots.specs.Pages.{Page, HasSlot, radix_of, slot_at}
 use Rattle.mcs_cspace.specs.declared.paths.End.{End}
 
 -- the space of slots: a CNode that is not there has a radix of 0, and empty slots
 abbrev pub slots_space : List Page → Space
 slots_space P = record { radix = λ c. unwrap_or (radix_of P c) 0; slot = slot_at P }
 
--- so of each capability to a CNode that a slot holds
-abbrev pub GuardsFit : List Page → Type 0
-GuardsFit P = (c : ObjId) (i : ℕ) (cap : Cap) → cnode_cap (slot_at P c i) ≡ Some cap → FitsGuard cap.guard
+-- the index of a slot is below 2 to the radix of its CNode
+abbrev pub IsWithin : List Page → SlotId → Type 0
+IsWithin P at = at.index < 2 ^ (slots_space P).radix at.cnode
+
+-- a slot is there exactly where its CNode is
+abbrev pub IsThereWithCNode : List Page → SlotId → Type 0
+IsThereWithCNode P at = HasSlot P at ↔ IsSome (radix_of P at.cnode)
 
 -- the CNode at which lookup goes on: bits are left, and the slot holds a capability to it
 abbrev pub next_at : List Page → SlotId → ℕ → Option Cap

@@ -11,29 +11,42 @@ pub(crate) struct Step {
     pub(crate) left: u32,
 }
 
+/// The low `count` bits of a word.
+fn low_bits(word: u64, count: u32) -> u64
+    requires { count ≤ 64 }
+    ensures value { result ≡ word % 2 ^ count }
+    ensures small { result < 2 ^ count }
+{
+    if count == 64 {
+        return word;
+    }
+    let mask = (1u64 << count) - 1;
+    word & mask
+}
+
 /// The next `count` bits of a word, of which the low `below` come later.
 fn bits_at(word: u64, below: u32, count: u32) -> u64
     requires within { below ≤ 64 }
-    requires few { count ≤ 63 }
+    requires few { count ≤ 64 }
     ensures value { result ≡ word / 2 ^ below % 2 ^ count }
     ensures small { result < 2 ^ count }
 {
     let front = if below < 64 { word >> below } else { 0 };
-    let mask = (1u64 << count) - 1;
-    front & mask
+    low_bits(front, count)
 }
 
-/// One level by numbers: where `left` bits of the address are left, the first of these are the guard, and the next the index.
+/// One level by numbers: where `left` bits of the address are left, the first of these are the guard, and the next the index. Of a
+/// guard's value its low bits count, as many as the guard has.
 #[tactic(auto, unfolding(crate::specs::Levels::level_at))]
 pub(crate) fn level(guard: Guard, radix: u8, left: u32, address: u64) -> Result<Step, Refusal>
     requires within { left ≤ 64 }
-    requires guard { guard.bits ≤ 63 }
     requires radix { radix ≤ 8 }
     ensures step { result ≡ level_at guard radix left address }
     ensures fewer { IfOk result (λ s. s.left ≤ left) }
+    ensures within { IfOk result (λ s. s.index < 2 ^ radix) }
 {
     let size = guard.bits as u32;
-    if size > left || bits_at(address, left - size, size) != guard.value {
+    if size > left || bits_at(address, left - size, size) != low_bits(guard.value, size) {
         return Err(Refusal::GuardMismatch);
     }
     let after = left - size;

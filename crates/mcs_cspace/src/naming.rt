@@ -1,13 +1,12 @@
 //! Lookup of a capability by an address, and of a slot by an index and a depth.
 ghost use Rattle.std.specs.Prelude.{◌≡◌, ◌==◌, cond, IfOk, IfErr, Ok, Err};
-ghost use Rattle.mcs_book.specs.Guards.{FitsGuard};
 ghost use Rattle.mcs_book.specs.Lookup.{capability_from, slot_from, is_depth};
 ghost use Rattle.mcs_types.specs.declared.entry.Refusal.TheVariants.{Missing, DepthMismatch};
 ghost use Rattle.mcs_book.specs.Checks.{needed};
 ghost use Rattle.mcs_book.specs.Paths.{IsNamedFrom};
 ghost use Rattle.mcs_book.specs.LookupEnds.{IsUnnamedFrom};
 ghost use Rattle.mcs_slots.specs.Pages.{slot_at};
-ghost use Rattle.mcs_cspace.specs.Spaces.{slots_space, GuardsFit, EndsAt, EndsNowhere, named_by};
+ghost use Rattle.mcs_cspace.specs.Spaces.{slots_space, IsWithin, IsThereWithCNode, EndsAt, EndsNowhere, named_by};
 
 use crate::paths::{End, find};
 use mcs_slots::{SlotId, Slots};
@@ -42,8 +41,6 @@ pub fn in_range(depth: u8) -> bool
 }
 
 fn cap_from(slots: &Slots, root: Cap, address: u64) -> Result<Cap, Refusal>
-    requires root { FitsGuard root.guard }
-    requires inner { GuardsFit slots.now }
     ensures { result ≡ capability_from (slots_space slots.now) root address }
 {
     match find(slots, root, 64, address) {
@@ -53,9 +50,8 @@ fn cap_from(slots: &Slots, root: Cap, address: u64) -> Result<Cap, Refusal>
 }
 
 fn place_from(slots: &Slots, root: Cap, place: Place) -> Result<SlotId, Refusal>
-    requires root { FitsGuard root.guard }
-    requires inner { GuardsFit slots.now }
-    ensures { named_by result ≡ slot_from (slots_space slots.now) root place }
+    ensures value { named_by result ≡ slot_from (slots_space slots.now) root place }
+    ensures within { IfOk result (IsWithin slots.now) }
 {
     if !in_range(place.depth) {
         return Err(Refusal::Range);
@@ -68,10 +64,9 @@ fn place_from(slots: &Slots, root: Cap, place: Place) -> Result<SlotId, Refusal>
 
 /// The capability that an address of 64 bits names from a root (manual: Capability Spaces). It stands in the slot at the end of
 /// the complete path; refused with Missing where that slot is empty, and else as the longest path says: GuardMismatch, or
-/// DepthMismatch.
+/// DepthMismatch. Any root may be given: of a guard's value the low bits count, as many as the guard has, and a CNode that is not
+/// there has a radix of 0 and empty slots (own).
 pub fn lookup(slots: &Slots, root: Cap, address: u64) -> Result<Cap, Refusal>
-    requires root { FitsGuard root.guard }
-    requires inner { GuardsFit slots.now }
     ensures value { result ≡ capability_from (slots_space slots.now) root address }
     ensures named { IfOk result (λ cap. IsNamedFrom (slots_space slots.now) root address cap) }
     ensures unnamed { IfErr result (λ why. IsUnnamedFrom (slots_space slots.now) root address why) }
@@ -82,12 +77,13 @@ pub fn lookup(slots: &Slots, root: Cap, address: u64) -> Result<Cap, Refusal>
 
 /// The slot that an index and a depth name from a root (manual: Capability Spaces). Refused with Range for a depth of 0 or
 /// above 64, which comes first, with DepthMismatch where bits are left at the path's end, and else as the longest path says.
+/// Any root may be given, as for `lookup`. So the slot is there exactly where its CNode is: each slot on the way is below 2 to the
+/// radix of its CNode, and a path may end at index 0 of a CNode that is not there (own).
 pub fn lookup_slot(slots: &Slots, root: Cap, place: Place) -> Result<SlotId, Refusal>
-    requires root { FitsGuard root.guard }
-    requires inner { GuardsFit slots.now }
     ensures value { named_by result ≡ slot_from (slots_space slots.now) root place }
     ensures named { IfOk result (EndsAt slots.now root place) }
     ensures unnamed { IfErr result (EndsNowhere slots.now root place) }
+    ensures there { IfOk result (IsThereWithCNode slots.now) }
 {
     slots.are_pages();
     place_from(slots, root, place)

@@ -1,8 +1,7 @@
 //! The way from a root to the slot at the end of the path that an address spells.
-ghost use Rattle.std.specs.Prelude.{◌≡◌, ◌≤◌};
-ghost use Rattle.mcs_book.specs.Guards.{FitsGuard};
+ghost use Rattle.std.specs.Prelude.{◌≡◌, ◌≤◌, IfOk};
 ghost use Rattle.mcs_book.specs.Lookup.{cnode_cap};
-ghost use Rattle.mcs_cspace.specs.Spaces.{slots_space, GuardsFit, next_at, walk_from, walked_by};
+ghost use Rattle.mcs_cspace.specs.Spaces.{slots_space, IsWithin, next_at, walk_from, walked_by};
 
 use crate::levels::level;
 use mcs_slots::{SlotId, Slots};
@@ -46,10 +45,9 @@ fn next_in(slots: &Slots, slot: SlotId, left: u32) -> Option<Cap>
 
 /// The slot at the end of the path from a root that spells the low `depth` bits of an address, and how many of them are left.
 pub(crate) fn find(slots: &Slots, root: Cap, depth: u32, address: u64) -> Result<End, Refusal>
-    requires within { depth ≤ 64 }
-    requires root { FitsGuard root.guard }
-    requires inner { GuardsFit slots.now }
-    ensures { walked_by address result ≡ walk_from slots.now root depth address }
+    requires { depth ≤ 64 }
+    ensures value { walked_by address result ≡ walk_from slots.now root depth address }
+    ensures within { IfOk result (λ end. IsWithin slots.now end.slot) }
 {
     let mut cap = root;
     let mut left = depth;

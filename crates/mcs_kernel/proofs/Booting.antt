@@ -1,5 +1,5 @@
 -- What the checks of a line of the boot say of the log.
-use Rattle.std.specs.Prelude.{ℕ, suc, ◌≡◌, ◌<◌, ◌≤◌, ◌+◌, ◌^◌, ◌||◌, Bool, true, false, cond, not, nat_lt, nat_le, List, [], ◌∷◌, ◌++◌, length, Option, Some, None, Err, IsTrue, is_ok, is_none, is_some, unwrap_or, reverse}
+use Rattle.std.specs.Prelude.{ℕ, suc, ◌≡◌, ◌<◌, ◌≤◌, ◌+◌, ◌||◌, Bool, true, false, cond, not, nat_lt, List, [], ◌∷◌, ◌++◌, length, Option, Some, None, Err, IsTrue, is_ok, is_none, is_some, unwrap_or, reverse}
 use Rattle.std.specs.Option.{IfSome}
 use Rattle.std.proofs.lemmas.Grind.{common_steps}
 use Rattle.std.specs.Prelude.{take, drop, get_or}
@@ -8,7 +8,6 @@ use Rattle.std.proofs.Common.{refl, ap, sym, ◌∙◌, subst, arith, inl, inr}
 use Rattle.mcs_types.specs.declared.id.ObjId.{ObjId}
 use Rattle.mcs_types.specs.declared.id.Kind.{Kind}
 use Rattle.mcs_types.specs.declared.id.Kind.TheVariants as kind
-use Rattle.mcs_types.specs.declared.cap.Cap.{Cap}
 use Rattle.mcs_types.specs.declared.boot.BootLine.{BootLine}
 use Rattle.mcs_types.specs.declared.boot.BootFault.TheVariants as fault
 use Rattle.mcs_types.specs.declared.record.Form.{Form}
@@ -20,10 +19,8 @@ use Rattle.mcs_book.specs.Objects.{made_of, makes_kind, was_made, is_alive, numb
 use Rattle.mcs_book.specs.Queues.{queue_of}
 use Rattle.mcs_book.specs.Contexts.{holder_of}
 use Rattle.mcs_book.specs.Checks.{◌>>◌, need}
-use Rattle.mcs_book.specs.Boots.{is_object, has_numbers, has_objects, has_room, is_free, boot_check, boot_log, is_context_any, fits_guard, fits_kind, AreFaultless}
+use Rattle.mcs_book.specs.Boots.{is_object, has_numbers, has_objects, has_room, is_free, boot_check, boot_log, is_context_any, AreFaultless}
 use Rattle.mcs_kernel.proofs.ServedLaws.{boot-open, plain-served, served-boot}
-use Rattle.mcs_book.specs.Guards.{FitsGuard, FitsSlot}
-use Rattle.mcs_types.specs.declared.cap.Guard.{Guard}
 use Rattle.mcs_book.specs.History.{Line, past}
 use Rattle.mcs_book.proofs.Objects.MadeLaws.{made-serial}
 use Rattle.mcs_state.specs.Now.{Now, so_far}
@@ -200,26 +197,6 @@ pub has-room : (R : Log) (k : Kind) → IsBooting R → nat_lt (number_of R k) o
 has-room R k boots h =
     let made = few-made R k object_limit boots h in
     record { few = grind (arith, common_steps, h); fresh = omega (arith, made) }
-
--- a guard that passes its test fits
-pub fits-test : (g : Guard) → fits_guard g ≡ true → FitsGuard g
-fits-test g h =
-    let p : (nat_le g.bits 63 ≡ true) × (nat_lt g.value (2 ^ g.bits) ≡ true) = parts _ _ h in
-    let bits = p.0 in
-    let value = p.1 in
-    (grind (arith, common_steps, bits), grind (arith, common_steps, value))
-
--- so does that of a capability whose numbers fit its kind
-pub fits-slot : (cap : Cap) → fits_kind cap.obj.kind cap ≡ true → FitsSlot (Some cap)
-fits-slot cap h = go cap.obj.kind refl h
-  where
-    go : (k : Kind) → cap.obj.kind ≡ k → fits_kind k cap ≡ true → FitsSlot (Some cap)
-    go kind.CNode e f = rw e (fits-test cap.guard (parts _ _ f).1)
-    go kind.Thread e f = rw e tt
-    go kind.Endpoint e f = rw e tt
-    go kind.Notification e f = rw e tt
-    go kind.Reply e f = rw e tt
-    go kind.Context e f = rw e tt
 
 -- a context that a line names may be given to the thread that the line makes
 pub gives-allowed : (R : Log) (form : Form) (p : Prio) (mode : Mode) (context : Option ObjId) → Sound R → IsBooting R → is_context_any R context ≡ true

@@ -1,14 +1,12 @@
 -- What the tables answer is what the definitions say.
-use Rattle.std.specs.Prelude.{ℕ, ◌≡◌, ◌≢◌, ◌≤◌, ◌+◌, ◌-◌, ◌&&◌, ◌||◌, not, Bool, true, false, cond, List, [], ◌∷◌, length, suc, nat_le, Ok, Option, Some, None, option_and_then, unwrap_or}
-use Rattle.std.proofs.Common.{refl, ap, sym, ◌∙◌, subst, arith}
+use Rattle.std.specs.Prelude.{ℕ, ◌≡◌, ◌≢◌, ◌≤◌, ◌+◌, ◌-◌, ◌&&◌, ◌||◌, not, Bool, true, false, cond, List, [], ◌∷◌, length, suc, nat_le, Ok, Option, Some, None, option_and_then}
+use Rattle.std.proofs.Common.{refl, ap, sym, ◌∙◌, arith}
 use Rattle.std.proofs.lemmas.Grind.{common_steps}
 use Rattle.std.proofs.lemmas.Bool.{eq-eqb}
 use Rattle.mcs_types.specs.declared.id.ObjId.{ObjId}
 use Rattle.mcs_types.specs.declared.id.Kind.TheVariants as kind
 use Rattle.mcs_types.specs.declared.cap.Cap.{Cap}
 use Rattle.mcs_types.specs.declared.cap.Place.{Place}
-use Rattle.mcs_types.specs.declared.record.Form.{Form}
-use Rattle.mcs_types.specs.declared.record.Form.TheVariants as form
 use Rattle.mcs_types.specs.declared.record.Letter.{Letter}
 use Rattle.mcs_types.specs.declared.record.Mode.{Mode}
 use Rattle.mcs_types.specs.declared.record.Mode.TheVariants as mode
@@ -18,8 +16,8 @@ use Rattle.mcs_types.specs.declared.record.Status.TheVariants as status
 use Rattle.mcs_types.specs.declared.entry.Refusal.TheVariants.{DepthMismatch, Range}
 use Rattle.mcs_types.specs.Ids.{same, same_kind, place_of, IsThread}
 use Rattle.mcs_types.proofs.Ids.{same_kind-equal, same_kind-self}
-use Rattle.mcs_book.specs.Logs.{Log, given, counted}
-use Rattle.mcs_book.specs.Objects.{makes_kind, was_made, was_closed, form_of}
+use Rattle.mcs_book.specs.Logs.{Log, counted}
+use Rattle.mcs_book.specs.Objects.{makes_kind, was_made, was_closed}
 use Rattle.mcs_book.specs.Threads.{mode_of, root_of, root_kept}
 use Rattle.mcs_book.specs.Queues.{queue_of, reply_with, first_in, head_of}
 use Rattle.mcs_book.specs.Replies.{owing}
@@ -29,8 +27,6 @@ use Rattle.mcs_book.specs.Growing.{Waiter, growing_queue, growing_open, threads_
 use Rattle.mcs_book.specs.Checks.{Checked, ◌>>=◌, ◌>>◌, need, needed}
 use Rattle.mcs_book.specs.Slots.{SlotName}
 use Rattle.mcs_book.specs.Lookup.{space_of, bits_of, is_none_left, is_depth, walk, capability_from, capability, slot_from, slot_named}
-use Rattle.mcs_book.specs.Guards.{FitsGuard}
-use Rattle.mcs_book.specs.Fits.{AllFit, FitsForm}
 use Rattle.mcs_book.specs.Sound.{Sound, IsThere}
 use Rattle.mcs_book.proofs.Objects.MadeLaws.{alive-made, made-serial}
 use Rattle.mcs_book.proofs.SoundLogs.KeptLaws.{standing-thread}
@@ -149,29 +145,6 @@ status-closed R t sound is made none =
 pub status-none : (R : Log) (t : ObjId) (b c : Bool) → same_kind t.kind kind.Thread ≡ b → was_made R t ≡ c → (b && c) ≡ false → status_of R t ≡ None
 unfolding status_of
 status-none R t b c e f none = rw (e, f, none) refl
-
--- a form that was given fits
-fits-form : (R : Log) (o : ObjId) (f : Form) → AllFit R → form_of R o ≡ Some f → FitsForm f
-fits-form [] o f h e = absurd cc
-fits-form (rec.Made u g ∷ R) o f h e = go (same o u) e (fits-form R o f h.1)
-  where
-    go : (b : Bool) → unwrap_or (given b (Some g)) (form_of R o) ≡ Some f → (form_of R o ≡ Some f → FitsForm f) → FitsForm f
-    go true k later = let it : g ≡ f = cc in subst FitsForm it h.0
-    go false k later = later k
-fits-form (_ ∷ R) o f h e = fits-form R o f h.1 e
-
--- the guard of a thread's root fits
-pub root-fits : (R : Log) (t : ObjId) (root : Cap) → AllFit R → root_of R t ≡ Some root → FitsGuard root.guard
-root-fits R t root fits is = go (form_of R t) refl is
-  where
-    go : (o : Option Form) → form_of R t ≡ o → option_and_then root_kept o ≡ Some root → FitsGuard root.guard
-    go (Some (form.Runner maximum own)) e k =
-        let it : own ≡ root = cc in
-        subst (λ (r : Cap). FitsGuard r.guard) it (fits-form R t (form.Runner maximum own) fits e)
-    go None e k = absurd cc
-    go (Some form.Plain) e k = absurd cc
-    go (Some (form.Slots radix)) e k = absurd cc
-    go (Some (form.OnCore core)) e k = absurd cc
 
 -- a thread with a root finds what its root finds
 pub capability-is : (R : Log) (P : List Page) (t : ObjId) (root : Cap) (a : ℕ) → SlotsAgree P R → root_of R t ≡ Some root → capability R t a ≡ capability_from (slots_space P) root a

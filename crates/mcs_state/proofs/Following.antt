@@ -8,7 +8,6 @@ use Rattle.mcs_types.specs.declared.id.Kind.{Kind}
 use Rattle.mcs_types.specs.declared.record.Form.{Form}
 use Rattle.mcs_book.specs.Logs.{Log}
 use Rattle.mcs_book.specs.Objects.{next_id}
-use Rattle.mcs_book.specs.Fits.{FitsRecord}
 use Rattle.mcs_book.specs.Sound.{Allowed}
 use Rattle.mcs_state.specs.Now.{Now, so_far}
 use Rattle.mcs_state.specs.Tables.{HAND, Tables, IsKept, SentAgrees}
@@ -38,12 +37,11 @@ sent-follows (rec.Sent x e mode badge message) sent sent' lines hand R h a = rec
 sent-follows _ sent sent' lines hand R h a = rw h (record { all = a.all; few = a.few })
 
 -- after any record
-pub follows : (r : Rec) (T T' : Tables) (lines : ℕ) (items items' : List Rec) (B : Log) → items' ≡ items ++ r ∷ [] → length (reverse items) < HAND → Allowed (reverse items ++ B) r → FitsRecord (reverse items ++ B) r → Follows (reverse items ++ B) r T T'
+pub follows : (r : Rec) (T T' : Tables) (lines : ℕ) (items items' : List Rec) (B : Log) → items' ≡ items ++ r ∷ [] → length (reverse items) < HAND → Allowed (reverse items ++ B) r → Follows (reverse items ++ B) r T T'
     → IsKept T lines (reverse items) (reverse items ++ B) → IsKept T' lines (reverse items') (reverse items' ++ B)
-follows r T T' lines items items' B noted room ok fits f a = rw (noted, reverse-append) (record {
+follows r T T' lines items items' B noted room ok f a = rw (noted, reverse-append) (record {
   few = omega (arith, room);
   sound = (ok, a.sound);
-  fits = (fits, a.fits);
   threads = threads-follow r (reverse items ++ B) T.threads T'.threads a.sound ok f.threads a.threads;
   letters = letters-follow r (reverse items ++ B) T.letters T'.letters a.sound ok f.letters a.letters;
   contexts = contexts-follow r (reverse items ++ B) T.contexts T'.contexts a.sound ok f.contexts a.contexts;

@@ -76,7 +76,6 @@ pub blank-kept : (T : Tables) (R : Log) → R ≡ [] → AreBlank T → IsKept T
 blank-kept T R none b = rw none (record {
   few = omega arith;
   sound = tt;
-  fits = tt;
   threads = record { made = b.threads; rows = b.rows; mails = λ t. b.mails t ∙ sym (mails-none t) };
   letters = record { places = b.places; letters = b.letters };
   contexts = record { shape = b.contexts; cores = b.cores; holders = b.holders };
@@ -91,7 +90,6 @@ pub moved-kept : {T : Tables} {lines : ℕ} {hand R : Log} (lines' : ℕ) (R' : 
 moved-kept lines' R' e few a = rw e (record {
   few = omega arith;
   sound = a.sound;
-  fits = a.fits;
   threads = a.threads;
   letters = a.letters;
   contexts = a.contexts;

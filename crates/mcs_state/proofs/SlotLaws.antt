@@ -1,6 +1,5 @@
 -- The pages of the CNodes follow a record, and the capability space that they are.
 use Rattle.std.specs.Prelude.{ℕ, zero, suc, ◌≡◌, ◌<◌, ◌+◌, ◌-◌, ◌^◌, ◌==◌, ◌&&◌, Bool, true, false, cond, List, [], ◌∷◌, ◌++◌, length, Option, Some, None, unwrap_or, slice_get}
-use Rattle.std.specs.Option.{IfSome}
 use Rattle.std.proofs.Common.{refl, ap, sym, ◌∙◌, subst, arith}
 use Rattle.std.proofs.lemmas.Grind.{common_steps}
 use Rattle.std.proofs.lemmas.List.{length-append}
@@ -16,10 +15,8 @@ use Rattle.mcs_types.specs.Ids.{same, same_kind}
 use Rattle.mcs_book.specs.Logs.{Log, counted, given}
 use Rattle.mcs_book.specs.Objects.{makes_kind, next_id, form_of}
 use Rattle.mcs_book.specs.Slots.{slot}
-use Rattle.mcs_book.specs.Lookup.{space_of, radix_kept, cnode_cap}
-use Rattle.mcs_book.specs.Guards.{FitsGuard, FitsSlot}
+use Rattle.mcs_book.specs.Lookup.{space_of, radix_kept}
 use Rattle.mcs_book.specs.Sound.{Sound, Allowed, IsThere, IsFormOf}
-use Rattle.mcs_book.specs.Fits.{AllFit}
 use Rattle.mcs_types.proofs.Ids.{same-equal}
 use Rattle.mcs_book.proofs.Objects.MadeLaws.{alive-made, made-serial}
 use Rattle.mcs_slots.specs.declared.slots.SlotId.{SlotId}
@@ -28,7 +25,7 @@ use Rattle.mcs_slots.specs.Pages.{Page, ArePages, HasSlot, empty_page, page_of, 
 use Rattle.mcs_slots.specs.Filling.{filled}
 use Rattle.mcs_slots.proofs.SlotLaws.{slot_at-filled, radix_of-filled, length-fills}
 use Rattle.mcs_slots.proofs.AddLaws.{radix-more, slot-more}
-use Rattle.mcs_cspace.specs.Spaces.{slots_space, GuardsFit}
+use Rattle.mcs_cspace.specs.Spaces.{slots_space}
 use Rattle.mcs_state.specs.Tables.{SlotsAgree}
 use Rattle.mcs_state.specs.Following.{SlotsFollow}
 
@@ -96,21 +93,6 @@ slot-filled R P at cap pages has a = record {
 -- the pages are the capability space of the log
 pub space-is : (R : Log) (P : List Page) → SlotsAgree P R → slots_space P ≡ space_of R
 space-is R P a = λ i. record { radix = λ c. a.radices c i; slot = λ c j. a.slots c j i }
-
--- what a slot holds has a guard that fits
-pub slot-fits : (R : Log) (c : ObjId) (i : ℕ) → AllFit R → FitsSlot (slot R c i)
-slot-fits [] c i h = tt
-slot-fits (rec.Slot u j cap ∷ R) c i h = go (same c u && (i == j)) (slot-fits R c i h.1)
-  where
-    go : (b : Bool) → FitsSlot (slot R c i) → FitsSlot (unwrap_or (given b cap) (slot R c i))
-    go true later = h.0
-    go false later = later
-slot-fits (_ ∷ R) c i h = slot-fits R c i h.1
-
-pub guards-fit : (R : Log) (P : List Page) → SlotsAgree P R → AllFit R → GuardsFit P
-guards-fit R P a served c i cap is =
-    let held : cnode_cap (slot R c i) ≡ Some cap = ap (λ o. cnode_cap o) (sym (a.slots c i)) ∙ is in
-    subst (λ o. IfSome o (λ x. FitsGuard x.guard)) held (slot-fits R c i served)
 
 -- below the last page each number has one
 page-below : (S : List Page) (n : ℕ) → n < length S → (p : Page) × (slice_get S n ≡ Some p)

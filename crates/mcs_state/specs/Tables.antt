@@ -20,7 +20,6 @@ use Rattle.mcs_book.specs.Messages.{next_message, is_sent}
 use Rattle.mcs_book.specs.Contexts.{holder_of}
 use Rattle.mcs_book.specs.Replies.{receiver_with}
 use Rattle.mcs_book.specs.Growing.{Waiter, growing_queue, growing_open}
-use Rattle.mcs_book.specs.Fits.{AllFit}
 use Rattle.mcs_book.specs.Sound.{Sound}
 use Rattle.mcs_places.specs.Places.{kept_at}
 use Rattle.mcs_objects.specs.Store.{Objects, Shape, value_at, shape}
@@ -115,11 +114,10 @@ pub record SentAgrees (sent lines : ℕ) (hand R : Log) : Type 0 where
   pub all : sent ≡ next_message R
   pub few : sent ≤ HAND * lines + counted is_sent hand
 
--- each record was allowed and fits, those in hand are few, and each table agrees with all of them
+-- each record was allowed, those in hand are few, and each table agrees with all of them
 pub record IsKept (T : Tables) (lines : ℕ) (hand R : Log) : Type 0 where
   pub few : length hand ≤ HAND
   pub sound : Sound R
-  pub fits : AllFit R
   pub threads : ThreadsAgree T.threads R
   pub letters : LettersAgree T.letters R
   pub contexts : ContextsAgree T.contexts R

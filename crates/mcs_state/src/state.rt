@@ -4,7 +4,6 @@ ghost use Rattle.mcs_types.specs.declared.record.Rec.{Rec};
 ghost use Rattle.mcs_book.specs.Logs.{onto};
 ghost use Rattle.mcs_book.specs.Boots.{boot_line};
 ghost use Rattle.mcs_book.specs.History.{log_of, with_boot_line, with_line};
-ghost use Rattle.mcs_book.specs.Guards.{FitsSlot};
 ghost use Rattle.mcs_book.specs.Messages.{open_of};
 ghost use Rattle.mcs_book.specs.Sound.{Allowed};
 ghost use Rattle.mcs_book.specs.Standing.{letter_mail};
@@ -175,7 +174,6 @@ impl<W: Waiting> State<W> {
     /// A slot holds a capability now, or none.
     pub fn fills(&mut self, at: SlotId, cap: Option<Cap>)
         requires allowed { Allowed (so_far self.old) (Rec.Slot at.cnode at.index cap) }
-        requires guard { FitsSlot cap }
         requires room { length self.old.hand < HAND }
         ensures { self.new ≡ adds (Rec.Slot at.cnode at.index cap) self.old }
     {

@@ -23,6 +23,5 @@ mod queues;
 mod runs;
 #[cfg(test)]
 mod slots;
-pub mod spaces;
 #[cfg(test)]
 mod tables;

@@ -1,7 +1,6 @@
 //! Lookup in capability spaces.
-use crate::spaces::{put, two_cnodes};
 use mcs_cspace::{lookup, lookup_slot};
-use mcs_slots::SlotId;
+use mcs_slots::{SlotId, Slots};
 use mcs_types::{Badge, Cap, Guard, Kind, ObjId, Place, Refusal, Rights};
 
 fn slot(cnode: u32, index: u8) -> SlotId {
@@ -14,9 +13,9 @@ fn slot(cnode: u32, index: u8) -> SlotId {
 
 #[test]
 fn capabilities_and_slots_are_found(rt: HostRuntime) {
-    let (made, none, all) = (two_cnodes(rt.alloc()), Rights::new(0), Rights::new(15));
+    let made = Slots::new(rt.alloc(), &[4, 3]);
     assert!(rt; made.is_ok());
-    let (Ok(mut slots), Some(none), Some(all)) = (made, none, all) else {
+    let (Ok(mut slots), Some(none), Some(all)) = (made, Rights::new(0), Rights::new(15)) else {
         return;
     };
     let root = Cap {
@@ -40,8 +39,11 @@ fn capabilities_and_slots_are_found(rt: HostRuntime) {
         badge: Badge(7),
         guard: Guard { bits: 0, value: 0 },
     };
-    assert!(rt; put(&mut slots, slot(1, 2), inner.again()));
-    assert!(rt; put(&mut slots, slot(2, 5), endpoint.again()));
+    let (first, second) = (slot(1, 2), slot(2, 5));
+    assert!(rt; slots.has_slot(first));
+    slots.put(first, inner.again());
+    assert!(rt; slots.has_slot(second));
+    slots.put(second, endpoint.again());
     // the slot 2 of 16, the guard 01, and the slot 5 of 8
     let address = 0b0010_01_101;
     assert_eq!(rt; lookup(&slots, root.again(), address), Ok(endpoint));
@@ -61,12 +63,12 @@ fn capabilities_and_slots_are_found(rt: HostRuntime) {
         index: address,
         depth: 64,
     };
-    assert_eq!(rt; lookup_slot(&slots, root.again(), whole), Ok(slot(2, 5)));
+    assert_eq!(rt; lookup_slot(&slots, root.again(), whole), Ok(second));
     let outer = Place {
         index: 2,
         depth: 59,
     };
-    assert_eq!(rt; lookup_slot(&slots, root.again(), outer), Ok(slot(1, 2)));
+    assert_eq!(rt; lookup_slot(&slots, root.again(), outer), Ok(first));
     let short = Place {
         index: address >> 1,
         depth: 63,
@@ -83,4 +85,44 @@ fn capabilities_and_slots_are_found(rt: HostRuntime) {
         lookup_slot(&slots, root.again(), deep),
         Err(Refusal::Range)
     );
+}
+
+/// A capability to a CNode.
+fn root(cnode: u32, rights: Rights, guard: Guard) -> Cap {
+    Cap {
+        obj: slot(cnode, 0).cnode,
+        rights,
+        badge: Badge(0),
+        guard,
+    }
+}
+
+#[test]
+fn any_root_may_be_given(rt: HostRuntime) {
+    let made = Slots::new(rt.alloc(), &[4]);
+    assert!(rt; made.is_ok());
+    let (Ok(slots), Some(none)) = (made, Rights::new(0)) else {
+        return;
+    };
+    // of a guard's value its low bits count, here 10
+    let wide = Guard {
+        bits: 2,
+        value: 0b11_10,
+    };
+    let place = Place {
+        index: 0b10_0111,
+        depth: 6,
+    };
+    assert_eq!(rt;
+        lookup_slot(&slots, root(1, none, wide), place),
+        Ok(slot(1, 7))
+    );
+    // a CNode that is not there has a radix of 0, and no slot
+    let guard = Guard { bits: 1, value: 1 };
+    let end = Place { index: 1, depth: 1 };
+    assert_eq!(rt;
+        lookup_slot(&slots, root(9, none, guard), end),
+        Ok(slot(9, 0))
+    );
+    assert!(rt; !slots.has_slot(slot(9, 0)));
 }

@@ -6,7 +6,6 @@ ghost use Rattle.mcs_types.specs.declared.record.Form.{Form};
 ghost use Rattle.mcs_book.specs.Logs.{counted, onto};
 ghost use Rattle.mcs_book.specs.Objects.{next_id, makes_kind};
 ghost use Rattle.mcs_book.specs.Boots.{begins, begins_with, root_cap, boot_line, boot_check};
-ghost use Rattle.mcs_book.specs.Fits.{FitsForm};
 ghost use Rattle.mcs_types.specs.Limits.{core_limit};
 ghost use Rattle.mcs_book.specs.Sound.{Allowed};
 ghost use Rattle.mcs_state.specs.Now.{so_far, adds, adds_all};
@@ -49,7 +48,6 @@ fn takes_thread<W: Waiting>(
     mode: Mode,
 ) -> ObjId
     requires booting { IsBooting (so_far state.old) }
-    requires fits { FitsForm (Form.Runner maximum root) }
     requires few { counted (makes_kind Kind.Thread) (so_far state.old) < ROOM }
     requires room { state.old.hand ≡ [] }
     ensures thread { result ≡ next_id (so_far state.old) Kind.Thread }

@@ -1,10 +1,9 @@
 //! Objects that are made.
-ghost use Rattle.std.specs.Prelude.{◌≡◌, ◌<◌, true, length, OnOk, OnErr};
+ghost use Rattle.std.specs.Prelude.{◌≡◌, ◌<◌, ◌≤◌, true, length, OnOk, OnErr};
 ghost use Rattle.mcs_types.specs.declared.record.Form.{Form};
 ghost use Rattle.mcs_types.specs.declared.id.Kind.{Kind};
 ghost use Rattle.mcs_book.specs.Logs.{counted};
 ghost use Rattle.mcs_book.specs.Objects.{makes_kind};
-ghost use Rattle.mcs_book.specs.Fits.{FitsForm};
 ghost use Rattle.mcs_waiting.specs.Queues.{has_queues};
 ghost use Rattle.mcs_state.specs.Now.{so_far};
 ghost use Rattle.mcs_state.specs.Tables.{HAND, ROOM};
@@ -62,7 +61,7 @@ impl<W: Waiting> State<W> {
     /// Makes a CNode with empty slots. Where memory is refused, nothing changes.
     pub fn makes_cnode(&mut self, radix: u8) -> Result<(), OutOfMemory>
         requires allowed { MayMake (so_far self.old) Kind.CNode (Form.Slots radix) }
-        requires fits { FitsForm (Form.Slots radix) }
+        requires some { 1 ≤ radix }
         requires few { counted (makes_kind Kind.CNode) (so_far self.old) < 64 }
         requires room { length self.old.hand < HAND }
         ensures made { OnOk result (self.new ≡ makes_next Kind.CNode (Form.Slots radix) self.old) }
@@ -94,7 +93,6 @@ impl<W: Waiting> State<W> {
     /// Makes a thread, with its maximum controlled priority and its root.
     pub fn makes_thread(&mut self, maximum: Prio, root: Cap)
         requires allowed { MayMake (so_far self.old) Kind.Thread (Form.Runner maximum root) }
-        requires fits { FitsForm (Form.Runner maximum root) }
         requires few { counted (makes_kind Kind.Thread) (so_far self.old) < ROOM }
         requires room { length self.old.hand < HAND }
         ensures { self.new ≡ makes_next Kind.Thread (Form.Runner maximum root) self.old }

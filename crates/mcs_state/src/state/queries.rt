@@ -12,7 +12,6 @@ ghost use Rattle.mcs_book.specs.Replies.{receiver_with};
 ghost use Rattle.mcs_book.specs.Standing.{status_of, mail_of, is_on_core};
 ghost use Rattle.mcs_book.specs.Lookup.{radix_kept, capability, slot_named};
 ghost use Rattle.mcs_cspace.specs.Spaces.{named_by};
-ghost use Rattle.mcs_book.specs.Fits.{AllFit};
 ghost use Rattle.mcs_book.specs.Sound.{Sound, IsThere};
 ghost use Rattle.mcs_state.specs.Now.{so_far};
 ghost use Rattle.mcs_state.specs.Tables.{HAND, ROOM};
@@ -146,13 +145,12 @@ impl<W: Waiting> State<W> {
         kept_at(Kind::Thread, &self.letters, thread)
     }
 
-    /// Each record was allowed when it was made, radices and guards fit, few threads were made, and the hand has at most as
+    /// Each record was allowed when it was made, few threads were made, and the hand has at most as
     /// many records as a line.
     pub fn is_sound(&self)
         ensures few { length self.now.hand ≤ HAND }
         ensures threads { counted (makes_kind Kind.Thread) (so_far self.now) ≤ ROOM }
         ensures sound { Sound (so_far self.now) }
-        ensures fits { AllFit (so_far self.now) }
     {
         let _made = self.threads.made();
     }

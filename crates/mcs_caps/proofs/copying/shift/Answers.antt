@@ -7,7 +7,7 @@ use Rattle.mcs_book.specs.Sound.{Allowed}
 use Rattle.mcs_state.specs.Now.{Now, so_far, adds}
 use Rattle.mcs_state.proofs.Doing.{so_far-made, after, room-before, room-then}
 use Rattle.mcs_caps.specs.Rows.{moves_act}
-use Rattle.mcs_caps.proofs.Places.{may-fill, may-empty, fits-like, like-self}
+use Rattle.mcs_caps.proofs.Places.{may-fill, may-empty}
 use Rattle.mcs_caps.proofs.copying.shift.Goals as goal
 
 pub wake-requires-clause-room : goal.wake-requires-clause-room
@@ -17,10 +17,7 @@ pub fills-requires-clause-allowed : goal.fills-requires-clause-allowed
 fills-requires-clause-allowed g c =
     let R : Log = so_far c.args.state.now in
     let so = so_far-made (wakes (mode_of R c.args.thread) c.args.thread) c.args.state.now c.wake.new.state c.wake.ensures in
-    subst (λ S. Allowed S (rec.Slot c.args.at.now.dest.cnode c.args.at.now.dest.index (Some c.args.at.now.cap))) (sym so) (may-fill R c.args.thread (mode_of R c.args.thread) c.args.at.now c.args.at.now.cap c.is_sound.ensures.sound c.requires.placed (like-self c.args.at.now.cap))
-
-pub fills-requires-clause-guard : goal.fills-requires-clause-guard
-fills-requires-clause-guard g c = fits-like (so_far c.args.state.now) c.args.at.now c.args.at.now.cap c.is_sound.ensures.fits c.requires.placed (like-self c.args.at.now.cap)
+    subst (λ S. Allowed S (rec.Slot c.args.at.now.dest.cnode c.args.at.now.dest.index (Some c.args.at.now.cap))) (sym so) (may-fill R c.args.thread (mode_of R c.args.thread) c.args.at.now c.args.at.now.cap c.is_sound.ensures.sound c.requires.placed refl)
 
 pub fills-requires-clause-room : goal.fills-requires-clause-room
 fills-requires-clause-room g c =

@@ -1,21 +1,19 @@
-use Rattle.std.proofs.Common.{◌≡◌, ◌^◌, ◌&&◌, ◌∷◌, nat_le, nat_lt, Some, true, cond, [], refl, sym, ap, subst, ◌∙◌, arith}
+use Rattle.std.proofs.Common.{◌≡◌, ◌^◌, ◌∷◌, nat_le, nat_lt, Some, true, cond, [], refl, sym, ap, subst, ◌∙◌, arith}
 use Rattle.std.proofs.lemmas.Grind.{common_steps}
 use Rattle.mcs_types.specs.declared.id.ObjId.{ObjId}
 use Rattle.mcs_types.specs.declared.id.Kind.TheVariants as kind
 use Rattle.mcs_types.specs.declared.boot.BootLine.TheVariants as boot
-use Rattle.mcs_types.specs.declared.cap.Cap.{Cap}
 use Rattle.mcs_types.specs.declared.record.Rec.TheVariants as rec
 use Rattle.mcs_types.specs.declared.record.Form.{Form}
 use Rattle.mcs_types.specs.declared.record.Form.TheVariants as form
 use Rattle.mcs_book.specs.Logs.{Log}
 use Rattle.mcs_book.specs.Objects.{next_id, form_of}
 use Rattle.mcs_book.specs.Lookup.{radix_kept}
-use Rattle.mcs_book.specs.Fits.{FitsForm}
 use Rattle.mcs_book.specs.Sound.{Allowed}
 use Rattle.mcs_types.proofs.Ids.{parts}
 use Rattle.mcs_state.specs.Now.{Now, so_far, adds_all}
 use Rattle.mcs_state.specs.Tables.{ROOM}
-use Rattle.mcs_kernel.proofs.Booting.{held-as, made-alive, object-there, few-made, has-room, fits-test, fits-slot, gives-allowed}
+use Rattle.mcs_kernel.proofs.Booting.{held-as, made-alive, object-there, few-made, has-room, gives-allowed}
 use Rattle.mcs_kernel.proofs.boot.taking.takes_records.Goals as goal
 use Rattle.std.specs.Option.{IfSome}
 
@@ -26,14 +24,12 @@ makes_cnode-requires-clause-allowed g c =
     let few : nat_le c.in-CNode.radix 8 ≡ true = (parts (nat_le 1 c.in-CNode.radix) (nat_le c.in-CNode.radix 8) h.numbers).1 in
     (refl, grind (arith, common_steps, few))
 
-pub makes_cnode-requires-clause-fits : goal.makes_cnode-requires-clause-fits
-makes_cnode-requires-clause-fits g c =
+pub makes_cnode-requires-clause-some : goal.makes_cnode-requires-clause-some
+makes_cnode-requires-clause-some g c =
     let R : Log = so_far c.args.state.now in
     let h = held-as c.args.state.now.book.boot.cores R c.args.line.now (boot.CNode c.in-CNode.radix) c.in-CNode.is c.requires.faultless in
-    let p : (nat_le 1 c.in-CNode.radix ≡ true) × (nat_le c.in-CNode.radix 8 ≡ true) = parts _ _ h.numbers in
-    let some = p.0 in
-    let few = p.1 in
-    (grind (arith, common_steps, some), grind (arith, common_steps, few))
+    let some : nat_le 1 c.in-CNode.radix ≡ true = (parts (nat_le 1 c.in-CNode.radix) (nat_le c.in-CNode.radix 8) h.numbers).0 in
+    grind (arith, common_steps, some)
 
 pub makes_cnode-requires-clause-few : goal.makes_cnode-requires-clause-few
 makes_cnode-requires-clause-few g c =
@@ -73,14 +69,6 @@ makes_context-requires-clause-few g c =
     let h = held-as c.args.state.now.book.boot.cores R c.args.line.now (boot.Context c.in-Context.core) c.in-Context.is c.requires.faultless in
     has-room R kind.Context c.requires.booting h.room
 
-pub takes_thread-thread-requires-clause-fits : goal.takes_thread-thread-requires-clause-fits
-takes_thread-thread-requires-clause-fits g c =
-    let R : Log = so_far c.args.state.now in
-    let h = held-as c.args.state.now.book.boot.cores R c.args.line.now (boot.Thread c.in-Thread.priority c.in-Thread.maximum c.in-Thread.root c.in-Thread.guard c.in-Thread.runs c.in-Thread.context) c.in-Thread.is c.requires.faultless in
-    let d = c.in-Thread.guard in
-    let fits = (parts (nat_lt c.in-Thread.priority.0 256 && nat_lt c.in-Thread.maximum.0 256) (nat_le d.bits 63 && nat_lt d.value (2 ^ d.bits)) h.numbers).1 in
-    subst (λ (r : Cap). FitsForm (form.Runner c.in-Thread.maximum r)) (sym c.cap_to.ensures) (fits-test d fits)
-
 pub takes_thread-thread-requires-clause-few : goal.takes_thread-thread-requires-clause-few
 takes_thread-thread-requires-clause-few g c =
     let R : Log = so_far c.args.state.now in
@@ -105,9 +93,3 @@ fills-requires-clause-allowed g c =
     let within : nat_lt c.in-Slot.index (2 ^ radix_kept (form_of R c.in-Slot.cnode)) ≡ true =
     ap (λ b. cond b (nat_lt c.in-Slot.index (2 ^ radix_kept (form_of R c.in-Slot.cnode))) true) (sym there) ∙ (parts _ _ h.numbers).0 in
     (object-there R kind.CNode c.in-Slot.cnode c.requires.booting there, grind (arith, common_steps, within), made-alive R c.in-Slot.cap.obj c.requires.booting (parts _ _ h.objects).1)
-
-pub fills-requires-clause-guard : goal.fills-requires-clause-guard
-fills-requires-clause-guard g c =
-    let R : Log = so_far c.args.state.now in
-    let h = held-as c.args.state.now.book.boot.cores R c.args.line.now (boot.Slot c.in-Slot.cnode c.in-Slot.index c.in-Slot.cap) c.in-Slot.is c.requires.faultless in
-    fits-slot c.in-Slot.cap (parts _ _ h.numbers).1

@@ -17,6 +17,6 @@ invariant_of-self-2 g c =
     let items = rw is at c.note.ensures.items in
     let made = rec.Made (next_id R kind.CNode) (form.Slots c.args.radix) in (
       omega (arith, c.self.invariant.0, c.note.ensures.capacity),
-      follows made _ _ _ _ _ _ items (inside-room c.self.view_is c.requires.room) (inside-made kind.CNode (form.Slots c.args.radix) c.self.view_is c.requires.allowed) c.requires.fits
+      follows made _ _ _ _ _ _ items (inside-room c.self.view_is c.requires.room) (inside-made kind.CNode (form.Slots c.args.radix) c.self.view_is c.requires.allowed)
           (record { threads = refl; letters = refl; contexts = refl; queues = refl; replies = refl; slots = c.in_ok-add.ensures.added; sent = refl }) c.self.invariant.1,
     )

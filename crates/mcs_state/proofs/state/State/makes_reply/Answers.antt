@@ -23,6 +23,6 @@ invariant_of-self g c =
     let values = λ (x : ObjId). c.in-Ok.ensures.values x ∙ ap (λ (r : ObjId). value_after x r (Some None) (value_at c.self.inside.replies x)) next in
     let made = rec.Made (next_id R kind.Reply) (form.Plain) in (
       omega (arith, c.self.invariant.0, c.note.ensures.capacity),
-      follows made _ _ _ _ _ _ items (inside-room c.self.view_is c.requires.room) (inside-made kind.Reply form.Plain c.self.view_is c.requires.allowed) tt
+      follows made _ _ _ _ _ _ items (inside-room c.self.view_is c.requires.room) (inside-made kind.Reply form.Plain c.self.view_is c.requires.allowed)
           (record { threads = refl; letters = refl; contexts = refl; queues = refl; replies = record { shape = c.in-Ok.ensures.shape; receivers = values }; slots = refl; sent = refl }) c.self.invariant.1,
     )

@@ -18,6 +18,6 @@ invariant_of-self g c =
     let has = rw is at c.open-object.ensures.has in
     let made = rec.Made (next_id R c.args.kind) (form.Plain) in (
       omega (arith, c.self.invariant.0, c.note.ensures.capacity),
-      follows made _ _ _ _ _ _ items (inside-room c.self.view_is c.requires.room) (inside-made c.args.kind form.Plain c.self.view_is c.requires.allowed) tt
+      follows made _ _ _ _ _ _ items (inside-room c.self.view_is c.requires.room) (inside-made c.args.kind form.Plain c.self.view_is c.requires.allowed)
           (record { threads = refl; letters = refl; contexts = refl; queues = opens-follow c.args.kind (next_id R c.args.kind) _ _ c.requires.queued (record { line = c.open-object.ensures.line; queue = c.open-object.ensures.queue; has = has; made = c.open-object.ensures.given; there = c.open-object.ensures.there }); replies = replies-beside c.args.kind (next_id R c.args.kind) c.self.inside.replies c.requires.queued; slots = refl; sent = refl }) c.self.invariant.1,
     )
