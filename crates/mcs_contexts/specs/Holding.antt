@@ -1,11 +1,11 @@
 -- What a contract sees of `Contexts`: what is kept of each context that is there, and what each thread holds.
-use Rattle.std.specs.Prelude.{◌≡◌, Bool, cond, ◌&&◌, ◌||◌, List, length, Option, Some, None, is_some, is_none, option_map, option_and_then, Result, Ok, Err}
+use Rattle.std.specs.Prelude.{◌≡◌, Bool, cond, ◌&&◌, ◌||◌, List, length, nat_le, Option, Some, None, is_some, is_none, option_map, option_and_then, Result, Ok, Err}
 use Rattle.mcs_types.specs.declared.id.ObjId.{ObjId}
 use Rattle.mcs_types.specs.declared.id.CoreId.{CoreId}
 use Rattle.mcs_types.specs.declared.id.Kind.TheVariants.{Context, Thread}
 use Rattle.mcs_types.specs.declared.entry.Refusal.{Refusal}
-use Rattle.mcs_types.specs.declared.entry.Refusal.TheVariants.{AlreadyBound, NotBound}
-use Rattle.mcs_types.specs.Ids.{is_just, value_after, ChangesAt}
+use Rattle.mcs_types.specs.declared.entry.Refusal.TheVariants.{AlreadyBound, Missing, NotBound, Range}
+use Rattle.mcs_types.specs.Ids.{same_kind, is_just, value_after, ChangesAt}
 use Rattle.mcs_objects.specs.Store.{Objects, Shape, value_at, shape, next_id, is_full}
 use Rattle.mcs_places.specs.Places.{kept_at}
 use Rattle.mcs_contexts.specs.declared.contexts.ContextRow.{ContextRow}
@@ -81,13 +81,21 @@ LendsHolders old new from to = (x : ObjId) → holder_in new x ≡ lent_holder o
 abbrev pub LendsContexts : Holding → Holding → ObjId → ObjId → Type 0
 LendsContexts old new from to = (x : ObjId) → context_in new x ≡ lent_context old from to x
 
--- whether a thread may lend its context to another: the first holds one, and the second none
-abbrev pub may_lend : Holding → ObjId → ObjId → Bool
-may_lend v from to = is_some (context_in v from) && is_none (context_in v to)
+-- whether it is a thread of a serial from 1 to 256, which alone may hold a context
+abbrev pub is_holder : ObjId → Bool
+is_holder t = same_kind t.kind Thread && nat_le 1 t.serial && nat_le t.serial 256
 
--- done where nobody holds the context and the thread holds none
+-- whether a thread may lend its context to another: the first holds one, and the second may hold one and holds none
+abbrev pub may_lend : Holding → ObjId → ObjId → Bool
+may_lend v from to = is_some (context_in v from) && is_holder to && is_none (context_in v to)
+
+-- done, where nobody holds the context and the thread holds none
+abbrev pub joined : Holding → ObjId → ObjId → Result (Unit {0}) Refusal
+joined v s t = cond (is_some (holder_in v s) || is_some (context_in v t)) (Err AlreadyBound) (Ok tt)
+
+-- so, where the context is there and the thread may hold one
 abbrev pub bound : Holding → ObjId → ObjId → Result (Unit {0}) Refusal
-bound v s t = cond (is_some (holder_in v s) || is_some (context_in v t)) (Err AlreadyBound) (Ok tt)
+bound v s t = cond (is_none (core_in v s)) (Err Missing) (cond (is_holder t) (joined v s t) (Err Range))
 
 -- done where somebody holds the context
 abbrev pub unbound : Holding → ObjId → Result (Unit {0}) Refusal

@@ -5,7 +5,7 @@ ghost use Rattle.mcs_types.specs.declared.id.ObjId.{ObjId};
 ghost use Rattle.mcs_types.specs.Ids.{IsThread, ChangesAt};
 ghost use Rattle.mcs_types.specs.declared.id.Kind.{Kind};
 ghost use Rattle.mcs_objects.specs.Store.{shape, empty_shape, one_more, next_id, is_full, IsOneFewer, WritesAt};
-ghost use Rattle.mcs_contexts.specs.Holding.{counts, no_room, next_context, core_at, holder_at, core_in, holder_in, context_in, bound, unbound, may_lend, SetsHolder, SetsContext, FreesHolder, LendsHolders, LendsContexts, HoldersDiffer, IsOneToOne};
+ghost use Rattle.mcs_contexts.specs.Holding.{counts, no_room, next_context, core_at, holder_at, core_in, holder_in, context_in, is_holder, bound, unbound, may_lend, SetsHolder, SetsContext, FreesHolder, LendsHolders, LendsContexts, HoldersDiffer, IsOneToOne};
 
 use mcs_objects::Store;
 use mcs_places::{keep, kept_at};
@@ -68,6 +68,14 @@ fn set_holder(rows: &mut Store<ContextRow>, context: ObjId, holder: Option<ObjId
     }
 }
 
+/// Whether it is a thread of a serial from 1 to 256, which alone may hold a context.
+fn is_holder(thread: ObjId) -> bool
+    ensures value { result ≡ is_holder thread }
+    ensures thread { OnTrue result (IsThread thread) }
+{
+    matches!(thread.kind, Kind::Thread) && 1 <= thread.serial && thread.serial <= 256
+}
+
 impl Contexts {
     /// No context, and room for 256 (own).
     pub fn new(alloc: Global) -> Result<Contexts, OutOfMemory>
@@ -97,7 +105,7 @@ impl Contexts {
         self.rows.given()
     }
 
-    /// Adds a context of a core where there is room: its serial is the next, and nobody holds it (own).
+    /// Adds a context of a core where there is room, as `is_full` tells: its serial is the next, and nobody holds it (own).
     pub fn add(&mut self, core: CoreId) -> ObjId
         requires { no_room self.old ≡ false }
         ensures id { result ≡ next_context self.old }
@@ -110,7 +118,8 @@ impl Contexts {
         add_row(&mut self.rows, ContextRow { core, holder: None })
     }
 
-    /// Forgets a context that nobody holds: its serial is never given again (manual: Kernel Services and Objects).
+    /// Forgets a context that is there, as `core` tells, and that nobody holds, as `holder` tells: its serial is never given again
+    /// (manual: Kernel Services and Objects).
     pub fn close(&mut self, context: ObjId)
         requires there { IsSome (core_in self.old context) }
         requires free { holder_in self.old context ≡ None }
@@ -184,11 +193,10 @@ impl Contexts {
         keep(Kind::Thread, &mut self.held, thread, None);
     }
 
-    /// Gives a context that was made to a thread of a serial from 1 to 256. AlreadyBound where the context has a holder or the
-    /// thread has a context: then nothing changes (manual: Threads and Execution).
+    /// Gives a context to a thread. Refused, in this order, where the context was not made or was closed (Missing; own), where
+    /// the thread is none of a serial from 1 to 256 (Range; own), and where the context has a holder or the thread has a context
+    /// (AlreadyBound): then nothing changes (manual: Threads and Execution).
     pub fn bind(&mut self, context: ObjId, thread: ObjId) -> Result<(), Refusal>
-        requires made { IsSome (core_in self.old context) }
-        requires thread { IsThread thread }
         ensures answer { result ≡ bound self.old context thread }
         ensures refused { OnErr result (self.new ≡ self.old) }
         ensures holders { OnOk result (SetsHolder self.old self.new context (Some thread)) }
@@ -196,6 +204,12 @@ impl Contexts {
         ensures counts { counts self.new ≡ counts self.old }
         ensures cores { (x : ObjId) → core_in self.new x ≡ core_in self.old x }
     {
+        if self.core(context).is_none() {
+            return Err(Refusal::Missing);
+        }
+        if !is_holder(thread) {
+            return Err(Refusal::Range);
+        }
         if self.holder(context).is_some() || self.of(thread).is_some() {
             return Err(Refusal::AlreadyBound);
         }
@@ -222,10 +236,9 @@ impl Contexts {
         }
     }
 
-    /// Moves the context of one thread to another, of a serial from 1 to 256. False where the first holds none or the second
-    /// holds one: then nothing changes (manual: Threads and Execution).
+    /// Moves the context of one thread to another. False where the first holds none, and where the second holds one or is no
+    /// thread of a serial from 1 to 256: then nothing changes (manual: Threads and Execution).
     pub fn lend(&mut self, from: ObjId, to: ObjId) -> bool
-        requires { IsThread to }
         ensures answer { result ≡ may_lend self.old from to }
         ensures refused { OnFalse result (self.new ≡ self.old) }
         ensures holders { OnTrue result (LendsHolders self.old self.new from to) }
@@ -234,7 +247,7 @@ impl Contexts {
         ensures cores { (x : ObjId) → core_in self.new x ≡ core_in self.old x }
     {
         match self.of(from) {
-            Some(context) if self.of(to).is_none() => {
+            Some(context) if is_holder(to) && self.of(to).is_none() => {
                 self.is_one_to_one();
                 self.release(context, from);
                 self.attach(context, to);

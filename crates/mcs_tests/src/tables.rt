@@ -1,8 +1,10 @@
-//! The tables of threads and of reply objects.
+//! The tables of threads, of reply objects and of contexts.
+use mcs_contexts::Contexts;
 use mcs_replies::{Ended, Replies};
 use mcs_threads::{Block, Threads};
 use mcs_types::{
-    Badge, Cap, Ending, Guard, Kind, Mail, Message, Mode, ObjId, Prio, Queue, Rights, Status,
+    Badge, Cap, CoreId, Ending, Guard, Kind, Mail, Message, Mode, ObjId, Prio, Queue, Refusal,
+    Rights, Status,
 };
 
 fn object(kind: Kind, serial: u32) -> ObjId {
@@ -201,4 +203,38 @@ fn reply_objects_owe_and_stand_in_chains(rt: HostRuntime) {
     assert!(rt; close(&mut replies, d));
     assert!(rt; !replies.is_there(d));
     assert_eq!(rt; add(&mut replies), Some(object(Kind::Reply, 5)));
+}
+
+#[test]
+fn contexts_are_bound_lent_and_closed(rt: HostRuntime) {
+    let made = Contexts::new(rt.alloc());
+    assert!(rt; made.is_ok());
+    let Ok(mut contexts) = made else {
+        return;
+    };
+    let (t, u) = (object(Kind::Thread, 1), object(Kind::Thread, 256));
+    let beyond = object(Kind::Thread, 257);
+    assert!(rt; !contexts.is_full());
+    let a = contexts.add(CoreId(3));
+    assert_eq!(rt; a, object(Kind::Context, 1));
+    assert_eq!(rt; contexts.made(), 1);
+    assert_eq!(rt; contexts.core(a), Some(CoreId(3)));
+    let unmade = object(Kind::Context, 2);
+    assert_eq!(rt; contexts.bind(unmade, t), Err(Refusal::Missing));
+    assert_eq!(rt; contexts.bind(a, beyond), Err(Refusal::Range));
+    assert_eq!(rt; contexts.bind(a, t), Ok(()));
+    assert_eq!(rt; contexts.bind(a, u), Err(Refusal::AlreadyBound));
+    assert_eq!(rt; contexts.of(t), Some(a));
+    assert!(rt; !contexts.lend(t, beyond));
+    assert!(rt; contexts.lend(t, u));
+    assert_eq!(rt; contexts.of(t), None);
+    assert_eq!(rt; contexts.holder(a), Some(u));
+    assert!(rt; !contexts.lend(t, u));
+    contexts.is_one_to_one();
+    assert_eq!(rt; contexts.unbind(a), Ok(()));
+    assert_eq!(rt; contexts.unbind(a), Err(Refusal::NotBound));
+    assert!(rt; contexts.core(a).is_some() && contexts.holder(a).is_none());
+    contexts.close(a);
+    assert_eq!(rt; contexts.core(a), None);
+    assert_eq!(rt; contexts.made(), 1);
 }
