@@ -15,7 +15,8 @@ pub struct SlotId {
     pub index: u8,
 }
 
-/// The slots of up to 64 CNodes, whose serials count from 1 (own). All memory is taken when they are made.
+/// The slots of up to 64 CNodes, whose serials count from 1 (own). The memory of a CNode is taken when it is added, as a boot does;
+/// beside `new` and `add` no call takes any.
 #[derive(Drop)]
 pub struct Slots {
     pages: Vec<Page>,
@@ -60,8 +61,8 @@ impl Slots {
         Ok(Slots { pages })
     }
 
-    /// Adds an empty CNode of a radix from 1 to 8, where fewer than 64 are there: its serial is the next. Where memory is refused
-    /// the slots are as they were.
+    /// Adds an empty CNode of a radix from 1 to 8, where fewer than 64 are there, as `len` tells: its serial is the next. The memory
+    /// for its slots is taken here; where it is refused, the slots are as they were.
     pub fn add(&mut self, radix: u8) -> Result<(), OutOfMemory>
         requires few { length self.old < 64 }
         requires some { 1 ≤ radix }
