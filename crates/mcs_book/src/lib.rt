@@ -10,11 +10,7 @@ mod lookup;
 mod whole;
 
 pub use book::{Book, Line};
-pub use broken::{
-    after_the_end_refused, answered_is_fair, both_wait_refused, kept_context_refused,
-    not_the_first_refused, nothing_sent_refused, out_of_order_refused, paid_twice_refused,
-    second_take_refused, taken_in_turn_is_fair, wrong_badge_refused,
-};
+pub use broken::{answered_is_fair, each_law_refuses, taken_in_turn_is_fair};
 pub use cores::{core_lines, known_cores, own_core};
 pub use laws::{
     answered_once, answered_whole, by_priority, chain_kept, fair, found_named, made_once,

@@ -21,10 +21,10 @@ abbrev pub object : Kind → ℕ → ObjId
 object k n = record { kind = k; serial = n }
 
 -- the queue of a side and an object
-abbrev pub line_of : Side → ℕ → Queue
-line_of Senders n = in_senders (object Endpoint n)
-line_of Receivers n = in_receivers (object Endpoint n)
-line_of Waiters n = in_waiters (object Notification n)
+abbrev pub queue_on : Side → ℕ → Queue
+queue_on Senders n = in_senders (object Endpoint n)
+queue_on Receivers n = in_receivers (object Endpoint n)
+queue_on Waiters n = in_waiters (object Notification n)
 
 -- the word at a place of the arena
 abbrev pub word_at : List ℕ → ℕ → ℕ
@@ -65,9 +65,9 @@ record_of (FilledBadged i rights k c n at) ws rs = rec.Slot (object CNode c) i (
 record_of (FilledGuarded i rights bits c n at) ws rs = rec.Slot (object CNode c) i (Some (guarded_cap n rights bits (word_at ws at)))
 record_of (Prio p t) ws rs = rec.Prio (object Thread t) p
 record_of (Turns m t) ws rs = rec.Turns (object Thread t) m
-record_of (Joins s t n) ws rs = rec.Joins (object Thread t) (line_of s n) None
-record_of (JoinsWith s t n r) ws rs = rec.Joins (object Thread t) (line_of s n) (Some (object Reply r))
-record_of (Parts s t n) ws rs = rec.Parts (object Thread t) (line_of s n)
+record_of (Joins s t n) ws rs = rec.Joins (object Thread t) (queue_on s n) None
+record_of (JoinsWith s t n r) ws rs = rec.Joins (object Thread t) (queue_on s n) (Some (object Reply r))
+record_of (Parts s t n) ws rs = rec.Parts (object Thread t) (queue_on s n)
 record_of (Sent m len t e at) ws rs = rec.Sent (object Thread t) (object Endpoint e) m (record { 0 = word_at ws (at + 1 + len) }) (content_at ws at len)
 record_of (Took m t) ws rs = rec.Took m (object Thread t)
 record_of (Dropped m) ws rs = rec.Dropped m

@@ -1,6 +1,6 @@
 //! Records in 16 bytes each: objects by their serials, the words of messages by their place.
 ghost use Rattle.std.specs.Prelude.{◌≡◌, IfSome, Some};
-ghost use Rattle.mcs_packing.specs.Packing.{FitsIn, Grew, HasRoom, IsPlain, Packs, line_of, record_in};
+ghost use Rattle.mcs_packing.specs.Packing.{FitsIn, Grew, HasRoom, IsPlain, Packs, queue_on, record_in};
 
 use crate::arena::{Arena, length_of};
 use mcs_types::{
@@ -171,7 +171,7 @@ fn serial_of(id: &ObjId, kind: Kind) -> Option<u32>
 
 /// The side of a line, and the serial of its object.
 fn side_of(queue: &Queue) -> Option<(Side, u32)>
-    ensures { IfSome result (λ s. queue.now ≡ line_of s.0 s.1) }
+    ensures { IfSome result (λ s. queue.now ≡ queue_on s.0 s.1) }
 {
     Some(match queue {
         Queue::Senders(id) => (Side::Senders, serial_of(id, Kind::Endpoint)?),
@@ -228,6 +228,22 @@ fn pack_joins(thread: &ObjId, queue: &Queue, reply: &Option<ObjId>) -> Option<Pa
     })
 }
 
+/// Packs what a reply object owes.
+fn pack_owes(reply: &ObjId, caller: &ObjId, context: &Option<ObjId>) -> Option<Packed>
+    ensures { IsPlain result (Rec.Owes reply.now caller.now context.now) }
+{
+    let reply = serial_of(reply, Kind::Reply)?;
+    let caller = serial_of(caller, Kind::Thread)?;
+    Some(match context {
+        None => Packed::Owes { reply, caller },
+        Some(context) => Packed::OwesWith {
+            reply,
+            caller,
+            context: serial_of(context, Kind::Context)?,
+        },
+    })
+}
+
 /// Packs how a thread runs and where it stands.
 fn pack_thread(fact: &Rec) -> Option<Packed>
     ensures { IsPlain result fact.now }
@@ -255,22 +271,6 @@ fn pack_thread(fact: &Rec) -> Option<Packed>
             }
         }
         _ => return None,
-    })
-}
-
-/// Packs what a reply object owes.
-fn pack_owes(reply: &ObjId, caller: &ObjId, context: &Option<ObjId>) -> Option<Packed>
-    ensures { IsPlain result (Rec.Owes reply.now caller.now context.now) }
-{
-    let reply = serial_of(reply, Kind::Reply)?;
-    let caller = serial_of(caller, Kind::Thread)?;
-    Some(match context {
-        None => Packed::Owes { reply, caller },
-        Some(context) => Packed::OwesWith {
-            reply,
-            caller,
-            context: serial_of(context, Kind::Context)?,
-        },
     })
 }
 

@@ -1,6 +1,6 @@
 //! What packed records stand for.
 ghost use Rattle.std.specs.Prelude.{◌≡◌};
-ghost use Rattle.mcs_packing.specs.Packing.{Fits, IsOfBond, IsOfDebt, IsOfMessage, IsOfObject, IsOfSlot, IsOfThread, IsOfWord, guarded_cap, line_of, object, plain_cap, record_of};
+ghost use Rattle.mcs_packing.specs.Packing.{Fits, IsOfBond, IsOfDebt, IsOfMessage, IsOfObject, IsOfSlot, IsOfThread, IsOfWord, guarded_cap, queue_on, object, plain_cap, record_of};
 
 use crate::arena::message_at;
 use crate::copying::copy_of;
@@ -15,7 +15,7 @@ fn id_of(kind: Kind, serial: u32) -> ObjId
 
 /// The queue of this side of an object.
 fn queue_of(side: Side, serial: u32) -> Queue
-    ensures { result ≡ line_of side serial }
+    ensures { result ≡ queue_on side serial }
 {
     match side {
         Side::Senders => Queue::Senders(id_of(Kind::Endpoint, serial)),
@@ -45,6 +45,36 @@ fn guarded(serial: u32, rights: Rights, bits: u8, value: u64) -> Cap
         rights,
         badge: Badge(0),
         guard: Guard { bits, value },
+    }
+}
+
+fn slot(cnode: u32, index: u8, cap: Option<Cap>) -> Rec
+    ensures { result ≡ Rec.Slot (object Kind.CNode cnode) index cap }
+{
+    Rec::Slot {
+        cnode: id_of(Kind::CNode, cnode),
+        index,
+        cap,
+    }
+}
+
+fn joins(thread: u32, queue: Queue, reply: Option<ObjId>) -> Rec
+    ensures { result ≡ Rec.Joins (object Kind.Thread thread) queue reply }
+{
+    Rec::Joins {
+        thread: id_of(Kind::Thread, thread),
+        queue,
+        reply,
+    }
+}
+
+fn heard(thread: u32, on: u32, word: u64) -> Rec
+    ensures { result ≡ Rec.Heard (object Kind.Thread thread) (object Kind.Notification on) word }
+{
+    Rec::Heard {
+        thread: id_of(Kind::Thread, thread),
+        notification: id_of(Kind::Notification, on),
+        word,
     }
 }
 
@@ -90,16 +120,6 @@ fn unpack_slot(packed: &Packed, words: &[u64], wide: &[Rec]) -> Rec
     }
 }
 
-fn slot(cnode: u32, index: u8, cap: Option<Cap>) -> Rec
-    ensures { result ≡ Rec.Slot (object Kind.CNode cnode) index cap }
-{
-    Rec::Slot {
-        cnode: id_of(Kind::CNode, cnode),
-        index,
-        cap,
-    }
-}
-
 /// How a thread runs and where it stands.
 fn unpack_thread(packed: &Packed, words: &[u64], wide: &[Rec]) -> Rec
     requires { IsOfThread packed.now }
@@ -137,16 +157,6 @@ fn unpack_thread(packed: &Packed, words: &[u64], wide: &[Rec]) -> Rec
             queue: queue_of(*side, *object),
         },
         _ => unreachable!(),
-    }
-}
-
-fn joins(thread: u32, queue: Queue, reply: Option<ObjId>) -> Rec
-    ensures { result ≡ Rec.Joins (object Kind.Thread thread) queue reply }
-{
-    Rec::Joins {
-        thread: id_of(Kind::Thread, thread),
-        queue,
-        reply,
     }
 }
 
@@ -259,16 +269,6 @@ fn unpack_word(packed: &Packed, words: &[u64], wide: &[Rec]) -> Rec
             at,
         } => heard(*thread, *notification, words[*at as usize]),
         _ => unreachable!(),
-    }
-}
-
-fn heard(thread: u32, on: u32, word: u64) -> Rec
-    ensures { result ≡ Rec.Heard (object Kind.Thread thread) (object Kind.Notification on) word }
-{
-    Rec::Heard {
-        thread: id_of(Kind::Thread, thread),
-        notification: id_of(Kind::Notification, on),
-        word,
     }
 }
 
