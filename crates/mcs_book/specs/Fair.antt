@@ -14,7 +14,8 @@ use Rattle.mcs_types.specs.declared.entry.Entry.{Entry}
 use Rattle.mcs_types.specs.declared.entry.Entry.TheVariants.{Send, NbSend, Call, ReplyRecv}
 use Rattle.mcs_book.specs.Logs.{Log, onto}
 use Rattle.mcs_book.specs.Objects.{is_alive}
-use Rattle.mcs_book.specs.Queues.{queue_of, is_ahead, head_of}
+use Rattle.mcs_types.specs.Chains.{head_of}
+use Rattle.mcs_book.specs.Queues.{queue_of, is_ahead}
 use Rattle.mcs_types.specs.declared.record.Letter.{Letter}
 use Rattle.mcs_book.specs.Messages.{letter, is_open}
 use Rattle.mcs_book.specs.Contexts.{context_of, holder_of}

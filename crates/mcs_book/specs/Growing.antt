@@ -2,10 +2,9 @@
 use Rattle.std.specs.Prelude.{ℕ, Bool, false, cond, ◌||◌, ◌==◌, nat_lt, Option, Some, None, List, [], ◌∷◌, map}
 use Rattle.mcs_types.specs.declared.id.ObjId.{ObjId}
 use Rattle.mcs_types.specs.declared.record.Queue.{Queue}
-use Rattle.mcs_types.specs.declared.record.Ending.{Ending}
-use Rattle.mcs_types.specs.declared.record.Ending.TheVariants.{Deleted, Cancelled}
 use Rattle.mcs_types.specs.declared.record.Rec.TheVariants.{Closed, Prio, Joins, Parts, Sent, Took, Dropped, Owes, Paid, Void, Raised, Heard}
 use Rattle.mcs_types.specs.Ids.{same}
+use Rattle.mcs_types.specs.Chains.{taken_off, ended}
 use Rattle.mcs_book.specs.Logs.{Log}
 use Rattle.mcs_types.specs.Ids.{is_just}
 use Rattle.mcs_book.specs.Threads.{prio_of}
@@ -69,21 +68,6 @@ growing_open (Sent y e mode badge message ∷ R) x = cond (same y x) (Some (reco
 growing_open (Took m p ∷ R) x = unless_number m (growing_open R x)
 growing_open (Dropped m ∷ R) x = unless_number m (growing_open R x)
 growing_open (_ ∷ R) x = growing_open R x
-
--- what stands above r; all where r is not among them
-abbrev pub above : ObjId → List ObjId → List ObjId
-above r [] = []
-above r (o ∷ os) = cond (same o r) [] (o ∷ above r os)
-
--- the chain after a debt of r ended in order: at the top it is taken off, else what stands above stays
-abbrev pub taken_off : ObjId → List ObjId → List ObjId
-taken_off r [] = []
-taken_off r (o ∷ os) = cond (same o r) os (o ∷ above r os)
-
--- the chain after a debt of r ended
-abbrev pub ended : Ending → ObjId → List ObjId → List ObjId
-ended Deleted r os = taken_off r os
-ended Cancelled r os = above r os
 
 -- the chain of the context s, from the top
 abbrev pub growing_chain : Log → ObjId → List ObjId

@@ -19,7 +19,8 @@ use Rattle.mcs_types.proofs.Ids.{same_kind-equal, same_kind-self}
 use Rattle.mcs_book.specs.Logs.{Log, counted}
 use Rattle.mcs_book.specs.Objects.{makes_kind, was_made, was_closed}
 use Rattle.mcs_book.specs.Threads.{mode_of, root_of, root_kept}
-use Rattle.mcs_book.specs.Queues.{queue_of, reply_with, first_in, head_of}
+use Rattle.mcs_types.specs.Chains.{head_of}
+use Rattle.mcs_book.specs.Queues.{queue_of, reply_with, first_in}
 use Rattle.mcs_book.specs.Replies.{owing}
 use Rattle.mcs_book.specs.Standing.{status_of, status_by}
 use Rattle.mcs_book.specs.Messages.{open_of}

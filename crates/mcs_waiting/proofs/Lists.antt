@@ -8,7 +8,7 @@ use Rattle.mcs_types.specs.Ids.{same, same_kind, place_of}
 use Rattle.mcs_types.specs.Waiters.{Waiter, insert_behind, without, stands_in, first_waiter, behind as behind_no}
 use Rattle.mcs_types.proofs.Ids.{parts, same_kind-equal, same-other}
 use Rattle.mcs_book.specs.Growing.{Waiter as Standing, insert_behind as put_behind, without as without_id, is_among, threads_in}
-use Rattle.mcs_book.specs.Queues.{head_of}
+use Rattle.mcs_types.specs.Chains.{head_of}
 use Rattle.mcs_waiting.specs.Places.{thread_at, standing, below_room}
 use Rattle.mcs_waiting.specs.Queues.{behind}
 

@@ -8,7 +8,8 @@ use Rattle.mcs_types.specs.declared.record.Queue.{Queue}
 use Rattle.mcs_types.specs.declared.record.Queue.TheVariants.{Senders, Receivers, Waiters}
 use Rattle.mcs_types.specs.Ids.{same, same_kind}
 use Rattle.mcs_book.specs.Growing.{Waiter, insert_behind, threads_in}
-use Rattle.mcs_book.specs.Queues.{same_queue, head_of}
+use Rattle.mcs_types.specs.Chains.{head_of}
+use Rattle.mcs_book.specs.Queues.{same_queue}
 
 -- the object of a queue, and the kind that it must have
 abbrev pub queue_object : Queue → ObjId

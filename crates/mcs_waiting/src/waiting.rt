@@ -4,7 +4,7 @@ ghost use Rattle.mcs_types.specs.declared.id.ObjId.{ObjId};
 ghost use Rattle.mcs_types.specs.declared.id.Kind.{Kind};
 ghost use Rattle.mcs_types.specs.declared.record.Queue.{Queue};
 ghost use Rattle.mcs_types.specs.Ids.{IsThread, ChangesAt};
-ghost use Rattle.mcs_book.specs.Queues.{head_of};
+ghost use Rattle.mcs_types.specs.Chains.{head_of};
 ghost use Rattle.mcs_book.specs.Growing.{Waiter, threads_in, without, shifted};
 ghost use Rattle.mcs_waiting.specs.Queues.{has_queues, is_queue_of, no_room, behind_in, CountsOneMore, LosesQueues, JoinsQueue};
 

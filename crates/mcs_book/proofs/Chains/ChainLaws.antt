@@ -16,7 +16,8 @@ use Rattle.mcs_book.specs.Objects.{was_closed, was_made}
 use Rattle.mcs_book.specs.Contexts.{holder_of}
 use Rattle.mcs_book.specs.Replies.{owed_by}
 use Rattle.mcs_book.specs.Chains.{owes_with, ends, cancels, lasts, lasts_any, any_lasting, cuts, cuts_any, any_cut, kept_debt, kept, chain_of}
-use Rattle.mcs_book.specs.Growing.{above, taken_off, growing_chain}
+use Rattle.mcs_types.specs.Chains.{above, taken_off}
+use Rattle.mcs_book.specs.Growing.{growing_chain}
 use Rattle.mcs_book.specs.Sound.{Sound, IsReleased}
 use Rattle.mcs_types.proofs.Ids.{same-self, same-equal}
 

@@ -10,11 +10,11 @@ use Rattle.mcs_types.specs.declared.record.Rec.TheVariants as rec
 use Rattle.mcs_types.specs.Ids.{same, same_kind}
 use Rattle.mcs_book.specs.Logs.{Log, given}
 use Rattle.mcs_types.specs.Ids.{is_just}
-use Rattle.mcs_book.specs.Queues.{head_of}
 use Rattle.mcs_book.specs.Contexts.{contexts, holder_of}
 use Rattle.mcs_book.specs.Replies.{owed_by, brought_to}
 use Rattle.mcs_book.specs.Chains.{chain_of, topped_by}
-use Rattle.mcs_book.specs.Growing.{above, taken_off, ended, growing_chain}
+use Rattle.mcs_types.specs.Chains.{head_of, above, taken_off, ended}
+use Rattle.mcs_book.specs.Growing.{growing_chain}
 use Rattle.mcs_book.specs.Sound.{Sound}
 use Rattle.mcs_types.proofs.Ids.{same-self, same-equal, same-other}
 use Rattle.mcs_book.proofs.Objects.Same.{is_just-some}

@@ -13,7 +13,8 @@ use Rattle.mcs_types.specs.Ids.{same}
 use Rattle.mcs_book.specs.Logs.{Log, onto, given}
 use Rattle.mcs_book.specs.Objects.{is_alive}
 use Rattle.mcs_book.specs.Threads.{mode_of}
-use Rattle.mcs_book.specs.Queues.{queue_of, is_ahead, queued_in, head_of, first_in}
+use Rattle.mcs_types.specs.Chains.{head_of}
+use Rattle.mcs_book.specs.Queues.{queue_of, is_ahead, queued_in, first_in}
 use Rattle.mcs_book.specs.Replies.{owed_by, receiver_with}
 use Rattle.mcs_book.specs.Notifications.{bound_of}
 use Rattle.mcs_book.specs.Pieces.{with_any}

@@ -20,7 +20,8 @@ use Rattle.mcs_types.specs.Ids.{is_just}
 use Rattle.mcs_book.specs.Objects.{made_of, was_made, was_closed, form_of}
 use Rattle.mcs_book.specs.Slots.{slot}
 use Rattle.mcs_book.specs.Threads.{threads, root_kept, root_of}
-use Rattle.mcs_book.specs.Queues.{queue_of, head_of}
+use Rattle.mcs_types.specs.Chains.{head_of}
+use Rattle.mcs_book.specs.Queues.{queue_of}
 use Rattle.mcs_book.specs.Messages.{next_message, letter, settles, is_open}
 use Rattle.mcs_book.specs.Contexts.{contexts, context_of}
 use Rattle.mcs_book.specs.Replies.{replies, owed_by, owing}

@@ -10,7 +10,8 @@ use Rattle.mcs_types.specs.Ids.{same, same_kind}
 use Rattle.mcs_book.specs.Logs.{Log, given}
 use Rattle.mcs_book.specs.Objects.{was_made}
 use Rattle.mcs_book.specs.Threads.{threads, prio_of}
-use Rattle.mcs_book.specs.Queues.{queue_of, is_queue, same_queue, stands_in, place_of, comes_before, is_ahead, queued_in, first_in, head_of}
+use Rattle.mcs_types.specs.Chains.{head_of}
+use Rattle.mcs_book.specs.Queues.{queue_of, is_queue, same_queue, stands_in, place_of, comes_before, is_ahead, queued_in, first_in}
 use Rattle.mcs_book.specs.Growing.{Waiter, insert_behind, without, is_among, growing_queue, threads_in}
 use Rattle.mcs_book.specs.Sound.{Sound}
 use Rattle.mcs_types.proofs.Ids.{same-self, same-equal, same-other}

@@ -10,7 +10,8 @@ use Rattle.mcs_types.specs.declared.record.Queue.TheVariants.{Receivers}
 use Rattle.mcs_types.specs.Ids.{same}
 use Rattle.mcs_book.specs.Logs.{Log, onto, given}
 use Rattle.mcs_book.specs.Objects.{is_alive}
-use Rattle.mcs_book.specs.Queues.{is_ahead, head_of}
+use Rattle.mcs_types.specs.Chains.{head_of}
+use Rattle.mcs_book.specs.Queues.{is_ahead}
 use Rattle.mcs_book.specs.Contexts.{holder_of}
 use Rattle.mcs_book.specs.Replies.{brought_to}
 use Rattle.mcs_book.specs.Chains.{kept_debt, chain_of}
