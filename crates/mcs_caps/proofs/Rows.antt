@@ -4,6 +4,7 @@ use Rattle.std.proofs.Common.{refl, ap, sym, ◌∙◌, subst}
 use Rattle.mcs_types.specs.declared.id.ObjId.{ObjId}
 use Rattle.mcs_types.specs.declared.id.CoreId.{CoreId}
 use Rattle.mcs_types.specs.declared.id.Badge.{Badge}
+use Rattle.mcs_types.specs.declared.cap.Cap.{Cap}
 use Rattle.mcs_types.specs.declared.cap.Place.{Place}
 use Rattle.mcs_types.specs.declared.entry.Entry.{Entry}
 use Rattle.mcs_types.specs.declared.entry.Entry.TheVariants.{CopyCap, MintCap, MoveCap}
@@ -11,6 +12,8 @@ use Rattle.mcs_types.specs.declared.entry.Answer.{Answer}
 use Rattle.mcs_types.specs.declared.entry.Answer.TheVariants.{Refused}
 use Rattle.mcs_types.specs.declared.entry.Refusal.{Refusal}
 use Rattle.mcs_types.specs.declared.entry.Refusal.TheVariants.{WrongKind, BadgeNotAllowed}
+use Rattle.mcs_types.specs.declared.record.Mode.{Mode}
+use Rattle.mcs_types.specs.declared.record.Mode.TheVariants.{Running, Restart, Inactive}
 use Rattle.mcs_book.specs.Logs.{Log}
 use Rattle.mcs_book.specs.Checks.{Checked, ◌>>=◌, ◌>>◌, need}
 use Rattle.mcs_book.specs.Rights.{can_badge}
@@ -22,7 +25,7 @@ use Rattle.mcs_book.proofs.Books.TableLaws.{does-acts}
 use Rattle.mcs_slots.specs.Masks.{masked, badged}
 use Rattle.mcs_state.specs.Now.{Now, so_far}
 use Rattle.mcs_state.specs.Checks.{act_of}
-use Rattle.mcs_state.specs.Doing.{Gives, Holds, Acts, FitsAct, Does, Fits}
+use Rattle.mcs_state.specs.Doing.{Gives, Holds, Acts, FitsAct, FitsAwake, Does, Fits}
 use Rattle.mcs_state.proofs.Doing.{refused}
 use Rattle.mcs_caps.specs.declared.checks.Placing.{Placing}
 use Rattle.mcs_caps.specs.Rows.{placed_by, mintable, fills_act, moves_act}
@@ -68,6 +71,16 @@ row-refused n core t entry m f why e is = refused n core t entry why (e ∙ ap (
 pub row-room : {A : Type 0} (n : Now) (core : CoreId) (t : ObjId) (entry : Entry) (m : Checked A) (f : A → Act) (x : A) → row (so_far n) core t entry ≡ act_of m f → m ≡ Ok x → Fits n core t entry
     → FitsAct (before (wakes (mode_of (so_far n) t) t) (f x)) n
 row-room n core t entry m f x e is room = subst (λ (o : Outcome). Holds o.records n) (does-acts (so_far n) core t entry (f x) (e ∙ ap (λ k. act_of k f) is)) room
+
+-- the room for a capability in a slot is that for any other there
+pub room-any : (t : ObjId) (at : Placing) (a b : Cap) (n : Now) → FitsAwake t (fills_act at a) n → FitsAwake t (fills_act at b) n
+unfolding before
+room-any t at a b n = go (mode_of (so_far n) t)
+  where
+    go : (m : Mode) → FitsAct (before (wakes m t) (fills_act at a)) n → FitsAct (before (wakes m t) (fills_act at b)) n
+    go Restart room = room
+    go Running room = room
+    go Inactive room = room
 
 -- and does both
 pub row-acts : {A : Type 0} (n l : Now) (core : CoreId) (t : ObjId) (entry : Entry) (m : Checked A) (f : A → Act) (x : A) (answer : Answer) → row (so_far n) core t entry ≡ act_of m f → m ≡ Ok x
