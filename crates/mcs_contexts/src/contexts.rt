@@ -4,7 +4,7 @@ ghost use Rattle.std.specs.Bool.{OnTrue, OnFalse};
 ghost use Rattle.mcs_types.specs.declared.id.ObjId.{ObjId};
 ghost use Rattle.mcs_types.specs.Ids.{IsThread, ChangesAt};
 ghost use Rattle.mcs_types.specs.declared.id.Kind.{Kind};
-ghost use Rattle.mcs_objects.specs.Store.{shape, empty_shape, one_more, next_id, is_full, IsOneFewer, WritesAt};
+ghost use Rattle.mcs_objects.specs.Store.{shape, empty_shape, one_more, is_full, IsOneFewer};
 ghost use Rattle.mcs_contexts.specs.Holding.{counts, no_room, next_context, core_at, holder_at, core_in, holder_in, context_in, is_holder, bound, unbound, may_lend, SetsHolder, SetsContext, FreesHolder, LendsHolders, LendsContexts, HoldersDiffer, IsOneToOne};
 
 use mcs_objects::Store;
@@ -37,19 +37,6 @@ impl Model for Contexts {
     ghost view = { λ s. record { rows = s.rows; held = s.held.items } };
 
     ghost invariant = { λ s. IsHolding (record { rows = s.rows; held = s.held.items }) };
-}
-
-/// Adds a row where there is room.
-fn add_row(rows: &mut Store<ContextRow>, row: ContextRow) -> ObjId
-    requires { is_full rows.old ≡ false }
-    ensures id { result ≡ next_id rows.old }
-    ensures shape { shape rows.new ≡ one_more (shape rows.old) }
-    ensures values { WritesAt rows.old rows.new result row }
-{
-    match rows.make(row) {
-        Ok(id) => id,
-        Err(_) => unreachable!(),
-    }
 }
 
 /// Keeps another holder of a context that is there.
@@ -115,7 +102,7 @@ impl Contexts {
         ensures contexts { (x : ObjId) → context_in self.new x ≡ context_in self.old x }
     {
         self.rows.are_apart();
-        add_row(&mut self.rows, ContextRow { core, holder: None })
+        self.rows.add(ContextRow { core, holder: None })
     }
 
     /// Forgets a context that is there, as `core` tells, and that nobody holds, as `holder` tells: its serial is never given again

@@ -145,8 +145,21 @@ impl<T: Drop> Store<T> {
         self.rows.len()
     }
 
-    /// Adds an object, and takes no memory. Its id has the store's kind and the serial after the one given last. Refused
-    /// where the room is full or each serial was given: then the value comes back, and the store is as it was (own).
+    /// Adds an object where there is room, and takes no memory. Its id has the store's kind and the serial after the one given
+    /// last (own).
+    pub fn add(&mut self, value: T) -> ObjId
+        requires { is_full self.old ≡ false }
+        ensures id { result ≡ next_id self.old }
+        ensures shape { shape self.new ≡ one_more (shape self.old) }
+        ensures values { WritesAt self.old self.new result value }
+        ensures places { PlacesOthers self.old self.new result }
+    {
+        self.is_map();
+        self.push(value)
+    }
+
+    /// Adds an object as `add` does. Refused where the room is full or each serial was given: then the value comes back, and the
+    /// store is as it was (own).
     pub fn make(&mut self, value: T) -> Result<ObjId, NoRoom<T>>
         ensures refused { IsErr result ↔ IsTrue (is_full self.old) }
         ensures id { IfOk result (λ id. id ≡ next_id self.old) }
@@ -159,8 +172,7 @@ impl<T: Drop> Store<T> {
         if self.is_full() {
             return Err(NoRoom { value });
         }
-        self.is_map();
-        Ok(self.push(value))
+        Ok(self.add(value))
     }
 
     /// The value of an object, or None where it is not there (own).

@@ -6,7 +6,7 @@ ghost use Rattle.mcs_types.specs.declared.id.Kind.{Kind};
 ghost use Rattle.mcs_types.specs.Ids.{ChangesAt};
 ghost use Rattle.mcs_types.specs.Chains.{head_of};
 ghost use Rattle.mcs_types.specs.Limits.{object_limit};
-ghost use Rattle.mcs_objects.specs.Store.{shape, empty_shape, one_more, next_id, is_full, IsOneFewer, WritesAt};
+ghost use Rattle.mcs_objects.specs.Store.{shape, empty_shape, one_more, is_full, IsOneFewer};
 ghost use Rattle.mcs_replies.specs.Owing.{counts, no_room, next_reply, has_row, receiver_at, owed_at, is_there, receiver_in, owed_in, chain_in, may_owe, LiesOnTop, NamesTopped, TakesOff, EndsDebt, IsChained};
 ghost use Rattle.mcs_replies.specs.Links.{rest_of};
 
@@ -49,19 +49,6 @@ impl Model for Replies {
     ghost view = { λ s. record { rows = s.rows; debts = s.debts.items } };
 
     ghost invariant = { λ s. IsOwing (record { rows = s.rows; debts = s.debts.items }) (vec_capacity s.debts) };
-}
-
-/// Adds a row where there is room.
-fn add_row(rows: &mut Store<ReplyRow>, row: ReplyRow) -> ObjId
-    requires { is_full rows.old ≡ false }
-    ensures id { result ≡ next_id rows.old }
-    ensures shape { shape rows.new ≡ one_more (shape rows.old) }
-    ensures values { WritesAt rows.old rows.new result row }
-{
-    match rows.make(row) {
-        Ok(id) => id,
-        Err(_) => unreachable!(),
-    }
 }
 
 /// Keeps another receiver of a reply object that is there.
@@ -141,13 +128,10 @@ impl Replies {
     {
         // A law for the proof: what is there was given, so the next serial is new.
         self.rows.are_apart();
-        add_row(
-            &mut self.rows,
-            ReplyRow {
-                receiver: None,
-                caller: None,
-            },
-        )
+        self.rows.add(ReplyRow {
+            receiver: None,
+            caller: None,
+        })
     }
 
     /// Forgets a reply object that owes nobody and with which no receiver stands: its serial is never given again (manual:

@@ -1,10 +1,10 @@
 //! The queues of endpoints and notifications as lines with numbers.
-ghost use Rattle.std.specs.Prelude.{ℕ, ◌≡◌, ◌≤◌, ◌<◌, ◌+◌, false, IfSome, option_map};
+ghost use Rattle.std.specs.Prelude.{◌≡◌, ◌≤◌, ◌<◌, ◌+◌, IfSome};
 ghost use Rattle.mcs_types.specs.declared.id.ObjId.{ObjId};
 ghost use Rattle.mcs_types.specs.declared.id.Kind.{Kind};
 ghost use Rattle.mcs_types.specs.Ids.{place_of};
 ghost use Rattle.mcs_queues.specs.Numbers.{thread_number, line_number};
-ghost use Rattle.mcs_objects.specs.Store.{shape, is_full, next_id, one_more, WritesAt, PlacesOthers};
+ghost use Rattle.mcs_objects.specs.Store.{shape, is_full};
 ghost use Rattle.mcs_waiting.specs.Places.{thread_at, below_room, number_of};
 
 use crate::waiting::Waiting;
@@ -79,20 +79,6 @@ fn line_no(endpoints: &Store<()>, notifications: &Store<()>, queue: Queue) -> Op
     }
 }
 
-/// Adds an object where there is room.
-fn add(objects: &mut Store<()>) -> ObjId
-    requires { is_full objects.old ≡ false }
-    ensures id { result ≡ next_id objects.old }
-    ensures shape { shape objects.new ≡ one_more (shape objects.old) }
-    ensures values { WritesAt objects.old objects.new result tt }
-    ensures places { PlacesOthers objects.old objects.new result }
-{
-    match objects.make(()) {
-        Ok(id) => id,
-        Err(_) => unreachable!(),
-    }
-}
-
 impl<L: Lines> Waiting for ObjectQueues<L> {
     ghost use Rattle.mcs_waiting.specs.Places.{line_of, queue_of, has_object, given_of, there_of};
 
@@ -139,8 +125,8 @@ impl<L: Lines> Waiting for ObjectQueues<L> {
         self.endpoints.are_apart();
         self.notifications.are_apart();
         let object = match kind {
-            Kind::Endpoint => add(&mut self.endpoints),
-            Kind::Notification => add(&mut self.notifications),
+            Kind::Endpoint => self.endpoints.add(()),
+            Kind::Notification => self.notifications.add(()),
             _ => unreachable!(),
         };
         self.endpoints.are_apart();

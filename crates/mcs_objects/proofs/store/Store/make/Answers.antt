@@ -1,8 +1,7 @@
-use Rattle.mcs_objects.proofs.MapLaws.{value-added, place-added}
 use Rattle.mcs_objects.proofs.store.Store.make.Goals as goal
 
 pub returns-clause-values : goal.returns-clause-values
-returns-clause-values g c = λ x. (value-added c.args.self.now c.push.new.self c.args.value x c.is_map.ensures c.push.ensures.added)
+returns-clause-values g c = rw c.add.ensures.id at c.add.ensures.values
 
 pub returns-clause-places : goal.returns-clause-places
-returns-clause-places g c = λ x other. place-added c.args.self.now c.push.new.self c.args.value x c.is_map.ensures c.push.ensures.added other
+returns-clause-places g c = rw c.add.ensures.id at c.add.ensures.places

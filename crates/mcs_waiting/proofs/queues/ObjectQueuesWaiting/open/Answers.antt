@@ -13,8 +13,8 @@ invariant_of-self g c =
     let old_e = c.are_apart.ensures in
     let old_n = c.are_apart-2.ensures in
     let change : Opens s.endpoints s.notifications later.endpoints later.notifications c.match-kind.object × (later.lines ≡ s.lines) = elim c.match-kind.branch [
-      | in-Endpoint w ↦ let made = w.add-object.ensures in rw (w.self-inside-is, w.object-is) (endpoint-opens s.endpoints s.notifications w.add-object.new.objects w.add-object.result kept.endpoints kept.notifications old_e.both old_e.given made.id made.shape made.places, refl)
-      | in-Notification w ↦ let made = w.add-object-in-Notification.ensures in rw (w.self-inside-is, w.object-is) (notification-opens s.endpoints s.notifications w.add-object-in-Notification.new.objects w.add-object-in-Notification.result kept.endpoints kept.notifications old_n.both old_n.given made.id made.shape made.places, refl)
+      | in-Endpoint w ↦ let made = w.add-object.ensures in rw (w.self-inside-is, w.object-is) (endpoint-opens s.endpoints s.notifications w.add-object.new.self w.add-object.result kept.endpoints kept.notifications old_e.both old_e.given made.id made.shape made.places, refl)
+      | in-Notification w ↦ let made = w.add-object-in-Notification.ensures in rw (w.self-inside-is, w.object-is) (notification-opens s.endpoints s.notifications w.add-object-in-Notification.new.self w.add-object-in-Notification.result kept.endpoints kept.notifications old_n.both old_n.given made.id made.shape made.places, refl)
     ] in
     let old = numbering s.endpoints s.notifications kept.endpoints kept.notifications old_e old_n in
     let new = numbering later.endpoints later.notifications change.0.endpoints change.0.notifications c.are_apart-3.ensures c.are_apart-4.ensures in
@@ -33,8 +33,8 @@ returns g c =
     let old_e = c.are_apart.ensures in
     let old_n = c.are_apart-2.ensures in
     let change : Opens s.endpoints s.notifications later.endpoints later.notifications c.match-kind.object × (later.lines ≡ s.lines) = elim c.match-kind.branch [
-      | in-Endpoint w ↦ let made = w.add-object.ensures in rw (w.self-inside-is, w.object-is) (endpoint-opens s.endpoints s.notifications w.add-object.new.objects w.add-object.result kept.endpoints kept.notifications old_e.both old_e.given made.id made.shape made.places, refl)
-      | in-Notification w ↦ let made = w.add-object-in-Notification.ensures in rw (w.self-inside-is, w.object-is) (notification-opens s.endpoints s.notifications w.add-object-in-Notification.new.objects w.add-object-in-Notification.result kept.endpoints kept.notifications old_n.both old_n.given made.id made.shape made.places, refl)
+      | in-Endpoint w ↦ let made = w.add-object.ensures in rw (w.self-inside-is, w.object-is) (endpoint-opens s.endpoints s.notifications w.add-object.new.self w.add-object.result kept.endpoints kept.notifications old_e.both old_e.given made.id made.shape made.places, refl)
+      | in-Notification w ↦ let made = w.add-object-in-Notification.ensures in rw (w.self-inside-is, w.object-is) (notification-opens s.endpoints s.notifications w.add-object-in-Notification.new.self w.add-object-in-Notification.result kept.endpoints kept.notifications old_n.both old_n.given made.id made.shape made.places, refl)
     ] in
     let old = numbering s.endpoints s.notifications kept.endpoints kept.notifications old_e old_n in
     let new = numbering later.endpoints later.notifications change.0.endpoints change.0.notifications c.are_apart-3.ensures c.are_apart-4.ensures in
