@@ -1,8 +1,9 @@
 -- What holds while lines of the boot are taken, and what a boot says of its lines.
-use Rattle.std.specs.Prelude.{◌≡◌, ℕ, false, ◌∷◌, Option, Some, None, Result, if◌then◌else◌}
+use Rattle.std.specs.Prelude.{◌≡◌, ◌≢◌, ℕ, false, ◌∷◌, Option, Some, None, Result, Err, if◌then◌else◌}
 use Rattle.mcs_types.specs.declared.id.Kind.TheVariants as kind
 use Rattle.mcs_types.specs.declared.boot.BootLine.{BootLine}
 use Rattle.mcs_types.specs.declared.boot.BootFault.{BootFault}
+use Rattle.mcs_types.specs.declared.boot.BootFault.TheVariants.{OutOfMemory}
 use Rattle.mcs_book.specs.Boots.{Boot, boot_check, boot_log, is_object}
 use Rattle.mcs_book.specs.Checks.{Passed}
 use Rattle.mcs_book.specs.Lookup.{radix_kept}
@@ -24,6 +25,10 @@ adds_line b line = record b { lines = line ∷ b.lines }
 -- what is wrong with a line after those of a boot
 abbrev pub line_check : Boot → BootLine → Result Passed BootFault
 line_check b line = boot_check b.cores (boot_log b.lines) line
+
+-- a fault is that of the check, unless memory was refused
+abbrev pub IsOfCheck : Result Passed BootFault → BootFault → Type 0
+IsOfCheck checked f = f ≢ OutOfMemory → checked ≡ Err f
 
 -- how many bits name a slot of a CNode that a boot makes
 abbrev pub radix_made : Boot → ObjId → Option ℕ

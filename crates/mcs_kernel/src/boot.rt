@@ -1,11 +1,11 @@
 //! The boot: how a machine begins (own).
-ghost use Rattle.std.specs.Prelude.{◌≡◌, ◌<◌, ◌≢◌, ◌⊎◌, ◌↔◌, [], IsTrue, IfOk, IfErr, OnOk, OnErr, Err, is_ok, reverse};
+ghost use Rattle.std.specs.Prelude.{◌≡◌, ◌<◌, ◌⊎◌, ◌↔◌, [], IsTrue, IfOk, IfErr, OnOk, OnErr, Err, is_ok, reverse};
 ghost use Rattle.mcs_types.specs.declared.boot.BootFault.{BootFault};
 ghost use Rattle.mcs_book.specs.Logs.{counted};
 ghost use Rattle.mcs_book.specs.Objects.{makes_kind};
 ghost use Rattle.mcs_types.specs.Limits.{core_limit};
 ghost use Rattle.mcs_book.specs.Boots.{boot_log, IsFaultless};
-ghost use Rattle.mcs_kernel.specs.Booted.{adds_line, line_check, radix_made};
+ghost use Rattle.mcs_kernel.specs.Booted.{adds_line, line_check, radix_made, IsOfCheck};
 
 mod checks;
 mod taking;
@@ -63,8 +63,7 @@ impl Boot {
         ensures err { OnErr result (self.new ≡ self.old) }
         ensures passed { OnOk result (IsTrue (is_ok (line_check self.old line))) }
         ensures wrong { IfErr (line_check self.old line) (λ f. result ≡ Err f) }
-        ensures fault { IfErr result (λ f. f ≢ BootFault.OutOfMemory → line_check self.old line
-            ≡ Err f) }
+        ensures fault { IfErr result (IsOfCheck (line_check self.old line)) }
     {
         check(&self.state, &line)?;
         match takes_line(&mut self.state, line) {

@@ -1,7 +1,8 @@
 -- How much of an input is read.
 use Rattle.std.specs.Prelude.{◌≡◌, ℕ, ◌+◌, ◌≤◌, ◌⊎◌, Option, false, not, List, [], ◌∷◌, ◌++◌, length, ◌==◌, if◌then◌else◌}
-use Rattle.std.specs.Io.KnownBytes.{IsAtEnd}
+use Rattle.std.specs.Io.KnownBytes.{IsAtEnd, Consumes}
 use Rattle.mcs_sim.specs.declared.source.Begun.{Begun}
+use Rattle.mcs_sim.specs.declared.source.Source.{Source}
 use Rattle.mcs_text.specs.Reading.{lines_of}
 
 -- before the first line
@@ -40,3 +41,11 @@ IsWithin text = IsShort text ⊎ IsTooLong text
 -- reading a text has ended: at the end of the input before it was too long, or as soon as it was
 abbrev pub EndsReading : Option (List ℕ) → List ℕ → Type 0
 EndsReading left text = (IsAtEnd left × IsShort text) ⊎ IsTooLong text
+
+-- these bytes were read from a source
+abbrev pub Reads : {R : Type 0} → (R → Option (List ℕ)) → (old new : Source R) → List ℕ → Type 0
+Reads remaining old new bytes = Consumes (remaining old.reader) (remaining new.reader) bytes
+
+-- some bytes were read, and none behind the one that makes them too many
+abbrev pub ReadsWithin : {R : Type 0} → (R → Option (List ℕ)) → (old new : Source R) → Type 0
+ReadsWithin remaining old new = (bytes : List ℕ) × Reads remaining old new bytes × IsWithin bytes

@@ -8,11 +8,13 @@ use Rattle.mcs_book.specs.Fair.{IsFair}
 use Rattle.mcs_kernel.specs.Runs.{full_after}
 use Rattle.mcs_text.specs.declared.fault.LineFault.{LineFault}
 use Rattle.mcs_text.specs.Output.{Moves}
+use Rattle.mcs_text.specs.declared.sink.Sink.{Sink}
 use Rattle.mcs_sim.specs.declared.fault.SimFault.{SimFault}
 use Rattle.mcs_sim.specs.declared.fault.SimFault.TheVariants as fault
 use Rattle.mcs_sim.specs.Trace.{trace}
 use Rattle.mcs_sim.specs.Script.{Script, steps}
 use Rattle.mcs_sim.specs.Input.{IsWithin, EndsReading}
+use Rattle.mcs_sim.specs.declared.source.Source.{Source}
 
 -- the trace of the book that the steps make after a boot
 unfoldable pub script_trace : Option Boot → List Step → List ℕ
@@ -36,6 +38,14 @@ written text = told (steps text).0 (steps text).1
 -- a beginning of this text was written
 abbrev pub Begins : (old new : Option (List ℕ)) (text : List ℕ) → Type 0
 Begins old new text = (rest : List ℕ) × Moves old new text rest
+
+-- this text was written to a sink
+abbrev pub Writes : {W : Type 0} → (W → Option (List ℕ)) → (old new : Sink W) → List ℕ → Type 0
+Writes contents old new text = Appends (contents old.writer) (contents new.writer) text
+
+-- a beginning of this text was written to a sink
+abbrev pub WritesBeginning : {W : Type 0} → (W → Option (List ℕ)) → (old new : Sink W) → List ℕ → Type 0
+WritesBeginning contents old new text = Begins (contents old.writer) (contents new.writer) text
 
 -- the book is full at a step of this script
 abbrev pub IsFull : Option Boot → List Step → Type 0
@@ -96,3 +106,11 @@ abbrev pub Ends : SimFault → (left left' out out' : Option (List ℕ)) → Typ
 Ends fault.Read left left' out out' = (text : List ℕ) × Consumes left left' text × IsWithin text × Appends out out' []
 Ends fault.OutOfMemory left left' out out' = (text : List ℕ) × Consumes left left' text × IsWithin text × Begins out out' (written text)
 Ends e left left' out out' = (text : List ℕ) × Consumes left left' text × EndsReading left' text × Leaves e out out' text
+
+-- a run from a source to a sink was finished
+abbrev pub Finished : {R W : Type 0} → (R → Option (List ℕ)) → (W → Option (List ℕ)) → (from from' : Source R) → (to to' : Sink W) → Type 0
+Finished remaining contents from from' to to' = Finishes (remaining from.reader) (remaining from'.reader) (contents to.writer) (contents to'.writer)
+
+-- a run from a source to a sink was ended by a fault
+abbrev pub EndedBy : {R W : Type 0} → (R → Option (List ℕ)) → (W → Option (List ℕ)) → (from from' : Source R) → (to to' : Sink W) → SimFault → Type 0
+EndedBy remaining contents from from' to to' e = Ends e (remaining from.reader) (remaining from'.reader) (contents to.writer) (contents to'.writer)

@@ -1,9 +1,9 @@
 //! From bytes to bytes.
-ghost use Rattle.std.specs.Prelude.{◌≡◌, ◌≤◌, IfOk, IfErr, OnOk, OnErr, Err, None};
+ghost use Rattle.std.specs.Prelude.{◌≡◌, ◌≤◌, IfOk, IfErr, OnOk, Err, None};
 ghost use Rattle.std.specs.Io.KnownBytes.{Appends};
 ghost use Rattle.mcs_text.specs.Output.{Rose};
 ghost use Rattle.mcs_sim.specs.Script.{steps};
-ghost use Rattle.mcs_sim.specs.Runs.{script_trace, written, IsRoomy, IsFairRun, Leaves, Stops, Finishes, Ends};
+ghost use Rattle.mcs_sim.specs.Runs.{script_trace, written, IsRoomy, IsFairRun, Leaves, Stops, Finished, EndedBy};
 
 use crate::fault::SimFault;
 use crate::script::{ReadFault, Script};
@@ -97,21 +97,19 @@ fn run_text<W: Write>(alloc: Global, text: &[u8], sink: &mut Sink<W>) -> Result<
 /// byte is a fault.
 pub fn simulate<R: Read, W: Write>(
     alloc: Global,
-    source: &mut Source<R>,
-    sink: &mut Sink<W>,
+    from: &mut Source<R>,
+    to: &mut Sink<W>,
 ) -> Result<(), SimFault>
-    ensures ok { OnOk result (Finishes (R.remaining source.old.reader)
-        (R.remaining source.new.reader) (W.contents sink.old.writer) (W.contents sink.new.writer)) }
-    ensures err { IfErr result (λ e. Ends e (R.remaining source.old.reader)
-        (R.remaining source.new.reader) (W.contents sink.old.writer) (W.contents sink.new.writer)) }
-    ensures read_failed { result ≡ Err SimFault.Read → Rose source.old.failed source.new.failed }
-    ensures write_failed { result ≡ Err SimFault.Write → Rose sink.old.failed sink.new.failed }
-    ensures counts { (source.old.failed ≤ source.new.failed) × (sink.old.failed ≤ sink.new.failed) }
+    ensures ok { OnOk result (Finished R.remaining W.contents from.old from.new to.old to.new) }
+    ensures err { IfErr result (EndedBy R.remaining W.contents from.old from.new to.old to.new) }
+    ensures read_failed { result ≡ Err SimFault.Read → Rose from.old.failed from.new.failed }
+    ensures write_failed { result ≡ Err SimFault.Write → Rose to.old.failed to.new.failed }
+    ensures counts { (from.old.failed ≤ from.new.failed) × (to.old.failed ≤ to.new.failed) }
 {
-    let text = match source.read_all(alloc) {
+    let text = match from.read_all(alloc) {
         Ok(text) => text,
         Err(source::ReadFault::Read) => return Err(SimFault::Read),
         Err(source::ReadFault::OutOfMemory) => return Err(SimFault::OutOfMemory),
     };
-    run_text(alloc, &text, sink)
+    run_text(alloc, &text, to)
 }

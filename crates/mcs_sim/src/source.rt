@@ -1,5 +1,5 @@
 //! Reading from any reader.
-ghost use Rattle.std.specs.Prelude.{◌≡◌, ℕ, ◌+◌, ◌^◌, List, ◌<◌, ◌≤◌, [], length, take, IfOk, OnErr, Err};
+ghost use Rattle.std.specs.Prelude.{◌≡◌, ◌+◌, ◌^◌, ◌<◌, ◌≤◌, length, take, IfOk, OnErr, Err};
 ghost use Rattle.std.specs.Io.KnownBytes.{Consumes, Keeps, IsAtEnd};
 ghost use Rattle.mcs_text.specs.Output.{Rose};
 
@@ -118,17 +118,14 @@ impl<R> Source<R> {
 }
 
 impl<R: Read> Source<R> {
-    ghost use Rattle.mcs_sim.specs.Input.{EndsReading, IsWithin};
+    ghost use Rattle.mcs_sim.specs.Input.{EndsReading, Reads, ReadsWithin};
 
     /// All bytes to the end, or to the first byte of the line after the last that a script may have, or as many bytes as all
     /// lines may have and one more.
     pub fn read_all(&mut self, alloc: Global) -> Result<Vec<u8>, ReadFault>
-        ensures bytes { IfOk result (λ v. Consumes (R.remaining self.old.reader)
-            (R.remaining self.new.reader) v.items) }
+        ensures bytes { IfOk result (λ v. Reads R.remaining self.old self.new v.items) }
         ensures end { IfOk result (λ v. EndsReading (R.remaining self.new.reader) v.items) }
-        ensures err { OnErr result ((bytes : List ℕ)
-            × Consumes (R.remaining self.old.reader) (R.remaining self.new.reader) bytes
-            × IsWithin bytes) }
+        ensures err { OnErr result (ReadsWithin R.remaining self.old self.new) }
         ensures count { self.old.failed ≤ self.new.failed }
         ensures rose { result ≡ Err ReadFault.Read → Rose self.old.failed self.new.failed }
     {

@@ -1,8 +1,8 @@
 //! The trace of a book.
-ghost use Rattle.std.specs.Prelude.{◌≡◌, ◌+◌, ◌^◌, List, ℕ, ◌<◌, ◌≤◌, OnOk, OnErr, length, reverse, Err};
-ghost use Rattle.std.specs.Io.KnownBytes.{Appends};
-ghost use Rattle.mcs_text.specs.Output.{Moves, Puts, Rose};
+ghost use Rattle.std.specs.Prelude.{◌≡◌, ◌+◌, ◌^◌, ◌<◌, ◌≤◌, OnOk, OnErr, reverse, Err};
+ghost use Rattle.mcs_text.specs.Output.{Puts, Rose};
 ghost use Rattle.mcs_sim.specs.Trace.{sent_with, sent_after, boot_lines_trace, records_trace, line_trace, lines_trace, trace};
+ghost use Rattle.mcs_sim.specs.Runs.{Writes, WritesBeginning};
 
 use crate::fault::SimFault;
 use mcs_book::{Book, Line};
@@ -87,11 +87,8 @@ fn put_book<W: Write>(sink: &mut Sink<W>, book: &Book)
 /// Writes the trace of a book: its boot, and then for each line its step, its answer and its records. What the sink kept back
 /// is dropped first. Only the writer can fail it.
 pub fn trace<W: Write>(book: &Book, sink: &mut Sink<W>) -> Result<(), SimFault>
-    ensures ok { OnOk result (Appends (W.contents sink.old.writer) (W.contents sink.new.writer)
-        (trace book.now.book)) }
-    ensures err { OnErr result ((rest : List ℕ)
-        × Moves (W.contents sink.old.writer) (W.contents sink.new.writer) (trace book.now.book)
-        rest) }
+    ensures ok { OnOk result (Writes W.contents sink.old sink.new (trace book.now.book)) }
+    ensures err { OnErr result (WritesBeginning W.contents sink.old sink.new (trace book.now.book)) }
     ensures fault { OnErr result (result ≡ Err SimFault.Write) }
     ensures rose { OnErr result (Rose sink.old.failed sink.new.failed) }
     ensures count { sink.old.failed ≤ sink.new.failed }

@@ -14,7 +14,7 @@ returns-in-Err-OutOfMemory-clause-err g c = let read = c.in-Err-OutOfMemory.ensu
 pub returns-clause-ok : goal.returns-clause-ok
 returns-clause-ok g c =
     let same = sym c.deref.ensures.value in
-    let before = g.R.Read.remaining c.args.source.now.reader in
+    let before = g.R.Read.remaining c.args.from.now.reader in
     let after = g.R.Read.remaining c.read_all.new.self.reader in
     OnOk-finishes _ before after _ _ c.deref.result.now (subst (λ (text : List ℕ). Consumes before after text) same c.in-Ok.ensures.bytes)
     (subst (λ (text : List ℕ). EndsReading after text) same c.in-Ok.ensures.end) c.run_text.ensures.ok c.run_text.ensures.faultless c.run_text.ensures.fair
@@ -22,7 +22,7 @@ returns-clause-ok g c =
 pub returns-clause-err : goal.returns-clause-err
 returns-clause-err g c =
     let same = sym c.deref.ensures.value in
-    let before = g.R.Read.remaining c.args.source.now.reader in
+    let before = g.R.Read.remaining c.args.from.now.reader in
     let after = g.R.Read.remaining c.read_all.new.self.reader in
     IfErr-ends _ before after _ _ c.deref.result.now (subst (λ (text : List ℕ). Consumes before after text) same c.in-Ok.ensures.bytes)
     (subst (λ (text : List ℕ). EndsReading after text) same c.in-Ok.ensures.end) c.run_text.ensures.err
