@@ -8,7 +8,7 @@ use crate::arena::{Arena, length_of, message_at};
 use mcs_types::{Badge, Entry, Message, Place, Prio, Rights};
 
 /// The entries that send a message over one capability.
-#[derive(Clone, Copy, PartialEq, Eq, Debug)]
+#[derive(Clone, Copy)]
 pub enum Sending {
     Send,
     NbSend,
@@ -16,7 +16,7 @@ pub enum Sending {
 }
 
 /// The entries with two addresses.
-#[derive(Clone, Copy, PartialEq, Eq, Debug)]
+#[derive(Clone, Copy)]
 pub enum OverPair {
     Recv,
     NbRecv,
@@ -25,7 +25,7 @@ pub enum OverPair {
 }
 
 /// The entries with one address.
-#[derive(Clone, Copy, PartialEq, Eq, Debug)]
+#[derive(Clone, Copy)]
 pub enum OverAddress {
     Wait,
     NbWait,
@@ -38,7 +38,7 @@ pub enum OverAddress {
 }
 
 /// The entries with one place.
-#[derive(Clone, Copy, PartialEq, Eq, Debug)]
+#[derive(Clone, Copy)]
 pub enum OverPlace {
     DeleteCap,
     MakeEndpoint,
@@ -49,7 +49,7 @@ pub enum OverPlace {
 
 /// An entry, packed: `at` is a place among the words, of a message with `len` words or of a badge. Addresses stand in the order
 /// in which the entry names them, and a place as its depth and its index.
-#[derive(Clone, Copy, PartialEq, Eq, Debug)]
+#[derive(Clone, Copy)]
 pub enum PackedEntry {
     Sends {
         form: Sending,

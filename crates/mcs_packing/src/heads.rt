@@ -8,7 +8,7 @@ use crate::entries::PackedEntry;
 use mcs_types::{Answer, Badge, CoreId, Kind, Refusal};
 
 /// An answer, packed: `at` is a place among the words, of a message with so many words or of a word.
-#[derive(Clone, Copy, PartialEq, Eq, Debug)]
+#[derive(Clone, Copy)]
 pub enum PackedAnswer {
     Done,
     Got { len: u8, at: u32 },

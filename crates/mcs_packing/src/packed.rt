@@ -9,7 +9,7 @@ use mcs_types::{
 };
 
 /// Which line of an object.
-#[derive(Clone, Copy, PartialEq, Eq, Debug)]
+#[derive(Clone, Copy)]
 pub enum Side {
     Senders,
     Receivers,
@@ -17,7 +17,7 @@ pub enum Side {
 }
 
 /// A record, packed: an object whose kind the record tells is its serial, and `at` is a place among the words.
-#[derive(Clone, Copy, PartialEq, Eq, Debug)]
+#[derive(Clone, Copy)]
 pub enum Packed {
     /// An object that keeps nothing was made.
     Made {

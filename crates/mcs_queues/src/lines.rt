@@ -7,11 +7,11 @@ use mcs_types::{OutOfMemory, Prio};
 use std::alloc::Global;
 
 /// The number of a thread, counted from 0.
-#[derive(Clone, Copy, PartialEq, Eq, PartialOrd, Ord, Hash, Debug)]
+#[derive(Clone, Copy, PartialEq, Eq, Debug)]
 pub struct ThreadNo(pub u16);
 
 /// The number of a line, counted from 0.
-#[derive(Clone, Copy, PartialEq, Eq, PartialOrd, Ord, Hash, Debug)]
+#[derive(Clone, Copy, PartialEq, Eq, Debug)]
 pub struct LineNo(pub u16);
 
 /// Lines in which threads wait. The greatest priority stands first, and within one priority who came first (seL4 Reference
