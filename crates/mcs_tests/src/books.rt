@@ -102,15 +102,31 @@ fn slots(alloc: Global, ids: &Ids) -> Result<Vec<Rec>, Fail> {
     Ok(facts)
 }
 
-/// How threads run, stand in queues, hold contexts and are bound.
+/// How threads run, hold contexts and are bound.
 fn threads(alloc: Global, ids: &Ids) -> Result<Vec<Rec>, Fail> {
     let mut facts = Vec::new(alloc);
-    let thread = ids.thread;
+    let (thread, context) = (ids.thread, ids.context);
     let priority = Prio(255);
     facts.push(Rec::Prio { thread, priority })?;
     for mode in [Mode::Running, Mode::Restart, Mode::Inactive] {
         facts.push(Rec::Turns { thread, mode })?;
     }
+    for thread in [None, Some(thread)] {
+        facts.push(Rec::Holds { context, thread })?;
+    }
+    for notification in [None, Some(ids.notification)] {
+        facts.push(Rec::Tied {
+            thread,
+            notification,
+        })?;
+    }
+    Ok(facts)
+}
+
+/// How threads stand in queues.
+fn queued(alloc: Global, ids: &Ids) -> Result<Vec<Rec>, Fail> {
+    let mut facts = Vec::new(alloc);
+    let thread = ids.thread;
     let queues = [
         Queue::Senders(ids.endpoint),
         Queue::Receivers(ids.endpoint),
@@ -125,16 +141,6 @@ fn threads(alloc: Global, ids: &Ids) -> Result<Vec<Rec>, Fail> {
             })?;
         }
         facts.push(Rec::Parts { thread, queue })?;
-    }
-    let context = ids.context;
-    for thread in [None, Some(thread)] {
-        facts.push(Rec::Holds { context, thread })?;
-    }
-    for notification in [None, Some(ids.notification)] {
-        facts.push(Rec::Tied {
-            thread,
-            notification,
-        })?;
     }
     Ok(facts)
 }
@@ -177,27 +183,30 @@ fn messages(alloc: Global, ids: &Ids) -> Result<Vec<Rec>, Fail> {
 
 /// What reply objects owe, and how that ends.
 fn debts(alloc: Global, ids: &Ids) -> Result<Vec<Rec>, Fail> {
-    let mut facts = Vec::new(alloc);
     let (reply, caller) = (ids.reply, ids.thread);
-    for context in [None, Some(ids.context)] {
-        facts.push(Rec::Owes {
-            reply,
-            caller,
-            context,
-        })?;
-    }
-    facts.push(Rec::Paid {
+    let owes = |context| Rec::Owes {
         reply,
         caller,
-        message: message(&[4, 3, 2, 1])?,
-    })?;
-    for ending in [Ending::Deleted, Ending::Cancelled] {
-        facts.push(Rec::Void {
-            reply,
-            caller,
-            ending,
-        })?;
-    }
+        context,
+    };
+    let void = |ending| Rec::Void {
+        reply,
+        caller,
+        ending,
+    };
+    let message = message(&[4, 3, 2, 1])?;
+    let paid = Rec::Paid {
+        reply,
+        caller,
+        message,
+    };
+    let facts = vec![in alloc;
+        owes(None),
+        owes(Some(ids.context)),
+        paid,
+        void(Ending::Deleted),
+        void(Ending::Cancelled),
+    ]?;
     Ok(facts)
 }
 
@@ -205,21 +214,29 @@ fn debts(alloc: Global, ids: &Ids) -> Result<Vec<Rec>, Fail> {
 fn records(alloc: Global, ids: &Ids) -> Result<Vec<Rec>, Fail> {
     let mut facts = slots(alloc, ids)?;
     facts.append(&mut threads(alloc, ids)?)?;
+    facts.append(&mut queued(alloc, ids)?)?;
     facts.append(&mut messages(alloc, ids)?)?;
     facts.append(&mut debts(alloc, ids)?)?;
     Ok(facts)
 }
 
-/// The entries that name addresses alone.
-fn addresses(alloc: Global) -> Result<Vec<Entry>, Fail> {
-    let (cap, reply, thread) = (u64::MAX, 1, u64::MAX - 1);
-    let (notification, context, endpoint) = (2, u64::MAX - 2, 3);
+/// The entries that receive, and a signal.
+fn receives(alloc: Global) -> Result<Vec<Entry>, Fail> {
+    let (cap, reply) = (u64::MAX, 1);
     let entries = vec![in alloc;
         Entry::Recv { cap, reply },
         Entry::NbRecv { cap, reply },
         Entry::Wait { cap },
         Entry::NbWait { cap },
         Entry::Signal { cap },
+    ]?;
+    Ok(entries)
+}
+
+/// The entries that change what threads, notifications and contexts are to each other.
+fn changes(alloc: Global) -> Result<Vec<Entry>, Fail> {
+    let (thread, notification, context) = (u64::MAX - 1, 2, u64::MAX - 2);
+    let entries = vec![in alloc;
         Entry::SetPriority {
             thread,
             authority: 4,
@@ -234,7 +251,7 @@ fn addresses(alloc: Global) -> Result<Vec<Entry>, Fail> {
         Entry::UnbindNtfn { thread },
         Entry::BindCtx { context, thread },
         Entry::UnbindCtx { context },
-        Entry::CancelBadged { endpoint },
+        Entry::CancelBadged { endpoint: 3 },
     ]?;
     Ok(entries)
 }
@@ -335,7 +352,8 @@ fn put_line<W: Write>(sink: &mut Sink<W>, line: &Line<'_>) {
 /// Adds a line for each of the entries, whose answers take turns, and writes what was added.
 fn add_lines<W: Write>(alloc: Global, book: &mut Book, sink: &mut Sink<W>) -> Result<(), Fail> {
     let answers = answers(alloc)?;
-    let mut entries = addresses(alloc)?;
+    let mut entries = receives(alloc)?;
+    entries.append(&mut changes(alloc)?)?;
     entries.append(&mut sends(alloc)?)?;
     entries.append(&mut placed(alloc)?)?;
     for entry in entries {

@@ -24,4 +24,6 @@ mod runs;
 #[cfg(test)]
 mod slots;
 #[cfg(test)]
+mod streams;
+#[cfg(test)]
 mod tables;

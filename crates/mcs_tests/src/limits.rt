@@ -1,13 +1,12 @@
 //! Scripts that are cut, long lines, and numbers at the ends of their ranges.
-use crate::runs::{BOOT, RUNS, run};
+use crate::runs::{BOOT, FIRST_STEPS, run};
 use mcs_sim::SimFault;
 use mcs_text::LineFault;
 use std::test::Fail;
 
 #[test]
 fn a_script_cut_anywhere_is_read_or_faulty(rt: HostRuntime) -> Result<(), Fail> {
-    let (_, steps, _) = RUNS[0];
-    let script = format!(in rt.alloc(); "{BOOT}{steps}")?;
+    let script = format!(in rt.alloc(); "{BOOT}{FIRST_STEPS}")?;
     for end in 0..=script.len() {
         let (result, _) = run(rt.alloc(), &script.as_bytes()[..end])?;
         let is_told = matches!(result, Ok(()) | Err(SimFault::Script { .. }));

@@ -2,6 +2,8 @@
 use mcs_cspace::{lookup, lookup_slot};
 use mcs_slots::{SlotId, Slots};
 use mcs_types::{Badge, Cap, Guard, Kind, ObjId, Place, Refusal, Rights};
+use std::alloc::Global;
+use std::test::Fail;
 
 fn slot(cnode: u32, index: u8) -> SlotId {
     let cnode = ObjId {
@@ -9,82 +11,6 @@ fn slot(cnode: u32, index: u8) -> SlotId {
         serial: cnode,
     };
     SlotId { cnode, index }
-}
-
-#[test]
-fn capabilities_and_slots_are_found(rt: HostRuntime) {
-    let made = Slots::new(rt.alloc(), &[4, 3]);
-    assert!(rt; made.is_ok());
-    let (Ok(mut slots), Some(none), Some(all)) = (made, Rights::new(0), Rights::new(15)) else {
-        return;
-    };
-    let root = Cap {
-        obj: slot(1, 0).cnode,
-        rights: none,
-        badge: Badge(0),
-        guard: Guard { bits: 55, value: 0 },
-    };
-    let inner = Cap {
-        obj: slot(2, 0).cnode,
-        rights: none,
-        badge: Badge(0),
-        guard: Guard { bits: 2, value: 1 },
-    };
-    let endpoint = Cap {
-        obj: ObjId {
-            kind: Kind::Endpoint,
-            serial: 1,
-        },
-        rights: all,
-        badge: Badge(7),
-        guard: Guard { bits: 0, value: 0 },
-    };
-    let (first, second) = (slot(1, 2), slot(2, 5));
-    assert!(rt; slots.has_slot(first));
-    slots.put(first, inner.again());
-    assert!(rt; slots.has_slot(second));
-    slots.put(second, endpoint.again());
-    // the slot 2 of 16, the guard 01, and the slot 5 of 8
-    let address = 0b0010_01_101;
-    assert_eq!(rt; lookup(&slots, root.again(), address), Ok(endpoint));
-    assert_eq!(rt;
-        lookup(&slots, root.again(), address + 1),
-        Err(Refusal::Missing)
-    );
-    assert_eq!(rt;
-        lookup(&slots, root.again(), 0b0010_00_101),
-        Err(Refusal::GuardMismatch)
-    );
-    assert_eq!(rt;
-        lookup(&slots, root.again(), 0b0011_01_101),
-        Err(Refusal::Missing)
-    );
-    let whole = Place {
-        index: address,
-        depth: 64,
-    };
-    assert_eq!(rt; lookup_slot(&slots, root.again(), whole), Ok(second));
-    let outer = Place {
-        index: 2,
-        depth: 59,
-    };
-    assert_eq!(rt; lookup_slot(&slots, root.again(), outer), Ok(first));
-    let short = Place {
-        index: address >> 1,
-        depth: 63,
-    };
-    assert_eq!(rt;
-        lookup_slot(&slots, root.again(), short),
-        Err(Refusal::DepthMismatch)
-    );
-    let deep = Place {
-        index: address,
-        depth: 65,
-    };
-    assert_eq!(rt;
-        lookup_slot(&slots, root.again(), deep),
-        Err(Refusal::Range)
-    );
 }
 
 /// A capability to a CNode.
@@ -95,6 +21,65 @@ fn root(cnode: u32, rights: Rights, guard: Guard) -> Cap {
         badge: Badge(0),
         guard,
     }
+}
+
+/// Two CNodes, of 16 and of 8 slots: slot 2 of the first leads with the guard 01 to the second, whose slot 5 holds a capability
+/// to an endpoint. Beside it the root, with a guard of 55 zeros, and that capability.
+fn two_levels(alloc: Global) -> Result<(Slots, Cap, Cap), Fail> {
+    let mut slots = Slots::new(alloc, &[4, 3])?;
+    let none = Rights::new(0).ok_or("no right")?;
+    let endpoint = Cap {
+        obj: ObjId {
+            kind: Kind::Endpoint,
+            serial: 1,
+        },
+        rights: Rights::new(15).ok_or("all rights")?,
+        badge: Badge(7),
+        guard: Guard { bits: 0, value: 0 },
+    };
+    let inner = root(2, none, Guard { bits: 2, value: 1 });
+    for (at, cap) in [(slot(1, 2), inner), (slot(2, 5), endpoint.again())] {
+        if !slots.has_slot(at) {
+            return Err(Fail::from("no such slot"));
+        }
+        slots.put(at, cap);
+    }
+    let outer = root(1, none, Guard { bits: 55, value: 0 });
+    Ok((slots, outer, endpoint))
+}
+
+/// The slot 2 of 16, the guard 01, and the slot 5 of 8.
+const ADDRESS: u64 = 0b0010_01_101;
+
+#[test]
+fn capabilities_are_found(rt: HostRuntime) -> Result<(), Fail> {
+    let (slots, root, endpoint) = two_levels(rt.alloc())?;
+    let found = [
+        (ADDRESS, Ok(endpoint)),
+        (ADDRESS + 1, Err(Refusal::Missing)),
+        (0b0010_00_101, Err(Refusal::GuardMismatch)),
+        (0b0011_01_101, Err(Refusal::Missing)),
+    ];
+    for (address, want) in found {
+        assert_eq!(rt; lookup(&slots, root.again(), address), want);
+    }
+    Ok(())
+}
+
+#[test]
+fn slots_are_found(rt: HostRuntime) -> Result<(), Fail> {
+    let (slots, root, _) = two_levels(rt.alloc())?;
+    let found = [
+        (ADDRESS, 64, Ok(slot(2, 5))),
+        (2, 59, Ok(slot(1, 2))),
+        (ADDRESS >> 1, 63, Err(Refusal::DepthMismatch)),
+        (ADDRESS, 65, Err(Refusal::Range)),
+    ];
+    for (index, depth, want) in found {
+        let place = Place { index, depth };
+        assert_eq!(rt; lookup_slot(&slots, root.again(), place), want);
+    }
+    Ok(())
 }
 
 #[test]

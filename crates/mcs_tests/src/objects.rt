@@ -1,34 +1,35 @@
 //! Stores of objects.
 use mcs_objects::Store;
-use mcs_types::{Kind, ObjId};
+use mcs_types::{Kind, ObjId, OutOfMemory};
+use std::alloc::Global;
+
+fn endpoint(serial: u32) -> ObjId {
+    ObjId {
+        kind: Kind::Endpoint,
+        serial,
+    }
+}
+
+/// A store with room for two, which is full.
+fn two(alloc: Global) -> Result<Store<u64>, OutOfMemory> {
+    let mut store = Store::with_room(alloc, Kind::Endpoint, 2)?;
+    for value in [10, 20] {
+        if !store.is_full() {
+            store.add(value);
+        }
+    }
+    Ok(store)
+}
 
 #[test]
 fn objects_are_found(rt: HostRuntime) {
-    let made = Store::with_room(rt.alloc(), Kind::Endpoint, 2);
+    let made = two(rt.alloc());
     assert!(rt; made.is_ok());
     let Ok(mut store) = made else {
         return;
     };
     store.are_apart();
-    let a = ObjId {
-        kind: Kind::Endpoint,
-        serial: 1,
-    };
-    let b = ObjId {
-        kind: Kind::Endpoint,
-        serial: 2,
-    };
-    let c = ObjId {
-        kind: Kind::Endpoint,
-        serial: 3,
-    };
-    assert!(rt; store.make(10u64).is_ok_and(|id| id == a));
-    assert!(rt; store.make(20).is_ok_and(|id| id == b));
-    assert!(rt; store.is_full());
-    assert!(rt;
-        store.make(30).is_err_and(|full| full.value == 30),
-        "two are there"
-    );
+    let (a, b) = (endpoint(1), endpoint(2));
     assert_eq!(rt; store.get(a).copied(), Some(10));
     assert_eq!(rt; store.place(a), Some(0));
     assert_eq!(rt; store.place(b), Some(1));
@@ -36,21 +37,29 @@ fn objects_are_found(rt: HostRuntime) {
         *value = 21;
     }
     assert_eq!(rt; store.get(b).copied(), Some(21));
-    assert_eq!(rt; store.remove(a), Some(10));
-    assert_eq!(rt; store.remove(a), None);
-    assert_eq!(rt; store.given(), 2);
-    assert_eq!(rt; store.len(), 1);
-    assert!(rt; store.make(30).is_ok_and(|id| id == c));
-    assert_eq!(rt;
-        store.get(a).copied(),
-        None,
-        "its serial is not given again"
-    );
-    assert_eq!(rt; store.place(c), Some(0));
-    assert_eq!(rt; store.place(b), Some(1));
     let foreign = ObjId {
         kind: Kind::Thread,
         serial: 2,
     };
     assert_eq!(rt; store.get(foreign).copied(), None);
+}
+
+#[test]
+fn a_place_comes_again_and_a_serial_does_not(rt: HostRuntime) {
+    let made = two(rt.alloc());
+    assert!(rt; made.is_ok());
+    let Ok(mut store) = made else {
+        return;
+    };
+    let (a, b, c) = (endpoint(1), endpoint(2), endpoint(3));
+    assert!(rt; store.is_full());
+    assert!(rt; store.make(30).is_err_and(|full| full.value == 30));
+    assert_eq!(rt; store.remove(a), Some(10));
+    assert_eq!(rt; store.remove(a), None);
+    assert_eq!(rt; store.given(), 2);
+    assert_eq!(rt; store.len(), 1);
+    assert!(rt; store.make(30).is_ok_and(|id| id == c));
+    assert_eq!(rt; store.get(a).copied(), None);
+    assert_eq!(rt; store.place(c), Some(0));
+    assert_eq!(rt; store.place(b), Some(1));
 }

@@ -1,8 +1,8 @@
 //! Scripts and their traces.
-use mcs_sim::{SimFault, Sink, Source, simulate};
+use crate::streams::{Input, Output, pipe};
+use mcs_sim::SimFault;
 use mcs_text::LineFault;
 use std::alloc::Global;
-use std::io::Read;
 use std::test::Fail;
 
 /// A CNode, two endpoints, five threads with a context each, and capabilities to them.
@@ -97,16 +97,14 @@ thread 10 255 c1 60 0 run s2
 slot c1 1 t1
 ";
 
-/// A boot, steps after it, and what the trace has after it.
-pub const RUNS: [(&str, &str, &str); 13] = [
-    // A message that waits for its receiver.
-    (
-        BOOT,
-        "\
+/// A message that waits for its receiver.
+pub const FIRST_STEPS: &str = "\
 0 t1 send 1 7 5 6
 0 t2 recv 2 8
-",
-        "\
+";
+
+/// What the trace has for these steps.
+pub const FIRST_TRACE: &str = "\
 0 t1 send 1 7 5 6
 = waits
 + sent m0 t1 e1 send 9 7 5 6
@@ -116,8 +114,11 @@ pub const RUNS: [(&str, &str, &str); 13] = [
 + took m0 t2
 + parts t1 e1.send
 + turns t1 running
-",
-    ),
+";
+
+/// A boot, steps after it, and what the trace has after it.
+pub const RUNS: [(&str, &str, &str); 13] = [
+    (BOOT, FIRST_STEPS, FIRST_TRACE),
     // A receiver that waits for its message.
     (
         BOOT,
@@ -475,14 +476,11 @@ pub const RUNS: [(&str, &str, &str); 13] = [
 ];
 
 /// What a script gives, and the bytes that it writes.
-pub fn run<R: Read + Drop>(
-    alloc: Global,
-    reader: R,
-) -> Result<(Result<(), SimFault>, Vec<u8>), Fail> {
-    let mut source = Source::new(reader);
-    let mut written = Vec::new(alloc);
-    let result = simulate(alloc, &mut source, &mut Sink::new(alloc, &mut written));
-    Ok((result, written))
+pub fn run(alloc: Global, script: &[u8]) -> Result<(Result<(), SimFault>, Vec<u8>), Fail> {
+    let mut output = Output::new(alloc);
+    let result = pipe(alloc, Input::new(script), &mut output);
+    let Output { taken, .. } = output;
+    Ok((result, taken))
 }
 
 #[test]

@@ -3,9 +3,10 @@ use mcs_contexts::Contexts;
 use mcs_replies::{Ended, Replies};
 use mcs_threads::{Block, Threads};
 use mcs_types::{
-    Badge, Cap, CoreId, Ending, Guard, Kind, Mail, Message, Mode, ObjId, Prio, Queue, Refusal,
-    Rights, Status,
+    Badge, Cap, CoreId, Ending, Guard, Kind, Mail, Message, Mode, ObjId, OutOfMemory, Prio, Queue,
+    Refusal, Rights, Status,
 };
+use std::alloc::Global;
 
 fn object(kind: Kind, serial: u32) -> ObjId {
     ObjId { kind, serial }
@@ -155,54 +156,110 @@ fn is_chain(replies: &Replies, context: ObjId, chain: &[ObjId]) -> bool {
     replies.chain_of(context).eq(chain.iter().copied())
 }
 
+fn thread(serial: u32) -> ObjId {
+    object(Kind::Thread, serial)
+}
+
+fn context(serial: u32) -> ObjId {
+    object(Kind::Context, serial)
+}
+
+fn reply(serial: u32) -> ObjId {
+    object(Kind::Reply, serial)
+}
+
+/// Three reply objects: each of the first two owes a thread of its own serial, on the chain of the first context.
+fn two_calls(alloc: Global) -> Result<Replies, OutOfMemory> {
+    let mut replies = Replies::new(alloc)?;
+    for _ in 0..3 {
+        add(&mut replies);
+    }
+    for serial in [1, 2] {
+        replies.owe(reply(serial), thread(serial), Some(context(1)));
+    }
+    Ok(replies)
+}
+
+fn ended(caller: u32, topped: Option<ObjId>) -> Option<Ended> {
+    Some(Ended {
+        caller: thread(caller),
+        topped,
+    })
+}
+
 #[test]
-fn reply_objects_owe_and_stand_in_chains(rt: HostRuntime) {
-    let made = Replies::new(rt.alloc());
+fn a_debt_below_the_top_leaves_with_those_below(rt: HostRuntime) {
+    let made = two_calls(rt.alloc());
     assert!(rt; made.is_ok());
     let Ok(mut replies) = made else {
         return;
     };
-    let [t, u, x] = [1, 2, 3].map(|serial| object(Kind::Thread, serial));
-    let [s, o] = [1, 2].map(|serial| object(Kind::Context, serial));
-    let [a, b, c, d] = [1, 2, 3, 4].map(|serial| object(Kind::Reply, serial));
-    for reply in [a, b, c, d] {
-        assert_eq!(rt; add(&mut replies), Some(reply));
-    }
-    assert_eq!(rt; replies.made(), 4);
-    stand(&mut replies, d, Some(t));
-    assert_eq!(rt; replies.receiver(d), Some(t));
-    assert!(rt; replies.owe(a, t, Some(s)));
-    assert!(rt; replies.owe(b, u, Some(s)));
-    assert!(rt; replies.owe(d, x, Some(o)));
-    assert!(rt; replies.owe(c, x, Some(s)));
-    assert!(rt; !replies.owe(b, x, Some(o)));
-    assert_eq!(rt; replies.owed(b), Some(u));
-    assert!(rt; is_chain(&replies, s, &[c, b, a]));
-    assert_eq!(rt; replies.top_of(s), Some(c));
-    // Below the top: b and a leave the chain, and a owes still.
-    let ended = |caller, topped| Some(Ended { caller, topped });
-    assert_eq!(rt; replies.pay(b), ended(u, None));
-    assert!(rt; is_chain(&replies, s, &[c]));
-    assert_eq!(rt; replies.owed(a), Some(t));
-    assert_eq!(rt; replies.pay(b), None);
-    // At the top: b alone is taken off.
-    assert!(rt; replies.owe(b, u, Some(s)));
-    assert_eq!(rt; replies.pay(b), ended(u, Some(s)));
-    assert!(rt; is_chain(&replies, s, &[c]));
-    // Cancelled at the top: b leaves with c, which owes still.
-    assert!(rt; replies.owe(b, u, Some(s)));
-    assert_eq!(rt; replies.void(b, Ending::Cancelled), ended(u, Some(s)));
+    let s = context(1);
+    assert!(rt; replies.owe(reply(3), thread(3), Some(s)));
+    assert!(rt; is_chain(&replies, s, &[reply(3), reply(2), reply(1)]));
+    assert_eq!(rt; replies.top_of(s), Some(reply(3)));
+    assert!(rt; !replies.owe(reply(2), thread(3), Some(context(2))));
+    assert_eq!(rt; replies.pay(reply(2)), ended(2, None));
+    assert_eq!(rt; replies.pay(reply(2)), None);
+    assert!(rt; is_chain(&replies, s, &[reply(3)]));
+    assert_eq!(rt; replies.owed(reply(1)), Some(thread(1)));
+}
+
+#[test]
+fn a_debt_on_top_is_taken_off_or_cancelled(rt: HostRuntime) {
+    let made = two_calls(rt.alloc());
+    assert!(rt; made.is_ok());
+    let Ok(mut replies) = made else {
+        return;
+    };
+    let s = context(1);
+    assert_eq!(rt; replies.pay(reply(2)), ended(2, Some(s)));
+    assert!(rt; is_chain(&replies, s, &[reply(1)]));
+    assert!(rt; replies.owe(reply(2), thread(2), Some(s)));
+    assert_eq!(rt;
+        replies.void(reply(2), Ending::Cancelled),
+        ended(2, Some(s))
+    );
     assert!(rt; is_chain(&replies, s, &[]));
-    assert_eq!(rt; replies.owed(c), Some(x));
-    replies.drop_chain(o);
-    assert!(rt; is_chain(&replies, o, &[]));
+    assert_eq!(rt; replies.owed(reply(1)), Some(thread(1)));
+}
+
+#[test]
+fn reply_objects_are_made_and_closed(rt: HostRuntime) {
+    let made = two_calls(rt.alloc());
+    assert!(rt; made.is_ok());
+    let Ok(mut replies) = made else {
+        return;
+    };
+    assert_eq!(rt; replies.made(), 3);
+    replies.drop_chain(context(1));
+    assert!(rt; is_chain(&replies, context(1), &[]));
     replies.are_chained();
-    assert_eq!(rt; replies.void(d, Ending::Deleted), ended(x, None));
-    assert!(rt; !close(&mut replies, d));
-    stand(&mut replies, d, None);
-    assert!(rt; close(&mut replies, d));
-    assert!(rt; !replies.is_there(d));
-    assert_eq!(rt; add(&mut replies), Some(object(Kind::Reply, 5)));
+    stand(&mut replies, reply(2), Some(thread(4)));
+    assert_eq!(rt; replies.receiver(reply(2)), Some(thread(4)));
+    assert_eq!(rt; replies.void(reply(2), Ending::Deleted), ended(2, None));
+    assert!(rt; !close(&mut replies, reply(2)));
+    stand(&mut replies, reply(2), None);
+    assert!(rt; close(&mut replies, reply(2)));
+    assert!(rt; !replies.is_there(reply(2)));
+    assert_eq!(rt; add(&mut replies), Some(reply(4)));
+}
+
+/// Adds a context where there is room.
+fn add_context(contexts: &mut Contexts, core: CoreId) -> Option<ObjId> {
+    if contexts.is_full() {
+        return None;
+    }
+    Some(contexts.add(core))
+}
+
+/// Closes a context that nobody holds. Whether it was one.
+fn close_context(contexts: &mut Contexts, context: ObjId) -> bool {
+    if contexts.core(context).is_none() || contexts.holder(context).is_some() {
+        return false;
+    }
+    contexts.close(context);
+    true
 }
 
 #[test]
@@ -214,9 +271,8 @@ fn contexts_are_bound_lent_and_closed(rt: HostRuntime) {
     };
     let (t, u) = (object(Kind::Thread, 1), object(Kind::Thread, 256));
     let beyond = object(Kind::Thread, 257);
-    assert!(rt; !contexts.is_full());
-    let a = contexts.add(CoreId(3));
-    assert_eq!(rt; a, object(Kind::Context, 1));
+    let a = object(Kind::Context, 1);
+    assert_eq!(rt; add_context(&mut contexts, CoreId(3)), Some(a));
     assert_eq!(rt; contexts.made(), 1);
     assert_eq!(rt; contexts.core(a), Some(CoreId(3)));
     let unmade = object(Kind::Context, 2);
@@ -231,10 +287,10 @@ fn contexts_are_bound_lent_and_closed(rt: HostRuntime) {
     assert_eq!(rt; contexts.holder(a), Some(u));
     assert!(rt; !contexts.lend(t, u));
     contexts.is_one_to_one();
+    assert!(rt; !close_context(&mut contexts, a));
     assert_eq!(rt; contexts.unbind(a), Ok(()));
     assert_eq!(rt; contexts.unbind(a), Err(Refusal::NotBound));
-    assert!(rt; contexts.core(a).is_some() && contexts.holder(a).is_none());
-    contexts.close(a);
+    assert!(rt; close_context(&mut contexts, a));
     assert_eq!(rt; contexts.core(a), None);
     assert_eq!(rt; contexts.made(), 1);
 }

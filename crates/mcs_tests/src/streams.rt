@@ -1,0 +1,94 @@
+//! Readers and writers that interrupt and fail where a test says so.
+use mcs_sim::{SimFault, Sink, Source, simulate};
+use std::alloc::Global;
+use std::io::{self, ErrorKind, Read, Write};
+
+/// Gives a text a piece at a time, then so many interruptions, then the end; where no read is left, it fails.
+#[derive(Drop)]
+pub struct Input<'a> {
+    pub text: &'a [u8],
+    pub piece: usize,
+    pub reads_left: u32,
+    pub interruptions: u32,
+}
+
+impl<'a> Input<'a> {
+    /// Gives the whole text, and fails nowhere.
+    pub fn new(text: &'a [u8]) -> Input<'a> {
+        Input {
+            text,
+            piece: usize::MAX,
+            reads_left: u32::MAX,
+            interruptions: 0,
+        }
+    }
+}
+
+impl<'a> Read for Input<'a> {
+    fn read(&mut self, buf: &mut [u8]) -> io::Result<usize> {
+        if self.text.is_empty() && self.interruptions > 0 {
+            self.interruptions -= 1;
+            return Err(io::Error::from(ErrorKind::Interrupted));
+        }
+        if self.reads_left == 0 {
+            return Err(io::Error::from(ErrorKind::TimedOut));
+        }
+        self.reads_left -= 1;
+        let count = buf.len().min(self.piece);
+        self.text.read(&mut buf[..count])
+    }
+}
+
+/// Interrupts so many writes, then takes what each brings, a piece at a time, while there is room; where no write is left, it
+/// fails.
+#[derive(Drop)]
+pub struct Output {
+    pub taken: Vec<u8>,
+    pub piece: usize,
+    pub room: usize,
+    pub writes_left: u32,
+    pub interruptions: u32,
+}
+
+impl Output {
+    /// Takes all that is written, and fails nowhere.
+    pub fn new(alloc: Global) -> Output {
+        Output {
+            taken: Vec::new(alloc),
+            piece: usize::MAX,
+            room: usize::MAX,
+            writes_left: u32::MAX,
+            interruptions: 0,
+        }
+    }
+}
+
+impl Write for Output {
+    fn write(&mut self, buf: &[u8]) -> io::Result<usize> {
+        if self.interruptions > 0 {
+            self.interruptions -= 1;
+            return Err(io::Error::from(ErrorKind::Interrupted));
+        }
+        if self.writes_left == 0 {
+            return Err(io::Error::from(ErrorKind::TimedOut));
+        }
+        self.writes_left -= 1;
+        let count = buf.len().min(self.piece).min(self.room);
+        self.taken.extend_from_slice(&buf[..count])?;
+        self.room -= count;
+        Ok(count)
+    }
+
+    fn flush(&mut self) -> io::Result<()> {
+        Ok(())
+    }
+}
+
+/// What the replay of a script gives, from a reader to a writer.
+pub fn pipe(alloc: Global, input: Input<'_>, output: &mut Output) -> Result<(), SimFault> {
+    simulate(
+        alloc,
+        &mut Source::new(input),
+        &mut Sink::new(alloc, output),
+    )
+}
