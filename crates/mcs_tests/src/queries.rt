@@ -126,6 +126,28 @@ fn status_and_mail_follow_a_message(rt: HostRuntime) -> Result<(), Fail> {
     Ok(())
 }
 
+#[test]
+fn status_and_mail_follow_a_call(rt: HostRuntime) -> Result<(), Fail> {
+    let mut kernel = booted(rt.alloc(), five_threads(rt.alloc()))?;
+    let entry = Entry::Recv { cap: 2, reply: 8 };
+    let waits = enter(rt.alloc(), &mut kernel, 0, 2, entry);
+    assert!(rt; matches!(waits, Ok(Answer::Waits)));
+    let message = Message::new(7, &[5, 6]).ok_or("too many words")?;
+    let entry = Entry::Call { cap: 2, message };
+    let called = enter(rt.alloc(), &mut kernel, 0, 1, entry);
+    assert!(rt; matches!(called, Ok(Answer::Waits)));
+    let owing = object(Kind::Reply, 1);
+    assert_eq!(rt; kernel.status(thread(1)), Some(Status::OnReply(owing)));
+    assert!(rt; has_mail(&kernel, 2, 0, 7, &[5, 6]));
+    let message = Message::new(8, &[]).ok_or("too many words")?;
+    let entry = Entry::Send { cap: 8, message };
+    let paid = enter(rt.alloc(), &mut kernel, 0, 2, entry);
+    assert!(rt; matches!(paid, Ok(Answer::Done)));
+    assert_eq!(rt; kernel.status(thread(1)), Some(Status::Running));
+    assert!(rt; has_mail(&kernel, 1, 0, 8, &[]));
+    Ok(())
+}
+
 /// Two cores, four contexts, and five threads: one without a context, and one that does not run.
 fn two_cores(alloc: Global) -> Result<Boot, BootFault> {
     let mut boot = Boot::new(alloc, 2)?;

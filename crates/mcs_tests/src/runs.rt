@@ -117,7 +117,7 @@ pub const FIRST_TRACE: &str = "\
 ";
 
 /// A boot, steps after it, and what the trace has after it.
-pub const RUNS: [(&str, &str, &str); 13] = [
+pub const RUNS: [(&str, &str, &str); 21] = [
     (BOOT, FIRST_STEPS, FIRST_TRACE),
     // A receiver that waits for its message.
     (
@@ -471,6 +471,275 @@ pub const RUNS: [(&str, &str, &str); 13] = [
         "\
 0 t1 nbwait 1
 = refused 4
+",
+    ),
+    // A call over a capability that gives no right to be answered: it is taken, and its caller becomes inactive.
+    (
+        BOOT,
+        "\
+0 t2 recv 2 8
+0 t1 call 1 7
+",
+        "\
+0 t2 recv 2 8
+= waits
++ joins t2 e1.recv r1
+0 t1 call 1 7
+= waits
++ sent m0 t1 e1 mute 9 7
++ took m0 t2
++ parts t2 e1.recv
++ turns t1 inactive
++ turns t2 running
+",
+    ),
+    // A receive with a reply object that owes a caller cancels that caller.
+    (
+        BOOT,
+        "\
+0 t1 call 2 1
+0 t2 recv 2 8
+0 t2 recv 2 8
+",
+        "\
+0 t1 call 2 1
+= waits
++ sent m0 t1 e1 call 0 1
++ joins t1 e1.send
+0 t2 recv 2 8
+= got 0 1
++ took m0 t2
++ parts t1 e1.send
++ owes r1 t1 -
+0 t2 recv 2 8
+= waits
++ void r1 t1 cancelled
++ turns t1 inactive
++ joins t2 e1.recv r1
+",
+    ),
+    // A call lends its context to a server that holds none, and the answer brings it back.
+    (
+        BOOT,
+        "\
+0 t2 recv 2 8
+0 t1 unbind 22
+0 t1 call 2 3 1
+0 t2 replyrecv 2 8 4 2
+",
+        "\
+0 t2 recv 2 8
+= waits
++ joins t2 e1.recv r1
+0 t1 unbind 22
+= done
++ holds s2 -
+0 t1 call 2 3 1
+= waits
++ sent m0 t1 e1 call 0 3 1
++ took m0 t2
++ parts t2 e1.recv
++ owes r1 t1 s1
++ holds s1 t2
++ turns t2 running
+0 t2 replyrecv 2 8 4 2
+= waits
++ paid r1 t1 4 2
++ turns t1 running
++ holds s1 t1
++ joins t2 e1.recv r1
+",
+    ),
+    // A reply object in the middle of a chain is paid: its caller runs, and the context stays with its holder.
+    (
+        BOOT,
+        "\
+0 t2 recv 2 8
+0 t3 recv 3 9
+0 t5 unbind 22
+0 t5 unbind 23
+0 t1 call 2 1
+0 t2 call 3 2
+0 t4 send 8 5
+0 t3 send 9 6
+0 t1 nbrecv 2 8
+",
+        "\
+0 t2 recv 2 8
+= waits
++ joins t2 e1.recv r1
+0 t3 recv 3 9
+= waits
++ joins t3 e2.recv r2
+0 t5 unbind 22
+= done
++ holds s2 -
+0 t5 unbind 23
+= done
++ holds s3 -
+0 t1 call 2 1
+= waits
++ sent m0 t1 e1 call 0 1
++ took m0 t2
++ parts t2 e1.recv
++ owes r1 t1 s1
++ holds s1 t2
++ turns t2 running
+0 t2 call 3 2
+= waits
++ sent m1 t2 e2 call 0 2
++ took m1 t3
++ parts t3 e2.recv
++ owes r2 t2 s1
++ holds s1 t3
++ turns t3 running
+0 t4 send 8 5
+= done
++ paid r1 t1 5
++ turns t1 running
+0 t3 send 9 6
+= done
++ paid r2 t2 6
++ turns t2 running
++ holds s1 t2
+",
+    ),
+    // A debt that is paid is paid once.
+    (
+        BOOT,
+        "\
+0 t2 recv 2 8
+0 t1 call 2 1
+0 t2 send 8 4
+0 t2 send 8 4
+",
+        "\
+0 t2 recv 2 8
+= waits
++ joins t2 e1.recv r1
+0 t1 call 2 1
+= waits
++ sent m0 t1 e1 call 0 1
++ took m0 t2
++ parts t2 e1.recv
++ owes r1 t1 -
++ turns t2 running
+0 t2 send 8 4
+= done
++ paid r1 t1 4
++ turns t1 running
+0 t2 send 8 4
+= done
+",
+    ),
+    // A reply and receive over a capability of another kind, or one without Read, is refused before anything is paid;
+    // so is one with no reply object.
+    (
+        BOOT,
+        "\
+0 t2 recv 2 8
+0 t1 call 2 1
+0 t2 replyrecv 11 8 4
+0 t2 replyrecv 1 8 4
+0 t2 replyrecv 2 11 4
+0 t2 send 8 4
+",
+        "\
+0 t2 recv 2 8
+= waits
++ joins t2 e1.recv r1
+0 t1 call 2 1
+= waits
++ sent m0 t1 e1 call 0 1
++ took m0 t2
++ parts t2 e1.recv
++ owes r1 t1 -
++ turns t2 running
+0 t2 replyrecv 11 8 4
+= refused 4
+0 t2 replyrecv 1 8 4
+= refused 5
+0 t2 replyrecv 2 11 4
+= refused 4
+0 t2 send 8 4
+= done
++ paid r1 t1 4
++ turns t1 running
+",
+    ),
+    // A context that came along a chain is bound to nobody while the chain is not empty.
+    (
+        BOOT,
+        "\
+0 t2 recv 2 8
+0 t5 unbind 22
+0 t1 call 2 1
+0 t5 unbind 21
+0 t5 bind 21 11
+0 t5 bind 22 12
+0 t2 send 8 4
+0 t5 bind 21 11
+",
+        "\
+0 t2 recv 2 8
+= waits
++ joins t2 e1.recv r1
+0 t5 unbind 22
+= done
++ holds s2 -
+0 t1 call 2 1
+= waits
++ sent m0 t1 e1 call 0 1
++ took m0 t2
++ parts t2 e1.recv
++ owes r1 t1 s1
++ holds s1 t2
++ turns t2 running
+0 t5 unbind 21
+= done
++ holds s1 -
+0 t5 bind 21 11
+= refused 9
+0 t5 bind 22 12
+= done
++ holds s2 t2
+0 t2 send 8 4
+= done
++ paid r1 t1 4
++ turns t1 running
++ holds s1 t1
+0 t5 bind 21 11
+= refused 9
+",
+    ),
+    // A call that waits is taken by a receive; without a reply object its caller becomes inactive.
+    (
+        BOOT,
+        "\
+0 t1 call 2 1 5
+0 t3 call 2 2
+0 t2 recv 2 8
+0 t4 wait 2
+",
+        "\
+0 t1 call 2 1 5
+= waits
++ sent m0 t1 e1 call 0 1 5
++ joins t1 e1.send
+0 t3 call 2 2
+= waits
++ sent m1 t3 e1 call 0 2
++ joins t3 e1.send
+0 t2 recv 2 8
+= got 0 1 5
++ took m0 t2
++ parts t1 e1.send
++ owes r1 t1 -
+0 t4 wait 2
+= got 0 2
++ took m1 t4
++ parts t3 e1.send
++ turns t3 inactive
 ",
     ),
 ];
