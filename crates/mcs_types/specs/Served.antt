@@ -1,15 +1,17 @@
 -- What is served so far. This ends when all is built: then every entry is served.
 use Rattle.mcs_types.specs.declared.entry.Entry.{Entry}
-use Rattle.mcs_types.specs.declared.entry.Entry.TheVariants.{Send, NbSend, Recv, NbRecv, Wait, NbWait, BindCtx, UnbindCtx, CopyCap, MintCap, MoveCap}
+use Rattle.mcs_types.specs.declared.entry.Entry.TheVariants.{Send, NbSend, Call, Recv, NbRecv, Wait, NbWait, ReplyRecv, BindCtx, UnbindCtx, CopyCap, MintCap, MoveCap}
 
 -- the entries that the kernel takes, and that scripts and traces have
 abbrev pub IsServed : Entry → Type 0
 IsServed (Send a message) = Unit {0}
 IsServed (NbSend a message) = Unit {0}
+IsServed (Call a message) = Unit {0}
 IsServed (Recv a r) = Unit {0}
 IsServed (NbRecv a r) = Unit {0}
 IsServed (Wait a) = Unit {0}
 IsServed (NbWait a) = Unit {0}
+IsServed (ReplyRecv a r message) = Unit {0}
 IsServed (BindCtx s x) = Unit {0}
 IsServed (UnbindCtx s) = Unit {0}
 IsServed (CopyCap source dest rights) = Unit {0}
