@@ -417,7 +417,7 @@ pub const RUNS: [(&str, &str, &str); 21] = [
 = refused 3
 ",
     ),
-    // Sends and receives over capabilities to a notification and to a reply object.
+    // Sends and receives over a capability to a notification, and over one to a reply object that owes nobody.
     (
         BOOT,
         "\
@@ -438,11 +438,11 @@ pub const RUNS: [(&str, &str, &str); 21] = [
 0 t1 send 4 1
 = refused 4
 0 t1 send 8 1
-= refused 4
+= done
 0 t1 nbsend 4 1
 = refused 4
 0 t1 nbsend 8 1
-= refused 4
+= done
 0 t1 recv 4 8
 = refused 4
 0 t1 recv 8 9
