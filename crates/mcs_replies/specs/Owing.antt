@@ -3,7 +3,7 @@ use Rattle.std.specs.Prelude.{◌≡◌, ◌≤◌, ℕ, Bool, true, false, cond
 use Rattle.mcs_types.specs.declared.id.ObjId.{ObjId}
 use Rattle.mcs_types.specs.declared.id.Kind.TheVariants.{Reply}
 use Rattle.mcs_types.specs.declared.record.Ending.{Ending}
-use Rattle.mcs_types.specs.Ids.{is_just}
+use Rattle.mcs_types.specs.Ids.{is_just, ChangesAt}
 use Rattle.mcs_types.specs.Limits.{object_limit}
 use Rattle.mcs_types.specs.Chains.{head_of, taken_off, ended, is_in}
 use Rattle.mcs_objects.specs.Store.{Objects, Shape, value_at, shape, next_id, is_full}
@@ -48,6 +48,10 @@ receiver_in v r = receiver_at v.rows r
 -- the caller that a reply object owes
 abbrev pub owed_in : Owing → ObjId → Option ObjId
 owed_in v r = owed_at v.rows r
+
+-- r owes this caller now, or nobody, and the others owe whom they owed
+abbrev pub SetsOwed : Owing → Owing → ObjId → Option ObjId → Type 0
+SetsOwed old new r caller = ChangesAt (owed_in old) (owed_in new) r caller
 
 -- the chain of a context, from the top
 abbrev pub chain_in : Owing → ObjId → List ObjId

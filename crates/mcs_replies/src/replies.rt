@@ -7,7 +7,7 @@ ghost use Rattle.mcs_types.specs.Ids.{ChangesAt};
 ghost use Rattle.mcs_types.specs.Chains.{head_of};
 ghost use Rattle.mcs_types.specs.Limits.{object_limit};
 ghost use Rattle.mcs_objects.specs.Store.{shape, empty_shape, one_more, is_full, IsOneFewer};
-ghost use Rattle.mcs_replies.specs.Owing.{counts, no_room, next_reply, has_row, receiver_at, owed_at, is_there, receiver_in, owed_in, chain_in, may_owe, LiesOnTop, NamesTopped, TakesOff, EndsDebt, IsChained};
+ghost use Rattle.mcs_replies.specs.Owing.{counts, no_room, next_reply, has_row, receiver_at, owed_at, is_there, receiver_in, owed_in, chain_in, may_owe, SetsOwed, LiesOnTop, NamesTopped, TakesOff, EndsDebt, IsChained};
 ghost use Rattle.mcs_replies.specs.Links.{rest_of};
 
 use crate::debts::{self, Chain, Debt};
@@ -193,7 +193,7 @@ impl Replies {
     fn begin(&mut self, reply: ObjId, caller: ObjId, brought: Option<ObjId>)
         requires there { is_there self.old reply ≡ true }
         requires free { owed_in self.old reply ≡ None }
-        ensures owed { ChangesAt (owed_in self.old) (owed_in self.new) reply (Some caller) }
+        ensures owed { SetsOwed self.old self.new reply (Some caller) }
         ensures chains { LiesOnTop self.old self.new reply brought }
         ensures counts { counts self.new ≡ counts self.old }
         ensures there { (r : ObjId) → is_there self.new r ≡ is_there self.old r }
@@ -210,7 +210,7 @@ impl Replies {
     pub fn owe(&mut self, reply: ObjId, caller: ObjId, brought: Option<ObjId>) -> bool
         ensures answer { result ≡ may_owe self.old reply }
         ensures refused { OnFalse result (self.new ≡ self.old) }
-        ensures owed { OnTrue result (ChangesAt (owed_in self.old) (owed_in self.new) reply (Some caller)) }
+        ensures owed { OnTrue result (SetsOwed self.old self.new reply (Some caller)) }
         ensures chains { OnTrue result (LiesOnTop self.old self.new reply brought) }
         ensures counts { counts self.new ≡ counts self.old }
         ensures there { (r : ObjId) → is_there self.new r ≡ is_there self.old r }
@@ -223,37 +223,20 @@ impl Replies {
         true
     }
 
-    /// Ends the debt of a reply object. None, and nothing changes, where it owes nobody.
-    fn end(&mut self, reply: ObjId, how: Ending) -> Option<Ended>
-        ensures caller { option_map (λ e. e.caller) result ≡ owed_in self.old reply }
-        ensures topped { IfSome result (λ e. NamesTopped self.old reply e.topped) }
-        ensures none { IfNone result (self.new ≡ self.old) }
-        ensures owed { ChangesAt (owed_in self.old) (owed_in self.new) reply None }
-        ensures chains { EndsDebt self.old self.new how reply }
-        ensures counts { counts self.new ≡ counts self.old }
-        ensures there { (r : ObjId) → is_there self.new r ≡ is_there self.old r }
-        ensures receivers { (r : ObjId) → receiver_in self.new r ≡ receiver_in self.old r }
-    {
-        let caller = self.owed(reply)?;
-        keep_caller(&mut self.rows, reply, None);
-        let topped = debts::leave(&mut self.debts, reply, how);
-        Some(Ended { caller, topped })
-    }
-
     /// The debt of a reply object is paid. On top of a chain it is taken off; else it and all below leave their chain, and those
     /// below owe still. None, and nothing changes, where it owes nobody (manual: Message Passing; chains are own).
     pub fn pay(&mut self, reply: ObjId) -> Option<Ended>
         ensures caller { option_map (λ e. e.caller) result ≡ owed_in self.old reply }
         ensures topped { IfSome result (λ e. NamesTopped self.old reply e.topped) }
         ensures none { IfNone result (self.new ≡ self.old) }
-        ensures owed { ChangesAt (owed_in self.old) (owed_in self.new) reply None }
+        ensures owed { SetsOwed self.old self.new reply None }
         ensures chains { TakesOff self.old self.new reply }
         ensures counts { counts self.new ≡ counts self.old }
         ensures there { (r : ObjId) → is_there self.new r ≡ is_there self.old r }
         ensures receivers { (r : ObjId) → receiver_in self.new r ≡ receiver_in self.old r }
     {
         // A debt that is paid leaves its chain as one whose reply object is deleted.
-        self.end(reply, Ending::Deleted)
+        self.void(reply, Ending::Deleted)
     }
 
     /// The debt of a reply object becomes void. Deleted, a reply object leaves its chain as if it had paid; cancelled, it and all
@@ -263,13 +246,16 @@ impl Replies {
         ensures caller { option_map (λ e. e.caller) result ≡ owed_in self.old reply }
         ensures topped { IfSome result (λ e. NamesTopped self.old reply e.topped) }
         ensures none { IfNone result (self.new ≡ self.old) }
-        ensures owed { ChangesAt (owed_in self.old) (owed_in self.new) reply None }
+        ensures owed { SetsOwed self.old self.new reply None }
         ensures chains { EndsDebt self.old self.new how reply }
         ensures counts { counts self.new ≡ counts self.old }
         ensures there { (r : ObjId) → is_there self.new r ≡ is_there self.old r }
         ensures receivers { (r : ObjId) → receiver_in self.new r ≡ receiver_in self.old r }
     {
-        self.end(reply, how)
+        let caller = self.owed(reply)?;
+        keep_caller(&mut self.rows, reply, None);
+        let topped = debts::leave(&mut self.debts, reply, how);
+        Some(Ended { caller, topped })
     }
 
     /// The reply objects in the chain of a context, from the top; none where it came along no chain (own).

@@ -1,6 +1,6 @@
 use Rattle.std.proofs.Common.{sym}
 use Rattle.mcs_replies.proofs.OwingLaws.{ended-same}
-use Rattle.mcs_replies.proofs.replies.Replies.end.Goals as goal
+use Rattle.mcs_replies.proofs.replies.Replies.void.Goals as goal
 
 pub returns-in_err-caller-clause-chains : goal.returns-in_err-caller-clause-chains
 returns-in_err-caller-clause-chains c =
