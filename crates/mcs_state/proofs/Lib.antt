@@ -1,6 +1,7 @@
 pub mod Saying
 pub mod CountLaws
 pub mod ThereLaws
+pub mod DebtLaws
 pub mod ThreadLaws
 pub mod LetterLaws
 pub mod ContextLaws

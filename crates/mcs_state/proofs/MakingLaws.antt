@@ -1,5 +1,5 @@
 -- What is made is the next object of its kind, and there is room for it.
-use Rattle.std.specs.Prelude.{◌≡◌, ◌+◌, ◌==◌, ◌||◌, true, false, Option}
+use Rattle.std.specs.Prelude.{◌≡◌, ◌+◌, ◌==◌, ◌||◌, true, false}
 use Rattle.std.proofs.Common.{refl, ap, arith}
 use Rattle.std.proofs.lemmas.Grind.{common_steps}
 use Rattle.mcs_types.specs.declared.id.ObjId.{ObjId}
@@ -7,7 +7,8 @@ use Rattle.mcs_types.specs.declared.id.Kind.{Kind}
 use Rattle.mcs_types.specs.declared.id.Kind.TheVariants as kind
 use Rattle.mcs_book.specs.Logs.{Log, counted}
 use Rattle.mcs_book.specs.Objects.{makes_kind, number_of, next_id}
-use Rattle.mcs_objects.specs.Store.{Objects, Shape}
+use Rattle.mcs_objects.specs.Store.{Shape}
+use Rattle.mcs_replies.specs.Owing.{Owing}
 use Rattle.mcs_waiting.specs.Queues.{has_queues, no_room}
 use Rattle.mcs_state.specs.Tables.{Queueing, QueuesAgree, shape_said}
 use Rattle.mcs_state.specs.Making.{HasRoom}
@@ -38,7 +39,7 @@ opens-follow kind.Thread o v w own h = absurd cc
 opens-follow kind.Reply o v w own h = absurd cc
 opens-follow kind.Context o v w own h = absurd cc
 
-pub replies-beside : (k : Kind) (o : ObjId) (v : Objects (Option ObjId)) → has_queues k ≡ true → RepliesFollowMade k o v v
+pub replies-beside : (k : Kind) (o : ObjId) (v : Owing) → has_queues k ≡ true → RepliesFollowMade k o v v
 replies-beside kind.Endpoint o v own = refl
 replies-beside kind.Notification o v own = refl
 replies-beside kind.CNode o v own = absurd cc

@@ -14,9 +14,11 @@ use Rattle.mcs_book.specs.Logs.{Log, counted, onto}
 use Rattle.mcs_book.specs.Messages.{is_sent}
 use Rattle.mcs_book.specs.Boots.{boot_line, boot_log}
 use Rattle.mcs_book.specs.History.{Line, past, Book, log_of}
+use Rattle.mcs_book.specs.Replies.{receiver_with}
 use Rattle.mcs_book.specs.Standing.{mail_of}
 use Rattle.mcs_places.specs.Places.{kept_at}
-use Rattle.mcs_objects.specs.Store.{value_at, shape}
+use Rattle.mcs_objects.specs.Store.{empty_shape}
+use Rattle.mcs_replies.specs.Owing.{counts as reply_counts, is_there as has_reply, receiver_in, owed_in, chain_in}
 use Rattle.mcs_contexts.specs.Holding.{counts, core_in, holder_in}
 use Rattle.mcs_slots.specs.Numbers.{number_of}
 use Rattle.mcs_slots.specs.Pages.{page_of, page_radix, page_slot, radix_of, slot_at}
@@ -52,6 +54,10 @@ mails-none : (t : ObjId) → mail_of [] t ≡ None
 unfolding mail_of
 mails-none t = refl
 
+nobody-receives : (r : ObjId) → receiver_with [] r ≡ None
+unfolding receiver_with
+nobody-receives r = refl
+
 -- the tables of a state in which nothing is made
 pub record AreBlank (T : Tables) : Type 0 where
   pub threads : made T.threads ≡ 0
@@ -67,8 +73,11 @@ pub record AreBlank (T : Tables) : Type 0 where
   pub has : (q : Queue) → T.queues.has q ≡ false
   pub made : (k : Kind) → T.queues.made k ≡ 0
   pub there : (k : Kind) → T.queues.there k ≡ 0
-  pub replies : shape T.replies ≡ record { kind = kind.Reply; room = ROOM; given = 0; there = 0 }
-  pub receivers : (r : ObjId) → value_at T.replies r ≡ None
+  pub replies : reply_counts T.replies ≡ empty_shape kind.Reply ROOM
+  pub has_reply : (r : ObjId) → has_reply T.replies r ≡ false
+  pub receivers : (r : ObjId) → receiver_in T.replies r ≡ None
+  pub owed : (r : ObjId) → owed_in T.replies r ≡ None
+  pub chains : (s : ObjId) → chain_in T.replies s ≡ []
   pub slots : T.slots ≡ []
   pub sent : T.sent ≡ 0
 
@@ -80,7 +89,7 @@ blank-kept T R none b = rw none (record {
   letters = record { places = b.places; letters = b.letters };
   contexts = record { shape = b.contexts; cores = b.cores; holders = b.holders };
   queues = record { made = λ k own. b.made k; there = λ k own. b.there k; line = b.line; queue = b.queue; has = λ q. b.has q ∙ sym (none-there (queue_kind q) (queue_object q)) };
-  replies = record { shape = b.replies; receivers = λ r. b.receivers r ∙ rw (none-there kind.Reply r) refl };
+  replies = record { counts = b.replies; there = λ r. b.has_reply r ∙ sym (none-there kind.Reply r); receivers = λ r. b.receivers r ∙ sym (nobody-receives r); owed = b.owed; chains = b.chains };
   slots = rw b.slots (record { made = refl; radices = none-radix; slots = none-slot });
   sent = record { all = b.sent; few = let zero_sent = b.sent in omega (arith, zero_sent) };
 })

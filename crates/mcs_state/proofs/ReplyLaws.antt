@@ -1,30 +1,34 @@
--- The reply objects, and the receivers that stand with them, follow a record.
+-- The reply objects, their receivers, their debts and the chains follow a record.
 use Rattle.std.specs.Option.{IfSome}
-use Rattle.std.specs.Prelude.{◌≡◌, ◌&&◌, ◌||◌, IsSome, Bool, true, false, cond, find, List, [], ◌∷◌, Option, Some, None, unwrap_or}
+use Rattle.std.specs.Prelude.{◌≡◌, ◌&&◌, ◌||◌, Bool, true, false, cond, find, List, [], ◌∷◌, Option, Some, None, unwrap_or}
 use Rattle.std.proofs.Common.{refl, ap, sym, ◌∙◌, inl, inr}
 use Rattle.mcs_types.specs.declared.id.ObjId.{ObjId}
 use Rattle.mcs_types.specs.declared.id.Kind.{Kind}
 use Rattle.mcs_types.specs.declared.id.Kind.TheVariants as kind
+use Rattle.mcs_types.specs.declared.record.Ending.{Ending}
+use Rattle.mcs_types.specs.declared.record.Ending.TheVariants.{Deleted}
 use Rattle.mcs_types.specs.declared.record.Form.{Form}
 use Rattle.mcs_types.specs.declared.record.Queue.{Queue}
 use Rattle.mcs_types.specs.declared.record.Queue.TheVariants.{Senders, Receivers, Waiters}
 use Rattle.mcs_types.specs.declared.record.Rec.{Rec}
 use Rattle.mcs_types.specs.declared.record.Rec.TheVariants as rec
+use Rattle.mcs_types.specs.Chains.{ended}
 use Rattle.mcs_types.specs.Ids.{same, same_kind, value_after}
 use Rattle.mcs_types.proofs.Ids.{same-self, same-equal}
 use Rattle.mcs_book.specs.Logs.{Log, given}
 use Rattle.mcs_types.specs.Ids.{is_just}
 use Rattle.mcs_book.specs.Objects.{was_made}
 use Rattle.mcs_book.specs.Queues.{queue_of, reply_with, receives_at, is_receiving}
-use Rattle.mcs_book.specs.Replies.{receiver_with}
+use Rattle.mcs_book.specs.Growing.{growing_chain}
+use Rattle.mcs_book.specs.Replies.{receiver_with, owed_by}
 use Rattle.mcs_book.specs.Sound.{Sound, Allowed, IsThere, IsFreeReply}
 use Rattle.mcs_book.specs.Threads.{threads}
 use Rattle.mcs_book.proofs.SoundLogs.KeptLaws.{reply-there, set-split}
-use Rattle.mcs_book.proofs.Objects.MadeLaws.{alive-made}
 use Rattle.mcs_book.proofs.Threads.UserLaws.{one_user, receiver_with-named, receiver_with-found}
-use Rattle.mcs_objects.specs.Store.{Objects, value_at, one_more}
-use Rattle.mcs_state.specs.Tables.{RepliesAgree, is_there}
-use Rattle.mcs_state.specs.Following.{RepliesFollow, RepliesFollowMade, AddsReply, SetsReceiver, SetsAny, attended}
+use Rattle.mcs_objects.specs.Store.{one_more}
+use Rattle.mcs_replies.specs.Owing.{Owing, is_there as has_reply, chain_with}
+use Rattle.mcs_state.specs.Tables.{RepliesAgree, shape_said, is_there}
+use Rattle.mcs_state.specs.Following.{RepliesFollow, RepliesFollowMade, AddsReply, SetsReceiver, SetsAny, AddsDebt, DropsDebt, attended}
 use Rattle.mcs_state.proofs.CountLaws.{never-made, shape-made, shape-beside}
 use Rattle.mcs_state.proofs.Saying.{unsaid}
 use Rattle.mcs_state.proofs.ThereLaws.{there-made, there-beside, there}
@@ -80,50 +84,44 @@ receiver-parted R u x q stands h = find-same (stands_with (rec.Parts u q ∷ R) 
     go t false e = refl
     go t true e = let it = same-equal t u e in sym (ap (λ y. receives_at (queue_of R y) && is_just (reply_with R y) x) it ∙ ap (λ k. receives_at k && is_just (reply_with R u) x) stands ∙ h)
 
--- nobody stands with what was never made
-never-attended : (R : Log) (r : ObjId) → Sound R → was_made R r ≡ false → receiver_with R r ≡ None
-never-attended R r sound never = go (receiver_with R r) refl
-  where
-    go : (o : Option ObjId) → receiver_with R r ≡ o → o ≡ None
-    go None e = refl
-    go (Some t) e =
-        let named = receiver_with-named R r t e in
-        let no : true ≡ false = sym (alive-made R r (reply-there R t named.0.0 r sound named.0.1 named.1).0.1) ∙ never in
-        absurd cc
-
--- the receiver of a reply object that is there
-abbrev said : Log → ObjId → Option (Option ObjId)
-said R r = cond (is_there R kind.Reply r) (Some (receiver_with R r)) None
+-- the log says of the reply objects what it said
+still : (R S : Log) (v w : Owing) → w ≡ v → shape_said kind.Reply R ≡ shape_said kind.Reply S → ((x : ObjId) → is_there R kind.Reply x ≡ is_there S kind.Reply x) → ((x : ObjId) → receiver_with S x ≡ receiver_with R x)
+    → ((x : ObjId) → owed_by R x ≡ owed_by S x) → ((s : ObjId) → growing_chain R s ≡ growing_chain S s) → RepliesAgree v R → RepliesAgree w S
+still R S v w is counts there receivers owed chains a = rw is (record {
+  counts = a.counts ∙ counts;
+  there = λ x. a.there x ∙ there x;
+  receivers = λ x. a.receivers x ∙ sym (receivers x);
+  owed = λ x. a.owed x ∙ owed x;
+  chains = λ s. a.chains s ∙ chains s;
+})
 
 -- a reply object was made
-added : (R : Log) (v w : Objects (Option ObjId)) (o : ObjId) (f : Form) → Sound R → Allowed R (rec.Made o f) → o.kind ≡ kind.Reply → AddsReply o v w → RepliesAgree v R → RepliesAgree w (rec.Made o f ∷ R)
+added : (R : Log) (v w : Owing) (o : ObjId) (f : Form) → Sound R → Allowed R (rec.Made o f) → o.kind ≡ kind.Reply → AddsReply o v w → RepliesAgree v R → RepliesAgree w (rec.Made o f ∷ R)
 added R v w o f sound ok is h a = record {
-  shape = h.shape ∙ ap one_more a.shape ∙ shape-made R o f kind.Reply sound ok (ap (λ k. same_kind k kind.Reply) is);
-  receivers = λ x. h.receivers x ∙ ap (λ s. value_after x o (Some None) s) (a.receivers x) ∙ go x (same x o) refl;
+  counts = h.counts ∙ ap one_more a.counts ∙ shape-made R o f kind.Reply sound ok (ap (λ k. same_kind k kind.Reply) is);
+  there = λ x. h.there x ∙ ap (λ b. value_after x o true b) (a.there x) ∙ go x (same x o) refl ∙ there-made R o x f kind.Reply sound never;
+  receivers = λ x. h.receivers x ∙ a.receivers x ∙ sym (receiver-made R o x f sound never);
+  owed = λ x. h.debts.owed x ∙ a.owed x;
+  chains = λ s. h.debts.chains s ∙ a.chains s;
 }
   where
     never : was_made R o ≡ false
     never = never-made R o f sound ok
 
-    go : (x : ObjId) (b : Bool) → same x o ≡ b → cond b (Some None) (said R x) ≡ cond (is_there (rec.Made o f ∷ R) kind.Reply x) (Some (receiver_with (rec.Made o f ∷ R) x)) None
-    go x false e = rw (← there-made R o x f kind.Reply sound never, e, receiver-made R o x f sound never) (either (same_kind x.kind kind.Reply))
-      where
-        either : (c : Bool) → said R x ≡ cond ((c && false) || is_there R kind.Reply x) (Some (receiver_with R x)) None
-        either true = refl
-        either false = refl
-    go x true e =
-        let it = same-equal x o e in
-        let own : same_kind x.kind kind.Reply ≡ true = ap (λ (y : ObjId). same_kind y.kind kind.Reply) it ∙ ap (λ k. same_kind k kind.Reply) is in
-        rw (← there-made R o x f kind.Reply sound never, e, own, receiver-made R o x f sound never, never-attended R x sound (ap (was_made R) it ∙ never)) refl
+    either : (b c : Bool) → c ≡ ((b && false) || c)
+    either true c = refl
+    either false c = refl
+
+    go : (x : ObjId) (b : Bool) → same x o ≡ b → cond b true (is_there R kind.Reply x) ≡ ((same_kind x.kind kind.Reply && b) || is_there R kind.Reply x)
+    go x false e = either (same_kind x.kind kind.Reply) (is_there R kind.Reply x)
+    go x true e = sym (ap (λ b. (b && true) || is_there R kind.Reply x) (ap (λ (y : ObjId). same_kind y.kind kind.Reply) (same-equal x o e) ∙ ap (λ k. same_kind k kind.Reply) is))
 
 -- an object of another kind was made
-beside : (R : Log) (v w : Objects (Option ObjId)) (o : ObjId) (f : Form) → Sound R → Allowed R (rec.Made o f) → same_kind o.kind kind.Reply ≡ false → w ≡ v → RepliesAgree v R → RepliesAgree w (rec.Made o f ∷ R)
-beside R v w o f sound ok other is a = rw is (record {
-  shape = a.shape ∙ shape-beside R o f kind.Reply sound ok other;
-  receivers = λ x. a.receivers x ∙ rw (← there-beside R o x f kind.Reply other, receiver-made R o x f sound (never-made R o f sound ok)) refl;
-})
+beside : (R : Log) (v w : Owing) (o : ObjId) (f : Form) → Sound R → Allowed R (rec.Made o f) → same_kind o.kind kind.Reply ≡ false → w ≡ v → RepliesAgree v R → RepliesAgree w (rec.Made o f ∷ R)
+beside R v w o f sound ok other is a =
+    still R (rec.Made o f ∷ R) v w is (shape-beside R o f kind.Reply sound ok other) (λ x. there-beside R o x f kind.Reply other) (λ x. receiver-made R o x f sound (never-made R o f sound ok)) (λ x. refl) (λ s. refl) a
 
-born : (R : Log) (v w : Objects (Option ObjId)) (o : ObjId) (f : Form) → Sound R → Allowed R (rec.Made o f) → RepliesFollowMade o.kind o v w → RepliesAgree v R → RepliesAgree w (rec.Made o f ∷ R)
+born : (R : Log) (v w : Owing) (o : ObjId) (f : Form) → Sound R → Allowed R (rec.Made o f) → RepliesFollowMade o.kind o v w → RepliesAgree v R → RepliesAgree w (rec.Made o f ∷ R)
 born R v w o f sound ok h a = go o.kind refl h
   where
     go : (k : Kind) → o.kind ≡ k → RepliesFollowMade k o v w → RepliesAgree w (rec.Made o f ∷ R)
@@ -134,14 +132,20 @@ born R v w o f sound ok h a = go o.kind refl h
     go kind.Notification e h = beside R v w o f sound ok (ap (λ k. same_kind k kind.Reply) e) h a
     go kind.Context e h = beside R v w o f sound ok (ap (λ k. same_kind k kind.Reply) e) h a
 
--- the receiver of one reply object was set, and the others stay
-set : (R S : Log) (v w : Objects (Option ObjId)) (r : ObjId) (t : Option ObjId) → SetsReceiver r t v w → is_there S kind.Reply r ≡ true → receiver_with S r ≡ t
-    → ((x : ObjId) → same x r ≡ false → receiver_with S x ≡ receiver_with R x) → ((x : ObjId) → is_there S kind.Reply x ≡ is_there R kind.Reply x) → RepliesAgree v R → (x : ObjId) → value_at w x ≡ said S x
-set R S v w r t h there here others same_there a x = h.receivers x ∙ ap (λ s. value_after x r (Some t) s) (a.receivers x) ∙ go (same x r) refl
+-- the receiver of one reply object was set, and the others stay; else the log says what it said
+set : (R S : Log) (v w : Owing) (r : ObjId) (t : Option ObjId) → SetsReceiver r t v w → receiver_with S r ≡ t → ((x : ObjId) → same x r ≡ false → receiver_with S x ≡ receiver_with R x)
+    → shape_said kind.Reply R ≡ shape_said kind.Reply S → ((x : ObjId) → is_there R kind.Reply x ≡ is_there S kind.Reply x) → ((x : ObjId) → owed_by R x ≡ owed_by S x) → ((s : ObjId) → growing_chain R s ≡ growing_chain S s) → RepliesAgree v R → RepliesAgree w S
+set R S v w r t h here others counts there owed chains a = record {
+  counts = h.objects.counts ∙ a.counts ∙ counts;
+  there = λ x. h.objects.there x ∙ a.there x ∙ there x;
+  receivers = λ x. h.receivers x ∙ ap (λ o. value_after x r t o) (a.receivers x) ∙ go x (same x r) refl;
+  owed = λ x. h.debts.owed x ∙ a.owed x ∙ owed x;
+  chains = λ s. h.debts.chains s ∙ a.chains s ∙ chains s;
+}
   where
-    go : (b : Bool) → same x r ≡ b → cond b (Some t) (said R x) ≡ said S x
-    go false e = rw (same_there x, others x e) refl
-    go true e = let it = same-equal x r e in sym (ap (said S) it ∙ rw (there, here) refl)
+    go : (x : ObjId) (b : Bool) → same x r ≡ b → cond b t (receiver_with R x) ≡ receiver_with S x
+    go x false e = sym (others x e)
+    go x true e = sym (ap (λ y. receiver_with S y) (same-equal x r e) ∙ here)
 
 -- a test of a reply object that is not this one
 not-it : (x r : ObjId) → same x r ≡ false → same r x ≡ false
@@ -151,17 +155,18 @@ not-it x r e = go (same r x) refl
     go false f = refl
     go true f = let no : true ≡ false = sym (same-self x) ∙ ap (λ y. same x y) (sym (same-equal r x f)) ∙ e in absurd cc
 
+-- a thread joined a queue, where no receiver is set by it
+aside : (R : Log) (v w : Owing) (u : ObjId) (q : Queue) (reply : Option ObjId) → queue_of R u ≡ None → ((x : ObjId) → (receives_at (Some q) && is_just reply x) ≡ false) → w ≡ v → RepliesAgree v R → RepliesAgree w (rec.Joins u q reply ∷ R)
+aside R v w u q reply idle none is a = still R (rec.Joins u q reply ∷ R) v w is refl (λ x. refl) (λ x. receiver-joined R u x q reply idle (none x)) (λ x. refl) (λ s. refl) a
+
 -- a thread joined a queue
-joined : (R : Log) (v w : Objects (Option ObjId)) (u : ObjId) (q : Queue) (reply : Option ObjId) → Sound R → Allowed R (rec.Joins u q reply) → SetsAny (attended q reply) (Some u) v w → RepliesAgree v R → RepliesAgree w (rec.Joins u q reply ∷ R)
-joined R v w u (Receivers e) (Some r) sound ok h a = record {
-  shape = h.shape ∙ a.shape;
-  receivers = set R (rec.Joins u (Receivers e) (Some r) ∷ R) v w r (Some u) h (there R kind.Reply r ok.4.0)
-      (receiver_with-found (rec.Joins u (Receivers e) (Some r) ∷ R) r u e (ok, sound) (rw (same-self u) refl) (rw (same-self u) refl))
-      (λ x other. receiver-joined R u x (Receivers e) (Some r) ok.1.0 (not-it x r other)) (λ x. refl) a;
-}
-joined R v w u (Receivers e) None sound ok h a = rw h (record { shape = a.shape; receivers = λ x. a.receivers x ∙ rw (receiver-joined R u x (Receivers e) None ok.1.0 refl) refl })
-joined R v w u (Senders e) reply sound ok h a = rw h (record { shape = a.shape; receivers = λ x. a.receivers x ∙ rw (receiver-joined R u x (Senders e) reply ok.1.0 refl) refl })
-joined R v w u (Waiters n) reply sound ok h a = rw h (record { shape = a.shape; receivers = λ x. a.receivers x ∙ rw (receiver-joined R u x (Waiters n) reply ok.1.0 refl) refl })
+joined : (R : Log) (v w : Owing) (u : ObjId) (q : Queue) (reply : Option ObjId) → Sound R → Allowed R (rec.Joins u q reply) → SetsAny (attended q reply) (Some u) v w → RepliesAgree v R → RepliesAgree w (rec.Joins u q reply ∷ R)
+joined R v w u (Receivers e) (Some r) sound ok h a =
+    set R (rec.Joins u (Receivers e) (Some r) ∷ R) v w r (Some u) h (receiver_with-found (rec.Joins u (Receivers e) (Some r) ∷ R) r u e (ok, sound) (rw (same-self u) refl) (rw (same-self u) refl))
+    (λ x other. receiver-joined R u x (Receivers e) (Some r) ok.1.0 (not-it x r other)) refl (λ x. refl) (λ x. refl) (λ s. refl) a
+joined R v w u (Receivers e) None sound ok h a = aside R v w u (Receivers e) None ok.1.0 (λ x. refl) h a
+joined R v w u (Senders e) reply sound ok h a = aside R v w u (Senders e) reply ok.1.0 (λ x. refl) h a
+joined R v w u (Waiters n) reply sound ok h a = aside R v w u (Waiters n) reply ok.1.0 (λ x. refl) h a
 
 -- nobody stands with a reply object once its receiver left
 unattended : (R : Log) (u r e : ObjId) → Sound R → queue_of R u ≡ Some (Receivers e) → reply_with R u ≡ Some r → receiver_with (rec.Parts u (Receivers e) ∷ R) r ≡ None
@@ -176,50 +181,69 @@ unattended R u r e sound stands named = go (receiver_with (rec.Parts u (Receiver
           | inr (other, still) ↦ (let it = one_user R t u found.0.0 e r sound still found.1 stands named in let no : true ≡ false = sym (same-self u) ∙ ap (λ y. same y u) (sym it) ∙ other in absurd cc)
         ]
 
+-- a thread left its queue, where no receiver is set by it
+gone : (R : Log) (v w : Owing) (u : ObjId) (q : Queue) → queue_of R u ≡ Some q → ((x : ObjId) → (receives_at (Some q) && is_just (reply_with R u) x) ≡ false) → w ≡ v → RepliesAgree v R → RepliesAgree w (rec.Parts u q ∷ R)
+gone R v w u q stands none is a = still R (rec.Parts u q ∷ R) v w is refl (λ x. refl) (λ x. receiver-parted R u x q stands (none x)) (λ x. refl) (λ s. refl) a
+
 -- a thread left its queue
-parted : (R : Log) (v w : Objects (Option ObjId)) (u : ObjId) (q : Queue) (reply : Option ObjId) → Sound R → queue_of R u ≡ Some q → reply_with R u ≡ reply → SetsAny (attended q reply) None v w → RepliesAgree v R → RepliesAgree w (rec.Parts u q ∷ R)
-parted R v w u (Receivers e) (Some r) sound stands is h a = record {
-  shape = h.shape ∙ a.shape;
-  receivers = set R (rec.Parts u (Receivers e) ∷ R) v w r None h (there R kind.Reply r (reply-there R u e r sound stands is).0) (unattended R u r e sound stands is)
-      (λ x other. receiver-parted R u x (Receivers e) stands (ap (λ d. is_just d x) is ∙ not-it x r other)) (λ x. refl) a;
+parted : (R : Log) (v w : Owing) (u : ObjId) (q : Queue) (reply : Option ObjId) → Sound R → queue_of R u ≡ Some q → reply_with R u ≡ reply → SetsAny (attended q reply) None v w → RepliesAgree v R → RepliesAgree w (rec.Parts u q ∷ R)
+parted R v w u (Receivers e) (Some r) sound stands is h a =
+    set R (rec.Parts u (Receivers e) ∷ R) v w r None h (unattended R u r e sound stands is)
+    (λ x other. receiver-parted R u x (Receivers e) stands (ap (λ d. is_just d x) is ∙ not-it x r other)) refl (λ x. refl) (λ x. refl) (λ s. refl) a
+parted R v w u (Receivers e) None sound stands is h a = gone R v w u (Receivers e) stands (λ x. ap (λ d. is_just d x) is) h a
+parted R v w u (Senders e) reply sound stands is h a = gone R v w u (Senders e) stands (λ x. refl) h a
+parted R v w u (Waiters n) reply sound stands is h a = gone R v w u (Waiters n) stands (λ x. refl) h a
+
+-- a value that is set, or what was
+set-or : {A : Type 0} (b : Bool) (v o p : A) → o ≡ p → cond b v o ≡ unwrap_or (given b v) p
+set-or true v o p e = refl
+set-or false v o p e = e
+
+-- a debt began
+begun : (R : Log) (v w : Owing) (d x : ObjId) (s : Option ObjId) → AddsDebt d x s v w → RepliesAgree v R → RepliesAgree w (rec.Owes d x s ∷ R)
+begun R v w d x s h a = record {
+  counts = h.same.objects.counts ∙ a.counts;
+  there = λ y. h.same.objects.there y ∙ a.there y;
+  receivers = λ y. h.same.receivers y ∙ a.receivers y ∙ sym (receiver-kept (rec.Owes d x s) R y refl);
+  owed = λ y. h.owed y ∙ set-or (same y d) (Some x) _ _ (a.owed y);
+  chains = λ y. h.chains y ∙ ap (λ os. chain_with s d y os) (a.chains y);
 }
-parted R v w u (Receivers e) None sound stands is h a = rw h (record { shape = a.shape; receivers = λ x. a.receivers x ∙ rw (receiver-parted R u x (Receivers e) stands (ap (λ d. is_just d x) is)) refl })
-parted R v w u (Senders e) reply sound stands is h a = rw h (record { shape = a.shape; receivers = λ x. a.receivers x ∙ rw (receiver-parted R u x (Senders e) stands refl) refl })
-parted R v w u (Waiters n) reply sound stands is h a = rw h (record { shape = a.shape; receivers = λ x. a.receivers x ∙ rw (receiver-parted R u x (Waiters n) stands refl) refl })
+
+-- a debt ended between R and S
+dropped : (R S : Log) (v w : Owing) (d : ObjId) (how : Ending) → DropsDebt d how v w → shape_said kind.Reply R ≡ shape_said kind.Reply S → ((x : ObjId) → is_there R kind.Reply x ≡ is_there S kind.Reply x) → ((x : ObjId) → receiver_with S x ≡ receiver_with R x)
+    → ((x : ObjId) → owed_by S x ≡ unwrap_or (given (same x d) None) (owed_by R x)) → ((s : ObjId) → growing_chain S s ≡ ended how d (growing_chain R s)) → RepliesAgree v R → RepliesAgree w S
+dropped R S v w d how h counts there receivers owed chains a = record {
+  counts = h.same.objects.counts ∙ a.counts ∙ counts;
+  there = λ y. h.same.objects.there y ∙ a.there y ∙ there y;
+  receivers = λ y. h.same.receivers y ∙ a.receivers y ∙ sym (receivers y);
+  owed = λ y. h.owed y ∙ set-or (same y d) None _ _ (a.owed y) ∙ sym (owed y);
+  chains = λ y. h.chains y ∙ ap (λ os. ended how d os) (a.chains y) ∙ sym (chains y);
+}
 
 -- after any record
-pub replies-follow : (r : Rec) (R : Log) (v w : Objects (Option ObjId)) → Sound R → Allowed R r → RepliesFollow R r v w → RepliesAgree v R → RepliesAgree w (r ∷ R)
+pub replies-follow : (r : Rec) (R : Log) (v w : Owing) → Sound R → Allowed R r → RepliesFollow R r v w → RepliesAgree v R → RepliesAgree w (r ∷ R)
 replies-follow (rec.Made o f) R v w sound ok h a = born R v w o f sound ok h a
 replies-follow (rec.Closed o) R v w sound ok h a = absurd h
 replies-follow (rec.Joins u q reply) R v w sound ok h a = joined R v w u q reply sound ok h a
 replies-follow (rec.Parts u q) R v w sound ok h a = parted R v w u q (reply_with R u) sound ok refl h a
-replies-follow (rec.Slot c i cap) R v w sound ok h a = rw h (record { shape = a.shape; receivers = λ y. a.receivers y ∙ rw (receiver-kept (rec.Slot c i cap) R y refl) refl })
-replies-follow (rec.Prio u p) R v w sound ok h a = rw h (record { shape = a.shape; receivers = λ y. a.receivers y ∙ rw (receiver-kept (rec.Prio u p) R y refl) refl })
-replies-follow (rec.Turns u m) R v w sound ok h a = rw h (record { shape = a.shape; receivers = λ y. a.receivers y ∙ rw (receiver-kept (rec.Turns u m) R y refl) refl })
-replies-follow (rec.Sent x e mode badge message) R v w sound ok h a = rw h (record { shape = a.shape; receivers = λ y. a.receivers y ∙ rw (receiver-kept (rec.Sent x e mode badge message) R y refl) refl })
-replies-follow (rec.Took m p) R v w sound ok h a = rw h (record { shape = a.shape; receivers = λ y. a.receivers y ∙ rw (receiver-kept (rec.Took m p) R y refl) refl })
-replies-follow (rec.Dropped m) R v w sound ok h a = rw h (record { shape = a.shape; receivers = λ y. a.receivers y ∙ rw (receiver-kept (rec.Dropped m) R y refl) refl })
-replies-follow (rec.Owes d x s) R v w sound ok h a = rw h (record { shape = a.shape; receivers = λ y. a.receivers y ∙ rw (receiver-kept (rec.Owes d x s) R y refl) refl })
-replies-follow (rec.Paid d x message) R v w sound ok h a = rw h (record { shape = a.shape; receivers = λ y. a.receivers y ∙ rw (receiver-kept (rec.Paid d x message) R y refl) refl })
-replies-follow (rec.Void d x ending) R v w sound ok h a = rw h (record { shape = a.shape; receivers = λ y. a.receivers y ∙ rw (receiver-kept (rec.Void d x ending) R y refl) refl })
-replies-follow (rec.Holds s t) R v w sound ok h a = rw h (record { shape = a.shape; receivers = λ y. a.receivers y ∙ rw (receiver-kept (rec.Holds s t) R y refl) refl })
-replies-follow (rec.Raised n badge) R v w sound ok h a = rw h (record { shape = a.shape; receivers = λ y. a.receivers y ∙ rw (receiver-kept (rec.Raised n badge) R y refl) refl })
-replies-follow (rec.Heard t n word) R v w sound ok h a = rw h (record { shape = a.shape; receivers = λ y. a.receivers y ∙ rw (receiver-kept (rec.Heard t n word) R y refl) refl })
-replies-follow (rec.Tied t n) R v w sound ok h a = rw h (record { shape = a.shape; receivers = λ y. a.receivers y ∙ rw (receiver-kept (rec.Tied t n) R y refl) refl })
+replies-follow (rec.Owes d x s) R v w sound ok h a = begun R v w d x s h a
+replies-follow (rec.Paid d x message) R v w sound ok h a = dropped R (rec.Paid d x message ∷ R) v w d Deleted h refl (λ y. refl) (λ y. receiver-kept (rec.Paid d x message) R y refl) (λ y. refl) (λ s. refl) a
+replies-follow (rec.Void d x how) R v w sound ok h a = dropped R (rec.Void d x how ∷ R) v w d how h refl (λ y. refl) (λ y. receiver-kept (rec.Void d x how) R y refl) (λ y. refl) (λ s. refl) a
+replies-follow r R v w sound ok h a = still R (r ∷ R) v w h refl (λ y. refl) (λ y. receiver-kept r R y refl) (λ y. refl) (λ s. refl) a
 
 -- the reply object that a thread names as it joins a queue is in the table
-pub named-there : (R : Log) (v : Objects (Option ObjId)) (q : Queue) (reply : Option ObjId) → RepliesAgree v R → IfSome reply (λ r. IsThere R kind.Reply r × IsFreeReply R r) → IfSome (attended q reply) (λ r. IsSome (value_at v r))
-named-there R v (Receivers e) (Some r) a h = rw (a.receivers r, there R kind.Reply r h.0) refl
+pub named-there : (R : Log) (v : Owing) (q : Queue) (reply : Option ObjId) → RepliesAgree v R → IfSome reply (λ r. IsThere R kind.Reply r × IsFreeReply R r) → IfSome (attended q reply) (λ r. has_reply v r ≡ true)
+named-there R v (Receivers e) (Some r) a h = a.there r ∙ there R kind.Reply r h.0
 named-there R v (Receivers e) None a h = tt
 named-there R v (Senders e) reply a h = tt
 named-there R v (Waiters n) reply a h = tt
 
 -- and so is the one with which it stands
-pub attended-there : (R : Log) (v : Objects (Option ObjId)) (u : ObjId) (q : Queue) → Sound R → queue_of R u ≡ Some q → RepliesAgree v R → IfSome (attended q (reply_with R u)) (λ r. IsSome (value_at v r))
+pub attended-there : (R : Log) (v : Owing) (u : ObjId) (q : Queue) → Sound R → queue_of R u ≡ Some q → RepliesAgree v R → IfSome (attended q (reply_with R u)) (λ r. has_reply v r ≡ true)
 attended-there R v u (Receivers e) sound stands a = go (reply_with R u) refl
   where
-    go : (o : Option ObjId) → reply_with R u ≡ o → IfSome o (λ r. IsSome (value_at v r))
+    go : (o : Option ObjId) → reply_with R u ≡ o → IfSome o (λ r. has_reply v r ≡ true)
     go None e = tt
-    go (Some r) is = rw (a.receivers r, there R kind.Reply r (reply-there R u e r sound stands is).0) refl
+    go (Some r) is = a.there r ∙ there R kind.Reply r (reply-there R u e r sound stands is).0
 attended-there R v u (Senders e) sound stands a = tt
 attended-there R v u (Waiters n) sound stands a = tt

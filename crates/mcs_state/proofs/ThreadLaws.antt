@@ -11,14 +11,16 @@ use Rattle.mcs_types.specs.declared.record.Form.{Form}
 use Rattle.mcs_types.specs.declared.record.Form.TheVariants as form
 use Rattle.mcs_types.specs.declared.record.Letter.{Letter}
 use Rattle.mcs_types.specs.declared.record.Mail.{Mail}
+use Rattle.mcs_types.specs.declared.record.Mail.TheVariants.{Message}
 use Rattle.mcs_types.specs.declared.record.Mode.{Mode}
 use Rattle.mcs_types.specs.declared.record.Mode.TheVariants as mode
 use Rattle.mcs_types.specs.declared.record.Queue.{Queue}
 use Rattle.mcs_types.specs.declared.record.Rec.{Rec}
 use Rattle.mcs_types.specs.declared.record.Rec.TheVariants as rec
-use Rattle.mcs_types.specs.Ids.{same, same_kind}
+use Rattle.mcs_types.specs.Ids.{same, same_kind, value_after}
+use Rattle.mcs_types.specs.Views.{Content}
 use Rattle.mcs_threads.specs.declared.row.Block.{Block}
-use Rattle.mcs_threads.specs.declared.row.Block.TheVariants.{Queued}
+use Rattle.mcs_threads.specs.declared.row.Block.TheVariants.{Queued, OnReply}
 use Rattle.mcs_threads.specs.declared.row.ThreadRow.{ThreadRow}
 use Rattle.mcs_threads.specs.Rows.{new_row}
 use Rattle.mcs_threads.specs.Tables.{Table, row_of, mail_of as mail_in, ChangesRow, SameMails}
@@ -27,16 +29,18 @@ use Rattle.mcs_book.specs.Messages.{letter}
 use Rattle.mcs_book.specs.Objects.{was_made, was_closed, is_alive, form_of, makes_kind}
 use Rattle.mcs_book.specs.Threads.{prio_of, mode_of}
 use Rattle.mcs_book.specs.Queues.{queue_of, reply_with}
-use Rattle.mcs_book.specs.Replies.{owing}
+use Rattle.mcs_book.specs.Replies.{owed_by, owing}
 use Rattle.mcs_book.specs.Notifications.{bound_of}
 use Rattle.mcs_book.specs.Standing.{letter_mail, mail_brought, mail_of}
 use Rattle.mcs_book.specs.Sound.{Sound, Allowed, IsThere, IsFormOf}
 use Rattle.mcs_types.proofs.Ids.{same-equal}
-use Rattle.mcs_book.proofs.Messages.MailLaws.{is_still, mail-still, mail-took}
+use Rattle.mcs_book.proofs.Messages.MailLaws.{is_still, mail-still, mail-took, mail-paid}
+use Rattle.mcs_book.proofs.SoundLogs.KeptLaws.{owed-there, owed-stands_none}
 use Rattle.mcs_state.specs.Saying.{block_said, row_with, row_said}
 use Rattle.mcs_state.specs.Tables.{ThreadsAgree}
-use Rattle.mcs_state.specs.Following.{ThreadsFollow, Mails}
+use Rattle.mcs_state.specs.Following.{ThreadsFollow, Mails, MailsFreed}
 use Rattle.mcs_state.proofs.CountLaws.{never-made}
+use Rattle.mcs_state.proofs.DebtLaws.{owing-begun, owing-beside, owing-ended, owing-left}
 use Rattle.mcs_state.proofs.Saying.{unsaid, unmailed, unowed, unclosed, standing-unowed, owing-kept, owing-made, has-row}
 
 -- a change of a row, by what is said
@@ -106,6 +110,29 @@ parted R T T' u k sound stands c a t =
     go true e = freed (owing R t) (standing-unowed R t k sound (ap (λ x. queue_of R x) (same-equal t u e) ∙ stands))
     go false e = refl
 
+-- a reply object owes a thread from now on
+indebted : (R : Log) (T T' : Table) (d x : ObjId) (s : Option ObjId) → Sound R → Allowed R (rec.Owes d x s) → ChangesRow (λ r. record r { block = Some (OnReply d) }) T T' x → ThreadsAgree T R → (t : ObjId) → row_of T' t ≡ row_said (rec.Owes d x s ∷ R) t
+indebted R T T' d x s sound ok c a t = c.rows t ∙ ap (λ o. cond (same t x) (option_map (λ (r : ThreadRow). record r { block = Some (OnReply d) }) o) o) (a.rows t) ∙ go (same t x) refl
+  where
+    waits : same t x ≡ true → Some (OnReply d) ≡ blocked R t (owing (rec.Owes d x s ∷ R) t)
+    waits e = let it : t ≡ x = same-equal t x e in sym (rw (ap (λ y. queue_of R y) it ∙ ok.3.0, ap (λ y. owing (rec.Owes d x s ∷ R) y) it ∙ owing-begun R d x s sound ok) refl)
+
+    go : (b : Bool) → same t x ≡ b → cond b (option_map (λ (r : ThreadRow). record r { block = Some (OnReply d) }) (row_said R t)) (row_said R t) ≡ row_blocked R t (prio_of R t) (mode_of R t) (blocked R t (owing (rec.Owes d x s ∷ R) t))
+    go true e = changed-with (λ (r : ThreadRow). record r { block = Some (OnReply d) }) (is_alive R t) (form_of R t) _ _ _ _ _ (Some (OnReply d)) _ (λ maximum root. refl) ∙ ap (λ k. row_blocked R t (prio_of R t) (mode_of R t) k) (waits e)
+    go false e = ap (λ o. row_blocked R t (prio_of R t) (mode_of R t) (blocked R t o)) (sym (owing-beside R d x t s sound ok e))
+
+-- the debt to a thread ended between R and S
+freed : (R S : Log) (T T' : Table) (d x : ObjId) → Sound R → Sound S → owed_by R d ≡ Some x → ((q : ObjId) → owed_by S q ≡ unwrap_or (given (same q d) None) (owed_by R q))
+    → ((t : ObjId) → row_of T' t ≡ value_after t x (option_map (λ (r : ThreadRow). record r { block = None }) (row_of T t)) (row_of T t)) → ThreadsAgree T R → (t : ObjId) → row_of T' t ≡ row_blocked R t (prio_of R t) (mode_of R t) (blocked R t (owing S t))
+freed R S T T' d x sound sound' owed ends c a t = c t ∙ ap (λ o. cond (same t x) (option_map (λ (r : ThreadRow). record r { block = None }) o) o) (a.rows t) ∙ go (same t x) refl
+  where
+    free : same t x ≡ true → None ≡ blocked R t (owing S t)
+    free e = let it : t ≡ x = same-equal t x e in sym (rw (ap (λ y. queue_of R y) it ∙ owed-stands_none R d x sound owed, ap (λ y. owing S y) it ∙ owing-ended R S d x sound sound' owed ends) refl)
+
+    go : (b : Bool) → same t x ≡ b → cond b (option_map (λ (r : ThreadRow). record r { block = None }) (row_said R t)) (row_said R t) ≡ row_blocked R t (prio_of R t) (mode_of R t) (blocked R t (owing S t))
+    go true e = changed-with (λ (r : ThreadRow). record r { block = None }) (is_alive R t) (form_of R t) _ _ _ _ _ None _ (λ maximum root. refl) ∙ ap (λ k. row_blocked R t (prio_of R t) (mode_of R t) k) (free e)
+    go false e = ap (λ o. row_blocked R t (prio_of R t) (mode_of R t) (blocked R t o)) (sym (owing-left R S d x sound sound' owed ends t e))
+
 -- an object of this form was made, whose row is this, if it has one
 born : (R : Log) (T T' : Table) (o : ObjId) (f : Form) (new : Option ThreadRow) → Sound R → was_made R o ≡ false
     → row_with (Some f) 0 mode.Inactive None None ≡ new
@@ -151,6 +178,14 @@ mails-took R T T' m p s alive is c a t = c.mails t ∙ go (same t p) refl
     go : (b : Bool) → same t p ≡ b → cond b (Some (letter_mail s)) (mail_in T t) ≡ mail_of (rec.Took m p ∷ R) t
     go true e = sym (mail-took R m p s alive is) ∙ ap (mail_of (rec.Took m p ∷ R)) (sym (same-equal t p e))
     go false e = a.mails t ∙ sym (mail-still R t (rec.Took m p ∷ []) (ap not e, tt))
+
+-- a caller was answered
+mails-paid : (R : Log) (T T' : Table) (d x : ObjId) (message : Content) → is_alive R x ≡ true → MailsFreed x (Message (record { 0 = 0 }) message) T T' → ThreadsAgree T R → (t : ObjId) → mail_in T' t ≡ mail_of (rec.Paid d x message ∷ R) t
+mails-paid R T T' d x message alive c a t = c.mails t ∙ go (same t x) refl
+  where
+    go : (b : Bool) → same t x ≡ b → cond b (Some (Message (record { 0 = 0 }) message)) (mail_in T t) ≡ mail_of (rec.Paid d x message ∷ R) t
+    go true e = sym (mail-paid R d x message alive) ∙ ap (mail_of (rec.Paid d x message ∷ R)) (sym (same-equal t x e))
+    go false e = a.mails t ∙ sym (mail-still R t (rec.Paid d x message ∷ []) (ap not e, tt))
 
 -- a record that changes nothing of any thread
 kept : (R : Log) (T T' : Table) (r : Rec) → T' ≡ T → ((t : ObjId) → is_still t r ≡ true) → ((t : ObjId) → row_said (r ∷ R) t ≡ row_said R t) → counted (makes_kind kind.Thread) (r ∷ R) ≡ counted (makes_kind kind.Thread) R → ThreadsAgree T R → ThreadsAgree T' (r ∷ R)
@@ -225,6 +260,17 @@ threads-follow (rec.Took m p) R T T' sound ok h a = record {
   made = h.1.1.made ∙ a.made;
   rows = λ t. h.1.1.rows t ∙ a.rows t ∙ sym (unturned (rec.Took m p) R t _ (owing-kept (rec.Took m p) R t refl) refl);
   mails = mails-took R T T' m p h.0 ok.0.1 h.1.0 h.1.1 a;
+}
+threads-follow (rec.Owes d x s) R T T' sound ok h a = record { made = h.count ∙ a.made; rows = indebted R T T' d x s sound ok h a; mails = mails-quiet R T T' (rec.Owes d x s) (λ t. refl) h.mails a }
+threads-follow (rec.Paid d x message) R T T' sound ok h a = record {
+  made = h.made ∙ a.made;
+  rows = freed R (rec.Paid d x message ∷ R) T T' d x sound (ok, sound) ok (λ q. refl) h.rows a;
+  mails = mails-paid R T T' d x message (owed-there R d x sound ok).1.1 h a;
+}
+threads-follow (rec.Void d x how) R T T' sound ok h a = record {
+  made = h.count ∙ a.made;
+  rows = freed R (rec.Void d x how ∷ R) T T' d x sound (ok, sound) ok (λ q. refl) h.rows a;
+  mails = mails-quiet R T T' (rec.Void d x how) (λ t. refl) h.mails a;
 }
 threads-follow (rec.Holds s t) R T T' sound ok h a = kept R T T' (rec.Holds s t) h (λ x. refl) (λ x. unturned (rec.Holds s t) R x _ (owing-kept (rec.Holds s t) R x refl) refl) refl a
 threads-follow _ R T T' sound ok h a = absurd h

@@ -1,5 +1,5 @@
 -- How each table follows one more record. A record that no primitive makes yet is followed by no table that it may change.
-use Rattle.std.specs.Prelude.{ℕ, ◌≡◌, ◌+◌, ◌++◌, ◌∷◌, [], ◌||◌, List, length, Option, Some, None}
+use Rattle.std.specs.Prelude.{ℕ, ◌≡◌, ◌+◌, ◌++◌, ◌∷◌, [], ◌||◌, true, List, length, Option, Some, None, option_map}
 use Rattle.mcs_types.specs.declared.id.ObjId.{ObjId}
 use Rattle.mcs_types.specs.declared.id.CoreId.{CoreId}
 use Rattle.mcs_types.specs.declared.id.Kind.{Kind}
@@ -7,13 +7,16 @@ use Rattle.mcs_types.specs.declared.id.Kind.TheVariants as kind
 use Rattle.mcs_types.specs.declared.id.Prio.{Prio}
 use Rattle.mcs_types.specs.declared.cap.Cap.{Cap}
 use Rattle.mcs_types.specs.declared.record.Form.TheVariants as form
+use Rattle.mcs_types.specs.declared.record.Ending.{Ending}
+use Rattle.mcs_types.specs.declared.record.Ending.TheVariants.{Deleted}
 use Rattle.mcs_types.specs.declared.record.Letter.{Letter}
 use Rattle.mcs_types.specs.declared.record.Mail.{Mail}
+use Rattle.mcs_types.specs.declared.record.Mail.TheVariants.{Message}
 use Rattle.mcs_types.specs.declared.record.Queue.{Queue}
 use Rattle.mcs_types.specs.declared.record.Queue.TheVariants.{Receivers}
 use Rattle.mcs_types.specs.declared.record.Rec.{Rec}
 use Rattle.mcs_types.specs.declared.record.Rec.TheVariants as rec
-use Rattle.mcs_types.specs.Ids.{value_after}
+use Rattle.mcs_types.specs.Ids.{value_after, ChangesAt}
 use Rattle.mcs_book.specs.Logs.{Log}
 use Rattle.mcs_book.specs.Growing.{without, shifted, growing_open}
 use Rattle.mcs_book.specs.Messages.{next_message, letter}
@@ -21,11 +24,13 @@ use Rattle.mcs_book.specs.Queues.{reply_with}
 use Rattle.mcs_book.specs.Standing.{letter_mail}
 use Rattle.mcs_book.specs.Threads.{prio_of}
 use Rattle.mcs_places.specs.Places.{kept_at}
-use Rattle.mcs_objects.specs.Store.{Objects, value_at, shape, one_more}
+use Rattle.mcs_objects.specs.Store.{one_more}
 use Rattle.mcs_contexts.specs.Holding.{Holding, core_in, holder_in, counts}
+use Rattle.mcs_replies.specs.Owing.{Owing, counts as reply_counts, is_there as has_reply, receiver_in, owed_in, chain_in, SetsOwed, LiesOnTop, EndsDebt}
 use Rattle.mcs_slots.specs.Filling.{filled}
 use Rattle.mcs_slots.specs.Pages.{Page, ArePages, empty_page}
-use Rattle.mcs_threads.specs.declared.row.Block.TheVariants.{Queued}
+use Rattle.mcs_threads.specs.declared.row.Block.TheVariants.{Queued, OnReply}
+use Rattle.mcs_threads.specs.declared.row.ThreadRow.{ThreadRow}
 use Rattle.mcs_threads.specs.Rows.{new_row}
 use Rattle.mcs_threads.specs.Tables.{Table, made, row_of, mail_of, ChangesRow, SameRows, SameMails}
 use Rattle.mcs_waiting.specs.Queues.{is_queue_of, line_after, count_after}
@@ -43,6 +48,12 @@ pub record Mails (t : ObjId) (mail : Mail) (old new : Table) : Type 0 where
   pub rows : SameRows old new
   pub mails : (x : ObjId) → mail_of new x ≡ value_after x t (Some mail) (mail_of old x)
 
+-- a thread is blocked no more, and got a mail
+pub record MailsFreed (t : ObjId) (mail : Mail) (old new : Table) : Type 0 where
+  pub made : made new ≡ made old
+  pub rows : (x : ObjId) → row_of new x ≡ value_after x t (option_map (λ (r : ThreadRow). record r { block = None }) (row_of old x)) (row_of old x)
+  pub mails : (x : ObjId) → mail_of new x ≡ value_after x t (Some mail) (mail_of old x)
+
 -- how the threads follow a record; R stands before it
 abbrev pub ThreadsFollow : Log → Rec → Table → Table → Type 0
 ThreadsFollow R (rec.Made o (form.Runner maximum root)) old new = AddsThread o maximum root old new
@@ -54,6 +65,9 @@ ThreadsFollow R (rec.Joins u q reply) old new = ChangesRow (λ r. record r { blo
 ThreadsFollow R (rec.Parts u q) old new = ChangesRow (λ r. record r { block = None }) old new u
 ThreadsFollow R (rec.Sent x e mode badge message) old new = new ≡ old
 ThreadsFollow R (rec.Took m p) old new = (s : Letter) × ((letter R m ≡ Some s) × Mails p (letter_mail s) old new)
+ThreadsFollow R (rec.Owes d x s) old new = ChangesRow (λ r. record r { block = Some (OnReply d) }) old new x
+ThreadsFollow R (rec.Paid d x message) old new = MailsFreed x (Message (record { 0 = 0 }) message) old new
+ThreadsFollow R (rec.Void d x how) old new = ChangesRow (λ r. record r { block = None }) old new x
 ThreadsFollow R (rec.Holds s t) old new = new ≡ old
 ThreadsFollow R _ old new = ⊥
 
@@ -135,22 +149,50 @@ QueuesFollow R (rec.Joins u q reply) old new = JoinsQueue u (prio_of R u) q old 
 QueuesFollow R (rec.Parts u q) old new = PartsQueue u old new
 QueuesFollow R _ old new = new ≡ old
 
--- a reply object was made, or its receiver is this one from now on
-pub record AddsReply (r : ObjId) (old new : Objects (Option ObjId)) : Type 0 where
-  pub shape : shape new ≡ one_more (shape old)
-  pub receivers : (x : ObjId) → value_at new x ≡ value_after x r (Some None) (value_at old x)
+-- the reply objects that are there are those that were, and so are their receivers
+pub record SameReplies (old new : Owing) : Type 0 where
+  pub counts : reply_counts new ≡ reply_counts old
+  pub there : (x : ObjId) → has_reply new x ≡ has_reply old x
 
-pub record SetsReceiver (r : ObjId) (t : Option ObjId) (old new : Objects (Option ObjId)) : Type 0 where
-  pub shape : shape new ≡ shape old
-  pub receivers : (x : ObjId) → value_at new x ≡ value_after x r (Some t) (value_at old x)
+pub record SameReceivers (old new : Owing) : Type 0 where
+  pub objects : SameReplies old new
+  pub receivers : (x : ObjId) → receiver_in new x ≡ receiver_in old x
+
+-- each owes whom it owed, and the chains are what they were
+pub record SameDebts (old new : Owing) : Type 0 where
+  pub owed : (x : ObjId) → owed_in new x ≡ owed_in old x
+  pub chains : (s : ObjId) → chain_in new s ≡ chain_in old s
+
+-- a reply object was made, or its receiver is this one from now on
+pub record AddsReply (r : ObjId) (old new : Owing) : Type 0 where
+  pub counts : reply_counts new ≡ one_more (reply_counts old)
+  pub there : ChangesAt (has_reply old) (has_reply new) r true
+  pub receivers : (x : ObjId) → receiver_in new x ≡ receiver_in old x
+  pub debts : SameDebts old new
+
+pub record SetsReceiver (r : ObjId) (t : Option ObjId) (old new : Owing) : Type 0 where
+  pub objects : SameReplies old new
+  pub receivers : ChangesAt (receiver_in old) (receiver_in new) r t
+  pub debts : SameDebts old new
+
+-- a reply object owes a caller from now on, who brought this context or none; or its debt ended
+pub record AddsDebt (r x : ObjId) (brought : Option ObjId) (old new : Owing) : Type 0 where
+  pub same : SameReceivers old new
+  pub owed : SetsOwed old new r (Some x)
+  pub chains : LiesOnTop old new r brought
+
+pub record DropsDebt (r : ObjId) (how : Ending) (old new : Owing) : Type 0 where
+  pub same : SameReceivers old new
+  pub owed : SetsOwed old new r None
+  pub chains : EndsDebt old new how r
 
 -- how the reply objects follow the making of an object
-abbrev pub RepliesFollowMade : Kind → ObjId → Objects (Option ObjId) → Objects (Option ObjId) → Type 0
+abbrev pub RepliesFollowMade : Kind → ObjId → Owing → Owing → Type 0
 RepliesFollowMade kind.Reply o old new = AddsReply o old new
 RepliesFollowMade _ o old new = new ≡ old
 
 -- the receiver of a reply object, if there is one, is this one from now on
-abbrev pub SetsAny : Option ObjId → Option ObjId → Objects (Option ObjId) → Objects (Option ObjId) → Type 0
+abbrev pub SetsAny : Option ObjId → Option ObjId → Owing → Owing → Type 0
 SetsAny None t old new = new ≡ old
 SetsAny (Some r) t old new = SetsReceiver r t old new
 
@@ -159,12 +201,15 @@ abbrev pub attended : Queue → Option ObjId → Option ObjId
 attended (Receivers e) reply = reply
 attended _ reply = None
 
--- how the reply objects follow a record
-abbrev pub RepliesFollow : Log → Rec → Objects (Option ObjId) → Objects (Option ObjId) → Type 0
+-- how the reply objects follow a record; a debt that is paid leaves its chain as one whose reply object is deleted
+abbrev pub RepliesFollow : Log → Rec → Owing → Owing → Type 0
 RepliesFollow R (rec.Made o f) old new = RepliesFollowMade o.kind o old new
 RepliesFollow R (rec.Closed o) old new = ⊥
 RepliesFollow R (rec.Joins u q reply) old new = SetsAny (attended q reply) (Some u) old new
 RepliesFollow R (rec.Parts u q) old new = SetsAny (attended q (reply_with R u)) None old new
+RepliesFollow R (rec.Owes d x brought) old new = AddsDebt d x brought old new
+RepliesFollow R (rec.Paid d x message) old new = DropsDebt d Deleted old new
+RepliesFollow R (rec.Void d x how) old new = DropsDebt d how old new
 RepliesFollow R _ old new = new ≡ old
 
 -- how the pages follow a record

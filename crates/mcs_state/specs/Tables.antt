@@ -18,12 +18,13 @@ use Rattle.mcs_book.specs.Queues.{queue_of}
 use Rattle.mcs_book.specs.Standing.{mail_of}
 use Rattle.mcs_book.specs.Messages.{next_message, is_sent}
 use Rattle.mcs_book.specs.Contexts.{holder_of}
-use Rattle.mcs_book.specs.Replies.{receiver_with}
-use Rattle.mcs_book.specs.Growing.{Waiter, growing_queue, growing_open}
+use Rattle.mcs_book.specs.Replies.{receiver_with, owed_by}
+use Rattle.mcs_book.specs.Growing.{Waiter, growing_queue, growing_open, growing_chain}
 use Rattle.mcs_book.specs.Sound.{Sound}
 use Rattle.mcs_places.specs.Places.{kept_at}
-use Rattle.mcs_objects.specs.Store.{Objects, Shape, value_at, shape}
+use Rattle.mcs_objects.specs.Store.{Shape}
 use Rattle.mcs_contexts.specs.Holding.{Holding, counts, core_in, holder_in}
+use Rattle.mcs_replies.specs.Owing.{Owing, counts as reply_counts, is_there as has_reply, receiver_in, owed_in, chain_in}
 use Rattle.mcs_slots.specs.Pages.{Page, radix_of, slot_at}
 use Rattle.mcs_threads.specs.Tables.{Table, made, row_of, mail_of as mail_in}
 use Rattle.mcs_waiting.specs.Queues.{queue_object, queue_kind, has_queues}
@@ -52,7 +53,7 @@ pub record Tables : Type 0 where
   pub letters : List (Option Letter)
   pub contexts : Holding
   pub queues : Queueing
-  pub replies : Objects (Option ObjId)
+  pub replies : Owing
   pub slots : List Page
   pub sent : ℕ
 
@@ -98,10 +99,13 @@ pub record QueuesAgree (v : Queueing) (R : Log) : Type 0 where
   pub queue : (t : ObjId) → v.queue t ≡ queue_of R t
   pub has : (q : Queue) → v.has q ≡ is_there R (queue_kind q) (queue_object q)
 
--- the reply objects, each with the receiver that stands with it
-pub record RepliesAgree (v : Objects (Option ObjId)) (R : Log) : Type 0 where
-  pub shape : shape v ≡ shape_said kind.Reply R
-  pub receivers : (r : ObjId) → value_at v r ≡ cond (is_there R kind.Reply r) (Some (receiver_with R r)) None
+-- the reply objects, the receiver that stands with each, the caller that it owes, and the chain of each context
+pub record RepliesAgree (v : Owing) (R : Log) : Type 0 where
+  pub counts : reply_counts v ≡ shape_said kind.Reply R
+  pub there : (r : ObjId) → has_reply v r ≡ is_there R kind.Reply r
+  pub receivers : (r : ObjId) → receiver_in v r ≡ receiver_with R r
+  pub owed : (r : ObjId) → owed_in v r ≡ owed_by R r
+  pub chains : (s : ObjId) → chain_in v s ≡ growing_chain R s
 
 -- the pages of the CNodes: as many as were made, with their radices and what their slots hold
 pub record SlotsAgree (pages : List Page) (R : Log) : Type 0 where

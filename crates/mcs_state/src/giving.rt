@@ -1,13 +1,13 @@
 //! Contexts given and taken, and receivers that come to stand with reply objects.
-ghost use Rattle.std.specs.Prelude.{◌≡◌, ◌≢◌, IsSome, IfSome};
+ghost use Rattle.std.specs.Prelude.{◌≡◌, ◌≢◌, true, IsSome, IfSome};
 ghost use Rattle.mcs_types.specs.declared.id.ObjId.{ObjId};
 ghost use Rattle.mcs_types.specs.Ids.{IsThread};
 ghost use Rattle.mcs_contexts.specs.Holding.{core_in, holder_in};
-ghost use Rattle.mcs_objects.specs.Store.{value_at};
+ghost use Rattle.mcs_replies.specs.Owing.{is_there};
 ghost use Rattle.mcs_state.specs.Following.{GivesContext, SetsAny, attended};
 
 use mcs_contexts::Contexts;
-use mcs_objects::Store;
+use mcs_replies::Replies;
 use mcs_types::{ObjId, Queue};
 
 /// A context that was made is held by this thread now, which holds none, or by nobody.
@@ -46,12 +46,12 @@ pub fn attended(queue: Queue, reply: Option<ObjId>) -> Option<ObjId>
 }
 
 /// The receiver of a reply object that is there, if one is named, is this one now.
-pub fn attend(replies: &mut Store<Option<ObjId>>, reply: Option<ObjId>, receiver: Option<ObjId>)
-    requires { IfSome reply (λ r. IsSome (value_at replies.old r)) }
+pub fn attend(replies: &mut Replies, reply: Option<ObjId>, receiver: Option<ObjId>)
+    requires { IfSome reply (λ r. is_there replies.old r ≡ true) }
     ensures { SetsAny reply receiver replies.old replies.new }
 {
     match reply {
         None => {}
-        Some(reply) => replies.set(reply, receiver),
+        Some(reply) => replies.set_receiver(reply, receiver),
     }
 }

@@ -13,12 +13,13 @@ ghost use Rattle.mcs_state.specs.Tables.{HAND};
 mod making;
 mod picking;
 mod queries;
+mod replying;
 
 use crate::giving::{attend, attended, give};
 use mcs_book::Book;
 use mcs_contexts::Contexts;
-use mcs_objects::Store;
 use mcs_places::{empty_places, keep, take};
+use mcs_replies::Replies;
 use mcs_slots::{SlotId, Slots};
 use mcs_threads::{Block, Threads};
 use mcs_types::{
@@ -37,7 +38,7 @@ pub struct State<W: Waiting> {
     letters: Vec<Option<Letter>>,
     contexts: Contexts,
     queues: W,
-    replies: Store<Option<ObjId>>,
+    replies: Replies,
     slots: Slots,
     sent: u32,
 }
@@ -119,7 +120,7 @@ impl<W: Waiting> State<W> {
             letters: empty_places(alloc, OBJECTS)?,
             contexts: Contexts::new(alloc)?,
             queues: W::new(alloc)?,
-            replies: Store::with_room(alloc, Kind::Reply, OBJECTS)?,
+            replies: Replies::new(alloc)?,
             slots: Slots::new(alloc, &[])?,
             sent: 0,
         })

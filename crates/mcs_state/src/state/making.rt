@@ -34,13 +34,9 @@ impl<W: Waiting> State<W> {
         requires room { length self.old.hand < HAND }
         ensures { self.new ≡ makes_next Kind.Reply Form.Plain self.old }
     {
-        match self.replies.make(None) {
-            Err(_) => unreachable!(),
-            Ok(object) => {
-                let form = Form::Plain;
-                note(&mut self.hand, Rec::Made { object, form });
-            }
-        }
+        let object = self.replies.add();
+        let form = Form::Plain;
+        note(&mut self.hand, Rec::Made { object, form });
     }
 
     /// Makes an endpoint, a notification or a reply object.

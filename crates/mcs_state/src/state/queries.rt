@@ -8,7 +8,9 @@ ghost use Rattle.mcs_book.specs.Threads.{prio_of, mode_of, root_of};
 ghost use Rattle.mcs_book.specs.Queues.{queue_of, reply_with, first_in};
 ghost use Rattle.mcs_book.specs.Messages.{next_message, open_of};
 ghost use Rattle.mcs_book.specs.Contexts.{holder_of, context_of};
-ghost use Rattle.mcs_book.specs.Replies.{receiver_with};
+ghost use Rattle.mcs_types.specs.Chains.{head_of};
+ghost use Rattle.mcs_book.specs.Chains.{chain_of};
+ghost use Rattle.mcs_book.specs.Replies.{receiver_with, owed_by, user_of};
 ghost use Rattle.mcs_book.specs.Standing.{status_of, mail_of, is_on_core};
 ghost use Rattle.mcs_book.specs.Lookup.{radix_kept, capability, slot_named};
 ghost use Rattle.mcs_cspace.specs.Spaces.{named_by};
@@ -40,7 +42,7 @@ impl<W: Waiting> State<W> {
             }
             Kind::Thread => self.threads.made() as u32,
             Kind::Endpoint | Kind::Notification => self.queues.made(kind),
-            Kind::Reply => self.replies.given(),
+            Kind::Reply => self.replies.made(),
             Kind::Context => self.contexts.made(),
         }
     }
@@ -211,7 +213,29 @@ impl<W: Waiting> State<W> {
         requires { IsThere (so_far self.now) Kind.Reply reply }
         ensures { result ≡ receiver_with (so_far self.now) reply }
     {
-        *self.replies.get(reply)?
+        self.replies.receiver(reply)
+    }
+
+    /// The caller that a reply object owes an answer, or None where it owes nobody (manual: Message Passing).
+    pub fn owed(&self, reply: ObjId) -> Option<ObjId>
+        ensures { result ≡ owed_by (so_far self.now) reply }
+    {
+        self.replies.owed(reply)
+    }
+
+    /// Who uses a reply object: the caller that it owes, or the receiver that stands with it (manual: Message Passing).
+    pub fn user_of(&self, reply: ObjId) -> Option<ObjId>
+        requires { IsThere (so_far self.now) Kind.Reply reply }
+        ensures { result ≡ user_of (so_far self.now) reply }
+    {
+        self.owed(reply).or(self.receiver_with(reply))
+    }
+
+    /// The reply object on top of the chain of a context, or None where the chain is empty (own).
+    pub fn top_of(&self, context: ObjId) -> Option<ObjId>
+        ensures { result ≡ head_of (chain_of (so_far self.now) context) }
+    {
+        self.replies.top_of(context)
     }
 
     /// The capability that a thread that is there names by an address: Missing where there is none, GuardMismatch and

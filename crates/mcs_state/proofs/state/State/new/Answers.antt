@@ -22,9 +22,12 @@ invariant_of-result g c = (
         has = c.in_ok-new-3.ensures.has;
         made = c.in_ok-new-3.ensures.given;
         there = c.in_ok-new-3.ensures.there;
-        replies = c.in_ok-with_room.ensures.shape;
-        receivers = c.in_ok-with_room.ensures.values;
-        slots = c.in_ok-new-4.ensures;
+        replies = c.in_ok-new-4.ensures.counts;
+        has_reply = c.in_ok-new-4.ensures.there;
+        receivers = c.in_ok-new-4.ensures.receivers;
+        owed = c.in_ok-new-4.ensures.owed;
+        chains = c.in_ok-new-4.ensures.chains;
+        slots = c.in_ok-new-5.ensures;
         sent = refl;
       })),
 )
