@@ -30,7 +30,7 @@ use Rattle.mcs_book.proofs.Queues.NoneBeside.{left-queue}
 use Rattle.mcs_book.proofs.Threads.HoldingLaws.{holder-one, context_of-holder}
 use Rattle.mcs_book.proofs.Threads.UserLaws.{one_user, receiver_with-named, unattended-none}
 use Rattle.mcs_book.proofs.SoundLogs.Keeping.{then-next}
-use Rattle.mcs_book.proofs.SoundLogs.KeptLaws.{set-split, set-self, set-kept, never-both, same-never, there-next, owed-there, owed-one, owed-stands_none, standing-thread, bound-one}
+use Rattle.mcs_book.proofs.SoundLogs.KeptLaws.{set-split, set-self, set-kept, never-both, same-never, there-next, owed-there, ended-idle, standing-thread, bound-one}
 use Rattle.mcs_book.proofs.Firm.Laws.{Firm, Strict, firm-sound, context-none, tied-bound, tied-none, topped-there}
 use Rattle.mcs_book.proofs.Firm.Cancel.{IsLeft, cancelled, Outlasts, outlasts-cancel, outlasts-cancel_all, all-cancelled, line-emptied, line-in, in-line, in-left, in-right, in-either}
 
@@ -51,7 +51,7 @@ ended R r x e mode owed strict owes queues closing firm = go (topped_by R r) ref
     there = there-next R e kind.Thread x ((owed-there R r x (firm-sound R firm) owed).1) (closing x)
 
     idle : IsIdle (e ∷ R) x
-    idle = (queues ∙ owed-stands_none R r x (firm-sound R firm) owed, λ d o. elim (set-split d r None (owed_by R d) (Some x) (sym (owes d) ∙ o)) [ inl (who, is) ↦ absurd cc | inr (other, is) ↦ same-never d r (owed-one R d r x (firm-sound R firm) is owed) other ])
+    idle = ended-idle R r x e (firm-sound R firm) owed owes queues
 
     firm2 : Firm turned
     firm2 = (((there, idle), tt), (strict, firm))

@@ -36,8 +36,8 @@ use Rattle.mcs_book.proofs.Queues.Sorted.{In}
 use Rattle.mcs_book.proofs.Objects.MadeLaws.{made-in, alive-made}
 use Rattle.mcs_book.proofs.Messages.MessageLaws.{find-passes, letter-below}
 use Rattle.mcs_book.proofs.Queues.NoneBeside.{made-more}
-use Rattle.mcs_book.proofs.Threads.HoldingLaws.{holder-context_of}
-use Rattle.mcs_book.proofs.SoundLogs.KeptLaws.{given-split, set-split, never-both, there-next, there-closed, owed-there, bound-there}
+use Rattle.mcs_book.proofs.Threads.HoldingLaws.{find-alone, holder-context_of}
+use Rattle.mcs_book.proofs.SoundLogs.KeptLaws.{given-split, set-split, never-both, there-next, there-closed, owed-there, owed-one, bound-there}
 
 -- what is kept of a record beside what is allowed: of roots, badges, waiters, and of messages that are taken
 abbrev pub Also : Log → Rec → Type 0
@@ -166,6 +166,14 @@ owing-none R x sound none r o =
 pub owing-owed : (R : Log) (x r : ObjId) → owing R x ≡ Some r → owed_by R r ≡ Some x
 unfolding owing
 owing-owed R x r h = is_just-some (owed_by R r) x (find-passes (λ r. is_just (owed_by R r) x) (replies R) r h)
+
+-- and the one that owes x is found
+pub owed-owing : (R : Log) (x r : ObjId) → Sound R → owed_by R r ≡ Some x → owing R x ≡ Some r
+unfolding owing
+owed-owing R x r sound h =
+    let there = (owed-there R r x sound h).0 in
+    find-alone (λ r. is_just (owed_by R r) x) (replies R) r (made-in R r kind.Reply there.0 (alive-made R r there.1)) (ap (λ o. is_just o x) h ∙ same-self x)
+    (λ z is. owed-one R z r x sound (is_just-some (owed_by R z) x is) h)
 
 -- who has no context holds none
 pub context-none : (R : Log) (x : ObjId) → Sound R → context_of R x ≡ None → HoldsNone R x

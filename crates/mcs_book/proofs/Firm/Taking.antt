@@ -104,12 +104,12 @@ firm-settle how.Call x p None goes_on R caller idle taker free on firm = (((call
 firm-settle how.Mute x p r goes_on R caller idle taker free on firm = (((caller, idle), tt), firm)
 
 -- p is idle, and there
-record IsReady (p : ObjId) (R : Log) : Type 0 where
-  there : IsThere R kind.Thread p
-  idle : IsIdle R p
+pub record IsReady (p : ObjId) (R : Log) : Type 0 where
+  pub there : IsThere R kind.Thread p
+  pub idle : IsIdle R p
 
 -- it stays so while it takes the message of another
-settle-ready : (mode : SendMode) (x p : ObjId) (r : Option ObjId) (R : Log) → x ≢ p → IsReady p R → IsReady p (onto (settle mode x p r nothing R) R)
+pub settle-ready : (mode : SendMode) (x p : ObjId) (r : Option ObjId) (R : Log) → x ≢ p → IsReady p R → IsReady p (onto (settle mode x p r nothing R) R)
 unfolding owe
 settle-ready how.Plain x p r R ne h = h
 settle-ready how.Call x p None R ne h = record { there = h.there; idle = h.idle }

@@ -18,7 +18,7 @@ use Rattle.mcs_book.specs.Queues.{queue_of, reply_with}
 use Rattle.mcs_book.specs.Contexts.{holder_of}
 use Rattle.mcs_book.specs.Replies.{owed_by}
 use Rattle.mcs_book.specs.Notifications.{bound_of}
-use Rattle.mcs_book.specs.Sound.{Allowed, Sound, IsThere, IsLineThere, IsReleased, IsUnattended}
+use Rattle.mcs_book.specs.Sound.{Allowed, Sound, IsThere, IsLineThere, IsReleased, IsUnattended, IsIdle}
 use Rattle.mcs_types.proofs.Ids.{same-self, same-equal, same-other, parts, both}
 use Rattle.mcs_book.proofs.Queues.NoneBeside.{made-more}
 use Rattle.mcs_book.proofs.Threads.UserLaws.{if_some}
@@ -176,6 +176,11 @@ owed-stands_none R r x sound o = go (queue_of R x) refl
     go : (q : Option Queue) → queue_of R x ≡ q → q ≡ None
     go None is = refl
     go (Some q) is = absurd (standing-owed R x q r sound is o)
+
+-- once the debt of r to x has ended, x is idle
+pub ended-idle : (R : Log) (r x : ObjId) (e : Rec) → Sound R → owed_by R r ≡ Some x → ((d : ObjId) → owed_by (e ∷ R) d ≡ unwrap_or (given (same d r) None) (owed_by R d)) → queue_of (e ∷ R) x ≡ queue_of R x → IsIdle (e ∷ R) x
+ended-idle R r x e sound owed owes queues =
+    (queues ∙ owed-stands_none R r x sound owed, λ d o. elim (set-split d r None (owed_by R d) (Some x) (sym (owes d) ∙ o)) [ inl (who, is) ↦ absurd cc | inr (other, is) ↦ same-never d r (owed-one R d r x sound is owed) other ])
 
 -- nobody receives with a reply object that owes
 pub owed-unattended : (R : Log) (r x : ObjId) → Sound R → owed_by R r ≡ Some x → IsUnattended R r

@@ -76,7 +76,7 @@ impl<W: Waiting> State<W> {
     }
 
     /// The reply object with which a thread stands in a queue.
-    pub(super) fn reply_with(&self, thread: ObjId, queue: Queue) -> Option<ObjId>
+    pub fn reply_with(&self, thread: ObjId, queue: Queue) -> Option<ObjId>
         requires { queue_of (so_far self.now) thread ≡ Some queue }
         ensures { result ≡ attended queue (reply_with (so_far self.now) thread) }
     {
