@@ -1,5 +1,5 @@
 -- The rows of BindCtx and UnbindCtx are what the code does, and what it does is allowed.
-use Rattle.std.specs.Prelude.{ℕ, ◌≡◌, ◌&&◌, ◌||◌, Bool, true, false, cond, List, [], Option, Some, None, is_some, is_none, IsSome, Ok, Err}
+use Rattle.std.specs.Prelude.{ℕ, ◌≡◌, ◌&&◌, ◌||◌, Bool, true, false, cond, List, [], ◌∷◌, Option, Some, None, is_some, is_none, IsSome, Ok, Err}
 use Rattle.std.proofs.Common.{refl, sym, subst}
 use Rattle.mcs_types.specs.declared.id.ObjId.{ObjId}
 use Rattle.mcs_types.specs.declared.id.CoreId.{CoreId}
@@ -13,6 +13,7 @@ use Rattle.mcs_types.specs.declared.entry.Refusal.TheVariants.{AlreadyBound, Not
 use Rattle.mcs_book.specs.Logs.{Log, onto}
 use Rattle.mcs_book.specs.Checks.{Checked, ◌>>=◌, ◌>>◌, need}
 use Rattle.mcs_book.specs.Contexts.{holder_of, context_of}
+use Rattle.mcs_types.specs.Chains.{head_of}
 use Rattle.mcs_book.specs.Chains.{chain_of}
 use Rattle.mcs_book.specs.Placing.{is_empty}
 use Rattle.mcs_book.specs.Pieces.{Act}
@@ -22,7 +23,6 @@ use Rattle.mcs_book.proofs.Firm.Laws.{context-none}
 use Rattle.mcs_state.specs.Checks.{kinded, object_found, object_named, act_of}
 use Rattle.mcs_state.proofs.Named.{object-is, named-there}
 use Rattle.mcs_ipc.specs.declared.contexts.Binding.{Binding}
-use Rattle.mcs_ipc.specs.Ready.{NoChains}
 use Rattle.mcs_ipc.specs.Holding.{pair_of, free_pair, bindable, held_context, unbindable, holds_act}
 use Rattle.mcs_book.specs.Lookup.{capability}
 
@@ -35,20 +35,21 @@ abbrev pub unbinds : ObjId → Act
 unbinds s = holds_act s None
 
 -- the row of BindCtx
-pub row-bind : (R : Log) (core : CoreId) (t : ObjId) (s x : ℕ) → NoChains R → row R core t (BindCtx s x) ≡ act_of (bindable R t s x) binds
+pub row-bind : (R : Log) (core : CoreId) (t : ObjId) (s x : ℕ) → row R core t (BindCtx s x) ≡ act_of (bindable R t s x) binds
 unfolding row ◌>>=◌ ◌>>◌ need
-row-bind R core t s x chains = rw (object-is R t kind.Context s, object-is R t kind.Thread x) (go (kinded kind.Context (capability R t s)) (kinded kind.Thread (capability R t x)))
+row-bind R core t s x = rw (object-is R t kind.Context s, object-is R t kind.Thread x) (go (kinded kind.Context (capability R t s)) (kinded kind.Thread (capability R t x)))
   where
-    test : (u v : ObjId) (chain : List ObjId) → chain ≡ [] → (held holds : Option ObjId)
-        → (need (is_none held && is_empty chain && is_none holds) AlreadyBound >> Ok (holds_act u (Some v))) ≡ act_of (cond (is_some held || is_some holds) (Err AlreadyBound) (Ok (record { context = u; thread = v }))) binds
-    test u v chain none None None = rw none refl
-    test u v chain none None (Some y) = rw none refl
-    test u v chain none (Some y) holds = refl
+    test : (u v : ObjId) (chain : List ObjId) (held holds : Option ObjId)
+        → (need (is_none held && is_empty chain && is_none holds) AlreadyBound >> Ok (holds_act u (Some v))) ≡ act_of (cond (is_some held || is_some (head_of chain) || is_some holds) (Err AlreadyBound) (Ok (record { context = u; thread = v }))) binds
+    test u v [] None None = refl
+    test u v [] None (Some y) = refl
+    test u v (o ∷ os) None holds = refl
+    test u v chain (Some y) holds = refl
 
     go : (m n : Checked Cap) → (m >>= λ c. n >>= λ d. need (is_none (holder_of R c.obj) && is_empty (chain_of R c.obj) && is_none (context_of R d.obj)) AlreadyBound >> Ok (holds_act c.obj (Some d.obj))) ≡ act_of (free_pair R (pair_of (object_found m) (object_found n))) binds
     go (Err why) n = refl
     go (Ok c) (Err why) = refl
-    go (Ok c) (Ok d) = test c.obj d.obj (chain_of R c.obj) (chains c.obj) (holder_of R c.obj) (context_of R d.obj)
+    go (Ok c) (Ok d) = test c.obj d.obj (chain_of R c.obj) (holder_of R c.obj) (context_of R d.obj)
 
 -- the row of UnbindCtx
 pub row-unbind : (R : Log) (core : CoreId) (t : ObjId) (s : ℕ) → row R core t (UnbindCtx s) ≡ act_of (unbindable R t s) unbinds
@@ -67,18 +68,19 @@ row-unbind R core t s = rw (object-is R t kind.Context s) (go (kinded kind.Conte
 pub bind-allowed : (R : Log) (t : ObjId) (s x : ℕ) (b : Binding) → Sound R → bindable R t s x ≡ Ok b → Allowed R (rec.Holds b.context (Some b.thread))
 bind-allowed R t s x b sound e = go (object_named R t kind.Context s) refl (object_named R t kind.Thread x) refl e
   where
-    free : (u v : ObjId) → IsThere R kind.Context u → IsThere R kind.Thread v → (held holds : Option ObjId) → context_of R v ≡ holds
-        → cond (is_some held || is_some holds) (Err AlreadyBound) (Ok (record { context = u; thread = v })) ≡ Ok b → Allowed R (rec.Holds b.context (Some b.thread))
-    free u v one other None None is h =
+    free : (u v : ObjId) → IsThere R kind.Context u → IsThere R kind.Thread v → (held top holds : Option ObjId) → context_of R v ≡ holds
+        → cond (is_some held || is_some top || is_some holds) (Err AlreadyBound) (Ok (record { context = u; thread = v })) ≡ Ok b → Allowed R (rec.Holds b.context (Some b.thread))
+    free u v one other None None None is h =
         let it : record { context = u; thread = v } ≡ b = cc in
         subst (λ (p : Binding). Allowed R (rec.Holds p.context (Some p.thread))) it (one, other, context-none R v sound is)
-    free u v one other None (Some y) is h = absurd cc
-    free u v one other (Some y) holds is h = absurd cc
+    free u v one other None None (Some y) is h = absurd cc
+    free u v one other None (Some o) holds is h = absurd cc
+    free u v one other (Some y) top holds is h = absurd cc
 
     go : (m : Checked ObjId) → object_named R t kind.Context s ≡ m → (n : Checked ObjId) → object_named R t kind.Thread x ≡ n → free_pair R (pair_of m n) ≡ Ok b → Allowed R (rec.Holds b.context (Some b.thread))
     go (Err why) p n q h = absurd cc
     go (Ok u) p (Err why) q h = absurd cc
-    go (Ok u) p (Ok v) q h = free u v (named-there R t kind.Context s u sound p) (named-there R t kind.Thread x v sound q) (holder_of R u) (context_of R v) refl h
+    go (Ok u) p (Ok v) q h = free u v (named-there R t kind.Context s u sound p) (named-there R t kind.Thread x v sound q) (holder_of R u) (head_of (chain_of R u)) (context_of R v) refl h
 
 -- the context may be taken away
 pub unbind-allowed : (R : Log) (t : ObjId) (s : ℕ) (u : ObjId) → unbindable R t s ≡ Ok u → Allowed R (rec.Holds u None)

@@ -1,6 +1,6 @@
 -- What holds of a thread that sends, of one that receives, and of who is first in a queue.
 use Rattle.std.specs.Option.{IfSome}
-use Rattle.std.specs.Prelude.{ℕ, Ok, Err, ◌≡◌, Bool, true, false, [], ◌∷◌, Option, Some, None, IsTrue}
+use Rattle.std.specs.Prelude.{ℕ, Ok, Err, ◌≡◌, Bool, true, false, cond, [], ◌∷◌, Option, Some, None, IsTrue}
 use Rattle.std.proofs.Common.{refl, sym, ◌∙◌, subst}
 use Rattle.mcs_types.specs.Views.{Content}
 use Rattle.mcs_types.specs.declared.id.ObjId.{ObjId}
@@ -13,19 +13,21 @@ use Rattle.mcs_types.specs.declared.record.Mode.TheVariants.{Running, Restart, I
 use Rattle.mcs_types.specs.declared.record.Queue.{Queue}
 use Rattle.mcs_types.specs.declared.record.Queue.TheVariants.{Senders, Receivers}
 use Rattle.mcs_types.specs.declared.record.SendMode.{SendMode}
-use Rattle.mcs_types.specs.declared.record.SendMode.TheVariants as how
 use Rattle.mcs_types.specs.declared.record.Rec.TheVariants as rec
 use Rattle.mcs_types.specs.declared.entry.Answer.TheVariants.{Done, Waits}
+use Rattle.mcs_types.specs.declared.entry.Refusal.TheVariants.{NoRight}
 use Rattle.mcs_types.proofs.Ids.{same-self}
 use Rattle.mcs_book.specs.Logs.{Log, onto}
 use Rattle.mcs_book.specs.Checks.{Checked}
 use Rattle.mcs_book.specs.Lookup.{capability}
+use Rattle.mcs_book.specs.Rights.{may_write}
 use Rattle.mcs_book.specs.Threads.{mode_of}
 use Rattle.mcs_book.specs.Queues.{queue_of, first_in}
 use Rattle.mcs_book.specs.Messages.{next_message, is_open, open_of}
-use Rattle.mcs_book.specs.Pieces.{◌then◌}
+use Rattle.mcs_book.specs.Pieces.{◌then◌, say, answers}
 use Rattle.mcs_book.specs.Taking.{handed}
 use Rattle.mcs_book.specs.Sending.{sends_to, sends, queues}
+use Rattle.mcs_book.specs.Served.{NoneBound}
 use Rattle.mcs_book.specs.Table.{wakes}
 use Rattle.mcs_book.specs.Sound.{Sound, Allowed, IsThere, IsIdle, HasNoneOpen}
 use Rattle.mcs_book.proofs.SoundLogs.KeptLaws.{standing-thread, standing-owed}
@@ -39,7 +41,8 @@ use Rattle.mcs_state.proofs.Named.{kinded-ok, writable-ok, readable-ok, found-al
 use Rattle.mcs_state.proofs.Woken.{woken}
 use Rattle.mcs_ipc.specs.declared.checks.Receiving.{Receiving}
 use Rattle.mcs_ipc.specs.Ready.{IsSending}
-use Rattle.mcs_ipc.specs.Rows.{reply_found, reply_named, with_reply, sendable, receivable, alone_act, send_act}
+use Rattle.mcs_ipc.specs.declared.checks.Target.TheVariants as target
+use Rattle.mcs_ipc.specs.Rows.{reply_found, reply_named, with_reply, target_by, target_of, sendable, callable, receivable, answer_to, alone_act, send_act, handed_to}
 
 -- who stands in no queue has no open message
 pub none-open : (R : Log) (t : ObjId) → OpenStand R → queue_of R t ≡ None → HasNoneOpen R t
@@ -48,10 +51,6 @@ none-open R t stand none e m still = let no : None ≡ Some (Senders e) = sym no
 -- who is first in a queue is a thread that is there, and stands in that queue
 pub first-there : (R : Log) (q : Queue) (x : ObjId) → Sound R → first_in R q ≡ Some x → IsThere R kind.Thread x × (queue_of R x ≡ Some q)
 first-there R q x sound first = let stands : queue_of R x ≡ Some q = first-stands R q x first in (standing-thread R x q sound stands, stands)
-
--- who left its queue is idle
-pub parted : (R : Log) (x : ObjId) (q : Queue) → Sound R → queue_of R x ≡ Some q → IsIdle (rec.Parts x q ∷ R) x
-parted R x q sound stands = (rw (same-self x) refl, λ r owes. absurd (standing-owed R x q r sound stands owes))
 
 -- a thread that acts may send on an endpoint that is there
 pub may-send : (R : Log) (t e : ObjId) (mode : SendMode) (badge : Badge) (message : Content) → IsSending R t e → Allowed R (rec.Sent t e mode badge message)
@@ -66,21 +65,21 @@ pub sent-opens : (R : Log) (t e : ObjId) (mode : SendMode) (badge : Badge) (mess
 sent-opens R t e mode badge message sound = sent-open R (record { number = next_message R; sender = t; endpoint = e; mode = mode; badge = badge; message = message }) (sound-ends R sound)
 
 -- a send where nobody receives
-pub send-alone : (R : Log) (b : Bool) (t : ObjId) (cap : Cap) (message : Content) → first_in R (Receivers cap.obj) ≡ None → send_act b t cap message R ≡ alone_act b t cap message R
+send-alone : (R : Log) (b : Bool) (mode : SendMode) (t : ObjId) (cap : Cap) (message : Content) → first_in R (Receivers cap.obj) ≡ None → send_act b mode t cap message R ≡ alone_act b mode t cap message R
 unfolding send_act sends sends_to
-send-alone R b t cap message none = rw none refl
+send-alone R b mode t cap message none = rw none refl
 
 -- it waits, and stands in its queue
-pub alone-waits : (R : Log) (t : ObjId) (cap : Cap) (message : Content)
-    → alone_act true t cap message R ≡ record { answer = Waits; records = rec.Sent t cap.obj how.Plain cap.badge message ∷ rec.Joins t (Senders cap.obj) None ∷ [] }
+alone-waits : (R : Log) (mode : SendMode) (t : ObjId) (cap : Cap) (message : Content)
+    → alone_act true mode t cap message R ≡ record { answer = Waits; records = rec.Sent t cap.obj mode cap.badge message ∷ rec.Joins t (Senders cap.obj) None ∷ [] }
 unfolding queues ◌then◌
-alone-waits R t cap message = refl
+alone-waits R mode t cap message = refl
 
--- a send where somebody receives
-pub send-hands : (R : Log) (b : Bool) (t : ObjId) (cap : Cap) (message : Content) (p : ObjId) → first_in R (Receivers cap.obj) ≡ Some p
-    → send_act b t cap message R ≡ record { answer = Done; records = rec.Sent t cap.obj how.Plain cap.badge message ∷ rec.Took (next_message R) p ∷ rec.Parts p (Receivers cap.obj) ∷ rec.Turns p Running ∷ [] }
-unfolding send_act sends sends_to handed ◌then◌
-send-hands R b t cap message p first = rw first refl
+-- a send where somebody receives: the message is accepted, and taken at once
+pub send-hands : (R : Log) (b : Bool) (mode : SendMode) (t : ObjId) (cap : Cap) (message : Content) (p : ObjId) (number : ℕ) → first_in R (Receivers cap.obj) ≡ Some p → number ≡ next_message R
+    → send_act b mode t cap message R ≡ answers (answer_to mode) (say (rec.Sent t cap.obj mode cap.badge message) then handed_to (record { number = number; sender = t; endpoint = cap.obj; mode = mode }) p) R
+unfolding send_act sends sends_to handed handed_to ◌then◌
+send-hands R b mode t cap message p number first e = rw (first, e) refl
 
 -- once a thread was woken, whoever has an open message stands in its queue still
 pub woken-stand : (R : Log) (t : ObjId) → OpenStand R → OpenStand (onto (wakes (mode_of R t) t R) R)
@@ -90,6 +89,15 @@ woken-stand R t stand = go (mode_of R t)
     go Restart x e m still = stand x e m (record { sent = still.sent; is_letter = still.is_letter; is_open = still.is_open; of_sender = still.of_sender; on_endpoint = still.on_endpoint })
     go Running x e m still = stand x e m still
     go Inactive x e m still = stand x e m still
+
+-- and nobody is bound to a notification
+pub woken-unbound : (R : Log) (t : ObjId) → NoneBound R → NoneBound (onto (wakes (mode_of R t) t R) R)
+woken-unbound R t unbound = go (mode_of R t)
+  where
+    go : (m : Mode) → NoneBound (onto (wakes m t R) R)
+    go Restart x = unbound x
+    go Running x = unbound x
+    go Inactive x = unbound x
 
 -- what is there is there still when a thread was woken
 pub woken-there : (R : Log) (t : ObjId) (m : Mode) (k : Kind) (o : ObjId) → IsThere R k o → IsThere (onto (wakes m t R) R) k o
@@ -103,8 +111,30 @@ woken-reply R t m None there = tt
 woken-reply R t m (Some r) there = woken-there R t m kind.Reply r there
 
 -- the endpoint over which t sends is there
-pub sendable-there : (R : Log) (t : ObjId) (a : ℕ) (c : Cap) → Sound R → sendable R t a ≡ Ok c → IsThere R kind.Endpoint c.obj
-sendable-there R t a c sound e =
+sendable-there : (R : Log) (t : ObjId) (a : ℕ) (c : Cap) → Sound R → sendable R t a ≡ Ok (target.Endpoint c) → IsThere R kind.Endpoint c.obj
+sendable-there R t a c sound e = go (capability R t a) refl e
+  where
+    tested : (x : Cap) (b : Bool) → cond b (Ok (target.Endpoint x)) (Err NoRight) ≡ Ok (target.Endpoint c) → x ≡ c
+    tested x true h = cc
+    tested x false h = absurd cc
+
+    by_kind : (k : Kind) (x : Cap) → target_by k x ≡ Ok (target.Endpoint c) → (k ≡ kind.Endpoint) × (x ≡ c)
+    by_kind kind.Endpoint x h = (refl, tested x (may_write x) h)
+    by_kind kind.Reply x h = absurd cc
+    by_kind kind.Notification x h = absurd cc
+    by_kind kind.CNode x h = absurd cc
+    by_kind kind.Thread x h = absurd cc
+    by_kind kind.Context x h = absurd cc
+
+    go : (m : Checked Cap) → capability R t a ≡ m → target_of m ≡ Ok (target.Endpoint c) → IsThere R kind.Endpoint c.obj
+    go (Err why) is h = absurd cc
+    go (Ok x) is h =
+        let f = by_kind x.obj.kind x h in
+        subst (λ (y : Cap). IsThere R kind.Endpoint y.obj) f.1 (f.0, found-alive R t a x sound is)
+
+-- and so is the one over which it calls
+callable-there : (R : Log) (t : ObjId) (a : ℕ) (c : Cap) → Sound R → callable R t a ≡ Ok c → IsThere R kind.Endpoint c.obj
+callable-there R t a c sound e =
     let k = kinded-ok kind.Endpoint (capability R t a) c (writable-ok (kinded kind.Endpoint (capability R t a)) c e) in
     (k.1, found-alive R t a c sound k.0)
 
@@ -130,19 +160,27 @@ receivable-there R t a r at sound e = go (readable (kinded kind.Endpoint (capabi
         let k = kinded-ok kind.Endpoint (capability R t a) c (readable-ok (kinded kind.Endpoint (capability R t a)) c p) in
         subst (λ (x : Receiving). IsThere R kind.Endpoint x.endpoint × IfSome x.reply (λ y. IsThere R kind.Reply y)) it ((k.1, found-alive R t a c sound k.0), reply-there R t r o sound q)
 
--- once it was woken, who enters sends over what it named
-pub woken-sends : (R : Log) (t : ObjId) (a : ℕ) (c : Cap) → Sound R → IsEntering R t → OpenStand R → sendable R t a ≡ Ok c → IsSending (onto (wakes (mode_of R t) t R) R) t c.obj
-woken-sends R t a c sound enters stand e = record {
+-- once it was woken, who enters sends over an endpoint that is there
+woken-over : (R : Log) (t e : ObjId) → IsEntering R t → OpenStand R → IsThere R kind.Endpoint e → IsSending (onto (wakes (mode_of R t) t R) R) t e
+woken-over R t e enters stand there = record {
   acting = woken R t enters;
   stand = woken-stand R t stand;
-  endpoint = woken-there R t (mode_of R t) kind.Endpoint c.obj (sendable-there R t a c sound e);
+  endpoint = woken-there R t (mode_of R t) kind.Endpoint e there;
 }
 
+-- so it does over what it named
+pub woken-sends : (R : Log) (t : ObjId) (a : ℕ) (c : Cap) → Sound R → IsEntering R t → OpenStand R → sendable R t a ≡ Ok (target.Endpoint c) → IsSending (onto (wakes (mode_of R t) t R) R) t c.obj
+woken-sends R t a c sound enters stand e = woken-over R t c.obj enters stand (sendable-there R t a c sound e)
+
+-- and it calls
+pub woken-calls : (R : Log) (t : ObjId) (a : ℕ) (c : Cap) → Sound R → IsEntering R t → OpenStand R → callable R t a ≡ Ok c → IsSending (onto (wakes (mode_of R t) t R) R) t c.obj
+woken-calls R t a c sound enters stand e = woken-over R t c.obj enters stand (callable-there R t a c sound e)
+
 -- it is accepted, and its sender stands in its queue
-pub alone-is : (R : Log) (t : ObjId) (cap : Cap) (message : Content) → first_in R (Receivers cap.obj) ≡ None
-    → send_act true t cap message R ≡ record { answer = Waits; records = rec.Sent t cap.obj how.Plain cap.badge message ∷ rec.Joins t (Senders cap.obj) None ∷ [] }
-alone-is R t cap message none = send-alone R true t cap message none ∙ alone-waits R t cap message
+pub alone-is : (R : Log) (mode : SendMode) (t : ObjId) (cap : Cap) (message : Content) → first_in R (Receivers cap.obj) ≡ None
+    → send_act true mode t cap message R ≡ record { answer = Waits; records = rec.Sent t cap.obj mode cap.badge message ∷ rec.Joins t (Senders cap.obj) None ∷ [] }
+alone-is R mode t cap message none = send-alone R true mode t cap message none ∙ alone-waits R mode t cap message
 
 -- or it is dropped
-pub dropped-is : (R : Log) (t : ObjId) (cap : Cap) (message : Content) → first_in R (Receivers cap.obj) ≡ None → send_act false t cap message R ≡ record { answer = Done; records = [] }
-dropped-is R t cap message none = send-alone R false t cap message none
+pub dropped-is : (R : Log) (mode : SendMode) (t : ObjId) (cap : Cap) (message : Content) → first_in R (Receivers cap.obj) ≡ None → send_act false mode t cap message R ≡ record { answer = Done; records = [] }
+dropped-is R mode t cap message none = send-alone R false mode t cap message none

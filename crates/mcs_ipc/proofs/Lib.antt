@@ -1,4 +1,7 @@
 pub mod Facts
 pub mod Rows
+pub mod Room
+pub mod Deliveries
+pub mod Paying
 pub mod Freeing
 pub mod Binding

@@ -8,6 +8,8 @@ use Rattle.mcs_types.specs.declared.entry.Refusal.TheVariants.{AlreadyBound, Not
 use Rattle.mcs_book.specs.Logs.{Log}
 use Rattle.mcs_book.specs.Checks.{Checked}
 use Rattle.mcs_book.specs.Contexts.{holder_of, context_of}
+use Rattle.mcs_book.specs.Chains.{chain_of}
+use Rattle.mcs_types.specs.Chains.{head_of}
 use Rattle.mcs_book.specs.Pieces.{Act, say, answers}
 use Rattle.mcs_state.specs.Checks.{object_named}
 use Rattle.mcs_ipc.specs.declared.contexts.Binding.{Binding}
@@ -18,10 +20,10 @@ pair_of (Err why) thread = Err why
 pair_of (Ok s) (Err why) = Err why
 pair_of (Ok s) (Ok x) = Ok (record { context = s; thread = x })
 
--- what was found, where the context is held by nobody, and the thread holds none
+-- what was found, where the context is held by nobody and has no chain, and the thread holds none
 abbrev pub free_pair : Log → Checked Binding → Checked Binding
 free_pair R (Err why) = Err why
-free_pair R (Ok b) = cond (is_some (holder_of R b.context) || is_some (context_of R b.thread)) (Err AlreadyBound) (Ok b)
+free_pair R (Ok b) = cond (is_some (holder_of R b.context) || is_some (head_of (chain_of R b.context)) || is_some (context_of R b.thread)) (Err AlreadyBound) (Ok b)
 
 -- the context and the thread that t may bind, or the first check that fails
 abbrev pub bindable : Log → ObjId → ℕ → ℕ → Checked Binding

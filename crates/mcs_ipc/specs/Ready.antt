@@ -1,11 +1,11 @@
 -- What holds where a thread sends or receives.
-use Rattle.std.specs.Prelude.{◌≡◌, [], Option}
+use Rattle.std.specs.Prelude.{Option}
 use Rattle.std.specs.Option.{IfSome}
 use Rattle.mcs_types.specs.declared.id.ObjId.{ObjId}
 use Rattle.mcs_types.specs.declared.id.Kind.TheVariants as kind
 use Rattle.mcs_book.specs.Logs.{Log}
-use Rattle.mcs_book.specs.Chains.{chain_of}
-use Rattle.mcs_book.specs.Sound.{IsThere, IsFreeReply}
+use Rattle.mcs_book.specs.Served.{NoneBound}
+use Rattle.mcs_book.specs.Sound.{IsThere, IsIdle, IsFreeReply}
 use Rattle.mcs_state.specs.Entering.{IsActing, OpenStand}
 
 -- t acts, and the endpoint is there
@@ -14,13 +14,33 @@ pub record IsSending (R : Log) (t e : ObjId) : Type 0 where
   pub stand : OpenStand R
   pub endpoint : IsThere R kind.Endpoint e
 
--- t acts, the endpoint is there, and so is the reply object, if there is one; nobody uses it
+-- t acts, the endpoint is there, and so is the reply object, if there is one
+pub record IsReceiving (R : Log) (t e : ObjId) (r : Option ObjId) : Type 0 where
+  pub acting : IsActing R t
+  pub stand : OpenStand R
+  pub unbound : NoneBound R
+  pub endpoint : IsThere R kind.Endpoint e
+  pub reply : IfSome r (λ o. IsThere R kind.Reply o)
+
+-- the same, and nobody uses the reply object
 pub record IsReady (R : Log) (t e : ObjId) (r : Option ObjId) : Type 0 where
   pub acting : IsActing R t
   pub stand : OpenStand R
+  pub unbound : NoneBound R
   pub endpoint : IsThere R kind.Endpoint e
   pub reply : IfSome r (λ o. IsThere R kind.Reply o × IsFreeReply R o)
 
--- no context came along a chain of calls
-abbrev pub NoChains : Log → Type 0
-NoChains R = (s : ObjId) → chain_of R s ≡ []
+-- x has sent a message that p takes with the reply object r, if there is one; nobody uses r
+pub record IsSettling (R : Log) (x p : ObjId) (r : Option ObjId) : Type 0 where
+  pub sender : IsThere R kind.Thread x
+  pub idle : IsIdle R x
+  pub receiver : IsThere R kind.Thread p
+  pub reply : IfSome r (λ o. IsThere R kind.Reply o × IsFreeReply R o)
+
+-- x has called, and p is to answer by the reply object r, which nobody uses
+pub record IsCalling (R : Log) (r x p : ObjId) : Type 0 where
+  pub caller : IsThere R kind.Thread x
+  pub idle : IsIdle R x
+  pub receiver : IsThere R kind.Thread p
+  pub reply : IsThere R kind.Reply r
+  pub free : IsFreeReply R r

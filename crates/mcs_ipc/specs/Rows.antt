@@ -1,24 +1,34 @@
--- The rows of sends and receives, in the parts in which the code does them.
-use Rattle.std.specs.Prelude.{ℕ, Bool, true, false, Option, Some, None, Ok, Err}
+-- The rows of sends, calls and receives, in the parts in which the code does them.
+use Rattle.std.specs.Prelude.{ℕ, Bool, true, false, cond, Option, Some, None, Ok, Err}
 use Rattle.mcs_types.specs.Views.{Content}
 use Rattle.mcs_types.specs.declared.id.ObjId.{ObjId}
-use Rattle.mcs_types.specs.declared.id.Kind.TheVariants.{Endpoint, Reply}
+use Rattle.mcs_types.specs.declared.id.Kind.{Kind}
+use Rattle.mcs_types.specs.declared.id.Kind.TheVariants as kind
 use Rattle.mcs_types.specs.declared.cap.Cap.{Cap}
+use Rattle.mcs_types.specs.declared.record.SendMode.{SendMode}
 use Rattle.mcs_types.specs.declared.record.SendMode.TheVariants as how
+use Rattle.mcs_types.specs.declared.entry.Answer.{Answer}
 use Rattle.mcs_types.specs.declared.entry.Entry.{Entry}
 use Rattle.mcs_types.specs.declared.entry.Entry.TheVariants.{Send, NbSend, Recv, NbRecv, Wait, NbWait}
-use Rattle.mcs_types.specs.declared.entry.Answer.TheVariants.{Done}
+use Rattle.mcs_types.specs.declared.entry.Answer.TheVariants.{Done, Waits}
+use Rattle.mcs_types.specs.declared.entry.Refusal.TheVariants.{WrongKind, NoRight}
 use Rattle.mcs_book.specs.Logs.{Log}
 use Rattle.mcs_book.specs.Checks.{Checked}
 use Rattle.mcs_book.specs.Lookup.{capability}
+use Rattle.mcs_book.specs.Rights.{may_write}
 use Rattle.mcs_types.specs.declared.record.Mode.TheVariants.{Running}
 use Rattle.mcs_types.specs.declared.record.Queue.TheVariants.{Senders, Receivers}
 use Rattle.mcs_types.specs.declared.record.Rec.TheVariants.{Took, Parts, Turns, Joins}
-use Rattle.mcs_book.specs.Pieces.{Piece, Act, ◌then◌, say, nothing, answers}
+use Rattle.mcs_book.specs.Pieces.{Piece, Act, ◌then◌, say, nothing, answers, before}
+use Rattle.mcs_book.specs.Queues.{reply_with}
+use Rattle.mcs_book.specs.Taking.{settle, pay}
 use Rattle.mcs_book.specs.Sending.{letter_over, sends, queues}
-use Rattle.mcs_book.specs.Receiving.{receive_on, joins_or}
+use Rattle.mcs_book.specs.Receiving.{receive_on, joins_or, pay_any}
 use Rattle.mcs_state.specs.Checks.{kinded, writable, readable, object_named}
 use Rattle.mcs_ipc.specs.declared.checks.Receiving.{Receiving}
+use Rattle.mcs_ipc.specs.declared.checks.Target.{Target}
+use Rattle.mcs_ipc.specs.declared.checks.Target.TheVariants as target
+use Rattle.mcs_ipc.specs.declared.taking.Delivery.{Delivery}
 
 -- the reply object that was found
 abbrev pub reply_found : Checked ObjId → Checked (Option ObjId)
@@ -28,7 +38,7 @@ reply_found (Ok r) = Ok (Some r)
 -- the reply object that t names, if it names one
 abbrev pub reply_named : Log → ObjId → Option ℕ → Checked (Option ObjId)
 reply_named R t None = Ok None
-reply_named R t (Some r) = reply_found (object_named R t Reply r)
+reply_named R t (Some r) = reply_found (object_named R t kind.Reply r)
 
 -- an endpoint and a reply object, of which the first is tested first
 abbrev pub with_reply : Checked Cap → Checked (Option ObjId) → Checked Receiving
@@ -36,13 +46,28 @@ with_reply (Err why) reply = Err why
 with_reply (Ok cap) (Err why) = Err why
 with_reply (Ok cap) (Ok reply) = Ok (record { endpoint = cap.obj; reply = reply })
 
--- the capability over which t sends, or the first check that fails
-abbrev pub sendable : Log → ObjId → ℕ → Checked Cap
-sendable R t a = writable (kinded Endpoint (capability R t a))
+-- what one sends over by a capability to an object of this kind
+abbrev pub target_by : Kind → Cap → Checked Target
+target_by kind.Endpoint cap = cond (may_write cap) (Ok (target.Endpoint cap)) (Err NoRight)
+target_by kind.Reply cap = Ok (target.Reply cap.obj)
+target_by _ cap = Err WrongKind
+
+-- the same of a capability that was found
+abbrev pub target_of : Checked Cap → Checked Target
+target_of (Err why) = Err why
+target_of (Ok cap) = target_by cap.obj.kind cap
+
+-- what t sends over, or the first check that fails
+abbrev pub sendable : Log → ObjId → ℕ → Checked Target
+sendable R t a = target_of (capability R t a)
+
+-- the capability over which t calls, or the first check that fails
+abbrev pub callable : Log → ObjId → ℕ → Checked Cap
+callable R t a = writable (kinded kind.Endpoint (capability R t a))
 
 -- the endpoint and the reply object with which t receives, or the first check that fails
 abbrev pub receivable : Log → ObjId → ℕ → Option ℕ → Checked Receiving
-receivable R t a r = with_reply (readable (kinded Endpoint (capability R t a))) (reply_named R t r)
+receivable R t a r = with_reply (readable (kinded kind.Endpoint (capability R t a))) (reply_named R t r)
 
 -- Send where it blocks, and NBSend where not
 abbrev pub send_entry : Bool → ℕ → Content → Entry
@@ -56,23 +81,58 @@ receive_entry false a (Some r) = NbRecv a r
 receive_entry true a None = Wait a
 receive_entry false a None = NbWait a
 
--- what t does where nobody receives: it waits in the queue, or the message is dropped
-abbrev pub alone_act : Bool → ObjId → Cap → Content → Act
-alone_act true t cap message = queues (letter_over t cap how.Plain message)
-alone_act false t cap message = answers Done nothing
+-- what is answered when a message is taken at once: a caller waits for its answer
+abbrev pub answer_to : SendMode → Answer
+answer_to how.Plain = Done
+answer_to how.Call = Waits
+answer_to how.Mute = Waits
 
--- t sends over a capability to an endpoint
-unfoldable pub send_act : Bool → ObjId → Cap → Content → Act
-send_act blocking t cap message = sends (letter_over t cap how.Plain message) Done (alone_act blocking t cap message)
+-- what t does where nobody receives: it waits in the queue, or the message is dropped
+abbrev pub alone_act : Bool → SendMode → ObjId → Cap → Content → Act
+alone_act true mode t cap message = queues (letter_over t cap mode message)
+alone_act false mode t cap message = answers Done nothing
+
+-- t sends over a capability to an endpoint, or calls
+unfoldable pub send_act : Bool → SendMode → ObjId → Cap → Content → Act
+send_act blocks mode t cap message = sends (letter_over t cap mode message) (answer_to mode) (alone_act blocks mode t cap message)
+
+-- a reply object is paid
+unfoldable pub pay_act : ObjId → Content → Act
+pay_act r message = answers Done (pay r message)
+
+-- t sends over an endpoint or a reply object
+abbrev pub target_act : Bool → ObjId → Content → Target → Act
+target_act blocks t message (target.Endpoint cap) = send_act blocks how.Plain t cap message
+target_act blocks t message (target.Reply r) = pay_act r message
 
 -- what t does where nobody sends: it waits among the receivers, or is answered at once
 abbrev pub stand_act : Bool → ObjId → Receiving → Act
 stand_act blocks t at = joins_or blocks (Joins t (Receivers at.endpoint) at.reply)
 
 -- t receives on an endpoint, with a reply object or without
-unfoldable pub receive_act : Bool → ObjId → Receiving → Act
-receive_act blocking t at = receive_on t at.endpoint at.reply blocking
+abbrev pub receive_act : Bool → ObjId → Receiving → Act
+receive_act blocks t at = receive_on t at.endpoint at.reply blocks
 
--- the open message of the first sender of an endpoint, which is no call, is taken: the sender becomes Running
-unfoldable pub taking : ℕ → ObjId → ObjId → ObjId → Piece
-taking number t x e = say (Took number t) then say (Parts x (Senders e)) then say (Turns x Running)
+-- t pays its reply object, and then receives with it
+abbrev pub reply_receive_act : Content → ObjId → Receiving → Act
+reply_receive_act message t at = before (pay_any at.reply message) (receive_act true t at)
+
+-- a sender who stood in a queue runs again after a plain send; one who did not stand there runs still
+abbrev pub resumes : Bool → ObjId → Piece
+resumes true x = say (Turns x Running)
+resumes false x = nothing
+
+-- a message that was just sent is taken by p, who stands in its queue for it
+unfoldable pub handed_to : Delivery → ObjId → Piece
+handed_to d p R =
+    (say (Took d.number p)
+    then say (Parts p (Receivers d.endpoint))
+    then settle d.mode d.sender p (reply_with R p) nothing
+    then say (Turns p Running)) R
+
+-- the message of a sender who stands in its queue is taken by t, who receives with r
+unfoldable pub taken_by : Delivery → ObjId → Option ObjId → Piece
+taken_by d t r =
+    say (Took d.number t)
+    then say (Parts d.sender (Senders d.endpoint))
+    then settle d.mode d.sender t r (resumes true d.sender)

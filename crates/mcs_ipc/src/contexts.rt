@@ -7,7 +7,6 @@ ghost use Rattle.mcs_book.specs.Sound.{Allowed, IsThere};
 ghost use Rattle.mcs_state.specs.Now.{so_far};
 ghost use Rattle.mcs_state.specs.Doing.{ActsAwake, FitsAwake, Does, Fits};
 ghost use Rattle.mcs_state.specs.Entering.{IsEntering};
-ghost use Rattle.mcs_ipc.specs.Ready.{NoChains};
 ghost use Rattle.mcs_ipc.specs.Holding.{bindable, unbindable, holds_act};
 
 use mcs_state::{State, find_object, wake};
@@ -21,7 +20,7 @@ pub struct Binding {
     pub thread: ObjId,
 }
 
-/// The context that a bind gives, which is held by nobody, and the thread that gets it, which holds none.
+/// The context that a bind gives, which is held by nobody and has no chain, and the thread that gets it, which holds none.
 fn objects_to_bind<W: Waiting>(
     state: &State<W>,
     thread: ObjId,
@@ -33,7 +32,10 @@ fn objects_to_bind<W: Waiting>(
 {
     let context = find_object(state, thread, Kind::Context, context)?;
     let thread = find_object(state, thread, Kind::Thread, holder)?;
-    if state.holder(context).is_some() || state.context(thread).is_some() {
+    if state.holder(context).is_some()
+        || state.top_of(context).is_some()
+        || state.context(thread).is_some()
+    {
         return Err(Refusal::AlreadyBound);
     }
     Ok(Binding { context, thread })
@@ -73,7 +75,8 @@ fn hold<W: Waiting>(
 }
 
 /// BindCtx: the thread holds the context from now on. The refusals are 1 to 3 of the lookups, 4 for a capability of another
-/// kind, and 9 where the context is held or the thread holds one; they change nothing (manual: Threads and Execution).
+/// kind, and 9 where the context is held, a reply object stands in its chain (own), or the thread holds one; they change
+/// nothing (manual: Threads and Execution).
 pub fn bind_context<W: Waiting>(
     state: &mut State<W>,
     core: CoreId,
@@ -82,7 +85,6 @@ pub fn bind_context<W: Waiting>(
     holder: u64,
 ) -> Answer
     requires entering { IsEntering (so_far state.old) thread }
-    requires chains { NoChains (so_far state.old) }
     requires room { Fits state.old core thread (Entry.BindCtx context holder) }
     ensures { Does state.old core thread (Entry.BindCtx context holder) result state.new }
 {

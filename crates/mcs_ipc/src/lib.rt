@@ -1,12 +1,14 @@
-//! Sending and receiving on endpoints, and giving contexts to threads. Each call adds the records of its row of the table,
+//! Sending, calling and receiving on endpoints, answers to callers, and giving contexts to threads. Each call adds the records of its row of the table,
 //! and gives that row's answer (manual: Message Passing; Threads and Execution).
 #![tactic(auto)]
 
 mod checks;
 mod contexts;
 mod receiving;
+mod replying;
 mod sending;
+mod taking;
 
 pub use contexts::{bind_context, unbind_context};
-pub use receiving::{nb_receive, nb_wait, receive, wait};
-pub use sending::{nb_send, send};
+pub use receiving::{nb_receive, nb_wait, receive, reply_receive, wait};
+pub use sending::{call, nb_send, send};

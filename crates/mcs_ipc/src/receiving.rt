@@ -1,41 +1,46 @@
-//! Recv, NBRecv, Wait and NBWait.
-ghost use Rattle.std.specs.Prelude.{◌≡◌, Some, IfSome};
+//! Recv, NBRecv, Wait, NBWait and ReplyRecv.
+ghost use Rattle.std.specs.Prelude.{◌≡◌, true, IfSome};
 ghost use Rattle.mcs_types.specs.declared.entry.Entry.{Entry};
 ghost use Rattle.mcs_types.specs.declared.id.Kind.{Kind};
-ghost use Rattle.mcs_types.specs.declared.record.Queue.{Queue};
-ghost use Rattle.mcs_book.specs.Messages.{open_of};
 ghost use Rattle.mcs_book.specs.Pieces.{with_any};
-ghost use Rattle.mcs_book.specs.Queues.{first_in};
 ghost use Rattle.mcs_book.specs.Receiving.{free as freed, receive_message};
-ghost use Rattle.mcs_book.specs.Served.{IsPlain};
+ghost use Rattle.mcs_book.specs.Served.{NoneBound};
 ghost use Rattle.mcs_book.specs.Sound.{IsThere};
-ghost use Rattle.mcs_state.specs.Now.{so_far, IsNumberOf};
+ghost use Rattle.mcs_state.specs.Now.{so_far};
 ghost use Rattle.mcs_state.specs.Doing.{Makes, HasRoomFor, Acts, FitsAct, Does, Fits};
 ghost use Rattle.mcs_state.specs.Entering.{IsEntering, OpenStand};
-ghost use Rattle.mcs_ipc.specs.Ready.{IsReady};
-ghost use Rattle.mcs_ipc.specs.Rows.{taking, receive_entry, stand_act};
+ghost use Rattle.mcs_ipc.specs.Ready.{IsReceiving, IsReady};
+ghost use Rattle.mcs_ipc.specs.Rows.{receive_entry, stand_act, receive_act};
 
 use crate::checks::{Receiving, objects_to_receive};
+use crate::replying::pay_any;
+use crate::taking::{Delivery, take};
 use mcs_state::{State, wake};
-use mcs_types::{Answer, CoreId, Mode, ObjId, Queue};
+use mcs_types::{Answer, CoreId, Ending, Message, Mode, ObjId, Queue};
 use mcs_waiting::Waiting;
 
-/// Cancels the receiver that stands with a reply object: it becomes inactive (own).
+/// Cancels whoever uses a reply object, the caller that it owes or the receiver that stands with it: it becomes inactive
+/// (own).
 fn free<W: Waiting>(state: &mut State<W>, reply: ObjId)
     requires there { IsThere (so_far state.old) Kind.Reply reply }
-    requires plain { IsPlain (so_far state.old) }
     requires room { HasRoomFor (freed reply) state.old }
     ensures { Makes (freed reply) state.old state.new }
 {
     state.is_sound();
-    match state.receiver_with(reply) {
-        None => {}
-        Some(receiver) => match state.queue(receiver) {
-            None => unreachable!(),
-            Some(queue) => {
-                state.parts(receiver, queue);
-                state.turns(receiver, Mode::Inactive);
-            }
+    match state.owed(reply) {
+        Some(caller) => {
+            state.voids(reply, caller, Ending::Cancelled);
+            state.turns(caller, Mode::Inactive);
+        }
+        None => match state.receiver_with(reply) {
+            None => {}
+            Some(receiver) => match state.queue(receiver) {
+                None => unreachable!(),
+                Some(queue) => {
+                    state.parts(receiver, queue);
+                    state.turns(receiver, Mode::Inactive);
+                }
+            },
         },
     }
 }
@@ -43,7 +48,6 @@ fn free<W: Waiting>(state: &mut State<W>, reply: ObjId)
 /// The same, where there is a reply object.
 fn free_any<W: Waiting>(state: &mut State<W>, reply: Option<ObjId>)
     requires there { IfSome reply (λ r. IsThere (so_far state.old) Kind.Reply r) }
-    requires plain { IsPlain (so_far state.old) }
     requires room { HasRoomFor (with_any reply freed) state.old }
     ensures { Makes (with_any reply freed) state.old state.new }
 {
@@ -67,26 +71,6 @@ fn stand<W: Waiting>(state: &mut State<W>, thread: ObjId, at: Receiving, blocks:
     }
 }
 
-/// Takes the open message of the first sender, which has this number and is no call.
-fn take<W: Waiting>(
-    state: &mut State<W>,
-    thread: ObjId,
-    endpoint: ObjId,
-    sender: ObjId,
-    number: u32,
-)
-    requires there { IsThere (so_far state.old) Kind.Thread thread }
-    requires first { first_in (so_far state.old) (Queue.Senders endpoint) ≡ Some sender }
-    requires open { IsNumberOf number (open_of (so_far state.old) sender) }
-    requires room { HasRoomFor (taking number thread sender endpoint) state.old }
-    ensures { Makes (taking number thread sender endpoint) state.old state.new }
-{
-    state.is_sound();
-    state.took(number, sender, thread);
-    state.parts(sender, Queue::Senders(endpoint));
-    state.turns(sender, Mode::Running);
-}
-
 /// Takes the message of the first sender. Where nobody sends, the thread waits if it blocks.
 fn receive_over<W: Waiting>(
     state: &mut State<W>,
@@ -95,7 +79,6 @@ fn receive_over<W: Waiting>(
     blocks: bool,
 ) -> Answer
     requires ready { IsReady (so_far state.old) thread at.endpoint at.reply }
-    requires plain { IsPlain (so_far state.old) }
     requires room { FitsAct (receive_message thread at.endpoint at.reply blocks) state.old }
     ensures { Acts (receive_message thread at.endpoint at.reply blocks) state.old result state.new }
 {
@@ -104,14 +87,35 @@ fn receive_over<W: Waiting>(
         Some(sender) => match state.letter(sender) {
             None => stand(state, thread, at, blocks),
             Some(letter) => {
-                let number = letter.number;
                 let badge = letter.badge;
                 let message = letter.message.copy();
-                take(state, thread, at.endpoint, sender, number);
+                let delivery = Delivery {
+                    number: letter.number,
+                    sender,
+                    endpoint: at.endpoint,
+                    mode: letter.mode,
+                };
+                take(state, delivery, thread, at.reply);
                 Answer::Got { badge, message }
             }
         },
     }
+}
+
+/// Frees the reply object, and takes the message of the first sender. Where nobody sends, the thread waits if it blocks.
+fn receive_on<W: Waiting>(
+    state: &mut State<W>,
+    thread: ObjId,
+    at: Receiving,
+    blocks: bool,
+) -> Answer
+    requires receiving { IsReceiving (so_far state.old) thread at.endpoint at.reply }
+    requires room { FitsAct (receive_act blocks thread at) state.old }
+    ensures { Acts (receive_act blocks thread at) state.old result state.new }
+{
+    state.is_sound();
+    free_any(state, at.reply);
+    receive_over(state, thread, at, blocks)
 }
 
 /// Recv and Wait where it blocks, and NBRecv and NBWait where not; the first of each pair has a reply object.
@@ -125,7 +129,7 @@ fn receive_at<W: Waiting>(
 ) -> Answer
     requires entering { IsEntering (so_far state.old) thread }
     requires stand { OpenStand (so_far state.old) }
-    requires plain { IsPlain (so_far state.old) }
+    requires unbound { NoneBound (so_far state.old) }
     requires room { Fits state.old core thread (receive_entry blocks address reply) }
     ensures { Does state.old core thread (receive_entry blocks address reply) result state.new }
 {
@@ -134,9 +138,7 @@ fn receive_at<W: Waiting>(
         Err(refusal) => Answer::Refused(refusal),
         Ok(at) => {
             wake(state, thread);
-            state.is_sound();
-            free_any(state, at.reply);
-            receive_over(state, thread, at, blocks)
+            receive_on(state, thread, at, blocks)
         }
     }
 }
@@ -153,7 +155,7 @@ pub fn receive<W: Waiting>(
 ) -> Answer
     requires entering { IsEntering (so_far state.old) thread }
     requires stand { OpenStand (so_far state.old) }
-    requires plain { IsPlain (so_far state.old) }
+    requires unbound { NoneBound (so_far state.old) }
     requires room { Fits state.old core thread (Entry.Recv address reply) }
     ensures { Does state.old core thread (Entry.Recv address reply) result state.new }
 {
@@ -171,7 +173,7 @@ pub fn nb_receive<W: Waiting>(
 ) -> Answer
     requires entering { IsEntering (so_far state.old) thread }
     requires stand { OpenStand (so_far state.old) }
-    requires plain { IsPlain (so_far state.old) }
+    requires unbound { NoneBound (so_far state.old) }
     requires room { Fits state.old core thread (Entry.NbRecv address reply) }
     ensures { Does state.old core thread (Entry.NbRecv address reply) result state.new }
 {
@@ -182,7 +184,7 @@ pub fn nb_receive<W: Waiting>(
 pub fn wait<W: Waiting>(state: &mut State<W>, core: CoreId, thread: ObjId, address: u64) -> Answer
     requires entering { IsEntering (so_far state.old) thread }
     requires stand { OpenStand (so_far state.old) }
-    requires plain { IsPlain (so_far state.old) }
+    requires unbound { NoneBound (so_far state.old) }
     requires room { Fits state.old core thread (Entry.Wait address) }
     ensures { Does state.old core thread (Entry.Wait address) result state.new }
 {
@@ -198,9 +200,36 @@ pub fn nb_wait<W: Waiting>(
 ) -> Answer
     requires entering { IsEntering (so_far state.old) thread }
     requires stand { OpenStand (so_far state.old) }
-    requires plain { IsPlain (so_far state.old) }
+    requires unbound { NoneBound (so_far state.old) }
     requires room { Fits state.old core thread (Entry.NbWait address) }
     ensures { Does state.old core thread (Entry.NbWait address) result state.new }
 {
     receive_at(state, core, thread, address, None, false)
+}
+
+/// ReplyRecv: the reply object is paid, and then the thread receives with it, as by Recv. All tests come first: the refusals
+/// are those of Recv, and change nothing (manual: Message Passing).
+pub fn reply_receive<W: Waiting>(
+    state: &mut State<W>,
+    core: CoreId,
+    thread: ObjId,
+    address: u64,
+    reply: u64,
+    message: Message,
+) -> Answer
+    requires entering { IsEntering (so_far state.old) thread }
+    requires stand { OpenStand (so_far state.old) }
+    requires unbound { NoneBound (so_far state.old) }
+    requires room { Fits state.old core thread (Entry.ReplyRecv address reply message) }
+    ensures { Does state.old core thread (Entry.ReplyRecv address reply message) result state.new }
+{
+    state.is_sound();
+    match objects_to_receive(state, thread, address, Some(reply)) {
+        Err(refusal) => Answer::Refused(refusal),
+        Ok(at) => {
+            wake(state, thread);
+            pay_any(state, at.reply, message);
+            receive_on(state, thread, at, true)
+        }
+    }
 }

@@ -1,28 +1,58 @@
-//! Send and NBSend.
+//! Send, NBSend and Call.
 ghost use Rattle.std.specs.Prelude.{◌≡◌, ◌<◌, true, Some, None, length};
 ghost use Rattle.mcs_types.specs.declared.entry.Entry.{Entry};
 ghost use Rattle.mcs_types.specs.declared.record.Queue.{Queue};
 ghost use Rattle.mcs_book.specs.Queues.{first_in};
+ghost use Rattle.mcs_book.specs.Rights.{call_mode};
 ghost use Rattle.mcs_state.specs.Now.{so_far};
 ghost use Rattle.mcs_state.specs.Doing.{Acts, FitsAct, Does, Fits};
 ghost use Rattle.mcs_state.specs.Entering.{IsEntering, OpenStand};
 ghost use Rattle.mcs_ipc.specs.Ready.{IsSending};
-ghost use Rattle.mcs_ipc.specs.Rows.{send_entry, send_act};
+ghost use Rattle.mcs_ipc.specs.Rows.{answer_to, send_entry, send_act, pay_act};
 
-use crate::checks::cap_to_send;
+use crate::checks::{Target, cap_to_call, target_to_send};
+use crate::replying::pay;
+use crate::taking::{Delivery, hand};
 use mcs_state::{State, wake};
-use mcs_types::{Answer, BOOK_LINES, Cap, CoreId, Message, Mode, ObjId, Queue, SendMode};
+use mcs_types::{Answer, BOOK_LINES, Cap, CoreId, Message, ObjId, Queue, SendMode};
 use mcs_waiting::Waiting;
 
+/// How a call over a capability is sent: without Grant and GrantReply it cannot be answered (manual: Message Passing).
+fn call_mode(cap: &Cap) -> SendMode
+    ensures { result ≡ call_mode cap.now }
+{
+    if cap.rights.can_be_answered() {
+        SendMode::Call
+    } else {
+        SendMode::Mute
+    }
+}
+
+/// What is answered when a message is taken at once: a caller waits for its answer.
+fn answer_to(mode: SendMode) -> Answer
+    ensures { result ≡ answer_to mode }
+{
+    match mode {
+        SendMode::Plain => Answer::Done,
+        SendMode::Call | SendMode::Mute => Answer::Waits,
+    }
+}
+
 /// Sends a message, and waits in the queue, where nobody receives.
-fn send_alone<W: Waiting>(state: &mut State<W>, thread: ObjId, cap: Cap, message: Message) -> Answer
+fn send_alone<W: Waiting>(
+    state: &mut State<W>,
+    thread: ObjId,
+    cap: Cap,
+    mode: SendMode,
+    message: Message,
+) -> Answer
     requires sending { IsSending (so_far state.old) thread cap.obj }
     requires few { length state.old.book.lines < BOOK_LINES }
     requires none { first_in (so_far state.old) (Queue.Receivers cap.obj) ≡ None }
-    requires room { FitsAct (send_act true thread cap message) state.old }
-    ensures { Acts (send_act true thread cap message) state.old result state.new }
+    requires room { FitsAct (send_act true mode thread cap message) state.old }
+    ensures { Acts (send_act true mode thread cap message) state.old result state.new }
 {
-    state.sends(thread, cap.obj, SendMode::Plain, cap.badge, message);
+    state.sends(thread, cap.obj, mode, cap.badge, message);
     state.joins(thread, Queue::Senders(cap.obj), None);
     Answer::Waits
 }
@@ -32,6 +62,7 @@ fn send_to<W: Waiting>(
     state: &mut State<W>,
     thread: ObjId,
     cap: Cap,
+    mode: SendMode,
     message: Message,
     receiver: ObjId,
     blocks: bool,
@@ -39,37 +70,51 @@ fn send_to<W: Waiting>(
     requires sending { IsSending (so_far state.old) thread cap.obj }
     requires few { length state.old.book.lines < BOOK_LINES }
     requires first { first_in (so_far state.old) (Queue.Receivers cap.obj) ≡ Some receiver }
-    requires room { FitsAct (send_act blocks thread cap message) state.old }
-    ensures { Acts (send_act blocks thread cap message) state.old result state.new }
+    requires room { FitsAct (send_act blocks mode thread cap message) state.old }
+    ensures { Acts (send_act blocks mode thread cap message) state.old result state.new }
 {
     state.is_sound();
     let number = state.next_message();
-    state.sends(thread, cap.obj, SendMode::Plain, cap.badge, message);
-    state.took(number, thread, receiver);
-    state.parts(receiver, Queue::Receivers(cap.obj));
-    state.turns(receiver, Mode::Running);
-    Answer::Done
+    state.sends(thread, cap.obj, mode, cap.badge, message);
+    let delivery = Delivery {
+        number,
+        sender: thread,
+        endpoint: cap.obj,
+        mode,
+    };
+    hand(state, delivery, receiver);
+    answer_to(mode)
 }
 
-/// Sends over a capability to an endpoint: the first receiver takes the message. Where nobody receives, the thread waits if
-/// it blocks, and otherwise the message is dropped.
+/// Sends or calls over a capability to an endpoint: the first receiver takes the message. Where nobody receives, the thread
+/// waits if it blocks, and otherwise the message is dropped.
 fn send_over<W: Waiting>(
     state: &mut State<W>,
     thread: ObjId,
     cap: Cap,
+    mode: SendMode,
     message: Message,
     blocks: bool,
 ) -> Answer
     requires sending { IsSending (so_far state.old) thread cap.obj }
     requires few { length state.old.book.lines < BOOK_LINES }
-    requires room { FitsAct (send_act blocks thread cap message) state.old }
-    ensures { Acts (send_act blocks thread cap message) state.old result state.new }
+    requires room { FitsAct (send_act blocks mode thread cap message) state.old }
+    ensures { Acts (send_act blocks mode thread cap message) state.old result state.new }
 {
     match state.first(Queue::Receivers(cap.obj)) {
-        Some(receiver) => send_to(state, thread, cap, message, receiver, blocks),
-        None if blocks => send_alone(state, thread, cap, message),
+        Some(receiver) => send_to(state, thread, cap, mode, message, receiver, blocks),
+        None if blocks => send_alone(state, thread, cap, mode, message),
         None => Answer::Done,
     }
+}
+
+/// Pays a reply object: whom it owes is answered, if it owes anybody.
+fn send_reply<W: Waiting>(state: &mut State<W>, reply: ObjId, message: Message) -> Answer
+    requires { FitsAct (pay_act reply message) state.old }
+    ensures { Acts (pay_act reply message) state.old result state.new }
+{
+    pay(state, reply, message);
+    Answer::Done
 }
 
 /// Send where it blocks, and NBSend where not.
@@ -88,18 +133,23 @@ fn send_at<W: Waiting>(
     ensures { Does state.old core thread (send_entry blocks address message) result state.new }
 {
     state.is_sound();
-    match cap_to_send(state, thread, address) {
+    match target_to_send(state, thread, address) {
         Err(refusal) => Answer::Refused(refusal),
-        Ok(cap) => {
+        Ok(target) => {
             wake(state, thread);
-            send_over(state, thread, cap, message, blocks)
+            match target {
+                Target::Endpoint(cap) => {
+                    send_over(state, thread, cap, SendMode::Plain, message, blocks)
+                }
+                Target::Reply(reply) => send_reply(state, reply, message),
+            }
         }
     }
 }
 
-/// Send: over an endpoint the first receiver takes the message, or else the thread waits among the senders. The refusals
-/// are 1 to 3 of the lookup, 4 for a capability of another kind, and 5 where Write is missing; they change nothing (manual:
-/// Message Passing).
+/// Send: over an endpoint the first receiver takes the message, or else the thread waits among the senders; over a reply
+/// object the caller that it owes is answered, if it owes one. The refusals are 1 to 3 of the lookup, 4 for a capability of
+/// another kind, and 5 where an endpoint's lacks Write; they change nothing (manual: Message Passing).
 pub fn send<W: Waiting>(
     state: &mut State<W>,
     core: CoreId,
@@ -132,4 +182,33 @@ pub fn nb_send<W: Waiting>(
     ensures { Does state.old core thread (Entry.NbSend address message) result state.new }
 {
     send_at(state, core, thread, address, message, false)
+}
+
+/// Call: over an endpoint the first receiver takes the message, and its reply object owes the thread an answer, or else the
+/// thread waits among the senders. A call that cannot be answered, since Grant and GrantReply are missing or the receiver
+/// names no reply object, leaves the thread inactive once it is taken. A receiver that holds no context is lent the
+/// thread's (own). The refusals are 1 to 3 of the lookup, 4 for a capability of another kind, and 5 where Write is missing;
+/// they change nothing (manual: Message Passing).
+pub fn call<W: Waiting>(
+    state: &mut State<W>,
+    core: CoreId,
+    thread: ObjId,
+    address: u64,
+    message: Message,
+) -> Answer
+    requires entering { IsEntering (so_far state.old) thread }
+    requires stand { OpenStand (so_far state.old) }
+    requires few { length state.old.book.lines < BOOK_LINES }
+    requires room { Fits state.old core thread (Entry.Call address message) }
+    ensures { Does state.old core thread (Entry.Call address message) result state.new }
+{
+    state.is_sound();
+    match cap_to_call(state, thread, address) {
+        Err(refusal) => Answer::Refused(refusal),
+        Ok(cap) => {
+            wake(state, thread);
+            let mode = call_mode(&cap);
+            send_over(state, thread, cap, mode, message, true)
+        }
+    }
 }

@@ -11,15 +11,15 @@ hold-requires-clause-allowed g c = bind-allowed (so_far c.args.state.now) c.args
 
 pub hold-requires-clause-room : goal.hold-requires-clause-room
 hold-requires-clause-room g c =
-    let row = row-bind (so_far c.args.state.now) c.args.core c.args.thread c.args.context c.args.holder c.requires.chains ∙ ap (λ m. act_of m binds) (sym c.objects_to_bind.ensures ∙ c.in-Ok.is) in
+    let row = row-bind (so_far c.args.state.now) c.args.core c.args.thread c.args.context c.args.holder ∙ ap (λ m. act_of m binds) (sym c.objects_to_bind.ensures ∙ c.in-Ok.is) in
     room-did c.args.state.now c.args.core c.args.thread (BindCtx c.args.context c.args.holder) (binds c.in-Ok.binding) row c.requires.room
 
 pub returns-in-Err : goal.returns-in-Err
 returns-in-Err g c =
-    let row = row-bind (so_far c.args.state.now) c.args.core c.args.thread c.args.context c.args.holder c.requires.chains ∙ ap (λ m. act_of m binds) (sym c.objects_to_bind.ensures ∙ c.in-Err.is) in
+    let row = row-bind (so_far c.args.state.now) c.args.core c.args.thread c.args.context c.args.holder ∙ ap (λ m. act_of m binds) (sym c.objects_to_bind.ensures ∙ c.in-Err.is) in
     refused c.args.state.now c.args.core c.args.thread (BindCtx c.args.context c.args.holder) c.in-Err.refusal row
 
 pub returns-in-Ok : goal.returns-in-Ok
 returns-in-Ok g c =
-    let row = row-bind (so_far c.args.state.now) c.args.core c.args.thread c.args.context c.args.holder c.requires.chains ∙ ap (λ m. act_of m binds) (sym c.objects_to_bind.ensures ∙ c.in-Ok.is) in
+    let row = row-bind (so_far c.args.state.now) c.args.core c.args.thread c.args.context c.args.holder ∙ ap (λ m. act_of m binds) (sym c.objects_to_bind.ensures ∙ c.in-Ok.is) in
     did c.args.state.now c.hold.new.state c.args.core c.args.thread (BindCtx c.args.context c.args.holder) (binds c.in-Ok.binding) c.hold.result row c.hold.ensures

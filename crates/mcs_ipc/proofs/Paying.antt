@@ -1,0 +1,117 @@
+-- Callers that are answered: what is recorded, and what holds between.
+use Rattle.std.specs.Prelude.{◌≡◌, ◌≢◌, [], ◌∷◌, Option, Some, None, unwrap_or}
+use Rattle.std.specs.Option.{IfSome}
+use Rattle.std.proofs.Common.{refl, sym, inl, inr}
+use Rattle.mcs_types.specs.Views.{Content}
+use Rattle.mcs_types.specs.declared.id.ObjId.{ObjId}
+use Rattle.mcs_types.specs.declared.id.Kind.TheVariants as kind
+use Rattle.mcs_types.specs.declared.record.Mode.TheVariants.{Running}
+use Rattle.mcs_types.specs.declared.record.Rec.{Rec}
+use Rattle.mcs_types.specs.declared.record.Rec.TheVariants as rec
+use Rattle.mcs_types.specs.declared.entry.Answer.TheVariants.{Done}
+use Rattle.mcs_types.specs.Ids.{same}
+use Rattle.mcs_book.specs.Logs.{Log, onto, given}
+use Rattle.mcs_book.specs.Threads.{mode_of}
+use Rattle.mcs_book.specs.Contexts.{context_of}
+use Rattle.mcs_book.specs.Replies.{owed_by}
+use Rattle.mcs_book.specs.Chains.{topped_by}
+use Rattle.mcs_book.specs.Pieces.{◌then◌, say}
+use Rattle.mcs_book.specs.Taking.{give_back, pay}
+use Rattle.mcs_book.specs.Receiving.{pay_any}
+use Rattle.mcs_book.specs.Sound.{Sound, Allowed, IsThere, IsOwedNothing}
+use Rattle.mcs_book.proofs.SoundLogs.KeptLaws.{set-split, set-kept, owed-there, ended-idle}
+use Rattle.mcs_book.proofs.Firm.Laws.{topped-there}
+use Rattle.mcs_book.proofs.Firm.Ends.{OutlastsEnding, outlasts-pay}
+use Rattle.mcs_ipc.specs.Ready.{IsReceiving}
+use Rattle.mcs_ipc.specs.Rows.{pay_act}
+
+-- a reply object is paid, and the answer is Done
+pub pays : (R : Log) (r : ObjId) (message : Content) → pay_act r message R ≡ record { answer = Done; records = pay r message R }
+unfolding pay_act
+pays R r message = refl
+
+-- nobody is owed
+pub pay-nobody : (R : Log) (r : ObjId) (message : Content) → owed_by R r ≡ None → pay r message R ≡ []
+unfolding pay
+pay-nobody R r message none = rw none refl
+
+-- somebody is
+pub pay-somebody : (R : Log) (r x : ObjId) (message : Content) (lent : Option ObjId) → owed_by R r ≡ Some x → lent ≡ topped_by R r
+    → pay r message R ≡ (say (rec.Paid r x message) then say (rec.Turns x Running) then give_back lent x) R
+unfolding pay
+pay-somebody R r x message lent owed is = rw (owed, is) refl
+
+-- who was answered may run
+pub paid-runs : (R : Log) (r x : ObjId) (message : Content) → Sound R → owed_by R r ≡ Some x → Allowed (rec.Paid r x message ∷ R) (rec.Turns x Running)
+paid-runs R r x message sound owed = ((owed-there R r x sound owed).1, ended-idle R r x (rec.Paid r x message) sound owed (λ d. refl) refl)
+
+-- the context that returns is there
+pub lent-there : (R : Log) (r : ObjId) (lent : Option ObjId) → lent ≡ topped_by R r → IfSome lent (λ s. IsThere R kind.Context s)
+lent-there R r None is = tt
+lent-there R r (Some s) is = topped-there R r s (sym is)
+
+-- and still is, when the caller was answered
+pub still-there : (R : Log) (r x : ObjId) (message : Content) (lent : Option ObjId) → IfSome lent (λ s. IsThere R kind.Context s) → IfSome lent (λ s. IsThere (rec.Turns x Running ∷ rec.Paid r x message ∷ R) kind.Context s)
+still-there R r x message None there = tt
+still-there R r x message (Some s) there = there
+
+-- there is none to give back
+pub back-none : (R : Log) (x : ObjId) → give_back None x R ≡ []
+unfolding give_back
+back-none R x = refl
+
+-- the thread holds one
+pub back-held : (R : Log) (s x c : ObjId) → context_of R x ≡ Some c → give_back (Some s) x R ≡ []
+unfolding give_back
+back-held R s x c holds = rw holds refl
+
+-- it returns
+pub back-gives : (R : Log) (s x : ObjId) → context_of R x ≡ None → give_back (Some s) x R ≡ rec.Holds s (Some x) ∷ []
+unfolding give_back
+back-gives R s x none = rw none refl
+
+-- who is owed nothing is owed nothing after a debt ended
+unowed : (R : Log) (t q : ObjId) → IsOwedNothing R t → (d : ObjId) → unwrap_or (given (same d q) None) (owed_by R d) ≢ Some t
+unowed R t q h d o = elim (set-split d q None (owed_by R d) (Some t) o) [ inl (who, is) ↦ absurd cc | inr (other, is) ↦ h d is ]
+
+-- what holds of a thread that is to receive outlasts an answer
+outlasts : (t e : ObjId) (r : Option ObjId) → OutlastsEnding Running (λ R. IsReceiving R t e r)
+outlasts t e r = record {
+  paid = λ R q x message h. record {
+    acting = record { there = h.acting.there; idle = (h.acting.idle.0, unowed R t q h.acting.idle.1); runs = h.acting.runs };
+    stand = λ y c m still. h.stand y c m (record { sent = still.sent; is_letter = still.is_letter; is_open = still.is_open; of_sender = still.of_sender; on_endpoint = still.on_endpoint });
+    unbound = h.unbound;
+    endpoint = h.endpoint;
+    reply = same_reply R (rec.Paid q x message) r h.reply (λ d there. there);
+  };
+  voided = λ R q x how h. record {
+    acting = record { there = h.acting.there; idle = (h.acting.idle.0, unowed R t q h.acting.idle.1); runs = h.acting.runs };
+    stand = λ y c m still. h.stand y c m (record { sent = still.sent; is_letter = still.is_letter; is_open = still.is_open; of_sender = still.of_sender; on_endpoint = still.on_endpoint });
+    unbound = h.unbound;
+    endpoint = h.endpoint;
+    reply = same_reply R (rec.Void q x how) r h.reply (λ d there. there);
+  };
+  turns = λ R x h. record {
+    acting = record { there = h.acting.there; idle = (h.acting.idle.0, h.acting.idle.1); runs = set-kept (same t x) Running (mode_of R t) h.acting.runs };
+    stand = λ y c m still. h.stand y c m (record { sent = still.sent; is_letter = still.is_letter; is_open = still.is_open; of_sender = still.of_sender; on_endpoint = still.on_endpoint });
+    unbound = h.unbound;
+    endpoint = h.endpoint;
+    reply = same_reply R (rec.Turns x Running) r h.reply (λ d there. there);
+  };
+  holds = λ R s x h. record {
+    acting = record { there = h.acting.there; idle = (h.acting.idle.0, h.acting.idle.1); runs = h.acting.runs };
+    stand = λ y c m still. h.stand y c m (record { sent = still.sent; is_letter = still.is_letter; is_open = still.is_open; of_sender = still.of_sender; on_endpoint = still.on_endpoint });
+    unbound = h.unbound;
+    endpoint = h.endpoint;
+    reply = same_reply R (rec.Holds s (Some x)) r h.reply (λ d there. there);
+  };
+}
+  where
+    same_reply : (R : Log) (made : Rec) (o : Option ObjId) → IfSome o (λ d. IsThere R kind.Reply d) → ((d : ObjId) → IsThere R kind.Reply d → IsThere (made ∷ R) kind.Reply d) → IfSome o (λ d. IsThere (made ∷ R) kind.Reply d)
+    same_reply R made None h f = tt
+    same_reply R made (Some d) h f = f d h
+
+-- who is to receive still is, when a reply object was paid
+pub paid-receives : (R : Log) (t e : ObjId) (r : Option ObjId) (q : Option ObjId) (message : Content) → IsReceiving R t e r → IsReceiving (onto (pay_any q message R) R) t e r
+paid-receives R t e r None message h = h
+paid-receives R t e r (Some q) message h = outlasts-pay (λ R. IsReceiving R t e r) (outlasts t e r) q message R h

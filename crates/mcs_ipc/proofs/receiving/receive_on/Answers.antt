@@ -1,0 +1,31 @@
+use Rattle.std.proofs.Common.{sym, ap, ◌∙◌, subst}
+use Rattle.mcs_book.specs.Pieces.{Act, with_any, before}
+use Rattle.mcs_book.specs.Receiving.{free, receive_message}
+use Rattle.mcs_state.specs.Now.{so_far}
+use Rattle.mcs_state.specs.Doing.{Acts, FitsAct}
+use Rattle.mcs_state.proofs.Doing.{so_far-made, after, room-before, room-then}
+use Rattle.mcs_ipc.specs.Ready.{IsReady}
+use Rattle.mcs_ipc.proofs.Rows.{receive-parts}
+use Rattle.mcs_ipc.proofs.Freeing.{freed-ready}
+use Rattle.mcs_ipc.proofs.receiving.receive_on.Goals as goal
+
+pub free_any-requires-clause-room : goal.free_any-requires-clause-room
+free_any-requires-clause-room g c =
+    let parts = receive-parts c.args.blocks c.args.thread c.args.at in
+    room-before (with_any c.args.at.reply free) (receive_message c.args.thread c.args.at.endpoint c.args.at.reply c.args.blocks) c.args.state.now (subst (λ (act : Act). FitsAct act c.args.state.now) parts c.requires.room)
+
+pub receive_over-requires-clause-ready : goal.receive_over-requires-clause-ready
+receive_over-requires-clause-ready g c =
+    let freed = so_far-made (with_any c.args.at.reply free) c.args.state.now c.free_any.new.state c.free_any.ensures in
+    subst (λ S. IsReady S c.args.thread c.args.at.endpoint c.args.at.reply) (sym freed) (freed-ready (so_far c.args.state.now) c.args.thread c.args.at.endpoint c.args.at.reply c.is_sound.ensures.sound c.requires.receiving)
+
+pub receive_over-requires-clause-room : goal.receive_over-requires-clause-room
+receive_over-requires-clause-room g c =
+    let parts = receive-parts c.args.blocks c.args.thread c.args.at in
+    room-then (with_any c.args.at.reply free) (receive_message c.args.thread c.args.at.endpoint c.args.at.reply c.args.blocks) c.args.state.now c.free_any.new.state c.free_any.ensures (subst (λ (act : Act). FitsAct act c.args.state.now) parts c.requires.room)
+
+pub returns : goal.returns
+returns g c =
+    let parts = receive-parts c.args.blocks c.args.thread c.args.at in
+    subst (λ (act : Act). Acts act c.args.state.now c.receive_over.result c.receive_over.new.state) (sym parts)
+    (after (with_any c.args.at.reply free) (receive_message c.args.thread c.args.at.endpoint c.args.at.reply c.args.blocks) c.args.state.now c.free_any.new.state c.receive_over.new.state c.receive_over.result c.free_any.ensures c.receive_over.ensures)

@@ -1,0 +1,119 @@
+//! Messages that are taken, and callers that come to be owed an answer.
+ghost use Rattle.std.specs.Prelude.{◌≡◌, true, false, Some};
+ghost use Rattle.mcs_types.specs.declared.id.Kind.{Kind};
+ghost use Rattle.mcs_types.specs.declared.record.Queue.{Queue};
+ghost use Rattle.mcs_book.specs.Messages.{open_of};
+ghost use Rattle.mcs_book.specs.Queues.{queue_of, first_in};
+ghost use Rattle.mcs_book.specs.Sound.{IsThere, IsIdle};
+ghost use Rattle.mcs_book.specs.Taking.{owe as owed_by, settle as settled};
+ghost use Rattle.mcs_state.specs.Now.{so_far, IsNumberOf};
+ghost use Rattle.mcs_state.specs.Doing.{Makes, HasRoomFor};
+ghost use Rattle.mcs_ipc.specs.Ready.{IsReady, IsSettling, IsCalling};
+ghost use Rattle.mcs_ipc.specs.Rows.{resumes, handed_to, taken_by};
+
+use mcs_state::State;
+use mcs_types::{Mode, ObjId, Queue, SendMode};
+use mcs_waiting::Waiting;
+
+/// A message that is taken: its number, its sender, the endpoint, and how it was sent.
+#[derive(Clone, Copy)]
+pub struct Delivery {
+    pub number: u32,
+    pub sender: ObjId,
+    pub endpoint: ObjId,
+    pub mode: SendMode,
+}
+
+/// A reply object owes a caller an answer, which the receiver is to give. A receiver that holds no context is lent the
+/// caller's (own).
+fn owe<W: Waiting>(state: &mut State<W>, reply: ObjId, caller: ObjId, receiver: ObjId)
+    requires calling { IsCalling (so_far state.old) reply caller receiver }
+    requires room { HasRoomFor (owed_by reply caller receiver) state.old }
+    ensures { Makes (owed_by reply caller receiver) state.old state.new }
+{
+    state.is_sound();
+    match state.context(receiver) {
+        Some(_) => state.owes(reply, caller, None),
+        None => match state.context(caller) {
+            None => state.owes(reply, caller, None),
+            Some(context) => {
+                state.owes(reply, caller, Some(context));
+                state.holds(context, Some(receiver));
+            }
+        },
+    }
+}
+
+/// What becomes of the sender of a message that is taken: a caller is owed an answer, or is inactive where nobody can answer
+/// it; after a plain send a sender that stood in a queue runs again (manual: Message Passing; own).
+fn settle<W: Waiting>(
+    state: &mut State<W>,
+    mode: SendMode,
+    sender: ObjId,
+    receiver: ObjId,
+    reply: Option<ObjId>,
+    queued: bool,
+)
+    requires settling { IsSettling (so_far state.old) sender receiver reply }
+    requires room { HasRoomFor (settled mode sender receiver reply (resumes queued sender)) state.old }
+    ensures { Makes (settled mode sender receiver reply (resumes queued sender)) state.old state.new }
+{
+    match mode {
+        SendMode::Plain if queued => state.turns(sender, Mode::Running),
+        SendMode::Plain => {}
+        SendMode::Call => match reply {
+            Some(reply) => owe(state, reply, sender, receiver),
+            None => state.turns(sender, Mode::Inactive),
+        },
+        SendMode::Mute => state.turns(sender, Mode::Inactive),
+    }
+}
+
+/// Hands a message that was just sent to a receiver that stands in its queue.
+pub fn hand<W: Waiting>(state: &mut State<W>, delivery: Delivery, receiver: ObjId)
+    requires sender { IsThere (so_far state.old) Kind.Thread delivery.sender }
+    requires idle { IsIdle (so_far state.old) delivery.sender }
+    requires stands { queue_of (so_far state.old) receiver ≡ Some (Queue.Receivers delivery.endpoint) }
+    requires open { IsNumberOf delivery.number (open_of (so_far state.old) delivery.sender) }
+    requires room { HasRoomFor (handed_to delivery receiver) state.old }
+    ensures { Makes (handed_to delivery receiver) state.old state.new }
+{
+    let Delivery {
+        number,
+        sender,
+        endpoint,
+        mode,
+    } = delivery;
+    let queue = Queue::Receivers(endpoint);
+    state.is_sound();
+    let reply = state.reply_with(receiver, queue);
+    state.took(number, sender, receiver);
+    state.parts(receiver, queue);
+    settle(state, mode, sender, receiver, reply, false);
+    state.turns(receiver, Mode::Running);
+}
+
+/// Takes the open message of the first sender for a thread that receives with a reply object, or without one.
+pub fn take<W: Waiting>(
+    state: &mut State<W>,
+    delivery: Delivery,
+    thread: ObjId,
+    reply: Option<ObjId>,
+)
+    requires ready { IsReady (so_far state.old) thread delivery.endpoint reply }
+    requires first { first_in (so_far state.old) (Queue.Senders delivery.endpoint) ≡ Some delivery.sender }
+    requires open { IsNumberOf delivery.number (open_of (so_far state.old) delivery.sender) }
+    requires room { HasRoomFor (taken_by delivery thread reply) state.old }
+    ensures { Makes (taken_by delivery thread reply) state.old state.new }
+{
+    let Delivery {
+        number,
+        sender,
+        endpoint,
+        mode,
+    } = delivery;
+    state.is_sound();
+    state.took(number, sender, thread);
+    state.parts(sender, Queue::Senders(endpoint));
+    settle(state, mode, sender, thread, reply, true);
+}
