@@ -20,7 +20,7 @@ use Rattle.mcs_book.specs.Queues.{queue_of}
 use Rattle.mcs_book.specs.Contexts.{holder_of}
 use Rattle.mcs_book.specs.Checks.{◌>>◌, need}
 use Rattle.mcs_book.specs.Boots.{is_object, has_numbers, has_objects, has_room, is_free, boot_check, boot_log, is_context_any, AreFaultless}
-use Rattle.mcs_kernel.proofs.ServedLaws.{boot-open, plain-served, served-boot}
+use Rattle.mcs_kernel.proofs.ServedLaws.{boot-open, boot-unowed}
 use Rattle.mcs_book.specs.History.{Line, past}
 use Rattle.mcs_book.proofs.Objects.MadeLaws.{made-serial}
 use Rattle.mcs_state.specs.Now.{Now, so_far}
@@ -128,7 +128,7 @@ new-there R form boots = let t : ObjId = next_id R kind.Thread in (refl, both _ 
 -- and it may be given a mode
 pub new-turns : (R : Log) (form : Form) (p : Prio) (mode : Mode) → IsBooting R → Sound R → Allowed (rec.Prio (next_id R kind.Thread) p ∷ rec.Made (next_id R kind.Thread) form ∷ R) (rec.Turns (next_id R kind.Thread) mode)
 new-turns R form p mode boots sound =
-    (new-there R form boots, (next-stands-none R sound, λ r e. let no : None ≡ Some (next_id R kind.Thread) = sym (boots.plain.owed r) ∙ e in absurd cc))
+    (new-there R form boots, (next-stands-none R sound, λ r e. let no : None ≡ Some (next_id R kind.Thread) = sym (boots.unowed r) ∙ e in absurd cc))
 
 -- the checks of a line that has no fault
 pub record AreHeld (cores : ℕ) (R : Log) (line : BootLine) : Type 0 where
@@ -216,7 +216,7 @@ so-far-boot n h l = ap (λ (w : Log). w ++ past (boot_log n.book.boot.lines) n.b
 
 -- and nothing was closed
 pub boots : (n : Now) → n.hand ≡ [] → n.book.lines ≡ [] → IsBooting (so_far n)
-boots n h l = let lines : List BootLine = n.book.boot.lines in subst IsBooting (sym (so-far-boot n h l)) (record { alive = λ o. boot-open lines o; plain = plain-served (boot_log lines) (served-boot lines) })
+boots n h l = let lines : List BootLine = n.book.boot.lines in subst IsBooting (sym (so-far-boot n h l)) (record { alive = λ o. boot-open lines o; unowed = λ r. boot-unowed lines r })
 
 -- the older lines of a boot without fault have none
 pub faultless-older : (cores : ℕ) (newer older : List BootLine) → AreFaultless cores (newer ++ older) → AreFaultless cores older

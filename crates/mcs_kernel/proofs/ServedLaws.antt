@@ -1,12 +1,12 @@
--- What the served entries leave: no reply object owes anybody, no thread is bound to a notification, and no open message is a call.
-use Rattle.std.specs.Prelude.{ℕ, Bool, true, false, cond, ◌≡◌, ◌==◌, List, [], ◌∷◌, Option, Some, None, unwrap_or, Ok, Err, refl}
-use Rattle.std.proofs.Common.{ap, sym}
+-- What the served entries leave: no thread is bound to a notification.
+use Rattle.std.specs.Prelude.{ℕ, Bool, true, false, ◌≡◌, List, [], ◌∷◌, Option, Some, None, Ok, Err, refl}
 use Rattle.mcs_types.specs.Views.{Content}
 use Rattle.mcs_types.specs.declared.id.ObjId.{ObjId}
 use Rattle.mcs_types.specs.declared.id.CoreId.{CoreId}
 use Rattle.mcs_types.specs.declared.id.Kind.{Kind}
 use Rattle.mcs_types.specs.declared.id.Kind.TheVariants as kind
 use Rattle.mcs_types.specs.declared.cap.Cap.{Cap}
+use Rattle.mcs_types.specs.declared.record.SendMode.{SendMode}
 use Rattle.mcs_types.specs.declared.record.SendMode.TheVariants as how
 use Rattle.mcs_types.specs.declared.record.Mode.{Mode}
 use Rattle.mcs_types.specs.declared.record.Mode.TheVariants.{Running, Restart, Inactive}
@@ -17,137 +17,136 @@ use Rattle.mcs_types.specs.declared.record.Rec.{Rec}
 use Rattle.mcs_types.specs.declared.record.Rec.TheVariants as rec
 use Rattle.mcs_types.specs.declared.entry.Answer.{Answer}
 use Rattle.mcs_types.specs.declared.entry.Refusal.{Refusal}
-use Rattle.mcs_types.specs.Ids.{same}
 use Rattle.mcs_types.specs.declared.entry.Answer.TheVariants.{Done}
 use Rattle.mcs_types.specs.declared.entry.Entry.{Entry}
-use Rattle.mcs_types.specs.declared.entry.Entry.TheVariants.{Send, NbSend, Recv, NbRecv, Wait, NbWait, BindCtx, UnbindCtx, CopyCap, MintCap, MoveCap}
+use Rattle.mcs_types.specs.declared.entry.Entry.TheVariants.{Send, NbSend, Call, Recv, NbRecv, Wait, NbWait, ReplyRecv, BindCtx, UnbindCtx, CopyCap, MintCap, MoveCap}
 use Rattle.mcs_types.specs.declared.boot.BootLine.{BootLine}
 use Rattle.mcs_types.specs.declared.boot.BootLine.TheVariants as boot
-use Rattle.mcs_book.specs.Logs.{Log, onto, given}
+use Rattle.mcs_book.specs.Logs.{Log, onto}
 use Rattle.mcs_book.specs.Objects.{was_closed}
 use Rattle.mcs_book.specs.Threads.{mode_of}
-use Rattle.mcs_book.specs.Queues.{first_in}
-use Rattle.mcs_book.specs.Messages.{next_message, letter, open_of}
+use Rattle.mcs_book.specs.Queues.{reply_with, first_in}
+use Rattle.mcs_book.specs.Contexts.{context_of}
 use Rattle.mcs_book.specs.Replies.{owed_by}
+use Rattle.mcs_book.specs.Chains.{topped_by}
 use Rattle.mcs_book.specs.Notifications.{bound_of}
-use Rattle.mcs_book.specs.Chains.{kept, chain_of}
 use Rattle.mcs_book.specs.Checks.{Checked, ◌>>◌, need}
 use Rattle.mcs_book.specs.Pieces.{Piece, ◌then◌, nothing, say, with_any, Act, answers, before}
-use Rattle.mcs_book.specs.Taking.{handed, taken}
-use Rattle.mcs_book.specs.Sending.{letter_over, sends_to, sends, queues, send_by, send_over}
-use Rattle.mcs_book.specs.Receiving.{free, joins_or, hear, take_open, receive_message, receive_on, receive_by, receive_over, open_of_any}
+use Rattle.mcs_book.specs.Taking.{debt, owe, settle, handed, taken, back_to, give_back, pay}
+use Rattle.mcs_book.specs.Sending.{letter_over, sent, sends_to, sends, queues, send_by, send_over}
+use Rattle.mcs_book.specs.Receiving.{free, joins_or, hear, take_open, receive_message, receive_on, receive_by, receive_over, pay_any, reply_receive}
 use Rattle.mcs_book.specs.Table.{row, wakes, outcome_of, does}
 use Rattle.mcs_book.specs.Boots.{boot_line, boot_log}
-use Rattle.mcs_book.specs.Served.{IsPlain, serves_kind}
+use Rattle.mcs_book.specs.Served.{serves_kind}
 use Rattle.mcs_kernel.specs.Served.{is_served, IsServedLog}
 use Rattle.mcs_types.specs.Served.{IsServed}
-use Rattle.mcs_book.proofs.Books.Checking.{OnPassed, passed-ok, passed-err, passed-bind, passed-next}
+use Rattle.mcs_book.proofs.Books.Checking.{OnPassed, passed-ok, passed-err, passed-after, passed-bind, passed-next}
 use Rattle.mcs_book.proofs.SoundLogs.Making.{Passes, Makes, passes-append, makes-nothing, makes-say, makes-then, makes-any, makes-free}
-use Rattle.mcs_book.proofs.Messages.MessageLaws.{open_of-letter}
 
 -- the log after records that are all served
 pub served-onto : (made : List Rec) (R : Log) → Passes is_served made → IsServedLog R → IsServedLog (onto made R)
 served-onto [] R h k = k
 served-onto (rec ∷ made) R h k = served-onto made (rec ∷ R) h.1 (h.0, k)
 
--- what a record ends is none: it says so itself, or nothing was said before
-ended : (b : Bool) (o : Option ObjId) → o ≡ None → unwrap_or (given b None) o ≡ None
-ended true o h = refl
-ended false o h = h
-
--- no served record is a debt
-owed-none : (R : Log) (r : ObjId) → IsServedLog R → owed_by R r ≡ None
-owed-none [] r h = refl
-owed-none (rec.Owes u x s ∷ R) r h = absurd cc
-owed-none (rec.Paid u x message ∷ R) r h = ended (same r u) (owed_by R r) (owed-none R r h.1)
-owed-none (rec.Void u x ending ∷ R) r h = ended (same r u) (owed_by R r) (owed-none R r h.1)
-owed-none (_ ∷ R) r h = owed-none R r h.1
-
--- or binds a notification
-bound-none : (R : Log) (t : ObjId) → IsServedLog R → bound_of R t ≡ None
+-- the law: no served record binds a notification
+pub bound-none : (R : Log) (t : ObjId) → IsServedLog R → bound_of R t ≡ None
 bound-none [] t h = refl
 bound-none (rec.Tied u n ∷ R) t h = absurd cc
 bound-none (_ ∷ R) t h = bound-none R t h.1
 
--- or is a call
-letter-plain : (R : Log) (m : ℕ) (s : Letter) → IsServedLog R → letter R m ≡ Some s → s.mode ≡ how.Plain
-letter-plain [] m s h e = absurd cc
-letter-plain (rec.Sent x e how.Plain badge message ∷ R) m s h is = go (next_message R == m) is (letter-plain R m s h.1)
-  where
-    own : Letter
-    own = record { number = next_message R; sender = x; endpoint = e; mode = how.Plain; badge = badge; message = message }
+-- a piece whose records are served
+abbrev Served : Piece → Type 0
+Served = Makes is_served
 
-    go : (b : Bool) → cond b (Some own) (letter R m) ≡ Some s → (letter R m ≡ Some s → s.mode ≡ how.Plain) → s.mode ≡ how.Plain
-    go true k later = let it : own ≡ s = cc in sym (ap (λ (l : Letter). l.mode) it)
-    go false k later = later k
-letter-plain (rec.Sent x e how.Call badge message ∷ R) m s h is = absurd cc
-letter-plain (rec.Sent x e how.Mute badge message ∷ R) m s h is = absurd cc
-letter-plain (_ ∷ R) m s h is = letter-plain R m s h.1 is
-
--- an open message is none
-pub open-plain : (R : Log) (x : ObjId) (s : Letter) → IsServedLog R → open_of R x ≡ Some s → s.mode ≡ how.Plain
-open-plain R x s h is = letter-plain R s.number s h (open_of-letter R x s is)
-
--- the law: after served records no one is owed or bound, and no open message is a call
-pub plain-served : (R : Log) → IsServedLog R → IsPlain R
-plain-served R h = record { owed = λ r. owed-none R r h; bound = λ t. bound-none R t h; sends = λ x s is. open-plain R x s h is }
-
--- no context came along a debt
-kept-none : (R : Log) (s : ObjId) (later : List Rec) → IsServedLog R → kept s later R ≡ []
-kept-none [] s later h = refl
-kept-none (rec.Owes r x c ∷ R) s later h = absurd cc
-kept-none (made ∷ R) s later h = kept-none R s (made ∷ later) h.1
-
--- the law: after served records every chain is empty
-pub chain-none : (R : Log) (s : ObjId) → IsServedLog R → chain_of R s ≡ []
-unfolding chain_of
-chain-none R s h = go (was_closed R s) (kept-none R s [] h)
-  where
-    go : (b : Bool) {xs : List ObjId} → xs ≡ [] → cond b [] xs ≡ []
-    go true e = refl
-    go false e = e
-
--- an act whose records are served, where those before it are
+-- an act whose records are served
 record ServedAct (act : Act) : Type 0 where
-  at : (S : Log) → IsServedLog S → Passes is_served ((act S).records)
+  at : (S : Log) → Passes is_served ((act S).records)
 
--- a plain record that a cancellation makes is served
-free-served : (r : ObjId) → Makes is_served (free r)
+-- the records of a cancellation are served
+free-served : (r : ObjId) → Served (free r)
 free-served r = makes-free is_served (record { drops = λ m. refl; leaves = λ x k. refl; voids = λ u x. refl; turns = λ x mode. refl }) r
 
+-- so are those of a context that returns
+back-served : (s : Option ObjId) (x : ObjId) → Served (give_back s x)
+unfolding give_back
+back-served s x = record { passes = λ R. go s (context_of R x) }
+  where
+    go : (o c : Option ObjId) → Passes is_served (back_to x o c)
+    go (Some s) None = (refl, tt)
+    go (Some s) (Some c) = tt
+    go None c = tt
+
+-- of a caller that is answered
+pay-served : (r : ObjId) (message : Content) → Served (pay r message)
+unfolding pay
+pay-served r message = record { passes = λ R. (makes-any is_served (owed_by R r) _ (λ x. makes-then is_served _ _ (makes-then is_served _ _ (makes-say is_served (rec.Paid r x message) refl) (makes-say is_served (rec.Turns x Running) refl)) (back-served (topped_by R r) x))).passes R }
+
+-- of a debt
+owe-served : (r x p : ObjId) → Served (owe r x p)
+unfolding owe
+owe-served r x p = record { passes = λ R. go (context_of R p) (context_of R x) }
+  where
+    go : (c d : Option ObjId) → Passes is_served (debt r x p c d)
+    go None (Some s) = (refl, (refl, tt))
+    go None None = (refl, tt)
+    go (Some s) (Some d) = (refl, tt)
+    go (Some s) None = (refl, tt)
+
+-- of a sender that is settled
+settle-served : (mode : SendMode) (x p : ObjId) (r : Option ObjId) (goes_on : Piece) → Served goes_on → Served (settle mode x p r goes_on)
+settle-served how.Plain x p r goes_on h = h
+settle-served how.Call x p (Some r) goes_on h = owe-served r x p
+settle-served how.Call x p None goes_on h = makes-say is_served (rec.Turns x Inactive) refl
+settle-served how.Mute x p r goes_on h = makes-say is_served (rec.Turns x Inactive) refl
+
+-- and of a message that is taken, at once or from a queue
+handed-served : (s : Letter) (p : ObjId) → Served (handed s p)
+unfolding handed
+handed-served s p = record {
+  passes = λ R. (makes-then is_served _ _
+      (makes-then is_served _ _ (makes-then is_served _ _ (makes-say is_served (rec.Took s.number p) refl) (makes-say is_served (rec.Parts p (Receivers s.endpoint)) refl)) (settle-served s.mode s.sender p (reply_with R p) nothing (makes-nothing is_served)))
+      (makes-say is_served (rec.Turns p Running) refl)).passes R;
+}
+
+taken-served : (s : Letter) (t : ObjId) (r : Option ObjId) → Served (taken s t r)
+unfolding taken
+taken-served s t r =
+    makes-then is_served _ _ (makes-then is_served _ _ (makes-say is_served (rec.Took s.number t) refl) (makes-say is_served (rec.Parts s.sender (Senders s.endpoint)) refl))
+    (settle-served s.mode s.sender t r (say (rec.Turns s.sender Running)) (makes-say is_served (rec.Turns s.sender Running) refl))
+
 -- a piece, and then an act
-served-before : (p : Piece) (act : Act) → Makes is_served p → ServedAct act → ServedAct (before p act)
+served-before : (p : Piece) (act : Act) → Served p → ServedAct act → ServedAct (before p act)
 unfolding before
-served-before p act hp ha = record { at = λ S h. passes-append is_served (p S) ((act (onto (p S) S)).records) (hp.passes S) (ha.at (onto (p S) S) (served-onto (p S) S (hp.passes S) h)) }
+served-before p act hp ha = record { at = λ S. passes-append is_served (p S) ((act (onto (p S) S)).records) (hp.passes S) (ha.at (onto (p S) S)) }
 
 -- an act that only makes a piece
-act-piece : (a : Answer) (p : Piece) → Makes is_served p → OnPassed ServedAct (Ok (answers a p))
-act-piece a p h = passed-ok _ _ (record { at = λ S k. h.passes S })
+act-piece : (a : Answer) (p : Piece) → Served p → OnPassed ServedAct (Ok (answers a p))
+act-piece a p h = passed-ok _ _ (record { at = λ S. h.passes S })
 
 -- a message is sent, and its sender stands in its queue
-served-queues : (t : ObjId) (held : Cap) (message : Content) → ServedAct (queues (letter_over t held how.Plain message))
+served-queues : (letter : Log → Letter) → ServedAct (queues letter)
 unfolding queues ◌then◌
-served-queues t held message = record { at = λ S h. (refl, (refl, tt)) }
+served-queues letter = record { at = λ S. (refl, (refl, tt)) }
 
 -- nothing happens
 served-nothing : (a : Answer) → ServedAct (answers a nothing)
-served-nothing a = record { at = λ S h. tt }
+served-nothing a = record { at = λ S. tt }
 
 -- a message is sent
-served-sends : (t : ObjId) (held : Cap) (message : Content) (a : Answer) (alone : Act) → ServedAct alone → ServedAct (sends (letter_over t held how.Plain message) a alone)
-unfolding sends sends_to handed ◌then◌
-served-sends t held message a alone k = record { at = λ S h. go S h (first_in S (Receivers held.obj)) }
+served-sends : (letter : Log → Letter) (a : Answer) (alone : Act) → ServedAct alone → ServedAct (sends letter a alone)
+unfolding sends sends_to
+served-sends letter a alone k = record { at = λ S. go S (letter S) (first_in S (Receivers ((letter S).endpoint))) }
   where
-    go : (S : Log) → IsServedLog S → (o : Option ObjId) → Passes is_served ((sends_to (letter_over t held how.Plain message S) a alone o S).records)
-    go S h None = k.at S h
-    go S h (Some p) = (refl, (refl, (refl, (refl, tt))))
+    go : (S : Log) (s : Letter) (o : Option ObjId) → Passes is_served ((sends_to s a alone o S).records)
+    go S s None = k.at S
+    go S s (Some p) = (makes-then is_served (sent s) (handed s p) (makes-say is_served _ refl) (handed-served s p)).passes S
 
 -- a send over a served capability
 served-send_by : (k : Kind) (t : ObjId) (held : Cap) (message : Content) (alone : Act) → serves_kind k ≡ true → ServedAct alone → OnPassed ServedAct (send_by k t held message alone)
 unfolding send_by
-served-send_by kind.Endpoint t held message alone e h = passed-next _ _ _ (passed-ok _ _ (served-sends t held message Done alone h))
+served-send_by kind.Endpoint t held message alone e h = passed-next _ _ _ (passed-ok _ _ (served-sends (letter_over t held how.Plain message) Done alone h))
 served-send_by kind.Notification t held message alone e h = absurd cc
-served-send_by kind.Reply t held message alone e h = absurd cc
+served-send_by kind.Reply t held message alone e h = act-piece Done (pay held.obj message) (pay-served held.obj message)
 served-send_by kind.CNode t held message alone e h = passed-err _ _
 served-send_by kind.Thread t held message alone e h = passed-err _ _
 served-send_by kind.Context t held message alone e h = passed-err _ _
@@ -164,34 +163,28 @@ unfolding send_over
 served-send t held message alone h = passed-need _ (serves_kind held.obj.kind) _ _ (λ e. served-send_by held.obj.kind t held message alone e h)
 
 -- t joins a queue, or is answered at once
-served-joins : (b : Bool) (t : ObjId) (q : Queue) (r : Option ObjId) (S : Log) → Passes is_served ((joins_or b (rec.Joins t q r) S).records)
+served-joins : (b : Bool) (t : ObjId) (q : Queue) (r : Option ObjId) → ServedAct (joins_or b (rec.Joins t q r))
 unfolding joins_or
-served-joins true t q r S = (refl, tt)
-served-joins false t q r S = tt
+served-joins true t q r = record { at = λ S. (refl, tt) }
+served-joins false t q r = record { at = λ S. tt }
 
 -- a pending word comes first
-served-hear : (t : ObjId) (n : Option ObjId) (word : Option ℕ) (otherwise : Act) (S : Log) → Passes is_served ((otherwise S).records) → Passes is_served ((hear t n word otherwise S).records)
+served-hear : (t : ObjId) (n : Option ObjId) (word : Option ℕ) (otherwise : Act) → ServedAct otherwise → ServedAct (hear t n word otherwise)
 unfolding hear
-served-hear t (Some n) (Some word) otherwise S h = (refl, tt)
-served-hear t None word otherwise S h = h
-served-hear t (Some n) None otherwise S h = h
+served-hear t (Some n) (Some word) otherwise h = record { at = λ S. (refl, tt) }
+served-hear t None word otherwise h = h
+served-hear t (Some n) None otherwise h = h
 
--- an open message, which is no call, is taken, if there is one
-served-take : (t : ObjId) (r : Option ObjId) (l : Option Letter) (otherwise : Act) (S : Log) → ((s : Letter) → l ≡ Some s → s.mode ≡ how.Plain) → Passes is_served ((otherwise S).records)
-    → Passes is_served ((take_open t r l otherwise S).records)
-unfolding take_open taken ◌then◌
-served-take t r None otherwise S plain h = h
-served-take t r (Some s) otherwise S plain h = rw (plain s refl) (refl, (refl, (refl, tt)))
-
--- the first sender's open message is no call
-any-plain : (S : Log) (x : Option ObjId) (s : Letter) → IsServedLog S → open_of_any S x ≡ Some s → s.mode ≡ how.Plain
-any-plain S None s h e = absurd cc
-any-plain S (Some x) s h e = open-plain S x s h e
+-- an open message is taken, if there is one
+served-take : (t : ObjId) (r : Option ObjId) (l : Option Letter) (otherwise : Act) → ServedAct otherwise → ServedAct (take_open t r l otherwise)
+unfolding take_open
+served-take t r None otherwise h = h
+served-take t r (Some s) otherwise h = record { at = λ S. (taken-served s t r).passes S }
 
 -- a receive
 served-receive_message : (t e : ObjId) (r : Option ObjId) (blocking : Bool) → ServedAct (receive_message t e r blocking)
 unfolding receive_message
-served-receive_message t e r blocking = record { at = λ S h. served-hear t _ _ _ S (served-take t r _ _ S (λ s is. any-plain S (first_in S (Senders e)) s h is) (served-joins blocking t (Receivers e) r S)) }
+served-receive_message t e r blocking = record { at = λ S. (served-hear t _ _ _ (served-take t r _ _ (served-joins blocking t (Receivers e) r))).at S }
 
 -- a receive with a reply object
 served-receive_on : (t e : ObjId) (r : Option ObjId) (blocking : Bool) → ServedAct (receive_on t e r blocking)
@@ -205,13 +198,20 @@ served-receive_by kind.Endpoint R t held reply blocking e = passed-next _ _ _ (p
 served-receive_by kind.Notification R t held reply blocking e = absurd cc
 served-receive_by kind.CNode R t held reply blocking e = passed-err _ _
 served-receive_by kind.Thread R t held reply blocking e = passed-err _ _
-served-receive_by kind.Reply R t held reply blocking e = absurd cc
+served-receive_by kind.Reply R t held reply blocking e = passed-err _ _
 served-receive_by kind.Context R t held reply blocking e = passed-err _ _
 
 -- a receive over any capability
 served-receive : (R : Log) (t : ObjId) (held : Cap) (reply : Checked (Option ObjId)) (blocking : Bool) → OnPassed ServedAct (receive_over R t held reply blocking)
 unfolding receive_over
 served-receive R t held reply blocking = passed-need _ (serves_kind held.obj.kind) _ _ (λ e. served-receive_by held.obj.kind R t held reply blocking e)
+
+-- a reply, and a receive over any capability
+served-reply_receive : (R : Log) (t : ObjId) (held : Cap) (address : ℕ) (message : Content) → OnPassed ServedAct (reply_receive R t held address message)
+unfolding reply_receive
+served-reply_receive R t held address message =
+    passed-next _ _ _ (passed-next _ _ _ (passed-bind _ _ _ (λ r. passed-after ServedAct _ _ _ (served-receive R t held (Ok r) true)
+    (λ receive h. passed-ok _ _ (served-before (pay_any r message) receive (makes-any is_served r _ (λ d. pay-served d message)) h)))))
 
 -- one record
 act-say : (r : Rec) → is_served r ≡ true → OnPassed ServedAct (Ok (answers Done (say r)))
@@ -220,12 +220,14 @@ act-say r e = act-piece Done (say r) (makes-say is_served r e)
 -- what each served row does, where its checks are passed
 served-row : (R : Log) (core : CoreId) (t : ObjId) (entry : Entry) → IsServed entry → OnPassed ServedAct (row R core t entry)
 unfolding row
-served-row R core t (Send a message) u = passed-bind _ _ _ (λ held. served-send t held message _ (served-queues t held message))
+served-row R core t (Send a message) u = passed-bind _ _ _ (λ held. served-send t held message _ (served-queues (letter_over t held how.Plain message)))
 served-row R core t (NbSend a message) u = passed-bind _ _ _ (λ held. served-send t held message _ (served-nothing Done))
+served-row R core t (Call a message) u = passed-bind _ _ _ (λ held. passed-next _ _ _ (passed-ok _ _ (served-sends _ _ _ (served-queues _))))
 served-row R core t (Recv a r) u = passed-bind _ _ _ (λ held. served-receive R t held _ true)
 served-row R core t (NbRecv a r) u = passed-bind _ _ _ (λ held. served-receive R t held _ false)
 served-row R core t (Wait a) u = passed-bind _ _ _ (λ held. served-receive R t held _ true)
 served-row R core t (NbWait a) u = passed-bind _ _ _ (λ held. served-receive R t held _ false)
+served-row R core t (ReplyRecv a r message) u = passed-bind _ _ _ (λ held. served-reply_receive R t held r message)
 served-row R core t (BindCtx s x) u = passed-bind _ _ _ (λ context. passed-bind _ _ _ (λ thread. passed-next _ _ _ (act-say (rec.Holds context.obj (Some thread.obj)) refl)))
 served-row R core t (UnbindCtx s) u = passed-bind _ _ _ (λ context. passed-next _ _ _ (act-say (rec.Holds context.obj None) refl))
 served-row R core t (CopyCap source dest rights) u = passed-bind _ _ _ (λ at. act-say (rec.Slot _ _ _) refl)
@@ -245,7 +247,7 @@ unfolding does OnPassed
 served-does R core t entry u h = go (row R core t entry) (served-row R core t entry u)
   where
     go : (m : Checked Act) → OnPassed ServedAct m → IsServedLog (onto ((outcome_of R t m).records) R)
-    go (Ok act) k = served-onto _ R ((served-before (wakes (mode_of R t) t) act (wakes-served (mode_of R t) t) k).at R h) h
+    go (Ok act) k = served-onto _ R ((served-before (wakes (mode_of R t) t) act (wakes-served (mode_of R t) t) k).at R) h
     go (Err refusal) k = h
 
 -- a line of the boot makes served records
@@ -276,3 +278,15 @@ pub boot-open : (lines : List BootLine) (o : ObjId) → was_closed (boot_log lin
 unfolding boot_log
 boot-open [] o = refl
 boot-open (line ∷ lines) o = line-closes (boot_log lines) line o (boot-open lines o)
+
+-- nor makes it anybody owed
+line-owes : (R : Log) (line : BootLine) (r : ObjId) → owed_by R r ≡ None → owed_by (onto (boot_line R line) R) r ≡ None
+line-owes R (boot.Thread priority maximum root guard runs (Some s)) r h = h
+line-owes R (boot.Thread priority maximum root guard runs None) r h = h
+line-owes R _ r h = h
+
+-- the law: after a boot nobody is owed
+pub boot-unowed : (lines : List BootLine) (r : ObjId) → owed_by (boot_log lines) r ≡ None
+unfolding boot_log
+boot-unowed [] r = refl
+boot-unowed (line ∷ lines) r = line-owes (boot_log lines) line r (boot-unowed lines r)

@@ -35,15 +35,14 @@ use Rattle.mcs_book.specs.Logs.{counted}
 use Rattle.mcs_book.specs.Objects.{makes_kind}
 use Rattle.mcs_book.specs.Pieces.{Outcome}
 use Rattle.mcs_book.specs.Table.{does}
-use Rattle.mcs_book.specs.Served.{IsPlain}
+use Rattle.mcs_book.specs.Served.{NoneBound}
 use Rattle.mcs_kernel.specs.Served.{IsServedLog}
 use Rattle.mcs_types.specs.Served.{IsServed}
 use Rattle.mcs_book.proofs.Lengths.Rows.{does-short}
 use Rattle.mcs_book.proofs.Messages.SendersOpen.{legal-senders}
-use Rattle.mcs_kernel.proofs.ServedLaws.{plain-served, chain-none, served-does, served-boot}
+use Rattle.mcs_kernel.proofs.ServedLaws.{bound-none, served-does, served-boot}
 use Rattle.mcs_book.specs.Boots.{Boot, IsFaultless}
 use Rattle.mcs_book.proofs.SoundLogs.SoundBooks.{legal-firm}
-use Rattle.mcs_ipc.specs.Ready.{NoChains}
 use Rattle.mcs_kernel.specs.Resting.{IsResting}
 use Rattle.mcs_kernel.proofs.Booting.{length-made}
 use Rattle.mcs_types.specs.declared.entry.Step.{Step}
@@ -161,13 +160,9 @@ module _ (b : Book) (core : CoreId) (t : ObjId) (n : Now) (s : IsServing b core 
   pub serving-stands : OpenStand (so_far n)
   serving-stands = subst OpenStand records-are ((legal-senders b s.legal).open_queued)
 
-  -- nobody is owed, bound or calling
-  pub serving-plain : IsPlain (so_far n)
-  serving-plain = subst IsPlain records-are (plain-served (log_of b) s.served)
-
-  -- and no context came along a chain
-  pub serving-chains : NoChains (so_far n)
-  serving-chains = subst NoChains records-are (λ c. chain-none (log_of b) c s.served)
+  -- nobody is bound to a notification
+  pub serving-unbound : NoneBound (so_far n)
+  serving-unbound = subst NoneBound records-are (λ x. bound-none (log_of b) x s.served)
 
   -- the kernel is at rest again when the line was closed
   pub rests-again : (entry : Entry) (a told : Answer) (m after : Now) → IsServed entry → InRange entry → (did : Does n core t entry a m) → told ≡ a → after.hand ≡ []

@@ -11,12 +11,12 @@ use Rattle.mcs_book.specs.Objects.{form_of}
 use Rattle.mcs_types.specs.declared.id.ObjId.{ObjId}
 use Rattle.mcs_book.specs.Logs.{Log}
 use Rattle.mcs_book.specs.Objects.{was_closed}
-use Rattle.mcs_book.specs.Served.{IsPlain}
+use Rattle.mcs_book.specs.Replies.{owed_by}
 
 -- nothing was closed, and nobody is owed an answer
 pub record IsBooting (R : Log) : Type 0 where
   pub alive : (o : ObjId) → was_closed R o ≡ false
-  pub plain : IsPlain R
+  pub unowed : (r : ObjId) → owed_by R r ≡ None
 
 -- the boot with one line more
 abbrev pub adds_line : Boot → BootLine → Boot

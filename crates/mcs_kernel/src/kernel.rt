@@ -4,13 +4,12 @@ ghost use Rattle.mcs_book.specs.History.{IsLegal, log_of};
 ghost use Rattle.mcs_book.specs.Each.{EachRecord, EachLine, AfterEachLine};
 ghost use Rattle.mcs_book.specs.Fair.{EndsOpen, IsWholeLine, TakesFirst, TakesInOrder, TakesAlive, SendersAreOpen, AnswersOwed, AnswersWhole, NoneWaitBeside};
 ghost use Rattle.mcs_book.specs.Standing.{may_enter};
-ghost use Rattle.mcs_book.specs.Served.{IsPlain};
+ghost use Rattle.mcs_book.specs.Served.{NoneBound};
 ghost use Rattle.mcs_types.specs.Served.{IsServed};
 ghost use Rattle.mcs_book.specs.Table.{does};
 ghost use Rattle.mcs_state.specs.Now.{so_far};
 ghost use Rattle.mcs_state.specs.Doing.{Does, Fits};
 ghost use Rattle.mcs_state.specs.Entering.{IsEntering, OpenStand};
-ghost use Rattle.mcs_ipc.specs.Ready.{NoChains};
 ghost use Rattle.mcs_kernel.specs.Faults.{fault_of, with_entry, FailsForMemory};
 
 mod queries;
@@ -19,7 +18,10 @@ use crate::boot::{Boot, boot_state};
 use crate::fault::EnterFault;
 use mcs_book::Book;
 use mcs_caps::{copy_cap, mint_cap, move_cap};
-use mcs_ipc::{bind_context, nb_receive, nb_send, nb_wait, receive, send, unbind_context, wait};
+use mcs_ipc::{
+    bind_context, call, nb_receive, nb_send, nb_wait, receive, reply_receive, send, unbind_context,
+    wait,
+};
 use mcs_queues::Lines;
 use mcs_state::State;
 use mcs_types::{Answer, BOOK_LINES, CoreId, Entry, ObjId, OutOfMemory, Status, Step};
@@ -49,8 +51,7 @@ fn operate<W: Waiting>(state: &mut State<W>, core: CoreId, thread: ObjId, entry:
     requires served { IsServed entry.now }
     requires entering { IsEntering (so_far state.old) thread }
     requires stand { OpenStand (so_far state.old) }
-    requires plain { IsPlain (so_far state.old) }
-    requires chains { NoChains (so_far state.old) }
+    requires unbound { NoneBound (so_far state.old) }
     requires few { length state.old.book.lines < BOOK_LINES }
     requires room { Fits state.old core thread entry.now }
     ensures { Does state.old core thread entry.now result state.new }
@@ -58,10 +59,16 @@ fn operate<W: Waiting>(state: &mut State<W>, core: CoreId, thread: ObjId, entry:
     match entry {
         Entry::Send { cap, message } => send(state, core, thread, *cap, message.copy()),
         Entry::NbSend { cap, message } => nb_send(state, core, thread, *cap, message.copy()),
+        Entry::Call { cap, message } => call(state, core, thread, *cap, message.copy()),
         Entry::Recv { cap, reply } => receive(state, core, thread, *cap, *reply),
         Entry::NbRecv { cap, reply } => nb_receive(state, core, thread, *cap, *reply),
         Entry::Wait { cap } => wait(state, core, thread, *cap),
         Entry::NbWait { cap } => nb_wait(state, core, thread, *cap),
+        Entry::ReplyRecv {
+            cap,
+            reply,
+            message,
+        } => reply_receive(state, core, thread, *cap, *reply, message.copy()),
         Entry::BindCtx {
             context,
             thread: holder,

@@ -1,7 +1,7 @@
 use Rattle.std.proofs.Common.{◌≡◌, ◌∙◌}
 use Rattle.mcs_types.specs.declared.entry.Step.{Step}
 use Rattle.mcs_kernel.specs.Faults.{entered}
-use Rattle.mcs_kernel.proofs.Serving.{IsServing, serving, serving-enters, serving-stands, serving-plain, serving-chains, entry-fits, line-entered, rests-again}
+use Rattle.mcs_kernel.proofs.Serving.{IsServing, serving, serving-enters, serving-stands, serving-unbound, entry-fits, line-entered, rests-again}
 use Rattle.mcs_kernel.proofs.kernel.Kernel.serve.Goals as goal
 
 pub operate-answer-requires-clause-entering : goal.operate-answer-requires-clause-entering
@@ -10,11 +10,8 @@ operate-answer-requires-clause-entering g c = serving-enters c.args.self.now c.a
 pub operate-answer-requires-clause-stand : goal.operate-answer-requires-clause-stand
 operate-answer-requires-clause-stand g c = serving-stands c.args.self.now c.args.core c.args.thread c.reserve.new.self (serving c.args.self.now c.args.core c.args.thread c.self.inside.state c.reserve.new.self c.self.invariant c.self.view_is c.requires.let_in c.in_ok-reserve.ensures.hand c.in_ok-reserve.ensures.book)
 
-pub operate-answer-requires-clause-plain : goal.operate-answer-requires-clause-plain
-operate-answer-requires-clause-plain g c = serving-plain c.args.self.now c.args.core c.args.thread c.reserve.new.self (serving c.args.self.now c.args.core c.args.thread c.self.inside.state c.reserve.new.self c.self.invariant c.self.view_is c.requires.let_in c.in_ok-reserve.ensures.hand c.in_ok-reserve.ensures.book)
-
-pub operate-answer-requires-clause-chains : goal.operate-answer-requires-clause-chains
-operate-answer-requires-clause-chains g c = serving-chains c.args.self.now c.args.core c.args.thread c.reserve.new.self (serving c.args.self.now c.args.core c.args.thread c.self.inside.state c.reserve.new.self c.self.invariant c.self.view_is c.requires.let_in c.in_ok-reserve.ensures.hand c.in_ok-reserve.ensures.book)
+pub operate-answer-requires-clause-unbound : goal.operate-answer-requires-clause-unbound
+operate-answer-requires-clause-unbound g c = serving-unbound c.args.self.now c.args.core c.args.thread c.reserve.new.self (serving c.args.self.now c.args.core c.args.thread c.self.inside.state c.reserve.new.self c.self.invariant c.self.view_is c.requires.let_in c.in_ok-reserve.ensures.hand c.in_ok-reserve.ensures.book)
 
 pub operate-answer-requires-clause-room : goal.operate-answer-requires-clause-room
 operate-answer-requires-clause-room g c =
