@@ -1,5 +1,6 @@
 -- Debts of reply objects: who is owed after one begins or ends, and which chain a reply object tops.
-use Rattle.std.specs.Prelude.{◌≡◌, true, false, ◌∷◌, Option, Some, None, unwrap_or}
+use Rattle.std.specs.Prelude.{◌≡◌, true, false, ◌∷◌, Option, Some, None, option_map, option_and_then, unwrap_or}
+use Rattle.std.specs.Option.{IfSome}
 use Rattle.std.proofs.Common.{refl, ap, sym, ◌∙◌, inl, inr}
 use Rattle.mcs_types.specs.declared.id.ObjId.{ObjId}
 use Rattle.mcs_types.specs.declared.id.Kind.TheVariants as kind
@@ -7,7 +8,8 @@ use Rattle.mcs_types.specs.declared.record.Rec.TheVariants as rec
 use Rattle.mcs_types.specs.Ids.{same, is_just}
 use Rattle.mcs_types.specs.Chains.{head_of}
 use Rattle.mcs_types.proofs.Ids.{same-self}
-use Rattle.mcs_replies.specs.Owing.{Owing, chain_in, may_owe, NamesTopped}
+use Rattle.mcs_replies.specs.declared.replies.Ended.{Ended}
+use Rattle.mcs_replies.specs.Owing.{Owing, owed_in, chain_in, may_owe, NamesTopped}
 use Rattle.mcs_book.specs.Logs.{Log, given}
 use Rattle.mcs_book.specs.Chains.{chain_of, topped_by}
 use Rattle.mcs_book.specs.Contexts.{contexts}
@@ -83,7 +85,7 @@ unfolding topped_by
 topped-tops R r s h = find-passes (λ c. is_just (head_of (chain_of R c)) r) (contexts R) s h
 
 -- the context that the table names is the one whose chain r tops
-pub topped-is : (R : Log) (v : Owing) (r : ObjId) (topped : Option ObjId) → Sound R → RepliesAgree v R → NamesTopped v r topped → topped ≡ topped_by R r
+topped-is : (R : Log) (v : Owing) (r : ObjId) (topped : Option ObjId) → Sound R → RepliesAgree v R → NamesTopped v r topped → topped ≡ topped_by R r
 topped-is R v r topped sound a names = go topped names
   where
     -- the top of a chain in the table is that in the log
@@ -97,6 +99,12 @@ topped-is R v r topped sound a names = go topped names
     go : (o : Option ObjId) → NamesTopped v r o → o ≡ topped_by R r
     go None h = none h (topped_by R r) refl
     go (Some s) h = sym (top-found R s r sound (is_just-some (head_of (chain_of R s)) r (sym (tops s (Some s) h) ∙ same-self s)))
+
+-- and so does the table for a debt that was there
+pub ended-topped : (R : Log) (v : Owing) (r x : ObjId) (o : Option Ended) → Sound R → RepliesAgree v R → owed_by R r ≡ Some x → option_map (λ (e : Ended). e.caller) o ≡ owed_in v r
+    → IfSome o (λ (e : Ended). NamesTopped v r e.topped) → option_and_then (λ (e : Ended). e.topped) o ≡ topped_by R r
+ended-topped R v r x None sound a owed caller names = let no : None ≡ Some x = caller ∙ a.owed r ∙ owed in absurd cc
+ended-topped R v r x (Some e) sound a owed caller names = topped-is R v r e.topped sound a names
 
 -- the top of a chain in the table is that of the chain
 pub top-is : (R : Log) (v : Owing) (s : ObjId) (top : Option ObjId) → Sound R → RepliesAgree v R → top ≡ head_of (chain_in v s) → top ≡ head_of (chain_of R s)

@@ -1,15 +1,46 @@
 //! Debts of reply objects, from a call to its answer or its end.
-ghost use Rattle.std.specs.Prelude.{◌≡◌, ◌<◌, length};
+ghost use Rattle.std.specs.Prelude.{◌≡◌, ◌<◌, true, IsSome, option_and_then, length};
+ghost use Rattle.mcs_types.specs.declared.record.Mail.{Mail};
 ghost use Rattle.mcs_types.specs.declared.record.Rec.{Rec};
 ghost use Rattle.mcs_book.specs.Chains.{topped_by};
 ghost use Rattle.mcs_book.specs.Sound.{Allowed};
+ghost use Rattle.mcs_replies.specs.Owing.{may_owe};
+ghost use Rattle.mcs_threads.specs.Tables.{row_of};
+ghost use Rattle.mcs_state.specs.Following.{AddsDebt, MailsFreed};
 ghost use Rattle.mcs_state.specs.Now.{so_far, adds};
 ghost use Rattle.mcs_state.specs.Tables.{HAND};
 
 use super::{State, note};
-use mcs_threads::Block;
+use mcs_replies::{Ended, Replies};
+use mcs_threads::{Block, Threads};
 use mcs_types::{Badge, Ending, Mail, Message, ObjId, Rec};
 use mcs_waiting::Waiting;
+
+/// A reply object that may owe owes this caller from now on.
+fn owe(replies: &mut Replies, reply: ObjId, caller: ObjId, brought: Option<ObjId>)
+    requires { may_owe replies.old reply ≡ true }
+    ensures { AddsDebt reply caller brought replies.old replies.new }
+{
+    let is_owed = replies.owe(reply, caller, brought);
+    prove!(is_owed);
+}
+
+/// The context whose chain the reply object of a debt topped, if the debt was there and it topped one.
+fn topped(ended: Option<Ended>) -> Option<ObjId>
+    ensures { result ≡ option_and_then (λ e. e.topped) ended }
+{
+    ended?.topped
+}
+
+/// A thread that is there gets an answer, with badge 0 (own), and is blocked no more.
+fn answers(threads: &mut Threads, caller: ObjId, message: Message)
+    requires { IsSome (row_of threads.old caller) }
+    ensures { MailsFreed caller (Mail.Message (record { 0 = 0 }) message) threads.old threads.new }
+{
+    let badge = Badge(0);
+    threads.set_mail(caller, Mail::Message { badge, message });
+    threads.unblock(caller);
+}
 
 impl<W: Waiting> State<W> {
     /// A reply object owes a caller an answer; the context is the one that the caller brought along (manual: Message Passing).
@@ -27,8 +58,7 @@ impl<W: Waiting> State<W> {
             },
         );
         self.threads.block(caller, Block::OnReply { reply });
-        let is_owed = self.replies.owe(reply, caller, brought);
-        prove!(is_owed);
+        owe(&mut self.replies, reply, caller, brought);
     }
 
     /// The caller that a reply object owes is answered. The answer is the context whose chain the reply object topped before, if
@@ -39,10 +69,7 @@ impl<W: Waiting> State<W> {
         ensures paid { self.new ≡ adds (Rec.Paid reply caller message) self.old }
         ensures topped { result ≡ topped_by (so_far self.old) reply }
     {
-        let mail = Mail::Message {
-            badge: Badge(0),
-            message: message.copy(),
-        };
+        let answer = message.copy();
         note(
             &mut self.hand,
             Rec::Paid {
@@ -51,12 +78,8 @@ impl<W: Waiting> State<W> {
                 message,
             },
         );
-        self.threads.set_mail(caller, mail);
-        self.threads.unblock(caller);
-        match self.replies.pay(reply) {
-            None => unreachable!(),
-            Some(ended) => ended.topped,
-        }
+        answers(&mut self.threads, caller, answer);
+        topped(self.replies.pay(reply))
     }
 
     /// The debt of a reply object becomes void. The answer is as that of `paid` (manual: Message Passing; chains are own).
@@ -75,9 +98,6 @@ impl<W: Waiting> State<W> {
             },
         );
         self.threads.unblock(caller);
-        match self.replies.void(reply, how) {
-            None => unreachable!(),
-            Some(ended) => ended.topped,
-        }
+        topped(self.replies.void(reply, how))
     }
 }
