@@ -1,5 +1,5 @@
 -- Messages that are taken: what is recorded, and what holds between.
-use Rattle.std.specs.Prelude.{ℕ, ◌≡◌, ◌≢◌, Bool, true, false, [], ◌∷◌, Option, Some, None, IsTrue}
+use Rattle.std.specs.Prelude.{ℕ, ◌≡◌, ◌≢◌, Bool, true, List, [], ◌∷◌, Option, Some, None, IsTrue}
 use Rattle.std.specs.Option.{IfSome}
 use Rattle.std.proofs.Common.{refl, ap, sym, ◌∙◌, subst}
 use Rattle.mcs_types.specs.declared.id.ObjId.{ObjId}
@@ -7,6 +7,7 @@ use Rattle.mcs_types.specs.declared.id.Kind.TheVariants as kind
 use Rattle.mcs_types.specs.declared.record.Letter.{Letter}
 use Rattle.mcs_types.specs.declared.record.Mode.TheVariants.{Running}
 use Rattle.mcs_types.specs.declared.record.Queue.TheVariants.{Senders, Receivers}
+use Rattle.mcs_types.specs.declared.record.Rec.{Rec}
 use Rattle.mcs_types.specs.declared.record.Rec.TheVariants as rec
 use Rattle.mcs_types.specs.declared.record.SendMode.{SendMode}
 use Rattle.mcs_book.specs.Logs.{Log, onto}
@@ -26,7 +27,7 @@ use Rattle.mcs_book.proofs.Firm.Cancel.{parted-idle}
 use Rattle.mcs_book.proofs.Firm.Taking.{settle-ready}
 use Rattle.mcs_state.specs.Now.{IsNumberOf}
 use Rattle.mcs_ipc.specs.Ready.{IsReady, IsSettling, IsCalling}
-use Rattle.mcs_ipc.specs.Rows.{resumes, handed_to, taken_by}
+use Rattle.mcs_ipc.specs.Rows.{lent_of, lent, resumes, handed_to, taken_by}
 use Rattle.mcs_ipc.specs.declared.taking.Delivery.{Delivery}
 
 -- a message of this number is open
@@ -37,36 +38,40 @@ numbered-open R x n h = go (open_of R x) refl h
     go (Some s) is e = subst (λ m. IsTrue (is_open R m)) e ((open_of-open R x s is).1)
     go None is e = absurd e
 
--- a receiver that holds a context is lent none
-pub owe-keeps : (R : Log) (r x p s : ObjId) → context_of R p ≡ Some s → owe r x p R ≡ rec.Owes r x None ∷ []
+-- a context that is lent, if there is one, is held by the receiver
+abbrev pub given_to : ObjId → Option ObjId → List Rec
+given_to p None = []
+given_to p (Some s) = rec.Holds s (Some p) ∷ []
+
+-- what a debt records
+pub owe-is : (R : Log) (r x p : ObjId) (context : Option ObjId) → context ≡ lent R x p → owe r x p R ≡ rec.Owes r x context ∷ given_to p context
 unfolding owe
-owe-keeps R r x p s holds = rw holds (go (context_of R x))
+owe-is R r x p context is = go (context_of R p) (context_of R x) ∙ ap (λ o. rec.Owes r x o ∷ given_to p o) (sym is)
   where
-    go : (d : Option ObjId) → debt r x p (Some s) d ≡ rec.Owes r x None ∷ []
-    go None = refl
-    go (Some c) = refl
+    go : (c d : Option ObjId) → debt r x p c d ≡ rec.Owes r x (lent_of c d) ∷ given_to p (lent_of c d)
+    go None None = refl
+    go None (Some s) = refl
+    go (Some s) None = refl
+    go (Some s) (Some c) = refl
 
--- nor is one whose caller holds none
-pub owe-lacks : (R : Log) (r x p : ObjId) → context_of R p ≡ None → context_of R x ≡ None → owe r x p R ≡ rec.Owes r x None ∷ []
-unfolding owe
-owe-lacks R r x p none lacks = rw (none, lacks) refl
-
--- any other is lent the caller's
-pub owe-lends : (R : Log) (r x p s : ObjId) → context_of R p ≡ None → context_of R x ≡ Some s → owe r x p R ≡ rec.Owes r x (Some s) ∷ rec.Holds s (Some p) ∷ []
-unfolding owe
-owe-lends R r x p s none holds = rw (none, holds) refl
+-- a context that is lent is the caller's, and the receiver holds none
+lent-is : (R : Log) (x p s : ObjId) → Some s ≡ lent R x p → (context_of R p ≡ None) × (context_of R x ≡ Some s)
+lent-is R x p s is = go (context_of R p) (context_of R x) is
+  where
+    go : (c d : Option ObjId) → Some s ≡ lent_of c d → (c ≡ None) × (d ≡ Some s)
+    go None d h = (refl, sym h)
+    go (Some c) d h = absurd cc
 
 -- the debt is allowed
-pub may-owe : (R : Log) (r x p : ObjId) → IsCalling R r x p → Allowed R (rec.Owes r x None)
-may-owe R r x p c = (c.reply, c.free, c.caller, c.idle, tt)
-
--- also with the context of the caller
-pub may-lend : (R : Log) (r x p s : ObjId) → IsCalling R r x p → context_of R x ≡ Some s → Allowed R (rec.Owes r x (Some s))
-may-lend R r x p s c holds = (c.reply, c.free, c.caller, c.idle, context_of-holder R x s holds)
+pub may-owe : (R : Log) (r x p : ObjId) (context : Option ObjId) → IsCalling R r x p → context ≡ lent R x p → Allowed R (rec.Owes r x context)
+may-owe R r x p None c is = (c.reply, c.free, c.caller, c.idle, tt)
+may-owe R r x p (Some s) c is = (c.reply, c.free, c.caller, c.idle, context_of-holder R x s ((lent-is R x p s is).1))
 
 -- and the context may then be given
-pub may-give : (R : Log) (r x p s : ObjId) → IsCalling R r x p → Sound R → context_of R p ≡ None → context_of R x ≡ Some s → Allowed (rec.Owes r x (Some s) ∷ R) (rec.Holds s (Some p))
-may-give R r x p s c sound none holds = ((held-there R s x sound (context_of-holder R x s holds)).0, c.receiver, context-none R p sound none)
+pub may-give : (R : Log) (r x p s : ObjId) (context : Option ObjId) → IsCalling R r x p → Sound R → context ≡ lent R x p → context ≡ Some s → Allowed (rec.Owes r x context ∷ R) (rec.Holds s (Some p))
+may-give R r x p s context c sound is some =
+    let own = lent-is R x p s (sym some ∙ is) in
+    ((held-there R s x sound (context_of-holder R x s own.1)).0, c.receiver, context-none R p sound own.0)
 
 -- a call that is settled with a reply object
 pub settles-call : (R : Log) (x p r : ObjId) → IsSettling R x p (Some r) → IsCalling R r x p

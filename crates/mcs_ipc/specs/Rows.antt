@@ -20,6 +20,7 @@ use Rattle.mcs_types.specs.declared.record.Mode.TheVariants.{Running}
 use Rattle.mcs_types.specs.declared.record.Queue.TheVariants.{Senders, Receivers}
 use Rattle.mcs_types.specs.declared.record.Rec.TheVariants.{Took, Parts, Turns, Joins}
 use Rattle.mcs_book.specs.Pieces.{Piece, Act, ◌then◌, say, nothing, answers, before}
+use Rattle.mcs_book.specs.Contexts.{context_of}
 use Rattle.mcs_book.specs.Queues.{reply_with}
 use Rattle.mcs_book.specs.Taking.{settle, pay}
 use Rattle.mcs_book.specs.Sending.{letter_over, sends, queues}
@@ -116,6 +117,15 @@ receive_act blocks t at = receive_on t at.endpoint at.reply blocks
 -- t pays its reply object, and then receives with it
 abbrev pub reply_receive_act : Content → ObjId → Receiving → Act
 reply_receive_act message t at = before (pay_any at.reply message) (receive_act true t at)
+
+-- what a caller lends, of what the receiver and it hold: its own, where the receiver holds none
+abbrev pub lent_of : Option ObjId → Option ObjId → Option ObjId
+lent_of (Some s) own = None
+lent_of None own = own
+
+-- the context that the caller x lends to the receiver p
+abbrev pub lent : Log → ObjId → ObjId → Option ObjId
+lent R x p = lent_of (context_of R p) (context_of R x)
 
 -- a sender who stood in a queue runs again after a plain send; one who did not stand there runs still
 abbrev pub resumes : Bool → ObjId → Piece

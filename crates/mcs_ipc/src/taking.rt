@@ -9,7 +9,7 @@ ghost use Rattle.mcs_book.specs.Taking.{owe as owed_by, settle as settled};
 ghost use Rattle.mcs_state.specs.Now.{so_far, IsNumberOf};
 ghost use Rattle.mcs_state.specs.Doing.{Makes, HasRoomFor};
 ghost use Rattle.mcs_ipc.specs.Ready.{IsReady, IsSettling, IsCalling};
-ghost use Rattle.mcs_ipc.specs.Rows.{resumes, handed_to, taken_by};
+ghost use Rattle.mcs_ipc.specs.Rows.{lent, resumes, handed_to, taken_by};
 
 use mcs_state::State;
 use mcs_types::{Mode, ObjId, Queue, SendMode};
@@ -24,6 +24,16 @@ pub struct Delivery {
     pub mode: SendMode,
 }
 
+/// The context that a caller brings along: its own, where the receiver holds none (own).
+fn context_to_lend<W: Waiting>(state: &State<W>, caller: ObjId, receiver: ObjId) -> Option<ObjId>
+    ensures { result ≡ lent (so_far state.now) caller receiver }
+{
+    match state.context(receiver) {
+        Some(_) => None,
+        None => state.context(caller),
+    }
+}
+
 /// A reply object owes a caller an answer, which the receiver is to give. A receiver that holds no context is lent the
 /// caller's (own).
 fn owe<W: Waiting>(state: &mut State<W>, reply: ObjId, caller: ObjId, receiver: ObjId)
@@ -32,15 +42,11 @@ fn owe<W: Waiting>(state: &mut State<W>, reply: ObjId, caller: ObjId, receiver: 
     ensures { Makes (owed_by reply caller receiver) state.old state.new }
 {
     state.is_sound();
-    match state.context(receiver) {
-        Some(_) => state.owes(reply, caller, None),
-        None => match state.context(caller) {
-            None => state.owes(reply, caller, None),
-            Some(context) => {
-                state.owes(reply, caller, Some(context));
-                state.holds(context, Some(receiver));
-            }
-        },
+    let context = context_to_lend(state, caller, receiver);
+    state.owes(reply, caller, context);
+    match context {
+        None => {}
+        Some(context) => state.holds(context, Some(receiver)),
     }
 }
 
