@@ -79,7 +79,7 @@ module _ (R S : Log) (r x : ObjId) (sound : Sound R) (sound' : Sound S) (owed : 
       (λ q h. ends q ∙ set-other q r None (owed_by R q) (λ is. let both : Some t ≡ Some x = sym h ∙ ap (λ z. owed_by R z) is ∙ owed in let it : t ≡ x = cc in same-never t x it other) ∙ h)
       (λ q h. (still-owed q t h).1)
 
--- who is found to be topped by r is
+-- r tops the chain of the context that is found
 topped-tops : (R : Log) (r s : ObjId) → topped_by R r ≡ Some s → is_just (head_of (chain_of R s)) r ≡ true
 unfolding topped_by
 topped-tops R r s h = find-passes (λ c. is_just (head_of (chain_of R c)) r) (contexts R) s h
