@@ -225,7 +225,7 @@ pub fn reply_receive<W: Waiting>(
 {
     state.is_sound();
     match objects_to_receive(state, thread, address, Some(reply)) {
-        Err(refusal) => Answer::Refused(refusal),
+        Err(refusal) => Answer::Refused(refusal), // Nobody is paid yet.
         Ok(at) => {
             wake(state, thread);
             pay_any(state, at.reply, message);
