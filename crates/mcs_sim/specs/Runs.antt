@@ -44,8 +44,8 @@ abbrev pub Writes : {W : Type 0} → (W → Option (List ℕ)) → (old new : Si
 Writes contents old new text = Appends (contents old.writer) (contents new.writer) text
 
 -- a beginning of this text was written to a sink
-abbrev pub WritesBeginning : {W : Type 0} → (W → Option (List ℕ)) → (old new : Sink W) → List ℕ → Type 0
-WritesBeginning contents old new text = Begins (contents old.writer) (contents new.writer) text
+abbrev pub WritesPart : {W : Type 0} → (W → Option (List ℕ)) → (old new : Sink W) → List ℕ → Type 0
+WritesPart contents old new text = Begins (contents old.writer) (contents new.writer) text
 
 -- the book is full at a step of this script
 abbrev pub IsFull : Option Boot → List Step → Type 0

@@ -2,7 +2,7 @@
 ghost use Rattle.std.specs.Prelude.{◌≡◌, ◌+◌, ◌^◌, ◌<◌, ◌≤◌, OnOk, OnErr, reverse, Err};
 ghost use Rattle.mcs_text.specs.Output.{Puts, Rose};
 ghost use Rattle.mcs_sim.specs.Trace.{sent_with, sent_after, boot_lines_trace, records_trace, line_trace, lines_trace, trace};
-ghost use Rattle.mcs_sim.specs.Runs.{Writes, WritesBeginning};
+ghost use Rattle.mcs_sim.specs.Runs.{Writes, WritesPart};
 
 use crate::fault::SimFault;
 use mcs_book::{Book, Line};
@@ -88,7 +88,7 @@ fn put_book<W: Write>(sink: &mut Sink<W>, book: &Book)
 /// is dropped first. Only the writer can fail it.
 pub fn trace<W: Write>(book: &Book, sink: &mut Sink<W>) -> Result<(), SimFault>
     ensures ok { OnOk result (Writes W.contents sink.old sink.new (trace book.now.book)) }
-    ensures err { OnErr result (WritesBeginning W.contents sink.old sink.new (trace book.now.book)) }
+    ensures err { OnErr result (WritesPart W.contents sink.old sink.new (trace book.now.book)) }
     ensures fault { OnErr result (result ≡ Err SimFault.Write) }
     ensures rose { OnErr result (Rose sink.old.failed sink.new.failed) }
     ensures count { sink.old.failed ≤ sink.new.failed }
