@@ -1,5 +1,5 @@
 -- Messages that are taken: what is recorded, and what holds between.
-use Rattle.std.specs.Prelude.{ℕ, ◌≡◌, ◌≢◌, Bool, true, List, [], ◌∷◌, Option, Some, None, IsTrue}
+use Rattle.std.specs.Prelude.{ℕ, ◌≡◌, ◌≢◌, true, List, [], ◌∷◌, Option, Some, None, IsTrue}
 use Rattle.std.specs.Option.{IfSome}
 use Rattle.std.proofs.Common.{refl, ap, sym, ◌∙◌, subst}
 use Rattle.mcs_types.specs.declared.id.ObjId.{ObjId}

@@ -29,8 +29,8 @@ use Rattle.mcs_book.specs.Taking.{handed}
 use Rattle.mcs_book.specs.Sending.{sends_to, sends, queues}
 use Rattle.mcs_book.specs.Served.{NoneBound}
 use Rattle.mcs_book.specs.Table.{wakes}
-use Rattle.mcs_book.specs.Sound.{Sound, Allowed, IsThere, IsIdle, HasNoneOpen}
-use Rattle.mcs_book.proofs.SoundLogs.KeptLaws.{standing-thread, standing-owed}
+use Rattle.mcs_book.specs.Sound.{Sound, Allowed, IsThere, HasNoneOpen}
+use Rattle.mcs_book.proofs.SoundLogs.KeptLaws.{standing-thread}
 use Rattle.mcs_book.proofs.Queues.QueueLaws.{first-stands}
 use Rattle.mcs_book.proofs.Messages.MessageLaws.{sent-open}
 use Rattle.mcs_book.proofs.Messages.OpenLaws.{sound-ends, open_of-growing}

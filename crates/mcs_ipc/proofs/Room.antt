@@ -1,9 +1,9 @@
 -- Room for the records of pieces, one after another.
-use Rattle.std.specs.Prelude.{◌≡◌, ◌<◌, length}
-use Rattle.std.proofs.Common.{subst, arith}
+use Rattle.std.specs.Prelude.{◌<◌, length}
+use Rattle.std.proofs.Common.{arith}
 use Rattle.mcs_types.specs.declared.record.Rec.{Rec}
 use Rattle.mcs_book.specs.Pieces.{Piece, ◌then◌, say}
-use Rattle.mcs_state.specs.Now.{Now, so_far, adds}
+use Rattle.mcs_state.specs.Now.{Now}
 use Rattle.mcs_state.specs.Doing.{Makes, HasRoomFor}
 use Rattle.mcs_state.specs.Tables.{HAND}
 use Rattle.mcs_state.proofs.Doing.{room-first, room-next}

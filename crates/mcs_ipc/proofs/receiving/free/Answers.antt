@@ -1,12 +1,10 @@
-use Rattle.std.proofs.Common.{◌≡◌, ◌∷◌, [], List, Some, None, sym, ap, subst, ◌∙◌, arith}
-use Rattle.mcs_types.specs.declared.record.Ending.TheVariants.{Cancelled}
+use Rattle.std.proofs.Common.{◌≡◌, List, Some, None, sym, ap, subst, ◌∙◌, arith}
 use Rattle.mcs_types.specs.declared.record.Rec.{Rec}
 use Rattle.mcs_types.specs.declared.record.Rec.TheVariants as rec
 use Rattle.mcs_types.specs.declared.record.Mode.TheVariants.{Inactive}
 use Rattle.mcs_types.specs.declared.record.Queue.TheVariants.{Receivers}
 use Rattle.mcs_book.specs.Logs.{Log}
 use Rattle.mcs_book.specs.Queues.{queue_of}
-use Rattle.mcs_book.specs.Receiving.{free}
 use Rattle.mcs_book.specs.Replies.{receiver_with}
 use Rattle.mcs_book.proofs.Firm.Cancel.{parted-idle}
 use Rattle.mcs_book.proofs.SoundLogs.KeptLaws.{standing-thread}

@@ -1,5 +1,5 @@
-use Rattle.std.proofs.Common.{sym, ap, ◌∙◌, subst}
-use Rattle.mcs_book.specs.Pieces.{Act, with_any, before}
+use Rattle.std.proofs.Common.{sym, subst}
+use Rattle.mcs_book.specs.Pieces.{Act, with_any}
 use Rattle.mcs_book.specs.Receiving.{free, receive_message}
 use Rattle.mcs_state.specs.Now.{so_far}
 use Rattle.mcs_state.specs.Doing.{Acts, FitsAct}

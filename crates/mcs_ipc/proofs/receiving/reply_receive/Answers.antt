@@ -1,6 +1,5 @@
 use Rattle.std.proofs.Common.{sym, ◌∙◌, subst, Some, true}
 use Rattle.mcs_types.specs.declared.entry.Entry.TheVariants.{ReplyRecv}
-use Rattle.mcs_book.specs.Pieces.{Act}
 use Rattle.mcs_book.specs.Receiving.{pay_any}
 use Rattle.mcs_book.specs.Table.{wakes}
 use Rattle.mcs_book.specs.Threads.{mode_of}

@@ -1,6 +1,5 @@
-use Rattle.std.proofs.Common.{◌≡◌, List, None, Some, sym, ap, subst, ◌∙◌, arith}
+use Rattle.std.proofs.Common.{List, sym, ap, subst, ◌∙◌, arith}
 use Rattle.mcs_types.specs.declared.record.Rec.{Rec}
-use Rattle.mcs_book.specs.Contexts.{context_of}
 use Rattle.mcs_book.specs.Taking.{give_back}
 use Rattle.mcs_book.proofs.Firm.Laws.{context-none}
 use Rattle.mcs_book.proofs.Threads.UserLaws.{if_some}

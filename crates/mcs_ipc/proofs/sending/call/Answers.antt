@@ -1,4 +1,4 @@
-use Rattle.std.proofs.Common.{sym, ap, ◌∙◌, subst, Ok, true}
+use Rattle.std.proofs.Common.{sym, ◌∙◌, subst, true}
 use Rattle.mcs_types.specs.declared.entry.Entry.TheVariants.{Call}
 use Rattle.mcs_book.specs.Table.{wakes}
 use Rattle.mcs_book.specs.Threads.{mode_of}

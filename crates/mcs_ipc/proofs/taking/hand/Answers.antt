@@ -1,15 +1,14 @@
-use Rattle.std.proofs.Common.{◌∷◌, List, sym, ap, subst, ◌∙◌}
+use Rattle.std.proofs.Common.{List, sym, ap, subst, ◌∙◌}
 use Rattle.mcs_types.specs.declared.record.Mode.TheVariants.{Running}
 use Rattle.mcs_types.specs.declared.record.Queue.TheVariants.{Receivers}
 use Rattle.mcs_types.specs.declared.record.Rec.{Rec}
 use Rattle.mcs_types.specs.declared.record.Rec.TheVariants as rec
 use Rattle.mcs_book.specs.Logs.{Log}
 use Rattle.mcs_book.specs.Pieces.{Piece, ◌then◌, nothing, say}
-use Rattle.mcs_book.specs.Sound.{Allowed}
 use Rattle.mcs_book.specs.Taking.{settle}
 use Rattle.mcs_book.proofs.SoundLogs.KeptLaws.{standing-thread}
 use Rattle.mcs_state.specs.Now.{so_far, adds_all}
-use Rattle.mcs_state.specs.Doing.{Makes, Holds, HasRoomFor}
+use Rattle.mcs_state.specs.Doing.{Holds}
 use Rattle.mcs_state.proofs.Doing.{so_far-made, makes-then, room-first, room-next}
 use Rattle.mcs_ipc.proofs.Room.{room-one, room-say, room-between}
 use Rattle.mcs_ipc.proofs.Deliveries.{numbered-open, hand-is, hand-settles, hand-runs}

@@ -1,4 +1,4 @@
-use Rattle.std.proofs.Common.{true, ◌∷◌, List, sym, ap, subst, ◌∙◌}
+use Rattle.std.proofs.Common.{true, List, sym, ap, subst, ◌∙◌}
 use Rattle.mcs_types.specs.declared.record.Queue.TheVariants.{Senders}
 use Rattle.mcs_types.specs.declared.record.Rec.{Rec}
 use Rattle.mcs_types.specs.declared.record.Rec.TheVariants as rec
