@@ -11,7 +11,7 @@ use Rattle.mcs_types.specs.declared.record.Form.TheVariants.{Plain, Slots, OnCor
 use Rattle.mcs_types.specs.declared.boot.BootLine.{BootLine}
 use Rattle.mcs_types.specs.declared.boot.BootLine.TheVariants as boot
 use Rattle.mcs_types.specs.declared.record.Rec.{Rec}
-use Rattle.mcs_types.specs.declared.record.Rec.TheVariants.{Made, Prio, Turns, Holds, Slot}
+use Rattle.mcs_types.specs.declared.record.Rec.TheVariants.{Made, Prio, Turns, Holds, Slot, Tied}
 use Rattle.mcs_types.specs.declared.boot.BootFault.{BootFault}
 use Rattle.mcs_types.specs.declared.boot.BootFault.TheVariants.{Number, NoObject, Limit, Taken}
 use Rattle.mcs_types.specs.Ids.{same_kind}
@@ -19,6 +19,7 @@ use Rattle.mcs_book.specs.Logs.{Log, onto}
 use Rattle.mcs_book.specs.Objects.{was_made, form_of, number_of, next_id}
 use Rattle.mcs_book.specs.Slots.{slot}
 use Rattle.mcs_book.specs.Contexts.{holder_of}
+use Rattle.mcs_book.specs.Notifications.{bound_of, tied_to}
 use Rattle.mcs_book.specs.Checks.{Passed, ◌>>◌, need}
 use Rattle.mcs_book.specs.Lookup.{radix_kept}
 use Rattle.mcs_types.specs.Limits.{object_limit, cnode_limit, core_limit}
@@ -53,6 +54,7 @@ boot_line R (boot.Thread priority maximum root guard runs context) =
     let t = next_id R kind.Thread in
     Made t (Runner maximum (root_cap root guard)) ∷ Prio t priority ∷ Turns t (begins runs) ∷ begins_with context t
 boot_line R (boot.Slot c i cap) = Slot c i (Some cap) ∷ []
+boot_line R (boot.Tie t n) = Tied t (Some n) ∷ []
 
 -- the log after the lines of a boot
 unfoldable pub boot_log : List BootLine → Log
@@ -103,6 +105,7 @@ is_context_any R (Some s) = is_object R kind.Context s
 abbrev pub has_objects : Log → BootLine → Bool
 has_objects R (boot.Thread priority maximum root guard runs context) = is_object R kind.CNode root && is_context_any R context
 has_objects R (boot.Slot c i cap) = is_object R kind.CNode c && was_made R cap.obj
+has_objects R (boot.Tie t n) = is_object R kind.Thread t && is_object R kind.Notification n
 has_objects R _ = true
 
 -- whether there is room for the object that a line makes
@@ -124,6 +127,7 @@ is_free_any R (Some s) = is_none (holder_of R s)
 abbrev pub is_free : Log → BootLine → Bool
 is_free R (boot.Thread priority maximum root guard runs context) = is_free_any R context
 is_free R (boot.Slot c i cap) = is_none (slot R c i)
+is_free R (boot.Tie t n) = is_none (bound_of R t) && is_none (tied_to R n)
 is_free R _ = true
 
 -- what is wrong with a line after the log of the lines before it

@@ -14,7 +14,6 @@ pub mod Checks
 pub mod Rights
 pub mod Lookup
 pub mod Paths
-pub mod Served
 pub mod Pieces
 pub mod Taking
 pub mod Signalling

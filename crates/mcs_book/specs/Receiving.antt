@@ -18,7 +18,6 @@ use Rattle.mcs_book.specs.Messages.{open_of}
 use Rattle.mcs_book.specs.Queues.{first_in}
 use Rattle.mcs_book.specs.Replies.{user_of}
 use Rattle.mcs_book.specs.Notifications.{bound_of, tied_to, pending}
-use Rattle.mcs_book.specs.Served.{serves_kind}
 use Rattle.mcs_book.specs.Checks.{Checked, ◌>>=◌, ◌>>◌, Passed, need}
 use Rattle.mcs_book.specs.Rights.{may_read, can_badge}
 use Rattle.mcs_book.specs.Lookup.{of_kind}
@@ -92,9 +91,7 @@ receive_by _ R t cap reply blocking = Err WrongKind
 
 -- a receive over a capability
 unfoldable pub receive_over : Log → ObjId → Cap → Checked (Option ObjId) → Bool → Checked Act
-receive_over R t cap reply blocking = do
-  need (serves_kind cap.obj.kind) WrongKind
-  receive_by cap.obj.kind R t cap reply blocking
+receive_over R t cap reply blocking = receive_by cap.obj.kind R t cap reply blocking
 
 -- the reply object at an address
 unfoldable pub reply_at : Log → ObjId → ℕ → Checked (Option ObjId)
@@ -109,7 +106,7 @@ pay_any r message = with_any r (λ r. pay r message)
 -- pays, and then receives with the same reply object: all checks come first
 unfoldable pub reply_receive : Log → ObjId → Cap → ℕ → Content → Checked Act
 reply_receive R t cap address message = do
-  need (can_badge cap && serves_kind cap.obj.kind) WrongKind
+  need (can_badge cap) WrongKind
   need (may_read cap) NoRight
   r ← reply_at R t address
   receive ← receive_over R t cap (Ok r) true

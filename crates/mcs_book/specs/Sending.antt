@@ -16,7 +16,6 @@ use Rattle.mcs_book.specs.Logs.{Log}
 use Rattle.mcs_types.specs.declared.record.Letter.{Letter}
 use Rattle.mcs_book.specs.Messages.{next_message}
 use Rattle.mcs_book.specs.Queues.{first_in}
-use Rattle.mcs_book.specs.Served.{serves_kind}
 use Rattle.mcs_book.specs.Checks.{Checked, ◌>>◌, need}
 use Rattle.mcs_book.specs.Rights.{may_write}
 use Rattle.mcs_book.specs.Pieces.{Piece, ◌then◌, say, Act, answers}
@@ -57,6 +56,4 @@ send_by _ t cap message alone = Err WrongKind
 
 -- a send over a capability
 unfoldable pub send_over : ObjId → Cap → Content → Act → Checked Act
-send_over t cap message alone = do
-  need (serves_kind cap.obj.kind) WrongKind
-  send_by cap.obj.kind t cap message alone
+send_over t cap message alone = send_by cap.obj.kind t cap message alone

@@ -4,10 +4,11 @@ use Rattle.mcs_types.specs.declared.id.ObjId.{ObjId}
 use Rattle.mcs_types.specs.declared.cap.Cap.{Cap}
 use Rattle.mcs_types.specs.declared.id.Kind.TheVariants as kind
 use Rattle.mcs_types.specs.declared.record.Mode.TheVariants.{Running, Inactive}
-use Rattle.mcs_types.specs.declared.record.Queue.TheVariants.{Senders}
+use Rattle.mcs_types.specs.declared.record.Queue.TheVariants.{Senders, Waiters}
 use Rattle.mcs_book.specs.Logs.{Log}
 use Rattle.mcs_book.specs.Threads.{mode_of, root_of}
 use Rattle.mcs_book.specs.Queues.{queue_of}
+use Rattle.mcs_book.specs.Notifications.{bound_of}
 use Rattle.mcs_book.specs.Fair.{IsOpenOf}
 use Rattle.mcs_book.specs.Sound.{IsThere, IsIdle}
 
@@ -27,3 +28,7 @@ pub record IsActing (R : Log) (t : ObjId) : Type 0 where
 -- who has an open message stands among the senders of its endpoint
 abbrev pub OpenStand : Log → Type 0
 OpenStand R = (x e : ObjId) (m : ℕ) → IsOpenOf R x e m → queue_of R x ≡ Some (Senders e)
+
+-- only the thread that is bound to a notification waits on it
+abbrev pub OnlyBoundWait : Log → Type 0
+OnlyBoundWait R = (w n u : ObjId) → queue_of R w ≡ Some (Waiters n) → bound_of R u ≡ Some n → u ≡ w

@@ -83,6 +83,7 @@ boot_line-below n R boot.Endpoint ok h = (λ c is. absurd cc, h)
 boot_line-below n R boot.Notification ok h = (λ c is. absurd cc, h)
 boot_line-below n R boot.Reply ok h = (λ c is. absurd cc, h)
 boot_line-below n R (boot.Slot c i held) ok h = (tt, h)
+boot_line-below n R (boot.Tie t o) ok h = (tt, h)
 
 -- so does a boot
 boot-below : (n : ℕ) (lines : List BootLine) → AreFaultless n lines → Each (MadeBelow n) (boot_log lines)

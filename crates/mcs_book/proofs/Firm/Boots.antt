@@ -1,5 +1,5 @@
 -- The log of a boot without fault is firm.
-use Rattle.std.specs.Prelude.{ℕ, ◌<◌, ◌≤◌, ◌^◌, Bool, true, false, cond, not, ◌&&◌, ◌==◌, nat_lt, nat_le, ◌≡◌, List, [], ◌∷◌, Option, Some, None, Result, is_ok, refl}
+use Rattle.std.specs.Prelude.{ℕ, ◌<◌, ◌≤◌, ◌^◌, Bool, true, false, cond, not, ◌&&◌, ◌==◌, nat_lt, nat_le, is_none, ◌≡◌, List, [], ◌∷◌, Option, Some, None, Result, is_ok, refl}
 use Rattle.std.proofs.Common.{sym, ◌∙◌, ap, arith}
 use Rattle.std.proofs.lemmas.Bool.{eqb-true}
 use Rattle.mcs_types.specs.declared.id.ObjId.{ObjId}
@@ -9,23 +9,25 @@ use Rattle.mcs_types.specs.declared.cap.Cap.{Cap}
 use Rattle.mcs_types.specs.declared.record.Form.{Form}
 use Rattle.mcs_types.specs.declared.record.Form.TheVariants as form
 use Rattle.mcs_types.specs.declared.record.Rec.TheVariants as rec
+use Rattle.mcs_types.specs.declared.record.Queue.TheVariants.{Waiters}
 use Rattle.mcs_types.specs.declared.boot.BootLine.{BootLine}
 use Rattle.mcs_types.specs.declared.boot.BootLine.TheVariants as boot
 use Rattle.mcs_types.specs.Ids.{same_kind}
 use Rattle.mcs_book.specs.Logs.{Log, onto}
 use Rattle.mcs_book.specs.Objects.{was_made, was_closed, is_alive, form_of, next_id}
 use Rattle.mcs_book.specs.Queues.{queue_of}
+use Rattle.mcs_book.specs.Notifications.{bound_of, tied_to}
 use Rattle.mcs_book.specs.Replies.{owed_by}
 use Rattle.mcs_book.specs.Checks.{Passed, ◌>>◌, need}
 use Rattle.mcs_book.specs.Lookup.{radix_kept}
 use Rattle.mcs_types.specs.Limits.{core_limit}
-use Rattle.mcs_book.specs.Boots.{boot_line, boot_log, begins, begins_with, root_cap, is_object, fits_kind, fits_guard, has_no_rights, has_numbers, has_objects, is_context_any, boot_check, AreFaultless}
+use Rattle.mcs_book.specs.Boots.{boot_line, boot_log, begins, begins_with, root_cap, is_object, fits_kind, fits_guard, has_no_rights, has_numbers, has_objects, is_context_any, has_room, is_free, boot_check, AreFaultless}
 use Rattle.mcs_book.specs.Sound.{IsThere, IsFormOf, HoldsNone}
 use Rattle.mcs_types.proofs.Ids.{same_kind-equal, parts, both}
 use Rattle.mcs_book.proofs.Objects.MadeLaws.{alive-made}
 use Rattle.mcs_book.proofs.Queues.QueueLaws.{below}
 use Rattle.mcs_book.proofs.SoundLogs.KeptLaws.{there-next, held-there}
-use Rattle.mcs_book.proofs.Firm.Laws.{Firm, Also, firm-sound}
+use Rattle.mcs_book.proofs.Firm.Laws.{Firm, Also, firm-sound, tied-none, none-is}
 use Rattle.mcs_book.proofs.Objects.CountLaws.{next-unmade, made-there}
 
 -- a firm log in which nobody stands in its queue or is owed, and nothing was closed
@@ -48,6 +50,12 @@ need-ok : {E : Type 0} (b : Bool) (why : E) (next : Result Passed E) → is_ok (
 unfolding ◌>>◌ need
 need-ok true why next h = (refl, h)
 need-ok false why next h = absurd cc
+
+-- the last check
+last-ok : {E : Type 0} (b : Bool) (why : E) → is_ok (need b why) ≡ true → b ≡ true
+unfolding need
+last-ok true why h = refl
+last-ok false why h = absurd cc
 
 -- an object is made
 quiet-made : (R : Log) (k : Kind) (f : Form) → IsFormOf k f → Also R (rec.Made (next_id R k) f) → Quiet R → Quiet (rec.Made (next_id R k) f ∷ R)
@@ -113,15 +121,33 @@ quiet-thread R cores priority maximum root guard runs context numbers objects h 
       unclosed = h.unclosed;
     }
 
+-- a line that binds a notification to a thread
+quiet-tie : (R : Log) (t n : ObjId) → has_objects R (boot.Tie t n) ≡ true → is_free R (boot.Tie t n) ≡ true → Quiet R → Quiet (onto (boot_line R (boot.Tie t n)) R)
+quiet-tie R t n objects free h =
+    let (thread, notification) = parts (is_object R kind.Thread t) (is_object R kind.Notification n) objects in
+    let (unbound, untied) = parts (is_none (bound_of R t)) (is_none (tied_to R n)) free in
+    record {
+      firm = (
+        (
+          (object-there R kind.Thread t h thread, object-there R kind.Notification n h notification, none-is (bound_of R t) unbound, λ u b. tied-none R n (firm-sound R h.firm) (none-is (tied_to R n) untied) u b),
+          λ x at. let no : None ≡ Some (Waiters n) = sym (h.stands x) ∙ at in absurd cc,
+        ),
+        h.firm,
+      );
+      stands = h.stands;
+      owes = h.owes;
+      unclosed = h.unclosed;
+    }
+
 -- each line without fault
-quiet-line : (R : Log) (cores : ℕ) (line : BootLine) → cores ≤ core_limit → has_numbers cores R line ≡ true → has_objects R line ≡ true → Quiet R → Quiet (onto (boot_line R line) R)
-quiet-line R cores (boot.CNode radix) few numbers objects h = quiet-made R kind.CNode (form.Slots radix) (radix-small radix ((parts (nat_le 1 radix) (nat_le radix 8) numbers).1)) tt h
-quiet-line R cores boot.Endpoint few numbers objects h = quiet-made R kind.Endpoint form.Plain tt tt h
-quiet-line R cores boot.Notification few numbers objects h = quiet-made R kind.Notification form.Plain tt tt h
-quiet-line R cores boot.Reply few numbers objects h = quiet-made R kind.Reply form.Plain tt tt h
-quiet-line R cores (boot.Context core) few numbers objects h = let lt : core.0 < cores = below core.0 cores numbers in quiet-made R kind.Context (form.OnCore core) (omega (arith, lt, few)) tt h
-quiet-line R cores (boot.Thread priority maximum root guard runs context) few numbers objects h = quiet-thread R cores priority maximum root guard runs context numbers objects h
-quiet-line R cores (boot.Slot c i cap) few numbers objects h =
+quiet-line : (R : Log) (cores : ℕ) (line : BootLine) → cores ≤ core_limit → has_numbers cores R line ≡ true → has_objects R line ≡ true → is_free R line ≡ true → Quiet R → Quiet (onto (boot_line R line) R)
+quiet-line R cores (boot.CNode radix) few numbers objects free h = quiet-made R kind.CNode (form.Slots radix) (radix-small radix ((parts (nat_le 1 radix) (nat_le radix 8) numbers).1)) tt h
+quiet-line R cores boot.Endpoint few numbers objects free h = quiet-made R kind.Endpoint form.Plain tt tt h
+quiet-line R cores boot.Notification few numbers objects free h = quiet-made R kind.Notification form.Plain tt tt h
+quiet-line R cores boot.Reply few numbers objects free h = quiet-made R kind.Reply form.Plain tt tt h
+quiet-line R cores (boot.Context core) few numbers objects free h = let lt : core.0 < cores = below core.0 cores numbers in quiet-made R kind.Context (form.OnCore core) (omega (arith, lt, few)) tt h
+quiet-line R cores (boot.Thread priority maximum root guard runs context) few numbers objects free h = quiet-thread R cores priority maximum root guard runs context numbers objects h
+quiet-line R cores (boot.Slot c i cap) few numbers objects free h =
     let (fits, small) = parts _ _ numbers in
     let (cnode, object) = parts _ _ objects in
     let inside : nat_lt i (2 ^ radix_kept (form_of R c)) ≡ true = sym (ap (λ b. cond b (nat_lt i (2 ^ radix_kept (form_of R c))) true) cnode) ∙ fits in
@@ -131,6 +157,7 @@ quiet-line R cores (boot.Slot c i cap) few numbers objects h =
       owes = h.owes;
       unclosed = h.unclosed;
     }
+quiet-line R cores (boot.Tie t n) few numbers objects free h = quiet-tie R t n objects free h
 
 -- the log of lines without fault is quiet
 quiet-boot : (cores : ℕ) (lines : List BootLine) → cores ≤ core_limit → AreFaultless cores lines → Quiet (boot_log lines)
@@ -140,7 +167,8 @@ quiet-boot cores (line ∷ lines) few h =
     let R : Log = boot_log lines in
     let numbers : (has_numbers cores R line ≡ true) × _ = need-ok (has_numbers cores R line) _ _ h.0 in
     let objects : (has_objects R line ≡ true) × _ = need-ok (has_objects R line) _ _ numbers.1 in
-    quiet-line R cores line few numbers.0 objects.0 (quiet-boot cores lines few h.1)
+    let room : (has_room R line ≡ true) × _ = need-ok (has_room R line) _ _ objects.1 in
+    quiet-line R cores line few numbers.0 objects.0 (last-ok (is_free R line) _ room.1) (quiet-boot cores lines few h.1)
 
 -- and so firm
 pub firm-boot : (cores : ℕ) (lines : List BootLine) → cores ≤ core_limit → AreFaultless cores lines → Firm (boot_log lines)

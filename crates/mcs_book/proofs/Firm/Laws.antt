@@ -1,5 +1,5 @@
 -- Firm logs: each record was allowed, and some more held, which the records of legal books keep. What follows of those.
-use Rattle.std.specs.Prelude.{ℕ, ◌<◌, ◌^◌, Bool, true, false, cond, not, ◌&&◌, ◌||◌, ◌==◌, ◌≡◌, List, [], ◌∷◌, Option, Some, None, refl, find, is_some, option_and_then}
+use Rattle.std.specs.Prelude.{ℕ, ◌<◌, ◌^◌, Bool, true, false, cond, not, ◌&&◌, ◌||◌, ◌==◌, ◌≡◌, List, [], ◌∷◌, Option, Some, None, refl, find, is_none, is_some, option_and_then}
 use Rattle.std.specs.List.{list_any}
 use Rattle.std.proofs.Common.{sym, ◌∙◌, ap, inl, inr, arith, subst}
 use Rattle.std.proofs.lemmas.Bool.{eqb-true}
@@ -124,6 +124,11 @@ waiter-bound (rec.Tied v (Some m) ∷ R) w n u firm h b = elim (set-split u v (S
   | inr (other, is) ↦ waiter-bound R w n u firm.1 h is
 ]
 waiter-bound (_ ∷ R) w n u firm h b = waiter-bound R w n u firm.1 h b
+
+-- no value, by the test
+pub none-is : {A : Type 0} (o : Option A) → is_none o ≡ true → o ≡ None
+none-is None h = refl
+none-is (Some x) h = absurd cc
 
 -- nothing is found, so nothing that is in the list passes
 find-misses : (p : ObjId → Bool) (xs : List ObjId) (y : ObjId) → In y xs → p y ≡ true → find p xs ≡ None → ⊥

@@ -36,7 +36,7 @@ use Rattle.mcs_types.proofs.Ids.{same-equal}
 use Rattle.mcs_book.proofs.Books.Checking.{OnPassed, passed-ok, passed-err, passed-after, passed-next}
 use Rattle.mcs_book.proofs.SoundLogs.Keeping.{then-next}
 use Rattle.mcs_book.proofs.SoundLogs.KeptLaws.{set-other, there-next, bound-one, slot-alive}
-use Rattle.mcs_book.proofs.Firm.Laws.{Firm, Strict, Also, firm-sound, tied-bound, tied-none}
+use Rattle.mcs_book.proofs.Firm.Laws.{Firm, Strict, Also, firm-sound, tied-bound, tied-none, none-is}
 use Rattle.mcs_book.proofs.Objects.CountLaws.{count-none, last-one, made-there}
 use Rattle.mcs_book.proofs.Firm.Ends.{firm-pay, outlasts-pay, firm-destroy}
 use Rattle.mcs_book.proofs.Firm.Taking.{firm-signal}
@@ -59,11 +59,6 @@ pub woken : (S : Log) (t : ObjId) (mode : Mode) → Woken S (onto (wakes mode t 
 woken S t Restart = record { since = record { alive = λ o h. h; bound = λ x. refl }; forms = λ o. refl; slots = λ c i. refl; counts = λ o. refl; stands = λ x. refl; holders = λ s. refl; next = λ k. refl }
 woken S t Running = record { since = record { alive = λ o h. h; bound = λ x. refl }; forms = λ o. refl; slots = λ c i. refl; counts = λ o. refl; stands = λ x. refl; holders = λ s. refl; next = λ k. refl }
 woken S t Inactive = record { since = record { alive = λ o h. h; bound = λ x. refl }; forms = λ o. refl; slots = λ c i. refl; counts = λ o. refl; stands = λ x. refl; holders = λ s. refl; next = λ k. refl }
-
--- no value, by the test
-pub none-is : {A : Type 0} (o : Option A) → is_none o ≡ true → o ≡ None
-none-is None h = refl
-none-is (Some x) h = absurd cc
 
 -- the first capability to an object that is made
 abbrev new_cap : ObjId → ℕ → Cap
@@ -146,7 +141,7 @@ module _ (t : ObjId) (S : Log) (firm : Firm S) where
   -- a receive over a capability
   firm-receive_over : (cap : Cap) (reply : Checked (Option ObjId)) (blocking : Bool) → IsHeld S cap → OnPassed IsKnown reply → OnPassed KeepsLater (receive_over S t cap reply blocking)
   unfolding receive_over
-  firm-receive_over cap reply blocking held known = passed-next _ _ _ (firm-receive_by cap.obj.kind cap reply blocking refl held known)
+  firm-receive_over cap reply blocking held known = firm-receive_by cap.obj.kind cap reply blocking refl held known
 
   -- a receive keeps the log firm at once too
   pub firm-receive : (reply : Checked (Option ObjId)) (blocking : Bool) (cap : Cap) → IsHeld S cap → OnPassed IsKnown reply → OnPassed KeepsFirm (receive_over S t cap reply blocking)

@@ -51,13 +51,13 @@ use Rattle.mcs_book.proofs.SoundLogs.Keeping.{then-next}
 use Rattle.mcs_book.proofs.Threads.EntersLaws.{IsEntering, enters-ready}
 use Rattle.mcs_book.proofs.Messages.SendersOpen.{Idle, idle-steps, Rests}
 use Rattle.mcs_book.proofs.SoundLogs.KeptLaws.{set-self, standing-thread}
-use Rattle.mcs_book.proofs.Firm.Laws.{Firm, firm-sound, core-small, tied-none, context-none, owing-none}
+use Rattle.mcs_book.proofs.Firm.Laws.{Firm, firm-sound, core-small, tied-none, none-is, context-none, owing-none}
 use Rattle.mcs_book.proofs.Firm.Cancel.{cancelled, all-cancelled, in-line}
 use Rattle.mcs_book.proofs.Firm.Taking.{firm-signal}
 use Rattle.mcs_book.proofs.Firm.Lookup.{passed-need, IsSlotOf, IsHeld, IsHeldOf, capability-held, of_kind-held, slot_named-slot}
 use Rattle.mcs_book.proofs.Firm.Acts.{Acting}
 use Rattle.mcs_book.proofs.Firm.Messages.{firm-before, firm-queues, firm-sends}
-use Rattle.mcs_book.proofs.Firm.Rows.{Woken, woken, none-is, slot-emptied, slot-filled, KeepsFirm, woken-there, woken-slot, woken-held, firm-send_by, none-known, reply-known, firm-receive, firm-reply_receive, IsPlaced, firm-placed, firm-delete, firm-make}
+use Rattle.mcs_book.proofs.Firm.Rows.{Woken, woken, slot-emptied, slot-filled, KeepsFirm, woken-there, woken-slot, woken-held, firm-send_by, none-known, reply-known, firm-receive, firm-reply_receive, IsPlaced, firm-placed, firm-delete, firm-make}
 
 -- one of two pieces
 firm-if : (b : Bool) (p q : Piece) (R : Log) → Firm (onto (p R) R) → Firm (onto (q R) R) → Firm (onto (cond b p q R) R)
@@ -104,8 +104,8 @@ module _ (t : ObjId) (S : Log) (firm : Firm S) where
   -- what each row does, where its checks are passed
   firm-row : (core : CoreId) (entry : Entry) → InRange entry → core.0 < 16 → OnPassed Keeps (row S core t entry)
   unfolding row send_over
-  firm-row core (Send a message) range small = with-cap a _ (λ cap held. passed-next _ _ _ (firm-send_by t S firm cap.obj.kind cap message _ refl held (λ there W w h. firm-queues t W cap how.Plain message (woken-there t S firm W kind.Endpoint cap.obj w there) h)))
-  firm-row core (NbSend a message) range small = with-cap a _ (λ cap held. passed-next _ _ _ (firm-send_by t S firm cap.obj.kind cap message _ refl held (λ there W w h. h.firm)))
+  firm-row core (Send a message) range small = with-cap a _ (λ cap held. firm-send_by t S firm cap.obj.kind cap message _ refl held (λ there W w h. firm-queues t W cap how.Plain message (woken-there t S firm W kind.Endpoint cap.obj w there) h))
+  firm-row core (NbSend a message) range small = with-cap a _ (λ cap held. firm-send_by t S firm cap.obj.kind cap message _ refl held (λ there W w h. h.firm))
   firm-row core (Call a message) range small = with-kind kind.Endpoint a _ (λ cap held. passed-next _ _ _ (passed-ok Keeps _ (λ W w h.
       let there : IsThere W kind.Endpoint cap.obj = woken-there t S firm W kind.Endpoint cap.obj w held.there in
       firm-sends t W cap (call_mode cap) message Waits (queues (letter_over t cap (call_mode cap) message)) there h (firm-queues t W cap (call_mode cap) message there h))))

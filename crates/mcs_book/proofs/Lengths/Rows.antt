@@ -151,7 +151,7 @@ module _ (T : List ObjId) where
   -- a receive over a capability
   few-receive_over : (R : Log) (t : ObjId) (held : Cap) (reply : Checked (Option ObjId)) (blocking : Bool) → OnPassed (FewAct 7) (receive_over R t held reply blocking)
   unfolding receive_over
-  few-receive_over R t held reply blocking = passed-next _ _ _ (few-receive_by held.obj.kind R t held reply blocking)
+  few-receive_over R t held reply blocking = few-receive_by held.obj.kind R t held reply blocking
 
   -- a receive is a row's act
   row-receive : (m : Checked Act) → OnPassed (FewAct 7) m → OnPassed RowAct m
@@ -174,8 +174,8 @@ module _ (T : List ObjId) where
   -- what each row does, where its checks are passed
   few-row : (R : Log) (core : CoreId) (t : ObjId) (entry : Entry) → threads R ≡ T → OnPassed RowAct (row R core t entry)
   unfolding row send_over reply_receive
-  few-row R core t (Send a message) is = passed-bind _ _ _ (λ held. passed-next _ _ _ (few-send_by held.obj.kind t held message _ (few-queues t held how.Plain message)))
-  few-row R core t (NbSend a message) is = passed-bind _ _ _ (λ held. passed-next _ _ _ (few-send_by held.obj.kind t held message _ (record { at = λ S same. record { few = omega arith; threads_same = same } })))
+  few-row R core t (Send a message) is = passed-bind _ _ _ (λ held. few-send_by held.obj.kind t held message _ (few-queues t held how.Plain message))
+  few-row R core t (NbSend a message) is = passed-bind _ _ _ (λ held. few-send_by held.obj.kind t held message _ (record { at = λ S same. record { few = omega arith; threads_same = same } }))
   few-row R core t (Call a message) is = passed-bind _ _ _ (λ held. passed-next _ _ _ (passed-ok _ _ (act-within 6 (3 * length T + 11) _ (omega arith) (few-sends t held (call_mode held) message Waits _ (few-queues t held (call_mode held) message)))))
   few-row R core t (Recv a r) is = passed-bind _ _ _ (λ held. row-receive _ (few-receive_over R t held _ true))
   few-row R core t (NbRecv a r) is = passed-bind _ _ _ (λ held. row-receive _ (few-receive_over R t held _ false))

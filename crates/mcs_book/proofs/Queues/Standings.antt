@@ -79,6 +79,7 @@ safe-boot_line cores R (boot.CNode radix) ok h =
 safe-boot_line cores R (boot.Slot c i held) ok h =
     let p : (is_object R kind.CNode c ≡ true) × (was_made R held.obj ≡ true) = parts _ _ (line-checked cores R (boot.Slot c i held) ok).1 in
     ((λ k e. let it : held ≡ k = cc in ap (λ (k : Cap). was_made R k.obj) (sym it) ∙ p.1), h)
+safe-boot_line cores R (boot.Tie t n) ok h = (tt, h)
 safe-boot_line cores R boot.Endpoint ok h = ((λ e. absurd cc, λ root e. absurd cc), h)
 safe-boot_line cores R boot.Notification ok h = ((λ e. absurd cc, λ root e. absurd cc), h)
 safe-boot_line cores R boot.Reply ok h = ((λ e. absurd cc, λ root e. absurd cc), h)

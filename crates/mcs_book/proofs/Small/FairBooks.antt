@@ -58,6 +58,7 @@ is_first (rec.Slot c i held) = true
 is_first (rec.Prio x p) = true
 is_first (rec.Turns x mode) = true
 is_first (rec.Holds c x) = true
+is_first (rec.Tied t n) = true
 is_first _ = false
 
 module _ (P : Log → Rec → Type 0) (first : (R : Log) (x : Rec) → is_first x ≡ true → P R x) where
@@ -71,6 +72,7 @@ module _ (P : Log → Rec → Type 0) (first : (R : Log) (x : Rec) → is_first 
   boot_line-each R S boot.Reply h = (first _ _ refl, h)
   boot_line-each R S (boot.Context core) h = (first _ _ refl, h)
   boot_line-each R S (boot.Slot c i held) h = (first _ _ refl, h)
+  boot_line-each R S (boot.Tie t n) h = (first _ _ refl, h)
 
   -- and of each of a boot
   boot-each : (lines : List BootLine) → Each P (boot_log lines)

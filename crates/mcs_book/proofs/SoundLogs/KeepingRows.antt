@@ -158,7 +158,7 @@ module _ (t : ObjId) (J I : Log → Type 0) (enters : Entering t J I) where
   -- a receive over a capability
   keeps-receive_over : (R : Log) (cap : Cap) (reply : Checked (Option ObjId)) (blocking : Bool) → OnPassed KeepsAct (receive_over R t cap reply blocking)
   unfolding receive_over
-  keeps-receive_over R cap reply blocking = passed-next _ _ _ (keeps-receive_by cap.obj.kind R cap reply blocking)
+  keeps-receive_over R cap reply blocking = keeps-receive_by cap.obj.kind R cap reply blocking
 
   -- an object ends with its last capability
   keeps-destroy_last : (o : ObjId) → Keeps J (destroy_last o)
@@ -180,8 +180,8 @@ module _ (t : ObjId) (J I : Log → Type 0) (enters : Entering t J I) where
   -- what each row does, where its checks are passed
   pub keeps-row : (R : Log) (core : CoreId) (entry : Entry) → OnPassed KeepsAct (row R core t entry)
   unfolding row send_over reply_receive
-  keeps-row R core (Send a message) = passed-bind _ _ _ (λ cap. passed-next _ _ _ (keeps-send_by cap.obj.kind cap message _ (keeps-queues cap how.Plain message)))
-  keeps-row R core (NbSend a message) = passed-bind _ _ _ (λ cap. passed-next _ _ _ (keeps-send_by cap.obj.kind cap message _ (λ R none h. enters.ends R h)))
+  keeps-row R core (Send a message) = passed-bind _ _ _ (λ cap. keeps-send_by cap.obj.kind cap message _ (keeps-queues cap how.Plain message))
+  keeps-row R core (NbSend a message) = passed-bind _ _ _ (λ cap. keeps-send_by cap.obj.kind cap message _ (λ R none h. enters.ends R h))
   keeps-row R core (Call a message) = passed-bind _ _ _ (λ cap. passed-next _ _ _ (passed-ok _ _ (keeps-sends cap (call_mode cap) message Waits _ (keeps-queues cap (call_mode cap) message))))
   keeps-row R core (Recv a r) = passed-bind _ _ _ (λ cap. keeps-receive_over R cap _ true)
   keeps-row R core (NbRecv a r) = passed-bind _ _ _ (λ cap. keeps-receive_over R cap _ false)

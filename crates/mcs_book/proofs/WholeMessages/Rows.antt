@@ -255,7 +255,7 @@ receive-by Context R s held reply blocking h = passed-err _ _
 -- a receive over a capability
 pub receive-over : (R : Log) (s : Step) (held : Cap) (reply : Checked (Option ObjId)) (blocking : Bool) → FindsReply R reply → OnPassed (WholeReceive R s) (receive_over R s.thread held reply blocking)
 unfolding receive_over
-receive-over R s held reply blocking h = passed-next _ _ _ (receive-by held.obj.kind R s held reply blocking h)
+receive-over R s held reply blocking h = receive-by held.obj.kind R s held reply blocking h
 
 -- what is looked up as a reply object is held by a slot
 pub reply-at : (R : Log) (t : ObjId) (address : ℕ) → FindsReply R (reply_at R t address)

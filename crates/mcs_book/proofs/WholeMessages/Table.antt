@@ -134,10 +134,10 @@ whole-row : (R : Log) (core : CoreId) (t : ObjId) (entry : Entry) → OnPassed (
 unfolding row send_over reply_receive
 whole-row R core t (Send a message) =
     let s : Step = step_of core t (Send a message) in
-    passed-found _ _ _ (λ held e. passed-next _ _ _ (act-send_by held.obj.kind R s held message _ (is-send R core t a held message e) (queues-whole R s held how.Plain message (is-send R core t a held message e))))
+    passed-found _ _ _ (λ held e. act-send_by held.obj.kind R s held message _ (is-send R core t a held message e) (queues-whole R s held how.Plain message (is-send R core t a held message e)))
 whole-row R core t (NbSend a message) =
     let s : Step = step_of core t (NbSend a message) in
-    passed-found _ _ _ (λ held e. passed-next _ _ _ (act-send_by held.obj.kind R s held message _ (is-nb_send R core t a held message e) (record { whole = λ S b. tt })))
+    passed-found _ _ _ (λ held e. act-send_by held.obj.kind R s held message _ (is-nb_send R core t a held message e) (record { whole = λ S b. tt }))
 whole-row R core t (Call a message) =
     let s : Step = step_of core t (Call a message) in
     passed-found _ _ _ (λ held e.
