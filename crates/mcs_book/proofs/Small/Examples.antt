@@ -5,7 +5,7 @@ use Rattle.mcs_types.specs.Views.{Content}
 use Rattle.mcs_types.specs.declared.id.Badge.{Badge}
 use Rattle.mcs_types.specs.declared.record.SendMode.TheVariants as how
 use Rattle.mcs_types.specs.declared.record.Mode.TheVariants.{Running, Restart, Inactive}
-use Rattle.mcs_types.specs.declared.record.Queue.TheVariants.{Senders, Receivers}
+use Rattle.mcs_types.specs.declared.record.Queue.TheVariants.{Senders, Receivers, Waiters}
 use Rattle.mcs_types.specs.declared.record.Rec.{Rec}
 use Rattle.mcs_types.specs.declared.record.Rec.TheVariants as rec
 use Rattle.mcs_types.specs.declared.cap.Place.{Place}
@@ -14,7 +14,7 @@ use Rattle.mcs_types.specs.declared.record.Ending.TheVariants as ending
 use Rattle.mcs_types.specs.declared.entry.Refusal.{Refusal}
 use Rattle.mcs_types.specs.declared.entry.Refusal.TheVariants as refusal
 use Rattle.mcs_types.specs.declared.entry.Answer.{Answer}
-use Rattle.mcs_types.specs.declared.entry.Answer.TheVariants.{Done, Empty, Got, Waits, Refused}
+use Rattle.mcs_types.specs.declared.entry.Answer.TheVariants.{Done, Empty, Got, Heard, Waits, Refused}
 use Rattle.mcs_types.specs.declared.entry.Entry.{Entry}
 use Rattle.mcs_types.specs.declared.entry.Entry.TheVariants as do_
 use Rattle.mcs_book.specs.Pieces.{Outcome}
@@ -132,6 +132,61 @@ pub bound_signal : outcomes_of (by 2 (do_.BindNtfn 12 4) ∷ by 2 (do_.Recv 2 8)
     ∷ []
 unfolding computing
 bound_signal = refl
+
+-- badges are joined in a word, which is heard once; an empty badge is a signal too
+pub joined_word : outcomes_of (by 1 (do_.Signal 5) ∷ by 1 (do_.Signal 6) ∷ by 1 (do_.Signal 4) ∷ by 2 (do_.Wait 4) ∷ by 2 (do_.Wait 4) ∷ []) ≡
+    line Done (rec.Raised (n 1) (badge 1) ∷ [])
+    ∷ line Done (rec.Raised (n 1) (badge 2) ∷ [])
+    ∷ line Done (rec.Raised (n 1) (badge 0) ∷ [])
+    ∷ line (Heard 3) (rec.Heard (t 2) (n 1) 3 ∷ [])
+    ∷ line Waits (rec.Joins (t 2) (Waiters (n 1)) None ∷ [])
+    ∷ []
+unfolding computing
+joined_word = refl
+
+-- thread i stands in the queue of endpoint k with the reply object of this number
+abbrev a_receiver : ℕ → ℕ → ℕ → Outcome
+a_receiver i k d = line Waits (rec.Joins (t i) (Receivers (e k)) (Some (r d)) ∷ [])
+
+-- thread i calls thread j, which holds no context, with message m of a label; context k goes with the call
+abbrev a_call : ℕ → ℕ → ℕ → ℕ → ℕ → Outcome
+a_call m i j d k = line Waits (rec.Sent (t i) (e d) how.Call (badge 0) (message (m + 1)) ∷ rec.Took m (t j) ∷ rec.Parts (t j) (Receivers (e d)) ∷ rec.Owes (r d) (t i) (Some (s k)) ∷ rec.Holds (s k) (Some (t j)) ∷ rec.Turns (t j) Running ∷ [])
+
+-- a reply in the middle of a chain moves no context; that on top brings it back
+pub middle_reply : outcomes_of (by 2 (do_.Recv 2 8) ∷ by 3 (do_.Recv 3 9) ∷ by 5 (do_.UnbindCtx 22) ∷ by 5 (do_.UnbindCtx 23) ∷ by 1 (do_.Call 2 (message 1)) ∷ by 2 (do_.Call 3 (message 2))
+    ∷ by 4 (do_.Send 8 (message 5)) ∷ by 3 (do_.Send 9 (message 6)) ∷ by 1 (do_.NbRecv 2 8) ∷ []) ≡
+    a_receiver 2 1 1
+    ∷ a_receiver 3 2 2
+    ∷ line Done (rec.Holds (s 2) None ∷ [])
+    ∷ line Done (rec.Holds (s 3) None ∷ [])
+    ∷ a_call 0 1 2 1 1
+    ∷ a_call 1 2 3 2 1
+    ∷ line Done (rec.Paid (r 1) (t 1) (message 5) ∷ rec.Turns (t 1) Running ∷ [])
+    ∷ line Done (rec.Paid (r 2) (t 2) (message 6) ∷ rec.Turns (t 2) Running ∷ rec.Holds (s 1) (Some (t 2)) ∷ [])
+    ∷ []
+unfolding computing
+middle_reply = refl
+
+-- a caller on top of a chain is suspended: its context stays with the server
+pub top_caller_suspended : outcomes_of (by 2 (do_.Recv 2 8) ∷ by 5 (do_.UnbindCtx 22) ∷ by 1 (do_.Call 2 (message 1)) ∷ by 5 (do_.Suspend 11) ∷ by 2 (do_.Send 8 (message 4)) ∷ []) ≡
+    a_receiver 2 1 1
+    ∷ line Done (rec.Holds (s 2) None ∷ [])
+    ∷ a_call 0 1 2 1 1
+    ∷ line Done (rec.Void (r 1) (t 1) ending.Cancelled ∷ rec.Turns (t 1) Inactive ∷ [])
+    ∷ line Done []
+    ∷ []
+unfolding computing
+top_caller_suspended = refl
+
+-- a caller is answered once
+pub paid_once : outcomes_of (by 2 (do_.Recv 2 8) ∷ by 1 (do_.Call 2 (message 1)) ∷ by 2 (do_.Send 8 (message 4)) ∷ by 2 (do_.Send 8 (message 4)) ∷ []) ≡
+    a_receiver 2 1 1
+    ∷ line Waits (rec.Sent (t 1) (e 1) how.Call (badge 0) (message 1) ∷ rec.Took 0 (t 2) ∷ rec.Parts (t 2) (Receivers (e 1)) ∷ rec.Owes (r 1) (t 1) None ∷ rec.Turns (t 2) Running ∷ [])
+    ∷ line Done (rec.Paid (r 1) (t 1) (message 4) ∷ rec.Turns (t 1) Running ∷ [])
+    ∷ line Done []
+    ∷ []
+unfolding computing
+paid_once = refl
 
 -- refusals, in their order
 pub refusals : outcomes_of (by 1 (do_.Recv 1 8) ∷ by 1 (do_.Recv 2 1) ∷ by 1 (do_.Recv 2 10) ∷ by 1 (do_.MintCap (place 2) (place 26) 1 (badge 9))
