@@ -11,7 +11,7 @@ use Rattle.mcs_book.specs.Threads.{prio_of}
 use Rattle.mcs_book.specs.Queues.{same_queue}
 use Rattle.mcs_types.specs.declared.record.Letter.{Letter}
 use Rattle.mcs_book.specs.Messages.{next_message}
-use Rattle.mcs_book.specs.Notifications.{with_badge}
+use Rattle.mcs_types.specs.Words.{with_badge}
 
 -- a thread in a queue, with its priority
 pub record Waiter : Type 0 where

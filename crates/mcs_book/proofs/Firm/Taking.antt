@@ -11,12 +11,13 @@ use Rattle.mcs_types.specs.declared.record.Queue.TheVariants.{Senders, Receivers
 use Rattle.mcs_types.specs.declared.record.Rec.TheVariants as rec
 use Rattle.mcs_types.specs.declared.record.SendMode.{SendMode}
 use Rattle.mcs_types.specs.declared.record.SendMode.TheVariants as how
+use Rattle.mcs_types.specs.Words.{with_badge}
 use Rattle.mcs_book.specs.Logs.{Log, onto}
 use Rattle.mcs_book.specs.Queues.{queue_of, reply_with, first_in}
 use Rattle.mcs_book.specs.Messages.{is_open}
 use Rattle.mcs_book.specs.Contexts.{context_of}
 use Rattle.mcs_book.specs.Replies.{owed_by}
-use Rattle.mcs_book.specs.Notifications.{bound_of, tied_to, pending, with_badge}
+use Rattle.mcs_book.specs.Notifications.{bound_of, tied_to, pending}
 use Rattle.mcs_book.specs.Growing.{growing_word}
 use Rattle.mcs_book.specs.Pieces.{Piece, ◌then◌, nothing, say}
 use Rattle.mcs_book.specs.Taking.{debt, owe, settle, handed, taken}
