@@ -1,0 +1,58 @@
+-- What a contract sees of `Notifications`: the pending word of each notification that is there, and the thread bound to it.
+use Rattle.std.specs.Prelude.{◌≡◌, ℕ, Bool, Option, is_some, option_and_then}
+use Rattle.mcs_types.specs.declared.id.ObjId.{ObjId}
+use Rattle.mcs_types.specs.declared.id.Kind.TheVariants.{Notification}
+use Rattle.mcs_types.specs.Ids.{ChangesAt}
+use Rattle.mcs_types.specs.Limits.{object_limit}
+use Rattle.mcs_objects.specs.Store.{Objects, Shape, value_at, shape, next_id, is_full}
+use Rattle.mcs_notifications.specs.declared.notifications.NotificationRow.{NotificationRow}
+
+pub record Signals : Type 0 where
+  pub rows : Objects NotificationRow
+
+-- how many notifications were made and are there
+abbrev pub counts : Signals → Shape
+counts v = shape v.rows
+
+-- whether no notification can be made
+abbrev pub no_room : Signals → Bool
+no_room v = is_full v.rows
+
+-- the notification that is made next
+abbrev pub next_notification : Signals → ObjId
+next_notification v = next_id v.rows
+
+-- whether a notification is among rows, its pending word, and the thread bound to it
+abbrev pub has_row : Objects NotificationRow → ObjId → Bool
+has_row rows n = is_some (value_at rows n)
+
+abbrev pub word_at : Objects NotificationRow → ObjId → Option ℕ
+word_at rows n = option_and_then (λ r. r.word) (value_at rows n)
+
+abbrev pub thread_at : Objects NotificationRow → ObjId → Option ObjId
+thread_at rows n = option_and_then (λ r. r.thread) (value_at rows n)
+
+-- whether a notification is there
+abbrev pub is_there : Signals → ObjId → Bool
+is_there v n = has_row v.rows n
+
+-- the pending word of a notification
+abbrev pub word_in : Signals → ObjId → Option ℕ
+word_in v n = word_at v.rows n
+
+-- the thread to which a notification is bound
+abbrev pub thread_in : Signals → ObjId → Option ObjId
+thread_in v n = thread_at v.rows n
+
+-- this is the pending word of n now, and the others have those that they had
+abbrev pub SetsWord : Signals → Signals → ObjId → Option ℕ → Type 0
+SetsWord old new n word = ChangesAt (word_in old) (word_in new) n word
+
+-- n is bound to this thread now, or to none, and the others as they were
+abbrev pub SetsThread : Signals → Signals → ObjId → Option ObjId → Type 0
+SetsThread old new n thread = ChangesAt (thread_in old) (thread_in new) n thread
+
+-- what holds of all notifications
+pub record AreSignals (v : Signals) : Type 0 where
+  pub room : v.rows.room ≡ object_limit
+  pub kind : v.rows.kind ≡ Notification

@@ -1,0 +1,203 @@
+//! The table of notifications.
+ghost use Rattle.std.specs.Prelude.{◌≡◌, true, false, Some, None, IfOk};
+ghost use Rattle.mcs_types.specs.declared.id.ObjId.{ObjId};
+ghost use Rattle.mcs_types.specs.declared.id.Kind.{Kind};
+ghost use Rattle.mcs_types.specs.Ids.{ChangesAt};
+ghost use Rattle.mcs_types.specs.Limits.{object_limit};
+ghost use Rattle.mcs_types.specs.Words.{with_badge};
+ghost use Rattle.mcs_objects.specs.Store.{shape, empty_shape, one_more, IsOneFewer};
+ghost use Rattle.mcs_notifications.specs.Signals.{counts, no_room, next_notification, has_row, word_at, thread_at, is_there, word_in, thread_in, SetsWord, SetsThread};
+
+use mcs_objects::Store;
+use mcs_types::{Badge, Kind, OBJECTS, ObjId, OutOfMemory};
+use std::alloc::Global;
+use std::marker::Model;
+
+/// A notification: its pending word, and the thread bound to it (manual: Notifications).
+#[derive(Clone, Copy)]
+pub struct NotificationRow {
+    word: Option<u64>,
+    thread: Option<ObjId>,
+}
+
+/// Up to 256 notifications, which come and go under serials that count from 1: the pending word of each, and the thread bound to
+/// it. A word is pending as soon as one badge was raised, also badge 0 (manual: Notifications). All memory is taken when they are
+/// made (own).
+#[derive(Drop)]
+pub struct Notifications {
+    rows: Store<NotificationRow>,
+}
+
+impl Model for Notifications {
+    ghost use Rattle.mcs_notifications.specs.Signals.{Signals, AreSignals};
+
+    ghost Value = { Signals };
+
+    ghost view = { λ s. record { rows = s.rows } };
+
+    ghost invariant = { λ s. AreSignals (record { rows = s.rows }) };
+}
+
+/// A word with the bits of one more badge.
+fn with_badge(badge: Badge, word: Option<u64>) -> u64
+    ensures { result ≡ with_badge badge.0 word }
+{
+    match word {
+        None => badge.0,
+        Some(word) => word | badge.0,
+    }
+}
+
+/// Keeps another word of a notification that is there.
+fn keep_word(rows: &mut Store<NotificationRow>, notification: ObjId, word: Option<u64>)
+    requires { has_row rows.old notification ≡ true }
+    ensures shape { shape rows.new ≡ shape rows.old }
+    ensures there { (n : ObjId) → has_row rows.new n ≡ has_row rows.old n }
+    ensures words { ChangesAt (word_at rows.old) (word_at rows.new) notification word }
+    ensures threads { (n : ObjId) → thread_at rows.new n ≡ thread_at rows.old n }
+{
+    match rows.get(notification) {
+        None => unreachable!(),
+        Some(row) => {
+            let thread = row.thread;
+            rows.set(notification, NotificationRow { word, thread });
+        }
+    }
+}
+
+/// Keeps another thread of a notification that is there.
+fn keep_thread(rows: &mut Store<NotificationRow>, notification: ObjId, thread: Option<ObjId>)
+    requires { has_row rows.old notification ≡ true }
+    ensures shape { shape rows.new ≡ shape rows.old }
+    ensures there { (n : ObjId) → has_row rows.new n ≡ has_row rows.old n }
+    ensures words { (n : ObjId) → word_at rows.new n ≡ word_at rows.old n }
+    ensures threads { ChangesAt (thread_at rows.old) (thread_at rows.new) notification thread }
+{
+    match rows.get(notification) {
+        None => unreachable!(),
+        Some(row) => {
+            let word = row.word;
+            rows.set(notification, NotificationRow { word, thread });
+        }
+    }
+}
+
+impl Notifications {
+    /// No notification, and room for 256 (own).
+    pub fn new(alloc: Global) -> Result<Notifications, OutOfMemory>
+        ensures counts { IfOk result (λ v. counts v ≡ empty_shape Kind.Notification object_limit) }
+        ensures there { IfOk result (λ v. (n : ObjId) → is_there v n ≡ false) }
+        ensures words { IfOk result (λ v. (n : ObjId) → word_in v n ≡ None) }
+        ensures threads { IfOk result (λ v. (n : ObjId) → thread_in v n ≡ None) }
+    {
+        Ok(Notifications {
+            rows: Store::with_room(alloc, Kind::Notification, OBJECTS)?,
+        })
+    }
+
+    /// Whether no notification can be made: 256 are there, or each serial was given (own).
+    pub fn is_full(&self) -> bool
+        ensures { result ≡ no_room self.now }
+    {
+        self.rows.is_full()
+    }
+
+    /// How many notifications were made; one that was closed counts still (own).
+    pub fn made(&self) -> u32
+        ensures { result ≡ (counts self.now).given }
+    {
+        self.rows.given()
+    }
+
+    /// Adds a notification where there is room: its serial is the next, no word is pending, and it is bound to no thread (own).
+    pub fn add(&mut self) -> ObjId
+        requires { no_room self.old ≡ false }
+        ensures id { result ≡ next_notification self.old }
+        ensures counts { counts self.new ≡ one_more (counts self.old) }
+        ensures there { ChangesAt (is_there self.old) (is_there self.new) result true }
+        ensures quiet { word_in self.new result ≡ None }
+        ensures unbound { thread_in self.new result ≡ None }
+        ensures words { (n : ObjId) → word_in self.new n ≡ word_in self.old n }
+        ensures threads { (n : ObjId) → thread_in self.new n ≡ thread_in self.old n }
+    {
+        // A law for the proof: what is there was given, so the next serial is new.
+        self.rows.are_apart();
+        self.rows.add(NotificationRow {
+            word: None,
+            thread: None,
+        })
+    }
+
+    /// Forgets a notification that is bound to no thread, and its word, if one is pending: its serial is never given again (manual:
+    /// Kernel Services and Objects).
+    pub fn close(&mut self, notification: ObjId)
+        requires there { is_there self.old notification ≡ true }
+        requires unbound { thread_in self.old notification ≡ None }
+        ensures counts { IsOneFewer (counts self.old) (counts self.new) }
+        ensures there { ChangesAt (is_there self.old) (is_there self.new) notification false }
+        ensures words { SetsWord self.old self.new notification None }
+        ensures threads { (n : ObjId) → thread_in self.new n ≡ thread_in self.old n }
+    {
+        self.rows.remove(notification);
+    }
+
+    /// Whether a notification was made and not closed (own).
+    pub fn is_there(&self, notification: ObjId) -> bool
+        ensures { result ≡ is_there self.now notification }
+    {
+        self.rows.get(notification).is_some()
+    }
+
+    /// The pending word of a notification, or None where none is, and where it is not there (manual: Notifications).
+    pub fn word(&self, notification: ObjId) -> Option<u64>
+        ensures { result ≡ word_in self.now notification }
+    {
+        self.rows.get(notification)?.word
+    }
+
+    /// The pending word of a notification that is there gains the bits of a badge; where none was pending, it is the badge, also
+    /// where that is 0 (manual: Notifications).
+    pub fn raise(&mut self, notification: ObjId, badge: Badge)
+        requires { is_there self.old notification ≡ true }
+        ensures counts { counts self.new ≡ counts self.old }
+        ensures there { (n : ObjId) → is_there self.new n ≡ is_there self.old n }
+        ensures words { SetsWord self.old self.new notification (Some (with_badge badge.0 (word_in self.old notification))) }
+        ensures threads { (n : ObjId) → thread_in self.new n ≡ thread_in self.old n }
+    {
+        let word = with_badge(badge, self.word(notification));
+        keep_word(&mut self.rows, notification, Some(word));
+    }
+
+    /// Clears the pending word of a notification, and gives it; None, and nothing changes, where none was pending, and where the
+    /// notification is not there (manual: Notifications).
+    pub fn hear(&mut self, notification: ObjId) -> Option<u64>
+        ensures word { result ≡ word_in self.old notification }
+        ensures counts { counts self.new ≡ counts self.old }
+        ensures there { (n : ObjId) → is_there self.new n ≡ is_there self.old n }
+        ensures words { SetsWord self.old self.new notification None }
+        ensures threads { (n : ObjId) → thread_in self.new n ≡ thread_in self.old n }
+    {
+        let word = self.word(notification)?;
+        keep_word(&mut self.rows, notification, None);
+        Some(word)
+    }
+
+    /// The thread to which a notification is bound, or None where it is bound to none, and where it is not there (manual:
+    /// Notifications).
+    pub fn bound(&self, notification: ObjId) -> Option<ObjId>
+        ensures { result ≡ thread_in self.now notification }
+    {
+        self.rows.get(notification)?.thread
+    }
+
+    /// Binds a notification that is there to this thread, or to none (manual: Notifications).
+    pub fn set_bound(&mut self, notification: ObjId, thread: Option<ObjId>)
+        requires { is_there self.old notification ≡ true }
+        ensures counts { counts self.new ≡ counts self.old }
+        ensures there { (n : ObjId) → is_there self.new n ≡ is_there self.old n }
+        ensures words { (n : ObjId) → word_in self.new n ≡ word_in self.old n }
+        ensures threads { SetsThread self.old self.new notification thread }
+    {
+        keep_thread(&mut self.rows, notification, thread);
+    }
+}
