@@ -22,6 +22,7 @@ use Rattle.mcs_book.specs.Threads.{mode_of, root_of, root_kept}
 use Rattle.mcs_types.specs.Chains.{head_of}
 use Rattle.mcs_book.specs.Queues.{queue_of, reply_with, first_in}
 use Rattle.mcs_book.specs.Replies.{owing}
+use Rattle.mcs_book.specs.Notifications.{bound_of, pending}
 use Rattle.mcs_book.specs.Standing.{status_of, status_by}
 use Rattle.mcs_book.specs.Messages.{open_of}
 use Rattle.mcs_book.specs.Growing.{Waiter, growing_queue, growing_open, threads_in}
@@ -30,8 +31,9 @@ use Rattle.mcs_book.specs.Slots.{SlotName}
 use Rattle.mcs_book.specs.Lookup.{space_of, bits_of, is_none_left, is_depth, walk, capability_from, capability, slot_from, slot_named}
 use Rattle.mcs_book.specs.Sound.{Sound, IsThere}
 use Rattle.mcs_book.proofs.Objects.MadeLaws.{alive-made, made-serial}
-use Rattle.mcs_book.proofs.SoundLogs.KeptLaws.{standing-thread}
+use Rattle.mcs_book.proofs.SoundLogs.KeptLaws.{bound-there, standing-thread}
 use Rattle.mcs_book.proofs.Queues.QueueLaws.{queued_in-growing}
+use Rattle.mcs_book.proofs.Queues.WordLaws.{pending-growing}
 use Rattle.mcs_book.proofs.Messages.OpenLaws.{open_of-growing}
 use Rattle.mcs_places.specs.Places.{HasPlace}
 use Rattle.mcs_slots.specs.Pages.{Page}
@@ -39,9 +41,10 @@ use Rattle.mcs_cspace.specs.Spaces.{slots_space}
 use Rattle.mcs_threads.specs.declared.row.ThreadRow.{ThreadRow}
 use Rattle.mcs_threads.specs.Rows.{status_in, status_under}
 use Rattle.mcs_state.specs.Saying.{block_said, row_said}
-use Rattle.mcs_state.specs.Tables.{SlotsAgree}
+use Rattle.mcs_state.specs.Tables.{SlotsAgree, word_said}
 use Rattle.mcs_state.proofs.Saying.{Says, said, rowless, row-there}
 use Rattle.mcs_state.proofs.SlotLaws.{space-is}
+use Rattle.mcs_state.proofs.ThereLaws.{there}
 
 -- a thread that is there has a row
 pub never-rowless : (R : Log) (t : ObjId) → Sound R → IsThere R kind.Thread t → None ≡ row_said R t → ⊥
@@ -54,6 +57,18 @@ unqueued R t sound none = go (queue_of R t) refl
     go : (q : Option Queue) → queue_of R t ≡ q → None ≡ q
     go None e = refl
     go (Some q) e = absurd (never-rowless R t sound (standing-thread R t q sound e) none)
+
+-- nor is a notification bound to it
+pub unbound : (R : Log) (t : ObjId) → Sound R → None ≡ row_said R t → None ≡ bound_of R t
+unbound R t sound none = go (bound_of R t) refl
+  where
+    go : (o : Option ObjId) → bound_of R t ≡ o → None ≡ o
+    go None e = refl
+    go (Some n) e = absurd (never-rowless R t sound (bound-there R t n sound e).0 none)
+
+-- the word that is said of a notification that is there is the pending one
+pub word-pending : (R : Log) (n : ObjId) → IsThere R kind.Notification n → word_said R n ≡ pending R n
+word-pending R n is = rw (there R kind.Notification n is) (sym (pending-growing R n))
 
 -- the root of a thread with a row
 pub root-is : (R : Log) (t : ObjId) (r : ThreadRow) → Some r ≡ row_said R t → root_of R t ≡ Some r.root

@@ -17,6 +17,7 @@ use Rattle.mcs_state.proofs.LetterLaws.{letters-follow}
 use Rattle.mcs_state.proofs.ContextLaws.{contexts-follow}
 use Rattle.mcs_state.proofs.QueueLaws.{queues-follow}
 use Rattle.mcs_state.proofs.ReplyLaws.{replies-follow}
+use Rattle.mcs_state.proofs.NotificationLaws.{notifications-follow}
 use Rattle.mcs_state.proofs.SlotLaws.{slots-follow}
 
 -- what holds of all records so far, as they are seen, holds of them inside
@@ -47,6 +48,7 @@ follows r T T' lines items items' B noted room ok f a = rw (noted, reverse-appen
   contexts = contexts-follow r (reverse items ++ B) T.contexts T'.contexts a.sound ok f.contexts a.contexts;
   queues = queues-follow r (reverse items ++ B) T.queues T'.queues a.sound ok f.queues a.queues;
   replies = replies-follow r (reverse items ++ B) T.replies T'.replies a.sound ok f.replies a.replies;
+  notifications = notifications-follow r (reverse items ++ B) T.notifications T'.notifications a.sound ok f.notifications a.notifications;
   slots = slots-follow r (reverse items ++ B) T.slots T'.slots a.sound ok f.slots a.slots;
   sent = sent-follows r T.sent T'.sent lines (reverse items) (reverse items ++ B) f.sent a.sent;
 })

@@ -7,6 +7,7 @@ pub mod LetterLaws
 pub mod ContextLaws
 pub mod QueueLaws
 pub mod ReplyLaws
+pub mod NotificationLaws
 pub mod SlotLaws
 pub mod Following
 pub mod Answering

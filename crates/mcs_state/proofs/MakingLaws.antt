@@ -8,11 +8,9 @@ use Rattle.mcs_types.specs.declared.id.Kind.TheVariants as kind
 use Rattle.mcs_book.specs.Logs.{Log, counted}
 use Rattle.mcs_book.specs.Objects.{makes_kind, number_of, next_id}
 use Rattle.mcs_objects.specs.Store.{Shape}
-use Rattle.mcs_replies.specs.Owing.{Owing}
 use Rattle.mcs_waiting.specs.Queues.{has_queues, no_room}
 use Rattle.mcs_state.specs.Tables.{Queueing, QueuesAgree, shape_said}
 use Rattle.mcs_state.specs.Making.{HasRoom}
-use Rattle.mcs_state.specs.Following.{OpensQueues, QueuesFollowMade, RepliesFollowMade}
 
 -- fewer than may be are there, and not each serial was given
 pub room-left : (R : Log) (k : Kind) → HasRoom R k → ((number_of R k == 256) || (counted (makes_kind k) R == 4294967295)) ≡ false
@@ -29,20 +27,3 @@ store-room R k s e h = rw e (room-left R k h)
 -- the next object of a shape is the next of its kind
 pub next-of : (R : Log) (k : Kind) (s : Shape) → s ≡ shape_said k R → record { kind = s.kind; serial = s.given + 1 } ≡ next_id R k
 next-of R k s e = ap (λ (x : Shape). record { kind = x.kind; serial = x.given + 1 }) e
-
--- an endpoint or a notification was made, and no reply object
-pub opens-follow : (k : Kind) (o : ObjId) (v w : Queueing) → has_queues k ≡ true → OpensQueues o v w → QueuesFollowMade k o v w
-opens-follow kind.Endpoint o v w own h = h
-opens-follow kind.Notification o v w own h = h
-opens-follow kind.CNode o v w own h = absurd cc
-opens-follow kind.Thread o v w own h = absurd cc
-opens-follow kind.Reply o v w own h = absurd cc
-opens-follow kind.Context o v w own h = absurd cc
-
-pub replies-beside : (k : Kind) (o : ObjId) (v : Owing) → has_queues k ≡ true → RepliesFollowMade k o v v
-replies-beside kind.Endpoint o v own = refl
-replies-beside kind.Notification o v own = refl
-replies-beside kind.CNode o v own = absurd cc
-replies-beside kind.Thread o v own = absurd cc
-replies-beside kind.Reply o v own = absurd cc
-replies-beside kind.Context o v own = absurd cc

@@ -1,5 +1,5 @@
 -- A state in which nothing is made, and one whose records in hand moved to the book.
-use Rattle.std.specs.Prelude.{ℕ, ◌≡◌, ◌≤◌, ◌*◌, ◌∷◌, ◌++◌, ◌&&◌, List, [], length, reverse, false, true, Bool, Option, Some, None, unwrap_or}
+use Rattle.std.specs.Prelude.{ℕ, ◌≡◌, ◌≤◌, ◌*◌, ◌∷◌, ◌++◌, ◌&&◌, cond, List, [], length, reverse, false, true, Bool, Option, Some, None, unwrap_or}
 use Rattle.std.proofs.Common.{refl, ap, sym, ◌∙◌, arith, append_assoc}
 use Rattle.std.proofs.lemmas.List.{reverse-append}
 use Rattle.mcs_types.specs.declared.id.ObjId.{ObjId}
@@ -14,17 +14,19 @@ use Rattle.mcs_book.specs.Logs.{Log, counted, onto}
 use Rattle.mcs_book.specs.Messages.{is_sent}
 use Rattle.mcs_book.specs.Boots.{boot_line, boot_log}
 use Rattle.mcs_book.specs.History.{Line, past, Book, log_of}
+use Rattle.mcs_book.specs.Notifications.{tied_to}
 use Rattle.mcs_book.specs.Replies.{receiver_with}
 use Rattle.mcs_book.specs.Standing.{mail_of}
 use Rattle.mcs_places.specs.Places.{kept_at}
 use Rattle.mcs_objects.specs.Store.{empty_shape}
 use Rattle.mcs_replies.specs.Owing.{counts as reply_counts, is_there as has_reply, receiver_in, owed_in, chain_in}
+use Rattle.mcs_notifications.specs.Signals.{counts as notification_counts, is_there as has_notification, word_in, thread_in}
 use Rattle.mcs_contexts.specs.Holding.{counts, core_in, holder_in}
 use Rattle.mcs_slots.specs.Numbers.{number_of}
 use Rattle.mcs_slots.specs.Pages.{page_of, page_radix, page_slot, radix_of, slot_at}
 use Rattle.mcs_threads.specs.Tables.{made, row_of, mail_of as mail_in}
 use Rattle.mcs_waiting.specs.Queues.{queue_object, queue_kind}
-use Rattle.mcs_state.specs.Tables.{ROOM, HAND, Tables, IsKept, is_there}
+use Rattle.mcs_state.specs.Tables.{ROOM, HAND, Tables, IsKept, is_there, word_said}
 
 -- a book without lines has no records
 pub log-empty : (b : Book) → b.boot.lines ≡ [] → b.lines ≡ [] → log_of b ≡ []
@@ -58,6 +60,13 @@ nobody-receives : (r : ObjId) → receiver_with [] r ≡ None
 unfolding receiver_with
 nobody-receives r = refl
 
+word-none : (n : ObjId) → word_said [] n ≡ None
+word-none n = ap (λ b. cond b None None) (none-there kind.Notification n)
+
+nobody-bound : (n : ObjId) → tied_to [] n ≡ None
+unfolding tied_to
+nobody-bound n = refl
+
 -- the tables of a state in which nothing is made
 pub record AreBlank (T : Tables) : Type 0 where
   pub threads : made T.threads ≡ 0
@@ -78,6 +87,10 @@ pub record AreBlank (T : Tables) : Type 0 where
   pub receivers : (r : ObjId) → receiver_in T.replies r ≡ None
   pub owed : (r : ObjId) → owed_in T.replies r ≡ None
   pub chains : (s : ObjId) → chain_in T.replies s ≡ []
+  pub notifications : notification_counts T.notifications ≡ empty_shape kind.Notification ROOM
+  pub has_notification : (n : ObjId) → has_notification T.notifications n ≡ false
+  pub words : (n : ObjId) → word_in T.notifications n ≡ None
+  pub bound : (n : ObjId) → thread_in T.notifications n ≡ None
   pub slots : T.slots ≡ []
   pub sent : T.sent ≡ 0
 
@@ -90,6 +103,7 @@ blank-kept T R none b = rw none (record {
   contexts = record { shape = b.contexts; cores = b.cores; holders = b.holders };
   queues = record { made = λ k own. b.made k; there = λ k own. b.there k; line = b.line; queue = b.queue; has = λ q. b.has q ∙ sym (none-there (queue_kind q) (queue_object q)) };
   replies = record { counts = b.replies; there = λ r. b.has_reply r ∙ sym (none-there kind.Reply r); receivers = λ r. b.receivers r ∙ sym (nobody-receives r); owed = b.owed; chains = b.chains };
+  notifications = record { counts = b.notifications; there = λ n. b.has_notification n ∙ sym (none-there kind.Notification n); words = λ n. b.words n ∙ sym (word-none n); threads = λ n. b.bound n ∙ sym (nobody-bound n) };
   slots = rw b.slots (record { made = refl; radices = none-radix; slots = none-slot });
   sent = record { all = b.sent; few = let zero_sent = b.sent in omega (arith, zero_sent) };
 })
@@ -104,6 +118,7 @@ moved-kept lines' R' e few a = rw e (record {
   contexts = a.contexts;
   queues = a.queues;
   replies = a.replies;
+  notifications = a.notifications;
   slots = a.slots;
   sent = record { all = a.sent.all; few = omega (arith, few) };
 })

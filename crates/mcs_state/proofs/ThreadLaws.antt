@@ -11,7 +11,7 @@ use Rattle.mcs_types.specs.declared.record.Form.{Form}
 use Rattle.mcs_types.specs.declared.record.Form.TheVariants as form
 use Rattle.mcs_types.specs.declared.record.Letter.{Letter}
 use Rattle.mcs_types.specs.declared.record.Mail.{Mail}
-use Rattle.mcs_types.specs.declared.record.Mail.TheVariants.{Message}
+use Rattle.mcs_types.specs.declared.record.Mail.TheVariants.{Message, Word}
 use Rattle.mcs_types.specs.declared.record.Mode.{Mode}
 use Rattle.mcs_types.specs.declared.record.Mode.TheVariants as mode
 use Rattle.mcs_types.specs.declared.record.Queue.{Queue}
@@ -22,7 +22,7 @@ use Rattle.mcs_types.specs.Views.{Content}
 use Rattle.mcs_threads.specs.declared.row.Block.{Block}
 use Rattle.mcs_threads.specs.declared.row.Block.TheVariants.{Queued, OnReply}
 use Rattle.mcs_threads.specs.declared.row.ThreadRow.{ThreadRow}
-use Rattle.mcs_threads.specs.Rows.{new_row}
+use Rattle.mcs_threads.specs.Rows.{new_row, with_notification}
 use Rattle.mcs_threads.specs.Tables.{Table, row_of, mail_of as mail_in, ChangesRow, SameMails}
 use Rattle.mcs_book.specs.Logs.{Log, given, counted, latest_knowing}
 use Rattle.mcs_book.specs.Messages.{letter}
@@ -33,7 +33,7 @@ use Rattle.mcs_book.specs.Replies.{owed_by, owing}
 use Rattle.mcs_book.specs.Notifications.{bound_of}
 use Rattle.mcs_book.specs.Standing.{letter_mail, mail_brought, mail_of}
 use Rattle.mcs_book.specs.Sound.{Sound, Allowed, IsThere, IsFormOf}
-use Rattle.mcs_types.proofs.Ids.{same-equal}
+use Rattle.mcs_types.proofs.Ids.{same-self, same-equal}
 use Rattle.mcs_book.proofs.Messages.MailLaws.{is_still, mail-still, mail-took, mail-paid}
 use Rattle.mcs_book.proofs.SoundLogs.KeptLaws.{owed-there, owed-stands_none}
 use Rattle.mcs_state.specs.Saying.{block_said, row_with, row_said}
@@ -44,15 +44,15 @@ use Rattle.mcs_state.proofs.DebtLaws.{owing-begun, owing-beside, owing-ended, ow
 use Rattle.mcs_state.proofs.Saying.{unsaid, unmailed, unowed, unclosed, standing-unowed, owing-kept, owing-made, has-row}
 
 -- a change of a row, by what is said
-changed-with : (g : ThreadRow → ThreadRow) (a : Bool) (f : Option Form) (p p' : ℕ) (m m' : Mode) (k k' : Option Block) (n : Option ObjId)
-    → ((maximum : Prio) (root : Cap) → option_map g (row_with (Some (form.Runner maximum root)) p m k n) ≡ row_with (Some (form.Runner maximum root)) p' m' k' n)
-    → option_map g (cond a (row_with f p m k n) None) ≡ cond a (row_with f p' m' k' n) None
-changed-with g false f p p' m m' k k' n h = refl
-changed-with g true (Some (form.Runner maximum root)) p p' m m' k k' n h = h maximum root
-changed-with g true None p p' m m' k k' n h = refl
-changed-with g true (Some form.Plain) p p' m m' k k' n h = refl
-changed-with g true (Some (form.Slots radix)) p p' m m' k k' n h = refl
-changed-with g true (Some (form.OnCore core)) p p' m m' k k' n h = refl
+changed-with : (g : ThreadRow → ThreadRow) (a : Bool) (f : Option Form) (p p' : ℕ) (m m' : Mode) (k k' : Option Block) (n n' : Option ObjId)
+    → ((maximum : Prio) (root : Cap) → option_map g (row_with (Some (form.Runner maximum root)) p m k n) ≡ row_with (Some (form.Runner maximum root)) p' m' k' n')
+    → option_map g (cond a (row_with f p m k n) None) ≡ cond a (row_with f p' m' k' n') None
+changed-with g false f p p' m m' k k' n n' h = refl
+changed-with g true (Some (form.Runner maximum root)) p p' m m' k k' n n' h = h maximum root
+changed-with g true None p p' m m' k k' n n' h = refl
+changed-with g true (Some form.Plain) p p' m m' k k' n n' h = refl
+changed-with g true (Some (form.Slots radix)) p p' m m' k k' n n' h = refl
+changed-with g true (Some (form.OnCore core)) p p' m m' k k' n n' h = refl
 
 -- what blocks t by the queue and the reply object that the log says, where o owes it
 abbrev pub blocked : Log → ObjId → Option ObjId → Option Block
@@ -70,7 +70,7 @@ turned R T T' u m c a t =
   where
     go : (b : Bool) → cond b (option_map (λ (r : ThreadRow). record r { mode = m }) (row_said R t)) (row_said R t)
         ≡ row_blocked R t (prio_of R t) (unwrap_or (given b m) (mode_of R t)) (blocked R t (owing R t))
-    go true = changed-with (λ (r : ThreadRow). record r { mode = m }) (is_alive R t) (form_of R t) _ _ _ m _ _ _ (λ maximum root. refl)
+    go true = changed-with (λ (r : ThreadRow). record r { mode = m }) (is_alive R t) (form_of R t) _ _ _ m _ _ _ _ (λ maximum root. refl)
     go false = refl
 
 -- the priority of a thread was set
@@ -81,7 +81,7 @@ ranked R T T' u p c a t =
   where
     go : (b : Bool) → cond b (option_map (λ (r : ThreadRow). record r { priority = p }) (row_said R t)) (row_said R t)
         ≡ row_blocked R t (unwrap_or (given b p.0) (prio_of R t)) (mode_of R t) (blocked R t (owing R t))
-    go true = changed-with (λ (r : ThreadRow). record r { priority = p }) (is_alive R t) (form_of R t) _ p.0 _ _ _ _ _ (λ maximum root. refl)
+    go true = changed-with (λ (r : ThreadRow). record r { priority = p }) (is_alive R t) (form_of R t) _ p.0 _ _ _ _ _ _ (λ maximum root. refl)
     go false = refl
 
 -- a thread joined a queue
@@ -92,7 +92,7 @@ joined R T T' u k reply c a t =
   where
     go : (b : Bool) → cond b (option_map (λ (r : ThreadRow). record r { block = Some (Queued k reply) }) (row_said R t)) (row_said R t)
         ≡ row_blocked R t (prio_of R t) (mode_of R t) (block_said (unwrap_or (given b (Some k)) (queue_of R t)) (unwrap_or (given b reply) (reply_with R t)) (owing R t))
-    go true = changed-with (λ (r : ThreadRow). record r { block = Some (Queued k reply) }) (is_alive R t) (form_of R t) _ _ _ _ _ (Some (Queued k reply)) _ (λ maximum root. refl)
+    go true = changed-with (λ (r : ThreadRow). record r { block = Some (Queued k reply) }) (is_alive R t) (form_of R t) _ _ _ _ _ (Some (Queued k reply)) _ _ (λ maximum root. refl)
     go false = refl
 
 -- a thread left its queue, and no reply object owes it
@@ -102,7 +102,7 @@ parted R T T' u k sound stands c a t =
     ∙ ap (λ o. row_blocked R t (prio_of R t) (mode_of R t) (block_said (unwrap_or (given (same t u) None) (queue_of R t)) (reply_with R t) o)) (sym (owing-kept (rec.Parts u k) R t refl))
   where
     freed : (o : Option ObjId) → o ≡ None → option_map (λ (r : ThreadRow). record r { block = None }) (row_said R t) ≡ row_blocked R t (prio_of R t) (mode_of R t) (block_said None (reply_with R t) o)
-    freed None e = changed-with (λ (r : ThreadRow). record r { block = None }) (is_alive R t) (form_of R t) _ _ _ _ _ None _ (λ maximum root. refl)
+    freed None e = changed-with (λ (r : ThreadRow). record r { block = None }) (is_alive R t) (form_of R t) _ _ _ _ _ None _ _ (λ maximum root. refl)
     freed (Some r) e = absurd cc
 
     go : (b : Bool) → same t u ≡ b → cond b (option_map (λ (r : ThreadRow). record r { block = None }) (row_said R t)) (row_said R t)
@@ -118,7 +118,7 @@ indebted R T T' d x s sound ok c a t = c.rows t ∙ ap (λ o. cond (same t x) (o
     waits e = let it : t ≡ x = same-equal t x e in sym (rw (ap (λ y. queue_of R y) it ∙ ok.3.0, ap (λ y. owing (rec.Owes d x s ∷ R) y) it ∙ owing-begun R d x s sound ok) refl)
 
     go : (b : Bool) → same t x ≡ b → cond b (option_map (λ (r : ThreadRow). record r { block = Some (OnReply d) }) (row_said R t)) (row_said R t) ≡ row_blocked R t (prio_of R t) (mode_of R t) (blocked R t (owing (rec.Owes d x s ∷ R) t))
-    go true e = changed-with (λ (r : ThreadRow). record r { block = Some (OnReply d) }) (is_alive R t) (form_of R t) _ _ _ _ _ (Some (OnReply d)) _ (λ maximum root. refl) ∙ ap (λ k. row_blocked R t (prio_of R t) (mode_of R t) k) (waits e)
+    go true e = changed-with (λ (r : ThreadRow). record r { block = Some (OnReply d) }) (is_alive R t) (form_of R t) _ _ _ _ _ (Some (OnReply d)) _ _ (λ maximum root. refl) ∙ ap (λ k. row_blocked R t (prio_of R t) (mode_of R t) k) (waits e)
     go false e = ap (λ o. row_blocked R t (prio_of R t) (mode_of R t) (blocked R t o)) (sym (owing-beside R d x t s sound ok e))
 
 -- the debt to a thread ended between R and S
@@ -130,8 +130,21 @@ freed R S T T' d x sound sound' owed ends c a t = c t ∙ ap (λ o. cond (same t
     free e = let it : t ≡ x = same-equal t x e in sym (rw (ap (λ y. queue_of R y) it ∙ owed-stands_none R d x sound owed, ap (λ y. owing S y) it ∙ owing-ended R S d x sound sound' owed ends) refl)
 
     go : (b : Bool) → same t x ≡ b → cond b (option_map (λ (r : ThreadRow). record r { block = None }) (row_said R t)) (row_said R t) ≡ row_blocked R t (prio_of R t) (mode_of R t) (blocked R t (owing S t))
-    go true e = changed-with (λ (r : ThreadRow). record r { block = None }) (is_alive R t) (form_of R t) _ _ _ _ _ None _ (λ maximum root. refl) ∙ ap (λ k. row_blocked R t (prio_of R t) (mode_of R t) k) (free e)
+    go true e = changed-with (λ (r : ThreadRow). record r { block = None }) (is_alive R t) (form_of R t) _ _ _ _ _ None _ _ (λ maximum root. refl) ∙ ap (λ k. row_blocked R t (prio_of R t) (mode_of R t) k) (free e)
     go false e = ap (λ o. row_blocked R t (prio_of R t) (mode_of R t) (blocked R t o)) (sym (owing-left R S d x sound sound' owed ends t e))
+
+-- a thread was bound to a notification, or to none
+tied : (R : Log) (T T' : Table) (u : ObjId) (n : Option ObjId) → ChangesRow (with_notification n) T T' u → ThreadsAgree T R → (t : ObjId) → row_of T' t ≡ row_said (rec.Tied u n ∷ R) t
+tied R T T' u n c a t =
+    c.rows t ∙ ap (λ o. cond (same t u) (option_map (with_notification n) o) o) (a.rows t) ∙ go (same t u)
+    ∙ ap (λ o. row_tied (unwrap_or (given (same t u) n) (bound_of R t)) (blocked R t o)) (sym (owing-kept (rec.Tied u n) R t refl))
+  where
+    row_tied : Option ObjId → Option Block → Option ThreadRow
+    row_tied bound k = cond (is_alive R t) (row_with (form_of R t) (prio_of R t) (mode_of R t) k bound) None
+
+    go : (b : Bool) → cond b (option_map (with_notification n) (row_said R t)) (row_said R t) ≡ row_tied (unwrap_or (given b n) (bound_of R t)) (blocked R t (owing R t))
+    go true = changed-with (with_notification n) (is_alive R t) (form_of R t) _ _ _ _ _ _ _ n (λ maximum root. refl)
+    go false = refl
 
 -- an object of this form was made, whose row is this, if it has one
 born : (R : Log) (T T' : Table) (o : ObjId) (f : Form) (new : Option ThreadRow) → Sound R → was_made R o ≡ false
@@ -186,6 +199,18 @@ mails-paid R T T' d x message alive c a t = c.mails t ∙ go (same t x) refl
     go : (b : Bool) → same t x ≡ b → cond b (Some (Message (record { 0 = 0 }) message)) (mail_in T t) ≡ mail_of (rec.Paid d x message ∷ R) t
     go true e = sym (mail-paid R d x message alive) ∙ ap (mail_of (rec.Paid d x message ∷ R)) (sym (same-equal t x e))
     go false e = a.mails t ∙ sym (mail-still R t (rec.Paid d x message ∷ []) (ap not e, tt))
+
+-- who hears a word has it
+mail-heard : (R : Log) (u n : ObjId) (word : ℕ) → is_alive R u ≡ true → mail_of (rec.Heard u n word ∷ R) u ≡ Some (Word word)
+unfolding mail_of
+mail-heard R u n word alive = rw (alive, same-self u) refl
+
+mails-heard : (R : Log) (T T' : Table) (u n : ObjId) (word : ℕ) → is_alive R u ≡ true → Mails u (Word word) T T' → ThreadsAgree T R → (t : ObjId) → mail_in T' t ≡ mail_of (rec.Heard u n word ∷ R) t
+mails-heard R T T' u n word alive c a t = c.mails t ∙ go (same t u) refl
+  where
+    go : (b : Bool) → same t u ≡ b → cond b (Some (Word word)) (mail_in T t) ≡ mail_of (rec.Heard u n word ∷ R) t
+    go true e = sym (mail-heard R u n word alive) ∙ ap (mail_of (rec.Heard u n word ∷ R)) (sym (same-equal t u e))
+    go false e = a.mails t ∙ sym (mail-still R t (rec.Heard u n word ∷ []) (ap not e, tt))
 
 -- a record that changes nothing of any thread
 kept : (R : Log) (T T' : Table) (r : Rec) → T' ≡ T → ((t : ObjId) → is_still t r ≡ true) → ((t : ObjId) → row_said (r ∷ R) t ≡ row_said R t) → counted (makes_kind kind.Thread) (r ∷ R) ≡ counted (makes_kind kind.Thread) R → ThreadsAgree T R → ThreadsAgree T' (r ∷ R)
@@ -273,6 +298,13 @@ threads-follow (rec.Void d x how) R T T' sound ok h a = record {
   mails = mails-quiet R T T' (rec.Void d x how) (λ t. refl) h.mails a;
 }
 threads-follow (rec.Holds s t) R T T' sound ok h a = kept R T T' (rec.Holds s t) h (λ x. refl) (λ x. unturned (rec.Holds s t) R x _ (owing-kept (rec.Holds s t) R x refl) refl) refl a
+threads-follow (rec.Raised n badge) R T T' sound ok h a = kept R T T' (rec.Raised n badge) h (λ t. refl) (λ t. unturned (rec.Raised n badge) R t _ (owing-kept (rec.Raised n badge) R t refl) refl) refl a
+threads-follow (rec.Heard u n word) R T T' sound ok h a = record {
+  made = h.made ∙ a.made;
+  rows = λ t. h.rows t ∙ a.rows t ∙ sym (unturned (rec.Heard u n word) R t _ (owing-kept (rec.Heard u n word) R t refl) refl);
+  mails = mails-heard R T T' u n word ok.0.1 h a;
+}
+threads-follow (rec.Tied u n) R T T' sound ok h a = record { made = h.count ∙ a.made; rows = tied R T T' u n h a; mails = mails-quiet R T T' (rec.Tied u n) (λ t. refl) h.mails a }
 threads-follow _ R T T' sound ok h a = absurd h
 
 -- a thread that is there is in the table

@@ -11,15 +11,17 @@ use Rattle.mcs_types.specs.declared.record.Ending.{Ending}
 use Rattle.mcs_types.specs.declared.record.Ending.TheVariants.{Deleted}
 use Rattle.mcs_types.specs.declared.record.Letter.{Letter}
 use Rattle.mcs_types.specs.declared.record.Mail.{Mail}
-use Rattle.mcs_types.specs.declared.record.Mail.TheVariants.{Message}
+use Rattle.mcs_types.specs.declared.record.Mail.TheVariants.{Message, Word}
 use Rattle.mcs_types.specs.declared.record.Queue.{Queue}
 use Rattle.mcs_types.specs.declared.record.Queue.TheVariants.{Receivers}
 use Rattle.mcs_types.specs.declared.record.Rec.{Rec}
 use Rattle.mcs_types.specs.declared.record.Rec.TheVariants as rec
 use Rattle.mcs_types.specs.Ids.{value_after, ChangesAt}
+use Rattle.mcs_types.specs.Words.{with_badge}
 use Rattle.mcs_book.specs.Logs.{Log}
 use Rattle.mcs_book.specs.Growing.{without, shifted, growing_open}
 use Rattle.mcs_book.specs.Messages.{next_message, letter}
+use Rattle.mcs_book.specs.Notifications.{bound_of}
 use Rattle.mcs_book.specs.Queues.{reply_with}
 use Rattle.mcs_book.specs.Standing.{letter_mail}
 use Rattle.mcs_book.specs.Threads.{prio_of}
@@ -27,11 +29,12 @@ use Rattle.mcs_places.specs.Places.{kept_at}
 use Rattle.mcs_objects.specs.Store.{one_more}
 use Rattle.mcs_contexts.specs.Holding.{Holding, core_in, holder_in, counts}
 use Rattle.mcs_replies.specs.Owing.{Owing, counts as reply_counts, is_there as has_reply, receiver_in, owed_in, chain_in, SetsOwed, LiesOnTop, EndsDebt}
+use Rattle.mcs_notifications.specs.Signals.{Signals, counts as notification_counts, is_there as has_notification, word_in, thread_in, SetsWord, SetsThread}
 use Rattle.mcs_slots.specs.Filling.{filled}
 use Rattle.mcs_slots.specs.Pages.{Page, ArePages, empty_page}
 use Rattle.mcs_threads.specs.declared.row.Block.TheVariants.{Queued, OnReply}
 use Rattle.mcs_threads.specs.declared.row.ThreadRow.{ThreadRow}
-use Rattle.mcs_threads.specs.Rows.{new_row}
+use Rattle.mcs_threads.specs.Rows.{new_row, with_notification}
 use Rattle.mcs_threads.specs.Tables.{Table, made, row_of, mail_of, ChangesRow, SameRows, SameMails}
 use Rattle.mcs_waiting.specs.Queues.{is_queue_of, line_after, count_after}
 use Rattle.mcs_state.specs.Tables.{Tables, Queueing}
@@ -69,6 +72,9 @@ ThreadsFollow R (rec.Owes d x s) old new = ChangesRow (λ r. record r { block = 
 ThreadsFollow R (rec.Paid d x message) old new = MailsFreed x (Message (record { 0 = 0 }) message) old new
 ThreadsFollow R (rec.Void d x how) old new = ChangesRow (λ r. record r { block = None }) old new x
 ThreadsFollow R (rec.Holds s t) old new = new ≡ old
+ThreadsFollow R (rec.Raised n badge) old new = new ≡ old
+ThreadsFollow R (rec.Heard t n word) old new = Mails t (Word word) old new
+ThreadsFollow R (rec.Tied t n) old new = ChangesRow (with_notification n) old new t
 ThreadsFollow R _ old new = ⊥
 
 -- the open message of a thread is this one from now on, or none
@@ -212,6 +218,50 @@ RepliesFollow R (rec.Paid d x message) old new = DropsDebt d Deleted old new
 RepliesFollow R (rec.Void d x how) old new = DropsDebt d how old new
 RepliesFollow R _ old new = new ≡ old
 
+-- the notifications that are there are those that were
+pub record SameNotifications (old new : Signals) : Type 0 where
+  pub counts : notification_counts new ≡ notification_counts old
+  pub there : (x : ObjId) → has_notification new x ≡ has_notification old x
+
+-- a notification was made, whose word is not pending, and which is bound to no thread
+pub record AddsNotification (n : ObjId) (old new : Signals) : Type 0 where
+  pub counts : notification_counts new ≡ one_more (notification_counts old)
+  pub there : ChangesAt (has_notification old) (has_notification new) n true
+  pub words : (x : ObjId) → word_in new x ≡ word_in old x
+  pub threads : (x : ObjId) → thread_in new x ≡ thread_in old x
+
+-- this is the pending word of a notification from now on, or none is
+pub record KeepsWord (n : ObjId) (word : Option ℕ) (old new : Signals) : Type 0 where
+  pub objects : SameNotifications old new
+  pub words : SetsWord old new n word
+  pub threads : (x : ObjId) → thread_in new x ≡ thread_in old x
+
+-- a notification is bound to this thread from now on, or to none
+pub record KeepsBound (n : ObjId) (t : Option ObjId) (old new : Signals) : Type 0 where
+  pub objects : SameNotifications old new
+  pub words : (x : ObjId) → word_in new x ≡ word_in old x
+  pub threads : SetsThread old new n t
+
+-- a thread that was bound to one notification, or to none, is bound to another from now on, or to none
+abbrev pub Rebinds : ObjId → Option ObjId → Option ObjId → Signals → Signals → Type 0
+Rebinds t from (Some n) old new = KeepsBound n (Some t) old new
+Rebinds t (Some n) None old new = KeepsBound n None old new
+Rebinds t None None old new = new ≡ old
+
+-- how the notifications follow the making of an object
+abbrev pub NotificationsFollowMade : Kind → ObjId → Signals → Signals → Type 0
+NotificationsFollowMade kind.Notification o old new = AddsNotification o old new
+NotificationsFollowMade _ o old new = new ≡ old
+
+-- how the notifications follow a record
+abbrev pub NotificationsFollow : Log → Rec → Signals → Signals → Type 0
+NotificationsFollow R (rec.Made o f) old new = NotificationsFollowMade o.kind o old new
+NotificationsFollow R (rec.Closed o) old new = ⊥
+NotificationsFollow R (rec.Raised n badge) old new = KeepsWord n (Some (with_badge badge.0 (word_in old n))) old new
+NotificationsFollow R (rec.Heard t n word) old new = KeepsWord n None old new
+NotificationsFollow R (rec.Tied t n) old new = Rebinds t (bound_of R t) n old new
+NotificationsFollow R _ old new = new ≡ old
+
 -- how the pages follow a record
 abbrev pub SlotsFollow : Rec → List Page → List Page → Type 0
 SlotsFollow (rec.Made o (form.Slots radix)) old new = new ≡ old ++ empty_page radix ∷ []
@@ -230,5 +280,6 @@ pub record Follows (R : Log) (r : Rec) (old new : Tables) : Type 0 where
   pub contexts : ContextsFollow r old.contexts new.contexts
   pub queues : QueuesFollow R r old.queues new.queues
   pub replies : RepliesFollow R r old.replies new.replies
+  pub notifications : NotificationsFollow R r old.notifications new.notifications
   pub slots : SlotsFollow r old.slots new.slots
   pub sent : SentFollows r old.sent new.sent

@@ -18,13 +18,15 @@ use Rattle.mcs_book.specs.Queues.{queue_of}
 use Rattle.mcs_book.specs.Standing.{mail_of}
 use Rattle.mcs_book.specs.Messages.{next_message, is_sent}
 use Rattle.mcs_book.specs.Contexts.{holder_of}
+use Rattle.mcs_book.specs.Notifications.{tied_to}
 use Rattle.mcs_book.specs.Replies.{receiver_with, owed_by}
-use Rattle.mcs_book.specs.Growing.{Waiter, growing_queue, growing_open, growing_chain}
+use Rattle.mcs_book.specs.Growing.{Waiter, growing_queue, growing_open, growing_chain, growing_word}
 use Rattle.mcs_book.specs.Sound.{Sound}
 use Rattle.mcs_places.specs.Places.{kept_at}
 use Rattle.mcs_objects.specs.Store.{Shape}
 use Rattle.mcs_contexts.specs.Holding.{Holding, counts, core_in, holder_in}
 use Rattle.mcs_replies.specs.Owing.{Owing, counts as reply_counts, is_there as has_reply, receiver_in, owed_in, chain_in}
+use Rattle.mcs_notifications.specs.Signals.{Signals, counts as notification_counts, is_there as has_notification, word_in, thread_in}
 use Rattle.mcs_slots.specs.Pages.{Page, radix_of, slot_at}
 use Rattle.mcs_threads.specs.Tables.{Table, made, row_of, mail_of as mail_in}
 use Rattle.mcs_waiting.specs.Queues.{queue_object, queue_kind, has_queues}
@@ -54,6 +56,7 @@ pub record Tables : Type 0 where
   pub contexts : Holding
   pub queues : Queueing
   pub replies : Owing
+  pub notifications : Signals
   pub slots : List Page
   pub sent : ℕ
 
@@ -107,6 +110,17 @@ pub record RepliesAgree (v : Owing) (R : Log) : Type 0 where
   pub owed : (r : ObjId) → owed_in v r ≡ owed_by R r
   pub chains : (s : ObjId) → chain_in v s ≡ growing_chain R s
 
+-- the pending word of a notification that is there
+abbrev pub word_said : Log → ObjId → Option ℕ
+word_said R n = cond (is_there R kind.Notification n) (growing_word R n) None
+
+-- the notifications, their pending words, and the thread bound to each
+pub record NotificationsAgree (v : Signals) (R : Log) : Type 0 where
+  pub counts : notification_counts v ≡ shape_said kind.Notification R
+  pub there : (n : ObjId) → has_notification v n ≡ is_there R kind.Notification n
+  pub words : (n : ObjId) → word_in v n ≡ word_said R n
+  pub threads : (n : ObjId) → thread_in v n ≡ tied_to R n
+
 -- the pages of the CNodes: as many as were made, with their radices and what their slots hold
 pub record SlotsAgree (pages : List Page) (R : Log) : Type 0 where
   pub made : length pages ≡ counted (makes_kind kind.CNode) R
@@ -127,5 +141,6 @@ pub record IsKept (T : Tables) (lines : ℕ) (hand R : Log) : Type 0 where
   pub contexts : ContextsAgree T.contexts R
   pub queues : QueuesAgree T.queues R
   pub replies : RepliesAgree T.replies R
+  pub notifications : NotificationsAgree T.notifications R
   pub slots : SlotsAgree T.slots R
   pub sent : SentAgrees T.sent lines hand R

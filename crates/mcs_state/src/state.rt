@@ -11,6 +11,7 @@ ghost use Rattle.mcs_state.specs.Now.{so_far, adds, IsNumberOf};
 ghost use Rattle.mcs_state.specs.Tables.{HAND};
 
 mod making;
+mod notifying;
 mod picking;
 mod queries;
 mod replying;
@@ -18,6 +19,7 @@ mod replying;
 use crate::giving::{attend, attended, give};
 use mcs_book::Book;
 use mcs_contexts::Contexts;
+use mcs_notifications::Notifications;
 use mcs_places::{empty_places, keep, take};
 use mcs_replies::Replies;
 use mcs_slots::{SlotId, Slots};
@@ -39,6 +41,7 @@ pub struct State<W: Waiting> {
     contexts: Contexts,
     queues: W,
     replies: Replies,
+    notifications: Notifications,
     slots: Slots,
     sent: u32,
 }
@@ -55,6 +58,7 @@ impl<W: Waiting> Drop for State<W> {
             contexts: _,
             queues: _,
             replies: _,
+            notifications: _,
             slots: _,
             sent: _,
         } = self;
@@ -78,6 +82,7 @@ impl<W: Waiting> Model for State<W> {
           contexts = s.contexts;
           queues = record { line = W.line s.queues; queue = W.queue s.queues; has = W.has s.queues; made = W.given s.queues; there = W.there s.queues };
           replies = s.replies;
+          notifications = s.notifications;
           slots = s.slots;
           sent = s.sent;
         }) (length s.book.book.lines) (reverse s.hand.items) (reverse s.hand.items ++ log_of s.book.book) };
@@ -121,6 +126,7 @@ impl<W: Waiting> State<W> {
             contexts: Contexts::new(alloc)?,
             queues: W::new(alloc)?,
             replies: Replies::new(alloc)?,
+            notifications: Notifications::new(alloc)?,
             slots: Slots::new(alloc, &[])?,
             sent: 0,
         })

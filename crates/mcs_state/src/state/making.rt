@@ -4,7 +4,6 @@ ghost use Rattle.mcs_types.specs.declared.record.Form.{Form};
 ghost use Rattle.mcs_types.specs.declared.id.Kind.{Kind};
 ghost use Rattle.mcs_book.specs.Logs.{counted};
 ghost use Rattle.mcs_book.specs.Objects.{makes_kind};
-ghost use Rattle.mcs_waiting.specs.Queues.{has_queues};
 ghost use Rattle.mcs_state.specs.Now.{so_far};
 ghost use Rattle.mcs_state.specs.Tables.{HAND, ROOM};
 ghost use Rattle.mcs_state.specs.Making.{HasRoom, MayMake, makes_next, is_plain_kind};
@@ -14,15 +13,27 @@ use mcs_types::{Cap, CoreId, Form, Kind, ObjId, OutOfMemory, Prio, Rec};
 use mcs_waiting::Waiting;
 
 impl<W: Waiting> State<W> {
-    /// Makes an endpoint or a notification.
-    fn opens(&mut self, kind: Kind)
-        requires queued { has_queues kind ≡ true }
-        requires allowed { MayMake (so_far self.old) kind Form.Plain }
-        requires few { HasRoom (so_far self.old) kind }
+    /// Makes an endpoint.
+    fn makes_endpoint(&mut self)
+        requires allowed { MayMake (so_far self.old) Kind.Endpoint Form.Plain }
+        requires few { HasRoom (so_far self.old) Kind.Endpoint }
         requires room { length self.old.hand < HAND }
-        ensures { self.new ≡ makes_next kind Form.Plain self.old }
+        ensures { self.new ≡ makes_next Kind.Endpoint Form.Plain self.old }
     {
-        let object = self.queues.open(kind);
+        let object = self.queues.open(Kind::Endpoint);
+        let form = Form::Plain;
+        note(&mut self.hand, Rec::Made { object, form });
+    }
+
+    /// Makes a notification: its queue, and its word with the thread bound to it.
+    fn makes_notification(&mut self)
+        requires allowed { MayMake (so_far self.old) Kind.Notification Form.Plain }
+        requires few { HasRoom (so_far self.old) Kind.Notification }
+        requires room { length self.old.hand < HAND }
+        ensures { self.new ≡ makes_next Kind.Notification Form.Plain self.old }
+    {
+        self.queues.open(Kind::Notification);
+        let object = self.notifications.add();
         let form = Form::Plain;
         note(&mut self.hand, Rec::Made { object, form });
     }
@@ -48,7 +59,8 @@ impl<W: Waiting> State<W> {
         ensures { self.new ≡ makes_next kind Form.Plain self.old }
     {
         match kind {
-            Kind::Endpoint | Kind::Notification => self.opens(kind),
+            Kind::Endpoint => self.makes_endpoint(),
+            Kind::Notification => self.makes_notification(),
             Kind::Reply => self.makes_reply(),
             Kind::CNode | Kind::Thread | Kind::Context => unreachable!(),
         }

@@ -30,5 +30,5 @@ invariant_of-self g c = let line = rw (seen c.self.view_is (λ R. c.priority-pri
     let replies = rw c.attended.ensures at c.attend.ensures in (
       omega (arith, c.self.invariant.0, c.note.ensures.capacity),
       follows (rec.Joins c.args.thread c.args.queue c.args.reply) _ _ _ _ _ _ c.note.ensures.items (inside-room c.self.view_is c.requires.room) (inside (rec.Joins c.args.thread c.args.queue c.args.reply) c.self.view_is c.requires.allowed)
-          (record { threads = c.block.ensures.changed; letters = refl; contexts = refl; queues = record { line = line; queue = c.join.ensures.queue; objects = record { has = c.join.ensures.has; made = c.join.ensures.given; there = c.join.ensures.there } }; replies = replies; slots = refl; sent = refl }) c.self.invariant.1,
+          (record { threads = c.block.ensures.changed; letters = refl; contexts = refl; queues = record { line = line; queue = c.join.ensures.queue; objects = record { has = c.join.ensures.has; made = c.join.ensures.given; there = c.join.ensures.there } }; replies = replies; notifications = refl; slots = refl; sent = refl }) c.self.invariant.1,
     )

@@ -18,5 +18,5 @@ invariant_of-self-2 g c =
     let made = rec.Made (next_id R kind.CNode) (form.Slots c.args.radix) in (
       omega (arith, c.self.invariant.0, c.note.ensures.capacity),
       follows made _ _ _ _ _ _ items (inside-room c.self.view_is c.requires.room) (inside-made kind.CNode (form.Slots c.args.radix) c.self.view_is c.requires.allowed)
-          (record { threads = refl; letters = refl; contexts = refl; queues = refl; replies = refl; slots = c.in_ok-add.ensures.added; sent = refl }) c.self.invariant.1,
+          (record { threads = refl; letters = refl; contexts = refl; queues = refl; replies = refl; notifications = refl; slots = c.in_ok-add.ensures.added; sent = refl }) c.self.invariant.1,
     )

@@ -21,5 +21,5 @@ invariant_of-self g c =
     let made = rec.Made (next_id R kind.Reply) (form.Plain) in (
       omega (arith, c.self.invariant.0, c.note.ensures.capacity),
       follows made _ _ _ _ _ _ items (inside-room c.self.view_is c.requires.room) (inside-made kind.Reply form.Plain c.self.view_is c.requires.allowed)
-          (record { threads = refl; letters = refl; contexts = refl; queues = refl; replies = record { counts = add.counts; there = there; receivers = add.receivers; debts = record { owed = add.owed; chains = add.chains } }; slots = refl; sent = refl }) c.self.invariant.1,
+          (record { threads = refl; letters = refl; contexts = refl; queues = refl; replies = record { counts = add.counts; there = there; receivers = add.receivers; debts = record { owed = add.owed; chains = add.chains } }; notifications = refl; slots = refl; sent = refl }) c.self.invariant.1,
     )

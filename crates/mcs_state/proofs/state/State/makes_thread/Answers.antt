@@ -19,5 +19,5 @@ invariant_of-self g c =
     let made = rec.Made (next_id R kind.Thread) (form.Runner c.args.maximum c.args.root) in (
       omega (arith, c.self.invariant.0, c.note.ensures.capacity),
       follows made _ _ _ _ _ _ items (inside-room c.self.view_is c.requires.room) (inside-made kind.Thread (form.Runner c.args.maximum c.args.root) c.self.view_is c.requires.allowed)
-          (record { threads = record { made = c.add-object.ensures.made; rows = rows; mails = c.add-object.ensures.mails }; letters = refl; contexts = refl; queues = refl; replies = refl; slots = refl; sent = refl }) c.self.invariant.1,
+          (record { threads = record { made = c.add-object.ensures.made; rows = rows; mails = c.add-object.ensures.mails }; letters = refl; contexts = refl; queues = refl; replies = refl; notifications = refl; slots = refl; sent = refl }) c.self.invariant.1,
     )

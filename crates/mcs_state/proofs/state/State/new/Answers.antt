@@ -27,7 +27,11 @@ invariant_of-result g c = (
         receivers = c.in_ok-new-4.ensures.receivers;
         owed = c.in_ok-new-4.ensures.owed;
         chains = c.in_ok-new-4.ensures.chains;
-        slots = c.in_ok-new-5.ensures;
+        notifications = c.in_ok-new-5.ensures.counts;
+        has_notification = c.in_ok-new-5.ensures.there;
+        words = c.in_ok-new-5.ensures.words;
+        bound = c.in_ok-new-5.ensures.threads;
+        slots = c.in_ok-new-6.ensures;
         sent = refl;
       })),
 )

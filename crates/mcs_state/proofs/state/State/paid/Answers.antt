@@ -20,7 +20,7 @@ invariant_of-self g c =
     let threads = rw c.copy-answer.ensures at c.answers.ensures in (
       omega (arith, c.self.invariant.0, c.note.ensures.capacity),
       follows (rec.Paid c.args.reply c.args.caller c.args.message) _ _ _ _ _ _ c.note.ensures.items (inside-room c.self.view_is c.requires.room) (inside (rec.Paid c.args.reply c.args.caller c.args.message) c.self.view_is c.requires.allowed)
-          (record { threads = threads; letters = refl; contexts = refl; queues = refl; replies = replies; slots = refl; sent = refl }) c.self.invariant.1,
+          (record { threads = threads; letters = refl; contexts = refl; queues = refl; replies = replies; notifications = refl; slots = refl; sent = refl }) c.self.invariant.1,
     )
 
 pub returns-clause-topped : goal.returns-clause-topped

@@ -21,5 +21,5 @@ invariant_of-self g c = let is = seen c.self.view_is (λ R. c.reply_with-reply.r
     let replies = subst (λ (o : Option ObjId). SetsAny o None c.self.inside.replies c.attend.new.replies) is c.attend.ensures in (
       omega (arith, c.self.invariant.0, c.note.ensures.capacity),
       follows (rec.Parts c.args.thread c.args.queue) _ _ _ _ _ _ c.note.ensures.items (inside-room c.self.view_is c.requires.room) (inside (rec.Parts c.args.thread c.args.queue) c.self.view_is c.requires.allowed)
-          (record { threads = c.unblock.ensures.changed; letters = refl; contexts = refl; queues = record { line = c.part.ensures.line; queue = c.part.ensures.queue; objects = record { has = c.part.ensures.has; made = c.part.ensures.given; there = c.part.ensures.there } }; replies = replies; slots = refl; sent = refl }) c.self.invariant.1,
+          (record { threads = c.unblock.ensures.changed; letters = refl; contexts = refl; queues = record { line = c.part.ensures.line; queue = c.part.ensures.queue; objects = record { has = c.part.ensures.has; made = c.part.ensures.given; there = c.part.ensures.there } }; replies = replies; notifications = refl; slots = refl; sent = refl }) c.self.invariant.1,
     )

@@ -23,5 +23,5 @@ pub invariant_of-self : goal.invariant_of-self
 invariant_of-self g c = let kept = rw (c.copy.ensures, c.self.invariant.1.sent.all) at c.keep.ensures.kept in (
   omega (arith, c.self.invariant.0, c.note.ensures.capacity),
   follows (rec.Sent c.args.sender c.args.endpoint c.args.mode c.args.badge c.args.message) _ _ _ _ _ _ c.note.ensures.items (inside-room c.self.view_is c.requires.room) (inside (rec.Sent c.args.sender c.args.endpoint c.args.mode c.args.badge c.args.message) c.self.view_is c.requires.allowed)
-      (record { threads = refl; letters = record { places = c.keep.ensures.places; letters = kept }; contexts = refl; queues = refl; replies = refl; slots = refl; sent = refl }) c.self.invariant.1,
+      (record { threads = refl; letters = record { places = c.keep.ensures.places; letters = kept }; contexts = refl; queues = refl; replies = refl; notifications = refl; slots = refl; sent = refl }) c.self.invariant.1,
 )

@@ -25,5 +25,5 @@ invariant_of-self g c = let ok = inside (rec.Took c.args.number c.args.receiver)
     let mails = rw c.mail_of.ensures at c.set_mail.ensures.mails there in (
       omega (arith, c.self.invariant.0, c.note.ensures.capacity),
       follows (rec.Took c.args.number c.args.receiver) _ _ _ _ _ _ c.note.ensures.items (inside-room c.self.view_is c.requires.room) (inside (rec.Took c.args.number c.args.receiver) c.self.view_is c.requires.allowed)
-          (record { threads = (c.in-Some.letter, (taken.letter, record { made = c.set_mail.ensures.made; rows = c.set_mail.ensures.rows; mails = mails })); letters = (c.in-Some.letter, (taken.kept, taken.number, record { places = c.in-Some.ensures.places; letters = rw taken.sender c.in-Some.ensures.kept })); contexts = refl; queues = refl; replies = refl; slots = refl; sent = refl }) c.self.invariant.1,
+          (record { threads = (c.in-Some.letter, (taken.letter, record { made = c.set_mail.ensures.made; rows = c.set_mail.ensures.rows; mails = mails })); letters = (c.in-Some.letter, (taken.kept, taken.number, record { places = c.in-Some.ensures.places; letters = rw taken.sender c.in-Some.ensures.kept })); contexts = refl; queues = refl; replies = refl; notifications = refl; slots = refl; sent = refl }) c.self.invariant.1,
     )

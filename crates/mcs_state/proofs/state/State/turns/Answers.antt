@@ -7,5 +7,5 @@ pub invariant_of-self : goal.invariant_of-self
 invariant_of-self g c = (
   omega (arith, c.self.invariant.0, c.note.ensures.capacity),
   follows (rec.Turns c.args.thread c.args.mode) _ _ _ _ _ _ c.note.ensures.items (inside-room c.self.view_is c.requires.room) (inside (rec.Turns c.args.thread c.args.mode) c.self.view_is c.requires.allowed)
-      (record { threads = c.set_mode.ensures.changed; letters = refl; contexts = refl; queues = refl; replies = refl; slots = refl; sent = refl }) c.self.invariant.1,
+      (record { threads = c.set_mode.ensures.changed; letters = refl; contexts = refl; queues = refl; replies = refl; notifications = refl; slots = refl; sent = refl }) c.self.invariant.1,
 )

@@ -1,0 +1,266 @@
+-- The notifications, their pending words, and the threads bound to them follow a record.
+use Rattle.std.specs.Prelude.{ℕ, ◌≡◌, ◌&&◌, ◌||◌, Bool, true, false, cond, find, ◌∷◌, [], Option, Some, None, IsSome, unwrap_or}
+use Rattle.std.specs.Option.{IfSome}
+use Rattle.std.proofs.Common.{refl, ap, sym, ◌∙◌, inl, inr}
+use Rattle.mcs_types.specs.declared.id.ObjId.{ObjId}
+use Rattle.mcs_types.specs.declared.id.Badge.{Badge}
+use Rattle.mcs_types.specs.declared.id.Kind.{Kind}
+use Rattle.mcs_types.specs.declared.id.Kind.TheVariants as kind
+use Rattle.mcs_types.specs.declared.record.Form.{Form}
+use Rattle.mcs_types.specs.declared.record.Rec.{Rec}
+use Rattle.mcs_types.specs.declared.record.Rec.TheVariants as rec
+use Rattle.mcs_types.specs.Ids.{same, same_kind, is_just, value_after}
+use Rattle.mcs_types.specs.Words.{with_badge}
+use Rattle.mcs_types.proofs.Ids.{same-self, same-equal}
+use Rattle.mcs_book.specs.Logs.{Log, given}
+use Rattle.mcs_book.specs.Growing.{growing_word}
+use Rattle.mcs_book.specs.Notifications.{bound_of, tied_to}
+use Rattle.mcs_book.specs.Objects.{was_made, was_closed}
+use Rattle.mcs_book.specs.Sound.{Sound, Allowed, IsThere, IsUnbound}
+use Rattle.mcs_book.specs.Threads.{threads}
+use Rattle.mcs_book.proofs.Firm.Laws.{tied-bound, tied-none}
+use Rattle.mcs_book.proofs.Objects.MadeLaws.{alive-made, made-in}
+use Rattle.mcs_book.proofs.Objects.Same.{is_just-some}
+use Rattle.mcs_book.proofs.SoundLogs.KeptLaws.{bound-one, bound-there, never-both, same-never, set-other, set-self, set-split}
+use Rattle.mcs_book.proofs.Threads.HoldingLaws.{find-alone}
+use Rattle.mcs_objects.specs.Store.{one_more}
+use Rattle.mcs_notifications.specs.Signals.{Signals, is_there as has_notification, word_in}
+use Rattle.mcs_state.specs.Tables.{NotificationsAgree, shape_said, is_there, word_said}
+use Rattle.mcs_state.specs.Following.{NotificationsFollow, NotificationsFollowMade, AddsNotification, KeepsWord, KeepsBound, Rebinds}
+use Rattle.mcs_state.proofs.CountLaws.{never-made, shape-made, shape-beside}
+use Rattle.mcs_state.proofs.Saying.{unsaid}
+use Rattle.mcs_state.proofs.ThereLaws.{there-made, there-beside, there}
+
+-- the thread that is bound to n is found, as it is the only one
+tied-found : (R : Log) (t n : ObjId) → Sound R → bound_of R t ≡ Some n → tied_to R n ≡ Some t
+unfolding tied_to
+tied-found R t n sound bound =
+    let f : IsThere R kind.Thread t × IsThere R kind.Notification n = bound-there R t n sound bound in
+    find-alone (λ u. is_just (bound_of R u) n) (threads R) t (made-in R t kind.Thread f.0.0 (alive-made R t f.0.1)) (ap (λ d. is_just d n) bound ∙ same-self n)
+    (λ u is. bound-one R u t n sound (is_just-some (bound_of R u) n is) bound)
+
+-- where none is bound to n, none is found
+tied-nobody : (R : Log) (n : ObjId) → IsUnbound R n → tied_to R n ≡ None
+tied-nobody R n none = go (tied_to R n) refl
+  where
+    go : (o : Option ObjId) → tied_to R n ≡ o → o ≡ None
+    go None e = refl
+    go (Some t) e = absurd (none t (tied-bound R n t e))
+
+-- who is found where the same threads are bound in two logs
+tied-same : (R S : Log) (n : ObjId) → Sound R → Sound S → ((t : ObjId) → bound_of R t ≡ Some n → bound_of S t ≡ Some n) → ((t : ObjId) → bound_of S t ≡ Some n → bound_of R t ≡ Some n) → tied_to S n ≡ tied_to R n
+tied-same R S n sound sound' to from = go (tied_to R n) refl
+  where
+    go : (o : Option ObjId) → tied_to R n ≡ o → tied_to S n ≡ o
+    go None e = tied-nobody S n (λ t h. tied-none R n sound e t (from t h))
+    go (Some t) e = tied-found S t n sound' (to t (tied-bound R n t e))
+
+-- a thread is bound to n: it is found there, and at the others who was found before
+tied-begun : (R : Log) (t n : ObjId) → Sound R → Allowed R (rec.Tied t (Some n)) → tied_to (rec.Tied t (Some n) ∷ R) n ≡ Some t
+tied-begun R t n sound ok = tied-found (rec.Tied t (Some n) ∷ R) t n (ok, sound) (set-self t (Some n) (bound_of R t))
+
+tied-beside : (R : Log) (t n x : ObjId) → Sound R → Allowed R (rec.Tied t (Some n)) → same x n ≡ false → tied_to (rec.Tied t (Some n) ∷ R) x ≡ tied_to R x
+tied-beside R t n x sound ok other =
+    tied-same R (rec.Tied t (Some n) ∷ R) x sound (ok, sound)
+    (λ u h. set-other u t (Some n) (bound_of R u) (λ is. never-both (bound_of R t) x (ap (λ z. bound_of R z) (sym is) ∙ h) ok.2) ∙ h)
+    (λ u h. elim (set-split u t (Some n) (bound_of R u) (Some x) h) [
+      | inl (who, is) ↦ (let it : x ≡ n = cc in absurd (same-never x n it other))
+      | inr (apart, is) ↦ is
+    ])
+
+-- the thread t is bound no more to n
+module _ (R : Log) (t n : ObjId) (sound : Sound R) (ok : Allowed R (rec.Tied t None)) (bound : bound_of R t ≡ Some n) where
+  still-bound : (u x : ObjId) → bound_of (rec.Tied t None ∷ R) u ≡ Some x → (same u t ≡ false) × (bound_of R u ≡ Some x)
+  still-bound u x h = elim (set-split u t None (bound_of R u) (Some x) h) [ inl (who, is) ↦ absurd cc | inr (other, is) ↦ (other, is) ]
+
+  tied-ended : tied_to (rec.Tied t None ∷ R) n ≡ None
+  tied-ended = tied-nobody (rec.Tied t None ∷ R) n (λ u h. let f : (same u t ≡ false) × (bound_of R u ≡ Some n) = still-bound u n h in same-never u t (bound-one R u t n sound f.1 bound) f.0)
+
+  tied-left : (x : ObjId) → same x n ≡ false → tied_to (rec.Tied t None ∷ R) x ≡ tied_to R x
+  tied-left x other =
+      tied-same R (rec.Tied t None ∷ R) x sound (ok, sound)
+      (λ u h. set-other u t None (bound_of R u) (λ is. let both : Some x ≡ Some n = sym h ∙ ap (λ z. bound_of R z) is ∙ bound in let it : x ≡ n = cc in same-never x n it other) ∙ h)
+      (λ u h. (still-bound u x h).1)
+
+-- whether a record neither makes an object nor binds a thread
+abbrev is_tieless : Rec → Bool
+is_tieless (rec.Made o f) = false
+is_tieless (rec.Tied t n) = false
+is_tieless _ = true
+
+-- such a record leaves who is bound to what
+tied-kept : (r : Rec) (R : Log) (n : ObjId) → is_tieless r ≡ true → tied_to (r ∷ R) n ≡ tied_to R n
+unfolding tied_to
+tied-kept (rec.Made o f) R n h = absurd cc
+tied-kept (rec.Tied t m) R n h = absurd cc
+tied-kept _ R n h = refl
+
+-- and so does the making of an object
+tied-made : (R : Log) (o n : ObjId) (f : Form) → Sound R → was_made R o ≡ false → tied_to (rec.Made o f ∷ R) n ≡ tied_to R n
+unfolding tied_to
+tied-made R o n f sound never = go (same_kind o.kind kind.Thread)
+  where
+    go : (b : Bool) → find (λ t. is_just (bound_of R t) n) (cond b (o ∷ threads R) (threads R)) ≡ find (λ t. is_just (bound_of R t) n) (threads R)
+    go false = refl
+    go true = ap (λ d. cond (is_just d n) (Some o) (find (λ t. is_just (bound_of R t) n) (threads R))) (unsaid R o sound never).4
+
+-- no badge was raised of what was never made
+unraised : (R : Log) (n : ObjId) → Sound R → was_made R n ≡ false → growing_word R n ≡ None
+unraised [] n sound h = refl
+unraised (rec.Made o f ∷ R) n sound h = go (same n o) h (unraised R n sound.1)
+  where
+    go : (b : Bool) → (b || was_made R n) ≡ false → (was_made R n ≡ false → growing_word R n ≡ None) → growing_word R n ≡ None
+    go true h later = absurd cc
+    go false h later = later h
+unraised (rec.Raised k badge ∷ R) n sound h = go (same n k) refl (unraised R n sound.1 h)
+  where
+    go : (b : Bool) → same n k ≡ b → growing_word R n ≡ None → cond b (Some (with_badge badge.0 (growing_word R n))) (growing_word R n) ≡ None
+    go true e later = let no : true ≡ false = sym (alive-made R k sound.0.0.1) ∙ ap (was_made R) (sym (same-equal n k e)) ∙ h in absurd cc
+    go false e later = later
+unraised (rec.Heard t k word ∷ R) n sound h = go (same n k) (unraised R n sound.1 h)
+  where
+    go : (b : Bool) → growing_word R n ≡ None → cond b None (growing_word R n) ≡ None
+    go true later = refl
+    go false later = later
+unraised (_ ∷ R) n sound h = unraised R n sound.1 h
+
+-- the log says of the notifications what it said
+still : (R S : Log) (v w : Signals) → w ≡ v → shape_said kind.Notification R ≡ shape_said kind.Notification S → ((x : ObjId) → is_there R kind.Notification x ≡ is_there S kind.Notification x)
+    → ((x : ObjId) → word_said R x ≡ word_said S x) → ((x : ObjId) → tied_to S x ≡ tied_to R x) → NotificationsAgree v R → NotificationsAgree w S
+still R S v w is counts there words tied a = rw is (record {
+  counts = a.counts ∙ counts;
+  there = λ x. a.there x ∙ there x;
+  words = λ x. a.words x ∙ words x;
+  threads = λ x. a.threads x ∙ sym (tied x);
+})
+
+-- what was made has no pending word, and the others have theirs
+word-made : (R : Log) (o x : ObjId) (f : Form) → Sound R → was_made R o ≡ false → word_said R x ≡ word_said (rec.Made o f ∷ R) x
+word-made R o x f sound never = go (same x o) refl ∙ ap (λ b. cond b (growing_word R x) None) (there-made R o x f kind.Notification sound never)
+  where
+    unmade : (a b : Bool) (word : Option ℕ) → word ≡ None → cond a word None ≡ cond b word None
+    unmade true true word none = refl
+    unmade true false word none = none
+    unmade false true word none = sym none
+    unmade false false word none = refl
+
+    beside : (a b : Bool) → cond b (growing_word R x) None ≡ cond ((a && false) || b) (growing_word R x) None
+    beside true b = refl
+    beside false b = refl
+
+    go : (b : Bool) → same x o ≡ b → word_said R x ≡ cond ((same_kind x.kind kind.Notification && b) || is_there R kind.Notification x) (growing_word R x) None
+    go true e = unmade _ _ _ (unraised R x sound (ap (was_made R) (same-equal x o e) ∙ never))
+    go false e = beside (same_kind x.kind kind.Notification) (is_there R kind.Notification x)
+
+-- an object of another kind was made
+beside : (R : Log) (v w : Signals) (o : ObjId) (f : Form) → Sound R → Allowed R (rec.Made o f) → same_kind o.kind kind.Notification ≡ false → w ≡ v → NotificationsAgree v R → NotificationsAgree w (rec.Made o f ∷ R)
+beside R v w o f sound ok other is a =
+    let never = never-made R o f sound ok in
+    still R (rec.Made o f ∷ R) v w is (shape-beside R o f kind.Notification sound ok other) (λ x. there-beside R o x f kind.Notification other) (λ x. word-made R o x f sound never) (λ x. tied-made R o x f sound never) a
+
+-- a notification was made
+added : (R : Log) (v w : Signals) (o : ObjId) (f : Form) → Sound R → Allowed R (rec.Made o f) → o.kind ≡ kind.Notification → AddsNotification o v w → NotificationsAgree v R → NotificationsAgree w (rec.Made o f ∷ R)
+added R v w o f sound ok is h a = record {
+  counts = h.counts ∙ ap one_more a.counts ∙ shape-made R o f kind.Notification sound ok (ap (λ k. same_kind k kind.Notification) is);
+  there = λ x. h.there x ∙ ap (λ b. value_after x o true b) (a.there x) ∙ go x (same x o) refl ∙ there-made R o x f kind.Notification sound never;
+  words = λ x. h.words x ∙ a.words x ∙ word-made R o x f sound never;
+  threads = λ x. h.threads x ∙ a.threads x ∙ sym (tied-made R o x f sound never);
+}
+  where
+    never : was_made R o ≡ false
+    never = never-made R o f sound ok
+
+    either : (b c : Bool) → c ≡ ((b && false) || c)
+    either true c = refl
+    either false c = refl
+
+    go : (x : ObjId) (b : Bool) → same x o ≡ b → cond b true (is_there R kind.Notification x) ≡ ((same_kind x.kind kind.Notification && b) || is_there R kind.Notification x)
+    go x false e = either (same_kind x.kind kind.Notification) (is_there R kind.Notification x)
+    go x true e = sym (ap (λ b. (b && true) || is_there R kind.Notification x) (ap (λ (y : ObjId). same_kind y.kind kind.Notification) (same-equal x o e) ∙ ap (λ k. same_kind k kind.Notification) is))
+
+born : (R : Log) (v w : Signals) (o : ObjId) (f : Form) → Sound R → Allowed R (rec.Made o f) → NotificationsFollowMade o.kind o v w → NotificationsAgree v R → NotificationsAgree w (rec.Made o f ∷ R)
+born R v w o f sound ok h a = go o.kind refl h
+  where
+    go : (k : Kind) → o.kind ≡ k → NotificationsFollowMade k o v w → NotificationsAgree w (rec.Made o f ∷ R)
+    go kind.Notification e h = added R v w o f sound ok e h a
+    go kind.CNode e h = beside R v w o f sound ok (ap (λ k. same_kind k kind.Notification) e) h a
+    go kind.Thread e h = beside R v w o f sound ok (ap (λ k. same_kind k kind.Notification) e) h a
+    go kind.Endpoint e h = beside R v w o f sound ok (ap (λ k. same_kind k kind.Notification) e) h a
+    go kind.Reply e h = beside R v w o f sound ok (ap (λ k. same_kind k kind.Notification) e) h a
+    go kind.Context e h = beside R v w o f sound ok (ap (λ k. same_kind k kind.Notification) e) h a
+
+-- the word of n was set between R and S
+worded : (R S : Log) (v w : Signals) (n : ObjId) (word : Option ℕ) → KeepsWord n word v w → shape_said kind.Notification R ≡ shape_said kind.Notification S → ((x : ObjId) → is_there R kind.Notification x ≡ is_there S kind.Notification x)
+    → ((x : ObjId) → value_after x n word (word_said R x) ≡ word_said S x) → ((x : ObjId) → tied_to S x ≡ tied_to R x) → NotificationsAgree v R → NotificationsAgree w S
+worded R S v w n word h counts there words tied a = record {
+  counts = h.objects.counts ∙ a.counts ∙ counts;
+  there = λ x. h.objects.there x ∙ a.there x ∙ there x;
+  words = λ x. h.words x ∙ ap (λ o. value_after x n word o) (a.words x) ∙ words x;
+  threads = λ x. h.threads x ∙ a.threads x ∙ sym (tied x);
+}
+
+-- the word of a notification that is there gains a badge
+word-raised : (R : Log) (n x : ObjId) (badge : Badge) (word : Option ℕ) → IsThere R kind.Notification n → word ≡ word_said R n → value_after x n (Some (with_badge badge.0 word)) (word_said R x) ≡ word_said (rec.Raised n badge ∷ R) x
+word-raised R n x badge word is known = go (same x n) refl
+  where
+    go : (b : Bool) → same x n ≡ b → cond b (Some (with_badge badge.0 word)) (word_said R x) ≡ cond (is_there R kind.Notification x) (cond b (Some (with_badge badge.0 (growing_word R x))) (growing_word R x)) None
+    go false e = refl
+    go true e = rw (same-equal x n e, known, there R kind.Notification n is) refl
+
+-- a word that is heard is gone, also of what is not there
+word-heard : (R : Log) (t n x : ObjId) (word : ℕ) → value_after x n None (word_said R x) ≡ word_said (rec.Heard t n word ∷ R) x
+word-heard R t n x word = go (same x n) (is_there R kind.Notification x)
+  where
+    go : (b c : Bool) → cond b None (cond c (growing_word R x) None) ≡ cond c (cond b None (growing_word R x)) None
+    go false c = refl
+    go true true = refl
+    go true false = refl
+
+-- the thread of n was set between R and S
+rebound : (R S : Log) (v w : Signals) (n : ObjId) (t : Option ObjId) → KeepsBound n t v w → shape_said kind.Notification R ≡ shape_said kind.Notification S → ((x : ObjId) → is_there R kind.Notification x ≡ is_there S kind.Notification x)
+    → ((x : ObjId) → word_said R x ≡ word_said S x) → tied_to S n ≡ t → ((x : ObjId) → same x n ≡ false → tied_to S x ≡ tied_to R x) → NotificationsAgree v R → NotificationsAgree w S
+rebound R S v w n t h counts there words here others a = record {
+  counts = h.objects.counts ∙ a.counts ∙ counts;
+  there = λ x. h.objects.there x ∙ a.there x ∙ there x;
+  words = λ x. h.words x ∙ a.words x ∙ words x;
+  threads = λ x. h.threads x ∙ ap (λ o. value_after x n t o) (a.threads x) ∙ go x (same x n) refl;
+}
+  where
+    go : (x : ObjId) (b : Bool) → same x n ≡ b → cond b t (tied_to R x) ≡ tied_to S x
+    go x false e = sym (others x e)
+    go x true e = sym (ap (λ y. tied_to S y) (same-equal x n e) ∙ here)
+
+-- what is some is not none
+never-none : (o : Option ObjId) → IsSome o → o ≡ None → ⊥
+never-none None some none = absurd cc
+never-none (Some x) some none = absurd cc
+
+-- a thread is bound no more
+untied : (R : Log) (v w : Signals) (t : ObjId) (from : Option ObjId) → Sound R → Allowed R (rec.Tied t None) → bound_of R t ≡ from → Rebinds t from None v w → NotificationsAgree v R → NotificationsAgree w (rec.Tied t None ∷ R)
+untied R v w t (Some n) sound ok is h a =
+    rebound R (rec.Tied t None ∷ R) v w n None h refl (λ x. refl) (λ x. refl) (tied-ended R t n sound ok is) (tied-left R t n sound ok is) a
+untied R v w t None sound ok is h a = absurd (never-none (bound_of R t) ok is)
+
+-- after any record
+pub notifications-follow : (r : Rec) (R : Log) (v w : Signals) → Sound R → Allowed R r → NotificationsFollow R r v w → NotificationsAgree v R → NotificationsAgree w (r ∷ R)
+notifications-follow (rec.Made o f) R v w sound ok h a = born R v w o f sound ok h a
+notifications-follow (rec.Closed o) R v w sound ok h a = absurd h
+notifications-follow (rec.Raised n badge) R v w sound ok h a = worded R (rec.Raised n badge ∷ R) v w n _ h refl (λ x. refl) (λ x. word-raised R n x badge (word_in v n) ok.0 (a.words n)) (λ x. tied-kept (rec.Raised n badge) R x refl) a
+notifications-follow (rec.Heard t n word) R v w sound ok h a = worded R (rec.Heard t n word ∷ R) v w n None h refl (λ x. refl) (λ x. word-heard R t n x word) (λ x. tied-kept (rec.Heard t n word) R x refl) a
+notifications-follow (rec.Tied t None) R v w sound ok h a = untied R v w t (bound_of R t) sound ok refl h a
+notifications-follow (rec.Tied t (Some n)) R v w sound ok h a =
+    rebound R (rec.Tied t (Some n) ∷ R) v w n (Some t) h refl (λ x. refl) (λ x. refl) (tied-begun R t n sound ok) (λ x other. tied-beside R t n x sound ok other) a
+notifications-follow r R v w sound ok h a = still R (r ∷ R) v w h refl (λ x. refl) (λ x. refl) (λ x. tied-kept r R x refl) a
+
+-- the notification to which a thread is bound is in the table
+pub bound-listed : (R : Log) (v : Signals) (t : ObjId) → Sound R → NotificationsAgree v R → IfSome (bound_of R t) (λ n. has_notification v n ≡ true)
+bound-listed R v t sound a = go (bound_of R t) refl
+  where
+    go : (o : Option ObjId) → bound_of R t ≡ o → IfSome o (λ n. has_notification v n ≡ true)
+    go None e = tt
+    go (Some n) e = a.there n ∙ there R kind.Notification n (bound-there R t n sound e).1
+
+-- and so is the one to which it is bound anew
+pub tied-listed : (R : Log) (v : Signals) (t : ObjId) (n : Option ObjId) → NotificationsAgree v R → Allowed R (rec.Tied t n) → IfSome n (λ m. has_notification v m ≡ true)
+tied-listed R v t None a ok = tt
+tied-listed R v t (Some n) a ok = a.there n ∙ there R kind.Notification n ok.1

@@ -1,0 +1,121 @@
+//! Signals, who hears them, and the threads that notifications are bound to.
+ghost use Rattle.std.specs.Prelude.{◌≡◌, ◌<◌, true, IfSome, length};
+ghost use Rattle.mcs_types.specs.declared.id.Kind.{Kind};
+ghost use Rattle.mcs_types.specs.declared.record.Rec.{Rec};
+ghost use Rattle.mcs_book.specs.Notifications.{bound_of, tied_to, pending};
+ghost use Rattle.mcs_book.specs.Sound.{Allowed, IsThere};
+ghost use Rattle.mcs_notifications.specs.Signals.{is_there};
+ghost use Rattle.mcs_threads.specs.Rows.{with_notification};
+ghost use Rattle.mcs_threads.specs.Tables.{ChangesRow};
+ghost use Rattle.mcs_state.specs.Following.{Rebinds};
+ghost use Rattle.mcs_state.specs.Now.{so_far, adds};
+ghost use Rattle.mcs_state.specs.Tables.{HAND};
+
+use super::{State, note};
+use mcs_notifications::Notifications;
+use mcs_threads::Threads;
+use mcs_types::{Badge, Mail, ObjId, Rec};
+use mcs_waiting::Waiting;
+
+/// A thread that is there is bound to this notification now, or to none.
+fn tie(threads: &mut Threads, thread: ObjId, notification: Option<ObjId>)
+    ensures { ChangesRow (with_notification notification) threads.old threads.new thread }
+{
+    match notification {
+        Some(notification) => threads.tie(thread, notification),
+        None => threads.untie(thread),
+    };
+}
+
+/// A thread that was bound to one notification, or to none, is bound to another now, or to none. Those that are named are there.
+fn rebind(notifications: &mut Notifications, thread: ObjId, from: Option<ObjId>, to: Option<ObjId>)
+    requires from { IfSome from (λ n. is_there notifications.old n ≡ true) }
+    requires to { IfSome to (λ n. is_there notifications.old n ≡ true) }
+    ensures { Rebinds thread from to notifications.old notifications.new }
+{
+    match (from, to) {
+        (_, Some(to)) => notifications.set_bound(to, Some(thread)),
+        (Some(from), None) => notifications.set_bound(from, None),
+        (None, None) => {}
+    }
+}
+
+impl<W: Waiting> State<W> {
+    /// A notification is signalled: its word gains the bits of the badge (manual: Notifications).
+    pub fn raises(&mut self, notification: ObjId, badge: Badge)
+        requires allowed { Allowed (so_far self.old) (Rec.Raised notification badge) }
+        requires room { length self.old.hand < HAND }
+        ensures { self.new ≡ adds (Rec.Raised notification badge) self.old }
+    {
+        note(
+            &mut self.hand,
+            Rec::Raised {
+                notification,
+                badge,
+            },
+        );
+        self.notifications.raise(notification, badge);
+    }
+
+    /// A thread hears the pending word of a notification, which is cleared (manual: Notifications).
+    pub fn hears(&mut self, thread: ObjId, notification: ObjId, word: u64)
+        requires allowed { Allowed (so_far self.old) (Rec.Heard thread notification word) }
+        requires room { length self.old.hand < HAND }
+        ensures { self.new ≡ adds (Rec.Heard thread notification word) self.old }
+    {
+        note(
+            &mut self.hand,
+            Rec::Heard {
+                thread,
+                notification,
+                word,
+            },
+        );
+        self.threads.set_mail(thread, Mail::Word { word });
+        self.notifications.hear(notification);
+    }
+
+    /// A notification is bound to a thread from now on, or none is any more (manual: Notifications).
+    pub fn ties(&mut self, thread: ObjId, notification: Option<ObjId>)
+        requires allowed { Allowed (so_far self.old) (Rec.Tied thread notification) }
+        requires room { length self.old.hand < HAND }
+        ensures { self.new ≡ adds (Rec.Tied thread notification) self.old }
+    {
+        let bound = self.bound_of(thread);
+        note(
+            &mut self.hand,
+            Rec::Tied {
+                thread,
+                notification,
+            },
+        );
+        tie(&mut self.threads, thread, notification);
+        rebind(&mut self.notifications, thread, bound, notification);
+    }
+
+    /// The notification that is bound to a thread; None where none is, and for what is no thread (manual: Notifications).
+    pub fn bound_of(&self, thread: ObjId) -> Option<ObjId>
+        ensures { result ≡ bound_of (so_far self.now) thread }
+    {
+        match self.threads.get(thread) {
+            None => None,
+            Some(row) => row.notification,
+        }
+    }
+
+    /// The thread to which a notification is bound; None where it is bound to none (manual: Notifications).
+    pub fn tied_to(&self, notification: ObjId) -> Option<ObjId>
+        ensures { result ≡ tied_to (so_far self.now) notification }
+    {
+        self.notifications.bound(notification)
+    }
+
+    /// The pending word of a notification that is there; None where no badge was raised since it was heard last (manual:
+    /// Notifications).
+    pub fn pending(&self, notification: ObjId) -> Option<u64>
+        requires { IsThere (so_far self.now) Kind.Notification notification }
+        ensures { result ≡ pending (so_far self.now) notification }
+    {
+        self.notifications.word(notification)
+    }
+}
