@@ -1,5 +1,5 @@
 -- The notifications, their pending words, and the threads bound to them follow a record.
-use Rattle.std.specs.Prelude.{ℕ, ◌≡◌, ◌&&◌, ◌||◌, Bool, true, false, cond, find, ◌∷◌, [], Option, Some, None, IsSome, unwrap_or}
+use Rattle.std.specs.Prelude.{ℕ, ◌≡◌, ◌&&◌, ◌||◌, Bool, true, false, cond, find, ◌∷◌, [], Option, Some, None, IsSome}
 use Rattle.std.specs.Option.{IfSome}
 use Rattle.std.proofs.Common.{refl, ap, sym, ◌∙◌, inl, inr}
 use Rattle.mcs_types.specs.declared.id.ObjId.{ObjId}
@@ -12,10 +12,10 @@ use Rattle.mcs_types.specs.declared.record.Rec.TheVariants as rec
 use Rattle.mcs_types.specs.Ids.{same, same_kind, is_just, value_after}
 use Rattle.mcs_types.specs.Words.{with_badge}
 use Rattle.mcs_types.proofs.Ids.{same-self, same-equal}
-use Rattle.mcs_book.specs.Logs.{Log, given}
+use Rattle.mcs_book.specs.Logs.{Log}
 use Rattle.mcs_book.specs.Growing.{growing_word}
 use Rattle.mcs_book.specs.Notifications.{bound_of, tied_to}
-use Rattle.mcs_book.specs.Objects.{was_made, was_closed}
+use Rattle.mcs_book.specs.Objects.{was_made}
 use Rattle.mcs_book.specs.Sound.{Sound, Allowed, IsThere, IsUnbound}
 use Rattle.mcs_book.specs.Threads.{threads}
 use Rattle.mcs_book.proofs.Firm.Laws.{tied-bound, tied-none}
