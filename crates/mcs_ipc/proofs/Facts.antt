@@ -27,7 +27,7 @@ use Rattle.mcs_book.specs.Messages.{next_message, is_open, open_of}
 use Rattle.mcs_book.specs.Pieces.{◌then◌, say, answers}
 use Rattle.mcs_book.specs.Taking.{handed}
 use Rattle.mcs_book.specs.Sending.{sends_to, sends, queues}
-use Rattle.mcs_book.specs.Served.{NoneBound}
+use Rattle.mcs_book.specs.Objects.{is_alive}
 use Rattle.mcs_book.specs.Table.{wakes}
 use Rattle.mcs_book.specs.Sound.{Sound, Allowed, IsThere, HasNoneOpen}
 use Rattle.mcs_book.proofs.SoundLogs.KeptLaws.{standing-thread}
@@ -35,14 +35,15 @@ use Rattle.mcs_book.proofs.Queues.QueueLaws.{first-stands}
 use Rattle.mcs_book.proofs.Messages.MessageLaws.{sent-open}
 use Rattle.mcs_book.proofs.Messages.OpenLaws.{sound-ends, open_of-growing}
 use Rattle.mcs_state.specs.Now.{IsNumberOf}
-use Rattle.mcs_state.specs.Checks.{kinded, readable, object_named}
+use Rattle.mcs_state.specs.Checks.{kinded}
 use Rattle.mcs_state.specs.Entering.{IsEntering, OpenStand}
-use Rattle.mcs_state.proofs.Named.{kinded-ok, writable-ok, readable-ok, found-alive, named-there}
+use Rattle.mcs_state.proofs.Named.{kinded-ok, writable-ok, found-alive}
 use Rattle.mcs_state.proofs.Woken.{woken}
-use Rattle.mcs_ipc.specs.declared.checks.Receiving.{Receiving}
+use Rattle.mcs_notify.proofs.Rows.{woken-there}
 use Rattle.mcs_ipc.specs.Ready.{IsSending}
+use Rattle.mcs_ipc.specs.declared.checks.Target.{Target}
 use Rattle.mcs_ipc.specs.declared.checks.Target.TheVariants as target
-use Rattle.mcs_ipc.specs.Rows.{reply_found, reply_named, with_reply, target_by, target_of, sendable, callable, receivable, answer_to, alone_act, send_act, handed_to}
+use Rattle.mcs_ipc.specs.Rows.{target_by, target_of, sendable, callable, answer_to, alone_act, send_act, handed_to}
 
 -- who stands in no queue has no open message
 pub none-open : (R : Log) (t : ObjId) → OpenStand R → queue_of R t ≡ None → HasNoneOpen R t
@@ -90,75 +91,47 @@ woken-stand R t stand = go (mode_of R t)
     go Running x e m still = stand x e m still
     go Inactive x e m still = stand x e m still
 
--- and nobody is bound to a notification
-pub woken-unbound : (R : Log) (t : ObjId) → NoneBound R → NoneBound (onto (wakes (mode_of R t) t R) R)
-woken-unbound R t unbound = go (mode_of R t)
-  where
-    go : (m : Mode) → NoneBound (onto (wakes m t R) R)
-    go Restart x = unbound x
-    go Running x = unbound x
-    go Inactive x = unbound x
-
--- what is there is there still when a thread was woken
-pub woken-there : (R : Log) (t : ObjId) (m : Mode) (k : Kind) (o : ObjId) → IsThere R k o → IsThere (onto (wakes m t R) R) k o
-woken-there R t Running k o there = there
-woken-there R t Restart k o there = there
-woken-there R t Inactive k o there = there
-
 -- a reply object is there still when a thread was woken, if there is one
 pub woken-reply : (R : Log) (t : ObjId) (m : Mode) (r : Option ObjId) → IfSome r (λ o. IsThere R kind.Reply o) → IfSome r (λ o. IsThere (onto (wakes m t R) R) kind.Reply o)
 woken-reply R t m None there = tt
 woken-reply R t m (Some r) there = woken-there R t m kind.Reply r there
 
--- the endpoint over which t sends is there
-sendable-there : (R : Log) (t : ObjId) (a : ℕ) (c : Cap) → Sound R → sendable R t a ≡ Ok (target.Endpoint c) → IsThere R kind.Endpoint c.obj
-sendable-there R t a c sound e = go (capability R t a) refl e
+-- the endpoint or the notification over which t sends is there
+abbrev pub IsTargetThere : Log → Target → Type 0
+IsTargetThere R (target.Endpoint c) = IsThere R kind.Endpoint c.obj
+IsTargetThere R (target.Notification c) = IsThere R kind.Notification c.obj
+IsTargetThere R (target.Reply r) = Unit {0}
+
+pub target-there : (R : Log) (t : ObjId) (a : ℕ) (x : Target) → Sound R → sendable R t a ≡ Ok x → IsTargetThere R x
+target-there R t a x sound e = go (capability R t a) refl e
   where
-    tested : (x : Cap) (b : Bool) → cond b (Ok (target.Endpoint x)) (Err NoRight) ≡ Ok (target.Endpoint c) → x ≡ c
-    tested x true h = cc
-    tested x false h = absurd cc
+    equal : (y : Target) (m : Checked Target) → m ≡ Ok y → m ≡ Ok x → y ≡ x
+    equal y m is h = cc
 
-    by_kind : (k : Kind) (x : Cap) → target_by k x ≡ Ok (target.Endpoint c) → (k ≡ kind.Endpoint) × (x ≡ c)
-    by_kind kind.Endpoint x h = (refl, tested x (may_write x) h)
-    by_kind kind.Reply x h = absurd cc
-    by_kind kind.Notification x h = absurd cc
-    by_kind kind.CNode x h = absurd cc
-    by_kind kind.Thread x h = absurd cc
-    by_kind kind.Context x h = absurd cc
+    is_it : (y : Target) (m : Checked Target) → m ≡ Ok y → m ≡ Ok x → IsTargetThere R y → IsTargetThere R x
+    is_it y m is h there = subst (λ (z : Target). IsTargetThere R z) (equal y m is h) there
 
-    go : (m : Checked Cap) → capability R t a ≡ m → target_of m ≡ Ok (target.Endpoint c) → IsThere R kind.Endpoint c.obj
+    tested : (y : Target) (b : Bool) → IsTargetThere R y → cond b (Ok y) (Err NoRight) ≡ Ok x → IsTargetThere R x
+    tested y true there h = is_it y (Ok y) refl h there
+    tested y false there h = absurd cc
+
+    by_kind : (k : Kind) (c : Cap) → c.obj.kind ≡ k → is_alive R c.obj ≡ true → target_by k c ≡ Ok x → IsTargetThere R x
+    by_kind kind.Endpoint c own alive h = tested (target.Endpoint c) (may_write c) (own, alive) h
+    by_kind kind.Notification c own alive h = tested (target.Notification c) (may_write c) (own, alive) h
+    by_kind kind.Reply c own alive h = is_it (target.Reply c.obj) (Ok (target.Reply c.obj)) refl h tt
+    by_kind kind.CNode c own alive h = absurd cc
+    by_kind kind.Thread c own alive h = absurd cc
+    by_kind kind.Context c own alive h = absurd cc
+
+    go : (m : Checked Cap) → capability R t a ≡ m → target_of m ≡ Ok x → IsTargetThere R x
     go (Err why) is h = absurd cc
-    go (Ok x) is h =
-        let f = by_kind x.obj.kind x h in
-        subst (λ (y : Cap). IsThere R kind.Endpoint y.obj) f.1 (f.0, found-alive R t a x sound is)
+    go (Ok c) is h = by_kind c.obj.kind c refl (found-alive R t a c sound is) h
 
 -- and so is the one over which it calls
 callable-there : (R : Log) (t : ObjId) (a : ℕ) (c : Cap) → Sound R → callable R t a ≡ Ok c → IsThere R kind.Endpoint c.obj
 callable-there R t a c sound e =
     let k = kinded-ok kind.Endpoint (capability R t a) c (writable-ok (kinded kind.Endpoint (capability R t a)) c e) in
     (k.1, found-alive R t a c sound k.0)
-
--- and so is the reply object that t names
-reply-there : (R : Log) (t : ObjId) (r : Option ℕ) (o : Option ObjId) → Sound R → reply_named R t r ≡ Ok o → IfSome o (λ x. IsThere R kind.Reply x)
-reply-there R t None o sound e = let it : None ≡ o = cc in subst (λ (x : Option ObjId). IfSome x (λ y. IsThere R kind.Reply y)) it tt
-reply-there R t (Some r) o sound e = go (object_named R t kind.Reply r) refl e
-  where
-    go : (m : Checked ObjId) → object_named R t kind.Reply r ≡ m → reply_found m ≡ Ok o → IfSome o (λ x. IsThere R kind.Reply x)
-    go (Err why) is h = absurd cc
-    go (Ok u) is h = let it : Some u ≡ o = cc in subst (λ (x : Option ObjId). IfSome x (λ y. IsThere R kind.Reply y)) it (named-there R t kind.Reply r u sound is)
-
--- the objects with which t receives are there
-pub receivable-there : (R : Log) (t : ObjId) (a : ℕ) (r : Option ℕ) (at : Receiving) → Sound R → receivable R t a r ≡ Ok at → IsThere R kind.Endpoint at.endpoint × IfSome at.reply (λ x. IsThere R kind.Reply x)
-receivable-there R t a r at sound e = go (readable (kinded kind.Endpoint (capability R t a))) refl (reply_named R t r) refl e
-  where
-    go : (m : Checked Cap) → readable (kinded kind.Endpoint (capability R t a)) ≡ m → (n : Checked (Option ObjId)) → reply_named R t r ≡ n → with_reply m n ≡ Ok at
-        → IsThere R kind.Endpoint at.endpoint × IfSome at.reply (λ x. IsThere R kind.Reply x)
-    go (Err why) p n q h = absurd cc
-    go (Ok c) p (Err why) q h = absurd cc
-    go (Ok c) p (Ok o) q h =
-        let it : record { endpoint = c.obj; reply = o } ≡ at = cc in
-        let k = kinded-ok kind.Endpoint (capability R t a) c (readable-ok (kinded kind.Endpoint (capability R t a)) c p) in
-        subst (λ (x : Receiving). IsThere R kind.Endpoint x.endpoint × IfSome x.reply (λ y. IsThere R kind.Reply y)) it ((k.1, found-alive R t a c sound k.0), reply-there R t r o sound q)
 
 -- once it was woken, who enters sends over an endpoint that is there
 woken-over : (R : Log) (t e : ObjId) → IsEntering R t → OpenStand R → IsThere R kind.Endpoint e → IsSending (onto (wakes (mode_of R t) t R) R) t e
@@ -170,7 +143,7 @@ woken-over R t e enters stand there = record {
 
 -- so it does over what it named
 pub woken-sends : (R : Log) (t : ObjId) (a : ℕ) (c : Cap) → Sound R → IsEntering R t → OpenStand R → sendable R t a ≡ Ok (target.Endpoint c) → IsSending (onto (wakes (mode_of R t) t R) R) t c.obj
-woken-sends R t a c sound enters stand e = woken-over R t c.obj enters stand (sendable-there R t a c sound e)
+woken-sends R t a c sound enters stand e = woken-over R t c.obj enters stand (target-there R t a (target.Endpoint c) sound e)
 
 -- and it calls
 pub woken-calls : (R : Log) (t : ObjId) (a : ℕ) (c : Cap) → Sound R → IsEntering R t → OpenStand R → callable R t a ≡ Ok c → IsSending (onto (wakes (mode_of R t) t R) R) t c.obj

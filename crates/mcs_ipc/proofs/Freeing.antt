@@ -1,7 +1,7 @@
 -- A reply object whose present user is cancelled, and what a receive then finds.
-use Rattle.std.specs.Prelude.{◌≡◌, ◌≢◌, Bool, true, false, [], ◌∷◌, Option, Some, None, unwrap_or}
-use Rattle.std.specs.Option.{option_or, IfSome}
-use Rattle.std.proofs.Common.{refl, ap, sym, ◌∙◌, inl, inr}
+use Rattle.std.specs.Prelude.{ℕ, ◌≡◌, ◌≢◌, Bool, true, false, List, [], ◌∷◌, Option, Some, None, unwrap_or}
+use Rattle.std.specs.Option.{option_or}
+use Rattle.std.proofs.Common.{refl, ap, sym, ◌∙◌, subst, arith, inl, inr}
 use Rattle.mcs_types.specs.declared.id.ObjId.{ObjId}
 use Rattle.mcs_types.specs.declared.id.Kind.TheVariants as kind
 use Rattle.mcs_types.specs.declared.record.Ending.TheVariants.{Cancelled}
@@ -11,20 +11,18 @@ use Rattle.mcs_types.specs.declared.record.Queue.{Queue}
 use Rattle.mcs_types.specs.declared.record.Queue.TheVariants.{Senders, Receivers}
 use Rattle.mcs_types.specs.declared.record.Rec.{Rec}
 use Rattle.mcs_types.specs.declared.record.Rec.TheVariants as rec
-use Rattle.mcs_types.specs.declared.entry.Answer.TheVariants.{Got, Waits, Empty}
+use Rattle.mcs_types.specs.declared.entry.Answer.TheVariants.{Got, Heard, Waits, Empty}
 use Rattle.mcs_types.specs.Ids.{same}
 use Rattle.mcs_types.proofs.Ids.{same-equal, same-other}
 use Rattle.mcs_book.specs.Logs.{Log, onto, given}
-use Rattle.mcs_book.specs.Threads.{mode_of}
 use Rattle.mcs_book.specs.Queues.{queue_of, first_in}
 use Rattle.mcs_book.specs.Messages.{letter, open_of}
 use Rattle.mcs_book.specs.Replies.{owed_by, receiver_with}
-use Rattle.mcs_book.specs.Pieces.{◌then◌, with_any, answers}
-use Rattle.mcs_book.specs.Served.{NoneBound}
-use Rattle.mcs_book.specs.Table.{wakes}
+use Rattle.mcs_book.specs.Pieces.{◌then◌, with_any, Act, Outcome, answers}
+use Rattle.mcs_book.specs.Notifications.{bound_of}
 use Rattle.mcs_book.specs.Taking.{taken}
 use Rattle.mcs_book.specs.Cancelling.{cancel}
-use Rattle.mcs_book.specs.Receiving.{free, hear, take_open, joins_or, open_of_any, receive_message}
+use Rattle.mcs_book.specs.Receiving.{free, hear, take_open, joins_or, open_of_any, pending_of_any, receive_message}
 use Rattle.mcs_book.specs.Fair.{IsOpenOf}
 use Rattle.mcs_book.specs.Sound.{Sound, Allowed, IsThere}
 use Rattle.mcs_book.proofs.Firm.Laws.{owed-owing}
@@ -32,11 +30,14 @@ use Rattle.mcs_book.proofs.Queues.QueueLaws.{first-stands}
 use Rattle.mcs_book.proofs.Messages.MessageLaws.{open_of-open, open_of-letter}
 use Rattle.mcs_book.proofs.SoundLogs.KeptLaws.{set-split, set-self, owed-there, owed-stands_none, owed-unattended, ended-idle}
 use Rattle.mcs_book.proofs.Threads.UserLaws.{receiver_with-named, unattended-none, unattended-parted}
-use Rattle.mcs_state.specs.Entering.{IsEntering, OpenStand}
-use Rattle.mcs_state.proofs.Woken.{woken}
-use Rattle.mcs_ipc.proofs.Facts.{woken-there, woken-stand, woken-unbound, woken-reply}
+use Rattle.mcs_notify.specs.Waiting.{word_heard, takes_bound}
+use Rattle.mcs_notify.proofs.Words.{bound-silent}
+use Rattle.mcs_state.specs.Doing.{Makes, HasRoomFor, FitsAct, Holds}
+use Rattle.mcs_state.specs.Entering.{OpenStand}
+use Rattle.mcs_state.specs.Now.{Now, so_far, adds_all}
+use Rattle.mcs_ipc.specs.declared.checks.Receiving.{Receiving}
 use Rattle.mcs_ipc.specs.Ready.{IsReceiving, IsReady}
-use Rattle.mcs_ipc.specs.Rows.{taken_by}
+use Rattle.mcs_ipc.specs.Rows.{stand_act, take_act, taken_by}
 
 -- a reply object that nobody uses
 pub free-nobody : (R : Log) (r : ObjId) → owed_by R r ≡ None → receiver_with R r ≡ None → free r R ≡ []
@@ -68,16 +69,6 @@ void-idle R r x sound owed = ((owed-there R r x sound owed).1, ended-idle R r x 
 other : (R : Log) (t x e : ObjId) → queue_of R t ≡ None → queue_of R x ≡ Some (Receivers e) → t ≢ x
 other R t x e none stands is = let no : None ≡ Some (Receivers e) = sym none ∙ ap (λ u. queue_of R u) is ∙ stands in absurd cc
 
--- what holds once a thread that enters was woken
-pub woken-receives : (R : Log) (t e : ObjId) (r : Option ObjId) → IsEntering R t → OpenStand R → NoneBound R → IsThere R kind.Endpoint e → IfSome r (λ o. IsThere R kind.Reply o) → IsReceiving (onto (wakes (mode_of R t) t R) R) t e r
-woken-receives R t e r enters stand unbound there reply = record {
-  acting = woken R t enters;
-  stand = woken-stand R t stand;
-  unbound = woken-unbound R t unbound;
-  endpoint = woken-there R t (mode_of R t) kind.Endpoint e there;
-  reply = woken-reply R t (mode_of R t) r reply;
-}
-
 -- after it is freed, a receive is ready
 module _ (R : Log) (t d r : ObjId) (sound : Sound R) (b : IsReceiving R t d (Some r)) where
   -- a receiver was cancelled
@@ -87,7 +78,6 @@ module _ (R : Log) (t d r : ObjId) (sound : Sound R) (b : IsReceiving R t d (Som
       record {
         acting = record { there = b.acting.there; idle = (rw apart b.acting.idle.0, b.acting.idle.1); runs = rw apart b.acting.runs };
         stand = λ y c m still. standing y c (b.stand y c m (record { sent = still.sent; is_letter = still.is_letter; is_open = still.is_open; of_sender = still.of_sender; on_endpoint = still.on_endpoint })) (same y x) refl;
-        unbound = b.unbound;
         endpoint = b.endpoint;
         reply = (b.reply, (unowed, unattended-parted R r x e Inactive sound found stands));
       }
@@ -107,7 +97,6 @@ module _ (R : Log) (t d r : ObjId) (sound : Sound R) (b : IsReceiving R t d (Som
           runs = rw apart b.acting.runs;
         };
         stand = λ y c m still. b.stand y c m (record { sent = still.sent; is_letter = still.is_letter; is_open = still.is_open; of_sender = still.of_sender; on_endpoint = still.on_endpoint });
-        unbound = b.unbound;
         endpoint = b.endpoint;
         reply = (b.reply, (set-self r None (owed_by R r), owed-unattended R r x sound owed));
       }
@@ -121,7 +110,6 @@ module _ (R : Log) (t d r : ObjId) (sound : Sound R) (b : IsReceiving R t d (Som
       go None unowed None none = rw (free-nobody R r unowed none) (record {
         acting = b.acting;
         stand = b.stand;
-        unbound = b.unbound;
         endpoint = b.endpoint;
         reply = (b.reply, (unowed, unattended-none R r sound none));
       })
@@ -130,14 +118,52 @@ module _ (R : Log) (t d r : ObjId) (sound : Sound R) (b : IsReceiving R t d (Som
           rw (free-receiver R r x (Receivers e) unowed found stands) (receiver-freed x e unowed found stands)
 
 pub freed-ready : (R : Log) (t d : ObjId) (r : Option ObjId) → Sound R → IsReceiving R t d r → IsReady (onto (with_any r free R) R) t d r
-freed-ready R t d None sound b = record { acting = b.acting; stand = b.stand; unbound = b.unbound; endpoint = b.endpoint; reply = tt }
+freed-ready R t d None sound b = record { acting = b.acting; stand = b.stand; endpoint = b.endpoint; reply = tt }
 freed-ready R t d (Some r) sound b = free-ready R t d r sound b
 
--- a receive where nobody sends
-pub receive-alone : (R : Log) (b : Bool) (t e : ObjId) (r : Option ObjId) → NoneBound R → open_of_any R (first_in R (Senders e)) ≡ None
-    → receive_message t e r b R ≡ joins_or b (rec.Joins t (Receivers e) r) R
-unfolding receive_message hear take_open
-receive-alone R b t e r unbound none = rw (unbound t, none) refl
+-- a receive where a word is pending
+pub receive-hears : (R : Log) (b : Bool) (t e : ObjId) (r : Option ObjId) (word : ℕ) → pending_of_any R (bound_of R t) ≡ Some word
+    → receive_message t e r b R ≡ record { answer = Heard word; records = takes_bound t R }
+unfolding receive_message hear takes_bound
+receive-hears R b t e r word is = go (bound_of R t) refl is
+  where
+    rest : Act
+    rest = take_open t r (open_of_any R (first_in R (Senders e))) (joins_or b (rec.Joins t (Receivers e) r))
+
+    go : (n : Option ObjId) → bound_of R t ≡ n → pending_of_any R n ≡ Some word
+        → hear t (bound_of R t) (pending_of_any R (bound_of R t)) rest R ≡ record { answer = Heard word; records = word_heard t (bound_of R t) (pending_of_any R (bound_of R t)) }
+    go None bound h = absurd cc
+    go (Some n) bound h = rw (bound, h) refl
+
+-- one where none is
+pub receive-silent : (R : Log) (b : Bool) (t : ObjId) (at : Receiving) → pending_of_any R (bound_of R t) ≡ None → receive_message t at.endpoint at.reply b R ≡ take_act b t at R
+unfolding receive_message hear take_act
+receive-silent R b t at none = go (bound_of R t) (pending_of_any R (bound_of R t)) none
+  where
+    rest : Act
+    rest = take_open t at.reply (open_of_any R (first_in R (Senders at.endpoint))) (joins_or b (rec.Joins t (Receivers at.endpoint) at.reply))
+
+    go : (n : Option ObjId) (o : Option ℕ) → o ≡ None → hear t n o rest R ≡ rest R
+    go None o is = refl
+    go (Some n) None is = refl
+    go (Some n) (Some word) is = absurd cc
+
+-- room for a receive is room for the word
+pub room-word : (n : Now) (b : Bool) (t e : ObjId) (r : Option ObjId) → FitsAct (receive_message t e r b) n → HasRoomFor (takes_bound t) n
+room-word n b t e r room = go (pending_of_any (so_far n) (bound_of (so_far n) t)) refl
+  where
+    go : (o : Option ℕ) → pending_of_any (so_far n) (bound_of (so_far n) t) ≡ o → HasRoomFor (takes_bound t) n
+    go (Some word) is = subst (λ (o : Outcome). Holds o.records n) (receive-hears (so_far n) b t e r word is) room
+    go None is = subst (λ made. Holds made n) (sym (bound-silent (so_far n) t is)) (omega (arith, room))
+
+-- what was made where none is pending
+pub made-silent : (n m : Now) (t : ObjId) → pending_of_any (so_far n) (bound_of (so_far n) t) ≡ None → Makes (takes_bound t) n m → m ≡ n
+made-silent n m t none made = made ∙ ap (λ (more : List Rec). adds_all more n) (bound-silent (so_far n) t none)
+
+-- a taking where nobody sends
+pub take-alone : (R : Log) (b : Bool) (t : ObjId) (at : Receiving) → open_of_any R (first_in R (Senders at.endpoint)) ≡ None → take_act b t at R ≡ stand_act b t at R
+unfolding take_act take_open
+take-alone R b t at none = rw none refl
 
 -- it waits, or nothing is there
 pub joins-waits : (R : Log) (joins : Rec) → joins_or true joins R ≡ record { answer = Waits; records = joins ∷ [] }
@@ -148,15 +174,15 @@ pub joins-empty : (R : Log) (joins : Rec) → joins_or false joins R ≡ record 
 unfolding joins_or
 joins-empty R joins = refl
 
--- a receive where somebody sends
-pub receive-takes : (R : Log) (b : Bool) (t e : ObjId) (r : Option ObjId) (x : ObjId) (s : Letter) → NoneBound R → OpenStand R → first_in R (Senders e) ≡ Some x → open_of R x ≡ Some s
-    → receive_message t e r b R ≡ answers (Got s.badge s.message) (taken_by (record { number = s.number; sender = x; endpoint = e; mode = s.mode }) t r) R
-unfolding receive_message hear take_open taken taken_by ◌then◌
-receive-takes R b t e r x s unbound stand first is =
+-- a taking where somebody sends
+pub take-takes : (R : Log) (b : Bool) (t : ObjId) (at : Receiving) (x : ObjId) (s : Letter) → OpenStand R → first_in R (Senders at.endpoint) ≡ Some x → open_of R x ≡ Some s
+    → take_act b t at R ≡ answers (Got s.badge s.message) (taken_by (record { number = s.number; sender = x; endpoint = at.endpoint; mode = s.mode }) t at.reply) R
+unfolding take_act take_open taken taken_by ◌then◌
+take-takes R b t at x s stand first is =
     let o = open_of-open R x s is in
     let own : s.sender ≡ x = same-equal s.sender x o.0 in
     let there : letter R s.number ≡ Some s = open_of-letter R x s is in
     let of_it : IsOpenOf R x s.endpoint s.number = record { sent = s; is_letter = there; is_open = o.1; of_sender = own; on_endpoint = refl } in
-    let two : Some (Senders s.endpoint) ≡ Some (Senders e) = sym (stand x s.endpoint s.number of_it) ∙ first-stands R (Senders e) x first in
-    let place : s.endpoint ≡ e = cc in
-    rw (unbound t, first, is, own, place) refl
+    let two : Some (Senders s.endpoint) ≡ Some (Senders at.endpoint) = sym (stand x s.endpoint s.number of_it) ∙ first-stands R (Senders at.endpoint) x first in
+    let place : s.endpoint ≡ at.endpoint = cc in
+    rw (first, is, own, place) refl

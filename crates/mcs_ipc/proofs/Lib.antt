@@ -1,4 +1,5 @@
 pub mod Facts
+pub mod Sources
 pub mod Rows
 pub mod Room
 pub mod Deliveries

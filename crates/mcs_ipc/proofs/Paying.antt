@@ -17,12 +17,14 @@ use Rattle.mcs_book.specs.Replies.{owed_by}
 use Rattle.mcs_book.specs.Chains.{topped_by}
 use Rattle.mcs_book.specs.Pieces.{◌then◌, say}
 use Rattle.mcs_book.specs.Taking.{give_back, pay}
-use Rattle.mcs_book.specs.Receiving.{pay_any}
 use Rattle.mcs_book.specs.Sound.{Sound, Allowed, IsThere, IsOwedNothing}
 use Rattle.mcs_book.proofs.SoundLogs.KeptLaws.{set-split, set-kept, owed-there, ended-idle}
 use Rattle.mcs_book.proofs.Firm.Laws.{topped-there}
 use Rattle.mcs_book.proofs.Firm.Ends.{OutlastsEnding, outlasts-pay}
-use Rattle.mcs_ipc.specs.Ready.{IsReceiving}
+use Rattle.mcs_state.specs.Entering.{IsActing}
+use Rattle.mcs_ipc.specs.declared.checks.Source.{Source}
+use Rattle.mcs_ipc.specs.declared.checks.Source.TheVariants as source
+use Rattle.mcs_ipc.specs.Ready.{IsReceiving, IsWaiting, IsReceivingFrom}
 use Rattle.mcs_ipc.specs.Rows.{pay_act}
 
 -- a reply object is paid, and the answer is Done
@@ -74,34 +76,39 @@ back-gives R s x none = rw none refl
 unowed : (R : Log) (t q : ObjId) → IsOwedNothing R t → (d : ObjId) → unwrap_or (given (same d q) None) (owed_by R d) ≢ Some t
 unowed R t q h d o = elim (set-split d q None (owed_by R d) (Some t) o) [ inl (who, is) ↦ absurd cc | inr (other, is) ↦ h d is ]
 
--- what holds of a thread that is to receive outlasts an answer
-outlasts : (t e : ObjId) (r : Option ObjId) → OutlastsEnding Running (λ R. IsReceiving R t e r)
-outlasts t e r = record {
+-- that a thread acts outlasts an answer
+acts : (t : ObjId) → OutlastsEnding Running (λ R. IsActing R t)
+acts t = record {
+  paid = λ R q x message h. record { there = h.there; idle = (h.idle.0, unowed R t q h.idle.1); runs = h.runs };
+  voided = λ R q x how h. record { there = h.there; idle = (h.idle.0, unowed R t q h.idle.1); runs = h.runs };
+  turns = λ R x h. record { there = h.there; idle = (h.idle.0, h.idle.1); runs = set-kept (same t x) Running (mode_of R t) h.runs };
+  holds = λ R s x h. record { there = h.there; idle = (h.idle.0, h.idle.1); runs = h.runs };
+}
+
+-- what holds of a thread that is to receive does
+receives : (t e : ObjId) (r : Option ObjId) → OutlastsEnding Running (λ R. IsReceiving R t e r)
+receives t e r = record {
   paid = λ R q x message h. record {
-    acting = record { there = h.acting.there; idle = (h.acting.idle.0, unowed R t q h.acting.idle.1); runs = h.acting.runs };
+    acting = (acts t).paid R q x message h.acting;
     stand = λ y c m still. h.stand y c m (record { sent = still.sent; is_letter = still.is_letter; is_open = still.is_open; of_sender = still.of_sender; on_endpoint = still.on_endpoint });
-    unbound = h.unbound;
     endpoint = h.endpoint;
     reply = same_reply R (rec.Paid q x message) r h.reply (λ d there. there);
   };
   voided = λ R q x how h. record {
-    acting = record { there = h.acting.there; idle = (h.acting.idle.0, unowed R t q h.acting.idle.1); runs = h.acting.runs };
+    acting = (acts t).voided R q x how h.acting;
     stand = λ y c m still. h.stand y c m (record { sent = still.sent; is_letter = still.is_letter; is_open = still.is_open; of_sender = still.of_sender; on_endpoint = still.on_endpoint });
-    unbound = h.unbound;
     endpoint = h.endpoint;
     reply = same_reply R (rec.Void q x how) r h.reply (λ d there. there);
   };
   turns = λ R x h. record {
-    acting = record { there = h.acting.there; idle = (h.acting.idle.0, h.acting.idle.1); runs = set-kept (same t x) Running (mode_of R t) h.acting.runs };
+    acting = (acts t).turns R x h.acting;
     stand = λ y c m still. h.stand y c m (record { sent = still.sent; is_letter = still.is_letter; is_open = still.is_open; of_sender = still.of_sender; on_endpoint = still.on_endpoint });
-    unbound = h.unbound;
     endpoint = h.endpoint;
     reply = same_reply R (rec.Turns x Running) r h.reply (λ d there. there);
   };
   holds = λ R s x h. record {
-    acting = record { there = h.acting.there; idle = (h.acting.idle.0, h.acting.idle.1); runs = h.acting.runs };
+    acting = (acts t).holds R s x h.acting;
     stand = λ y c m still. h.stand y c m (record { sent = still.sent; is_letter = still.is_letter; is_open = still.is_open; of_sender = still.of_sender; on_endpoint = still.on_endpoint });
-    unbound = h.unbound;
     endpoint = h.endpoint;
     reply = same_reply R (rec.Holds s (Some x)) r h.reply (λ d there. there);
   };
@@ -111,7 +118,16 @@ outlasts t e r = record {
     same_reply R made None h f = tt
     same_reply R made (Some d) h f = f d h
 
+-- and what holds of one that is to wait
+waits : (t n : ObjId) → OutlastsEnding Running (λ R. IsWaiting R t n)
+waits t n = record {
+  paid = λ R q x message h. record { acting = (acts t).paid R q x message h.acting; there = h.there; alone = h.alone };
+  voided = λ R q x how h. record { acting = (acts t).voided R q x how h.acting; there = h.there; alone = h.alone };
+  turns = λ R x h. record { acting = (acts t).turns R x h.acting; there = h.there; alone = h.alone };
+  holds = λ R s x h. record { acting = (acts t).holds R s x h.acting; there = h.there; alone = h.alone };
+}
+
 -- who is to receive still is, when a reply object was paid
-pub paid-receives : (R : Log) (t e : ObjId) (r : Option ObjId) (q : Option ObjId) (message : Content) → IsReceiving R t e r → IsReceiving (onto (pay_any q message R) R) t e r
-paid-receives R t e r None message h = h
-paid-receives R t e r (Some q) message h = outlasts-pay (λ R. IsReceiving R t e r) (outlasts t e r) q message R h
+pub paid-receives : (R : Log) (t : ObjId) (s : Source) (q : ObjId) (message : Content) → IsReceivingFrom R t s → IsReceivingFrom (onto (pay q message R) R) t s
+paid-receives R t (source.Endpoint at) q message h = outlasts-pay (λ R. IsReceiving R t at.endpoint at.reply) (receives t at.endpoint at.reply) q message R h
+paid-receives R t (source.Notification n) q message h = outlasts-pay (λ R. IsWaiting R t n) (waits t n) q message R h

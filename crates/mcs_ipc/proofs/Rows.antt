@@ -1,5 +1,5 @@
 -- The rows of the table are what the code does.
-use Rattle.std.specs.Prelude.{ℕ, ◌≡◌, ◌&&◌, ◌||◌, Bool, true, false, cond, Option, Some, None, Ok, Err}
+use Rattle.std.specs.Prelude.{ℕ, ◌≡◌, ◌||◌, Bool, true, false, cond, not, Option, Some, None, Ok, Err}
 use Rattle.std.proofs.Common.{refl, ap, sym, ◌∙◌}
 use Rattle.mcs_types.specs.Views.{Content}
 use Rattle.mcs_types.specs.declared.id.ObjId.{ObjId}
@@ -11,23 +11,29 @@ use Rattle.mcs_types.specs.declared.record.SendMode.{SendMode}
 use Rattle.mcs_types.specs.declared.record.SendMode.TheVariants as how
 use Rattle.mcs_types.specs.declared.entry.Answer.TheVariants.{Waits}
 use Rattle.mcs_types.specs.declared.entry.Entry.TheVariants.{Call, ReplyRecv}
-use Rattle.mcs_types.specs.declared.entry.Refusal.TheVariants.{WrongKind, NoRight}
+use Rattle.mcs_types.specs.declared.entry.Refusal.TheVariants.{WrongKind, NoRight, AlreadyBound}
 use Rattle.mcs_types.specs.Ids.{same_kind}
 use Rattle.mcs_book.specs.Logs.{Log}
 use Rattle.mcs_book.specs.Checks.{Checked, ◌>>=◌, ◌>>◌, need}
 use Rattle.mcs_book.specs.Rights.{may_write, may_read, may_be_answered, call_mode, can_badge}
 use Rattle.mcs_book.specs.Lookup.{capability}
 use Rattle.mcs_book.specs.Pieces.{with_any, Act, before}
-use Rattle.mcs_book.specs.Served.{serves_kind}
+use Rattle.mcs_book.specs.Notifications.{tied_to}
 use Rattle.mcs_book.specs.Sending.{letter_over, sends, queues, send_by, send_over}
-use Rattle.mcs_book.specs.Receiving.{receive_by, receive_over, reply_at, receive_on, free, receive_message, pay_any, reply_receive}
+use Rattle.mcs_book.specs.Receiving.{bound_elsewhere, may_wait, receive_by, receive_over, reply_at, receive_on, free, receive_message, wait_on, pay_any, reply_receive}
+use Rattle.mcs_book.specs.Taking.{pay}
 use Rattle.mcs_book.specs.Table.{row}
 use Rattle.mcs_state.specs.Checks.{kinded, writable, readable, object_found, object_named, act_of}
+use Rattle.mcs_notify.specs.Rows.{signal_act}
 use Rattle.mcs_state.proofs.Named.{bind-ok, bind-err, object-is}
 use Rattle.mcs_ipc.specs.declared.checks.Receiving.{Receiving}
+use Rattle.mcs_ipc.specs.declared.checks.Replying.{Replying}
+use Rattle.mcs_ipc.specs.declared.checks.Source.{Source}
+use Rattle.mcs_ipc.specs.declared.checks.Source.TheVariants as source
 use Rattle.mcs_ipc.specs.declared.checks.Target.{Target}
 use Rattle.mcs_ipc.specs.declared.checks.Target.TheVariants as target
-use Rattle.mcs_ipc.specs.Rows.{reply_found, reply_named, with_reply, target_by, target_of, sendable, callable, receivable, send_entry, receive_entry, alone_act, send_act, pay_act, target_act, receive_act, reply_receive_act}
+use Rattle.mcs_ipc.specs.Sources.{reply_found, reply_named, with_reply, waitable, source_by, source_over, receivable, second_found, replying, replying_by, replying_over, answerable}
+use Rattle.mcs_ipc.specs.Rows.{target_by, target_of, sendable, callable, send_entry, receive_entry, alone_act, send_act, pay_act, target_act, receive_act, source_act, reply_receive_act}
 
 -- a test, and then an act
 tested : (b : Bool) (x : Target) (f : Target → Act) → (need b NoRight >> Ok (f x)) ≡ act_of (cond b (Ok x) (Err NoRight)) f
@@ -36,11 +42,10 @@ tested true x f = refl
 tested false x f = refl
 
 -- a send over a capability of each kind
-sent-over : (k : Kind) (b : Bool) (t : ObjId) (c : Cap) (message : Content)
-    → (need (serves_kind k) WrongKind >> send_by k t c message (alone_act b how.Plain t c message)) ≡ act_of (target_by k c) (target_act b t message)
-unfolding send_by send_act pay_act ◌>>◌ need
+sent-over : (k : Kind) (b : Bool) (t : ObjId) (c : Cap) (message : Content) → send_by k t c message (alone_act b how.Plain t c message) ≡ act_of (target_by k c) (target_act b t message)
+unfolding send_by send_act signal_act pay_act ◌>>◌ need
 sent-over kind.Endpoint b t c message = tested (may_write c) (target.Endpoint c) (target_act b t message)
-sent-over kind.Notification b t c message = refl
+sent-over kind.Notification b t c message = tested (may_write c) (target.Notification c) (target_act b t message)
 sent-over kind.Reply b t c message = refl
 sent-over kind.CNode b t c message = refl
 sent-over kind.Thread b t c message = refl
@@ -51,7 +56,7 @@ row-send : (R : Log) (core : CoreId) (t : ObjId) (b : Bool) (a : ℕ) (message :
 unfolding row send_over
 row-send R core t b a message = go b
   where
-    over : (b : Bool) (m : Checked Cap) → (m >>= λ c. need (serves_kind c.obj.kind) WrongKind >> send_by c.obj.kind t c message (alone_act b how.Plain t c message)) ≡ act_of (target_of m) (target_act b t message)
+    over : (b : Bool) (m : Checked Cap) → (m >>= λ c. send_by c.obj.kind t c message (alone_act b how.Plain t c message)) ≡ act_of (target_of m) (target_act b t message)
     over b (Err why) = bind-err why _
     over b (Ok c) = bind-ok c _ ∙ sent-over c.obj.kind b t c message
 
@@ -92,24 +97,36 @@ reply-is R t r = ap (λ m. m >>= λ x. Ok (Some x.obj)) (object-is R t kind.Repl
     go (Err why) = bind-err why _
     go (Ok c) = bind-ok c _
 
--- a receive over a capability of each kind
-received-over : (k : Kind) (b : Bool) (R : Log) (t : ObjId) (c : Cap) (m : Checked (Option ObjId))
-    → (need (serves_kind k) WrongKind >> receive_by k R t c m b) ≡ act_of (with_reply (readable (cond (same_kind k kind.Endpoint) (Ok c) (Err WrongKind))) m) (receive_act b t)
-unfolding receive_by ◌>>=◌ ◌>>◌ need
-received-over kind.Endpoint b R t c m = go (may_read c) m
+-- where t may wait
+waits : (R : Log) (t : ObjId) (c : Cap) (f : Source → Act) → (may_wait R t c >> Ok (f (source.Notification c.obj))) ≡ act_of (waitable R t (Ok c)) f
+unfolding may_wait ◌>>◌ need
+waits R t c f = go (bound_elsewhere (tied_to R c.obj) t)
   where
-    go : (may : Bool) (m : Checked (Option ObjId)) → (need may NoRight >> (m >>= λ r. Ok (receive_on t c.obj r b))) ≡ act_of (with_reply (cond may (Ok c) (Err NoRight)) m) (receive_act b t)
+    go : (e : Bool) → (need (not e) AlreadyBound >> Ok (f (source.Notification c.obj))) ≡ act_of (cond e (Err AlreadyBound) (Ok (source.Notification c.obj))) f
+    go true = refl
+    go false = refl
+
+-- a receive over a capability of each kind
+received-over : (k : Kind) (b : Bool) (R : Log) (t : ObjId) (c : Cap) (r : Option ℕ) → receive_by k R t c (reply_named R t r) b ≡ act_of (source_by k R t c r) (source_act b t)
+unfolding receive_by ◌>>=◌ ◌>>◌ need
+received-over kind.Endpoint b R t c r = go (may_read c) (reply_named R t r)
+  where
+    go : (may : Bool) (m : Checked (Option ObjId)) → (need may NoRight >> (m >>= λ r. Ok (receive_on t c.obj r b))) ≡ act_of (with_reply (cond may (Ok c) (Err NoRight)) m) (source_act b t)
     go true (Ok r) = refl
     go true (Err why) = refl
     go false m = refl
-received-over kind.Notification b R t c m = refl
-received-over kind.Reply b R t c m = refl
-received-over kind.CNode b R t c m = refl
-received-over kind.Thread b R t c m = refl
-received-over kind.Context b R t c m = refl
+received-over kind.Notification b R t c r = go (may_read c)
+  where
+    go : (may : Bool) → (need may NoRight >> (may_wait R t c >> Ok (wait_on t c.obj b))) ≡ act_of (waitable R t (cond may (Ok c) (Err NoRight))) (source_act b t)
+    go true = waits R t c (source_act b t)
+    go false = refl
+received-over kind.Reply b R t c r = refl
+received-over kind.CNode b R t c r = refl
+received-over kind.Thread b R t c r = refl
+received-over kind.Context b R t c r = refl
 
 -- the rows of Recv, NBRecv, Wait and NBWait
-pub row-receive : (R : Log) (core : CoreId) (t : ObjId) (b : Bool) (a : ℕ) (r : Option ℕ) → row R core t (receive_entry b a r) ≡ act_of (receivable R t a r) (receive_act b t)
+pub row-receive : (R : Log) (core : CoreId) (t : ObjId) (b : Bool) (a : ℕ) (r : Option ℕ) → row R core t (receive_entry b a r) ≡ act_of (receivable R t a r) (source_act b t)
 unfolding row receive_over
 row-receive R core t b a r = named b r ∙ go (capability R t a)
   where
@@ -122,38 +139,55 @@ row-receive R core t b a r = named b r ∙ go (capability R t a)
     named true None = refl
     named false None = refl
 
-    go : (m : Checked Cap) → (m >>= λ c. need (serves_kind c.obj.kind) WrongKind >> receive_by c.obj.kind R t c (reply_named R t r) b) ≡ act_of (with_reply (readable (kinded kind.Endpoint m)) (reply_named R t r)) (receive_act b t)
+    go : (m : Checked Cap) → (m >>= λ c. receive_by c.obj.kind R t c (reply_named R t r) b) ≡ act_of (source_over R t r m) (source_act b t)
     go (Err why) = bind-err why _
-    go (Ok c) = bind-ok c _ ∙ received-over c.obj.kind b R t c (reply_named R t r)
+    go (Ok c) = bind-ok c _ ∙ received-over c.obj.kind b R t c r
 
 -- a reply over a capability of each kind, and a receive
-replied-over : (k : Kind) (R : Log) (t : ObjId) (c : Cap) (m : Checked (Option ObjId)) (message : Content)
-    → (need ((same_kind k kind.Endpoint || same_kind k kind.Notification) && serves_kind k) WrongKind >> (need (may_read c) NoRight >> (m >>= λ r. (need (serves_kind k) WrongKind >> receive_by k R t c (Ok r) true) >>= λ receive. Ok (before (pay_any r message) receive))))
-    ≡ act_of (with_reply (readable (cond (same_kind k kind.Endpoint) (Ok c) (Err WrongKind))) m) (reply_receive_act message t)
-unfolding receive_by ◌>>=◌ ◌>>◌ need
+replied-over : (k : Kind) (R : Log) (t : ObjId) (c : Cap) (m : Checked ObjId) (message : Content)
+    → (need (same_kind k kind.Endpoint || same_kind k kind.Notification) WrongKind >> (need (may_read c) NoRight >> (reply_found m >>= λ r. receive_by k R t c (Ok r) true >>= λ receive. Ok (before (pay_any r message) receive))))
+    ≡ act_of (cond (same_kind k kind.Endpoint || same_kind k kind.Notification) (replying_by k R t c (second_found (readable (Ok c)) m)) (Err WrongKind)) (reply_receive_act message t)
+unfolding receive_by may_wait ◌>>=◌ ◌>>◌ need
 replied-over kind.Endpoint R t c m message = go (may_read c) m
   where
-    go : (may : Bool) (m : Checked (Option ObjId)) → (need may NoRight >> (m >>= λ r. (need may NoRight >> (Ok r >>= λ r. Ok (receive_on t c.obj r true))) >>= λ receive. Ok (before (pay_any r message) receive)))
-        ≡ act_of (with_reply (cond may (Ok c) (Err NoRight)) m) (reply_receive_act message t)
+    go : (may : Bool) (m : Checked ObjId) → (need may NoRight >> (reply_found m >>= λ r. (need may NoRight >> (Ok r >>= λ r. Ok (receive_on t c.obj r true))) >>= λ receive. Ok (before (pay_any r message) receive)))
+        ≡ act_of (replying_by kind.Endpoint R t c (second_found (cond may (Ok c) (Err NoRight)) m)) (reply_receive_act message t)
     go true (Ok r) = refl
     go true (Err why) = refl
     go false m = refl
-replied-over kind.Notification R t c m message = refl
+replied-over kind.Notification R t c m message = go (may_read c) m
+  where
+    waited : (r : ObjId) (e : Bool) → ((need (not e) AlreadyBound >> Ok (wait_on t c.obj true)) >>= λ receive. Ok (before (pay r message) receive))
+        ≡ act_of (replying r (cond e (Err AlreadyBound) (Ok (source.Notification c.obj)))) (reply_receive_act message t)
+    waited r true = refl
+    waited r false = refl
+
+    paid : (r : ObjId) (may : Bool) → ((need may NoRight >> (may_wait R t c >> Ok (wait_on t c.obj true))) >>= λ receive. Ok (before (pay r message) receive))
+        ≡ act_of (replying r (waitable R t (cond may (Ok c) (Err NoRight)))) (reply_receive_act message t)
+    paid r true = waited r (bound_elsewhere (tied_to R c.obj) t)
+    paid r false = refl
+
+    go : (may : Bool) (m : Checked ObjId)
+        → (need may NoRight >> (reply_found m >>= λ r. (need (may_read c) NoRight >> (may_wait R t c >> Ok (wait_on t c.obj true))) >>= λ receive. Ok (before (pay_any r message) receive)))
+        ≡ act_of (replying_by kind.Notification R t c (second_found (cond may (Ok c) (Err NoRight)) m)) (reply_receive_act message t)
+    go true (Ok r) = paid r (may_read c)
+    go true (Err why) = refl
+    go false m = refl
 replied-over kind.Reply R t c m message = refl
 replied-over kind.CNode R t c m message = refl
 replied-over kind.Thread R t c m message = refl
 replied-over kind.Context R t c m message = refl
 
 -- the row of ReplyRecv
-row-reply_receive : (R : Log) (core : CoreId) (t : ObjId) (a r : ℕ) (message : Content) → row R core t (ReplyRecv a r message) ≡ act_of (receivable R t a (Some r)) (reply_receive_act message t)
+row-reply_receive : (R : Log) (core : CoreId) (t : ObjId) (a r : ℕ) (message : Content) → row R core t (ReplyRecv a r message) ≡ act_of (answerable R t a r) (reply_receive_act message t)
 unfolding row reply_receive receive_over
 row-reply_receive R core t a r message = rw (reply-is R t r) (go (capability R t a))
   where
     go : (m : Checked Cap)
-        → (m >>= λ c. need (can_badge c && serves_kind c.obj.kind) WrongKind >> (need (may_read c) NoRight >> (reply_found (object_named R t kind.Reply r) >>= λ r. (need (serves_kind c.obj.kind) WrongKind >> receive_by c.obj.kind R t c (Ok r) true) >>= λ receive. Ok (before (pay_any r message) receive))))
-        ≡ act_of (with_reply (readable (kinded kind.Endpoint m)) (reply_found (object_named R t kind.Reply r))) (reply_receive_act message t)
+        → (m >>= λ c. need (can_badge c) WrongKind >> (need (may_read c) NoRight >> (reply_found (object_named R t kind.Reply r) >>= λ r. receive_by c.obj.kind R t c (Ok r) true >>= λ receive. Ok (before (pay_any r message) receive))))
+        ≡ act_of (replying_over R t r m) (reply_receive_act message t)
     go (Err why) = bind-err why _
-    go (Ok c) = bind-ok c _ ∙ replied-over c.obj.kind R t c (reply_found (object_named R t kind.Reply r)) message
+    go (Ok c) = bind-ok c _ ∙ replied-over c.obj.kind R t c (object_named R t kind.Reply r) message
 
 -- the row of an entry whose checks were done
 done : {A : Type 0} (x : Checked Act) (checks m n : Checked A) (f : A → Act) → x ≡ act_of checks f → m ≡ checks → m ≡ n → x ≡ act_of n f
@@ -168,14 +202,14 @@ pub call-row : (R : Log) (core : CoreId) (t : ObjId) (a : ℕ) (message : Conten
 call-row R core t a message m n e h = done _ _ m n (calls t message) (row-call R core t a message) e h
 
 -- of a receive
-pub receive-row : (R : Log) (core : CoreId) (t : ObjId) (b : Bool) (a : ℕ) (r : Option ℕ) (m n : Checked Receiving) → m ≡ receivable R t a r → m ≡ n → row R core t (receive_entry b a r) ≡ act_of n (receive_act b t)
-receive-row R core t b a r m n e h = done _ _ m n (receive_act b t) (row-receive R core t b a r) e h
+pub receive-row : (R : Log) (core : CoreId) (t : ObjId) (b : Bool) (a : ℕ) (r : Option ℕ) (m n : Checked Source) → m ≡ receivable R t a r → m ≡ n → row R core t (receive_entry b a r) ≡ act_of n (source_act b t)
+receive-row R core t b a r m n e h = done _ _ m n (source_act b t) (row-receive R core t b a r) e h
 
 -- and of a reply with a receive
-pub reply_receive-row : (R : Log) (core : CoreId) (t : ObjId) (a r : ℕ) (message : Content) (m n : Checked Receiving) → m ≡ receivable R t a (Some r) → m ≡ n → row R core t (ReplyRecv a r message) ≡ act_of n (reply_receive_act message t)
+pub reply_receive-row : (R : Log) (core : CoreId) (t : ObjId) (a r : ℕ) (message : Content) (m n : Checked Replying) → m ≡ answerable R t a r → m ≡ n → row R core t (ReplyRecv a r message) ≡ act_of n (reply_receive_act message t)
 reply_receive-row R core t a r message m n e h = done _ _ m n (reply_receive_act message t) (row-reply_receive R core t a r message) e h
 
--- a receive is a reply object freed, and then a message taken
+-- a receive is a reply object freed, and then a word heard or a message taken
 pub receive-parts : (b : Bool) (t : ObjId) (at : Receiving) → receive_act b t at ≡ before (with_any at.reply free) (receive_message t at.endpoint at.reply b)
 unfolding receive_on
 receive-parts b t at = refl

@@ -4,9 +4,11 @@ use Rattle.std.specs.Option.{IfSome}
 use Rattle.mcs_types.specs.declared.id.ObjId.{ObjId}
 use Rattle.mcs_types.specs.declared.id.Kind.TheVariants as kind
 use Rattle.mcs_book.specs.Logs.{Log}
-use Rattle.mcs_book.specs.Served.{NoneBound}
 use Rattle.mcs_book.specs.Sound.{IsThere, IsIdle, IsFreeReply}
+use Rattle.mcs_notify.specs.Waiting.{NoneElseBound}
 use Rattle.mcs_state.specs.Entering.{IsActing, OpenStand}
+use Rattle.mcs_ipc.specs.declared.checks.Source.{Source}
+use Rattle.mcs_ipc.specs.declared.checks.Source.TheVariants as source
 
 -- t acts, and the endpoint is there
 pub record IsSending (R : Log) (t e : ObjId) : Type 0 where
@@ -18,15 +20,24 @@ pub record IsSending (R : Log) (t e : ObjId) : Type 0 where
 pub record IsReceiving (R : Log) (t e : ObjId) (r : Option ObjId) : Type 0 where
   pub acting : IsActing R t
   pub stand : OpenStand R
-  pub unbound : NoneBound R
   pub endpoint : IsThere R kind.Endpoint e
   pub reply : IfSome r (λ o. IsThere R kind.Reply o)
 
--- the same, and nobody uses the reply object
+-- t acts, the notification is there, and nobody else is bound to it
+pub record IsWaiting (R : Log) (t n : ObjId) : Type 0 where
+  pub acting : IsActing R t
+  pub there : IsThere R kind.Notification n
+  pub alone : NoneElseBound R n t
+
+-- t may receive from a source
+abbrev pub IsReceivingFrom : Log → ObjId → Source → Type 0
+IsReceivingFrom R t (source.Endpoint at) = IsReceiving R t at.endpoint at.reply
+IsReceivingFrom R t (source.Notification n) = IsWaiting R t n
+
+-- t receives on an endpoint, and nobody uses the reply object
 pub record IsReady (R : Log) (t e : ObjId) (r : Option ObjId) : Type 0 where
   pub acting : IsActing R t
   pub stand : OpenStand R
-  pub unbound : NoneBound R
   pub endpoint : IsThere R kind.Endpoint e
   pub reply : IfSome r (λ o. IsThere R kind.Reply o × IsFreeReply R o)
 

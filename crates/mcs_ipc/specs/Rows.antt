@@ -21,35 +21,24 @@ use Rattle.mcs_types.specs.declared.record.Queue.TheVariants.{Senders, Receivers
 use Rattle.mcs_types.specs.declared.record.Rec.TheVariants.{Took, Parts, Turns, Joins}
 use Rattle.mcs_book.specs.Pieces.{Piece, Act, ◌then◌, say, nothing, answers, before}
 use Rattle.mcs_book.specs.Contexts.{context_of}
-use Rattle.mcs_book.specs.Queues.{reply_with}
+use Rattle.mcs_book.specs.Queues.{reply_with, first_in}
 use Rattle.mcs_book.specs.Taking.{settle, pay}
 use Rattle.mcs_book.specs.Sending.{letter_over, sends, queues}
-use Rattle.mcs_book.specs.Receiving.{receive_on, joins_or, pay_any}
-use Rattle.mcs_state.specs.Checks.{kinded, writable, readable, object_named}
+use Rattle.mcs_book.specs.Receiving.{receive_on, take_open, open_of_any, joins_or, wait_on}
+use Rattle.mcs_notify.specs.Rows.{signal_act}
+use Rattle.mcs_state.specs.Checks.{kinded, writable}
 use Rattle.mcs_ipc.specs.declared.checks.Receiving.{Receiving}
+use Rattle.mcs_ipc.specs.declared.checks.Replying.{Replying}
+use Rattle.mcs_ipc.specs.declared.checks.Source.{Source}
+use Rattle.mcs_ipc.specs.declared.checks.Source.TheVariants as source
 use Rattle.mcs_ipc.specs.declared.checks.Target.{Target}
 use Rattle.mcs_ipc.specs.declared.checks.Target.TheVariants as target
 use Rattle.mcs_ipc.specs.declared.taking.Delivery.{Delivery}
 
--- the reply object that was found
-abbrev pub reply_found : Checked ObjId → Checked (Option ObjId)
-reply_found (Err why) = Err why
-reply_found (Ok r) = Ok (Some r)
-
--- the reply object that t names, if it names one
-abbrev pub reply_named : Log → ObjId → Option ℕ → Checked (Option ObjId)
-reply_named R t None = Ok None
-reply_named R t (Some r) = reply_found (object_named R t kind.Reply r)
-
--- an endpoint and a reply object, of which the first is tested first
-abbrev pub with_reply : Checked Cap → Checked (Option ObjId) → Checked Receiving
-with_reply (Err why) reply = Err why
-with_reply (Ok cap) (Err why) = Err why
-with_reply (Ok cap) (Ok reply) = Ok (record { endpoint = cap.obj; reply = reply })
-
 -- what one sends over by a capability to an object of this kind
 abbrev pub target_by : Kind → Cap → Checked Target
 target_by kind.Endpoint cap = cond (may_write cap) (Ok (target.Endpoint cap)) (Err NoRight)
+target_by kind.Notification cap = cond (may_write cap) (Ok (target.Notification cap)) (Err NoRight)
 target_by kind.Reply cap = Ok (target.Reply cap.obj)
 target_by _ cap = Err WrongKind
 
@@ -65,10 +54,6 @@ sendable R t a = target_of (capability R t a)
 -- the capability over which t calls, or the first check that fails
 abbrev pub callable : Log → ObjId → ℕ → Checked Cap
 callable R t a = writable (kinded kind.Endpoint (capability R t a))
-
--- the endpoint and the reply object with which t receives, or the first check that fails
-abbrev pub receivable : Log → ObjId → ℕ → Option ℕ → Checked Receiving
-receivable R t a r = with_reply (readable (kinded kind.Endpoint (capability R t a))) (reply_named R t r)
 
 -- Send where it blocks, and NBSend where not
 abbrev pub send_entry : Bool → ℕ → Content → Entry
@@ -101,22 +86,32 @@ send_act blocks mode t cap message = sends (letter_over t cap mode message) (ans
 unfoldable pub pay_act : ObjId → Content → Act
 pay_act r message = answers Done (pay r message)
 
--- t sends over an endpoint or a reply object
+-- t sends over an endpoint, a notification or a reply object
 abbrev pub target_act : Bool → ObjId → Content → Target → Act
 target_act blocks t message (target.Endpoint cap) = send_act blocks how.Plain t cap message
+target_act blocks t message (target.Notification cap) = signal_act cap
 target_act blocks t message (target.Reply r) = pay_act r message
 
 -- what t does where nobody sends: it waits among the receivers, or is answered at once
 abbrev pub stand_act : Bool → ObjId → Receiving → Act
 stand_act blocks t at = joins_or blocks (Joins t (Receivers at.endpoint) at.reply)
 
+-- t takes the message of the first sender, where no word is pending for it
+unfoldable pub take_act : Bool → ObjId → Receiving → Act
+take_act blocks t at R = take_open t at.reply (open_of_any R (first_in R (Senders at.endpoint))) (stand_act blocks t at) R
+
 -- t receives on an endpoint, with a reply object or without
 abbrev pub receive_act : Bool → ObjId → Receiving → Act
 receive_act blocks t at = receive_on t at.endpoint at.reply blocks
 
--- t pays its reply object, and then receives with it
-abbrev pub reply_receive_act : Content → ObjId → Receiving → Act
-reply_receive_act message t at = before (pay_any at.reply message) (receive_act true t at)
+-- t receives on an endpoint, or waits on a notification
+abbrev pub source_act : Bool → ObjId → Source → Act
+source_act blocks t (source.Endpoint at) = receive_act blocks t at
+source_act blocks t (source.Notification n) = wait_on t n blocks
+
+-- t pays its reply object, and then receives
+abbrev pub reply_receive_act : Content → ObjId → Replying → Act
+reply_receive_act message t at = before (pay at.reply message) (source_act true t at.source)
 
 -- what a caller lends, of what the receiver and it hold: its own, where the receiver holds none
 abbrev pub lent_of : Option ObjId → Option ObjId → Option ObjId

@@ -3,16 +3,20 @@ ghost use Rattle.std.specs.Prelude.{◌≡◌};
 ghost use Rattle.mcs_types.specs.declared.id.Kind.{Kind};
 ghost use Rattle.mcs_book.specs.Sound.{IsThere};
 ghost use Rattle.mcs_state.specs.Now.{so_far};
-ghost use Rattle.mcs_ipc.specs.Rows.{reply_named, sendable, callable, receivable};
+ghost use Rattle.mcs_ipc.specs.Sources.{reply_named, endpoint_source, notification_source, receivable, reply_to_pay, answerable};
+ghost use Rattle.mcs_ipc.specs.Rows.{sendable, callable};
 
+use mcs_notify::may_wait;
+use mcs_slots::takes_badge;
 use mcs_state::{State, find_object, of_kind, with_read, with_write};
 use mcs_types::{Cap, Kind, ObjId, Refusal};
 use mcs_waiting::Waiting;
 
-/// What a thread sends over: an endpoint, by this capability, or a reply object, which it pays.
+/// What a thread sends over: an endpoint or a notification, by this capability, or a reply object, which it pays.
 #[derive(Clone, Copy)]
 pub enum Target {
     Endpoint(Cap),
+    Notification(Cap),
     Reply(ObjId),
 }
 
@@ -21,6 +25,20 @@ pub enum Target {
 pub struct Receiving {
     pub endpoint: ObjId,
     pub reply: Option<ObjId>,
+}
+
+/// What a thread receives from: an endpoint, with its reply object, or a notification, on which it waits.
+#[derive(Clone, Copy)]
+pub enum Source {
+    Endpoint(Receiving),
+    Notification(ObjId),
+}
+
+/// The reply object that a thread pays, and what it then receives from.
+#[derive(Clone, Copy)]
+pub struct Replying {
+    pub reply: ObjId,
+    pub source: Source,
 }
 
 /// The reply object at an address, where one is named.
@@ -54,6 +72,8 @@ pub fn target_to_send<W: Waiting>(
     match cap.obj.kind {
         Kind::Endpoint if !cap.rights.can_write() => Err(Refusal::NoRight),
         Kind::Endpoint => Ok(Target::Endpoint(cap)),
+        Kind::Notification if !cap.rights.can_write() => Err(Refusal::NoRight),
+        Kind::Notification => Ok(Target::Notification(cap)),
         Kind::Reply => Ok(Target::Reply(cap.obj)),
         _ => Err(Refusal::WrongKind),
     }
@@ -71,20 +91,92 @@ pub fn cap_to_call<W: Waiting>(
     with_write(of_kind(state.capability(thread, address), Kind::Endpoint))
 }
 
-/// The endpoint and the reply object with which a thread receives.
-pub fn objects_to_receive<W: Waiting>(
+/// The endpoint of a capability, and the reply object at an address, where one is named.
+fn endpoint_source<W: Waiting>(
+    state: &State<W>,
+    thread: ObjId,
+    cap: Cap,
+    reply: Option<u64>,
+) -> Result<Source, Refusal>
+    requires { IsThere (so_far state.now) Kind.Thread thread }
+    ensures { result ≡ endpoint_source cap (reply_named (so_far state.now) thread reply) }
+{
+    let cap = with_read(Ok(cap))?;
+    let reply = find_reply(state, thread, reply)?;
+    Ok(Source::Endpoint(Receiving {
+        endpoint: cap.obj,
+        reply,
+    }))
+}
+
+/// The notification of a capability, where the thread may wait on it.
+fn notification_source<W: Waiting>(
+    state: &State<W>,
+    thread: ObjId,
+    cap: Cap,
+) -> Result<Source, Refusal>
+    ensures { result ≡ notification_source (so_far state.now) thread cap }
+{
+    let cap = with_read(Ok(cap))?;
+    if !may_wait(state, thread, cap.obj) {
+        return Err(Refusal::AlreadyBound);
+    }
+    Ok(Source::Notification(cap.obj))
+}
+
+/// What a thread receives from. A reply object is looked up for an endpoint alone.
+pub fn source_to_receive<W: Waiting>(
     state: &State<W>,
     thread: ObjId,
     address: u64,
     reply: Option<u64>,
-) -> Result<Receiving, Refusal>
+) -> Result<Source, Refusal>
     requires { IsThere (so_far state.now) Kind.Thread thread }
     ensures { result ≡ receivable (so_far state.now) thread address reply }
 {
-    let cap = with_read(of_kind(state.capability(thread, address), Kind::Endpoint))?;
-    let reply = find_reply(state, thread, reply)?;
-    Ok(Receiving {
-        endpoint: cap.obj,
-        reply,
-    })
+    let cap = state.capability(thread, address)?;
+    match cap.obj.kind {
+        Kind::Endpoint => endpoint_source(state, thread, cap, reply),
+        Kind::Notification => notification_source(state, thread, cap),
+        _ => Err(Refusal::WrongKind),
+    }
+}
+
+/// The reply object that a thread pays before it receives over a capability.
+fn reply_to_pay<W: Waiting>(
+    state: &State<W>,
+    thread: ObjId,
+    cap: Cap,
+    reply: u64,
+) -> Result<ObjId, Refusal>
+    requires { IsThere (so_far state.now) Kind.Thread thread }
+    ensures { result ≡ reply_to_pay (so_far state.now) thread cap reply }
+{
+    with_read(Ok(cap))?;
+    find_object(state, thread, Kind::Reply, reply)
+}
+
+/// The reply object that a thread pays, and what it then receives from.
+pub fn source_to_reply<W: Waiting>(
+    state: &State<W>,
+    thread: ObjId,
+    address: u64,
+    reply: u64,
+) -> Result<Replying, Refusal>
+    requires { IsThere (so_far state.now) Kind.Thread thread }
+    ensures { result ≡ answerable (so_far state.now) thread address reply }
+{
+    let cap = state.capability(thread, address)?;
+    if !takes_badge(&cap) {
+        return Err(Refusal::WrongKind);
+    }
+    let reply = reply_to_pay(state, thread, cap, reply)?;
+    let source = match cap.obj.kind {
+        Kind::Notification => notification_source(state, thread, cap)?,
+        _ => Source::Endpoint(Receiving {
+            endpoint: cap.obj,
+            reply: Some(reply),
+        }),
+    };
+    Ok(Replying { reply, source })
 }

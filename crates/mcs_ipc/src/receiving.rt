@@ -4,17 +4,17 @@ ghost use Rattle.mcs_types.specs.declared.entry.Entry.{Entry};
 ghost use Rattle.mcs_types.specs.declared.id.Kind.{Kind};
 ghost use Rattle.mcs_book.specs.Pieces.{with_any};
 ghost use Rattle.mcs_book.specs.Receiving.{free as freed, receive_message};
-ghost use Rattle.mcs_book.specs.Served.{NoneBound};
 ghost use Rattle.mcs_book.specs.Sound.{IsThere};
 ghost use Rattle.mcs_state.specs.Now.{so_far};
 ghost use Rattle.mcs_state.specs.Doing.{Makes, HasRoomFor, Acts, FitsAct, Does, Fits};
 ghost use Rattle.mcs_state.specs.Entering.{IsEntering, OpenStand};
-ghost use Rattle.mcs_ipc.specs.Ready.{IsReceiving, IsReady};
-ghost use Rattle.mcs_ipc.specs.Rows.{receive_entry, stand_act, receive_act};
+ghost use Rattle.mcs_ipc.specs.Ready.{IsReceiving, IsReceivingFrom, IsReady};
+ghost use Rattle.mcs_ipc.specs.Rows.{receive_entry, stand_act, take_act, receive_act, source_act};
 
-use crate::checks::{Receiving, objects_to_receive};
-use crate::replying::pay_any;
+use crate::checks::{Receiving, Source, source_to_receive, source_to_reply};
+use crate::replying::pay;
 use crate::taking::{Delivery, take};
+use mcs_notify::take_bound;
 use mcs_state::{State, wake};
 use mcs_types::{Answer, CoreId, Ending, Message, Mode, ObjId, Queue};
 use mcs_waiting::Waiting;
@@ -72,15 +72,15 @@ fn stand<W: Waiting>(state: &mut State<W>, thread: ObjId, at: Receiving, blocks:
 }
 
 /// Takes the message of the first sender. Where nobody sends, the thread waits if it blocks.
-fn receive_over<W: Waiting>(
+fn take_first<W: Waiting>(
     state: &mut State<W>,
     thread: ObjId,
     at: Receiving,
     blocks: bool,
 ) -> Answer
     requires ready { IsReady (so_far state.old) thread at.endpoint at.reply }
-    requires room { FitsAct (receive_message thread at.endpoint at.reply blocks) state.old }
-    ensures { Acts (receive_message thread at.endpoint at.reply blocks) state.old result state.new }
+    requires room { FitsAct (take_act blocks thread at) state.old }
+    ensures { Acts (take_act blocks thread at) state.old result state.new }
 {
     match state.first(Queue::Senders(at.endpoint)) {
         None => stand(state, thread, at, blocks),
@@ -102,7 +102,27 @@ fn receive_over<W: Waiting>(
     }
 }
 
-/// Frees the reply object, and takes the message of the first sender. Where nobody sends, the thread waits if it blocks.
+/// Hears the pending word of the thread's notification, or else takes the message of the first sender. Where there is
+/// neither, the thread waits if it blocks (manual: Notifications; Message Passing).
+fn hear_or_take<W: Waiting>(
+    state: &mut State<W>,
+    thread: ObjId,
+    at: Receiving,
+    blocks: bool,
+) -> Answer
+    requires ready { IsReady (so_far state.old) thread at.endpoint at.reply }
+    requires room { FitsAct (receive_message thread at.endpoint at.reply blocks) state.old }
+    ensures { Acts (receive_message thread at.endpoint at.reply blocks) state.old result state.new }
+{
+    state.is_sound();
+    match take_bound(state, thread) {
+        Some(word) => Answer::Heard { word },
+        None => take_first(state, thread, at, blocks),
+    }
+}
+
+/// Frees the reply object, and receives: a pending word comes before a message. Where there is neither, the thread waits if
+/// it blocks.
 fn receive_on<W: Waiting>(
     state: &mut State<W>,
     thread: ObjId,
@@ -115,7 +135,26 @@ fn receive_on<W: Waiting>(
 {
     state.is_sound();
     free_any(state, at.reply);
-    receive_over(state, thread, at, blocks)
+    hear_or_take(state, thread, at, blocks)
+}
+
+/// Receives on an endpoint, or waits on a notification.
+fn receive_from<W: Waiting>(
+    state: &mut State<W>,
+    thread: ObjId,
+    source: Source,
+    blocks: bool,
+) -> Answer
+    requires receiving { IsReceivingFrom (so_far state.old) thread source }
+    requires room { FitsAct (source_act blocks thread source) state.old }
+    ensures { Acts (source_act blocks thread source) state.old result state.new }
+{
+    match source {
+        Source::Endpoint(at) => receive_on(state, thread, at, blocks),
+        Source::Notification(notification) => {
+            mcs_notify::wait(state, thread, notification, blocks)
+        }
+    }
 }
 
 /// Recv and Wait where it blocks, and NBRecv and NBWait where not; the first of each pair has a reply object.
@@ -129,23 +168,24 @@ fn receive_at<W: Waiting>(
 ) -> Answer
     requires entering { IsEntering (so_far state.old) thread }
     requires stand { OpenStand (so_far state.old) }
-    requires unbound { NoneBound (so_far state.old) }
     requires room { Fits state.old core thread (receive_entry blocks address reply) }
     ensures { Does state.old core thread (receive_entry blocks address reply) result state.new }
 {
     state.is_sound();
-    match objects_to_receive(state, thread, address, reply) {
+    match source_to_receive(state, thread, address, reply) {
         Err(refusal) => Answer::Refused(refusal),
-        Ok(at) => {
+        Ok(source) => {
             wake(state, thread);
-            receive_on(state, thread, at, blocks)
+            receive_from(state, thread, source, blocks)
         }
     }
 }
 
-/// Recv: over an endpoint the message of the first sender is taken, or else the thread waits among the receivers, with the
-/// reply object, whose present user is cancelled first. The refusals are 1 to 3 of the lookups, 4 for a capability of
-/// another kind, and 5 where Read is missing; they change nothing (manual: Message Passing).
+/// Recv: over an endpoint the reply object's present user is cancelled; then the pending word of the thread's notification
+/// is heard, or else the message of the first sender is taken, or else the thread waits among the receivers, with the reply
+/// object. Over a notification its pending word is heard, or else the thread waits on it; the reply object is not looked up.
+/// The refusals are 1 to 3 of the lookups, 4 for a capability of another kind, 5 where Read is missing, and 9 where the
+/// notification is bound to another thread; they change nothing (manual: Message Passing; Notifications).
 pub fn receive<W: Waiting>(
     state: &mut State<W>,
     core: CoreId,
@@ -155,15 +195,14 @@ pub fn receive<W: Waiting>(
 ) -> Answer
     requires entering { IsEntering (so_far state.old) thread }
     requires stand { OpenStand (so_far state.old) }
-    requires unbound { NoneBound (so_far state.old) }
     requires room { Fits state.old core thread (Entry.Recv address reply) }
     ensures { Does state.old core thread (Entry.Recv address reply) result state.new }
 {
     receive_at(state, core, thread, address, Some(reply), true)
 }
 
-/// NBRecv: as Recv, but where nobody sends the answer is Empty. The reply object's present user is cancelled all the same
-/// (manual: Message Passing; own).
+/// NBRecv: as Recv, but where no word is pending and nobody sends the answer is Empty. The reply object's present user is
+/// cancelled all the same (manual: Message Passing; own).
 pub fn nb_receive<W: Waiting>(
     state: &mut State<W>,
     core: CoreId,
@@ -173,7 +212,6 @@ pub fn nb_receive<W: Waiting>(
 ) -> Answer
     requires entering { IsEntering (so_far state.old) thread }
     requires stand { OpenStand (so_far state.old) }
-    requires unbound { NoneBound (so_far state.old) }
     requires room { Fits state.old core thread (Entry.NbRecv address reply) }
     ensures { Does state.old core thread (Entry.NbRecv address reply) result state.new }
 {
@@ -184,7 +222,6 @@ pub fn nb_receive<W: Waiting>(
 pub fn wait<W: Waiting>(state: &mut State<W>, core: CoreId, thread: ObjId, address: u64) -> Answer
     requires entering { IsEntering (so_far state.old) thread }
     requires stand { OpenStand (so_far state.old) }
-    requires unbound { NoneBound (so_far state.old) }
     requires room { Fits state.old core thread (Entry.Wait address) }
     ensures { Does state.old core thread (Entry.Wait address) result state.new }
 {
@@ -200,15 +237,15 @@ pub fn nb_wait<W: Waiting>(
 ) -> Answer
     requires entering { IsEntering (so_far state.old) thread }
     requires stand { OpenStand (so_far state.old) }
-    requires unbound { NoneBound (so_far state.old) }
     requires room { Fits state.old core thread (Entry.NbWait address) }
     ensures { Does state.old core thread (Entry.NbWait address) result state.new }
 {
     receive_at(state, core, thread, address, None, false)
 }
 
-/// ReplyRecv: the reply object is paid, and then the thread receives with it, as by Recv. All tests come first: the refusals
-/// are those of Recv, and change nothing (manual: Message Passing).
+/// ReplyRecv: the reply object is paid, and then the thread receives with it, as by Recv, or waits on a notification. All
+/// tests come first, that of the reply object also over a notification: the refusals are those of Recv, and change nothing
+/// (manual: Message Passing; Notifications).
 pub fn reply_receive<W: Waiting>(
     state: &mut State<W>,
     core: CoreId,
@@ -219,17 +256,16 @@ pub fn reply_receive<W: Waiting>(
 ) -> Answer
     requires entering { IsEntering (so_far state.old) thread }
     requires stand { OpenStand (so_far state.old) }
-    requires unbound { NoneBound (so_far state.old) }
     requires room { Fits state.old core thread (Entry.ReplyRecv address reply message) }
     ensures { Does state.old core thread (Entry.ReplyRecv address reply message) result state.new }
 {
     state.is_sound();
-    match objects_to_receive(state, thread, address, Some(reply)) {
+    match source_to_reply(state, thread, address, reply) {
         Err(refusal) => Answer::Refused(refusal), // Nobody is paid yet.
         Ok(at) => {
             wake(state, thread);
-            pay_any(state, at.reply, message);
-            receive_on(state, thread, at, true)
+            pay(state, at.reply, message);
+            receive_from(state, thread, at.source, true)
         }
     }
 }

@@ -1,7 +1,6 @@
 //! Callers that are answered.
 ghost use Rattle.std.specs.Prelude.{IfSome};
 ghost use Rattle.mcs_types.specs.declared.id.Kind.{Kind};
-ghost use Rattle.mcs_book.specs.Receiving.{pay_any as paid_any};
 ghost use Rattle.mcs_book.specs.Sound.{IsThere};
 ghost use Rattle.mcs_book.specs.Taking.{give_back as given_back, pay as paid};
 ghost use Rattle.mcs_state.specs.Now.{so_far};
@@ -42,16 +41,5 @@ pub fn pay<W: Waiting>(state: &mut State<W>, reply: ObjId, message: Message)
             state.turns(caller, Mode::Running);
             give_back(state, lent, caller);
         }
-    }
-}
-
-/// The same, where there is a reply object.
-pub fn pay_any<W: Waiting>(state: &mut State<W>, reply: Option<ObjId>, message: Message)
-    requires { HasRoomFor (paid_any reply message) state.old }
-    ensures { Makes (paid_any reply message) state.old state.new }
-{
-    match reply {
-        None => {}
-        Some(reply) => pay(state, reply, message),
     }
 }

@@ -1,18 +1,22 @@
 //! Send, NBSend and Call.
 ghost use Rattle.std.specs.Prelude.{◌≡◌, ◌<◌, true, Some, None, length};
 ghost use Rattle.mcs_types.specs.declared.entry.Entry.{Entry};
+ghost use Rattle.mcs_types.specs.declared.id.Kind.{Kind};
 ghost use Rattle.mcs_types.specs.declared.record.Queue.{Queue};
 ghost use Rattle.mcs_book.specs.Queues.{first_in};
 ghost use Rattle.mcs_book.specs.Rights.{call_mode};
+ghost use Rattle.mcs_book.specs.Sound.{IsThere};
 ghost use Rattle.mcs_state.specs.Now.{so_far};
 ghost use Rattle.mcs_state.specs.Doing.{Acts, FitsAct, Does, Fits};
-ghost use Rattle.mcs_state.specs.Entering.{IsEntering, OpenStand};
+ghost use Rattle.mcs_state.specs.Entering.{IsEntering, OpenStand, OnlyBoundWait};
+ghost use Rattle.mcs_notify.specs.Rows.{signal_act};
 ghost use Rattle.mcs_ipc.specs.Ready.{IsSending};
 ghost use Rattle.mcs_ipc.specs.Rows.{answer_to, send_entry, send_act, pay_act};
 
 use crate::checks::{Target, cap_to_call, target_to_send};
 use crate::replying::pay;
 use crate::taking::{Delivery, hand};
+use mcs_notify::signal;
 use mcs_state::{State, wake};
 use mcs_types::{Answer, BOOK_LINES, Cap, CoreId, Message, ObjId, Queue, SendMode};
 use mcs_waiting::Waiting;
@@ -117,6 +121,17 @@ fn send_reply<W: Waiting>(state: &mut State<W>, reply: ObjId, message: Message) 
     Answer::Done
 }
 
+/// Signals a notification over a capability.
+fn send_signal<W: Waiting>(state: &mut State<W>, cap: Cap) -> Answer
+    requires there { IsThere (so_far state.old) Kind.Notification cap.obj }
+    requires waiting { OnlyBoundWait (so_far state.old) }
+    requires room { FitsAct (signal_act cap) state.old }
+    ensures { Acts (signal_act cap) state.old result state.new }
+{
+    signal(state, cap.obj, cap.badge);
+    Answer::Done
+}
+
 /// Send where it blocks, and NBSend where not.
 fn send_at<W: Waiting>(
     state: &mut State<W>,
@@ -128,6 +143,7 @@ fn send_at<W: Waiting>(
 ) -> Answer
     requires entering { IsEntering (so_far state.old) thread }
     requires stand { OpenStand (so_far state.old) }
+    requires waiting { OnlyBoundWait (so_far state.old) }
     requires few { length state.old.book.lines < BOOK_LINES }
     requires room { Fits state.old core thread (send_entry blocks address message) }
     ensures { Does state.old core thread (send_entry blocks address message) result state.new }
@@ -141,15 +157,18 @@ fn send_at<W: Waiting>(
                 Target::Endpoint(cap) => {
                     send_over(state, thread, cap, SendMode::Plain, message, blocks)
                 }
+                Target::Notification(cap) => send_signal(state, cap),
                 Target::Reply(reply) => send_reply(state, reply, message),
             }
         }
     }
 }
 
-/// Send: over an endpoint the first receiver takes the message, or else the thread waits among the senders; over a reply
+/// Send: over an endpoint the first receiver takes the message, or else the thread waits among the senders; over a
+/// notification the message is left out, and the notification is signalled with the badge of the capability; over a reply
 /// object the caller that it owes is answered, if it owes one. The refusals are 1 to 3 of the lookup, 4 for a capability of
-/// another kind, and 5 where an endpoint's lacks Write; they change nothing (manual: Message Passing).
+/// another kind, and 5 where one to an endpoint or a notification lacks Write; they change nothing (manual: Message Passing;
+/// Notifications).
 pub fn send<W: Waiting>(
     state: &mut State<W>,
     core: CoreId,
@@ -159,6 +178,7 @@ pub fn send<W: Waiting>(
 ) -> Answer
     requires entering { IsEntering (so_far state.old) thread }
     requires stand { OpenStand (so_far state.old) }
+    requires waiting { OnlyBoundWait (so_far state.old) }
     requires few { length state.old.book.lines < BOOK_LINES }
     requires room { Fits state.old core thread (Entry.Send address message) }
     ensures { Does state.old core thread (Entry.Send address message) result state.new }
@@ -177,6 +197,7 @@ pub fn nb_send<W: Waiting>(
 ) -> Answer
     requires entering { IsEntering (so_far state.old) thread }
     requires stand { OpenStand (so_far state.old) }
+    requires waiting { OnlyBoundWait (so_far state.old) }
     requires few { length state.old.book.lines < BOOK_LINES }
     requires room { Fits state.old core thread (Entry.NbSend address message) }
     ensures { Does state.old core thread (Entry.NbSend address message) result state.new }

@@ -14,18 +14,18 @@ free_any-requires-clause-room g c =
     let parts = receive-parts c.args.blocks c.args.thread c.args.at in
     room-before (with_any c.args.at.reply free) (receive_message c.args.thread c.args.at.endpoint c.args.at.reply c.args.blocks) c.args.state.now (subst (λ (act : Act). FitsAct act c.args.state.now) parts c.requires.room)
 
-pub receive_over-requires-clause-ready : goal.receive_over-requires-clause-ready
-receive_over-requires-clause-ready g c =
+pub hear_or_take-requires-clause-ready : goal.hear_or_take-requires-clause-ready
+hear_or_take-requires-clause-ready g c =
     let freed = so_far-made (with_any c.args.at.reply free) c.args.state.now c.free_any.new.state c.free_any.ensures in
     subst (λ S. IsReady S c.args.thread c.args.at.endpoint c.args.at.reply) (sym freed) (freed-ready (so_far c.args.state.now) c.args.thread c.args.at.endpoint c.args.at.reply c.is_sound.ensures.sound c.requires.receiving)
 
-pub receive_over-requires-clause-room : goal.receive_over-requires-clause-room
-receive_over-requires-clause-room g c =
+pub hear_or_take-requires-clause-room : goal.hear_or_take-requires-clause-room
+hear_or_take-requires-clause-room g c =
     let parts = receive-parts c.args.blocks c.args.thread c.args.at in
     room-then (with_any c.args.at.reply free) (receive_message c.args.thread c.args.at.endpoint c.args.at.reply c.args.blocks) c.args.state.now c.free_any.new.state c.free_any.ensures (subst (λ (act : Act). FitsAct act c.args.state.now) parts c.requires.room)
 
 pub returns : goal.returns
 returns g c =
     let parts = receive-parts c.args.blocks c.args.thread c.args.at in
-    subst (λ (act : Act). Acts act c.args.state.now c.receive_over.result c.receive_over.new.state) (sym parts)
-    (after (with_any c.args.at.reply free) (receive_message c.args.thread c.args.at.endpoint c.args.at.reply c.args.blocks) c.args.state.now c.free_any.new.state c.receive_over.new.state c.receive_over.result c.free_any.ensures c.receive_over.ensures)
+    subst (λ (act : Act). Acts act c.args.state.now c.hear_or_take.result c.hear_or_take.new.state) (sym parts)
+    (after (with_any c.args.at.reply free) (receive_message c.args.thread c.args.at.endpoint c.args.at.reply c.args.blocks) c.args.state.now c.free_any.new.state c.hear_or_take.new.state c.hear_or_take.result c.free_any.ensures c.hear_or_take.ensures)

@@ -1,0 +1,4 @@
+pub mod Hearing
+pub mod Words
+pub mod Tying
+pub mod Rows

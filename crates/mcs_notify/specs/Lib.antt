@@ -1,0 +1,4 @@
+pub mod Hearing
+pub mod Waiting
+pub mod Tying
+pub mod Rows

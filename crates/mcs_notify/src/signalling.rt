@@ -1,0 +1,131 @@
+//! Signals, and who hears them.
+ghost use Rattle.std.specs.Prelude.{◌≡◌, Some};
+ghost use Rattle.mcs_types.specs.declared.entry.Entry.{Entry};
+ghost use Rattle.mcs_types.specs.declared.id.Kind.{Kind};
+ghost use Rattle.mcs_book.specs.Notifications.{pending};
+ghost use Rattle.mcs_book.specs.Queues.{queue_of};
+ghost use Rattle.mcs_book.specs.Signalling.{signal as signalled};
+ghost use Rattle.mcs_book.specs.Sound.{IsThere};
+ghost use Rattle.mcs_state.specs.Now.{so_far};
+ghost use Rattle.mcs_state.specs.Doing.{Makes, HasRoomFor, Does, Fits};
+ghost use Rattle.mcs_state.specs.Entering.{IsEntering, OnlyBoundWait};
+ghost use Rattle.mcs_notify.specs.Hearing.{bound_receiver, first_waiter, next_hearer, reached, heard_by};
+ghost use Rattle.mcs_notify.specs.Rows.{signalable};
+ghost use Rattle.mcs_notify.specs.Waiting.{NoneElseBound};
+
+use mcs_state::{State, of_kind, wake, with_write};
+use mcs_types::{Answer, Badge, Cap, CoreId, Kind, Mode, ObjId, Queue, Refusal};
+use mcs_waiting::Waiting;
+
+/// A thread that a word reaches, and the queue in which it stands.
+#[derive(Clone, Copy)]
+pub struct Hearer {
+    pub thread: ObjId,
+    pub queue: Queue,
+}
+
+/// The thread to which a notification is bound, where it stands among the receivers of an endpoint.
+fn bound_receiver<W: Waiting>(state: &State<W>, notification: ObjId) -> Option<Hearer>
+    ensures { result ≡ bound_receiver (so_far state.now) notification }
+{
+    let thread = state.tied_to(notification)?;
+    let queue = state.queue(thread)?;
+    match queue {
+        Queue::Receivers(_) => Some(Hearer { thread, queue }),
+        Queue::Senders(_) | Queue::Waiters(_) => None,
+    }
+}
+
+/// The first waiter of a notification.
+fn first_waiter<W: Waiting>(state: &State<W>, notification: ObjId) -> Option<Hearer>
+    ensures { result ≡ first_waiter (so_far state.now) notification }
+{
+    let queue = Queue::Waiters(notification);
+    let thread = state.first(queue)?;
+    Some(Hearer { thread, queue })
+}
+
+/// Who hears the next word of a notification: the bound thread where it receives, else the first waiter.
+fn next_hearer<W: Waiting>(state: &State<W>, notification: ObjId) -> Option<Hearer>
+    ensures { result ≡ next_hearer (so_far state.now) notification }
+{
+    match bound_receiver(state, notification) {
+        Some(hearer) => Some(hearer),
+        None => first_waiter(state, notification),
+    }
+}
+
+/// Whom a signal reaches: nobody where a word is pending.
+fn reached<W: Waiting>(state: &State<W>, notification: ObjId) -> Option<Hearer>
+    requires { IsThere (so_far state.now) Kind.Notification notification }
+    ensures { result ≡ reached (so_far state.now) notification }
+{
+    match state.pending(notification) {
+        Some(_) => None,
+        None => next_hearer(state, notification),
+    }
+}
+
+/// The hearer takes the word, leaves its queue, and runs.
+fn hear<W: Waiting>(state: &mut State<W>, notification: ObjId, word: u64, hearer: Hearer)
+    requires stands { queue_of (so_far state.old) hearer.thread ≡ Some hearer.queue }
+    requires pending { pending (so_far state.old) notification ≡ Some word }
+    requires alone { NoneElseBound (so_far state.old) notification hearer.thread }
+    requires room { HasRoomFor (heard_by notification word hearer) state.old }
+    ensures { Makes (heard_by notification word hearer) state.old state.new }
+{
+    let Hearer { thread, queue } = hearer;
+    state.is_sound();
+    state.hears(thread, notification, word);
+    state.parts(thread, queue);
+    state.turns(thread, Mode::Running);
+}
+
+/// Signals a notification with a badge, whose bits are added to the word. Where no word was pending, somebody hears it: the
+/// bound thread if it receives on an endpoint, else the first waiter. It leaves its queue, and runs (manual: Notifications).
+pub fn signal<W: Waiting>(state: &mut State<W>, notification: ObjId, badge: Badge)
+    requires there { IsThere (so_far state.old) Kind.Notification notification }
+    requires waiting { OnlyBoundWait (so_far state.old) }
+    requires room { HasRoomFor (signalled notification badge) state.old }
+    ensures { Makes (signalled notification badge) state.old state.new }
+{
+    state.is_sound();
+    let hearer = reached(state, notification);
+    state.raises(notification, badge);
+    match hearer {
+        None => {}
+        Some(hearer) => hear(state, notification, badge.0, hearer),
+    }
+}
+
+/// The capability over which a thread signals.
+fn cap_to_signal<W: Waiting>(state: &State<W>, thread: ObjId, address: u64) -> Result<Cap, Refusal>
+    requires { IsThere (so_far state.now) Kind.Thread thread }
+    ensures { result ≡ signalable (so_far state.now) thread address }
+{
+    with_write(of_kind(state.capability(thread, address), Kind::Notification))
+}
+
+/// Signal: the notification is signalled with the badge of the capability. The refusals are 1 to 3 of the lookup, 4 for a
+/// capability of another kind, and 5 where Write is missing; they change nothing (manual: Notifications).
+pub fn signal_at<W: Waiting>(
+    state: &mut State<W>,
+    core: CoreId,
+    thread: ObjId,
+    address: u64,
+) -> Answer
+    requires entering { IsEntering (so_far state.old) thread }
+    requires waiting { OnlyBoundWait (so_far state.old) }
+    requires room { Fits state.old core thread (Entry.Signal address) }
+    ensures { Does state.old core thread (Entry.Signal address) result state.new }
+{
+    state.is_sound();
+    match cap_to_signal(state, thread, address) {
+        Err(refusal) => Answer::Refused(refusal),
+        Ok(cap) => {
+            wake(state, thread);
+            signal(state, cap.obj, cap.badge);
+            Answer::Done
+        }
+    }
+}

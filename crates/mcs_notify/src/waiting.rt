@@ -1,0 +1,65 @@
+//! Waits, and words that are pending for the bound thread.
+ghost use Rattle.std.specs.Prelude.{◌≡◌, not};
+ghost use Rattle.mcs_types.specs.declared.id.Kind.{Kind};
+ghost use Rattle.mcs_book.specs.Notifications.{bound_of, tied_to};
+ghost use Rattle.mcs_book.specs.Receiving.{bound_elsewhere, pending_of_any, wait_on};
+ghost use Rattle.mcs_book.specs.Sound.{IsThere};
+ghost use Rattle.mcs_state.specs.Now.{so_far};
+ghost use Rattle.mcs_state.specs.Doing.{Makes, HasRoomFor, Acts, FitsAct};
+ghost use Rattle.mcs_state.specs.Entering.{IsActing};
+ghost use Rattle.mcs_notify.specs.Waiting.{NoneElseBound, takes_bound};
+
+use mcs_state::State;
+use mcs_types::{Answer, ObjId, Queue};
+use mcs_waiting::Waiting;
+
+/// Whether a thread may wait on a notification: only the bound thread may, where one is bound (manual: Notifications; own).
+pub fn may_wait<W: Waiting>(state: &State<W>, thread: ObjId, notification: ObjId) -> bool
+    ensures { result ≡ not (bound_elsewhere (tied_to (so_far state.now) notification) thread) }
+{
+    match state.tied_to(notification) {
+        None => true,
+        Some(bound) => bound.is_same(thread),
+    }
+}
+
+/// Takes the pending word of a notification. Where none is pending, the thread waits if it blocks, and otherwise the answer
+/// is Empty. Nobody else is bound to the notification (manual: Notifications).
+pub fn wait<W: Waiting>(
+    state: &mut State<W>,
+    thread: ObjId,
+    notification: ObjId,
+    blocks: bool,
+) -> Answer
+    requires acting { IsActing (so_far state.old) thread }
+    requires there { IsThere (so_far state.old) Kind.Notification notification }
+    requires alone { NoneElseBound (so_far state.old) notification thread }
+    requires room { FitsAct (wait_on thread notification blocks) state.old }
+    ensures { Acts (wait_on thread notification blocks) state.old result state.new }
+{
+    match state.pending(notification) {
+        Some(word) => {
+            state.hears(thread, notification, word);
+            Answer::Heard { word }
+        }
+        None if blocks => {
+            state.joins(thread, Queue::Waiters(notification), None);
+            Answer::Waits
+        }
+        None => Answer::Empty,
+    }
+}
+
+/// Takes the pending word of the notification that is bound to a thread. There is none where no notification is bound, or
+/// none of its words is pending (manual: Notifications).
+pub fn take_bound<W: Waiting>(state: &mut State<W>, thread: ObjId) -> Option<u64>
+    requires { HasRoomFor (takes_bound thread) state.old }
+    ensures word { result ≡ pending_of_any (so_far state.old) (bound_of (so_far state.old) thread) }
+    ensures heard { Makes (takes_bound thread) state.old state.new }
+{
+    state.is_sound();
+    let notification = state.bound_of(thread)?;
+    let word = state.pending(notification)?;
+    state.hears(thread, notification, word);
+    Some(word)
+}
