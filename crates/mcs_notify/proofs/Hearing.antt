@@ -11,7 +11,7 @@ use Rattle.mcs_types.specs.declared.record.Rec.TheVariants as rec
 use Rattle.mcs_types.proofs.Ids.{same-self}
 use Rattle.mcs_book.specs.Growing.{growing_word}
 use Rattle.mcs_book.specs.Logs.{Log}
-use Rattle.mcs_book.specs.Notifications.{bound_of, tied_to, pending, with_badge}
+use Rattle.mcs_book.specs.Notifications.{tied_to, pending, with_badge}
 use Rattle.mcs_book.specs.Pieces.{◌then◌, say, with_any}
 use Rattle.mcs_book.specs.Queues.{queue_of, first_in}
 use Rattle.mcs_book.specs.Signalling.{queue_of_any, hearer, reach, signal}
@@ -26,7 +26,7 @@ use Rattle.mcs_state.specs.Now.{Now, so_far, adds_all}
 use Rattle.mcs_state.specs.Tables.{HAND}
 use Rattle.mcs_state.proofs.Doing.{makes-then, room-first, room-next}
 use Rattle.mcs_notify.specs.declared.signalling.Hearer.{Hearer}
-use Rattle.mcs_notify.specs.Hearing.{among_receivers, bound_receiver, waiter, next_hearer, unless_pending, reached, heard_by}
+use Rattle.mcs_notify.specs.Hearing.{among_receivers, waiter, next_hearer, unless_pending, reached, heard_by}
 use Rattle.mcs_notify.specs.Waiting.{NoneElseBound}
 
 -- what a signal records: the badge, and who hears it

@@ -1,6 +1,6 @@
 -- The row of Signal is what the code does.
 use Rattle.std.specs.Prelude.{ℕ, ◌≡◌, Bool, true, false, cond, Ok, Err}
-use Rattle.std.proofs.Common.{refl, sym, ◌∙◌}
+use Rattle.std.proofs.Common.{refl}
 use Rattle.mcs_types.specs.declared.id.ObjId.{ObjId}
 use Rattle.mcs_types.specs.declared.id.CoreId.{CoreId}
 use Rattle.mcs_types.specs.declared.id.Kind.{Kind}
@@ -14,7 +14,6 @@ use Rattle.mcs_types.specs.declared.entry.Refusal.TheVariants.{NoRight}
 use Rattle.mcs_book.specs.Logs.{Log, onto}
 use Rattle.mcs_book.specs.Checks.{Checked, ◌>>=◌, ◌>>◌, need}
 use Rattle.mcs_book.specs.Lookup.{capability}
-use Rattle.mcs_book.specs.Pieces.{Outcome}
 use Rattle.mcs_book.specs.Rights.{may_write}
 use Rattle.mcs_book.specs.Signalling.{signal}
 use Rattle.mcs_book.specs.Sound.{Sound, IsThere}

@@ -1,17 +1,14 @@
 -- Words that are taken, and waits: what is recorded, and what is allowed.
 use Rattle.std.specs.Prelude.{ℕ, ◌≡◌, Bool, true, false, not, [], ◌∷◌, Option, Some, None}
-use Rattle.std.proofs.Common.{refl, ap, sym, ◌∙◌}
+use Rattle.std.proofs.Common.{refl, ◌∙◌}
 use Rattle.mcs_types.specs.declared.id.ObjId.{ObjId}
-use Rattle.mcs_types.specs.declared.id.Kind.TheVariants as kind
 use Rattle.mcs_types.specs.declared.record.Queue.TheVariants.{Waiters}
-use Rattle.mcs_types.specs.declared.record.Rec.{Rec}
 use Rattle.mcs_types.specs.declared.record.Rec.TheVariants as rec
 use Rattle.mcs_types.specs.declared.entry.Answer.TheVariants.{Heard, Waits, Empty}
 use Rattle.mcs_types.specs.Ids.{same}
 use Rattle.mcs_types.proofs.Ids.{same-equal}
 use Rattle.mcs_book.specs.Logs.{Log}
 use Rattle.mcs_book.specs.Notifications.{bound_of, tied_to, pending}
-use Rattle.mcs_book.specs.Pieces.{Act}
 use Rattle.mcs_book.specs.Receiving.{bound_elsewhere, pending_of_any, hear, joins_or, wait_on}
 use Rattle.mcs_book.specs.Sound.{Sound, Allowed}
 use Rattle.mcs_book.proofs.Firm.Laws.{tied-bound, tied-none}

@@ -4,10 +4,11 @@ use Rattle.std.specs.Option.{option_or}
 use Rattle.mcs_types.specs.declared.id.ObjId.{ObjId}
 use Rattle.mcs_types.specs.declared.record.Queue.{Queue}
 use Rattle.mcs_types.specs.declared.record.Queue.TheVariants.{Receivers, Waiters}
+use Rattle.mcs_types.specs.declared.record.Rec.TheVariants.{Parts}
 use Rattle.mcs_book.specs.Logs.{Log}
 use Rattle.mcs_book.specs.Queues.{queue_of, first_in}
 use Rattle.mcs_book.specs.Notifications.{tied_to, pending}
-use Rattle.mcs_book.specs.Pieces.{Piece}
+use Rattle.mcs_book.specs.Pieces.{Piece, say}
 use Rattle.mcs_book.specs.Signalling.{wake}
 use Rattle.mcs_notify.specs.declared.signalling.Hearer.{Hearer}
 
@@ -40,6 +41,10 @@ unless_pending None hearer = hearer
 -- whom a signal reaches
 abbrev pub reached : Log → ObjId → Option Hearer
 reached R n = unless_pending (pending R n) (next_hearer R n)
+
+-- a hearer leaves its queue
+abbrev pub left_by : Hearer → Piece
+left_by h = say (Parts h.thread h.queue)
 
 -- a hearer takes a word of n, and leaves its queue
 abbrev pub heard_by : ObjId → ℕ → Hearer → Piece

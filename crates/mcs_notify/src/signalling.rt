@@ -9,7 +9,7 @@ ghost use Rattle.mcs_book.specs.Sound.{IsThere};
 ghost use Rattle.mcs_state.specs.Now.{so_far};
 ghost use Rattle.mcs_state.specs.Doing.{Makes, HasRoomFor, Does, Fits};
 ghost use Rattle.mcs_state.specs.Entering.{IsEntering, OnlyBoundWait};
-ghost use Rattle.mcs_notify.specs.Hearing.{bound_receiver, first_waiter, next_hearer, reached, heard_by};
+ghost use Rattle.mcs_notify.specs.Hearing.{bound_receiver, first_waiter, next_hearer, reached, left_by, heard_by};
 ghost use Rattle.mcs_notify.specs.Rows.{signalable};
 ghost use Rattle.mcs_notify.specs.Waiting.{NoneElseBound};
 
@@ -66,19 +66,27 @@ fn reached<W: Waiting>(state: &State<W>, notification: ObjId) -> Option<Hearer>
     }
 }
 
-/// The hearer takes the word, leaves its queue, and runs.
-fn hear<W: Waiting>(state: &mut State<W>, notification: ObjId, word: u64, hearer: Hearer)
-    requires stands { queue_of (so_far state.old) hearer.thread ≡ Some hearer.queue }
-    requires pending { pending (so_far state.old) notification ≡ Some word }
-    requires alone { NoneElseBound (so_far state.old) notification hearer.thread }
-    requires room { HasRoomFor (heard_by notification word hearer) state.old }
-    ensures { Makes (heard_by notification word hearer) state.old state.new }
+/// A hearer leaves its queue.
+fn leave<W: Waiting>(state: &mut State<W>, hearer: &Hearer)
+    requires stands { queue_of (so_far state.old) hearer.now.thread ≡ Some hearer.now.queue }
+    requires room { HasRoomFor (left_by hearer.now) state.old }
+    ensures { Makes (left_by hearer.now) state.old state.new }
 {
-    let Hearer { thread, queue } = hearer;
+    state.parts(hearer.thread, hearer.queue);
+}
+
+/// A hearer takes the word, leaves its queue, and runs.
+fn hear<W: Waiting>(state: &mut State<W>, notification: ObjId, word: u64, hearer: &Hearer)
+    requires stands { queue_of (so_far state.old) hearer.now.thread ≡ Some hearer.now.queue }
+    requires pending { pending (so_far state.old) notification ≡ Some word }
+    requires alone { NoneElseBound (so_far state.old) notification hearer.now.thread }
+    requires room { HasRoomFor (heard_by notification word hearer.now) state.old }
+    ensures { Makes (heard_by notification word hearer.now) state.old state.new }
+{
     state.is_sound();
-    state.hears(thread, notification, word);
-    state.parts(thread, queue);
-    state.turns(thread, Mode::Running);
+    state.hears(hearer.thread, notification, word);
+    leave(state, hearer);
+    state.turns(hearer.thread, Mode::Running);
 }
 
 /// Signals a notification with a badge, whose bits are added to the word. Where no word was pending, somebody hears it: the
@@ -94,7 +102,7 @@ pub fn signal<W: Waiting>(state: &mut State<W>, notification: ObjId, badge: Badg
     state.raises(notification, badge);
     match hearer {
         None => {}
-        Some(hearer) => hear(state, notification, badge.0, hearer),
+        Some(hearer) => hear(state, notification, badge.0, &hearer),
     }
 }
 

@@ -8,28 +8,28 @@ use Rattle.mcs_notify.proofs.signalling.hear.Goals as goal
 
 pub hears-requires-clause-allowed : goal.hears-requires-clause-allowed
 hears-requires-clause-allowed g c =
-    let h = c.args.hearer in
+    let h = c.args.hearer.now in
     (standing-thread (so_far c.args.state.now) h.thread h.queue c.is_sound.ensures.sound c.requires.stands, c.requires.pending, c.requires.alone)
 
 pub hears-requires-clause-room : goal.hears-requires-clause-room
 hears-requires-clause-room g c = let room = c.requires.room in omega (arith, room)
 
-pub parts-requires-clause-allowed : goal.parts-requires-clause-allowed
-parts-requires-clause-allowed g c = rw c.hears.ensures c.requires.stands
+pub leave-requires-clause-stands : goal.leave-requires-clause-stands
+leave-requires-clause-stands g c = rw c.hears.ensures c.requires.stands
 
-pub parts-requires-clause-room : goal.parts-requires-clause-room
-parts-requires-clause-room g c = let room = c.requires.room in rw c.hears.ensures (omega (arith, room))
+pub leave-requires-clause-room : goal.leave-requires-clause-room
+leave-requires-clause-room g c = let room = c.requires.room in rw c.hears.ensures (omega (arith, room))
 
 pub turns-requires-clause-allowed : goal.turns-requires-clause-allowed
 turns-requires-clause-allowed g c =
     let R = so_far c.args.state.now in
-    let h = c.args.hearer in
-    rw (c.parts.ensures, c.hears.ensures) (standing-thread R h.thread h.queue c.is_sound.ensures.sound c.requires.stands, parted-idle R h.thread h.queue c.is_sound.ensures.sound c.requires.stands)
+    let h = c.args.hearer.now in
+    rw (c.leave.ensures, c.hears.ensures) (standing-thread R h.thread h.queue c.is_sound.ensures.sound c.requires.stands, parted-idle R h.thread h.queue c.is_sound.ensures.sound c.requires.stands)
 
 pub turns-requires-clause-room : goal.turns-requires-clause-room
-turns-requires-clause-room g c = let room = c.requires.room in rw (c.parts.ensures, c.hears.ensures) (omega (arith, room))
+turns-requires-clause-room g c = let room = c.requires.room in rw (c.leave.ensures, c.hears.ensures) (omega (arith, room))
 
 pub returns : goal.returns
 returns g c =
-    let h = c.args.hearer in
-    c.turns.ensures ∙ ap (λ (n : Now). adds (rec.Turns h.thread Running) n) (c.parts.ensures ∙ ap (λ (n : Now). adds (rec.Parts h.thread h.queue) n) c.hears.ensures)
+    let h = c.args.hearer.now in
+    c.turns.ensures ∙ ap (λ (n : Now). adds (rec.Turns h.thread Running) n) (c.leave.ensures ∙ ap (λ (n : Now). adds (rec.Parts h.thread h.queue) n) c.hears.ensures)
