@@ -3,7 +3,6 @@ use Rattle.std.specs.Prelude.{ℕ, ◌≡◌, ◌≢◌, Bool, true, false, List
 use Rattle.std.specs.Option.{option_or}
 use Rattle.std.proofs.Common.{refl, ap, sym, ◌∙◌, subst, arith, inl, inr}
 use Rattle.mcs_types.specs.declared.id.ObjId.{ObjId}
-use Rattle.mcs_types.specs.declared.id.Kind.TheVariants as kind
 use Rattle.mcs_types.specs.declared.record.Ending.TheVariants.{Cancelled}
 use Rattle.mcs_types.specs.declared.record.Letter.{Letter}
 use Rattle.mcs_types.specs.declared.record.Mode.TheVariants.{Inactive}
@@ -24,7 +23,7 @@ use Rattle.mcs_book.specs.Taking.{taken}
 use Rattle.mcs_book.specs.Cancelling.{cancel}
 use Rattle.mcs_book.specs.Receiving.{free, hear, take_open, joins_or, open_of_any, pending_of_any, receive_message}
 use Rattle.mcs_book.specs.Fair.{IsOpenOf}
-use Rattle.mcs_book.specs.Sound.{Sound, Allowed, IsThere}
+use Rattle.mcs_book.specs.Sound.{Sound, Allowed}
 use Rattle.mcs_book.proofs.Firm.Laws.{owed-owing}
 use Rattle.mcs_book.proofs.Queues.QueueLaws.{first-stands}
 use Rattle.mcs_book.proofs.Messages.MessageLaws.{open_of-open, open_of-letter}

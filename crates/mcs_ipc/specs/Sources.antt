@@ -12,7 +12,6 @@ use Rattle.mcs_book.specs.Notifications.{tied_to}
 use Rattle.mcs_book.specs.Receiving.{bound_elsewhere}
 use Rattle.mcs_book.specs.Rights.{can_badge}
 use Rattle.mcs_state.specs.Checks.{readable, object_named}
-use Rattle.mcs_ipc.specs.declared.checks.Receiving.{Receiving}
 use Rattle.mcs_ipc.specs.declared.checks.Replying.{Replying}
 use Rattle.mcs_ipc.specs.declared.checks.Source.{Source}
 use Rattle.mcs_ipc.specs.declared.checks.Source.TheVariants as source

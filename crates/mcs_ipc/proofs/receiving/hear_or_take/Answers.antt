@@ -1,12 +1,8 @@
 use Rattle.std.proofs.Common.{refl, sym, ◌∙◌, subst}
 use Rattle.mcs_types.specs.declared.entry.Answer.TheVariants.{Heard}
-use Rattle.mcs_book.specs.Notifications.{bound_of}
 use Rattle.mcs_book.specs.Pieces.{Outcome}
-use Rattle.mcs_book.specs.Receiving.{pending_of_any}
 use Rattle.mcs_state.specs.Doing.{Gives, Holds}
 use Rattle.mcs_state.specs.Now.{so_far}
-use Rattle.mcs_ipc.specs.Ready.{IsReady}
-use Rattle.mcs_ipc.specs.Rows.{take_act}
 use Rattle.mcs_ipc.proofs.Freeing.{receive-hears, receive-silent, room-word, made-silent}
 use Rattle.mcs_ipc.proofs.receiving.hear_or_take.Goals as goal
 
