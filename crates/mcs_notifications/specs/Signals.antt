@@ -22,27 +22,17 @@ no_room v = is_full v.rows
 abbrev pub next_notification : Signals → ObjId
 next_notification v = next_id v.rows
 
--- whether a notification is among rows, its pending word, and the thread bound to it
-abbrev pub has_row : Objects NotificationRow → ObjId → Bool
-has_row rows n = is_some (value_at rows n)
-
-abbrev pub word_at : Objects NotificationRow → ObjId → Option ℕ
-word_at rows n = option_and_then (λ r. r.word) (value_at rows n)
-
-abbrev pub thread_at : Objects NotificationRow → ObjId → Option ObjId
-thread_at rows n = option_and_then (λ r. r.thread) (value_at rows n)
-
 -- whether a notification is there
 abbrev pub is_there : Signals → ObjId → Bool
-is_there v n = has_row v.rows n
+is_there v n = is_some (value_at v.rows n)
 
 -- the pending word of a notification
 abbrev pub word_in : Signals → ObjId → Option ℕ
-word_in v n = word_at v.rows n
+word_in v n = option_and_then (λ r. r.word) (value_at v.rows n)
 
 -- the thread to which a notification is bound
 abbrev pub thread_in : Signals → ObjId → Option ObjId
-thread_in v n = thread_at v.rows n
+thread_in v n = option_and_then (λ r. r.thread) (value_at v.rows n)
 
 -- this is the pending word of n now, and the others have those that they had
 abbrev pub SetsWord : Signals → Signals → ObjId → Option ℕ → Type 0

@@ -5,8 +5,8 @@ ghost use Rattle.mcs_types.specs.declared.id.Kind.{Kind};
 ghost use Rattle.mcs_types.specs.Ids.{ChangesAt};
 ghost use Rattle.mcs_types.specs.Limits.{object_limit};
 ghost use Rattle.mcs_types.specs.Words.{with_badge};
-ghost use Rattle.mcs_objects.specs.Store.{shape, empty_shape, one_more, IsOneFewer};
-ghost use Rattle.mcs_notifications.specs.Signals.{counts, no_room, next_notification, has_row, word_at, thread_at, is_there, word_in, thread_in, SetsWord, SetsThread};
+ghost use Rattle.mcs_objects.specs.Store.{value_at, empty_shape, one_more, IsOneFewer};
+ghost use Rattle.mcs_notifications.specs.Signals.{counts, no_room, next_notification, is_there, word_in, thread_in, SetsWord, SetsThread};
 
 use mcs_objects::Store;
 use mcs_types::{Badge, Kind, OBJECTS, ObjId, OutOfMemory};
@@ -45,40 +45,6 @@ fn with_badge(badge: Badge, word: Option<u64>) -> u64
     match word {
         None => badge.0,
         Some(word) => word | badge.0,
-    }
-}
-
-/// Keeps another word of a notification that is there.
-fn keep_word(rows: &mut Store<NotificationRow>, notification: ObjId, word: Option<u64>)
-    requires { has_row rows.old notification ≡ true }
-    ensures shape { shape rows.new ≡ shape rows.old }
-    ensures there { (n : ObjId) → has_row rows.new n ≡ has_row rows.old n }
-    ensures words { ChangesAt (word_at rows.old) (word_at rows.new) notification word }
-    ensures threads { (n : ObjId) → thread_at rows.new n ≡ thread_at rows.old n }
-{
-    match rows.get(notification) {
-        None => unreachable!(),
-        Some(row) => {
-            let thread = row.thread;
-            rows.set(notification, NotificationRow { word, thread });
-        }
-    }
-}
-
-/// Keeps another thread of a notification that is there.
-fn keep_thread(rows: &mut Store<NotificationRow>, notification: ObjId, thread: Option<ObjId>)
-    requires { has_row rows.old notification ≡ true }
-    ensures shape { shape rows.new ≡ shape rows.old }
-    ensures there { (n : ObjId) → has_row rows.new n ≡ has_row rows.old n }
-    ensures words { (n : ObjId) → word_at rows.new n ≡ word_at rows.old n }
-    ensures threads { ChangesAt (thread_at rows.old) (thread_at rows.new) notification thread }
-{
-    match rows.get(notification) {
-        None => unreachable!(),
-        Some(row) => {
-            let word = row.word;
-            rows.set(notification, NotificationRow { word, thread });
-        }
     }
 }
 
@@ -141,6 +107,17 @@ impl Notifications {
         self.rows.remove(notification);
     }
 
+    /// What is kept of a notification that is there.
+    fn row(&self, notification: ObjId) -> NotificationRow
+        requires { is_there self.now notification ≡ true }
+        ensures { value_at self.now.rows notification ≡ Some result }
+    {
+        match self.rows.get(notification) {
+            None => unreachable!(),
+            Some(row) => *row,
+        }
+    }
+
     /// Whether a notification was made and not closed (own).
     pub fn is_there(&self, notification: ObjId) -> bool
         ensures { result ≡ is_there self.now notification }
@@ -164,8 +141,9 @@ impl Notifications {
         ensures words { SetsWord self.old self.new notification (Some (with_badge badge.0 (word_in self.old notification))) }
         ensures threads { (n : ObjId) → thread_in self.new n ≡ thread_in self.old n }
     {
-        let word = with_badge(badge, self.word(notification));
-        keep_word(&mut self.rows, notification, Some(word));
+        let row = self.row(notification);
+        let word = Some(with_badge(badge, row.word));
+        self.rows.set(notification, NotificationRow { word, ..row });
     }
 
     /// Clears the pending word of a notification, and gives it; None, and nothing changes, where none was pending, and where the
@@ -177,9 +155,10 @@ impl Notifications {
         ensures words { SetsWord self.old self.new notification None }
         ensures threads { (n : ObjId) → thread_in self.new n ≡ thread_in self.old n }
     {
-        let word = self.word(notification)?;
-        keep_word(&mut self.rows, notification, None);
-        Some(word)
+        let row = *self.rows.get(notification)?;
+        let word = None;
+        self.rows.set(notification, NotificationRow { word, ..row });
+        row.word
     }
 
     /// The thread to which a notification is bound, or None where it is bound to none, and where it is not there (manual:
@@ -198,6 +177,8 @@ impl Notifications {
         ensures words { (n : ObjId) → word_in self.new n ≡ word_in self.old n }
         ensures threads { SetsThread self.old self.new notification thread }
     {
-        keep_thread(&mut self.rows, notification, thread);
+        let row = self.row(notification);
+        self.rows
+            .set(notification, NotificationRow { thread, ..row });
     }
 }
