@@ -208,9 +208,8 @@ impl<W: Waiting> State<W> {
         self.queues.first(queue)
     }
 
-    /// The thread that receives with a reply object that is there.
+    /// The thread that receives with a reply object, or None where none does (manual: Message Passing).
     pub fn receiver_with(&self, reply: ObjId) -> Option<ObjId>
-        requires { IsThere (so_far self.now) Kind.Reply reply }
         ensures { result ≡ receiver_with (so_far self.now) reply }
     {
         self.replies.receiver(reply)
@@ -223,9 +222,9 @@ impl<W: Waiting> State<W> {
         self.replies.owed(reply)
     }
 
-    /// Who uses a reply object: the caller that it owes, or the receiver that stands with it (manual: Message Passing).
+    /// Who uses a reply object: the caller that it owes, or the receiver that stands with it; None where nobody does (manual: Message
+    /// Passing).
     pub fn user_of(&self, reply: ObjId) -> Option<ObjId>
-        requires { IsThere (so_far self.now) Kind.Reply reply }
         ensures { result ≡ user_of (so_far self.now) reply }
     {
         self.owed(reply).or(self.receiver_with(reply))
