@@ -94,8 +94,8 @@ impl Notifications {
         })
     }
 
-    /// Forgets a notification that is bound to no thread, and its word, if one is pending: its serial is never given again (manual:
-    /// Kernel Services and Objects).
+    /// Forgets a notification that is bound to no thread, and its word, if one is pending: its serial is never given again
+    /// (manual: Kernel Services and Objects).
     pub fn close(&mut self, notification: ObjId)
         requires there { is_there self.old notification ≡ true }
         requires unbound { thread_in self.old notification ≡ None }

@@ -242,7 +242,7 @@ pub record KeepsBound (n : ObjId) (t : Option ObjId) (old new : Signals) : Type 
   pub words : (x : ObjId) → word_in new x ≡ word_in old x
   pub threads : SetsThread old new n t
 
--- a thread that was bound to one notification, or to none, is bound to another from now on, or to none
+-- a thread is bound to this notification from now on; or, where it is none, the one to which the thread was bound is free
 abbrev pub Rebinds : ObjId → Option ObjId → Option ObjId → Signals → Signals → Type 0
 Rebinds t from (Some n) old new = KeepsBound n (Some t) old new
 Rebinds t (Some n) None old new = KeepsBound n None old new

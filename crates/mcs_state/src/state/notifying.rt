@@ -17,7 +17,7 @@ use mcs_threads::Threads;
 use mcs_types::{Badge, Mail, ObjId, Rec};
 use mcs_waiting::Waiting;
 
-/// A thread that is there is bound to this notification now, or to none.
+/// A thread is bound to this notification now, or to none.
 fn tie(threads: &mut Threads, thread: ObjId, notification: Option<ObjId>)
     ensures { ChangesRow (with_notification notification) threads.old threads.new thread }
 {
@@ -27,7 +27,7 @@ fn tie(threads: &mut Threads, thread: ObjId, notification: Option<ObjId>)
     };
 }
 
-/// A thread that was bound to one notification, or to none, is bound to another now, or to none. Those that are named are there.
+/// A notification that is there is bound to a thread now; or, where none is named, the one to which it was bound is free.
 fn rebind(notifications: &mut Notifications, thread: ObjId, from: Option<ObjId>, to: Option<ObjId>)
     requires from { IfSome from (λ n. is_there notifications.old n ≡ true) }
     requires to { IfSome to (λ n. is_there notifications.old n ≡ true) }

@@ -222,8 +222,8 @@ impl<W: Waiting> State<W> {
         self.replies.owed(reply)
     }
 
-    /// Who uses a reply object: the caller that it owes, or the receiver that stands with it; None where nobody does (manual: Message
-    /// Passing).
+    /// Who uses a reply object: the caller that it owes, or the receiver that stands with it; None where nobody does (manual:
+    /// Message Passing).
     pub fn user_of(&self, reply: ObjId) -> Option<ObjId>
         ensures { result ≡ user_of (so_far self.now) reply }
     {
