@@ -11,7 +11,8 @@ use Rattle.mcs_types.specs.declared.record.Rec.TheVariants as rec
 use Rattle.mcs_types.proofs.Ids.{same-self}
 use Rattle.mcs_book.specs.Growing.{growing_word}
 use Rattle.mcs_book.specs.Logs.{Log}
-use Rattle.mcs_book.specs.Notifications.{tied_to, pending, with_badge}
+use Rattle.mcs_types.specs.Words.{with_badge}
+use Rattle.mcs_book.specs.Notifications.{tied_to, pending}
 use Rattle.mcs_book.specs.Pieces.{◌then◌, say, with_any}
 use Rattle.mcs_book.specs.Queues.{queue_of, first_in}
 use Rattle.mcs_book.specs.Signalling.{queue_of_any, hearer, reach, signal}
