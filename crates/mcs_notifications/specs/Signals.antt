@@ -1,7 +1,8 @@
 -- What a contract sees of `Notifications`: the pending word of each notification that is there, and the thread bound to it.
-use Rattle.std.specs.Prelude.{◌≡◌, ℕ, Bool, Option, is_some, option_and_then}
+use Rattle.std.specs.Prelude.{◌≡◌, ℕ, Bool, Option, Some, is_some, option_and_then}
 use Rattle.mcs_types.specs.declared.id.ObjId.{ObjId}
 use Rattle.mcs_types.specs.declared.id.Kind.TheVariants.{Notification}
+use Rattle.mcs_types.specs.Words.{with_badge}
 use Rattle.mcs_types.specs.Ids.{ChangesAt}
 use Rattle.mcs_types.specs.Limits.{object_limit}
 use Rattle.mcs_objects.specs.Store.{Objects, Shape, value_at, shape, next_id, is_full}
@@ -37,6 +38,10 @@ thread_in v n = option_and_then (λ r. r.thread) (value_at v.rows n)
 -- this is the pending word of n now, and the others have those that they had
 abbrev pub SetsWord : Signals → Signals → ObjId → Option ℕ → Type 0
 SetsWord old new n word = ChangesAt (word_in old) (word_in new) n word
+
+-- the pending word of n gains the bits of a badge, and the others have those that they had
+abbrev pub GainsBadge : Signals → Signals → ObjId → ℕ → Type 0
+GainsBadge old new n badge = SetsWord old new n (Some (with_badge badge (word_in old n)))
 
 -- n is bound to this thread now, or to none, and the others as they were
 abbrev pub SetsThread : Signals → Signals → ObjId → Option ObjId → Type 0

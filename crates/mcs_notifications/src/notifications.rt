@@ -6,7 +6,7 @@ ghost use Rattle.mcs_types.specs.Ids.{ChangesAt};
 ghost use Rattle.mcs_types.specs.Limits.{object_limit};
 ghost use Rattle.mcs_types.specs.Words.{with_badge};
 ghost use Rattle.mcs_objects.specs.Store.{value_at, empty_shape, one_more, IsOneFewer};
-ghost use Rattle.mcs_notifications.specs.Signals.{counts, no_room, next_notification, is_there, word_in, thread_in, SetsWord, SetsThread};
+ghost use Rattle.mcs_notifications.specs.Signals.{counts, no_room, next_notification, is_there, word_in, thread_in, SetsWord, GainsBadge, SetsThread};
 
 use mcs_objects::Store;
 use mcs_types::{Badge, Kind, OBJECTS, ObjId, OutOfMemory};
@@ -138,7 +138,7 @@ impl Notifications {
         requires { is_there self.old notification ≡ true }
         ensures counts { counts self.new ≡ counts self.old }
         ensures there { (n : ObjId) → is_there self.new n ≡ is_there self.old n }
-        ensures words { SetsWord self.old self.new notification (Some (with_badge badge.0 (word_in self.old notification))) }
+        ensures words { GainsBadge self.old self.new notification badge.0 }
         ensures threads { (n : ObjId) → thread_in self.new n ≡ thread_in self.old n }
     {
         let row = self.row(notification);
