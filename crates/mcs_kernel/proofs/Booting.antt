@@ -9,18 +9,21 @@ use Rattle.mcs_types.specs.declared.id.ObjId.{ObjId}
 use Rattle.mcs_types.specs.declared.id.Kind.{Kind}
 use Rattle.mcs_types.specs.declared.id.Kind.TheVariants as kind
 use Rattle.mcs_types.specs.declared.boot.BootLine.{BootLine}
+use Rattle.mcs_types.specs.declared.boot.BootLine.TheVariants as boot
 use Rattle.mcs_types.specs.declared.boot.BootFault.TheVariants as fault
 use Rattle.mcs_types.specs.declared.record.Form.{Form}
 use Rattle.mcs_types.specs.declared.record.Queue.{Queue}
 use Rattle.mcs_types.specs.declared.record.Rec.TheVariants as rec
 use Rattle.mcs_types.specs.Ids.{same, same_kind}
-use Rattle.mcs_book.specs.Logs.{Log, counted, given}
-use Rattle.mcs_book.specs.Objects.{made_of, makes_kind, was_made, is_alive, number_of, next_id}
+use Rattle.mcs_book.specs.Logs.{Log, counted, given, onto}
+use Rattle.mcs_book.specs.Objects.{made_of, makes_kind, was_made, was_closed, is_alive, number_of, next_id}
 use Rattle.mcs_book.specs.Queues.{queue_of}
 use Rattle.mcs_book.specs.Contexts.{holder_of}
+use Rattle.mcs_book.specs.Notifications.{bound_of, tied_to}
+use Rattle.mcs_book.specs.Replies.{owed_by}
 use Rattle.mcs_book.specs.Checks.{◌>>◌, need}
 use Rattle.mcs_book.specs.Boots.{is_object, has_numbers, has_objects, has_room, is_free, boot_check, boot_log, is_context_any, AreFaultless}
-use Rattle.mcs_kernel.proofs.ServedLaws.{boot-open, boot-unowed}
+use Rattle.mcs_book.specs.Boots.{boot_line}
 use Rattle.mcs_book.specs.History.{Line, past}
 use Rattle.mcs_book.proofs.Objects.MadeLaws.{made-serial}
 use Rattle.mcs_state.specs.Now.{Now, so_far}
@@ -28,11 +31,36 @@ use Rattle.mcs_types.specs.declared.record.Mode.{Mode}
 use Rattle.mcs_types.specs.declared.id.Prio.{Prio}
 use Rattle.mcs_book.specs.Sound.{Sound, Allowed, IsThere, HoldsNone}
 use Rattle.mcs_types.proofs.Ids.{both, parts, same-self, same_kind-equal}
+use Rattle.mcs_book.proofs.Firm.Laws.{tied-none, none-is}
 use Rattle.mcs_book.proofs.Queues.Sorted.{In}
 use Rattle.mcs_book.proofs.Queues.QueueLaws.{standing-made}
 use Rattle.mcs_types.specs.Limits.{object_limit}
 use Rattle.mcs_state.specs.Making.{HasRoom}
 use Rattle.mcs_kernel.specs.Booted.{IsBooting}
+
+-- a line of the boot closes nothing
+line-closes : (R : Log) (line : BootLine) (o : ObjId) → was_closed R o ≡ false → was_closed (onto (boot_line R line) R) o ≡ false
+line-closes R (boot.Thread priority maximum root guard runs (Some s)) o h = h
+line-closes R (boot.Thread priority maximum root guard runs None) o h = h
+line-closes R _ o h = h
+
+-- a boot closes nothing
+boot-open : (lines : List BootLine) (o : ObjId) → was_closed (boot_log lines) o ≡ false
+unfolding boot_log
+boot-open [] o = refl
+boot-open (line ∷ lines) o = line-closes (boot_log lines) line o (boot-open lines o)
+
+-- nor makes it anybody owed
+line-owes : (R : Log) (line : BootLine) (r : ObjId) → owed_by R r ≡ None → owed_by (onto (boot_line R line) R) r ≡ None
+line-owes R (boot.Thread priority maximum root guard runs (Some s)) r h = h
+line-owes R (boot.Thread priority maximum root guard runs None) r h = h
+line-owes R _ r h = h
+
+-- after a boot nobody is owed
+boot-unowed : (lines : List BootLine) (r : ObjId) → owed_by (boot_log lines) r ≡ None
+unfolding boot_log
+boot-unowed [] r = refl
+boot-unowed (line ∷ lines) r = line-owes (boot_log lines) line r (boot-unowed lines r)
 
 -- as many objects of a kind stand in its list as were made
 pub length-made : (R : Log) (k : Kind) → length (made_of R k) ≡ counted (makes_kind k) R
@@ -180,11 +208,11 @@ unfolding boot_check ◌>>◌ need
 nothing-wrong cores R line e f k l = rw (e, f, k, l) refl
 
 -- what a test for nothing answers
-pub none-is : {A : Type 0} (o : Option A) (b : Bool) → is_some o ≡ not b → b ≡ is_none o
-none-is None true h = refl
-none-is None false h = absurd cc
-none-is (Some x) true h = absurd cc
-none-is (Some x) false h = refl
+pub none-by : {A : Type 0} (o : Option A) (b : Bool) → is_some o ≡ not b → b ≡ is_none o
+none-by None true h = refl
+none-by None false h = absurd cc
+none-by (Some x) true h = absurd cc
+none-by (Some x) false h = refl
 
 -- fewer are there than a limit, so fewer were made
 pub few-made : (R : Log) (k : Kind) (limit : ℕ) → IsBooting R → nat_lt (number_of R k) limit ≡ true → counted (makes_kind k) R < limit
@@ -232,3 +260,10 @@ faultless-at cores lines inside i d e h lt =
     let back : lines ≡ reverse (drop (i + 1) inside) ++ (x ∷ reverse (take i inside)) =
     sym (reverse-reverse lines) ∙ ap (λ xs. reverse xs) (sym e ∙ whole) ∙ reverse-append (take i inside ++ x ∷ []) (drop (i + 1) inside) ∙ ap (λ xs. reverse (drop (i + 1) inside) ++ xs) (reverse-append (take i inside) (x ∷ [])) in
     (faultless-older cores (reverse (drop (i + 1) inside)) (x ∷ reverse (take i inside)) (subst (λ xs. AreFaultless cores xs) back h)).0
+
+-- what a line binds may be bound
+pub tie-allowed : (R : Log) (t n : ObjId) → Sound R → IsBooting R → has_objects R (boot.Tie t n) ≡ true → is_free R (boot.Tie t n) ≡ true → Allowed R (rec.Tied t (Some n))
+tie-allowed R t n sound boots objects free =
+    let (thread, notification) = parts (is_object R kind.Thread t) (is_object R kind.Notification n) objects in
+    let (unbound, untied) = parts (is_none (bound_of R t)) (is_none (tied_to R n)) free in
+    (object-there R kind.Thread t boots thread, object-there R kind.Notification n boots notification, none-is (bound_of R t) unbound, λ u b. tied-none R n sound (none-is (tied_to R n) untied) u b)

@@ -1,4 +1,3 @@
-pub mod ServedLaws
 pub mod Booting
 pub mod Serving
 pub mod Stepping

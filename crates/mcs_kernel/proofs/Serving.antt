@@ -24,9 +24,9 @@ use Rattle.mcs_types.specs.Limits.{line_limit}
 use Rattle.mcs_types.specs.Ranges.{InRange}
 use Rattle.mcs_types.proofs.Ids.{parts, both}
 use Rattle.mcs_book.proofs.Threads.EntersLaws.{enters-ready}
-use Rattle.mcs_book.proofs.Firm.Laws.{Firm, firm-sound, owing-none, root-there}
+use Rattle.mcs_book.proofs.Firm.Laws.{Firm, firm-sound, owing-none, root-there, waiter-bound}
 use Rattle.mcs_state.proofs.Opening.{onto-reverse}
-use Rattle.mcs_state.specs.Entering.{IsEntering, OpenStand}
+use Rattle.mcs_state.specs.Entering.{IsEntering, OpenStand, OnlyBoundWait}
 use Rattle.mcs_state.specs.Doing.{Does, Fits}
 use Rattle.mcs_state.specs.Tables.{ROOM}
 use Rattle.mcs_types.specs.declared.entry.Answer.{Answer}
@@ -35,12 +35,8 @@ use Rattle.mcs_book.specs.Logs.{counted}
 use Rattle.mcs_book.specs.Objects.{makes_kind}
 use Rattle.mcs_book.specs.Pieces.{Outcome}
 use Rattle.mcs_book.specs.Table.{does}
-use Rattle.mcs_book.specs.Served.{NoneBound}
-use Rattle.mcs_kernel.specs.Served.{IsServedLog}
-use Rattle.mcs_types.specs.Served.{IsServed}
 use Rattle.mcs_book.proofs.Lengths.Rows.{does-short}
 use Rattle.mcs_book.proofs.Messages.SendersOpen.{legal-senders}
-use Rattle.mcs_kernel.proofs.ServedLaws.{bound-none, served-does, served-boot}
 use Rattle.mcs_book.specs.Boots.{Boot, IsFaultless}
 use Rattle.mcs_book.proofs.SoundLogs.SoundBooks.{legal-firm}
 use Rattle.mcs_kernel.specs.Resting.{IsResting}
@@ -137,7 +133,6 @@ pub record IsServing (b : Book) (core : CoreId) (t : ObjId) (n : Now) : Type 0 w
   pub hand : n.hand ≡ []
   pub book : n.book ≡ b
   pub legal : IsLegal b
-  pub served : IsServedLog (log_of b)
   pub may : may_enter (log_of b) core t ≡ true
   pub few : length b.lines + 1 < line_limit
 
@@ -145,7 +140,7 @@ pub record IsServing (b : Book) (core : CoreId) (t : ObjId) (n : Now) : Type 0 w
 pub serving : (b : Book) (core : CoreId) (t : ObjId) (n m : Now) → IsResting n → n.book ≡ b → fault_of b core t ≡ None → m.hand ≡ n.hand → m.book ≡ n.book → IsServing b core t m
 serving b core t n m rests is none hand book =
     let f = fault-none b core t none in
-    record { hand = hand ∙ rests.hand; book = book ∙ is; legal = subst IsLegal is rests.legal; served = subst (λ (x : Book). IsServedLog (log_of x)) is rests.served; may = f.0; few = f.1 }
+    record { hand = hand ∙ rests.hand; book = book ∙ is; legal = subst IsLegal is rests.legal; may = f.0; few = f.1 }
 
 module _ (b : Book) (core : CoreId) (t : ObjId) (n : Now) (s : IsServing b core t n) where
   -- the records so far are those of the book
@@ -160,14 +155,14 @@ module _ (b : Book) (core : CoreId) (t : ObjId) (n : Now) (s : IsServing b core 
   pub serving-stands : OpenStand (so_far n)
   serving-stands = subst OpenStand records-are ((legal-senders b s.legal).open_queued)
 
-  -- nobody is bound to a notification
-  pub serving-unbound : NoneBound (so_far n)
-  serving-unbound = subst NoneBound records-are (λ x. bound-none (log_of b) x s.served)
+  -- only the bound thread waits on a notification
+  pub serving-waits : OnlyBoundWait (so_far n)
+  serving-waits = subst OnlyBoundWait records-are (λ w o u at bound. waiter-bound (log_of b) w o u (legal-firm b s.legal) at bound)
 
   -- the kernel is at rest again when the line was closed
-  pub rests-again : (entry : Entry) (a told : Answer) (m after : Now) → IsServed entry → InRange entry → (did : Does n core t entry a m) → told ≡ a → after.hand ≡ []
+  pub rests-again : (entry : Entry) (a told : Answer) (m after : Now) → InRange entry → (did : Does n core t entry a m) → told ≡ a → after.hand ≡ []
       → after.book ≡ record m.book { lines = (record { step = record { core = core; thread = t; entry = entry }; answer = told; records = reverse m.hand }) ∷ m.book.lines } → IsResting after
-  rests-again entry a told m after served range did same_told hand closed =
+  rests-again entry a told m after range did same_told hand closed =
       let step : Step = record { core = core; thread = t; entry = entry } in
       let line : entered b step ≡ after.book = sym (closed ∙ line-entered b step n m a s.hand s.book did told same_told) in
       let few = s.few in
@@ -176,7 +171,6 @@ module _ (b : Book) (core : CoreId) (t : ObjId) (n : Now) (s : IsServing b core 
         hand = hand;
         legal = subst IsLegal line (legal-entered b step s.legal s.may range);
         few = omega (arith, longer, few);
-        served = subst (λ (x : Book). IsServedLog (log_of x)) line (served-does (log_of b) core t entry served s.served);
       }
 
 -- a state of a boot alone is at rest
@@ -186,4 +180,4 @@ rests-begun boot n faultless hand is =
     let legal : IsLegal begun = record { boot = faultless; lines = tt } in
     let back : begun ≡ n.book = sym is in
     let none = ap (λ (b : Book). length b.lines) is in
-    record { hand = hand; legal = subst IsLegal back legal; few = omega (arith, none); served = subst (λ (b : Book). IsServedLog (log_of b)) back (served-boot boot.lines) }
+    record { hand = hand; legal = subst IsLegal back legal; few = omega (arith, none) }

@@ -2,4 +2,3 @@ pub mod Faults
 pub mod Runs
 pub mod Resting
 pub mod Booted
-pub mod Served

@@ -56,8 +56,8 @@ impl Boot {
     }
 
     /// Adds a line. The boot is as it was where a number is out of its range (3), an object that the line names was not
-    /// made (4), there are too many objects (5), a slot is filled or a context is held already (6): the first of these;
-    /// or where memory is refused (10).
+    /// made (4), there are too many objects (5), or a slot is filled, a context is held, or a thread or a notification is
+    /// bound already (6): the first of these; or where memory is refused (10).
     pub fn add(&mut self, line: BootLine) -> Result<(), BootFault>
         ensures ok { OnOk result (self.new ≡ adds_line self.old line) }
         ensures err { OnErr result (self.new ≡ self.old) }

@@ -4,12 +4,11 @@ ghost use Rattle.mcs_book.specs.History.{IsLegal, log_of};
 ghost use Rattle.mcs_book.specs.Each.{EachRecord, EachLine, AfterEachLine};
 ghost use Rattle.mcs_book.specs.Fair.{EndsOpen, IsWholeLine, TakesFirst, TakesInOrder, TakesAlive, SendersAreOpen, AnswersOwed, AnswersWhole, NoneWaitBeside};
 ghost use Rattle.mcs_book.specs.Standing.{may_enter};
-ghost use Rattle.mcs_book.specs.Served.{NoneBound};
 ghost use Rattle.mcs_types.specs.Served.{IsServed};
 ghost use Rattle.mcs_book.specs.Table.{does};
 ghost use Rattle.mcs_state.specs.Now.{so_far};
 ghost use Rattle.mcs_state.specs.Doing.{Does, Fits};
-ghost use Rattle.mcs_state.specs.Entering.{IsEntering, OpenStand};
+ghost use Rattle.mcs_state.specs.Entering.{IsEntering, OpenStand, OnlyBoundWait};
 ghost use Rattle.mcs_kernel.specs.Faults.{fault_of, with_entry, FailsForMemory};
 
 mod queries;
@@ -22,6 +21,7 @@ use mcs_ipc::{
     bind_context, call, nb_receive, nb_send, nb_wait, receive, reply_receive, send, unbind_context,
     wait,
 };
+use mcs_notify::{bind, signal_at, unbind};
 use mcs_queues::Lines;
 use mcs_state::State;
 use mcs_types::{Answer, BOOK_LINES, CoreId, Entry, ObjId, OutOfMemory, Status, Step};
@@ -51,7 +51,7 @@ fn operate<W: Waiting>(state: &mut State<W>, core: CoreId, thread: ObjId, entry:
     requires served { IsServed entry.now }
     requires entering { IsEntering (so_far state.old) thread }
     requires stand { OpenStand (so_far state.old) }
-    requires unbound { NoneBound (so_far state.old) }
+    requires waiting { OnlyBoundWait (so_far state.old) }
     requires few { length state.old.book.lines < BOOK_LINES }
     requires room { Fits state.old core thread entry.now }
     ensures { Does state.old core thread entry.now result state.new }
@@ -69,6 +69,12 @@ fn operate<W: Waiting>(state: &mut State<W>, core: CoreId, thread: ObjId, entry:
             reply,
             message,
         } => reply_receive(state, core, thread, *cap, *reply, message.copy()),
+        Entry::Signal { cap } => signal_at(state, core, thread, *cap),
+        Entry::BindNtfn {
+            thread: holder,
+            notification,
+        } => bind(state, core, thread, *holder, *notification),
+        Entry::UnbindNtfn { thread: holder } => unbind(state, core, thread, *holder),
         Entry::BindCtx {
             context,
             thread: holder,

@@ -86,7 +86,8 @@ fn numbers_fit<W: Waiting>(state: &State<W>, line: BootLine) -> bool
         BootLine::Context { core } => core.0 < state.book().cores(),
         BootLine::Thread { guard, .. } => guard_fits(guard),
         BootLine::Slot { cnode, index, cap } => index_fits(state, cnode, index) && kind_fits(cap),
-        BootLine::Endpoint | BootLine::Notification | BootLine::Reply => true,
+        BootLine::Endpoint | BootLine::Notification | BootLine::Reply | BootLine::Tie { .. } =>
+            true,
     }
 }
 
@@ -111,6 +112,13 @@ fn objects_exist<W: Waiting>(state: &State<W>, line: &BootLine) -> bool
         BootLine::Slot { cnode, cap, .. } => {
             exists_as(state, Kind::CNode, cnode) && state.was_made(cap.obj)
         }
+        BootLine::Tie {
+            thread,
+            notification,
+        } => {
+            exists_as(state, Kind::Thread, thread)
+                && exists_as(state, Kind::Notification, notification)
+        }
         _ => true,
     }
 }
@@ -127,7 +135,7 @@ fn is_room<W: Waiting>(state: &State<W>, line: &BootLine) -> bool
         BootLine::Reply => are_fewer(state, Kind::Reply, OBJECTS),
         BootLine::Context { .. } => are_fewer(state, Kind::Context, OBJECTS),
         BootLine::Thread { .. } => are_fewer(state, Kind::Thread, OBJECTS),
-        BootLine::Slot { .. } => true,
+        BootLine::Slot { .. } | BootLine::Tie { .. } => true,
     }
 }
 
@@ -148,13 +156,17 @@ fn place_is_free<W: Waiting>(state: &State<W>, line: &BootLine) -> bool
     match *line {
         BootLine::Thread { context, .. } => context_is_free(state, context),
         BootLine::Slot { cnode, index, .. } => state.slot(SlotId { cnode, index }).is_none(),
+        BootLine::Tie {
+            thread,
+            notification,
+        } => state.bound_of(thread).is_none() && state.tied_to(notification).is_none(),
         _ => true,
     }
 }
 
 /// What is wrong with a line of the boot: Number where a number is out of its range, NoObject where an object that it
-/// names was not made, Limit where there are too many objects, and Taken where a slot is filled or a context is held;
-/// the first of these.
+/// names was not made, Limit where there are too many objects, and Taken where a slot is filled, a context is held, or
+/// a thread or a notification is bound; the first of these.
 pub(crate) fn check<W: Waiting>(state: &State<W>, line: &BootLine) -> Result<(), BootFault>
     requires { IsBooting (so_far state.now) }
     ensures ok { OnOk result (IsTrue

@@ -114,6 +114,10 @@ fn takes_records<W: Waiting>(state: &mut State<W>, line: &BootLine) -> Result<()
             takes_context(state, thread, context);
         }
         BootLine::Slot { cnode, index, cap } => state.fills(SlotId { cnode, index }, Some(cap)),
+        BootLine::Tie {
+            thread,
+            notification,
+        } => state.ties(thread, Some(notification)),
     }
     Ok(())
 }

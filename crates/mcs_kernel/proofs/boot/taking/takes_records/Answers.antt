@@ -13,7 +13,7 @@ use Rattle.mcs_book.specs.Sound.{Allowed}
 use Rattle.mcs_types.proofs.Ids.{parts}
 use Rattle.mcs_state.specs.Now.{Now, so_far, adds_all}
 use Rattle.mcs_state.specs.Tables.{ROOM}
-use Rattle.mcs_kernel.proofs.Booting.{held-as, made-alive, object-there, few-made, has-room, gives-allowed}
+use Rattle.mcs_kernel.proofs.Booting.{held-as, made-alive, object-there, few-made, has-room, gives-allowed, tie-allowed}
 use Rattle.mcs_kernel.proofs.boot.taking.takes_records.Goals as goal
 use Rattle.std.specs.Option.{IfSome}
 
@@ -93,3 +93,9 @@ fills-requires-clause-allowed g c =
     let within : nat_lt c.in-Slot.index (2 ^ radix_kept (form_of R c.in-Slot.cnode)) ≡ true =
     ap (λ b. cond b (nat_lt c.in-Slot.index (2 ^ radix_kept (form_of R c.in-Slot.cnode))) true) (sym there) ∙ (parts _ _ h.numbers).0 in
     (object-there R kind.CNode c.in-Slot.cnode c.requires.booting there, grind (arith, common_steps, within), made-alive R c.in-Slot.cap.obj c.requires.booting (parts _ _ h.objects).1)
+
+pub ties-requires-clause-allowed : goal.ties-requires-clause-allowed
+ties-requires-clause-allowed g c =
+    let R : Log = so_far c.args.state.now in
+    let h = held-as c.args.state.now.book.boot.cores R c.args.line.now (boot.Tie c.in-Tie.thread c.in-Tie.notification) c.in-Tie.is c.requires.faultless in
+    tie-allowed R c.in-Tie.thread c.in-Tie.notification c.is_sound.ensures.sound c.requires.booting h.objects h.free

@@ -1,7 +1,7 @@
 use Rattle.std.proofs.Common.{◌≡◌, ◌∙◌}
 use Rattle.mcs_types.specs.declared.entry.Step.{Step}
 use Rattle.mcs_kernel.specs.Faults.{entered}
-use Rattle.mcs_kernel.proofs.Serving.{IsServing, serving, serving-enters, serving-stands, serving-unbound, entry-fits, line-entered, rests-again}
+use Rattle.mcs_kernel.proofs.Serving.{IsServing, serving, serving-enters, serving-stands, serving-waits, entry-fits, line-entered, rests-again}
 use Rattle.mcs_kernel.proofs.kernel.Kernel.serve.Goals as goal
 
 pub operate-answer-requires-clause-entering : goal.operate-answer-requires-clause-entering
@@ -10,8 +10,8 @@ operate-answer-requires-clause-entering g c = serving-enters c.args.self.now c.a
 pub operate-answer-requires-clause-stand : goal.operate-answer-requires-clause-stand
 operate-answer-requires-clause-stand g c = serving-stands c.args.self.now c.args.core c.args.thread c.reserve.new.self (serving c.args.self.now c.args.core c.args.thread c.self.inside.state c.reserve.new.self c.self.invariant c.self.view_is c.requires.let_in c.in_ok-reserve.ensures.hand c.in_ok-reserve.ensures.book)
 
-pub operate-answer-requires-clause-unbound : goal.operate-answer-requires-clause-unbound
-operate-answer-requires-clause-unbound g c = serving-unbound c.args.self.now c.args.core c.args.thread c.reserve.new.self (serving c.args.self.now c.args.core c.args.thread c.self.inside.state c.reserve.new.self c.self.invariant c.self.view_is c.requires.let_in c.in_ok-reserve.ensures.hand c.in_ok-reserve.ensures.book)
+pub operate-answer-requires-clause-waiting : goal.operate-answer-requires-clause-waiting
+operate-answer-requires-clause-waiting g c = serving-waits c.args.self.now c.args.core c.args.thread c.reserve.new.self (serving c.args.self.now c.args.core c.args.thread c.self.inside.state c.reserve.new.self c.self.invariant c.self.view_is c.requires.let_in c.in_ok-reserve.ensures.hand c.in_ok-reserve.ensures.book)
 
 pub operate-answer-requires-clause-room : goal.operate-answer-requires-clause-room
 operate-answer-requires-clause-room g c =
@@ -21,7 +21,7 @@ operate-answer-requires-clause-room g c =
 pub invariant_of-self-2 : goal.invariant_of-self-2
 invariant_of-self-2 g c =
     let s : IsServing c.args.self.now c.args.core c.args.thread c.reserve.new.self = serving c.args.self.now c.args.core c.args.thread c.self.inside.state c.reserve.new.self c.self.invariant c.self.view_is c.requires.let_in c.in_ok-reserve.ensures.hand c.in_ok-reserve.ensures.book in
-    rests-again c.args.self.now c.args.core c.args.thread c.reserve.new.self s c.args.entry c.operate-answer.result c.copy-told.result c.operate-answer.new.state c.close.new.self c.requires.served c.is_in_range.ensures c.operate-answer.ensures c.copy-told.ensures c.close.ensures.hand c.close.ensures.book
+    rests-again c.args.self.now c.args.core c.args.thread c.reserve.new.self s c.args.entry c.operate-answer.result c.copy-told.result c.operate-answer.new.state c.close.new.self c.is_in_range.ensures c.operate-answer.ensures c.copy-told.ensures c.close.ensures.hand c.close.ensures.book
 
 pub returns-clause-line : goal.returns-clause-line
 returns-clause-line g c =
