@@ -111,6 +111,17 @@ slot-again cores lines c i cap sound few ok =
       again = rw (object-again kind.CNode c cnode, c_made, below-is 256 i small, cap-again cap object (kind-types cap.obj.kind cap carried)) refl;
     }
 
+-- ---- a line that binds a notification
+
+tie-again : (cores : ℕ) (lines : List BootLine) (t n : ObjId) → Sound (boot_log lines) → length lines ≤ 2000000 → is_ok (boot_check cores (boot_log lines) (boot.Tie t n)) ≡ true → IsAgainAfter (boot_log lines) (boot.Tie t n)
+unfolding fitted
+tie-again cores lines t n sound few ok =
+    let (numbers, objects) = line-checked cores (boot_log lines) (boot.Tie t n) ok in
+    let (thread_made, notification_made) = parts (is_object (boot_log lines) kind.Thread t) (is_object (boot_log lines) kind.Notification n) objects in
+    let thread : IsBootName kind.Thread t = boot-name lines kind.Thread t sound few thread_made in
+    let notification : IsBootName kind.Notification n = boot-name lines kind.Notification n sound few notification_made in
+    record { fits = record { thread_name = named kind.Thread t thread; notification_name = named kind.Notification n notification }; again = rw (object-again kind.Thread t thread, object-again kind.Notification n notification) refl }
+
 -- ---- lines
 
 -- a line of the boot that was checked
@@ -123,6 +134,7 @@ line-again cores lines boot.Reply limit sound few ok = record { fits = tt; again
 line-again cores lines (boot.Context core) limit sound few ok = context-again cores (boot_log lines) core.0 limit ok
 line-again cores lines (boot.Thread p m root guard runs s) limit sound few ok = thread-again cores lines p m root guard runs s sound few ok
 line-again cores lines (boot.Slot c i cap) limit sound few ok = slot-again cores lines c i cap sound few ok
+line-again cores lines (boot.Tie t n) limit sound few ok = tie-again cores lines t n sound few ok
 
 -- a line that was checked is added
 passed-adds : (b : Boot) (line : BootLine) (r : Result Passed BootFault) → is_ok r ≡ true → if_passed b line r ≡ Ok (record b { lines = line ∷ b.lines })

@@ -117,7 +117,7 @@ few-send_by kind.Context t cap message alone h = passed-err _ _
 -- a send over a capability
 few-send_over : (t : ObjId) (cap : Cap) (message : Content) (alone : Act) → FewAct alone → OnPassed FewAct (send_over t cap message alone)
 unfolding send_over
-few-send_over t cap message alone h = passed-next _ _ _ (few-send_by cap.obj.kind t cap message alone h)
+few-send_over t cap message alone h = few-send_by cap.obj.kind t cap message alone h
 
 -- one that blocks, or is answered that nothing is there
 few-joins : (blocking : Bool) (r : Rec) (W : Log) → FewAt W (joins_or blocking r)
@@ -168,7 +168,7 @@ few-receive_by kind.Context R t cap reply blocking = passed-err _ _
 -- a receive over a capability
 few-receive_over : (R : Log) (t : ObjId) (cap : Cap) (reply : Checked (Option ObjId)) (blocking : Bool) → OnPassed FewAct (receive_over R t cap reply blocking)
 unfolding receive_over
-few-receive_over R t cap reply blocking = passed-next _ _ _ (few-receive_by cap.obj.kind R t cap reply blocking)
+few-receive_over R t cap reply blocking = few-receive_by cap.obj.kind R t cap reply blocking
 
 -- pays, and then receives
 few-reply_receive : (R : Log) (t : ObjId) (cap : Cap) (address : ℕ) (message : Content) → OnPassed FewAct (reply_receive R t cap address message)

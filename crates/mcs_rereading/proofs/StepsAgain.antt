@@ -47,6 +47,7 @@ counted-line k R S boot.Notification = one-more (same_kind kind.Notification k) 
 counted-line k R S boot.Reply = one-more (same_kind kind.Reply k) (counted (makes_kind k) R)
 counted-line k R S (boot.Context core) = one-more (same_kind kind.Context k) (counted (makes_kind k) R)
 counted-line k R S (boot.Slot c i held) = omega arith
+counted-line k R S (boot.Tie t n) = omega arith
 
 -- a boot makes at most as many objects of a kind as it has lines
 counted-boot : (k : Kind) (lines : List BootLine) → counted (makes_kind k) (boot_log lines) ≤ length lines

@@ -73,6 +73,7 @@ fitted R (raw.Slot c i cap) = do
   index ← index_of (is_object R kind.CNode (object_of kind.CNode c)) i
   held ← cap_of cap
   Ok (boot.Slot (object_of kind.CNode c) index held)
+fitted R (raw.Tie t n) = Ok (boot.Tie (object_of kind.Thread t) (object_of kind.Notification n))
 
 -- the fault of a line that the boot refuses
 abbrev pub line_fault : BootFault → LineFault

@@ -172,6 +172,13 @@ fn fitted(boot: &Boot, line: RawBootLine) -> Result<BootLine, LineFault>
             index: index_in(boot, cnode, index)?,
             cap: cap_of(cap)?,
         }),
+        RawBootLine::Tie {
+            thread,
+            notification,
+        } => Ok(BootLine::Tie {
+            thread: object(Kind::Thread, thread),
+            notification: object(Kind::Notification, notification),
+        }),
     }
 }
 
