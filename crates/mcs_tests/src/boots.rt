@@ -96,6 +96,36 @@ fn faults_are_told(rt: HostRuntime) {
     assert_eq!(rt; boot.add(slot(CNODE)), Err(BootFault::Taken));
 }
 
+/// Binds a notification to a thread.
+fn tie(boot: &mut Boot, thread: u32, notification: u32) -> Result<(), BootFault> {
+    boot.add(BootLine::Tie {
+        thread: object(Kind::Thread, thread),
+        notification: object(Kind::Notification, notification),
+    })
+}
+
+#[test]
+fn notifications_are_bound_once(rt: HostRuntime) {
+    let Ok(mut boot) = booted(rt.alloc()) else {
+        assert!(rt; false, "there is memory");
+        return;
+    };
+    assert_eq!(rt; tie(&mut boot, 1, 1), Err(BootFault::NoObject));
+    assert_eq!(rt; boot.add(BootLine::Notification), Ok(()));
+    assert_eq!(rt; boot.add(BootLine::Notification), Ok(()));
+    assert_eq!(rt; boot.add(thread(CNODE, None)), Ok(()));
+    assert_eq!(rt; tie(&mut boot, 3, 1), Err(BootFault::NoObject));
+    assert_eq!(rt; tie(&mut boot, 1, 1), Ok(()));
+    assert_eq!(rt; tie(&mut boot, 1, 2), Err(BootFault::Taken));
+    assert_eq!(rt; tie(&mut boot, 2, 1), Err(BootFault::Taken));
+    assert_eq!(rt; tie(&mut boot, 2, 2), Ok(()));
+    let Ok(kernel) = Kernel::<PlainLines>::new(rt.alloc(), &boot) else {
+        assert!(rt; false, "there is memory");
+        return;
+    };
+    assert_eq!(rt; kernel.book().boot().len(), boot.lines().len());
+}
+
 #[test]
 fn cores_are_limited(rt: HostRuntime) {
     assert_eq!(rt; Boot::new(rt.alloc(), 0).err(), Some(BootFault::Number));

@@ -14,6 +14,8 @@ mod limits;
 #[cfg(test)]
 mod lookups;
 #[cfg(test)]
+mod notifications;
+#[cfg(test)]
 mod objects;
 #[cfg(test)]
 mod queries;

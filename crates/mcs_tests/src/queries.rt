@@ -33,12 +33,13 @@ fn slot(index: u8, obj: ObjId, bits: u8, badge: u64) -> Option<BootLine> {
     })
 }
 
-/// A CNode, an endpoint, a reply object, and five threads with a context each.
+/// A CNode, an endpoint, a reply object, a notification, and five threads with a context each.
 fn five_threads(alloc: Global) -> Result<Boot, BootFault> {
     let mut boot = Boot::new(alloc, 1)?;
     boot.add(BootLine::CNode { radix: 5 })?;
     boot.add(BootLine::Endpoint)?;
     boot.add(BootLine::Reply)?;
+    boot.add(BootLine::Notification)?;
     for (serial, priority) in [(1, 10), (2, 20), (3, 10), (4, 20), (5, 30)] {
         boot.add(BootLine::Context { core: CoreId(0) })?;
         boot.add(BootLine::Thread {
@@ -53,7 +54,9 @@ fn five_threads(alloc: Global) -> Result<Boot, BootFault> {
     let slots = [
         slot(1, object(Kind::Endpoint, 1), 1, 9),
         slot(2, object(Kind::Endpoint, 1), 15, 0),
+        slot(4, object(Kind::Notification, 1), 3, 5),
         slot(8, object(Kind::Reply, 1), 0, 0),
+        slot(12, thread(2), 0, 0),
     ];
     for line in slots.into_iter().flatten() {
         boot.add(line)?;
@@ -123,6 +126,40 @@ fn status_and_mail_follow_a_message(rt: HostRuntime) -> Result<(), Fail> {
     assert!(rt; matches!(got, Ok(Answer::Got { .. })));
     assert_eq!(rt; kernel.status(thread(1)), Some(Status::Running));
     assert!(rt; has_mail(&kernel, 2, 9, 7, &[5, 6]));
+    Ok(())
+}
+
+#[test]
+fn status_and_mail_follow_a_signal(rt: HostRuntime) -> Result<(), Fail> {
+    let mut kernel = booted(rt.alloc(), five_threads(rt.alloc()))?;
+    let entry = Entry::BindNtfn {
+        thread: 12,
+        notification: 4,
+    };
+    let bound = enter(rt.alloc(), &mut kernel, 0, 2, entry);
+    assert!(rt; matches!(bound, Ok(Answer::Done)));
+    let entry = Entry::Recv { cap: 2, reply: 8 };
+    let waits = enter(rt.alloc(), &mut kernel, 0, 2, entry);
+    assert!(rt; matches!(waits, Ok(Answer::Waits)));
+    let receivers = Queue::Receivers(object(Kind::Endpoint, 1));
+    assert_eq!(rt; kernel.status(thread(2)), Some(Status::Queued(receivers)));
+    let entry = Entry::Signal { cap: 4 };
+    let raised = enter(rt.alloc(), &mut kernel, 0, 1, entry);
+    assert!(rt; matches!(raised, Ok(Answer::Done)));
+    assert_eq!(rt; kernel.status(thread(2)), Some(Status::Running));
+    assert!(rt; matches!(kernel.mail(thread(2)), Some(Mail::Word { word: 5 })));
+    let unbound = enter(
+        rt.alloc(),
+        &mut kernel,
+        0,
+        2,
+        Entry::UnbindNtfn { thread: 12 },
+    );
+    assert!(rt; matches!(unbound, Ok(Answer::Done)));
+    let waits = enter(rt.alloc(), &mut kernel, 0, 2, Entry::Wait { cap: 4 });
+    assert!(rt; matches!(waits, Ok(Answer::Waits)));
+    let waiters = Queue::Waiters(object(Kind::Notification, 1));
+    assert_eq!(rt; kernel.status(thread(2)), Some(Status::Queued(waiters)));
     Ok(())
 }
 

@@ -97,6 +97,25 @@ thread 10 255 c1 60 0 run s2
 slot c1 1 t1
 ";
 
+/// A notification that is bound to the second of two threads.
+const TIED: &str = "\
+cores 1
+cnode 4
+endpoint
+notification
+reply
+context 0
+context 0
+thread 10 255 c1 60 0 run s1
+thread 20 255 c1 60 0 run s2
+slot c1 1 e1 rwgp 0
+slot c1 2 n1 rw 5
+slot c1 3 r1
+slot c1 4 t2
+slot c1 5 n1 r 0
+tie t2 n1
+";
+
 /// A message that waits for its receiver.
 pub const FIRST_STEPS: &str = "\
 0 t1 send 1 7 5 6
@@ -117,7 +136,7 @@ pub const FIRST_TRACE: &str = "\
 ";
 
 /// A boot, steps after it, and what the trace has after it.
-pub const RUNS: [(&str, &str, &str); 21] = [
+pub const RUNS: [(&str, &str, &str); 29] = [
     (BOOT, FIRST_STEPS, FIRST_TRACE),
     // A receiver that waits for its message.
     (
@@ -417,47 +436,45 @@ pub const RUNS: [(&str, &str, &str); 21] = [
 = refused 3
 ",
     ),
-    // Sends and receives over a capability to a notification, and over one to a reply object that owes nobody.
+    // Capabilities of other kinds: a reply object that owes nobody is answered to nobody, and nothing is received over
+    // one or signalled.
     (
         BOOT,
         "\
-0 t1 send 4 1
 0 t1 send 8 1
-0 t1 nbsend 4 1
 0 t1 nbsend 8 1
-0 t1 recv 4 8
+0 t1 send 11 1
+0 t1 nbsend 11 1
 0 t1 recv 8 9
-0 t1 nbrecv 4 8
+0 t1 recv 11 8
 0 t1 nbrecv 8 9
-0 t1 wait 4
 0 t1 wait 8
-0 t1 nbwait 4
-0 t1 nbwait 8
+0 t1 nbwait 11
+0 t1 signal 1
+0 t1 signal 8
 ",
         "\
-0 t1 send 4 1
-= refused 4
 0 t1 send 8 1
 = done
-0 t1 nbsend 4 1
-= refused 4
 0 t1 nbsend 8 1
 = done
-0 t1 recv 4 8
+0 t1 send 11 1
+= refused 4
+0 t1 nbsend 11 1
 = refused 4
 0 t1 recv 8 9
 = refused 4
-0 t1 nbrecv 4 8
+0 t1 recv 11 8
 = refused 4
 0 t1 nbrecv 8 9
 = refused 4
-0 t1 wait 4
-= refused 4
 0 t1 wait 8
 = refused 4
-0 t1 nbwait 4
+0 t1 nbwait 11
 = refused 4
-0 t1 nbwait 8
+0 t1 signal 1
+= refused 4
+0 t1 signal 8
 = refused 4
 ",
     ),
@@ -742,6 +759,345 @@ pub const RUNS: [(&str, &str, &str); 21] = [
 + turns t3 inactive
 ",
     ),
+    // A signal reaches the bound thread, which stands receiving: it leaves its queue, and a message finds no receiver
+    // there.
+    (
+        BOOT,
+        "\
+0 t2 bindntfn 12 4
+0 t2 recv 2 8
+0 t1 signal 7
+0 t1 send 1 1
+",
+        "\
+0 t2 bindntfn 12 4
+= done
++ tied t2 n1
+0 t2 recv 2 8
+= waits
++ joins t2 e1.recv r1
+0 t1 signal 7
+= done
++ raised n1 4
++ heard t2 n1 4
++ parts t2 e1.recv
++ turns t2 running
+0 t1 send 1 1
+= waits
++ sent m0 t1 e1 send 9 1
++ joins t1 e1.send
+",
+    ),
+    // Badges are joined in a word, the empty one too, and the word is heard once.
+    (
+        BOOT,
+        "\
+0 t1 signal 5
+0 t1 signal 6
+0 t1 signal 4
+0 t2 wait 4
+0 t2 wait 4
+",
+        "\
+0 t1 signal 5
+= done
++ raised n1 1
+0 t1 signal 6
+= done
++ raised n1 2
+0 t1 signal 4
+= done
++ raised n1 0
+0 t2 wait 4
+= heard 3
++ heard t2 n1 3
+0 t2 wait 4
+= waits
++ joins t2 n1.wait
+",
+    ),
+    // A word of an empty badge is pending; on a pending word nobody is woken, and another kind of badge is joined to
+    // it.
+    (
+        BOOT,
+        "\
+0 t1 nbsend 4 7
+0 t2 recv 2 8
+0 t5 bindntfn 12 4
+0 t1 signal 5
+0 t1 send 2 1
+0 t2 wait 4
+",
+        "\
+0 t1 nbsend 4 7
+= done
++ raised n1 0
+0 t2 recv 2 8
+= waits
++ joins t2 e1.recv r1
+0 t5 bindntfn 12 4
+= done
++ tied t2 n1
+0 t1 signal 5
+= done
++ raised n1 1
+0 t1 send 2 1
+= done
++ sent m0 t1 e1 send 0 1
++ took m0 t2
++ parts t2 e1.recv
++ turns t2 running
+0 t2 wait 4
+= heard 1
++ heard t2 n1 1
+",
+    ),
+    // Bindings: who may be bound, who may wait, and what the bound thread hears first.
+    (
+        BOOT,
+        "\
+0 t2 bindntfn 12 5
+0 t2 bindntfn 12 4
+0 t1 wait 4
+0 t1 nbsend 5 0
+0 t1 send 1 7
+0 t2 recv 2 8
+0 t2 recv 2 8
+0 t2 bindntfn 12 4
+0 t2 unbindntfn 12
+0 t2 unbindntfn 12
+0 t2 wait 4
+0 t1 bindntfn 13 4
+0 t1 signal 5
+",
+        "\
+0 t2 bindntfn 12 5
+= refused 5
+0 t2 bindntfn 12 4
+= done
++ tied t2 n1
+0 t1 wait 4
+= refused 9
+0 t1 nbsend 5 0
+= done
++ raised n1 1
+0 t1 send 1 7
+= waits
++ sent m0 t1 e1 send 9 7
++ joins t1 e1.send
+0 t2 recv 2 8
+= heard 1
++ heard t2 n1 1
+0 t2 recv 2 8
+= got 9 7
++ took m0 t2
++ parts t1 e1.send
++ turns t1 running
+0 t2 bindntfn 12 4
+= refused 9
+0 t2 unbindntfn 12
+= done
++ tied t2 -
+0 t2 unbindntfn 12
+= refused 10
+0 t2 wait 4
+= waits
++ joins t2 n1.wait
+0 t1 bindntfn 13 4
+= refused 9
+0 t1 signal 5
+= done
++ raised n1 1
++ heard t2 n1 1
++ parts t2 n1.wait
++ turns t2 running
+",
+    ),
+    // A pending word comes before the message that waits, after the payment; over a notification the reply object of
+    // a receive is not looked at, but that of a reply is paid.
+    (
+        BOOT,
+        "\
+0 t2 bindntfn 12 4
+0 t2 recv 2 8
+0 t1 call 2 1
+0 t5 signal 5
+0 t2 replyrecv 2 8 4
+0 t1 call 2 2
+0 t2 nbrecv 4 11
+0 t2 recv 2 8
+0 t2 replyrecv 4 8 6
+0 t5 send 6 0
+",
+        "\
+0 t2 bindntfn 12 4
+= done
++ tied t2 n1
+0 t2 recv 2 8
+= waits
++ joins t2 e1.recv r1
+0 t1 call 2 1
+= waits
++ sent m0 t1 e1 call 0 1
++ took m0 t2
++ parts t2 e1.recv
++ owes r1 t1 -
++ turns t2 running
+0 t5 signal 5
+= done
++ raised n1 1
+0 t2 replyrecv 2 8 4
+= heard 1
++ paid r1 t1 4
++ turns t1 running
++ heard t2 n1 1
+0 t1 call 2 2
+= waits
++ sent m1 t1 e1 call 0 2
++ joins t1 e1.send
+0 t2 nbrecv 4 11
+= empty
+0 t2 recv 2 8
+= got 0 2
++ took m1 t2
++ parts t1 e1.send
++ owes r1 t1 -
+0 t2 replyrecv 4 8 6
+= waits
++ paid r1 t1 6
++ turns t1 running
++ joins t2 n1.wait
+0 t5 send 6 0
+= done
++ raised n1 2
++ heard t2 n1 2
++ parts t2 n1.wait
++ turns t2 running
+",
+    ),
+    // A receive that hears a word has freed its reply object all the same.
+    (
+        BOOT,
+        "\
+0 t2 recv 2 8
+0 t5 bindntfn 15 4
+0 t1 signal 6
+0 t5 nbrecv 2 8
+",
+        "\
+0 t2 recv 2 8
+= waits
++ joins t2 e1.recv r1
+0 t5 bindntfn 15 4
+= done
++ tied t5 n1
+0 t1 signal 6
+= done
++ raised n1 2
+0 t5 nbrecv 2 8
+= heard 2
++ parts t2 e1.recv
++ turns t2 inactive
++ heard t5 n1 2
+",
+    ),
+    // Waiters are woken one a signal, by priority.
+    (
+        BOOT,
+        "\
+0 t1 wait 4
+0 t2 wait 4
+0 t3 nbwait 4
+0 t5 signal 5
+0 t5 signal 6
+0 t5 signal 7
+0 t3 nbwait 4
+",
+        "\
+0 t1 wait 4
+= waits
++ joins t1 n1.wait
+0 t2 wait 4
+= waits
++ joins t2 n1.wait
+0 t3 nbwait 4
+= empty
+0 t5 signal 5
+= done
++ raised n1 1
++ heard t2 n1 1
++ parts t2 n1.wait
++ turns t2 running
+0 t5 signal 6
+= done
++ raised n1 2
++ heard t1 n1 2
++ parts t1 n1.wait
++ turns t1 running
+0 t5 signal 7
+= done
++ raised n1 4
+0 t3 nbwait 4
+= heard 4
++ heard t3 n1 4
+",
+    ),
+    // Refusals over a notification: without Write, without Read, and by another thread than the bound one.
+    (
+        TIED,
+        "\
+0 t1 signal 5
+0 t1 signal 1
+0 t1 call 2 1
+0 t1 wait 2
+0 t1 nbrecv 2 9
+0 t1 replyrecv 2 9 1
+0 t1 replyrecv 2 3 1
+0 t2 wait 5
+0 t1 signal 2
+0 t2 unbindntfn 4
+0 t2 unbindntfn 4
+0 t1 nbwait 5
+0 t1 bindntfn 4 3
+0 t1 bindntfn 2 2
+",
+        "\
+0 t1 signal 5
+= refused 5
+0 t1 signal 1
+= refused 4
+0 t1 call 2 1
+= refused 4
+0 t1 wait 2
+= refused 9
+0 t1 nbrecv 2 9
+= refused 9
+0 t1 replyrecv 2 9 1
+= refused 1
+0 t1 replyrecv 2 3 1
+= refused 9
+0 t2 wait 5
+= waits
++ joins t2 n1.wait
+0 t1 signal 2
+= done
++ raised n1 5
++ heard t2 n1 5
++ parts t2 n1.wait
++ turns t2 running
+0 t2 unbindntfn 4
+= done
++ tied t2 -
+0 t2 unbindntfn 4
+= refused 10
+0 t1 nbwait 5
+= empty
+0 t1 bindntfn 4 3
+= refused 4
+0 t1 bindntfn 2 2
+= refused 4
+",
+    ),
 ];
 
 /// What a script gives, and the bytes that it writes.
@@ -789,6 +1145,13 @@ fn faulty_lines_are_told(rt: HostRuntime) -> Result<(), Fail> {
             LineFault::Number,
         ),
         ("cores 1\nslot c1 300 e1 w 1\n", 2, LineFault::NoObject),
+        ("cores 1\nnotification\ntie t1 n1\n", 3, LineFault::NoObject),
+        ("cores 1\ntie t1\n", 2, LineFault::Form),
+        (
+            "cores 1\ncnode 4\nnotification\nthread 1 1 c1 60 0 run -\ntie t1 n1\ntie t1 n1\n",
+            6,
+            LineFault::Taken,
+        ),
         ("cores 1\n0 t1 recv 01 2\n", 2, LineFault::Form),
         ("cores 1\n1 t1 recv 1 2\n", 2, LineFault::Number),
     ];
