@@ -1,7 +1,7 @@
 -- Small scripts, computed.
 use Rattle.std.proofs.Common.{◌≡◌, ℕ, Option, Some, None, List, [], refl, codes}
 use Rattle.mcs_text.specs.declared.fault.LineFault.{LineFault}
-use Rattle.mcs_text.specs.declared.fault.LineFault.TheVariants.{NoCores, Form, Number, NoObject, Taken}
+use Rattle.mcs_text.specs.declared.fault.LineFault.TheVariants.{NoCores, Form, LateBoot, Number, NoObject, Taken}
 use Rattle.mcs_text.specs.Keys.{boot_key, entry_key}
 use Rattle.mcs_text.specs.Reading.{number, number_at, name, name_at, end_at, below, made, sent_at, replied_at, pair_at, address_at, place_at, place_of, copy_at, mint_at, move_at, kept_after, content, entry_at, step_of}
 use Rattle.mcs_text.specs.RightsReading.{rights_of, rights_at}
@@ -94,6 +94,6 @@ no_rights : fault_of (codes "cores 1\ncnode 4\nthread 1 1 c1 60 0 run -\n0 t1 co
 unfolding computing
 no_rights = refl
 
-late_boot : fault_of (codes "cores 1\ncnode 4\nthread 1 1 c1 60 0 run -\n0 t1 recv 1 2\ntie t1 n1") ≡ Some (5, Form)
+late_boot : fault_of (codes "cores 1\ncnode 4\nthread 1 1 c1 60 0 run -\n0 t1 recv 1 2\ntie t1 n1") ≡ Some (5, LateBoot)
 unfolding computing
 late_boot = refl
