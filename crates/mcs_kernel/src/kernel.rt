@@ -16,6 +16,7 @@ mod queries;
 use crate::boot::{Boot, boot_state};
 use crate::fault::EnterFault;
 use mcs_book::Book;
+use mcs_cancel::{cancel_badged, resume, set_priority, suspend};
 use mcs_caps::{copy_cap, mint_cap, move_cap};
 use mcs_ipc::{
     bind_context, call, nb_receive, nb_send, nb_wait, receive, reply_receive, send, unbind_context,
@@ -70,6 +71,13 @@ fn operate<W: Waiting>(state: &mut State<W>, core: CoreId, thread: ObjId, entry:
             message,
         } => reply_receive(state, core, thread, *cap, *reply, message.copy()),
         Entry::Signal { cap } => signal_at(state, core, thread, *cap),
+        Entry::SetPriority {
+            thread: holder,
+            authority,
+            priority,
+        } => set_priority(state, core, thread, *holder, *authority, *priority),
+        Entry::Suspend { thread: other } => suspend(state, core, thread, *other),
+        Entry::Resume { thread: other } => resume(state, core, thread, *other),
         Entry::BindNtfn {
             thread: holder,
             notification,
@@ -80,6 +88,7 @@ fn operate<W: Waiting>(state: &mut State<W>, core: CoreId, thread: ObjId, entry:
             thread: holder,
         } => bind_context(state, core, thread, *context, *holder),
         Entry::UnbindCtx { context } => unbind_context(state, core, thread, *context),
+        Entry::CancelBadged { endpoint } => cancel_badged(state, core, thread, *endpoint),
         Entry::CopyCap {
             source,
             dest,

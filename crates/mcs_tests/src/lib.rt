@@ -6,6 +6,8 @@ mod books;
 #[cfg(test)]
 mod boots;
 #[cfg(test)]
+mod cancelling;
+#[cfg(test)]
 mod failing;
 #[cfg(test)]
 mod faults;

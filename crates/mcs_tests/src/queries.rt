@@ -185,6 +185,39 @@ fn status_and_mail_follow_a_call(rt: HostRuntime) -> Result<(), Fail> {
     Ok(())
 }
 
+#[test]
+fn status_follows_a_cancelled_sender(rt: HostRuntime) -> Result<(), Fail> {
+    let mut kernel = booted(rt.alloc(), five_threads(rt.alloc()))?;
+    let message = Message::new(7, &[5, 6]).ok_or("too many words")?;
+    let entry = Entry::Send { cap: 2, message };
+    let waits = enter(rt.alloc(), &mut kernel, 0, 2, entry);
+    assert!(rt; matches!(waits, Ok(Answer::Waits)));
+    let done = [
+        Entry::CancelBadged { endpoint: 2 },
+        Entry::SetPriority {
+            thread: 12,
+            authority: 12,
+            priority: Prio(5),
+        },
+    ];
+    for entry in done {
+        let result = enter(rt.alloc(), &mut kernel, 0, 1, entry);
+        assert!(rt; matches!(result, Ok(Answer::Done)));
+    }
+    let senders = Queue::Senders(object(Kind::Endpoint, 1));
+    assert_eq!(rt; kernel.status(thread(2)), Some(Status::Queued(senders)));
+    let modes = [
+        (Entry::Suspend { thread: 12 }, Status::Inactive),
+        (Entry::Resume { thread: 12 }, Status::Restart),
+    ];
+    for (entry, want) in modes {
+        let result = enter(rt.alloc(), &mut kernel, 0, 1, entry);
+        assert!(rt; matches!(result, Ok(Answer::Done)));
+        assert_eq!(rt; kernel.status(thread(2)), Some(want));
+    }
+    Ok(())
+}
+
 /// Two cores, four contexts, and five threads: one without a context, and one that does not run.
 fn two_cores(alloc: Global) -> Result<Boot, BootFault> {
     let mut boot = Boot::new(alloc, 2)?;

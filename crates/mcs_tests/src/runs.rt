@@ -1,4 +1,5 @@
 //! Scripts and their traces.
+use crate::cancelling::CANCELLING;
 use crate::streams::{Input, Output, pipe};
 use mcs_sim::SimFault;
 use mcs_text::LineFault;
@@ -1110,7 +1111,7 @@ pub fn run(alloc: Global, script: &[u8]) -> Result<(Result<(), SimFault>, Vec<u8
 
 #[test]
 fn runs_give_their_traces(rt: HostRuntime) -> Result<(), Fail> {
-    for (boot, steps, trace) in RUNS {
+    for (boot, steps, trace) in RUNS.iter().chain(&CANCELLING) {
         let script = format!(in rt.alloc(); "{boot}{steps}")?;
         let (result, written) = run(rt.alloc(), script.as_bytes())?;
         assert_eq!(rt; result, Ok(()));
@@ -1161,6 +1162,16 @@ fn faulty_lines_are_told(rt: HostRuntime) -> Result<(), Fail> {
         assert!(rt; written.is_empty());
     }
     let steps = [
+        (
+            "0 t1 nbsend 1 7\n0 t1 setprio 11 11 256\n",
+            "0 t1 nbsend 1 7\n= done\n",
+            LineFault::Number,
+        ),
+        (
+            "0 t1 nbsend 1 7\n0 t1 setprio 11 11\n",
+            "0 t1 nbsend 1 7\n= done\n",
+            LineFault::Form,
+        ),
         (
             "0 t1 nbsend 1 7\nendpoint\n",
             "0 t1 nbsend 1 7\n= done\n",
