@@ -88,7 +88,6 @@ fn record_at(packed: &[Packed], words: &[u64], wide: &[Rec], i: usize) -> Option
 /// The boot, and a line for each entry that was let in. All is kept packed: a head for each line, the records of all
 /// lines side by side, and the words that they name. `sent` has the place of the words of each message, and `room` is 0
 /// or how many records the next line may have, and one more.
-#[derive(Drop)]
 pub struct Book {
     cores: u8,
     boot: Vec<BootLine>,
@@ -97,6 +96,21 @@ pub struct Book {
     arena: Arena,
     sent: Vec<u32>,
     room: usize,
+}
+
+// By hand, so that it is a function of its own: a derived drop would be proved anew wherever a book is let go.
+impl Drop for Book {
+    fn drop(self) {
+        let Book {
+            cores: _,
+            boot: _,
+            heads: _,
+            packed: _,
+            arena: _,
+            sent: _,
+            room: _,
+        } = self;
+    }
 }
 
 impl Model for Book {

@@ -19,6 +19,7 @@ use Rattle.mcs_book.proofs.SoundLogs.KeptLaws.{slot-alive}
 use Rattle.mcs_slots.specs.declared.slots.SlotId.{SlotId}
 use Rattle.mcs_cspace.specs.Spaces.{named_by}
 use Rattle.mcs_state.specs.Entering.{IsEntering}
+use Rattle.mcs_state.proofs.Woken.{woken-alive}
 use Rattle.mcs_caps.specs.declared.checks.Placing.{Placing}
 use Rattle.mcs_caps.specs.Placed.{IsSlot, IsPlaced}
 
@@ -34,12 +35,6 @@ woken-slot : (R : Log) (t : ObjId) (m : Mode) (at : SlotId) → IsSlot R at → 
 woken-slot R t Running at h = h
 woken-slot R t Restart at h = h
 woken-slot R t Inactive at h = h
-
--- and so is an object
-woken-alive : (R : Log) (t : ObjId) (m : Mode) (o : ObjId) → is_alive R o ≡ true → is_alive (onto (wakes m t R) R) o ≡ true
-woken-alive R t Running o h = h
-woken-alive R t Restart o h = h
-woken-alive R t Inactive o h = h
 
 -- a capability to the object of the one that was found may be put into the empty slot
 pub may-fill : (R : Log) (t : ObjId) (m : Mode) (at : Placing) (cap : Cap) → Sound R → IsPlaced R at → cap.obj ≡ at.cap.obj → Allowed (onto (wakes m t R) R) (rec.Slot at.dest.cnode at.dest.index (Some cap))

@@ -23,10 +23,16 @@ pub struct ContextRow {
 /// Up to 256 scheduling contexts, which come and go under serials that count from 1, and the threads of the serials 1 to 256
 /// that hold them (manual: Threads and Execution). A context has at most one holder and a thread at most one context. All
 /// memory is taken when they are made (own).
-#[derive(Drop)]
 pub struct Contexts {
     rows: Store<ContextRow>,
     held: Vec<Option<ObjId>>,
+}
+
+// By hand, so that it is a function of its own: a derived drop would be proved anew wherever it is let go.
+impl Drop for Contexts {
+    fn drop(self) {
+        let Contexts { rows: _, held: _ } = self;
+    }
 }
 
 impl Model for Contexts {

@@ -38,8 +38,7 @@ use Rattle.mcs_state.specs.Now.{IsNumberOf}
 use Rattle.mcs_state.specs.Checks.{kinded}
 use Rattle.mcs_state.specs.Entering.{IsEntering, OpenStand}
 use Rattle.mcs_state.proofs.Named.{kinded-ok, writable-ok, found-alive}
-use Rattle.mcs_state.proofs.Woken.{woken}
-use Rattle.mcs_notify.proofs.Rows.{woken-there}
+use Rattle.mcs_state.proofs.Woken.{woken, woken-there, woken-stand}
 use Rattle.mcs_ipc.specs.Ready.{IsSending}
 use Rattle.mcs_ipc.specs.declared.checks.Target.{Target}
 use Rattle.mcs_ipc.specs.declared.checks.Target.TheVariants as target
@@ -81,15 +80,6 @@ pub send-hands : (R : Log) (b : Bool) (mode : SendMode) (t : ObjId) (cap : Cap) 
     → send_act b mode t cap message R ≡ answers (answer_to mode) (say (rec.Sent t cap.obj mode cap.badge message) then handed_to (record { number = number; sender = t; endpoint = cap.obj; mode = mode }) p) R
 unfolding send_act sends sends_to handed handed_to ◌then◌
 send-hands R b mode t cap message p number first e = rw (first, e) refl
-
--- once a thread was woken, whoever has an open message stands in its queue still
-pub woken-stand : (R : Log) (t : ObjId) → OpenStand R → OpenStand (onto (wakes (mode_of R t) t R) R)
-woken-stand R t stand = go (mode_of R t)
-  where
-    go : (m : Mode) → OpenStand (onto (wakes m t R) R)
-    go Restart x e m still = stand x e m (record { sent = still.sent; is_letter = still.is_letter; is_open = still.is_open; of_sender = still.of_sender; on_endpoint = still.on_endpoint })
-    go Running x e m still = stand x e m still
-    go Inactive x e m still = stand x e m still
 
 -- a reply object is there still when a thread was woken, if there is one
 pub woken-reply : (R : Log) (t : ObjId) (m : Mode) (r : Option ObjId) → IfSome r (λ o. IsThere R kind.Reply o) → IfSome r (λ o. IsThere (onto (wakes m t R) R) kind.Reply o)

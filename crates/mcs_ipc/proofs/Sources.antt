@@ -21,18 +21,17 @@ use Rattle.mcs_book.specs.Sound.{Sound, IsThere}
 use Rattle.mcs_book.specs.Table.{wakes}
 use Rattle.mcs_book.specs.Threads.{mode_of}
 use Rattle.mcs_notify.specs.Waiting.{NoneElseBound}
-use Rattle.mcs_notify.proofs.Rows.{woken-there}
 use Rattle.mcs_notify.proofs.Words.{may_wait-alone}
 use Rattle.mcs_state.specs.Checks.{object_named}
 use Rattle.mcs_state.specs.Entering.{IsEntering, OpenStand}
 use Rattle.mcs_state.proofs.Named.{found-alive, named-there}
-use Rattle.mcs_state.proofs.Woken.{woken}
+use Rattle.mcs_state.proofs.Woken.{woken, woken-there, woken-stand}
 use Rattle.mcs_ipc.specs.declared.checks.Replying.{Replying}
 use Rattle.mcs_ipc.specs.declared.checks.Source.{Source}
 use Rattle.mcs_ipc.specs.declared.checks.Source.TheVariants as source
 use Rattle.mcs_ipc.specs.Ready.{IsReceivingFrom}
 use Rattle.mcs_ipc.specs.Sources.{reply_found, reply_named, with_reply, waitable, notification_source, source_by, source_over, receivable, second_found, replying, replying_by, replying_over, answerable}
-use Rattle.mcs_ipc.proofs.Facts.{woken-stand, woken-reply}
+use Rattle.mcs_ipc.proofs.Facts.{woken-reply}
 
 -- what t receives from is there; nobody else is bound to a notification on which it waits
 abbrev pub IsSourceThere : Log → ObjId → Source → Type 0

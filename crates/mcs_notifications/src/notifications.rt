@@ -23,9 +23,15 @@ pub struct NotificationRow {
 /// Up to 256 notifications, which come and go under serials that count from 1: the pending word of each, and the thread bound to
 /// it. A word is pending as soon as one badge was raised, also badge 0 (manual: Notifications). All memory is taken when they are
 /// made (own).
-#[derive(Drop)]
 pub struct Notifications {
     rows: Store<NotificationRow>,
+}
+
+// By hand, so that it is a function of its own: a derived drop would be proved anew wherever it is let go.
+impl Drop for Notifications {
+    fn drop(self) {
+        let Notifications { rows: _ } = self;
+    }
 }
 
 impl Model for Notifications {

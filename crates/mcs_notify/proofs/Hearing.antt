@@ -1,5 +1,5 @@
 -- Who hears a word: what a signal records, and what holds of the hearer.
-use Rattle.std.specs.Prelude.{ℕ, cond, ◌≡◌, ◌<◌, ◌∷◌, List, length, Option, Some, None, option_and_then, option_map}
+use Rattle.std.specs.Prelude.{ℕ, ◌≡◌, ◌<◌, ◌∷◌, List, length, Option, Some, None, option_and_then, option_map}
 use Rattle.std.specs.Option.{option_or}
 use Rattle.std.proofs.Common.{refl, ap, sym, ◌∙◌, subst, arith}
 use Rattle.mcs_types.specs.declared.id.ObjId.{ObjId}
@@ -8,10 +8,7 @@ use Rattle.mcs_types.specs.declared.record.Queue.{Queue}
 use Rattle.mcs_types.specs.declared.record.Queue.TheVariants.{Senders, Receivers, Waiters}
 use Rattle.mcs_types.specs.declared.record.Rec.{Rec}
 use Rattle.mcs_types.specs.declared.record.Rec.TheVariants as rec
-use Rattle.mcs_types.proofs.Ids.{same-self}
-use Rattle.mcs_book.specs.Growing.{growing_word}
 use Rattle.mcs_book.specs.Logs.{Log}
-use Rattle.mcs_types.specs.Words.{with_badge}
 use Rattle.mcs_book.specs.Notifications.{tied_to, pending}
 use Rattle.mcs_book.specs.Pieces.{◌then◌, say, with_any}
 use Rattle.mcs_book.specs.Queues.{queue_of, first_in}
@@ -19,7 +16,6 @@ use Rattle.mcs_book.specs.Signalling.{queue_of_any, hearer, reach, signal}
 use Rattle.mcs_book.specs.Sound.{Sound}
 use Rattle.mcs_book.proofs.Firm.Laws.{tied-bound}
 use Rattle.mcs_book.proofs.Queues.QueueLaws.{first-stands}
-use Rattle.mcs_book.proofs.Queues.WordLaws.{pending-growing}
 use Rattle.mcs_book.proofs.SoundLogs.KeptLaws.{bound-one}
 use Rattle.mcs_state.specs.Doing.{Holds, Makes, HasRoomFor}
 use Rattle.mcs_state.specs.Entering.{OnlyBoundWait}
@@ -58,14 +54,6 @@ signal-is R n badge = ap (λ made. rec.Raised n badge ∷ made) (go (pending R n
     go : (o : Option ℕ) → reach R n badge.0 o ≡ with_any (unless_pending o (next_hearer R n)) (heard_by n badge.0) S
     go (Some old) = refl
     go None = hears (tied_to R n) (first_in R (Waiters n))
-
--- the word is the badge, where none was pending
-pub raised-word : (R : Log) (n : ObjId) (badge : Badge) → pending R n ≡ None → pending (rec.Raised n badge ∷ R) n ≡ Some badge.0
-raised-word R n badge none =
-    let before : growing_word R n ≡ None = sym (pending-growing R n) ∙ none in
-    pending-growing (rec.Raised n badge ∷ R) n
-    ∙ ap (λ b. cond b (Some (with_badge badge.0 (growing_word R n))) (growing_word R n)) (same-self n)
-    ∙ ap (λ o. Some (with_badge badge.0 o)) before
 
 -- what holds of whom a signal reaches
 pub record IsReached (R : Log) (n : ObjId) (h : Hearer) : Type 0 where

@@ -47,18 +47,3 @@ pub signalable-there : (R : Log) (t : ObjId) (a : ℕ) (c : Cap) → Sound R →
 signalable-there R t a c sound e =
     let found = kinded-ok kind.Notification (capability R t a) c (writable-ok (kinded kind.Notification (capability R t a)) c e) in
     (found.1, found-alive R t a c sound found.0)
-
--- what is there is there still when a thread was woken
-pub woken-there : (R : Log) (t : ObjId) (m : Mode) (k : Kind) (o : ObjId) → IsThere R k o → IsThere (onto (wakes m t R) R) k o
-woken-there R t Running k o there = there
-woken-there R t Restart k o there = there
-woken-there R t Inactive k o there = there
-
--- and only bound threads wait still
-pub woken-wait : (R : Log) (t : ObjId) → OnlyBoundWait R → OnlyBoundWait (onto (wakes (mode_of R t) t R) R)
-woken-wait R t only = go (mode_of R t)
-  where
-    go : (m : Mode) → OnlyBoundWait (onto (wakes m t R) R)
-    go Restart w n u at bound = only w n u at bound
-    go Running w n u at bound = only w n u at bound
-    go Inactive w n u at bound = only w n u at bound

@@ -19,11 +19,21 @@ struct Row {
 /// All lines in one list of rows: a row for each thread that stands in a line, and the rows of a line in that line's order.
 /// One list, so that nothing in it can disagree and its text is short enough to read; each call walks it for that. `new`
 /// takes room for a row of every thread.
-#[derive(Drop)]
 pub struct PlainLines {
     rows: Vec<Row>,
     threads: u16,
     lines: u16,
+}
+
+// By hand, so that it is a function of its own: a derived drop would be proved anew wherever it is let go.
+impl Drop for PlainLines {
+    fn drop(self) {
+        let PlainLines {
+            rows: _,
+            threads: _,
+            lines: _,
+        } = self;
+    }
 }
 
 impl Model for PlainLines {

@@ -34,10 +34,16 @@ pub struct Ended {
 /// Up to 256 reply objects, which come and go under serials that count from 1: the receiver that stands with each, the caller
 /// that it owes, and the chain of each context (manual: Message Passing; chains are own). What stands in a chain owes, and
 /// stands in no other. All memory is taken when they are made (own).
-#[derive(Drop)]
 pub struct Replies {
     rows: Store<ReplyRow>,
     debts: Vec<Debt>,
+}
+
+// By hand, so that it is a function of its own: a derived drop would be proved anew wherever it is let go.
+impl Drop for Replies {
+    fn drop(self) {
+        let Replies { rows: _, debts: _ } = self;
+    }
 }
 
 impl Model for Replies {

@@ -17,9 +17,15 @@ pub struct SlotId {
 
 /// The slots of up to 64 CNodes, whose serials count from 1 (own). The memory of a CNode is taken when it is added, as a boot does;
 /// beside `new` and `add` no call takes any.
-#[derive(Drop)]
 pub struct Slots {
     pages: Vec<Page>,
+}
+
+// By hand, so that it is a function of its own: a derived drop would be proved anew wherever it is let go.
+impl Drop for Slots {
+    fn drop(self) {
+        let Slots { pages: _ } = self;
+    }
 }
 
 impl Model for Slots {

@@ -118,16 +118,17 @@ impl<W: Waiting> State<W> {
         ensures lines { IfOk result (λ s. s.book.lines ≡ []) }
         ensures hand { IfOk result (λ s. s.hand ≡ []) }
     {
+        // Those whose letting go is long to prove come last.
         Ok(State {
-            book: Book::new(alloc, cores),
             hand: Vec::with_capacity(alloc, LINE_RECORDS)?,
+            slots: Slots::new(alloc, &[])?,
             threads: Threads::new(alloc)?,
-            letters: empty_places(alloc, OBJECTS)?,
             contexts: Contexts::new(alloc)?,
-            queues: W::new(alloc)?,
             replies: Replies::new(alloc)?,
             notifications: Notifications::new(alloc)?,
-            slots: Slots::new(alloc, &[])?,
+            queues: W::new(alloc)?,
+            letters: empty_places(alloc, OBJECTS)?,
+            book: Book::new(alloc, cores),
             sent: 0,
         })
     }

@@ -13,10 +13,16 @@ use std::marker::Model;
 
 /// The threads that were made, at most 256, whose serials count from 1 (own): what is kept of each, and its mail. All memory is
 /// taken when the table is made.
-#[derive(Drop)]
 pub struct Threads {
     rows: Vec<Option<ThreadRow>>,
     mails: Vec<Option<Mail>>,
+}
+
+// By hand, so that it is a function of its own: a derived drop would be proved anew wherever it is let go.
+impl Drop for Threads {
+    fn drop(self) {
+        let Threads { rows: _, mails: _ } = self;
+    }
 }
 
 impl Model for Threads {

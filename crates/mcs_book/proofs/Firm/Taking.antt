@@ -43,7 +43,7 @@ firm-wake R n x q word at waits alone firm =
     (((there, parted-idle (rec.Heard x n word ∷ R) x q (firm-sound (rec.Heard x n word ∷ R) heard) at), tt), ((at, tt), heard))
 
 -- the word is the badge, where none was pending
-raised-word : (R : Log) (n : ObjId) (badge : Badge) → pending R n ≡ None → pending (rec.Raised n badge ∷ R) n ≡ Some badge.0
+pub raised-word : (R : Log) (n : ObjId) (badge : Badge) → pending R n ≡ None → pending (rec.Raised n badge ∷ R) n ≡ Some badge.0
 raised-word R n badge none =
     let before : growing_word R n ≡ None = sym (pending-growing R n) ∙ none in
     pending-growing (rec.Raised n badge ∷ R) n ∙ ap (λ b. cond b (Some (with_badge badge.0 (growing_word R n))) (growing_word R n)) (same-self n) ∙ ap (λ o. Some (with_badge badge.0 o)) before

@@ -6,7 +6,7 @@ use Rattle.mcs_book.specs.Threads.{mode_of}
 use Rattle.mcs_state.specs.Now.{so_far}
 use Rattle.mcs_state.proofs.Doing.{so_far-made, refused, acted, room-wakes, room-acts}
 use Rattle.mcs_state.specs.Entering.{OnlyBoundWait}
-use Rattle.mcs_notify.proofs.Rows.{woken-there, woken-wait}
+use Rattle.mcs_state.proofs.Woken.{woken-there, woken-wait}
 use Rattle.mcs_ipc.specs.declared.checks.Target.TheVariants as target
 use Rattle.mcs_ipc.specs.Ready.{IsSending}
 use Rattle.mcs_ipc.specs.Rows.{send_entry, target_act}

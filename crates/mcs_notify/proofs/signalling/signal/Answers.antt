@@ -1,7 +1,8 @@
 use Rattle.std.proofs.Common.{Some, None, refl, sym, ◌∙◌}
 use Rattle.mcs_book.specs.Logs.{Log}
+use Rattle.mcs_book.proofs.Firm.Taking.{raised-word}
 use Rattle.mcs_state.specs.Now.{so_far}
-use Rattle.mcs_notify.proofs.Hearing.{IsReached, reached-is, raised-word, room-raised, room-heard, signal-made}
+use Rattle.mcs_notify.proofs.Hearing.{IsReached, reached-is, room-raised, room-heard, signal-made}
 use Rattle.mcs_notify.proofs.signalling.signal.Goals as goal
 
 pub raises-requires-clause-room : goal.raises-requires-clause-room

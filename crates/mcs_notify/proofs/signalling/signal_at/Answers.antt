@@ -12,7 +12,8 @@ use Rattle.mcs_state.specs.Entering.{OnlyBoundWait}
 use Rattle.mcs_state.specs.Now.{so_far}
 use Rattle.mcs_state.proofs.Doing.{so_far-made, refused, acted, room-wakes, room-acts}
 use Rattle.mcs_notify.specs.Rows.{signal_act}
-use Rattle.mcs_notify.proofs.Rows.{row-signal, signals, signalable-there, woken-there, woken-wait}
+use Rattle.mcs_notify.proofs.Rows.{row-signal, signals, signalable-there}
+use Rattle.mcs_state.proofs.Woken.{woken-there, woken-wait}
 use Rattle.mcs_notify.proofs.signalling.signal_at.Goals as goal
 
 pub wake-requires-clause-room : goal.wake-requires-clause-room

@@ -7,21 +7,21 @@ use Rattle.mcs_state.proofs.state.State.new.Goals as goal
 pub invariant_of-result : goal.invariant_of-result
 invariant_of-result g c = (
   omega (arith, c.in_ok-with_capacity.ensures.capacity),
-  rw (c.in_ok-with_capacity.ensures.items, ap (λ ls. length ls) c.new.ensures.lines)
-      (blank-kept _ (log_of c.new.result.book) (log-empty c.new.result.book c.new.ensures.boot c.new.ensures.lines) (record {
-        threads = c.in_ok-new.ensures.made;
-        rows = c.in_ok-new.ensures.rows;
-        mails = c.in_ok-new.ensures.mails;
+  rw (c.in_ok-with_capacity.ensures.items, ap (λ ls. length ls) c.new-7.ensures.lines)
+      (blank-kept _ (log_of c.new-7.result.book) (log-empty c.new-7.result.book c.new-7.ensures.boot c.new-7.ensures.lines) (record {
+        threads = c.in_ok-new-2.ensures.made;
+        rows = c.in_ok-new-2.ensures.rows;
+        mails = c.in_ok-new-2.ensures.mails;
         places = c.in_ok-empty_places.ensures.length;
         letters = c.in_ok-empty_places.ensures.nothing kind.Thread;
-        contexts = c.in_ok-new-2.ensures.counts;
-        cores = c.in_ok-new-2.ensures.cores;
-        holders = c.in_ok-new-2.ensures.holders;
-        line = c.in_ok-new-3.ensures.line;
-        queue = c.in_ok-new-3.ensures.queue;
-        has = c.in_ok-new-3.ensures.has;
-        made = c.in_ok-new-3.ensures.given;
-        there = c.in_ok-new-3.ensures.there;
+        contexts = c.in_ok-new-3.ensures.counts;
+        cores = c.in_ok-new-3.ensures.cores;
+        holders = c.in_ok-new-3.ensures.holders;
+        line = c.in_ok-new-6.ensures.line;
+        queue = c.in_ok-new-6.ensures.queue;
+        has = c.in_ok-new-6.ensures.has;
+        made = c.in_ok-new-6.ensures.given;
+        there = c.in_ok-new-6.ensures.there;
         replies = c.in_ok-new-4.ensures.counts;
         has_reply = c.in_ok-new-4.ensures.there;
         receivers = c.in_ok-new-4.ensures.receivers;
@@ -31,7 +31,7 @@ invariant_of-result g c = (
         has_notification = c.in_ok-new-5.ensures.there;
         words = c.in_ok-new-5.ensures.words;
         bound = c.in_ok-new-5.ensures.threads;
-        slots = c.in_ok-new-6.ensures;
+        slots = c.in_ok-new.ensures;
         sent = refl;
       })),
 )
