@@ -40,7 +40,9 @@ use Rattle.mcs_slots.specs.Pages.{Page}
 use Rattle.mcs_cspace.specs.Spaces.{slots_space}
 use Rattle.mcs_threads.specs.declared.row.ThreadRow.{ThreadRow}
 use Rattle.mcs_threads.specs.Rows.{status_in, status_under}
+use Rattle.mcs_waiting.specs.Queues.{behind, behind_in}
 use Rattle.mcs_state.specs.Saying.{block_said, row_said}
+use Rattle.mcs_state.specs.Nexts.{next_among, next_in, next_of}
 use Rattle.mcs_state.specs.Tables.{SlotsAgree, word_said}
 use Rattle.mcs_state.proofs.Saying.{Says, said, rowless, row-there}
 use Rattle.mcs_state.proofs.SlotLaws.{space-is}
@@ -82,6 +84,19 @@ open-is R x o sound e = e ∙ sym (open_of-growing R x sound)
 pub first-is : (R : Log) (q : Queue) (ws : List Waiter) → Sound R → ws ≡ growing_queue R q → head_of (threads_in ws) ≡ first_in R q
 unfolding first_in
 first-is R q ws sound e = ap (λ vs. head_of (threads_in vs)) e ∙ sym (ap (λ ts. head_of ts) (queued_in-growing R q sound))
+
+-- the thread behind another in the table is the next in order
+pub next-is : (R : Log) (t : ObjId) (o : Option Queue) (line : Queue → List Waiter) → Sound R → o ≡ queue_of R t → ((q : Queue) → line q ≡ growing_queue R q) → behind_in o line t ≡ next_of R t
+unfolding next_of
+next-is R t o line sound e lines = go o ∙ ap (λ k. next_in R k t) e
+  where
+    list : (vs : List Waiter) → behind t vs ≡ next_among t (threads_in vs)
+    list [] = refl
+    list (v ∷ vs) = ap (λ n. cond (same t v.thread) (head_of (threads_in vs)) n) (list vs)
+
+    go : (k : Option Queue) → behind_in k line t ≡ next_in R k t
+    go None = refl
+    go (Some q) = list (line q) ∙ ap (λ vs. next_among t (threads_in vs)) (lines q) ∙ sym (ap (λ ts. next_among t ts) (queued_in-growing R q sound))
 
 -- an object was made exactly where its serial is one of those of its kind
 pub made-from : (R : Log) (o : ObjId) → Sound R → 1 ≤ o.serial → o.serial ≤ counted (makes_kind o.kind) R → was_made R o ≡ true

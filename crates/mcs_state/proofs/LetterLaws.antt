@@ -1,8 +1,9 @@
 -- The open messages follow a record.
-use Rattle.std.specs.Prelude.{ℕ, ◌≡◌, ◌≢◌, ◌==◌, Bool, true, false, cond, List, ◌∷◌, Option, Some, None}
+use Rattle.std.specs.Prelude.{ℕ, ◌≡◌, ◌≢◌, ◌==◌, Bool, true, false, cond, List, length, ◌∷◌, Option, Some, None}
 use Rattle.std.proofs.Common.{refl, ap, sym, ◌∙◌}
 use Rattle.std.proofs.lemmas.Bool.{eqb-true, eq-eqb}
 use Rattle.mcs_types.specs.declared.id.ObjId.{ObjId}
+use Rattle.mcs_types.specs.declared.id.Kind.TheVariants as kind
 use Rattle.mcs_types.specs.declared.record.Letter.{Letter}
 use Rattle.mcs_types.specs.declared.record.Rec.{Rec}
 use Rattle.mcs_types.specs.declared.record.Rec.TheVariants as rec
@@ -15,8 +16,9 @@ use Rattle.mcs_book.specs.Sound.{Allowed, Sound}
 use Rattle.mcs_book.proofs.Messages.MessageLaws.{open_of-letter, open_of-open}
 use Rattle.mcs_book.proofs.Messages.OpenLaws.{open_of-growing}
 use Rattle.mcs_state.specs.Now.{IsNumberOf}
-use Rattle.mcs_state.specs.Tables.{LettersAgree}
-use Rattle.mcs_state.specs.Following.{LettersFollow}
+use Rattle.mcs_places.specs.Places.{kept_at}
+use Rattle.mcs_state.specs.Tables.{ROOM, LettersAgree}
+use Rattle.mcs_state.specs.Following.{KeepsLetter, LosesLetter, LettersFollow}
 
 -- the open message of one thread has another number than that of another thread
 apart : (R : Log) (x y : ObjId) (s l : Letter) → Sound R → growing_open R x ≡ Some s → growing_open R y ≡ Some l → x ≢ y → s.number ≢ l.number
@@ -62,17 +64,18 @@ taken R m s y sound h is = go (same y s.sender) refl
     go true e = sym (ap (λ z. unless_number m (growing_open R z)) (same-equal y s.sender e) ∙ ap (λ o. unless_number m o) h ∙ gone)
     go false e = sym (ap (λ n. unless_number n (growing_open R y)) (sym is) ∙ stays R s.sender y s sound h (λ it. let no : true ≡ false = sym (same-self y) ∙ ap (λ z. same y z) it ∙ e in absurd cc))
 
+-- after a message is taken or dropped
+lost : (R : Log) (m : ℕ) (old new : List (Option Letter)) → Sound R → LosesLetter R m old new → LettersAgree old R → (length new ≡ ROOM) × ((t : ObjId) → kept_at kind.Thread new t ≡ unless_number m (growing_open R t))
+lost R m old new sound h a = (h.1.2.places ∙ a.places, λ t. h.1.2.letters t ∙ ap (λ o. value_after t h.0.sender None o) (a.letters t) ∙ taken R m h.0 t sound h.1.0 h.1.1)
+
 -- after any record
 pub letters-follow : (r : Rec) (R : Log) (old new : List (Option Letter)) → Sound R → Allowed R r → LettersFollow R r old new → LettersAgree old R → LettersAgree new (r ∷ R)
 letters-follow (rec.Sent x e mode badge message) R old new sound ok h a = record {
   places = h.places ∙ a.places;
   letters = λ t. h.letters t ∙ ap (λ o. value_after t x (Some (record { number = next_message R; sender = x; endpoint = e; mode = mode; badge = badge; message = message })) o) (a.letters t) ∙ ap (λ b. cond b (Some (record { number = next_message R; sender = x; endpoint = e; mode = mode; badge = badge; message = message })) (growing_open R t)) (flip t x);
 }
-letters-follow (rec.Took m p) R old new sound ok h a = record {
-  places = h.1.2.places ∙ a.places;
-  letters = λ t. h.1.2.letters t ∙ ap (λ o. value_after t h.0.sender None o) (a.letters t) ∙ taken R m h.0 t sound h.1.0 h.1.1;
-}
-letters-follow (rec.Dropped m) R old new sound ok h a = absurd h
+letters-follow (rec.Took m p) R old new sound ok h a = let left = lost R m old new sound h a in record { places = left.0; letters = left.1 }
+letters-follow (rec.Dropped m) R old new sound ok h a = let left = lost R m old new sound h a in record { places = left.0; letters = left.1 }
 letters-follow _ R old new sound ok h a = rw h (record { places = a.places; letters = a.letters })
 
 -- a message whose number is known is open
@@ -104,3 +107,10 @@ opened R x m s sound number h =
       sender = own;
       kept = ap (λ y. growing_open R y) own ∙ h;
     }
+
+-- the place of a sender whose open message has this number is emptied: that message is no thread's any more
+pub dropped : (R : Log) (old new : List (Option Letter)) (x : ObjId) (m : ℕ) → Sound R → IsNumberOf m (open_of R x) → KeepsLetter x None old new → LosesLetter R m old new
+dropped R old new x m sound number h =
+    let found = number-open R x m sound number in
+    let is = opened R x m found.0 sound number found.1.0 in
+    (found.0, (is.kept, is.number, rw is.sender h))

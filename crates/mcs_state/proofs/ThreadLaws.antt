@@ -286,6 +286,7 @@ threads-follow (rec.Took m p) R T T' sound ok h a = record {
   rows = λ t. h.1.1.rows t ∙ a.rows t ∙ sym (unturned (rec.Took m p) R t _ (owing-kept (rec.Took m p) R t refl) refl);
   mails = mails-took R T T' m p h.0 ok.0.1 h.1.0 h.1.1 a;
 }
+threads-follow (rec.Dropped m) R T T' sound ok h a = kept R T T' (rec.Dropped m) h (λ t. refl) (λ t. unturned (rec.Dropped m) R t _ (owing-kept (rec.Dropped m) R t refl) refl) refl a
 threads-follow (rec.Owes d x s) R T T' sound ok h a = record { made = h.count ∙ a.made; rows = indebted R T T' d x s sound ok h a; mails = mails-quiet R T T' (rec.Owes d x s) (λ t. refl) h.mails a }
 threads-follow (rec.Paid d x message) R T T' sound ok h a = record {
   made = h.made ∙ a.made;

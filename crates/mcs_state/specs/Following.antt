@@ -1,4 +1,4 @@
--- How each table follows one more record. A record that no primitive makes yet is followed by no table that it may change.
+-- How each table follows one more record. No primitive closes an object yet: no table that Closed may change follows it.
 use Rattle.std.specs.Prelude.{ℕ, ◌≡◌, ◌+◌, ◌++◌, ◌∷◌, [], ◌||◌, true, List, length, Option, Some, None, option_map}
 use Rattle.mcs_types.specs.declared.id.ObjId.{ObjId}
 use Rattle.mcs_types.specs.declared.id.CoreId.{CoreId}
@@ -68,6 +68,7 @@ ThreadsFollow R (rec.Joins u q reply) old new = ChangesRow (λ r. record r { blo
 ThreadsFollow R (rec.Parts u q) old new = ChangesRow (λ r. record r { block = None }) old new u
 ThreadsFollow R (rec.Sent x e mode badge message) old new = new ≡ old
 ThreadsFollow R (rec.Took m p) old new = (s : Letter) × ((letter R m ≡ Some s) × Mails p (letter_mail s) old new)
+ThreadsFollow R (rec.Dropped m) old new = new ≡ old
 ThreadsFollow R (rec.Owes d x s) old new = ChangesRow (λ r. record r { block = Some (OnReply d) }) old new x
 ThreadsFollow R (rec.Paid d x message) old new = MailsFreed x (Message (record { 0 = 0 }) message) old new
 ThreadsFollow R (rec.Void d x how) old new = ChangesRow (λ r. record r { block = None }) old new x
@@ -82,11 +83,15 @@ pub record KeepsLetter (x : ObjId) (s : Option Letter) (old new : List (Option L
   pub places : length new ≡ length old
   pub letters : (t : ObjId) → kept_at kind.Thread new t ≡ value_after t x s (kept_at kind.Thread old t)
 
+-- the message m, which is open, is no thread's from now on
+abbrev pub LosesLetter : Log → ℕ → List (Option Letter) → List (Option Letter) → Type 0
+LosesLetter R m old new = (s : Letter) × ((growing_open R s.sender ≡ Some s) × (s.number ≡ m) × KeepsLetter s.sender None old new)
+
 -- how the open messages follow a record
 abbrev pub LettersFollow : Log → Rec → List (Option Letter) → List (Option Letter) → Type 0
 LettersFollow R (rec.Sent x e mode badge message) old new = KeepsLetter x (Some (record { number = next_message R; sender = x; endpoint = e; mode = mode; badge = badge; message = message })) old new
-LettersFollow R (rec.Took m p) old new = (s : Letter) × ((growing_open R s.sender ≡ Some s) × (s.number ≡ m) × KeepsLetter s.sender None old new)
-LettersFollow R (rec.Dropped m) old new = ⊥
+LettersFollow R (rec.Took m p) old new = LosesLetter R m old new
+LettersFollow R (rec.Dropped m) old new = LosesLetter R m old new
 LettersFollow R _ old new = new ≡ old
 
 -- a context was made

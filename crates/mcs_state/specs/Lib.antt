@@ -1,5 +1,6 @@
 pub mod Now
 pub mod Saying
+pub mod Nexts
 pub mod Tables
 pub mod Following
 pub mod Making

@@ -306,6 +306,17 @@ impl<W: Waiting> State<W> {
         }
     }
 
+    /// The open message of a sender, which has this number, is dropped: nobody receives it (own).
+    pub fn drops(&mut self, number: u32, sender: ObjId)
+        requires allowed { Allowed (so_far self.old) (Rec.Dropped number) }
+        requires open { IsNumberOf number (open_of (so_far self.old) sender) }
+        requires room { length self.old.hand < HAND }
+        ensures { self.new ≡ adds (Rec.Dropped number) self.old }
+    {
+        note(&mut self.hand, Rec::Dropped { message: number });
+        take(Kind::Thread, &mut self.letters, sender);
+    }
+
     /// A context is held by this thread now, or by nobody.
     pub fn holds(&mut self, context: ObjId, thread: Option<ObjId>)
         requires allowed { Allowed (so_far self.old) (Rec.Holds context thread) }

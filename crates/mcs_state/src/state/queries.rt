@@ -4,7 +4,7 @@ ghost use Rattle.mcs_types.specs.declared.id.Kind.{Kind};
 ghost use Rattle.mcs_book.specs.Logs.{counted};
 ghost use Rattle.mcs_book.specs.Objects.{makes_kind, was_made, form_of};
 ghost use Rattle.mcs_book.specs.Slots.{slot};
-ghost use Rattle.mcs_book.specs.Threads.{prio_of, mode_of, root_of};
+ghost use Rattle.mcs_book.specs.Threads.{prio_of, maximum_of, mode_of, root_of};
 ghost use Rattle.mcs_book.specs.Queues.{queue_of, reply_with, first_in};
 ghost use Rattle.mcs_book.specs.Messages.{next_message, open_of};
 ghost use Rattle.mcs_book.specs.Contexts.{holder_of, context_of};
@@ -18,6 +18,7 @@ ghost use Rattle.mcs_book.specs.Sound.{Sound, IsThere};
 ghost use Rattle.mcs_state.specs.Now.{so_far};
 ghost use Rattle.mcs_state.specs.Tables.{HAND, ROOM};
 ghost use Rattle.mcs_state.specs.Following.{attended};
+ghost use Rattle.mcs_state.specs.Nexts.{next_of};
 
 use super::State;
 use crate::giving::attended;
@@ -97,6 +98,17 @@ impl<W: Waiting> State<W> {
         match self.threads.get(thread) {
             None => unreachable!(),
             Some(row) => row.priority,
+        }
+    }
+
+    /// The maximum controlled priority of a thread that is there (manual: Threads and Execution).
+    pub fn maximum(&self, thread: ObjId) -> Prio
+        requires { IsThere (so_far self.now) Kind.Thread thread }
+        ensures { result.0 ≡ maximum_of (so_far self.now) thread }
+    {
+        match self.threads.get(thread) {
+            None => unreachable!(),
+            Some(row) => row.maximum,
         }
     }
 
@@ -206,6 +218,14 @@ impl<W: Waiting> State<W> {
     {
         self.is_sound();
         self.queues.first(queue)
+    }
+
+    /// The thread behind another in its queue. None where it is the last of it or stands in no queue (own).
+    pub fn next(&self, thread: ObjId) -> Option<ObjId>
+        ensures { result ≡ next_of (so_far self.now) thread }
+    {
+        self.is_sound();
+        self.queues.next(thread)
     }
 
     /// The thread that receives with a reply object, or None where none does (manual: Message Passing).

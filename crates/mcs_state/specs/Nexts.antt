@@ -1,0 +1,22 @@
+-- Who stands behind a thread in its queue.
+use Rattle.std.specs.Prelude.{cond, Option, Some, None, List, [], ◌∷◌}
+use Rattle.mcs_types.specs.declared.id.ObjId.{ObjId}
+use Rattle.mcs_types.specs.declared.record.Queue.{Queue}
+use Rattle.mcs_types.specs.Chains.{head_of}
+use Rattle.mcs_types.specs.Ids.{same}
+use Rattle.mcs_book.specs.Logs.{Log}
+use Rattle.mcs_book.specs.Queues.{queue_of, queued_in}
+
+-- the thread behind t in a list, in which each stands once
+abbrev pub next_among : ObjId → List ObjId → Option ObjId
+next_among t [] = None
+next_among t (x ∷ xs) = cond (same t x) (head_of xs) (next_among t xs)
+
+-- the thread behind t in a queue; nobody where t stands in none
+abbrev pub next_in : Log → Option Queue → ObjId → Option ObjId
+next_in R None t = None
+next_in R (Some q) t = next_among t (queued_in R q)
+
+-- the thread behind t in the queue where t stands
+unfoldable pub next_of : Log → ObjId → Option ObjId
+next_of R t = next_in R (queue_of R t) t
