@@ -1,0 +1,90 @@
+//! What a thread is blocked on, and how it leaves that.
+ghost use Rattle.std.specs.Prelude.{◌≡◌, Some, None};
+ghost use Rattle.mcs_types.specs.declared.id.Kind.{Kind};
+ghost use Rattle.mcs_book.specs.Cancelling.{cancel as cancelled};
+ghost use Rattle.mcs_book.specs.Queues.{queue_of};
+ghost use Rattle.mcs_book.specs.Sound.{IsThere};
+ghost use Rattle.mcs_state.specs.Now.{so_far};
+ghost use Rattle.mcs_state.specs.Doing.{Makes, HasRoomFor};
+ghost use Rattle.mcs_cancel.specs.Leaving.{drops_from, leaves_queue, reply_awaited, leaves_reply, leaves};
+
+use mcs_state::State;
+use mcs_types::{Ending, Mode, ObjId, Queue, Status};
+use mcs_waiting::Waiting;
+
+/// The open message of a thread that leaves this queue is dropped, where it sends there: nobody receives it (own).
+fn drop_letter<W: Waiting>(state: &mut State<W>, thread: ObjId, queue: Queue)
+    requires room { HasRoomFor (drops_from thread queue) state.old }
+    ensures { Makes (drops_from thread queue) state.old state.new }
+{
+    match queue {
+        Queue::Receivers(_) | Queue::Waiters(_) => {}
+        Queue::Senders(_) => match state.letter(thread) {
+            None => {}
+            Some(letter) => {
+                let number = letter.number;
+                state.drops(number, thread);
+            }
+        },
+    }
+}
+
+/// A thread leaves its queue; the message of a sender is dropped first.
+fn leave_queue<W: Waiting>(state: &mut State<W>, thread: ObjId, queue: Queue)
+    requires stands { queue_of (so_far state.old) thread ≡ Some queue }
+    requires room { HasRoomFor (leaves_queue thread queue) state.old }
+    ensures { Makes (leaves_queue thread queue) state.old state.new }
+{
+    drop_letter(state, thread, queue);
+    state.parts(thread, queue);
+}
+
+/// The reply object on which a thread of this status waits, if it waits on one.
+fn reply_awaited(status: Option<Status>) -> Option<ObjId>
+    ensures { result ≡ reply_awaited status }
+{
+    match status {
+        Some(Status::OnReply(reply)) => Some(reply),
+        _ => None,
+    }
+}
+
+/// The reply object that owes a thread an answer owes it nothing any more.
+fn leave_reply<W: Waiting>(state: &mut State<W>, thread: ObjId)
+    requires there { IsThere (so_far state.old) Kind.Thread thread }
+    requires stands { queue_of (so_far state.old) thread ≡ None }
+    requires room { HasRoomFor (leaves_reply thread) state.old }
+    ensures { Makes (leaves_reply thread) state.old state.new }
+{
+    match reply_awaited(state.status(thread)) {
+        None => {}
+        Some(reply) => {
+            state.voids(reply, thread, Ending::Cancelled);
+        }
+    }
+}
+
+/// A thread leaves what it is blocked on.
+fn leave<W: Waiting>(state: &mut State<W>, thread: ObjId)
+    requires there { IsThere (so_far state.old) Kind.Thread thread }
+    requires room { HasRoomFor (leaves thread) state.old }
+    ensures { Makes (leaves thread) state.old state.new }
+{
+    match state.queue(thread) {
+        None => leave_reply(state, thread),
+        Some(queue) => leave_queue(state, thread, queue),
+    }
+}
+
+/// Cancels what a thread is blocked on, and sets its mode: a queued sender's message is dropped, a thread leaves its queue, and
+/// the reply object that owes a caller owes nobody any more; its chain loses it and what lies below (own; manual: Threads and
+/// Execution).
+pub fn cancel<W: Waiting>(state: &mut State<W>, thread: ObjId, mode: Mode)
+    requires there { IsThere (so_far state.old) Kind.Thread thread }
+    requires room { HasRoomFor (cancelled thread mode) state.old }
+    ensures { Makes (cancelled thread mode) state.old state.new }
+{
+    state.is_sound();
+    leave(state, thread);
+    state.turns(thread, mode);
+}
