@@ -3,6 +3,7 @@ use Rattle.std.specs.Prelude.{ℕ, ◌≡◌, ◌≢◌, Bool, true, false, List
 use Rattle.std.specs.Option.{option_or}
 use Rattle.std.proofs.Common.{refl, ap, sym, ◌∙◌, subst, arith, inl, inr}
 use Rattle.mcs_types.specs.declared.id.ObjId.{ObjId}
+use Rattle.mcs_types.specs.declared.id.Kind.TheVariants as kind
 use Rattle.mcs_types.specs.declared.record.Ending.TheVariants.{Cancelled}
 use Rattle.mcs_types.specs.declared.record.Letter.{Letter}
 use Rattle.mcs_types.specs.declared.record.Mode.TheVariants.{Inactive}
@@ -16,18 +17,18 @@ use Rattle.mcs_types.proofs.Ids.{same-equal, same-other}
 use Rattle.mcs_book.specs.Logs.{Log, onto, given}
 use Rattle.mcs_book.specs.Queues.{queue_of, first_in}
 use Rattle.mcs_book.specs.Messages.{letter, open_of}
-use Rattle.mcs_book.specs.Replies.{owed_by, receiver_with}
+use Rattle.mcs_book.specs.Replies.{owed_by, receiver_with, user_of}
 use Rattle.mcs_book.specs.Pieces.{◌then◌, with_any, Act, Outcome, answers}
 use Rattle.mcs_book.specs.Notifications.{bound_of}
 use Rattle.mcs_book.specs.Taking.{taken}
 use Rattle.mcs_book.specs.Cancelling.{cancel}
 use Rattle.mcs_book.specs.Receiving.{free, hear, take_open, joins_or, open_of_any, pending_of_any, receive_message}
 use Rattle.mcs_book.specs.Fair.{IsOpenOf}
-use Rattle.mcs_book.specs.Sound.{Sound, Allowed}
+use Rattle.mcs_book.specs.Sound.{Sound, IsThere}
 use Rattle.mcs_book.proofs.Firm.Laws.{owed-owing}
 use Rattle.mcs_book.proofs.Queues.QueueLaws.{first-stands}
 use Rattle.mcs_book.proofs.Messages.MessageLaws.{open_of-open, open_of-letter}
-use Rattle.mcs_book.proofs.SoundLogs.KeptLaws.{set-split, set-self, owed-there, owed-stands_none, owed-unattended, ended-idle}
+use Rattle.mcs_book.proofs.SoundLogs.KeptLaws.{set-split, set-self, standing-thread, owed-there, owed-stands_none, owed-unattended}
 use Rattle.mcs_book.proofs.Threads.UserLaws.{receiver_with-named, unattended-none, unattended-parted}
 use Rattle.mcs_notify.specs.Waiting.{word_heard, takes_bound}
 use Rattle.mcs_notify.proofs.Words.{bound-silent}
@@ -39,12 +40,12 @@ use Rattle.mcs_ipc.specs.Ready.{IsReceiving, IsReady}
 use Rattle.mcs_ipc.specs.Rows.{stand_act, take_act, taken_by}
 
 -- a reply object that nobody uses
-pub free-nobody : (R : Log) (r : ObjId) → owed_by R r ≡ None → receiver_with R r ≡ None → free r R ≡ []
+free-nobody : (R : Log) (r : ObjId) → owed_by R r ≡ None → receiver_with R r ≡ None → free r R ≡ []
 unfolding free
 free-nobody R r unowed none = ap (λ o. with_any o (λ x. cancel x Inactive) R) (ap (λ o. option_or o (receiver_with R r)) unowed ∙ none)
 
 -- a reply object with which somebody receives
-pub free-receiver : (R : Log) (r x : ObjId) (q : Queue) → owed_by R r ≡ None → receiver_with R r ≡ Some x → queue_of R x ≡ Some q
+free-receiver : (R : Log) (r x : ObjId) (q : Queue) → owed_by R r ≡ None → receiver_with R r ≡ Some x → queue_of R x ≡ Some q
     → free r R ≡ rec.Parts x q ∷ rec.Turns x Inactive ∷ []
 unfolding free cancel ◌then◌
 free-receiver R r x q unowed found at =
@@ -54,15 +55,24 @@ free-receiver R r x q unowed found at =
     ∙ rw (stands, ← it) refl
 
 -- a reply object that owes somebody
-pub free-caller : (R : Log) (r x : ObjId) → Sound R → owed_by R r ≡ Some x → free r R ≡ rec.Void r x Cancelled ∷ rec.Turns x Inactive ∷ []
+free-caller : (R : Log) (r x : ObjId) → Sound R → owed_by R r ≡ Some x → free r R ≡ rec.Void r x Cancelled ∷ rec.Turns x Inactive ∷ []
 unfolding free cancel ◌then◌
 free-caller R r x sound owed =
     ap (λ o. with_any o (λ x. cancel x Inactive) R) (ap (λ o. option_or o (receiver_with R r)) owed)
     ∙ rw (owed-stands_none R r x sound owed, owed-owing R x r sound owed) refl
 
--- a caller whose debt is void is idle
-pub void-idle : (R : Log) (r x : ObjId) → Sound R → owed_by R r ≡ Some x → Allowed (rec.Void r x Cancelled ∷ R) (rec.Turns x Inactive)
-void-idle R r x sound owed = ((owed-there R r x sound owed).1, ended-idle R r x (rec.Void r x Cancelled) sound owed (λ d. refl) refl)
+-- whoever uses a reply object is a thread that is there
+pub user-there : (R : Log) (r x : ObjId) → Sound R → user_of R r ≡ Some x → IsThere R kind.Thread x
+user-there R r x sound uses = go (owed_by R r) refl uses
+  where
+    go : (o : Option ObjId) → owed_by R r ≡ o → option_or o (receiver_with R r) ≡ Some x → IsThere R kind.Thread x
+    go (Some y) owed is = (owed-there R r x sound (owed ∙ is)).1
+    go None unowed is = let (e, stands) = (receiver_with-named R r x is).0 in standing-thread R x (Receivers e) sound stands
+
+-- and is cancelled
+pub free-is : (R : Log) (r : ObjId) (o : Option ObjId) → user_of R r ≡ o → free r R ≡ with_any o (λ x. cancel x Inactive) R
+unfolding free
+free-is R r o is = ap (λ o. with_any o (λ x. cancel x Inactive) R) is
 
 -- who stands in no queue is not the receiver that is cancelled
 other : (R : Log) (t x e : ObjId) → queue_of R t ≡ None → queue_of R x ≡ Some (Receivers e) → t ≢ x

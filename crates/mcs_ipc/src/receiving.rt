@@ -14,9 +14,10 @@ ghost use Rattle.mcs_ipc.specs.Rows.{receive_entry, stand_act, take_act, receive
 use crate::checks::{Receiving, Source, source_to_receive, source_to_reply};
 use crate::replying::pay;
 use crate::taking::{Delivery, take};
+use mcs_cancel::cancel;
 use mcs_notify::take_bound;
 use mcs_state::{State, wake};
-use mcs_types::{Answer, CoreId, Ending, Message, Mode, ObjId, Queue};
+use mcs_types::{Answer, CoreId, Message, Mode, ObjId, Queue};
 use mcs_waiting::Waiting;
 
 /// Cancels whoever uses a reply object, the caller that it owes or the receiver that stands with it: it becomes inactive
@@ -27,21 +28,8 @@ fn free<W: Waiting>(state: &mut State<W>, reply: ObjId)
     ensures { Makes (freed reply) state.old state.new }
 {
     state.is_sound();
-    match state.owed(reply) {
-        Some(caller) => {
-            state.voids(reply, caller, Ending::Cancelled);
-            state.turns(caller, Mode::Inactive);
-        }
-        None => match state.receiver_with(reply) {
-            None => {}
-            Some(receiver) => match state.queue(receiver) {
-                None => unreachable!(),
-                Some(queue) => {
-                    state.parts(receiver, queue);
-                    state.turns(receiver, Mode::Inactive);
-                }
-            },
-        },
+    if let Some(user) = state.user_of(reply) {
+        cancel(state, user, Mode::Inactive);
     }
 }
 
