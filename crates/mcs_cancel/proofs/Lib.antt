@@ -1,1 +1,3 @@
 pub mod Leaving
+pub mod Turning
+pub mod Priorities

@@ -2,5 +2,9 @@
 #![tactic(auto)]
 
 mod cancelling;
+mod modes;
+mod priority;
 
 pub use cancelling::cancel;
+pub use modes::{resume, suspend};
+pub use priority::set_priority;

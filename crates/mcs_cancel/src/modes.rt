@@ -1,0 +1,91 @@
+//! Suspend and Resume.
+ghost use Rattle.std.specs.Prelude.{◌≡◌};
+ghost use Rattle.mcs_types.specs.declared.entry.Entry.{Entry};
+ghost use Rattle.mcs_types.specs.declared.id.Kind.{Kind};
+ghost use Rattle.mcs_book.specs.Pieces.{with_any};
+ghost use Rattle.mcs_book.specs.Cancelling.{cancel as cancelled};
+ghost use Rattle.mcs_book.specs.Sound.{IsThere};
+ghost use Rattle.mcs_state.specs.Now.{so_far};
+ghost use Rattle.mcs_state.specs.Doing.{Makes, HasRoomFor, ActsAwake, FitsAwake, Does, Fits};
+ghost use Rattle.mcs_state.specs.Entering.{IsEntering};
+ghost use Rattle.mcs_cancel.specs.Turning.{sets_mode, mode_resumed};
+
+use crate::cancelling::cancel;
+use mcs_state::{State, find_object, wake};
+use mcs_types::{Answer, CoreId, Kind, Mode, ObjId, Status};
+use mcs_waiting::Waiting;
+
+/// Cancels what a thread is blocked on, and sets its mode, where one is given.
+fn cancel_any<W: Waiting>(state: &mut State<W>, thread: ObjId, mode: Option<Mode>)
+    requires there { IsThere (so_far state.old) Kind.Thread thread }
+    requires room { HasRoomFor (with_any mode (cancelled thread)) state.old }
+    ensures { Makes (with_any mode (cancelled thread)) state.old state.new }
+{
+    match mode {
+        None => {}
+        Some(mode) => cancel(state, thread, mode),
+    }
+}
+
+/// Wakes the thread that enters, and sets the mode of the one that it names, where one is given.
+fn set_mode<W: Waiting>(
+    state: &mut State<W>,
+    thread: ObjId,
+    named: ObjId,
+    mode: Option<Mode>,
+) -> Answer
+    requires entering { IsEntering (so_far state.old) thread }
+    requires there { IsThere (so_far state.old) Kind.Thread named }
+    requires room { FitsAwake thread (sets_mode named mode) state.old }
+    ensures { ActsAwake thread (sets_mode named mode) state.old result state.new }
+{
+    wake(state, thread);
+    cancel_any(state, named, mode);
+    Answer::Done
+}
+
+/// Suspend: the thread leaves what it is blocked on, and is Inactive from now on; it may be the one that enters. The refusals
+/// are 1 to 3 of the lookup, and 4 for a capability of another kind; they change nothing (manual: Threads and Execution).
+pub fn suspend<W: Waiting>(
+    state: &mut State<W>,
+    core: CoreId,
+    thread: ObjId,
+    address: u64,
+) -> Answer
+    requires entering { IsEntering (so_far state.old) thread }
+    requires room { Fits state.old core thread (Entry.Suspend address) }
+    ensures { Does state.old core thread (Entry.Suspend address) result state.new }
+{
+    state.is_sound();
+    match find_object(state, thread, Kind::Thread, address) {
+        Err(refusal) => Answer::Refused(refusal),
+        Ok(named) => set_mode(state, thread, named, Some(Mode::Inactive)),
+    }
+}
+
+/// The mode to which a thread of this status is resumed: none where it can run.
+fn mode_resumed(status: Option<Status>) -> Option<Mode>
+    ensures { result ≡ mode_resumed status }
+{
+    match status {
+        Some(Status::Running | Status::Restart) => None,
+        _ => Some(Mode::Restart),
+    }
+}
+
+/// Resume: a thread that cannot run leaves what it is blocked on, and is in Restart from now on; one that is Running or in
+/// Restart stays as it is. The refusals are those of Suspend (manual: Threads and Execution).
+pub fn resume<W: Waiting>(state: &mut State<W>, core: CoreId, thread: ObjId, address: u64) -> Answer
+    requires entering { IsEntering (so_far state.old) thread }
+    requires room { Fits state.old core thread (Entry.Resume address) }
+    ensures { Does state.old core thread (Entry.Resume address) result state.new }
+{
+    state.is_sound();
+    match find_object(state, thread, Kind::Thread, address) {
+        Err(refusal) => Answer::Refused(refusal),
+        Ok(named) => {
+            let mode = mode_resumed(state.status(named)); // Before the thread that enters wakes.
+            set_mode(state, thread, named, mode)
+        }
+    }
+}

@@ -1,0 +1,68 @@
+//! SetPriority.
+ghost use Rattle.std.specs.Prelude.{◌≡◌};
+ghost use Rattle.mcs_types.specs.declared.entry.Entry.TheVariants.{SetPriority};
+ghost use Rattle.mcs_types.specs.declared.id.Kind.{Kind};
+ghost use Rattle.mcs_book.specs.Sound.{IsThere};
+ghost use Rattle.mcs_state.specs.Now.{so_far};
+ghost use Rattle.mcs_state.specs.Doing.{ActsAwake, FitsAwake, Does, Fits};
+ghost use Rattle.mcs_state.specs.Entering.{IsEntering};
+ghost use Rattle.mcs_cancel.specs.Priorities.{settable_thread, sets_priority};
+
+use mcs_state::{State, find_object, wake};
+use mcs_types::{Answer, CoreId, Kind, ObjId, Prio, Refusal};
+use mcs_waiting::Waiting;
+
+/// The thread to which a priority is given, which is at most the maximum controlled priority of the authority.
+fn thread_to_set<W: Waiting>(
+    state: &State<W>,
+    thread: ObjId,
+    holder: u64,
+    authority: u64,
+    priority: Prio,
+) -> Result<ObjId, Refusal>
+    requires { IsThere (so_far state.now) Kind.Thread thread }
+    ensures { result ≡ settable_thread (so_far state.now) thread holder authority priority }
+{
+    state.is_sound();
+    let holder = find_object(state, thread, Kind::Thread, holder)?;
+    let authority = find_object(state, thread, Kind::Thread, authority)?;
+    if priority.0 <= state.maximum(authority).0 {
+        Ok(holder)
+    } else {
+        Err(Refusal::Range)
+    }
+}
+
+/// Wakes the thread that enters, and sets the priority of a thread.
+fn set<W: Waiting>(state: &mut State<W>, thread: ObjId, holder: ObjId, priority: Prio) -> Answer
+    requires entering { IsEntering (so_far state.old) thread }
+    requires there { IsThere (so_far state.old) Kind.Thread holder }
+    requires room { FitsAwake thread (sets_priority holder priority) state.old }
+    ensures { ActsAwake thread (sets_priority holder priority) state.old result state.new }
+{
+    wake(state, thread);
+    state.prio(holder, priority);
+    Answer::Done
+}
+
+/// SetPriority: the thread has this priority from now on; where it stands in a queue, it queues anew (own). The refusals are 1
+/// to 3 of the lookups, the thread's first, 4 for a capability of another kind, and 6 where the priority is above the maximum
+/// controlled priority of the authority; they change nothing (manual: Threads and Execution).
+pub fn set_priority<W: Waiting>(
+    state: &mut State<W>,
+    core: CoreId,
+    thread: ObjId,
+    holder: u64,
+    authority: u64,
+    priority: Prio,
+) -> Answer
+    requires entering { IsEntering (so_far state.old) thread }
+    requires room { Fits state.old core thread (SetPriority holder authority priority) }
+    ensures { Does state.old core thread (SetPriority holder authority priority) result state.new }
+{
+    state.is_sound();
+    match thread_to_set(state, thread, holder, authority, priority) {
+        Err(refusal) => Answer::Refused(refusal),
+        Ok(holder) => set(state, thread, holder, priority),
+    }
+}
