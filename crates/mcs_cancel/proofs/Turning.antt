@@ -58,9 +58,3 @@ row-resume R core t a = rw (object-is R t kind.Thread a) (go (kinded kind.Thread
     go : (m : Checked Cap) → (m >>= λ c. Ok (answers Done (cond (is_ready (status_of R c.obj)) nothing (cancel c.obj Restart)))) ≡ act_of (object_found m) (resumes R)
     go (Err why) = refl
     go (Ok c) = ap (λ act. Ok act) (at c.obj (status_of R c.obj))
-
--- what is there is there still when a thread was woken
-pub woken-there : (R : Log) (t : ObjId) (m : Mode) (k : Kind) (o : ObjId) → IsThere R k o → IsThere (onto (wakes m t R) R) k o
-woken-there R t Running k o there = there
-woken-there R t Restart k o there = there
-woken-there R t Inactive k o there = there

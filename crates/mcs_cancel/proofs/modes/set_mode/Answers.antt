@@ -6,7 +6,7 @@ use Rattle.mcs_book.specs.Threads.{mode_of}
 use Rattle.mcs_state.specs.Now.{so_far}
 use Rattle.mcs_state.proofs.Doing.{so_far-made, after, room-before, room-then}
 use Rattle.mcs_cancel.specs.Turning.{sets_mode}
-use Rattle.mcs_cancel.proofs.Turning.{woken-there}
+use Rattle.mcs_state.proofs.Woken.{woken-there}
 use Rattle.mcs_cancel.proofs.modes.set_mode.Goals as goal
 
 pub wake-requires-clause-room : goal.wake-requires-clause-room
