@@ -28,8 +28,9 @@ fn free<W: Waiting>(state: &mut State<W>, reply: ObjId)
     ensures { Makes (freed reply) state.old state.new }
 {
     state.is_sound();
-    if let Some(user) = state.user_of(reply) {
-        cancel(state, user, Mode::Inactive);
+    match state.user_of(reply) {
+        None => {}
+        Some(user) => cancel(state, user, Mode::Inactive),
     }
 }
 
