@@ -1,3 +1,6 @@
 pub mod Leaving
 pub mod Turning
 pub mod Priorities
+pub mod Followers
+pub mod Restarting
+pub mod Badging

@@ -1,3 +1,4 @@
 pub mod Leaving
 pub mod Turning
 pub mod Priorities
+pub mod Badging
