@@ -32,7 +32,7 @@ apart R x y s l sound hs hl ne e =
     ne (sym xs ∙ ap (λ (z : Letter). z.sender) it ∙ yl)
 
 -- a message that another thread sent stays open
-stays : (R : Log) (x y : ObjId) (s : Letter) → Sound R → growing_open R x ≡ Some s → y ≢ x → unless_number s.number (growing_open R y) ≡ growing_open R y
+pub stays : (R : Log) (x y : ObjId) (s : Letter) → Sound R → growing_open R x ≡ Some s → y ≢ x → unless_number s.number (growing_open R y) ≡ growing_open R y
 stays R x y s sound h ne = go (growing_open R y) refl
   where
     go : (o : Option Letter) → growing_open R y ≡ o → unless_number s.number o ≡ o
