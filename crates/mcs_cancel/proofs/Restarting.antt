@@ -1,5 +1,5 @@
 -- The senders of an endpoint that restart, one after another: what each leaves of the queue, and what is left to be recorded.
-use Rattle.std.specs.Prelude.{ℕ, ◌≡◌, ◌≢◌, ◌<◌, true, false, cond, List, [], ◌∷◌, Option, Some, None, filter, length}
+use Rattle.std.specs.Prelude.{ℕ, ◌≡◌, ◌≢◌, ◌<◌, Bool, true, false, cond, List, [], ◌∷◌, Option, Some, None, filter, length}
 use Rattle.std.specs.Option.{IfSome}
 use Rattle.std.proofs.Common.{refl, ap, sym, ◌∙◌, inl, inr, subst, arith}
 use Rattle.mcs_types.specs.declared.id.ObjId.{ObjId}
@@ -122,7 +122,7 @@ pub record Turn (e : ObjId) (badge : ℕ) (at next : Option ObjId) (old now new 
   pub less : length (senders_from (so_far new) e next) < length (senders_from (so_far now) e at)
 
 -- a turn at x: what is left after it is what follows x
-module _ (e : ObjId) (badge : ℕ) (at next : Option ObjId) (x : ObjId) (old now : Now) (h : IsUnderWay e badge at old now) (some : at ≡ Some x) (is : next ≡ next_of (so_far now) x) where
+module _ (e : ObjId) (badge : ℕ) (at : Option ObjId) (x : ObjId) (old now : Now) (h : IsUnderWay e badge at old now) (some : at ≡ Some x) where
   abbrev pub R : Log
   R = so_far now
 
@@ -135,43 +135,42 @@ module _ (e : ObjId) (badge : ℕ) (at next : Option ObjId) (x : ObjId) (old now
   from-x : senders_from R e at ≡ x ∷ f.rest
   from-x = ap (λ o. senders_from R e o) some ∙ f.from
 
-  next-is : next ≡ head_of f.rest
-  next-is = is ∙ next-among R x (Senders e) stands ∙ f.next
-
   stood : (y : ObjId) → In y f.rest → queue_of R y ≡ Some (Senders e)
   stood y i = in-line R (Senders e) y (f.among y i)
 
-  -- one whose message has another badge stays
-  module _ (other : has_badge badge (open_of R x) ≡ false) where
+  -- those who restart from x on: it alone may not
+  badged-from : (b : Bool) → has_badge badge (open_of R x) ≡ b → badged R badge (senders_from R e at) ≡ cond b (x ∷ badged R badge f.rest) (badged R badge f.rest)
+  badged-from b its = ap (λ xs. badged R badge xs) from-x ∙ ap (λ c. cond c (x ∷ badged R badge f.rest) (badged R badge f.rest)) its
+
+  room-all : has_badge badge (open_of R x) ≡ true → HasRoomFor (cancel x Restart then cancel_all (badged R badge f.rest) Restart) now
+  room-all its = subst (λ xs. HasRoomFor (cancel_all xs Restart) now) (badged-from true its) h.room
+
+  pub room-cancel : has_badge badge (open_of R x) ≡ true → HasRoomFor (cancel x Restart) now
+  room-cancel its = room-first (cancel x Restart) (cancel_all (badged R badge f.rest) Restart) now (room-all its)
+
+  module _ (next : Option ObjId) (is : next ≡ next_of (so_far now) x) where
+    next-is : next ≡ head_of f.rest
+    next-is = is ∙ next-among R x (Senders e) stands ∙ f.next
+
     rest-stays : senders_from R e next ≡ f.rest
     rest-stays = ap (λ o. senders_from R e o) next-is ∙ f.stays
 
-    badged-stays : badged R badge (senders_from R e next) ≡ badged R badge (senders_from R e at)
-    badged-stays = ap (λ xs. badged R badge xs) rest-stays ∙ sym (ap (λ xs. badged R badge xs) from-x ∙ ap (λ b. cond b (x ∷ badged R badge f.rest) (badged R badge f.rest)) other)
+    -- x stays, whose message has another badge
+    pub passed : has_badge badge (open_of R x) ≡ false → Turn e badge at next old now now
+    passed other =
+        let same : badged R badge (senders_from R e next) ≡ badged R badge (senders_from R e at) = ap (λ xs. badged R badge xs) rest-stays ∙ sym (badged-from false other) in
+        record {
+          under_way = record {
+            sound = h.sound;
+            stands = subst (λ o. IfSome o (λ y. queue_of R y ≡ Some (Senders e))) (sym next-is) (first-of (λ y. queue_of R y ≡ Some (Senders e)) f.rest stood);
+            room = subst (λ xs. HasRoomFor (cancel_all xs Restart) now) (sym same) h.room;
+            made = ap (λ xs. adds_all (cancel_all xs Restart R) now) same ∙ h.made;
+          };
+          less = let all = ap length from-x in let rest = ap length rest-stays in omega (arith, all, rest);
+        }
 
-    pub passed : Turn e badge at next old now now
-    passed = record {
-      under_way = record {
-        sound = h.sound;
-        stands = subst (λ o. IfSome o (λ y. queue_of R y ≡ Some (Senders e))) (sym next-is) (first-of (λ y. queue_of R y ≡ Some (Senders e)) f.rest stood);
-        room = subst (λ xs. HasRoomFor (cancel_all xs Restart) now) (sym badged-stays) h.room;
-        made = ap (λ xs. adds_all (cancel_all xs Restart R) now) badged-stays ∙ h.made;
-      };
-      less = let all = ap length from-x in let rest = ap length rest-stays in omega (arith, all, rest);
-    }
-
-  -- one whose message has the badge restarts
-  module _ (its : has_badge badge (open_of R x) ≡ true) where
-    badged-x : badged R badge (senders_from R e at) ≡ x ∷ badged R badge f.rest
-    badged-x = ap (λ xs. badged R badge xs) from-x ∙ ap (λ b. cond b (x ∷ badged R badge f.rest) (badged R badge f.rest)) its
-
-    room-all : HasRoomFor (cancel x Restart then cancel_all (badged R badge f.rest) Restart) now
-    room-all = subst (λ xs. HasRoomFor (cancel_all xs Restart) now) badged-x h.room
-
-    pub room-cancel : HasRoomFor (cancel x Restart) now
-    room-cancel = room-first (cancel x Restart) (cancel_all (badged R badge f.rest) Restart) now room-all
-
-    module _ (new : Now) (makes : Makes (cancel x Restart) now new) (sound : Sound (so_far new)) where
+    -- x restarts, whose message has the badge
+    module _ (its : has_badge badge (open_of R x) ≡ true) (new : Now) (makes : Makes (cancel x Restart) now new) (sound : Sound (so_far new)) where
       abbrev pub S : Log
       S = so_far new
 
@@ -196,10 +195,10 @@ module _ (e : ObjId) (badge : ℕ) (at next : Option ObjId) (x : ObjId) (old now
         under_way = record {
           sound = sound;
           stands = subst (λ o. IfSome o (λ y. queue_of S y ≡ Some (Senders e))) (sym next-is) (first-of (λ y. queue_of S y ≡ Some (Senders e)) f.rest (λ y i. without-x.queues y (others y i) ∙ stood y i));
-          room = subst (λ xs. HasRoomFor (cancel_all xs Restart) new) (sym badged-left) (room-next (cancel x Restart) (cancel_all (badged R badge f.rest) Restart) now new makes room-all);
+          room = subst (λ xs. HasRoomFor (cancel_all xs Restart) new) (sym badged-left) (room-next (cancel x Restart) (cancel_all (badged R badge f.rest) Restart) now new makes (room-all its));
           made = ap (λ xs. adds_all (cancel_all xs Restart S) new) badged-left
               ∙ makes-then (cancel x Restart) (cancel_all (badged R badge f.rest) Restart) now new _ makes refl
-              ∙ sym (ap (λ xs. adds_all (cancel_all xs Restart R) now) badged-x) ∙ h.made;
+              ∙ sym (ap (λ xs. adds_all (cancel_all xs Restart R) now) (badged-from true its)) ∙ h.made;
         };
         less = let all = ap length from-x in let rest = ap length rest-left in omega (arith, all, rest);
       }
