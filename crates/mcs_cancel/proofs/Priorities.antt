@@ -1,6 +1,6 @@
--- The row of SetPriority is what the code does, and the thread is there.
+-- The row of SetPriority is what the code does.
 use Rattle.std.specs.Prelude.{ℕ, ◌≡◌, Bool, true, false, cond, nat_le, Ok, Err}
-use Rattle.std.proofs.Common.{refl, subst}
+use Rattle.std.proofs.Common.{refl}
 use Rattle.mcs_types.specs.declared.id.ObjId.{ObjId}
 use Rattle.mcs_types.specs.declared.id.CoreId.{CoreId}
 use Rattle.mcs_types.specs.declared.id.Prio.{Prio}
@@ -12,11 +12,10 @@ use Rattle.mcs_book.specs.Logs.{Log}
 use Rattle.mcs_book.specs.Checks.{Checked, ◌>>=◌, ◌>>◌, need}
 use Rattle.mcs_book.specs.Lookup.{capability}
 use Rattle.mcs_book.specs.Pieces.{Act}
-use Rattle.mcs_book.specs.Sound.{Sound, IsThere}
 use Rattle.mcs_book.specs.Table.{row}
 use Rattle.mcs_book.specs.Threads.{maximum_of}
-use Rattle.mcs_state.specs.Checks.{kinded, object_found, object_named, act_of}
-use Rattle.mcs_state.proofs.Named.{object-is, named-there}
+use Rattle.mcs_state.specs.Checks.{kinded, object_found, act_of}
+use Rattle.mcs_state.proofs.Named.{object-is}
 use Rattle.mcs_cancel.specs.Priorities.{under, settable_thread, sets_priority}
 
 -- the act, of the thread that was found
@@ -36,16 +35,3 @@ row-set R core t x authority p = rw (object-is R t kind.Thread x, object-is R t 
     go (Err why) k = refl
     go (Ok c) (Err why) = refl
     go (Ok c) (Ok d) = test c.obj (nat_le p.0 (maximum_of R d.obj))
-
--- the thread is there
-pub settable-there : (R : Log) (t : ObjId) (x authority : ℕ) (p : Prio) (o : ObjId) → Sound R → settable_thread R t x authority p ≡ Ok o → IsThere R kind.Thread o
-settable-there R t x authority p o sound e = go (object_named R t kind.Thread x) refl (object_named R t kind.Thread authority) e
-  where
-    test : (u : ObjId) → IsThere R kind.Thread u → (b : Bool) → cond b (Ok u) (Err Range) ≡ Ok o → IsThere R kind.Thread o
-    test u there true h = let it : u ≡ o = cc in subst (λ z. IsThere R kind.Thread z) it there
-    test u there false h = absurd cc
-
-    go : (m : Checked ObjId) → object_named R t kind.Thread x ≡ m → (k : Checked ObjId) → under R p m k ≡ Ok o → IsThere R kind.Thread o
-    go (Err why) is k h = absurd cc
-    go (Ok u) is (Err why) h = absurd cc
-    go (Ok u) is (Ok giver) h = test u (named-there R t kind.Thread x u sound is) (nat_le p.0 (maximum_of R giver)) h

@@ -3,6 +3,7 @@
 
 mod badged;
 mod cancelling;
+mod checks;
 mod modes;
 mod priority;
 

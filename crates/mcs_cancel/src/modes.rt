@@ -11,8 +11,9 @@ ghost use Rattle.mcs_state.specs.Entering.{IsEntering};
 ghost use Rattle.mcs_cancel.specs.Turning.{sets_mode, mode_resumed};
 
 use crate::cancelling::cancel;
-use mcs_state::{State, find_object, wake};
-use mcs_types::{Answer, CoreId, Kind, Mode, ObjId, Status};
+use crate::checks::find_thread;
+use mcs_state::{State, wake};
+use mcs_types::{Answer, CoreId, Mode, ObjId, Status};
 use mcs_waiting::Waiting;
 
 /// Cancels what a thread is blocked on, and sets its mode, where one is given.
@@ -56,8 +57,7 @@ pub fn suspend<W: Waiting>(
     requires room { Fits state.old core thread (Entry.Suspend address) }
     ensures { Does state.old core thread (Entry.Suspend address) result state.new }
 {
-    state.is_sound();
-    match find_object(state, thread, Kind::Thread, address) {
+    match find_thread(state, thread, address) {
         Err(refusal) => Answer::Refused(refusal),
         Ok(named) => set_mode(state, thread, named, Some(Mode::Inactive)),
     }
@@ -80,8 +80,7 @@ pub fn resume<W: Waiting>(state: &mut State<W>, core: CoreId, thread: ObjId, add
     requires room { Fits state.old core thread (Entry.Resume address) }
     ensures { Does state.old core thread (Entry.Resume address) result state.new }
 {
-    state.is_sound();
-    match find_object(state, thread, Kind::Thread, address) {
+    match find_thread(state, thread, address) {
         Err(refusal) => Answer::Refused(refusal),
         Ok(named) => {
             let mode = mode_resumed(state.status(named)); // Before the thread that enters wakes.

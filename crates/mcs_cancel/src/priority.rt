@@ -6,32 +6,12 @@ ghost use Rattle.mcs_book.specs.Sound.{IsThere};
 ghost use Rattle.mcs_state.specs.Now.{so_far};
 ghost use Rattle.mcs_state.specs.Doing.{ActsAwake, FitsAwake, Does, Fits};
 ghost use Rattle.mcs_state.specs.Entering.{IsEntering};
-ghost use Rattle.mcs_cancel.specs.Priorities.{settable_thread, sets_priority};
+ghost use Rattle.mcs_cancel.specs.Priorities.{sets_priority};
 
-use mcs_state::{State, find_object, wake};
-use mcs_types::{Answer, CoreId, Kind, ObjId, Prio, Refusal};
+use crate::checks::thread_to_set;
+use mcs_state::{State, wake};
+use mcs_types::{Answer, CoreId, ObjId, Prio};
 use mcs_waiting::Waiting;
-
-/// The thread to which a priority is given, which is at most the maximum controlled priority of the authority.
-fn thread_to_set<W: Waiting>(
-    state: &State<W>,
-    thread: ObjId,
-    holder: u64,
-    authority: u64,
-    priority: Prio,
-) -> Result<ObjId, Refusal>
-    requires { IsThere (so_far state.now) Kind.Thread thread }
-    ensures { result ≡ settable_thread (so_far state.now) thread holder authority priority }
-{
-    state.is_sound();
-    let holder = find_object(state, thread, Kind::Thread, holder)?;
-    let authority = find_object(state, thread, Kind::Thread, authority)?;
-    if priority.0 <= state.maximum(authority).0 {
-        Ok(holder)
-    } else {
-        Err(Refusal::Range)
-    }
-}
 
 /// Wakes the thread that enters, and sets the priority of a thread.
 fn set<W: Waiting>(state: &mut State<W>, thread: ObjId, holder: ObjId, priority: Prio) -> Answer
@@ -60,7 +40,6 @@ pub fn set_priority<W: Waiting>(
     requires room { Fits state.old core thread (SetPriority holder authority priority) }
     ensures { Does state.old core thread (SetPriority holder authority priority) result state.new }
 {
-    state.is_sound();
     match thread_to_set(state, thread, holder, authority, priority) {
         Err(refusal) => Answer::Refused(refusal),
         Ok(holder) => set(state, thread, holder, priority),

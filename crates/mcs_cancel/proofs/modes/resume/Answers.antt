@@ -1,34 +1,29 @@
 use Rattle.std.proofs.Common.{ap, sym, ◌∙◌, subst}
 use Rattle.mcs_types.specs.declared.entry.Entry.TheVariants.{Resume}
-use Rattle.mcs_types.specs.declared.id.Kind.TheVariants as kind
 use Rattle.mcs_state.specs.Checks.{act_of}
 use Rattle.mcs_state.specs.Doing.{ActsAwake, FitsAwake}
 use Rattle.mcs_state.specs.Now.{so_far}
 use Rattle.mcs_state.proofs.Doing.{refused, did, room-did}
-use Rattle.mcs_state.proofs.Named.{named-there}
 use Rattle.mcs_cancel.specs.Turning.{sets_mode, mode_resumed}
 use Rattle.mcs_cancel.proofs.Turning.{resumes, row-resume}
 use Rattle.mcs_cancel.proofs.modes.resume.Goals as goal
 
-pub set_mode-requires-clause-there : goal.set_mode-requires-clause-there
-set_mode-requires-clause-there g c = named-there (so_far c.args.state.now) c.args.thread kind.Thread c.args.address c.in-Ok.named c.is_sound.ensures.sound (sym c.find_object.ensures ∙ c.in-Ok.is)
-
 pub set_mode-requires-clause-room : goal.set_mode-requires-clause-room
 set_mode-requires-clause-room g c =
     let R = so_far c.args.state.now in
-    let row = row-resume R c.args.core c.args.thread c.args.address ∙ ap (λ m. act_of m (resumes R)) (sym c.find_object.ensures ∙ c.in-Ok.is) in
+    let row = row-resume R c.args.core c.args.thread c.args.address ∙ ap (λ m. act_of m (resumes R)) (sym c.find_thread.ensures.found ∙ c.in-Ok.is) in
     let mode = c.mode_resumed-mode.ensures ∙ ap mode_resumed c.status.ensures in
     subst (λ m. FitsAwake c.args.thread (sets_mode c.in-Ok.named m) c.args.state.now) (sym mode) (room-did c.args.state.now c.args.core c.args.thread (Resume c.args.address) (resumes R c.in-Ok.named) row c.requires.room)
 
 pub returns-in-Err : goal.returns-in-Err
 returns-in-Err g c =
     let R = so_far c.args.state.now in
-    let row = row-resume R c.args.core c.args.thread c.args.address ∙ ap (λ m. act_of m (resumes R)) (sym c.find_object.ensures ∙ c.in-Err.is) in
+    let row = row-resume R c.args.core c.args.thread c.args.address ∙ ap (λ m. act_of m (resumes R)) (sym c.find_thread.ensures.found ∙ c.in-Err.is) in
     refused c.args.state.now c.args.core c.args.thread (Resume c.args.address) c.in-Err.refusal row
 
 pub returns-in-Ok : goal.returns-in-Ok
 returns-in-Ok g c =
     let R = so_far c.args.state.now in
-    let row = row-resume R c.args.core c.args.thread c.args.address ∙ ap (λ m. act_of m (resumes R)) (sym c.find_object.ensures ∙ c.in-Ok.is) in
+    let row = row-resume R c.args.core c.args.thread c.args.address ∙ ap (λ m. act_of m (resumes R)) (sym c.find_thread.ensures.found ∙ c.in-Ok.is) in
     let mode = c.mode_resumed-mode.ensures ∙ ap mode_resumed c.status.ensures in
     did c.args.state.now c.set_mode.new.state c.args.core c.args.thread (Resume c.args.address) (resumes R c.in-Ok.named) c.set_mode.result row (subst (λ m. ActsAwake c.args.thread (sets_mode c.in-Ok.named m) c.args.state.now c.set_mode.result c.set_mode.new.state) mode c.set_mode.ensures)

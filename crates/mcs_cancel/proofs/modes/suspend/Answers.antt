@@ -1,27 +1,22 @@
 use Rattle.std.proofs.Common.{ap, sym, ◌∙◌}
 use Rattle.mcs_types.specs.declared.entry.Entry.TheVariants.{Suspend}
-use Rattle.mcs_types.specs.declared.id.Kind.TheVariants as kind
 use Rattle.mcs_state.specs.Checks.{act_of}
 use Rattle.mcs_state.specs.Now.{so_far}
 use Rattle.mcs_state.proofs.Doing.{refused, did, room-did}
-use Rattle.mcs_state.proofs.Named.{named-there}
 use Rattle.mcs_cancel.proofs.Turning.{suspends, row-suspend}
 use Rattle.mcs_cancel.proofs.modes.suspend.Goals as goal
 
-pub set_mode-requires-clause-there : goal.set_mode-requires-clause-there
-set_mode-requires-clause-there g c = named-there (so_far c.args.state.now) c.args.thread kind.Thread c.args.address c.in-Ok.named c.is_sound.ensures.sound (sym c.find_object.ensures ∙ c.in-Ok.is)
-
 pub set_mode-requires-clause-room : goal.set_mode-requires-clause-room
 set_mode-requires-clause-room g c =
-    let row = row-suspend (so_far c.args.state.now) c.args.core c.args.thread c.args.address ∙ ap (λ m. act_of m suspends) (sym c.find_object.ensures ∙ c.in-Ok.is) in
+    let row = row-suspend (so_far c.args.state.now) c.args.core c.args.thread c.args.address ∙ ap (λ m. act_of m suspends) (sym c.find_thread.ensures.found ∙ c.in-Ok.is) in
     room-did c.args.state.now c.args.core c.args.thread (Suspend c.args.address) (suspends c.in-Ok.named) row c.requires.room
 
 pub returns-in-Err : goal.returns-in-Err
 returns-in-Err g c =
-    let row = row-suspend (so_far c.args.state.now) c.args.core c.args.thread c.args.address ∙ ap (λ m. act_of m suspends) (sym c.find_object.ensures ∙ c.in-Err.is) in
+    let row = row-suspend (so_far c.args.state.now) c.args.core c.args.thread c.args.address ∙ ap (λ m. act_of m suspends) (sym c.find_thread.ensures.found ∙ c.in-Err.is) in
     refused c.args.state.now c.args.core c.args.thread (Suspend c.args.address) c.in-Err.refusal row
 
 pub returns-in-Ok : goal.returns-in-Ok
 returns-in-Ok g c =
-    let row = row-suspend (so_far c.args.state.now) c.args.core c.args.thread c.args.address ∙ ap (λ m. act_of m suspends) (sym c.find_object.ensures ∙ c.in-Ok.is) in
+    let row = row-suspend (so_far c.args.state.now) c.args.core c.args.thread c.args.address ∙ ap (λ m. act_of m suspends) (sym c.find_thread.ensures.found ∙ c.in-Ok.is) in
     did c.args.state.now c.set_mode.new.state c.args.core c.args.thread (Suspend c.args.address) (suspends c.in-Ok.named) c.set_mode.result row c.set_mode.ensures
