@@ -14,7 +14,7 @@ use Rattle.mcs_book.specs.Logs.{Log, onto}
 use Rattle.mcs_book.specs.Cancelling.{drop_message, leave, cancel, cancel_all}
 use Rattle.mcs_book.specs.Growing.{growing_open, growing_queue, threads_in, without}
 use Rattle.mcs_book.specs.Messages.{open_of}
-use Rattle.mcs_book.specs.Pieces.{Piece, ◌then◌, say}
+use Rattle.mcs_book.specs.Pieces.{Piece, ◌then◌, nothing, say}
 use Rattle.mcs_book.specs.Placing.{has_badge}
 use Rattle.mcs_book.specs.Queues.{queue_of, is_ahead, queued_in, first_in}
 use Rattle.mcs_book.specs.Sound.{Sound}
@@ -29,7 +29,7 @@ use Rattle.mcs_state.specs.Nexts.{next_among, next_in, next_of}
 use Rattle.mcs_state.specs.Now.{Now, so_far, adds_all}
 use Rattle.mcs_state.proofs.Doing.{so_far-made, makes-then, room-first, room-next}
 use Rattle.mcs_state.proofs.LetterLaws.{stays}
-use Rattle.mcs_cancel.specs.Badging.{restarts_with}
+use Rattle.mcs_cancel.specs.Badging.{restarts_one, restarts_with}
 use Rattle.mcs_cancel.proofs.Followers.{from_on, removed, Followed, followed, from-first, threads-without}
 
 -- the senders of e from one on
@@ -145,8 +145,12 @@ module _ (e : ObjId) (badge : ℕ) (at : Option ObjId) (x : ObjId) (old now : No
   room-all : has_badge badge (open_of R x) ≡ true → HasRoomFor (cancel x Restart then cancel_all (badged R badge f.rest) Restart) now
   room-all its = subst (λ xs. HasRoomFor (cancel_all xs Restart) now) (badged-from true its) h.room
 
-  pub room-cancel : has_badge badge (open_of R x) ≡ true → HasRoomFor (cancel x Restart) now
-  room-cancel its = room-first (cancel x Restart) (cancel_all (badged R badge f.rest) Restart) now (room-all its)
+  pub room-one : HasRoomFor (restarts_one badge x) now
+  room-one = go (has_badge badge (open_of R x)) refl
+    where
+      go : (b : Bool) → has_badge badge (open_of R x) ≡ b → HasRoomFor (λ S. cond b (cancel x Restart) nothing S) now
+      go true its = room-first (cancel x Restart) (cancel_all (badged R badge f.rest) Restart) now (room-all its)
+      go false other = let room = h.room in omega (arith, room)
 
   module _ (next : Option ObjId) (is : next ≡ next_of (so_far now) x) where
     next-is : next ≡ head_of f.rest
@@ -156,7 +160,7 @@ module _ (e : ObjId) (badge : ℕ) (at : Option ObjId) (x : ObjId) (old now : No
     rest-stays = ap (λ o. senders_from R e o) next-is ∙ f.stays
 
     -- x stays, whose message has another badge
-    pub passed : has_badge badge (open_of R x) ≡ false → Turn e badge at next old now now
+    passed : has_badge badge (open_of R x) ≡ false → Turn e badge at next old now now
     passed other =
         let same : badged R badge (senders_from R e next) ≡ badged R badge (senders_from R e at) = ap (λ xs. badged R badge xs) rest-stays ∙ sym (badged-from false other) in
         record {
@@ -190,7 +194,7 @@ module _ (e : ObjId) (badge : ℕ) (at : Option ObjId) (x : ObjId) (old now : No
       badged-left : badged S badge (senders_from S e next) ≡ badged R badge f.rest
       badged-left = ap (λ xs. badged S badge xs) rest-left ∙ badged-same R S badge f.rest open-kept
 
-      pub restarted : Turn e badge at next old now new
+      restarted : Turn e badge at next old now new
       restarted = record {
         under_way = record {
           sound = sound;
@@ -202,3 +206,10 @@ module _ (e : ObjId) (badge : ℕ) (at : Option ObjId) (x : ObjId) (old now : No
         };
         less = let all = ap length from-x in let rest = ap length rest-left in omega (arith, all, rest);
       }
+
+    pub turned : (new : Now) → Makes (restarts_one badge x) now new → Sound (so_far new) → Turn e badge at next old now new
+    turned new made sound = go (has_badge badge (open_of R x)) refl made
+      where
+        go : (b : Bool) → has_badge badge (open_of R x) ≡ b → Makes (λ S. cond b (cancel x Restart) nothing S) now new → Turn e badge at next old now new
+        go true its makes = restarted its new makes sound
+        go false other made = subst (Turn e badge at next old now) (sym made) (passed other)

@@ -3,23 +3,20 @@ use Rattle.std.specs.Prelude.{ℕ, ◌≡◌, cond, Option, Some, None, Ok, Err}
 use Rattle.std.proofs.Common.{refl, ap}
 use Rattle.mcs_types.specs.declared.id.ObjId.{ObjId}
 use Rattle.mcs_types.specs.declared.id.CoreId.{CoreId}
-use Rattle.mcs_types.specs.declared.id.Kind.{Kind}
 use Rattle.mcs_types.specs.declared.id.Kind.TheVariants as kind
 use Rattle.mcs_types.specs.declared.cap.Cap.{Cap}
-use Rattle.mcs_types.specs.declared.record.Mode.{Mode}
-use Rattle.mcs_types.specs.declared.record.Mode.TheVariants.{Running, Restart, Inactive}
+use Rattle.mcs_types.specs.declared.record.Mode.TheVariants.{Restart, Inactive}
 use Rattle.mcs_types.specs.declared.record.Status.{Status}
 use Rattle.mcs_types.specs.declared.record.Status.TheVariants as status
 use Rattle.mcs_types.specs.declared.entry.Answer.TheVariants.{Done}
 use Rattle.mcs_types.specs.declared.entry.Entry.TheVariants.{Suspend, Resume}
-use Rattle.mcs_book.specs.Logs.{Log, onto}
+use Rattle.mcs_book.specs.Logs.{Log}
 use Rattle.mcs_book.specs.Cancelling.{cancel}
 use Rattle.mcs_book.specs.Checks.{Checked, ◌>>=◌}
 use Rattle.mcs_book.specs.Lookup.{capability}
 use Rattle.mcs_book.specs.Pieces.{Act, nothing, answers}
-use Rattle.mcs_book.specs.Sound.{IsThere}
 use Rattle.mcs_book.specs.Standing.{status_of, is_ready}
-use Rattle.mcs_book.specs.Table.{row, wakes}
+use Rattle.mcs_book.specs.Table.{row}
 use Rattle.mcs_state.specs.Checks.{kinded, object_found, object_named, act_of}
 use Rattle.mcs_state.proofs.Named.{object-is}
 use Rattle.mcs_cancel.specs.Turning.{sets_mode, mode_resumed}

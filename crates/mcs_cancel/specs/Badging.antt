@@ -7,11 +7,12 @@ use Rattle.mcs_types.specs.declared.record.Mode.TheVariants.{Restart}
 use Rattle.mcs_types.specs.declared.entry.Answer.TheVariants.{Done}
 use Rattle.mcs_types.specs.declared.entry.Refusal.TheVariants.{NoRight}
 use Rattle.mcs_book.specs.Logs.{Log}
-use Rattle.mcs_book.specs.Cancelling.{cancel_all}
+use Rattle.mcs_book.specs.Cancelling.{cancel, cancel_all}
 use Rattle.mcs_book.specs.Checks.{Checked}
 use Rattle.mcs_book.specs.Lookup.{capability}
+use Rattle.mcs_book.specs.Messages.{open_of}
 use Rattle.mcs_book.specs.Pieces.{Piece, Act, nothing, answers}
-use Rattle.mcs_book.specs.Placing.{senders_with}
+use Rattle.mcs_book.specs.Placing.{has_badge, senders_with}
 use Rattle.mcs_book.specs.Rights.{has_right}
 use Rattle.mcs_state.specs.Checks.{kinded}
 
@@ -23,6 +24,10 @@ with_all (Ok cap) = cond (has_right 15 cap) (Ok cap) (Err NoRight)
 -- the capability whose badge t cancels, or the first check that fails
 abbrev pub cancellable : Log → ObjId → ℕ → Checked Cap
 cancellable R t a = with_all (kinded kind.Endpoint (capability R t a))
+
+-- x restarts, where its open message has this badge
+abbrev pub restarts_one : ℕ → ObjId → Piece
+restarts_one badge x R = cond (has_badge badge (open_of R x)) (cancel x Restart) nothing R
 
 -- the senders of e whose message in the log S has this badge restart
 abbrev pub restarts_with : Log → ObjId → ℕ → Piece

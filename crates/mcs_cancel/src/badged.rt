@@ -7,7 +7,8 @@ ghost use Rattle.mcs_book.specs.Sound.{IsThere};
 ghost use Rattle.mcs_state.specs.Now.{so_far};
 ghost use Rattle.mcs_state.specs.Doing.{Makes, HasRoomFor, Does, Fits};
 ghost use Rattle.mcs_state.specs.Entering.{IsEntering};
-ghost use Rattle.mcs_cancel.specs.Badging.{cancellable, restarts_with, restarts_badged};
+ghost use Rattle.mcs_state.specs.Nexts.{next_of};
+ghost use Rattle.mcs_cancel.specs.Badging.{cancellable, restarts_one, restarts_with, restarts_badged};
 
 use crate::cancelling::cancel;
 use mcs_state::{State, of_kind, wake};
@@ -27,6 +28,20 @@ fn has_badge(letter: Option<&Letter>, badge: Badge) -> bool
     }
 }
 
+/// Cancels a sender where its open message has this badge: it restarts. Answers who stood behind it.
+fn restart_one<W: Waiting>(state: &mut State<W>, sender: ObjId, badge: Badge) -> Option<ObjId>
+    requires there { IsThere (so_far state.old) Kind.Thread sender }
+    requires room { HasRoomFor (restarts_one badge.0 sender) state.old }
+    ensures made { Makes (restarts_one badge.0 sender) state.old state.new }
+    ensures next { result ≡ next_of (so_far state.old) sender }
+{
+    let next = state.next(sender);
+    if has_badge(state.letter(sender), badge) {
+        cancel(state, sender, Mode::Restart);
+    }
+    next
+}
+
 /// Cancels each sender of an endpoint whose open message has this badge, first to last: it restarts.
 fn restart_senders<W: Waiting>(state: &mut State<W>, endpoint: ObjId, badge: Badge)
     requires room { HasRoomFor (restarts_with (so_far state.old) endpoint badge.0) state.old }
@@ -35,10 +50,7 @@ fn restart_senders<W: Waiting>(state: &mut State<W>, endpoint: ObjId, badge: Bad
     state.is_sound();
     let mut at = state.first(Queue::Senders(endpoint));
     while let Some(sender) = at {
-        at = state.next(sender);
-        if has_badge(state.letter(sender), badge) {
-            cancel(state, sender, Mode::Restart);
-        }
+        at = restart_one(state, sender, badge);
         state.is_sound();
     }
 }
