@@ -3,24 +3,19 @@ use Rattle.std.specs.Prelude.{ℕ, ◌≡◌, Bool, true, false, cond, Ok, Err}
 use Rattle.std.proofs.Common.{refl}
 use Rattle.mcs_types.specs.declared.id.ObjId.{ObjId}
 use Rattle.mcs_types.specs.declared.id.CoreId.{CoreId}
-use Rattle.mcs_types.specs.declared.id.Kind.{Kind}
 use Rattle.mcs_types.specs.declared.id.Kind.TheVariants as kind
 use Rattle.mcs_types.specs.declared.cap.Cap.{Cap}
-use Rattle.mcs_types.specs.declared.record.Mode.{Mode}
-use Rattle.mcs_types.specs.declared.record.Mode.TheVariants.{Running, Restart, Inactive}
 use Rattle.mcs_types.specs.declared.entry.Answer.TheVariants.{Done}
 use Rattle.mcs_types.specs.declared.entry.Entry.TheVariants.{Signal}
 use Rattle.mcs_types.specs.declared.entry.Refusal.TheVariants.{NoRight}
-use Rattle.mcs_book.specs.Logs.{Log, onto}
+use Rattle.mcs_book.specs.Logs.{Log}
 use Rattle.mcs_book.specs.Checks.{Checked, ◌>>=◌, ◌>>◌, need}
 use Rattle.mcs_book.specs.Lookup.{capability}
 use Rattle.mcs_book.specs.Rights.{may_write}
 use Rattle.mcs_book.specs.Signalling.{signal}
 use Rattle.mcs_book.specs.Sound.{Sound, IsThere}
-use Rattle.mcs_book.specs.Table.{row, wakes}
-use Rattle.mcs_book.specs.Threads.{mode_of}
+use Rattle.mcs_book.specs.Table.{row}
 use Rattle.mcs_state.specs.Checks.{kinded, writable, act_of}
-use Rattle.mcs_state.specs.Entering.{OnlyBoundWait}
 use Rattle.mcs_state.proofs.Named.{object-is, kinded-ok, writable-ok, found-alive}
 use Rattle.mcs_notify.specs.Rows.{signalable, signal_act}
 

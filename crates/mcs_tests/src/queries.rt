@@ -206,15 +206,12 @@ fn status_follows_a_cancelled_sender(rt: HostRuntime) -> Result<(), Fail> {
     }
     let senders = Queue::Senders(object(Kind::Endpoint, 1));
     assert_eq!(rt; kernel.status(thread(2)), Some(Status::Queued(senders)));
-    let modes = [
-        (Entry::Suspend { thread: 12 }, Status::Inactive),
-        (Entry::Resume { thread: 12 }, Status::Restart),
-    ];
-    for (entry, want) in modes {
-        let result = enter(rt.alloc(), &mut kernel, 0, 1, entry);
-        assert!(rt; matches!(result, Ok(Answer::Done)));
-        assert_eq!(rt; kernel.status(thread(2)), Some(want));
-    }
+    let suspended = enter(rt.alloc(), &mut kernel, 0, 1, Entry::Suspend { thread: 12 });
+    assert!(rt; matches!(suspended, Ok(Answer::Done)));
+    assert_eq!(rt; kernel.status(thread(2)), Some(Status::Inactive));
+    let resumed = enter(rt.alloc(), &mut kernel, 0, 1, Entry::Resume { thread: 12 });
+    assert!(rt; matches!(resumed, Ok(Answer::Done)));
+    assert_eq!(rt; kernel.status(thread(2)), Some(Status::Restart));
     Ok(())
 }
 
