@@ -10,7 +10,7 @@ use Rattle.mcs_types.specs.declared.record.Form.{Form}
 use Rattle.mcs_types.specs.declared.record.Form.TheVariants as form
 use Rattle.mcs_types.specs.declared.record.Rec.{Rec}
 use Rattle.mcs_types.specs.declared.record.Rec.TheVariants as rec
-use Rattle.mcs_types.specs.Ids.{same, same_kind}
+use Rattle.mcs_types.specs.Ids.{same, same_kind, value_after}
 use Rattle.mcs_types.proofs.Ids.{same-equal}
 use Rattle.mcs_book.specs.Logs.{Log, given}
 use Rattle.mcs_book.specs.Objects.{form_of, was_made, was_closed}
@@ -19,11 +19,12 @@ use Rattle.mcs_book.specs.Sound.{Sound, Allowed, IsThere, IsFormOf}
 use Rattle.mcs_book.proofs.Objects.MadeLaws.{alive-made}
 use Rattle.mcs_book.proofs.Threads.HoldingLaws.{context_of-holder, holder-context_of}
 use Rattle.mcs_book.proofs.SoundLogs.KeptLaws.{held-there}
-use Rattle.mcs_objects.specs.Store.{one_more}
-use Rattle.mcs_contexts.specs.Holding.{Holding, core_in, holder_in, context_in, IsOneToOne}
+use Rattle.mcs_objects.specs.Store.{Shape, one_more}
+use Rattle.mcs_contexts.specs.Holding.{Holding, counts, core_in, holder_in, context_in, IsOneToOne}
 use Rattle.mcs_state.specs.Tables.{core_kept, core_said, ContextsAgree}
-use Rattle.mcs_state.specs.Following.{ContextsFollow, AddsContext, GivesContext}
-use Rattle.mcs_state.proofs.CountLaws.{never-made, shape-made, shape-beside}
+use Rattle.mcs_state.specs.Following.{ContextsFollow, ContextsFollowClosed, AddsContext, ClosesContext, GivesContext}
+use Rattle.mcs_state.proofs.CountLaws.{never-made, shape-made, shape-beside, shape-closed, shape-unclosed}
+use Rattle.mcs_state.proofs.ThereLaws.{said-closed, released}
 use Rattle.mcs_state.proofs.Saying.{formless, form-fits, unclosed}
 
 -- the core that the log says of what it has made after one more was made
@@ -79,6 +80,41 @@ added R v w o core sound ok h a = record {
   holders = λ s. h.holders s ∙ a.holders s;
 }
 
+-- a context was closed
+closed : (R : Log) (v w : Holding) (o : ObjId) → Sound R → Allowed R (rec.Closed o) → o.kind ≡ kind.Context → ClosesContext o v w → ContextsAgree v R → ContextsAgree w (rec.Closed o ∷ R)
+closed R v w o sound ok is h a = record {
+  shape = shape-closed R o kind.Context (counts v) (counts w) sound ok (ap (λ k. same_kind k kind.Context) is) h.counts a.shape;
+  cores = λ s. h.cores s ∙ ap (λ c. value_after s o None c) (a.cores s) ∙ said-closed R o s _;
+  holders = λ s. h.holders s ∙ a.holders s;
+}
+
+-- what is no context has no core
+coreless : (R : Log) (v : Holding) (s : ObjId) → ContextsAgree v R → same_kind s.kind kind.Context ≡ false → core_in v s ≡ None
+coreless R v s a other = rw (ap (λ (x : Shape). same_kind s.kind x.kind) a.shape ∙ other) refl
+
+-- an object that is no context was closed
+unclosed-context : (R : Log) (v w : Holding) (o : ObjId) → Sound R → Allowed R (rec.Closed o) → same_kind o.kind kind.Context ≡ false → w ≡ v → ContextsAgree v R → ContextsAgree w (rec.Closed o ∷ R)
+unclosed-context R v w o sound ok other is a = rw is (record {
+  shape = a.shape ∙ shape-unclosed R o kind.Context sound ok other;
+  cores = λ s. absent s (same s o) refl ∙ said-closed R o s _;
+  holders = a.holders;
+})
+  where
+    absent : (s : ObjId) (b : Bool) → same s o ≡ b → core_in v s ≡ cond b None (core_said R s)
+    absent s false e = a.cores s
+    absent s true e = ap (λ x. core_in v x) (same-equal s o e) ∙ coreless R v o a other
+
+ended : (R : Log) (v w : Holding) (o : ObjId) → Sound R → Allowed R (rec.Closed o) → ContextsFollowClosed o.kind o v w → ContextsAgree v R → ContextsAgree w (rec.Closed o ∷ R)
+ended R v w o sound ok h a = go o.kind refl h
+  where
+    go : (k : Kind) → o.kind ≡ k → ContextsFollowClosed k o v w → ContextsAgree w (rec.Closed o ∷ R)
+    go kind.Context e h = closed R v w o sound ok e h a
+    go kind.CNode e h = unclosed-context R v w o sound ok (ap (λ k. same_kind k kind.Context) e) h a
+    go kind.Thread e h = unclosed-context R v w o sound ok (ap (λ k. same_kind k kind.Context) e) h a
+    go kind.Endpoint e h = unclosed-context R v w o sound ok (ap (λ k. same_kind k kind.Context) e) h a
+    go kind.Notification e h = unclosed-context R v w o sound ok (ap (λ k. same_kind k kind.Context) e) h a
+    go kind.Reply e h = unclosed-context R v w o sound ok (ap (λ k. same_kind k kind.Context) e) h a
+
 -- a context was given or taken
 given-to : (R : Log) (v w : Holding) (o : ObjId) (t : Option ObjId) → GivesContext o t v w → ContextsAgree v R → ContextsAgree w (rec.Holds o t ∷ R)
 given-to R v w o t h a = record { shape = h.counts ∙ a.shape; cores = λ s. h.cores s ∙ a.cores s; holders = λ s. h.holders s ∙ go s (same s o) (a.holders s) }
@@ -93,7 +129,7 @@ contexts-follow (rec.Made o (form.OnCore core)) R v w sound ok h a = added R v w
 contexts-follow (rec.Made o form.Plain) R v w sound ok h a = beside R v w o form.Plain sound ok h refl a
 contexts-follow (rec.Made o (form.Slots radix)) R v w sound ok h a = beside R v w o (form.Slots radix) sound ok h refl a
 contexts-follow (rec.Made o (form.Runner maximum root)) R v w sound ok h a = beside R v w o (form.Runner maximum root) sound ok h refl a
-contexts-follow (rec.Closed s) R v w sound ok h a = absurd h
+contexts-follow (rec.Closed o) R v w sound ok h a = ended R v w o sound ok h a
 contexts-follow (rec.Holds s t) R v w sound ok h a = given-to R v w s t h a
 contexts-follow _ R v w sound ok h a = rw h (record { shape = a.shape; cores = a.cores; holders = a.holders })
 
@@ -155,3 +191,10 @@ context-there R t sound = go (context_of R t) refl
     go : (o : Option ObjId) → context_of R t ≡ o → IfSome o (λ s. IsThere R kind.Context s)
     go None e = tt
     go (Some s) e = (held-there R s t sound (context_of-holder R t s e)).0
+
+-- a context that may be closed is in the table, and nobody holds it
+pub closing-context : (R : Log) (v : Holding) (s : ObjId) → Sound R → s.kind ≡ kind.Context → Allowed R (rec.Closed s) → ContextsAgree v R → IsSome (core_in v s)
+closing-context R v s sound is ok a = rw (a.cores s) (core-there R s sound (is, ok.0))
+
+pub closing-unheld : (R : Log) (v : Holding) (s : ObjId) → s.kind ≡ kind.Context → Allowed R (rec.Closed s) → ContextsAgree v R → holder_in v s ≡ None
+closing-unheld R v s is ok a = a.holders s ∙ released R s kind.Context is ok

@@ -5,13 +5,14 @@ use Rattle.std.proofs.lemmas.List.{reverse-append}
 use Rattle.mcs_types.specs.declared.record.Rec.{Rec}
 use Rattle.mcs_types.specs.declared.record.Rec.TheVariants as rec
 use Rattle.mcs_types.specs.declared.id.Kind.{Kind}
+use Rattle.mcs_types.specs.declared.id.ObjId.{ObjId}
 use Rattle.mcs_types.specs.declared.record.Form.{Form}
 use Rattle.mcs_book.specs.Logs.{Log}
 use Rattle.mcs_book.specs.Objects.{next_id}
 use Rattle.mcs_book.specs.Sound.{Allowed}
 use Rattle.mcs_state.specs.Now.{Now, so_far}
 use Rattle.mcs_state.specs.Tables.{HAND, Tables, IsKept, SentAgrees}
-use Rattle.mcs_state.specs.Following.{Follows, SentFollows}
+use Rattle.mcs_state.specs.Following.{Follows, FollowsClosed, SentFollows, ThreadsFollowClosed, ContextsFollowClosed, QueuesFollowClosed, RepliesFollowClosed, NotificationsFollowClosed}
 use Rattle.mcs_state.proofs.ThreadLaws.{threads-follow}
 use Rattle.mcs_state.proofs.LetterLaws.{letters-follow}
 use Rattle.mcs_state.proofs.ContextLaws.{contexts-follow}
@@ -60,3 +61,16 @@ fewer-lines {k = k} is few = subst (λ (x : Now). length x.book.lines < k) (sym 
 -- what may be made as it is seen may be made inside
 pub inside-made : {n m : Now} (k : Kind) (f : Form) → n ≡ m → Allowed (so_far m) (rec.Made (next_id (so_far m) k) f) → Allowed (so_far n) (rec.Made (next_id (so_far n) k) f)
 inside-made k f is ok = subst (λ (x : Now). Allowed (so_far x) (rec.Made (next_id (so_far x) k) f)) (sym is) ok
+
+-- what follows the end of an object of its kind follows the end of the object
+pub follows-closed : (R : Log) (o : ObjId) (k : Kind) (old new : Tables) → o.kind ≡ k → FollowsClosed k o old new → Follows R (rec.Closed o) old new
+follows-closed R o k old new e f = record {
+  threads = subst (λ (j : Kind). ThreadsFollowClosed j o old.threads new.threads) (sym e) f.threads;
+  letters = f.letters;
+  contexts = subst (λ (j : Kind). ContextsFollowClosed j o old.contexts new.contexts) (sym e) f.contexts;
+  queues = subst (λ (j : Kind). QueuesFollowClosed j o old.queues new.queues) (sym e) f.queues;
+  replies = subst (λ (j : Kind). RepliesFollowClosed j o old.replies new.replies) (sym e) f.replies;
+  notifications = subst (λ (j : Kind). NotificationsFollowClosed j o old.notifications new.notifications) (sym e) f.notifications;
+  slots = f.slots;
+  sent = f.sent;
+}

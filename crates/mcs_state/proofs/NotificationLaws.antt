@@ -24,12 +24,12 @@ use Rattle.mcs_book.proofs.Objects.Same.{is_just-some}
 use Rattle.mcs_book.proofs.SoundLogs.KeptLaws.{bound-one, bound-there, never-both, same-never, set-other, set-self, set-split}
 use Rattle.mcs_book.proofs.Threads.HoldingLaws.{find-alone}
 use Rattle.mcs_objects.specs.Store.{one_more}
-use Rattle.mcs_notifications.specs.Signals.{Signals, is_there as has_notification, word_in}
+use Rattle.mcs_notifications.specs.Signals.{Signals, counts as notification_counts, is_there as has_notification, word_in, thread_in}
 use Rattle.mcs_state.specs.Tables.{NotificationsAgree, shape_said, is_there, word_said}
-use Rattle.mcs_state.specs.Following.{NotificationsFollow, NotificationsFollowMade, AddsNotification, KeepsWord, KeepsBound, Rebinds}
-use Rattle.mcs_state.proofs.CountLaws.{never-made, shape-made, shape-beside}
+use Rattle.mcs_state.specs.Following.{NotificationsFollow, NotificationsFollowMade, NotificationsFollowClosed, AddsNotification, ClosesNotification, KeepsWord, KeepsBound, Rebinds}
+use Rattle.mcs_state.proofs.CountLaws.{never-made, shape-made, shape-beside, shape-closed, shape-unclosed}
 use Rattle.mcs_state.proofs.Saying.{unsaid}
-use Rattle.mcs_state.proofs.ThereLaws.{there-made, there-beside, there}
+use Rattle.mcs_state.proofs.ThereLaws.{there-made, there-beside, there-closed, there-unclosed, said-closed_of, there, released}
 
 -- the thread that is bound to n is found, as it is the only one
 tied-found : (R : Log) (t n : ObjId) → Sound R → bound_of R t ≡ Some n → tied_to R n ≡ Some t
@@ -189,6 +189,32 @@ born R v w o f sound ok h a = go o.kind refl h
     go kind.Reply e h = beside R v w o f sound ok (ap (λ k. same_kind k kind.Notification) e) h a
     go kind.Context e h = beside R v w o f sound ok (ap (λ k. same_kind k kind.Notification) e) h a
 
+-- a notification was closed
+closed : (R : Log) (v w : Signals) (o : ObjId) → Sound R → Allowed R (rec.Closed o) → o.kind ≡ kind.Notification → ClosesNotification o v w → NotificationsAgree v R → NotificationsAgree w (rec.Closed o ∷ R)
+closed R v w o sound ok is h a = record {
+  counts = shape-closed R o kind.Notification (notification_counts v) (notification_counts w) sound ok (ap (λ k. same_kind k kind.Notification) is) h.counts a.counts;
+  there = λ x. h.there x ∙ ap (λ b. value_after x o false b) (a.there x) ∙ there-closed R o x kind.Notification;
+  words = λ x. h.words x ∙ ap (λ d. value_after x o None d) (a.words x) ∙ said-closed_of R o x kind.Notification (growing_word R x);
+  threads = λ x. h.threads x ∙ a.threads x ∙ sym (tied-kept (rec.Closed o) R x refl);
+}
+
+-- an object of another kind was closed
+unclosed-notification : (R : Log) (v w : Signals) (o : ObjId) → Sound R → Allowed R (rec.Closed o) → same_kind o.kind kind.Notification ≡ false → w ≡ v → NotificationsAgree v R → NotificationsAgree w (rec.Closed o ∷ R)
+unclosed-notification R v w o sound ok other is a =
+    still R (rec.Closed o ∷ R) v w is (shape-unclosed R o kind.Notification sound ok other) (λ x. there-unclosed R o x kind.Notification other)
+    (λ x. ap (λ b. cond b (growing_word R x) None) (there-unclosed R o x kind.Notification other)) (λ x. tied-kept (rec.Closed o) R x refl) a
+
+ended : (R : Log) (v w : Signals) (o : ObjId) → Sound R → Allowed R (rec.Closed o) → NotificationsFollowClosed o.kind o v w → NotificationsAgree v R → NotificationsAgree w (rec.Closed o ∷ R)
+ended R v w o sound ok h a = go o.kind refl h
+  where
+    go : (k : Kind) → o.kind ≡ k → NotificationsFollowClosed k o v w → NotificationsAgree w (rec.Closed o ∷ R)
+    go kind.Notification e h = closed R v w o sound ok e h a
+    go kind.CNode e h = unclosed-notification R v w o sound ok (ap (λ k. same_kind k kind.Notification) e) h a
+    go kind.Thread e h = unclosed-notification R v w o sound ok (ap (λ k. same_kind k kind.Notification) e) h a
+    go kind.Endpoint e h = unclosed-notification R v w o sound ok (ap (λ k. same_kind k kind.Notification) e) h a
+    go kind.Reply e h = unclosed-notification R v w o sound ok (ap (λ k. same_kind k kind.Notification) e) h a
+    go kind.Context e h = unclosed-notification R v w o sound ok (ap (λ k. same_kind k kind.Notification) e) h a
+
 -- the word of n was set between R and S
 worded : (R S : Log) (v w : Signals) (n : ObjId) (word : Option ℕ) → KeepsWord n word v w → shape_said kind.Notification R ≡ shape_said kind.Notification S → ((x : ObjId) → is_there R kind.Notification x ≡ is_there S kind.Notification x)
     → ((x : ObjId) → value_after x n word (word_said R x) ≡ word_said S x) → ((x : ObjId) → tied_to S x ≡ tied_to R x) → NotificationsAgree v R → NotificationsAgree w S
@@ -244,7 +270,7 @@ untied R v w t None sound ok is h a = absurd (never-none (bound_of R t) ok is)
 -- after any record
 pub notifications-follow : (r : Rec) (R : Log) (v w : Signals) → Sound R → Allowed R r → NotificationsFollow R r v w → NotificationsAgree v R → NotificationsAgree w (r ∷ R)
 notifications-follow (rec.Made o f) R v w sound ok h a = born R v w o f sound ok h a
-notifications-follow (rec.Closed o) R v w sound ok h a = absurd h
+notifications-follow (rec.Closed o) R v w sound ok h a = ended R v w o sound ok h a
 notifications-follow (rec.Raised n badge) R v w sound ok h a = worded R (rec.Raised n badge ∷ R) v w n _ h refl (λ x. refl) (λ x. word-raised R n x badge (word_in v n) ok.0 (a.words n)) (λ x. tied-kept (rec.Raised n badge) R x refl) a
 notifications-follow (rec.Heard t n word) R v w sound ok h a = worded R (rec.Heard t n word ∷ R) v w n None h refl (λ x. refl) (λ x. word-heard R t n x word) (λ x. tied-kept (rec.Heard t n word) R x refl) a
 notifications-follow (rec.Tied t None) R v w sound ok h a = untied R v w t (bound_of R t) sound ok refl h a
@@ -264,3 +290,10 @@ bound-listed R v t sound a = go (bound_of R t) refl
 pub tied-listed : (R : Log) (v : Signals) (t : ObjId) (n : Option ObjId) → NotificationsAgree v R → Allowed R (rec.Tied t n) → IfSome n (λ m. has_notification v m ≡ true)
 tied-listed R v t None a ok = tt
 tied-listed R v t (Some n) a ok = a.there n ∙ there R kind.Notification n ok.1
+
+-- a notification that may be closed is in the table, and no thread is bound to it
+pub closing-notification : (R : Log) (v : Signals) (n : ObjId) → n.kind ≡ kind.Notification → Allowed R (rec.Closed n) → NotificationsAgree v R → has_notification v n ≡ true
+closing-notification R v n is ok a = a.there n ∙ there R kind.Notification n (is, ok.0)
+
+pub closing-unbound : (R : Log) (v : Signals) (n : ObjId) → n.kind ≡ kind.Notification → Allowed R (rec.Closed n) → NotificationsAgree v R → thread_in v n ≡ None
+closing-unbound R v n is ok a = a.threads n ∙ tied-nobody R n (released R n kind.Notification is ok).1

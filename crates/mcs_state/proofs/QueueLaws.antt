@@ -1,6 +1,6 @@
 -- The queues follow a record.
-use Rattle.std.specs.Prelude.{◌≡◌, ◌+◌, Bool, true, false, cond, ◌∷◌, Option, Some, None, unwrap_or}
-use Rattle.std.proofs.Common.{refl, ap, sym, ◌∙◌}
+use Rattle.std.specs.Prelude.{ℕ, ◌≡◌, ◌+◌, ◌&&◌, ◌||◌, not, Bool, true, false, cond, List, [], ◌∷◌, Option, Some, None, unwrap_or}
+use Rattle.std.proofs.Common.{refl, ap, sym, ◌∙◌, subst, arith}
 use Rattle.mcs_types.specs.declared.id.ObjId.{ObjId}
 use Rattle.mcs_types.specs.declared.id.Kind.{Kind}
 use Rattle.mcs_types.specs.declared.id.Kind.TheVariants as kind
@@ -10,17 +10,20 @@ use Rattle.mcs_types.specs.declared.record.Queue.TheVariants.{Senders, Receivers
 use Rattle.mcs_types.specs.declared.record.Rec.{Rec}
 use Rattle.mcs_types.specs.declared.record.Rec.TheVariants as rec
 use Rattle.mcs_types.specs.Ids.{same, same_kind}
+use Rattle.mcs_types.proofs.Ids.{parts, same-self, same-equal, same_kind-equal}
 use Rattle.mcs_book.specs.Logs.{Log, given, counted}
-use Rattle.mcs_book.specs.Growing.{without, shifted}
-use Rattle.mcs_book.specs.Objects.{makes_kind, number_of}
+use Rattle.mcs_book.specs.Growing.{Waiter, without, shifted, is_among, growing_queue}
+use Rattle.mcs_book.specs.Objects.{makes_kind, number_of, is_alive}
 use Rattle.mcs_book.specs.Queues.{queue_of}
-use Rattle.mcs_book.specs.Sound.{Sound, Allowed, IsLineThere}
+use Rattle.mcs_book.specs.Sound.{Sound, Allowed, IsLineThere, IsEmptyLine}
 use Rattle.mcs_book.specs.Threads.{prio_of}
-use Rattle.mcs_waiting.specs.Queues.{queue_object, queue_kind, has_queues, line_after, count_after}
+use Rattle.mcs_book.proofs.Objects.Same.{is_queue-some}
+use Rattle.mcs_book.proofs.Queues.QueueLaws.{among-line}
+use Rattle.mcs_waiting.specs.Queues.{queue_object, queue_kind, is_queue_of, has_queues, line_after, count_after}
 use Rattle.mcs_state.specs.Tables.{Queueing, QueuesAgree, is_there}
-use Rattle.mcs_state.specs.Following.{QueuesFollow, QueuesFollowMade, OpensQueues, JoinsQueue, PartsQueue}
-use Rattle.mcs_state.proofs.CountLaws.{never-made, number-made}
-use Rattle.mcs_state.proofs.ThereLaws.{kind-flip, there-made, there-beside, there}
+use Rattle.mcs_state.specs.Following.{QueuesFollow, QueuesFollowMade, QueuesFollowClosed, OpensQueues, ClosesQueues, JoinsQueue, PartsQueue}
+use Rattle.mcs_state.proofs.CountLaws.{never-made, number-made, number-closed}
+use Rattle.mcs_state.proofs.ThereLaws.{kind-flip, there-made, there-beside, there-closed, there-unclosed, there, released}
 
 -- the kind of a queue's object has queues
 queued : (q : Queue) → has_queues (queue_kind q) ≡ true
@@ -75,6 +78,48 @@ born R v w o f sound ok h a = go o.kind refl h
     go kind.Reply e h = beside R v w o f sound ok (ap has_queues e) h a
     go kind.Context e h = beside R v w o f sound ok (ap has_queues e) h a
 
+-- an endpoint or a notification was closed
+closed : (R : Log) (v w : Queueing) (o : ObjId) → Sound R → Allowed R (rec.Closed o) → ClosesQueues o v w → QueuesAgree v R → QueuesAgree w (rec.Closed o ∷ R)
+closed R v w o sound ok h a = record {
+  made = λ k own. h.made k ∙ a.made k own;
+  there = λ k own. fewer (same_kind o.kind k) (w.there k) (number_of (rec.Closed o ∷ R) k)
+      (ap (λ b. cond b (w.there k + 1) (w.there k)) (sym (kind-flip k o.kind)) ∙ sym (h.there k) ∙ a.there k own ∙ number-closed R o k sound ok);
+  line = λ q. h.line q ∙ a.line q;
+  queue = λ t. h.queue t ∙ a.queue t;
+  has = λ q. h.has q ∙ ap (λ b. not (is_queue_of o q) && b) (a.has q) ∙ left (same_kind (queue_object q).kind (queue_kind q)) (same (queue_object q) o) (is_alive R (queue_object q)) ∙ there-closed R o (queue_object q) (queue_kind q);
+}
+  where
+    fewer : (b : Bool) (m n : ℕ) → cond b (m + 1) m ≡ cond b (n + 1) n → m ≡ n
+    fewer true m n e = omega (arith, e)
+    fewer false m n e = e
+
+    left : (k s b : Bool) → (not (k && s) && (k && b)) ≡ cond s false (k && b)
+    left true true b = refl
+    left true false b = refl
+    left false true b = refl
+    left false false b = refl
+
+-- an object of a kind without queues was closed
+unclosed-queues : (R : Log) (v w : Queueing) (o : ObjId) → Sound R → Allowed R (rec.Closed o) → has_queues o.kind ≡ false → w ≡ v → QueuesAgree v R → QueuesAgree w (rec.Closed o ∷ R)
+unclosed-queues R v w o sound ok none is a = rw is (record {
+  made = a.made;
+  there = λ k own. a.there k own ∙ rw (number-closed R o k sound ok, other o.kind k none own) refl;
+  line = a.line;
+  queue = a.queue;
+  has = λ q. a.has q ∙ there-unclosed R o (queue_object q) (queue_kind q) (other o.kind (queue_kind q) none (queued q));
+})
+
+ended : (R : Log) (v w : Queueing) (o : ObjId) → Sound R → Allowed R (rec.Closed o) → QueuesFollowClosed o.kind o v w → QueuesAgree v R → QueuesAgree w (rec.Closed o ∷ R)
+ended R v w o sound ok h a = go o.kind refl h
+  where
+    go : (k : Kind) → o.kind ≡ k → QueuesFollowClosed k o v w → QueuesAgree w (rec.Closed o ∷ R)
+    go kind.Endpoint e h = closed R v w o sound ok h a
+    go kind.Notification e h = closed R v w o sound ok h a
+    go kind.CNode e h = unclosed-queues R v w o sound ok (ap has_queues e) h a
+    go kind.Thread e h = unclosed-queues R v w o sound ok (ap has_queues e) h a
+    go kind.Reply e h = unclosed-queues R v w o sound ok (ap has_queues e) h a
+    go kind.Context e h = unclosed-queues R v w o sound ok (ap has_queues e) h a
+
 joined : (R : Log) (v w : Queueing) (u : ObjId) (q : Queue) (reply : Option ObjId) → JoinsQueue u (prio_of R u) q v w → QueuesAgree v R → QueuesAgree w (rec.Joins u q reply ∷ R)
 joined R v w u q reply h a = record {
   made = λ k own. h.objects.made k ∙ a.made k own;
@@ -104,7 +149,7 @@ parted R v w u q h a = record {
 -- after any record
 pub queues-follow : (r : Rec) (R : Log) (v w : Queueing) → Sound R → Allowed R r → QueuesFollow R r v w → QueuesAgree v R → QueuesAgree w (r ∷ R)
 queues-follow (rec.Made o f) R v w sound ok h a = born R v w o f sound ok h a
-queues-follow (rec.Closed o) R v w sound ok h a = absurd h
+queues-follow (rec.Closed o) R v w sound ok h a = ended R v w o sound ok h a
 queues-follow (rec.Prio u p) R v w sound ok h a = record {
   made = λ k own. h.objects.made k ∙ a.made k own;
   there = λ k own. h.objects.there k ∙ a.there k own;
@@ -121,3 +166,35 @@ pub queue-there : (R : Log) (q : Queue) → IsLineThere R q → is_there R (queu
 queue-there R (Senders e) h = there R kind.Endpoint e h
 queue-there R (Receivers e) h = there R kind.Endpoint e h
 queue-there R (Waiters n) h = there R kind.Notification n h
+
+-- nobody stands in the growing line of an empty queue
+pub line-empty : (R : Log) (q : Queue) → Sound R → IsEmptyLine R q → growing_queue R q ≡ []
+line-empty R q sound none = go (growing_queue R q) refl
+  where
+    go : (ws : List Waiter) → growing_queue R q ≡ ws → ws ≡ []
+    go [] e = refl
+    go (w ∷ ws) e =
+        let among : is_among w.thread (growing_queue R q) ≡ true = ap (λ vs. is_among w.thread vs) e ∙ ap (λ b. b || is_among w.thread ws) (same-self w.thread) in
+        absurd (none w.thread (is_queue-some (queue_of R w.thread) q (sym (among-line R w.thread q sound) ∙ among)))
+
+-- a queue of an object is one of its kind
+queue-of : (o : ObjId) (q : Queue) → is_queue_of o q ≡ true → (queue_object q ≡ o) × (o.kind ≡ queue_kind q)
+queue-of o q h =
+    let p : (same_kind (queue_object q).kind (queue_kind q) ≡ true) × (same (queue_object q) o ≡ true) = parts _ _ h in
+    let it : queue_object q ≡ o = same-equal (queue_object q) o p.1 in
+    (it, ap (λ (x : ObjId). x.kind) (sym it) ∙ same_kind-equal (queue_object q).kind (queue_kind q) p.0)
+
+-- the queues of an object that may be closed are there
+pub closing-queues : (R : Log) (v : Queueing) (o : ObjId) → Allowed R (rec.Closed o) → QueuesAgree v R → (q : Queue) → is_queue_of o q ≡ true → v.has q ≡ true
+closing-queues R v o ok a q h =
+    let (it, kind_is) = queue-of o q h in
+    a.has q ∙ there R (queue_kind q) (queue_object q) (ap (λ (x : ObjId). x.kind) it ∙ kind_is, ap (λ x. is_alive R x) it ∙ ok.0)
+
+-- and nobody stands in them
+pub closing-empty : (R : Log) (v : Queueing) (o : ObjId) → Sound R → Allowed R (rec.Closed o) → QueuesAgree v R → (q : Queue) → is_queue_of o q ≡ true → v.line q ≡ []
+closing-empty R v o sound ok a q h = let (it, kind_is) = queue-of o q h in a.line q ∙ line-empty R q sound (go q it kind_is)
+  where
+    go : (q : Queue) → queue_object q ≡ o → o.kind ≡ queue_kind q → IsEmptyLine R q
+    go (Senders e) it is = subst (λ x. IsEmptyLine R (Senders x)) (sym it) (released R o kind.Endpoint is ok).0
+    go (Receivers e) it is = subst (λ x. IsEmptyLine R (Receivers x)) (sym it) (released R o kind.Endpoint is ok).1
+    go (Waiters n) it is = subst (λ x. IsEmptyLine R (Waiters x)) (sym it) (released R o kind.Notification is ok).0

@@ -12,26 +12,30 @@ use Rattle.mcs_types.specs.declared.record.Queue.{Queue}
 use Rattle.mcs_types.specs.declared.record.Queue.TheVariants.{Senders, Receivers, Waiters}
 use Rattle.mcs_types.specs.declared.record.Rec.{Rec}
 use Rattle.mcs_types.specs.declared.record.Rec.TheVariants as rec
-use Rattle.mcs_types.specs.Chains.{ended}
+use Rattle.mcs_types.specs.Chains.{ended, head_of}
 use Rattle.mcs_types.specs.Ids.{same, same_kind, value_after}
 use Rattle.mcs_types.proofs.Ids.{same-self, same-equal}
 use Rattle.mcs_book.specs.Logs.{Log, given}
 use Rattle.mcs_types.specs.Ids.{is_just}
+use Rattle.mcs_book.specs.Chains.{topped_by}
 use Rattle.mcs_book.specs.Objects.{was_made}
 use Rattle.mcs_book.specs.Queues.{queue_of, reply_with, receives_at, is_receiving}
 use Rattle.mcs_book.specs.Growing.{growing_chain}
 use Rattle.mcs_book.specs.Replies.{receiver_with, owed_by}
 use Rattle.mcs_book.specs.Sound.{Sound, Allowed, IsThere, IsFreeReply}
 use Rattle.mcs_book.specs.Threads.{threads}
+use Rattle.mcs_book.proofs.Chains.ChainLaws.{chain_of-growing}
+use Rattle.mcs_book.proofs.Chains.GivingBack.{top-found}
+use Rattle.mcs_book.proofs.Firm.Laws.{topped-there}
 use Rattle.mcs_book.proofs.SoundLogs.KeptLaws.{reply-there, set-split}
 use Rattle.mcs_book.proofs.Threads.UserLaws.{one_user, receiver_with-named, receiver_with-found}
 use Rattle.mcs_objects.specs.Store.{one_more}
-use Rattle.mcs_replies.specs.Owing.{Owing, is_there as has_reply, chain_with}
+use Rattle.mcs_replies.specs.Owing.{Owing, counts as reply_counts, is_there as has_reply, receiver_in, owed_in, chain_with}
 use Rattle.mcs_state.specs.Tables.{RepliesAgree, shape_said, is_there}
-use Rattle.mcs_state.specs.Following.{RepliesFollow, RepliesFollowMade, AddsReply, SetsReceiver, SetsAny, AddsDebt, DropsDebt, attended}
-use Rattle.mcs_state.proofs.CountLaws.{never-made, shape-made, shape-beside}
+use Rattle.mcs_state.specs.Following.{RepliesFollow, RepliesFollowMade, RepliesFollowClosed, AddsReply, ClosesReply, DropsChain, SetsReceiver, SetsAny, AddsDebt, DropsDebt, attended}
+use Rattle.mcs_state.proofs.CountLaws.{never-made, shape-made, shape-beside, shape-closed, shape-unclosed}
 use Rattle.mcs_state.proofs.Saying.{unsaid}
-use Rattle.mcs_state.proofs.ThereLaws.{there-made, there-beside, there}
+use Rattle.mcs_state.proofs.ThereLaws.{there-made, there-beside, there-closed, there-unclosed, there, released}
 
 -- what is found by one test is found by another that always agrees
 find-same : (p q : ObjId → Bool) (xs : List ObjId) → ((x : ObjId) → p x ≡ q x) → find p xs ≡ find q xs
@@ -132,6 +136,63 @@ born R v w o f sound ok h a = go o.kind refl h
     go kind.Notification e h = beside R v w o f sound ok (ap (λ k. same_kind k kind.Reply) e) h a
     go kind.Context e h = beside R v w o f sound ok (ap (λ k. same_kind k kind.Reply) e) h a
 
+-- a context alone has a chain
+unchained : (R : Log) (s : ObjId) → Sound R → same_kind s.kind kind.Context ≡ false → growing_chain R s ≡ []
+unchained R s sound other = go (growing_chain R s) refl
+  where
+    go : (os : List ObjId) → growing_chain R s ≡ os → os ≡ []
+    go [] e = refl
+    go (r ∷ os) e =
+        let topped : topped_by R r ≡ Some s = top-found R s r sound (ap head_of (chain_of-growing R s sound ∙ e)) in
+        let no : true ≡ false = ap (λ k. same_kind k kind.Context) (sym (topped-there R r s topped).0) ∙ other in
+        absurd cc
+
+-- so the end of another object leaves the chains
+chain-unclosed : (R : Log) (o s : ObjId) → Sound R → same_kind o.kind kind.Context ≡ false → growing_chain R s ≡ growing_chain (rec.Closed o ∷ R) s
+chain-unclosed R o s sound other = go (same s o) refl
+  where
+    go : (b : Bool) → same s o ≡ b → growing_chain R s ≡ cond b [] (growing_chain R s)
+    go false e = refl
+    go true e = ap (λ x. growing_chain R x) (same-equal s o e) ∙ unchained R o sound other
+
+-- a reply object was closed
+closed : (R : Log) (v w : Owing) (o : ObjId) → Sound R → Allowed R (rec.Closed o) → o.kind ≡ kind.Reply → ClosesReply o v w → RepliesAgree v R → RepliesAgree w (rec.Closed o ∷ R)
+closed R v w o sound ok is h a = record {
+  counts = shape-closed R o kind.Reply (reply_counts v) (reply_counts w) sound ok (ap (λ k. same_kind k kind.Reply) is) h.counts a.counts;
+  there = λ x. h.there x ∙ ap (λ b. value_after x o false b) (a.there x) ∙ there-closed R o x kind.Reply;
+  receivers = λ x. h.receivers x ∙ a.receivers x ∙ sym (receiver-kept (rec.Closed o) R x refl);
+  owed = λ x. h.debts.owed x ∙ a.owed x;
+  chains = λ s. h.debts.chains s ∙ a.chains s ∙ chain-unclosed R o s sound (ap (λ k. same_kind k kind.Context) is);
+}
+
+-- a context was closed, and its chain with it
+unlinked : (R : Log) (v w : Owing) (o : ObjId) → Sound R → Allowed R (rec.Closed o) → o.kind ≡ kind.Context → DropsChain o v w → RepliesAgree v R → RepliesAgree w (rec.Closed o ∷ R)
+unlinked R v w o sound ok is h a =
+    let other : same_kind o.kind kind.Reply ≡ false = ap (λ k. same_kind k kind.Reply) is in
+    record {
+      counts = h.same.objects.counts ∙ a.counts ∙ shape-unclosed R o kind.Reply sound ok other;
+      there = λ x. h.same.objects.there x ∙ a.there x ∙ there-unclosed R o x kind.Reply other;
+      receivers = λ x. h.same.receivers x ∙ a.receivers x ∙ sym (receiver-kept (rec.Closed o) R x refl);
+      owed = λ x. h.owed x ∙ a.owed x;
+      chains = λ s. h.chains s ∙ ap (λ os. value_after s o [] os) (a.chains s);
+    }
+
+-- an object was closed that is neither
+unclosed-reply : (R : Log) (v w : Owing) (o : ObjId) → Sound R → Allowed R (rec.Closed o) → same_kind o.kind kind.Reply ≡ false → same_kind o.kind kind.Context ≡ false → w ≡ v → RepliesAgree v R → RepliesAgree w (rec.Closed o ∷ R)
+unclosed-reply R v w o sound ok other beside_contexts is a =
+    still R (rec.Closed o ∷ R) v w is (shape-unclosed R o kind.Reply sound ok other) (λ x. there-unclosed R o x kind.Reply other) (λ x. receiver-kept (rec.Closed o) R x refl) (λ x. refl) (λ s. chain-unclosed R o s sound beside_contexts) a
+
+finished : (R : Log) (v w : Owing) (o : ObjId) → Sound R → Allowed R (rec.Closed o) → RepliesFollowClosed o.kind o v w → RepliesAgree v R → RepliesAgree w (rec.Closed o ∷ R)
+finished R v w o sound ok h a = go o.kind refl h
+  where
+    go : (k : Kind) → o.kind ≡ k → RepliesFollowClosed k o v w → RepliesAgree w (rec.Closed o ∷ R)
+    go kind.Reply e h = closed R v w o sound ok e h a
+    go kind.Context e h = unlinked R v w o sound ok e h a
+    go kind.CNode e h = unclosed-reply R v w o sound ok (ap (λ k. same_kind k kind.Reply) e) (ap (λ k. same_kind k kind.Context) e) h a
+    go kind.Thread e h = unclosed-reply R v w o sound ok (ap (λ k. same_kind k kind.Reply) e) (ap (λ k. same_kind k kind.Context) e) h a
+    go kind.Endpoint e h = unclosed-reply R v w o sound ok (ap (λ k. same_kind k kind.Reply) e) (ap (λ k. same_kind k kind.Context) e) h a
+    go kind.Notification e h = unclosed-reply R v w o sound ok (ap (λ k. same_kind k kind.Reply) e) (ap (λ k. same_kind k kind.Context) e) h a
+
 -- the receiver of one reply object was set, and the others stay; else the log says what it said
 set : (R S : Log) (v w : Owing) (r : ObjId) (t : Option ObjId) → SetsReceiver r t v w → receiver_with S r ≡ t → ((x : ObjId) → same x r ≡ false → receiver_with S x ≡ receiver_with R x)
     → shape_said kind.Reply R ≡ shape_said kind.Reply S → ((x : ObjId) → is_there R kind.Reply x ≡ is_there S kind.Reply x) → ((x : ObjId) → owed_by R x ≡ owed_by S x) → ((s : ObjId) → growing_chain R s ≡ growing_chain S s) → RepliesAgree v R → RepliesAgree w S
@@ -223,7 +284,7 @@ dropped R S v w d how h counts there receivers owed chains a = record {
 -- after any record
 pub replies-follow : (r : Rec) (R : Log) (v w : Owing) → Sound R → Allowed R r → RepliesFollow R r v w → RepliesAgree v R → RepliesAgree w (r ∷ R)
 replies-follow (rec.Made o f) R v w sound ok h a = born R v w o f sound ok h a
-replies-follow (rec.Closed o) R v w sound ok h a = absurd h
+replies-follow (rec.Closed o) R v w sound ok h a = finished R v w o sound ok h a
 replies-follow (rec.Joins u q reply) R v w sound ok h a = joined R v w u q reply sound ok h a
 replies-follow (rec.Parts u q) R v w sound ok h a = parted R v w u q (reply_with R u) sound ok refl h a
 replies-follow (rec.Owes d x s) R v w sound ok h a = begun R v w d x s h a
@@ -247,3 +308,17 @@ attended-there R v u (Receivers e) sound stands a = go (reply_with R u) refl
     go (Some r) is = a.there r ∙ there R kind.Reply r (reply-there R u e r sound stands is).0
 attended-there R v u (Senders e) sound stands a = tt
 attended-there R v u (Waiters n) sound stands a = tt
+
+-- a reply object that may be closed is there, and nobody uses it
+pub closing-reply : (R : Log) (v : Owing) (r : ObjId) → r.kind ≡ kind.Reply → Allowed R (rec.Closed r) → RepliesAgree v R → has_reply v r ≡ true
+closing-reply R v r is ok a = a.there r ∙ there R kind.Reply r (is, ok.0)
+
+pub closing-unowing : (R : Log) (v : Owing) (r : ObjId) → r.kind ≡ kind.Reply → Allowed R (rec.Closed r) → RepliesAgree v R → owed_in v r ≡ None
+closing-unowing R v r is ok a = a.owed r ∙ (released R r kind.Reply is ok).0
+
+pub closing-unattended : (R : Log) (v : Owing) (r : ObjId) → r.kind ≡ kind.Reply → Allowed R (rec.Closed r) → RepliesAgree v R → receiver_in v r ≡ None
+closing-unattended R v r is ok a = a.receivers r ∙ go (receiver_with R r) refl
+  where
+    go : (o : Option ObjId) → receiver_with R r ≡ o → o ≡ None
+    go None e = refl
+    go (Some t) e = let named = receiver_with-named R r t e in absurd ((released R r kind.Reply is ok).1 t named.0.0 named.0.1 named.1)

@@ -1,5 +1,5 @@
 -- The threads follow a record.
-use Rattle.std.specs.Prelude.{ℕ, ◌≡◌, ◌+◌, Bool, true, false, cond, not, ◌&&◌, ◌||◌, [], ◌∷◌, Option, Some, None, IsSome, option_map, unwrap_or}
+use Rattle.std.specs.Prelude.{ℕ, ◌≡◌, ◌+◌, Bool, true, false, cond, not, ◌&&◌, ◌||◌, List, [], ◌∷◌, Option, Some, None, IsSome, option_map, unwrap_or}
 use Rattle.std.specs.Option.{IfSome}
 use Rattle.std.proofs.Common.{refl, ap, sym, ◌∙◌}
 use Rattle.mcs_types.specs.declared.id.ObjId.{ObjId}
@@ -24,6 +24,7 @@ use Rattle.mcs_threads.specs.declared.row.Block.TheVariants.{Queued, OnReply}
 use Rattle.mcs_threads.specs.declared.row.ThreadRow.{ThreadRow}
 use Rattle.mcs_threads.specs.Rows.{new_row, with_notification}
 use Rattle.mcs_threads.specs.Tables.{Table, row_of, mail_of as mail_in, ChangesRow, SameMails}
+use Rattle.mcs_places.specs.Places.{kept_at}
 use Rattle.mcs_book.specs.Logs.{Log, given, counted, latest_knowing}
 use Rattle.mcs_book.specs.Messages.{letter}
 use Rattle.mcs_book.specs.Objects.{was_made, was_closed, is_alive, form_of, makes_kind}
@@ -38,9 +39,10 @@ use Rattle.mcs_book.proofs.Messages.MailLaws.{is_still, mail-still, mail-took, m
 use Rattle.mcs_book.proofs.SoundLogs.KeptLaws.{owed-there, owed-stands_none}
 use Rattle.mcs_state.specs.Saying.{block_said, row_with, row_said}
 use Rattle.mcs_state.specs.Tables.{ThreadsAgree}
-use Rattle.mcs_state.specs.Following.{ThreadsFollow, Mails, MailsFreed}
+use Rattle.mcs_state.specs.Following.{ThreadsFollow, ThreadsFollowClosed, ClosesThread, Mails, MailsFreed}
 use Rattle.mcs_state.proofs.CountLaws.{never-made}
 use Rattle.mcs_state.proofs.DebtLaws.{owing-begun, owing-beside, owing-ended, owing-left}
+use Rattle.mcs_state.proofs.ThereLaws.{said-closed}
 use Rattle.mcs_state.proofs.Saying.{unsaid, unmailed, unowed, unclosed, standing-unowed, owing-kept, owing-made, has-row}
 
 -- a change of a row, by what is said
@@ -258,6 +260,45 @@ no-thread kind.Notification f h e = refl
 no-thread kind.Reply f h e = refl
 no-thread kind.Context f h e = refl
 
+-- nothing is kept of what is no thread
+unlisted : {A : Type 0} (places : List (Option A)) (o t : ObjId) → same_kind o.kind kind.Thread ≡ false → kept_at kind.Thread places t ≡ value_after t o None (kept_at kind.Thread places t)
+unlisted places o t other = go (same t o) refl
+  where
+    go : (b : Bool) → same t o ≡ b → kept_at kind.Thread places t ≡ cond b None (kept_at kind.Thread places t)
+    go false e = refl
+    go true e = rw (same-equal t o e, other) refl
+
+-- what the log says of threads after an object was closed
+row-closed : (R : Log) (o t : ObjId) → value_after t o None (row_said R t) ≡ row_said (rec.Closed o ∷ R) t
+row-closed R o t =
+    said-closed R o t _ ∙ ap (λ d. cond (is_alive (rec.Closed o ∷ R) t) (row_with (form_of R t) (prio_of R t) (mode_of R t) (blocked R t d) (bound_of R t)) None) (sym (owing-kept (rec.Closed o) R t refl))
+
+mail-closed : (R : Log) (o t : ObjId) → value_after t o None (mail_of R t) ≡ mail_of (rec.Closed o ∷ R) t
+unfolding mail_of
+mail-closed R o t = said-closed R o t (latest_knowing None (mail_brought t) R)
+
+-- a thread was closed, or an object of another kind
+closed : (R : Log) (T T' : Table) (o : ObjId) → ClosesThread o T T' → ThreadsAgree T R → ThreadsAgree T' (rec.Closed o ∷ R)
+closed R T T' o h a = record {
+  made = h.made ∙ a.made;
+  rows = λ t. h.rows t ∙ ap (λ r. value_after t o None r) (a.rows t) ∙ row-closed R o t;
+  mails = λ t. h.mails t ∙ ap (λ m. value_after t o None m) (a.mails t) ∙ mail-closed R o t;
+}
+
+unclosed-thread : (R : Log) (T T' : Table) (o : ObjId) → same_kind o.kind kind.Thread ≡ false → T' ≡ T → ThreadsAgree T R → ThreadsAgree T' (rec.Closed o ∷ R)
+unclosed-thread R T T' o other is a = closed R T T' o (rw is (record { made = refl; rows = λ t. unlisted T.rows o t other; mails = λ t. unlisted T.mails o t other })) a
+
+ended : (R : Log) (T T' : Table) (o : ObjId) → ThreadsFollowClosed o.kind o T T' → ThreadsAgree T R → ThreadsAgree T' (rec.Closed o ∷ R)
+ended R T T' o h a = go o.kind refl h
+  where
+    go : (k : Kind) → o.kind ≡ k → ThreadsFollowClosed k o T T' → ThreadsAgree T' (rec.Closed o ∷ R)
+    go kind.Thread e h = closed R T T' o h a
+    go kind.CNode e h = unclosed-thread R T T' o (ap (λ k. same_kind k kind.Thread) e) h a
+    go kind.Endpoint e h = unclosed-thread R T T' o (ap (λ k. same_kind k kind.Thread) e) h a
+    go kind.Notification e h = unclosed-thread R T T' o (ap (λ k. same_kind k kind.Thread) e) h a
+    go kind.Reply e h = unclosed-thread R T T' o (ap (λ k. same_kind k kind.Thread) e) h a
+    go kind.Context e h = unclosed-thread R T T' o (ap (λ k. same_kind k kind.Thread) e) h a
+
 -- what the log says of a thread after a record that is not of threads
 unturned : (r : Rec) (R : Log) (t : ObjId) (o : Option ObjId) → owing (r ∷ R) t ≡ o → o ≡ owing R t → row_blocked R t (prio_of R t) (mode_of R t) (blocked R t (owing (r ∷ R) t)) ≡ row_said R t
 unturned r R t o e f = ap (λ d. row_blocked R t (prio_of R t) (mode_of R t) (blocked R t d)) (e ∙ f)
@@ -274,6 +315,7 @@ threads-follow (rec.Made o (form.Runner maximum root)) R T T' sound ok h a =
 threads-follow (rec.Made o form.Plain) R T T' sound ok h a = beside R T T' o form.Plain sound ok h refl (no-thread o.kind form.Plain ok.1 refl) a
 threads-follow (rec.Made o (form.Slots radix)) R T T' sound ok h a = beside R T T' o (form.Slots radix) sound ok h refl (no-thread o.kind (form.Slots radix) ok.1 refl) a
 threads-follow (rec.Made o (form.OnCore core)) R T T' sound ok h a = beside R T T' o (form.OnCore core) sound ok h refl (no-thread o.kind (form.OnCore core) ok.1 refl) a
+threads-follow (rec.Closed o) R T T' sound ok h a = ended R T T' o h a
 threads-follow (rec.Slot c i cap) R T T' sound ok h a = kept R T T' (rec.Slot c i cap) h (λ t. refl) (λ t. unturned (rec.Slot c i cap) R t _ (owing-kept (rec.Slot c i cap) R t refl) refl) refl a
 threads-follow (rec.Prio u p) R T T' sound ok h a = record { made = h.count ∙ a.made; rows = ranked R T T' u p h a; mails = mails-quiet R T T' (rec.Prio u p) (λ t. refl) h.mails a }
 threads-follow (rec.Turns u m) R T T' sound ok h a = record { made = h.count ∙ a.made; rows = turned R T T' u m h a; mails = mails-quiet R T T' (rec.Turns u m) (λ t. refl) h.mails a }
@@ -306,7 +348,6 @@ threads-follow (rec.Heard u n word) R T T' sound ok h a = record {
   mails = mails-heard R T T' u n word ok.0.1 h a;
 }
 threads-follow (rec.Tied u n) R T T' sound ok h a = record { made = h.count ∙ a.made; rows = tied R T T' u n h a; mails = mails-quiet R T T' (rec.Tied u n) (λ t. refl) h.mails a }
-threads-follow _ R T T' sound ok h a = absurd h
 
 -- a thread that is there is in the table
 pub thread-there : (R : Log) (T : Table) (t : ObjId) → Sound R → ThreadsAgree T R → IsThere R kind.Thread t → IsSome (row_of T t)

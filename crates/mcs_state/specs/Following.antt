@@ -1,5 +1,5 @@
--- How each table follows one more record. No primitive closes an object yet: no table that Closed may change follows it.
-use Rattle.std.specs.Prelude.{ℕ, ◌≡◌, ◌+◌, ◌++◌, ◌∷◌, [], ◌||◌, true, List, length, Option, Some, None, option_map}
+-- How each table follows one more record.
+use Rattle.std.specs.Prelude.{ℕ, ◌≡◌, ◌+◌, ◌++◌, ◌∷◌, [], ◌||◌, true, false, List, length, Option, Some, None, option_map}
 use Rattle.mcs_types.specs.declared.id.ObjId.{ObjId}
 use Rattle.mcs_types.specs.declared.id.CoreId.{CoreId}
 use Rattle.mcs_types.specs.declared.id.Kind.{Kind}
@@ -26,7 +26,7 @@ use Rattle.mcs_book.specs.Queues.{reply_with}
 use Rattle.mcs_book.specs.Standing.{letter_mail}
 use Rattle.mcs_book.specs.Threads.{prio_of}
 use Rattle.mcs_places.specs.Places.{kept_at}
-use Rattle.mcs_objects.specs.Store.{one_more}
+use Rattle.mcs_objects.specs.Store.{one_more, IsOneFewer}
 use Rattle.mcs_contexts.specs.Holding.{Holding, core_in, holder_in, counts}
 use Rattle.mcs_replies.specs.Owing.{Owing, counts as reply_counts, is_there as has_reply, receiver_in, owed_in, chain_in, SetsOwed, LiesOnTop, EndsDebt}
 use Rattle.mcs_notifications.specs.Signals.{Signals, counts as notification_counts, is_there as has_notification, word_in, thread_in, SetsWord, SetsThread}
@@ -35,8 +35,8 @@ use Rattle.mcs_slots.specs.Pages.{Page, ArePages, empty_page}
 use Rattle.mcs_threads.specs.declared.row.Block.TheVariants.{Queued, OnReply}
 use Rattle.mcs_threads.specs.declared.row.ThreadRow.{ThreadRow}
 use Rattle.mcs_threads.specs.Rows.{new_row, with_notification}
-use Rattle.mcs_threads.specs.Tables.{Table, made, row_of, mail_of, ChangesRow, SameRows, SameMails}
-use Rattle.mcs_waiting.specs.Queues.{is_queue_of, line_after, count_after}
+use Rattle.mcs_threads.specs.Tables.{Table, made, row_of, mail_of, ChangesRow, SetsRow, SetsMail, SameRows, SameMails}
+use Rattle.mcs_waiting.specs.Queues.{is_queue_of, line_after, count_after, CountsOneMore, LosesQueues}
 use Rattle.mcs_state.specs.Tables.{Tables, Queueing}
 
 -- a thread was made
@@ -57,10 +57,22 @@ pub record MailsFreed (t : ObjId) (mail : Mail) (old new : Table) : Type 0 where
   pub rows : (x : ObjId) → row_of new x ≡ value_after x t (option_map (λ (r : ThreadRow). record r { block = None }) (row_of old x)) (row_of old x)
   pub mails : (x : ObjId) → mail_of new x ≡ value_after x t (Some mail) (mail_of old x)
 
+-- a thread was closed: it has neither a row nor a mail
+pub record ClosesThread (t : ObjId) (old new : Table) : Type 0 where
+  pub made : made new ≡ made old
+  pub rows : SetsRow old new t None
+  pub mails : SetsMail old new t None
+
+-- how the threads follow the end of an object
+abbrev pub ThreadsFollowClosed : Kind → ObjId → Table → Table → Type 0
+ThreadsFollowClosed kind.Thread o old new = ClosesThread o old new
+ThreadsFollowClosed _ o old new = new ≡ old
+
 -- how the threads follow a record; R stands before it
 abbrev pub ThreadsFollow : Log → Rec → Table → Table → Type 0
 ThreadsFollow R (rec.Made o (form.Runner maximum root)) old new = AddsThread o maximum root old new
 ThreadsFollow R (rec.Made o f) old new = new ≡ old
+ThreadsFollow R (rec.Closed o) old new = ThreadsFollowClosed o.kind o old new
 ThreadsFollow R (rec.Slot c i cap) old new = new ≡ old
 ThreadsFollow R (rec.Prio u p) old new = ChangesRow (λ r. record r { priority = p }) old new u
 ThreadsFollow R (rec.Turns u m) old new = ChangesRow (λ r. record r { mode = m }) old new u
@@ -76,7 +88,6 @@ ThreadsFollow R (rec.Holds s t) old new = new ≡ old
 ThreadsFollow R (rec.Raised n badge) old new = new ≡ old
 ThreadsFollow R (rec.Heard t n word) old new = Mails t (Word word) old new
 ThreadsFollow R (rec.Tied t n) old new = ChangesRow (with_notification n) old new t
-ThreadsFollow R _ old new = ⊥
 
 -- the open message of a thread is this one from now on, or none
 pub record KeepsLetter (x : ObjId) (s : Option Letter) (old new : List (Option Letter)) : Type 0 where
@@ -106,10 +117,21 @@ pub record GivesContext (s : ObjId) (t : Option ObjId) (old new : Holding) : Typ
   pub cores : (x : ObjId) → core_in new x ≡ core_in old x
   pub holders : (x : ObjId) → holder_in new x ≡ value_after x s t (holder_in old x)
 
+-- a context was closed
+pub record ClosesContext (s : ObjId) (old new : Holding) : Type 0 where
+  pub counts : IsOneFewer (counts old) (counts new)
+  pub cores : ChangesAt (core_in old) (core_in new) s None
+  pub holders : (x : ObjId) → holder_in new x ≡ holder_in old x
+
+-- how the contexts follow the end of an object
+abbrev pub ContextsFollowClosed : Kind → ObjId → Holding → Holding → Type 0
+ContextsFollowClosed kind.Context o old new = ClosesContext o old new
+ContextsFollowClosed _ o old new = new ≡ old
+
 -- how the contexts follow a record
 abbrev pub ContextsFollow : Rec → Holding → Holding → Type 0
 ContextsFollow (rec.Made o (form.OnCore core)) old new = AddsContext o core old new
-ContextsFollow (rec.Closed o) old new = ⊥
+ContextsFollow (rec.Closed o) old new = ContextsFollowClosed o.kind o old new
 ContextsFollow (rec.Holds s t) old new = GivesContext s t old new
 ContextsFollow _ old new = new ≡ old
 
@@ -151,10 +173,24 @@ QueuesFollowMade kind.Endpoint o old new = OpensQueues o old new
 QueuesFollowMade kind.Notification o old new = OpensQueues o old new
 QueuesFollowMade _ o old new = new ≡ old
 
+-- an endpoint or a notification was closed
+pub record ClosesQueues (o : ObjId) (old new : Queueing) : Type 0 where
+  pub line : (q : Queue) → new.line q ≡ old.line q
+  pub queue : (t : ObjId) → new.queue t ≡ old.queue t
+  pub has : LosesQueues old.has new.has o
+  pub made : (k : Kind) → new.made k ≡ old.made k
+  pub there : CountsOneMore new.there old.there o.kind
+
+-- how the queues follow the end of an object
+abbrev pub QueuesFollowClosed : Kind → ObjId → Queueing → Queueing → Type 0
+QueuesFollowClosed kind.Endpoint o old new = ClosesQueues o old new
+QueuesFollowClosed kind.Notification o old new = ClosesQueues o old new
+QueuesFollowClosed _ o old new = new ≡ old
+
 -- how the queues follow a record
 abbrev pub QueuesFollow : Log → Rec → Queueing → Queueing → Type 0
 QueuesFollow R (rec.Made o f) old new = QueuesFollowMade o.kind o old new
-QueuesFollow R (rec.Closed o) old new = ⊥
+QueuesFollow R (rec.Closed o) old new = QueuesFollowClosed o.kind o old new
 QueuesFollow R (rec.Prio u p) old new = ShiftsInQueue u p.0 old new
 QueuesFollow R (rec.Joins u q reply) old new = JoinsQueue u (prio_of R u) q old new
 QueuesFollow R (rec.Parts u q) old new = PartsQueue u old new
@@ -202,6 +238,24 @@ abbrev pub RepliesFollowMade : Kind → ObjId → Owing → Owing → Type 0
 RepliesFollowMade kind.Reply o old new = AddsReply o old new
 RepliesFollowMade _ o old new = new ≡ old
 
+-- a reply object was closed, or the chain of a context that was
+pub record ClosesReply (r : ObjId) (old new : Owing) : Type 0 where
+  pub counts : IsOneFewer (reply_counts old) (reply_counts new)
+  pub there : ChangesAt (has_reply old) (has_reply new) r false
+  pub receivers : (x : ObjId) → receiver_in new x ≡ receiver_in old x
+  pub debts : SameDebts old new
+
+pub record DropsChain (s : ObjId) (old new : Owing) : Type 0 where
+  pub same : SameReceivers old new
+  pub owed : (x : ObjId) → owed_in new x ≡ owed_in old x
+  pub chains : ChangesAt (chain_in old) (chain_in new) s []
+
+-- how the reply objects follow the end of an object
+abbrev pub RepliesFollowClosed : Kind → ObjId → Owing → Owing → Type 0
+RepliesFollowClosed kind.Reply o old new = ClosesReply o old new
+RepliesFollowClosed kind.Context o old new = DropsChain o old new
+RepliesFollowClosed _ o old new = new ≡ old
+
 -- the receiver of a reply object, if there is one, is this one from now on
 abbrev pub SetsAny : Option ObjId → Option ObjId → Owing → Owing → Type 0
 SetsAny None t old new = new ≡ old
@@ -215,7 +269,7 @@ attended _ reply = None
 -- how the reply objects follow a record; a debt that is paid leaves its chain as one whose reply object is deleted
 abbrev pub RepliesFollow : Log → Rec → Owing → Owing → Type 0
 RepliesFollow R (rec.Made o f) old new = RepliesFollowMade o.kind o old new
-RepliesFollow R (rec.Closed o) old new = ⊥
+RepliesFollow R (rec.Closed o) old new = RepliesFollowClosed o.kind o old new
 RepliesFollow R (rec.Joins u q reply) old new = SetsAny (attended q reply) (Some u) old new
 RepliesFollow R (rec.Parts u q) old new = SetsAny (attended q (reply_with R u)) None old new
 RepliesFollow R (rec.Owes d x brought) old new = AddsDebt d x brought old new
@@ -258,10 +312,22 @@ abbrev pub NotificationsFollowMade : Kind → ObjId → Signals → Signals → 
 NotificationsFollowMade kind.Notification o old new = AddsNotification o old new
 NotificationsFollowMade _ o old new = new ≡ old
 
+-- a notification was closed, and its word with it
+pub record ClosesNotification (n : ObjId) (old new : Signals) : Type 0 where
+  pub counts : IsOneFewer (notification_counts old) (notification_counts new)
+  pub there : ChangesAt (has_notification old) (has_notification new) n false
+  pub words : SetsWord old new n None
+  pub threads : (x : ObjId) → thread_in new x ≡ thread_in old x
+
+-- how the notifications follow the end of an object
+abbrev pub NotificationsFollowClosed : Kind → ObjId → Signals → Signals → Type 0
+NotificationsFollowClosed kind.Notification o old new = ClosesNotification o old new
+NotificationsFollowClosed _ o old new = new ≡ old
+
 -- how the notifications follow a record
 abbrev pub NotificationsFollow : Log → Rec → Signals → Signals → Type 0
 NotificationsFollow R (rec.Made o f) old new = NotificationsFollowMade o.kind o old new
-NotificationsFollow R (rec.Closed o) old new = ⊥
+NotificationsFollow R (rec.Closed o) old new = NotificationsFollowClosed o.kind o old new
 NotificationsFollow R (rec.Raised n badge) old new = KeepsWord n (Some (with_badge badge.0 (word_in old n))) old new
 NotificationsFollow R (rec.Heard t n word) old new = KeepsWord n None old new
 NotificationsFollow R (rec.Tied t n) old new = Rebinds t (bound_of R t) n old new
@@ -288,3 +354,14 @@ pub record Follows (R : Log) (r : Rec) (old new : Tables) : Type 0 where
   pub notifications : NotificationsFollow R r old.notifications new.notifications
   pub slots : SlotsFollow r old.slots new.slots
   pub sent : SentFollows r old.sent new.sent
+
+-- each table follows the end of an object of a kind
+pub record FollowsClosed (k : Kind) (o : ObjId) (old new : Tables) : Type 0 where
+  pub threads : ThreadsFollowClosed k o old.threads new.threads
+  pub letters : new.letters ≡ old.letters
+  pub contexts : ContextsFollowClosed k o old.contexts new.contexts
+  pub queues : QueuesFollowClosed k o old.queues new.queues
+  pub replies : RepliesFollowClosed k o old.replies new.replies
+  pub notifications : NotificationsFollowClosed k o old.notifications new.notifications
+  pub slots : new.slots ≡ old.slots
+  pub sent : new.sent ≡ old.sent

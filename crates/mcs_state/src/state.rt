@@ -10,6 +10,7 @@ ghost use Rattle.mcs_book.specs.Standing.{letter_mail};
 ghost use Rattle.mcs_state.specs.Now.{so_far, adds, IsNumberOf};
 ghost use Rattle.mcs_state.specs.Tables.{HAND};
 
+mod closing;
 mod making;
 mod notifying;
 mod picking;
