@@ -98,6 +98,13 @@ impl Contexts {
         self.rows.given()
     }
 
+    /// How many contexts are there (own).
+    pub fn len(&self) -> usize
+        ensures { result ≡ (counts self.now).there }
+    {
+        self.rows.len()
+    }
+
     /// Adds a context of a core where there is room, as `is_full` tells: its serial is the next, and nobody holds it (own).
     pub fn add(&mut self, core: CoreId) -> ObjId
         requires { no_room self.old ≡ false }

@@ -120,6 +120,13 @@ impl Replies {
         self.rows.given()
     }
 
+    /// How many reply objects are there (own).
+    pub fn len(&self) -> usize
+        ensures { result ≡ (counts self.now).there }
+    {
+        self.rows.len()
+    }
+
     /// Adds a reply object where there is room: its serial is the next, it owes nobody, and no receiver stands with it (own).
     pub fn add(&mut self) -> ObjId
         requires { no_room self.old ≡ false }
