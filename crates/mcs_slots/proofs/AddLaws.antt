@@ -1,13 +1,15 @@
 -- What one CNode more changes.
-use Rattle.std.specs.Prelude.{ℕ, zero, suc, ◌≡◌, ◌≢◌, ◌^◌, ◌==◌, Bool, true, false, cond, List, [], ◌∷◌, ◌++◌, length, Option, Some, None, replicate, slice_get, slice_index_or}
+use Rattle.std.specs.Prelude.{ℕ, zero, suc, ◌≡◌, ◌≢◌, ◌^◌, ◌==◌, Bool, true, false, cond, List, [], ◌∷◌, ◌++◌, length, Option, Some, None, replicate, slice_get, slice_index_or, ◌+◌, count_by}
 use Rattle.std.proofs.Common.{refl, ap, sym, ◌∙◌, inl, inr, arith}
 use Rattle.std.proofs.lemmas.Bool.{eqb-true, cases_eq}
 use Rattle.std.proofs.lemmas.Grind.{common_steps}
+use Rattle.std.proofs.lemmas.List.Sums.{sum_by_push}
 use Rattle.mcs_types.specs.declared.id.ObjId.{ObjId}
 use Rattle.mcs_types.specs.declared.cap.Cap.{Cap}
 use Rattle.mcs_types.specs.Ids.{same}
+use Rattle.mcs_book.specs.Slots.{is_cap_to}
 use Rattle.mcs_slots.specs.Numbers.{number_of}
-use Rattle.mcs_slots.specs.Pages.{Page, empty_page, page_of, page_radix, page_slot, radix_of, slot_at}
+use Rattle.mcs_slots.specs.Pages.{Page, empty_page, page_of, page_radix, page_slot, radix_of, slot_at, held}
 use Rattle.mcs_slots.proofs.SlotLaws.{same-numbers, other-object}
 
 -- behind the last page there is none
@@ -68,3 +70,15 @@ slot-more S r c i = go (number_of c)
     go : (n : Option ℕ) → page_slot (page_of (S ++ empty_page r ∷ []) n) i ≡ page_slot (page_of S n) i
     go None = refl
     go (Some n) = rw (page-more S (empty_page r) n) (at n (n == length S) refl)
+
+-- empty slots hold no capability
+empty-held : (o : ObjId) (n : ℕ) → count_by (is_cap_to o) (replicate n None) ≡ 0
+empty-held o zero = refl
+empty-held o (suc n) = empty-held o n
+
+-- so as many slots hold one to an object as before
+pub held-more : (S : List Page) (r : ℕ) (o : ObjId) → held (S ++ empty_page r ∷ []) o ≡ held S o
+held-more S r o =
+    let more : held (S ++ empty_page r ∷ []) o ≡ held S o + count_by (is_cap_to o) (replicate (2 ^ r) None) = sum_by_push (λ (p : Page). count_by (is_cap_to o) p.caps) S (empty_page r) in
+    let none = empty-held o (2 ^ r) in
+    omega (arith, more, none)

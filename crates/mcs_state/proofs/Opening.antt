@@ -104,7 +104,7 @@ blank-kept T R none b = rw none (record {
   queues = record { made = λ k own. b.made k; there = λ k own. b.there k; line = b.line; queue = b.queue; has = λ q. b.has q ∙ sym (none-there (queue_kind q) (queue_object q)) };
   replies = record { counts = b.replies; there = λ r. b.has_reply r ∙ sym (none-there kind.Reply r); receivers = λ r. b.receivers r ∙ sym (nobody-receives r); owed = b.owed; chains = b.chains };
   notifications = record { counts = b.notifications; there = λ n. b.has_notification n ∙ sym (none-there kind.Notification n); words = λ n. b.words n ∙ sym (word-none n); threads = λ n. b.bound n ∙ sym (nobody-bound n) };
-  slots = rw b.slots (record { made = refl; radices = none-radix; slots = none-slot });
+  slots = rw b.slots (record { made = refl; radices = none-radix; slots = none-slot; counts = λ o. refl });
   sent = record { all = b.sent; few = let zero_sent = b.sent in omega (arith, zero_sent) };
 })
 

@@ -14,17 +14,18 @@ use Rattle.mcs_types.specs.declared.record.Rec.TheVariants as rec
 use Rattle.mcs_types.specs.Ids.{same, same_kind}
 use Rattle.mcs_book.specs.Logs.{Log, counted, given}
 use Rattle.mcs_book.specs.Objects.{makes_kind, next_id, form_of}
-use Rattle.mcs_book.specs.Slots.{slot}
+use Rattle.mcs_book.specs.Slots.{slot, is_cap_to}
 use Rattle.mcs_book.specs.Lookup.{space_of, radix_kept}
 use Rattle.mcs_book.specs.Sound.{Sound, Allowed, IsThere, IsFormOf}
 use Rattle.mcs_types.proofs.Ids.{same-equal}
+use Rattle.mcs_book.proofs.Objects.CountLaws.{count-filled}
 use Rattle.mcs_book.proofs.Objects.MadeLaws.{alive-made, made-serial}
 use Rattle.mcs_slots.specs.declared.slots.SlotId.{SlotId}
 use Rattle.mcs_slots.specs.Numbers.{number_of}
 use Rattle.mcs_slots.specs.Pages.{Page, ArePages, HasSlot, empty_page, page_of, page_at, page_radix, page_slots, radix_of, slot_at}
 use Rattle.mcs_slots.specs.Filling.{filled}
-use Rattle.mcs_slots.proofs.SlotLaws.{slot_at-filled, radix_of-filled, length-fills}
-use Rattle.mcs_slots.proofs.AddLaws.{radix-more, slot-more}
+use Rattle.mcs_slots.proofs.SlotLaws.{slot_at-filled, radix_of-filled, length-fills, held-filled}
+use Rattle.mcs_slots.proofs.AddLaws.{radix-more, slot-more, held-more}
 use Rattle.mcs_cspace.specs.Spaces.{slots_space}
 use Rattle.mcs_state.specs.Tables.{SlotsAgree}
 use Rattle.mcs_state.specs.Following.{SlotsFollow}
@@ -51,6 +52,7 @@ other-made R P o f other fits a = record {
   made = a.made ∙ rw other refl;
   radices = λ c. go c (same c o) refl (a.radices c);
   slots = a.slots;
+  counts = a.counts;
 }
   where
     go : (c : ObjId) (b : Bool) → same c o ≡ b → unwrap_or (radix_of P c) 0 ≡ radix_kept (form_of R c) → unwrap_or (radix_of P c) 0 ≡ radix_kept (unwrap_or (given b (Some f)) (form_of R c))
@@ -72,11 +74,19 @@ cnode-next R P radix a = record {
   made = length-append P (empty_page radix ∷ []) ∙ ap (λ n. n + 1) a.made;
   radices = λ c. ap (λ o. unwrap_or o 0) (radix-more P radix c (next_id R kind.CNode) (next-number R P a.made)) ∙ go c (same c (next_id R kind.CNode)) (a.radices c);
   slots = λ c i. slot-more P radix c i ∙ a.slots c i;
+  counts = λ o. held-more P radix o ∙ a.counts o;
 }
   where
     go : (c : ObjId) (b : Bool) → unwrap_or (radix_of P c) 0 ≡ radix_kept (form_of R c) → unwrap_or (cond b (Some radix) (radix_of P c)) 0 ≡ radix_kept (unwrap_or (given b (Some (form.Slots radix))) (form_of R c))
     go c true h = refl
     go c false h = h
+
+-- two numbers of which the same is left, after as much was taken away
+counts_alike : (b c : Bool) (m n k : ℕ) → b ≡ c → m + cond b 1 0 ≡ k → n + cond c 1 0 ≡ k → m ≡ n
+counts_alike true true m n k e f h = omega (arith, f, h)
+counts_alike false false m n k e f h = omega (arith, f, h)
+counts_alike true false m n k e f h = absurd cc
+counts_alike false true m n k e f h = absurd cc
 
 -- a slot was filled or emptied
 slot-filled : (R : Log) (P : List Page) (at : SlotId) (cap : Option Cap) → ArePages P → HasSlot P at → SlotsAgree P R → SlotsAgree (filled P at cap) (rec.Slot at.cnode at.index cap ∷ R)
@@ -84,6 +94,8 @@ slot-filled R P at cap pages has a = record {
   made = length-fills P (at.cnode.serial - 1) at.index cap ∙ a.made;
   radices = λ c. ap (λ o. unwrap_or o 0) (radix_of-filled P at cap c) ∙ a.radices c;
   slots = λ c i. slot_at-filled P at cap c i pages has ∙ go c i (same c at.cnode && (i == at.index)) (a.slots c i);
+  counts = λ o. counts_alike (is_cap_to o (slot_at P at.cnode at.index)) (is_cap_to o (slot R at.cnode at.index)) _ _ _ (ap (is_cap_to o) (a.slots at.cnode at.index))
+      (held-filled P at cap o pages has ∙ ap (λ n. n + cond (is_cap_to o cap) 1 0) (a.counts o)) (count-filled R at.cnode at.index cap o);
 }
   where
     go : (c : ObjId) (i : ℕ) (b : Bool) → slot_at P c i ≡ slot R c i → cond b cap (slot_at P c i) ≡ unwrap_or (given b cap) (slot R c i)
@@ -148,4 +160,4 @@ slots-follow (rec.Made o (form.Runner maximum root)) R P Q sound ok h a = rw h (
 slots-follow (rec.Slot c i cap) R P Q sound ok h a =
     let at : SlotId = record { cnode = c; index = i } in
     rw h.1 (slot-filled R P at cap h.0 (has-slot R P at a sound ok.0 ok.1) a)
-slots-follow _ R P Q sound ok h a = rw h (record { made = a.made; radices = a.radices; slots = a.slots })
+slots-follow _ R P Q sound ok h a = rw h (record { made = a.made; radices = a.radices; slots = a.slots; counts = a.counts })

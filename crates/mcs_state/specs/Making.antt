@@ -1,7 +1,7 @@
 -- Where an object can be made.
 use Rattle.std.specs.Prelude.{ℕ, ◌<◌, Bool, true, false}
 use Rattle.mcs_types.specs.declared.id.Kind.{Kind}
-use Rattle.mcs_types.specs.declared.id.Kind.TheVariants.{Endpoint, Notification, Reply}
+use Rattle.mcs_types.specs.declared.id.Kind.TheVariants.{Endpoint, Notification, Reply, Context}
 use Rattle.mcs_types.specs.declared.record.Form.{Form}
 use Rattle.mcs_types.specs.declared.record.Rec.TheVariants.{Made}
 use Rattle.mcs_book.specs.Logs.{Log, counted}
@@ -33,3 +33,8 @@ is_plain_kind Endpoint = true
 is_plain_kind Notification = true
 is_plain_kind Reply = true
 is_plain_kind _ = false
+
+-- whether no more than so many objects of a kind may be there at a time; of the others so many may be made
+abbrev pub has_limit : Kind → Bool
+has_limit Context = true
+has_limit k = is_plain_kind k

@@ -12,7 +12,7 @@ use Rattle.mcs_types.specs.Limits.{object_limit, record_limit}
 use Rattle.mcs_types.specs.Ids.{same_kind}
 use Rattle.mcs_book.specs.Logs.{Log, counted}
 use Rattle.mcs_book.specs.Objects.{is_alive, form_of, makes_kind, number_of}
-use Rattle.mcs_book.specs.Slots.{slot}
+use Rattle.mcs_book.specs.Slots.{slot, count_of}
 use Rattle.mcs_book.specs.Lookup.{radix_kept}
 use Rattle.mcs_book.specs.Queues.{queue_of}
 use Rattle.mcs_book.specs.Standing.{mail_of}
@@ -27,7 +27,7 @@ use Rattle.mcs_objects.specs.Store.{Shape}
 use Rattle.mcs_contexts.specs.Holding.{Holding, counts, core_in, holder_in}
 use Rattle.mcs_replies.specs.Owing.{Owing, counts as reply_counts, is_there as has_reply, receiver_in, owed_in, chain_in}
 use Rattle.mcs_notifications.specs.Signals.{Signals, counts as notification_counts, is_there as has_notification, word_in, thread_in}
-use Rattle.mcs_slots.specs.Pages.{Page, radix_of, slot_at}
+use Rattle.mcs_slots.specs.Pages.{Page, radix_of, slot_at, held}
 use Rattle.mcs_threads.specs.Tables.{Table, made, row_of, mail_of as mail_in}
 use Rattle.mcs_waiting.specs.Queues.{queue_object, queue_kind, has_queues}
 use Rattle.mcs_state.specs.Saying.{row_said}
@@ -121,11 +121,13 @@ pub record NotificationsAgree (v : Signals) (R : Log) : Type 0 where
   pub words : (n : ObjId) → word_in v n ≡ word_said R n
   pub threads : (n : ObjId) → thread_in v n ≡ tied_to R n
 
--- the pages of the CNodes: as many as were made, with their radices and what their slots hold
+-- the pages of the CNodes: as many as were made, with their radices, what their slots hold, and how many hold a capability to
+-- an object
 pub record SlotsAgree (pages : List Page) (R : Log) : Type 0 where
   pub made : length pages ≡ counted (makes_kind kind.CNode) R
   pub radices : (c : ObjId) → unwrap_or (radix_of pages c) 0 ≡ radix_kept (form_of R c)
   pub slots : (c : ObjId) (i : ℕ) → slot_at pages c i ≡ slot R c i
+  pub counts : (o : ObjId) → held pages o ≡ count_of R o
 
 -- how many messages were sent: as many as so many lines and the records in hand can have
 pub record SentAgrees (sent lines : ℕ) (hand R : Log) : Type 0 where

@@ -104,8 +104,8 @@ count-none R o c i none = go (slot R c i) refl
     go None is = refl
     go (Some cap) is = ap (is_cap_to o) (sym is) ∙ counted-none (λ at. is_cap_to o (slot R at.cnode at.index)) (written R) (record { cnode = c; index = i }) (slot-written R (record { cnode = c; index = i }) cap is) none
 
--- two tests that differ at one slot alone
-module _ (p q : SlotName → Bool) (at : SlotName) (passes : p at ≡ true) (fails : q at ≡ false) (agree : (b : SlotName) → same_slot at b ≡ false → p b ≡ q b) where
+-- two tests that agree at every other slot
+module _ (p q : SlotName → Bool) (at : SlotName) (agree : (b : SlotName) → same_slot at b ≡ false → p b ≡ q b) where
   -- count alike where it is not in the list
   counted-same : (slots : List SlotName) → list_any (same_slot at) slots ≡ false → counted p slots ≡ counted q slots
   counted-same [] h = refl
@@ -115,51 +115,72 @@ module _ (p q : SlotName → Bool) (at : SlotName) (passes : p at ≡ true) (fai
       go true e h later = absurd cc
       go false e h later = ap (λ n. cond (p x) (n + 1) n) (later h) ∙ ap (λ b. cond b (counted q xs + 1) (counted q xs)) (agree x e)
 
-  -- and differ by one where it is in the list
-  counted-drop : (slots : List SlotName) → Once slots → list_any (same_slot at) slots ≡ true → counted p slots ≡ counted q slots + 1
-  counted-drop [] once h = absurd cc
-  counted-drop (x ∷ xs) once h = go (same_slot at x) refl h (counted-drop xs once.1)
+  -- and differ by that slot where it is in the list
+  counted-change : (slots : List SlotName) → Once slots → list_any (same_slot at) slots ≡ true → counted q slots + cond (p at) 1 0 ≡ counted p slots + cond (q at) 1 0
+  counted-change [] once h = absurd cc
+  counted-change (x ∷ xs) once h = go (same_slot at x) refl h (counted-change xs once.1)
     where
-      go : (b : Bool) → same_slot at x ≡ b → (b || list_any (same_slot at) xs) ≡ true → (list_any (same_slot at) xs ≡ true → counted p xs ≡ counted q xs + 1) → cond (p x) (counted p xs + 1) (counted p xs) ≡ cond (q x) (counted q xs + 1) (counted q xs) + 1
-      go true e h later =
-          let it : at ≡ x = same_slot-equal at x e in
-          let gone : list_any (same_slot at) xs ≡ false = ap (λ (z : SlotName). list_any (same_slot z) xs) it ∙ once.0 in
-          ap (λ b. cond b (counted p xs + 1) (counted p xs)) (ap p (sym it) ∙ passes) ∙ ap (λ n. n + 1) (counted-same xs gone) ∙ ap (λ b. cond b (counted q xs + 1) (counted q xs) + 1) (sym (ap q (sym it) ∙ fails))
-      go false e h later = either (p x) (q x) (agree x e) (later h)
-        where
-          either : (b c : Bool) → b ≡ c → counted p xs ≡ counted q xs + 1 → cond b (counted p xs + 1) (counted p xs) ≡ cond c (counted q xs + 1) (counted q xs) + 1
-          either true true e k = ap (λ n. n + 1) k
-          either false false e k = k
-          either true false e k = absurd cc
-          either false true e k = absurd cc
+      swapped : (a b : Bool) (n : ℕ) → cond b (n + 1) n + cond a 1 0 ≡ cond a (n + 1) n + cond b 1 0
+      swapped true true n = refl
+      swapped true false n = omega arith
+      swapped false true n = omega arith
+      swapped false false n = refl
 
--- when the last capability to an object is taken from its slot, there was one
-pub last-one : (R : Log) (c : ObjId) (i : ℕ) (cap : Cap) → slot R c i ≡ Some cap → count_of (rec.Slot c i None ∷ R) cap.obj ≡ 0 → count_of R cap.obj ≡ 1
-last-one R c i cap held none = counted-drop p q at passes fails agree (written R) (written-once R) there ∙ ap (λ n. n + 1) (sym same_slots ∙ none)
+      either : (a b : Bool) (m n : ℕ) → a ≡ b → n + cond (p at) 1 0 ≡ m + cond (q at) 1 0 → cond b (n + 1) n + cond (p at) 1 0 ≡ cond a (m + 1) m + cond (q at) 1 0
+      either true true m n e k = omega (arith, k)
+      either false false m n e k = k
+      either true false m n e k = absurd cc
+      either false true m n e k = absurd cc
+
+      go : (b : Bool) → same_slot at x ≡ b → (b || list_any (same_slot at) xs) ≡ true → (list_any (same_slot at) xs ≡ true → counted q xs + cond (p at) 1 0 ≡ counted p xs + cond (q at) 1 0)
+          → cond (q x) (counted q xs + 1) (counted q xs) + cond (p at) 1 0 ≡ cond (p x) (counted p xs + 1) (counted p xs) + cond (q at) 1 0
+      go true e h later =
+          let it : x ≡ at = sym (same_slot-equal at x e) in
+          let gone : list_any (same_slot at) xs ≡ false = ap (λ (z : SlotName). list_any (same_slot z) xs) (sym it) ∙ once.0 in
+          ap (λ b. cond b (counted q xs + 1) (counted q xs) + cond (p at) 1 0) (ap q it) ∙ swapped (p at) (q at) (counted q xs)
+          ∙ ap (λ n. cond (p at) (n + 1) n + cond (q at) 1 0) (sym (counted-same xs gone)) ∙ ap (λ b. cond b (counted p xs + 1) (counted p xs) + cond (q at) 1 0) (ap p (sym it))
+      go false e h later = either (p x) (q x) (counted p xs) (counted q xs) (agree x e) (later h)
+
+-- filling a slot counts what it holds then in place of what it held
+pub count-filled : (R : Log) (c : ObjId) (i : ℕ) (cap : Option Cap) (o : ObjId) → count_of (rec.Slot c i cap ∷ R) o + cond (is_cap_to o (slot R c i)) 1 0 ≡ count_of R o + cond (is_cap_to o cap) 1 0
+count-filled R c i cap o = go (list_any (same_slot at) (written R)) refl
   where
     at : SlotName
     at = record { cnode = c; index = i }
 
     p : SlotName → Bool
-    p b = is_cap_to cap.obj (slot R b.cnode b.index)
+    p b = is_cap_to o (slot R b.cnode b.index)
 
     q : SlotName → Bool
-    q b = is_cap_to cap.obj (slot (rec.Slot c i None ∷ R) b.cnode b.index)
+    q b = is_cap_to o (slot (rec.Slot c i cap ∷ R) b.cnode b.index)
 
-    there : list_any (same_slot at) (written R) ≡ true
-    there = slot-written R at cap held
-
-    same_slots : counted q (with_slot at (written R)) ≡ counted q (written R)
-    same_slots = ap (λ b. counted q (cond b (written R) (at ∷ written R))) there
-
-    passes : p at ≡ true
-    passes = ap (is_cap_to cap.obj) held ∙ same-self cap.obj
-
-    fails : q at ≡ false
-    fails = ap (λ b. is_cap_to cap.obj (unwrap_or (given b None) (slot R c i))) (same_slot-self at)
+    here : q at ≡ is_cap_to o cap
+    here = ap (λ b. is_cap_to o (unwrap_or (given b cap) (slot R c i))) (same_slot-self at)
 
     agree : (b : SlotName) → same_slot at b ≡ false → p b ≡ q b
-    agree b e = ap (λ v. is_cap_to cap.obj (unwrap_or (given v None) (slot R b.cnode b.index))) (sym (same_slot-flip at b e))
+    agree b e = ap (λ v. is_cap_to o (unwrap_or (given v cap) (slot R b.cnode b.index))) (sym (same_slot-flip at b e))
+
+    blank : list_any (same_slot at) (written R) ≡ false → (held : Option Cap) → slot R c i ≡ held → is_cap_to o held ≡ false
+    blank e None is = refl
+    blank e (Some held) is = let no : true ≡ false = sym (slot-written R at held is) ∙ e in absurd cc
+
+    more : (b : Bool) (n : ℕ) → cond b (n + 1) n + 0 ≡ n + cond b 1 0
+    more true n = omega arith
+    more false n = refl
+
+    go : (b : Bool) → list_any (same_slot at) (written R) ≡ b → counted q (cond b (written R) (at ∷ written R)) + cond (p at) 1 0 ≡ counted p (written R) + cond (is_cap_to o cap) 1 0
+    go true e = counted-change p q at agree (written R) (written-once R) e ∙ ap (λ b. counted p (written R) + cond b 1 0) here
+    go false e =
+        ap (λ b. cond b (counted q (written R) + 1) (counted q (written R)) + cond (p at) 1 0) here ∙ ap (λ b. cond (is_cap_to o cap) (counted q (written R) + 1) (counted q (written R)) + cond b 1 0) (blank e (slot R c i) refl)
+        ∙ more (is_cap_to o cap) (counted q (written R)) ∙ ap (λ n. n + cond (is_cap_to o cap) 1 0) (sym (counted-same p q at agree (written R) e))
+
+-- when the last capability to an object is taken from its slot, there was one
+pub last-one : (R : Log) (c : ObjId) (i : ℕ) (cap : Cap) → slot R c i ≡ Some cap → count_of (rec.Slot c i None ∷ R) cap.obj ≡ 0 → count_of R cap.obj ≡ 1
+last-one R c i cap held none = only (is_cap_to cap.obj (slot R c i)) (count_of R cap.obj) (count_of (rec.Slot c i None ∷ R) cap.obj) (ap (is_cap_to cap.obj) held ∙ same-self cap.obj) none (count-filled R c i None cap.obj)
+  where
+    only : (b : Bool) (m n : ℕ) → b ≡ true → n ≡ 0 → n + cond b 1 0 ≡ m + 0 → m ≡ 1
+    only true m n e none is = omega (arith, none, is)
+    only false m n e none is = absurd cc
 
 -- what was closed was made
 pub closed-made : (R : Log) (o : ObjId) → Sound R → was_closed R o ≡ true → was_made R o ≡ true

@@ -1,9 +1,10 @@
 //! Questions to the tables: each answers its definition over all records so far.
-ghost use Rattle.std.specs.Prelude.{◌≡◌, ◌≤◌, IfSome, Some, option_copied, length};
+ghost use Rattle.std.specs.Prelude.{◌≡◌, ◌≤◌, true, nat_lt, IfSome, Some, option_copied, length};
+ghost use Rattle.mcs_types.specs.Limits.{object_limit};
 ghost use Rattle.mcs_types.specs.declared.id.Kind.{Kind};
 ghost use Rattle.mcs_book.specs.Logs.{counted};
-ghost use Rattle.mcs_book.specs.Objects.{makes_kind, was_made, form_of};
-ghost use Rattle.mcs_book.specs.Slots.{slot};
+ghost use Rattle.mcs_book.specs.Objects.{makes_kind, number_of, was_made, form_of};
+ghost use Rattle.mcs_book.specs.Slots.{slot, count_of};
 ghost use Rattle.mcs_book.specs.Threads.{prio_of, maximum_of, mode_of, root_of};
 ghost use Rattle.mcs_book.specs.Queues.{queue_of, reply_with, first_in};
 ghost use Rattle.mcs_book.specs.Messages.{next_message, open_of};
@@ -17,6 +18,7 @@ ghost use Rattle.mcs_cspace.specs.Spaces.{named_by};
 ghost use Rattle.mcs_book.specs.Sound.{Sound, IsThere};
 ghost use Rattle.mcs_state.specs.Now.{so_far};
 ghost use Rattle.mcs_state.specs.Tables.{HAND, ROOM};
+ghost use Rattle.mcs_state.specs.Making.{has_limit};
 ghost use Rattle.mcs_state.specs.Following.{attended};
 ghost use Rattle.mcs_state.specs.Nexts.{next_of};
 
@@ -27,7 +29,7 @@ use mcs_places::kept_at;
 use mcs_slots::SlotId;
 use mcs_threads::Block;
 use mcs_types::{
-    Cap, CoreId, Kind, Letter, Mail, Mode, ObjId, Place, Prio, Queue, Refusal, Status,
+    Cap, CoreId, Kind, Letter, Mail, Mode, OBJECTS, ObjId, Place, Prio, Queue, Refusal, Status,
 };
 use mcs_waiting::Waiting;
 
@@ -46,6 +48,20 @@ impl<W: Waiting> State<W> {
             Kind::Reply => self.replies.made(),
             Kind::Context => self.contexts.made(),
         }
+    }
+
+    /// Whether fewer endpoints, notifications, reply objects or contexts are there than may be.
+    pub fn has_room(&self, kind: Kind) -> bool
+        requires { has_limit kind ≡ true }
+        ensures { result ≡ nat_lt (number_of (so_far self.now) kind) object_limit }
+    {
+        let count = match kind {
+            Kind::Endpoint | Kind::Notification => self.queues.count(kind),
+            Kind::Reply => self.replies.len(),
+            Kind::Context => self.contexts.len(),
+            Kind::CNode | Kind::Thread => unreachable!(),
+        };
+        count < OBJECTS as usize
     }
 
     /// How many messages were accepted.
@@ -142,6 +158,13 @@ impl<W: Waiting> State<W> {
         ensures { result ≡ slot (so_far self.now) at.cnode at.index }
     {
         self.slots.get(at)
+    }
+
+    /// How many slots hold a capability to an object.
+    pub fn count_of(&self, object: ObjId) -> u32
+        ensures { result ≡ count_of (so_far self.now) object }
+    {
+        self.slots.count_of(object)
     }
 
     /// How many bits name a slot of a CNode; 0 where it is not made.
