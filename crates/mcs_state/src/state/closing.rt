@@ -1,14 +1,26 @@
 //! Objects that end.
-ghost use Rattle.std.specs.Prelude.{◌≡◌, ◌<◌, length};
+ghost use Rattle.std.specs.Prelude.{◌≡◌, ◌<◌, true, None, length};
 ghost use Rattle.mcs_types.specs.declared.record.Rec.{Rec};
 ghost use Rattle.mcs_types.specs.declared.id.Kind.{Kind};
 ghost use Rattle.mcs_book.specs.Sound.{Allowed};
+ghost use Rattle.mcs_notifications.specs.Signals.{is_there, thread_in};
+ghost use Rattle.mcs_state.specs.Following.{ClosesNotification};
 ghost use Rattle.mcs_state.specs.Now.{so_far, adds};
 ghost use Rattle.mcs_state.specs.Tables.{HAND};
 
 use super::{State, note};
+use mcs_notifications::Notifications;
 use mcs_types::{Kind, ObjId, Rec};
 use mcs_waiting::Waiting;
+
+/// A notification that is there ends, to which no thread is bound; its word is gone.
+fn end_notification(notifications: &mut Notifications, notification: ObjId)
+    requires there { is_there notifications.old notification ≡ true }
+    requires unbound { thread_in notifications.old notification ≡ None }
+    ensures { ClosesNotification notification notifications.old notifications.new }
+{
+    notifications.close(notification);
+}
 
 impl<W: Waiting> State<W> {
     /// A thread ends: its row and its mail are gone.
@@ -41,7 +53,7 @@ impl<W: Waiting> State<W> {
         ensures { self.new ≡ adds (Rec.Closed notification) self.old }
     {
         self.queues.close(notification);
-        self.notifications.close(notification);
+        end_notification(&mut self.notifications, notification);
         note(
             &mut self.hand,
             Rec::Closed {

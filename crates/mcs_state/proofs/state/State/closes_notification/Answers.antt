@@ -20,21 +20,20 @@ close-requires-clause-empty g c =
     let ok = inside (rec.Closed c.args.notification) c.self.view_is c.requires.allowed in
     closing-empty _ _ c.args.notification c.self.invariant.1.sound ok c.self.invariant.1.queues
 
-pub close-requires-2-clause-there : goal.close-requires-2-clause-there
-close-requires-2-clause-there g c =
+pub end_notification-requires-clause-there : goal.end_notification-requires-clause-there
+end_notification-requires-clause-there g c =
     let ok = inside (rec.Closed c.args.notification) c.self.view_is c.requires.allowed in
     closing-notification _ _ c.args.notification c.requires.kind ok c.self.invariant.1.notifications
 
-pub close-requires-2-clause-unbound : goal.close-requires-2-clause-unbound
-close-requires-2-clause-unbound g c =
+pub end_notification-requires-clause-unbound : goal.end_notification-requires-clause-unbound
+end_notification-requires-clause-unbound g c =
     let ok = inside (rec.Closed c.args.notification) c.self.view_is c.requires.allowed in
     closing-unbound _ _ c.args.notification c.requires.kind ok c.self.invariant.1.notifications
 
 pub invariant_of-self : goal.invariant_of-self
 invariant_of-self g c =
     let ok = inside (rec.Closed c.args.notification) c.self.view_is c.requires.allowed in
-    let close = c.close.ensures in
-    let word = c.close-2.ensures in (
+    let close = c.close.ensures in (
       omega (arith, c.self.invariant.0, c.note.ensures.capacity),
       follows (rec.Closed c.args.notification) _ _ _ _ _ _ c.note.ensures.items (inside-room c.self.view_is c.requires.room) ok
           (follows-closed _ c.args.notification kind.Notification _ _ c.requires.kind (record {
@@ -43,7 +42,7 @@ invariant_of-self g c =
             contexts = refl;
             queues = record { line = close.line; queue = close.queue; has = close.has; made = close.given; there = close.there };
             replies = refl;
-            notifications = record { counts = word.counts; there = word.there; words = word.words; threads = word.threads };
+            notifications = c.end_notification.ensures;
             slots = refl;
             sent = refl;
           })) c.self.invariant.1,
