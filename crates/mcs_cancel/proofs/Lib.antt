@@ -4,3 +4,5 @@ pub mod Priorities
 pub mod Followers
 pub mod Restarting
 pub mod Badging
+pub mod Emptying
+pub mod Releasing

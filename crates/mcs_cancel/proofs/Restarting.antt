@@ -74,7 +74,7 @@ sender-cancelled R x e mode sound at =
     then-next (IsWithout x e R) (leave R x (queue_of R x)) (say (rec.Turns x mode)) R (record { line = h.line; letters = h.letters; queues = h.queues })
 
 -- each stands once in a queue
-line-distinct : (R : Log) (q : Queue) → Sound R → Distinct (queued_in R q)
+pub line-distinct : (R : Log) (q : Queue) → Sound R → Distinct (queued_in R q)
 line-distinct R q sound = subst (λ xs. Distinct xs) (sym (queued_in-growing R q sound)) (go (threads_in (growing_queue R q)) (line-sorted R q sound))
   where
     go : (xs : List ObjId) → Sorted (is_ahead R) xs → Distinct xs

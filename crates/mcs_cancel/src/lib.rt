@@ -4,6 +4,7 @@
 mod badged;
 mod cancelling;
 mod checks;
+mod destroying;
 mod modes;
 mod priority;
 

@@ -1,0 +1,20 @@
+-- What the end of an object takes from others, in the parts in which the code does it.
+use Rattle.std.specs.Prelude.{None}
+use Rattle.mcs_types.specs.declared.id.ObjId.{ObjId}
+use Rattle.mcs_types.specs.declared.record.Rec.TheVariants.{Tied}
+use Rattle.mcs_book.specs.Cancelling.{untie, let_go}
+use Rattle.mcs_book.specs.Contexts.{context_of}
+use Rattle.mcs_book.specs.Notifications.{bound_of, tied_to}
+use Rattle.mcs_book.specs.Pieces.{Piece, say, with_any}
+
+-- t is bound to no notification any more
+abbrev pub unties : ObjId → Piece
+unties t R = with_any (bound_of R t) (λ n. say (Tied t None)) R
+
+-- t holds no context any more
+abbrev pub lets_go : ObjId → Piece
+lets_go t R = let_go (context_of R t) R
+
+-- no thread is bound to n any more
+abbrev pub frees : ObjId → Piece
+frees n R = untie (tied_to R n) R

@@ -1,0 +1,114 @@
+//! The end of an object that no slot names any more (own; manual: Capability Spaces, deletion).
+ghost use Rattle.std.specs.Prelude.{◌≡◌, None};
+ghost use Rattle.mcs_types.specs.declared.id.Kind.{Kind};
+ghost use Rattle.mcs_types.specs.declared.record.Queue.{Queue};
+ghost use Rattle.mcs_book.specs.Cancelling.{release};
+ghost use Rattle.mcs_book.specs.Notifications.{bound_of};
+ghost use Rattle.mcs_book.specs.Sound.{IsThere, IsEmptyLine, HoldsNone, IsUnbound, IsReleased};
+ghost use Rattle.mcs_state.specs.Now.{so_far};
+ghost use Rattle.mcs_state.specs.Doing.{Makes, HasRoomFor};
+ghost use Rattle.mcs_cancel.specs.Emptying.{restarts_all, KeepsOthers};
+ghost use Rattle.mcs_cancel.specs.Releasing.{unties, lets_go, frees};
+
+use crate::cancelling::cancel;
+use mcs_state::State;
+use mcs_types::{Mode, ObjId, Queue};
+use mcs_waiting::Waiting;
+
+/// Cancels each thread of a queue, first to last: it restarts. Nobody stands there then.
+fn restart_all<W: Waiting>(state: &mut State<W>, queue: Queue)
+    requires room { HasRoomFor (restarts_all (so_far state.old) queue) state.old }
+    ensures made { Makes (restarts_all (so_far state.old) queue) state.old state.new }
+    ensures empty { IsEmptyLine (so_far state.new) queue }
+    ensures others { KeepsOthers queue (so_far state.old) (so_far state.new) }
+{
+    state.is_sound();
+    while let Some(thread) = state.first(queue) {
+        cancel(state, thread, Mode::Restart);
+        state.is_sound();
+    }
+}
+
+/// Nobody is left with an endpoint: its senders restart, and then its receivers.
+fn release_endpoint<W: Waiting>(state: &mut State<W>, endpoint: ObjId)
+    requires room { HasRoomFor (release (so_far state.old) endpoint Kind.Endpoint) state.old }
+    ensures made { Makes (release (so_far state.old) endpoint Kind.Endpoint) state.old state.new }
+    ensures released { IsReleased (so_far state.new) Kind.Endpoint endpoint }
+{
+    restart_all(state, Queue::Senders(endpoint));
+    restart_all(state, Queue::Receivers(endpoint));
+    state.is_sound();
+}
+
+/// A thread is bound to no notification any more.
+fn untie<W: Waiting>(state: &mut State<W>, thread: ObjId)
+    requires room { HasRoomFor (unties thread) state.old }
+    ensures made { Makes (unties thread) state.old state.new }
+    ensures unbound { bound_of (so_far state.new) thread ≡ None }
+{
+    match state.bound_of(thread) {
+        None => {}
+        Some(_) => state.ties(thread, None),
+    }
+}
+
+/// A thread holds no context any more.
+fn let_go<W: Waiting>(state: &mut State<W>, thread: ObjId)
+    requires room { HasRoomFor (lets_go thread) state.old }
+    ensures made { Makes (lets_go thread) state.old state.new }
+    ensures none { HoldsNone (so_far state.new) thread }
+{
+    state.is_sound();
+    match state.context(thread) {
+        None => {}
+        Some(context) => state.holds(context, None),
+    }
+}
+
+/// Nobody is left with a thread: it is Inactive, bound to no notification, and holds no context.
+fn release_thread<W: Waiting>(state: &mut State<W>, thread: ObjId)
+    requires there { IsThere (so_far state.old) Kind.Thread thread }
+    requires room { HasRoomFor (release (so_far state.old) thread Kind.Thread) state.old }
+    ensures made { Makes (release (so_far state.old) thread Kind.Thread) state.old state.new }
+    ensures released { IsReleased (so_far state.new) Kind.Thread thread }
+{
+    state.is_sound();
+    cancel(state, thread, Mode::Inactive);
+    untie(state, thread);
+    let_go(state, thread);
+}
+
+/// Nobody is left with a context: its holder gives it up.
+fn release_context<W: Waiting>(state: &mut State<W>, context: ObjId)
+    requires room { HasRoomFor (release (so_far state.old) context Kind.Context) state.old }
+    ensures made { Makes (release (so_far state.old) context Kind.Context) state.old state.new }
+    ensures released { IsReleased (so_far state.new) Kind.Context context }
+{
+    match state.holder(context) {
+        None => {}
+        Some(_) => state.holds(context, None),
+    }
+}
+
+/// No thread is bound to a notification any more.
+fn free<W: Waiting>(state: &mut State<W>, notification: ObjId)
+    requires room { HasRoomFor (frees notification) state.old }
+    ensures made { Makes (frees notification) state.old state.new }
+    ensures unbound { IsUnbound (so_far state.new) notification }
+{
+    state.is_sound();
+    match state.tied_to(notification) {
+        None => {}
+        Some(thread) => state.ties(thread, None),
+    }
+}
+
+/// Nobody is left with a notification: its waiters restart, and no thread is bound to it.
+fn release_notification<W: Waiting>(state: &mut State<W>, notification: ObjId)
+    requires room { HasRoomFor (release (so_far state.old) notification Kind.Notification) state.old }
+    ensures made { Makes (release (so_far state.old) notification Kind.Notification) state.old state.new }
+    ensures released { IsReleased (so_far state.new) Kind.Notification notification }
+{
+    restart_all(state, Queue::Waiters(notification));
+    free(state, notification);
+}
