@@ -6,3 +6,5 @@ pub mod Restarting
 pub mod Badging
 pub mod Emptying
 pub mod Releasing
+pub mod Lending
+pub mod Voiding

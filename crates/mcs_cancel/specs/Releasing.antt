@@ -1,11 +1,18 @@
--- What the end of an object takes from others, in the parts in which the code does it.
-use Rattle.std.specs.Prelude.{None}
+-- What an object is that ends; and what its end takes from others, in the parts in which the code does it.
+use Rattle.std.specs.Prelude.{◌≢◌, None}
 use Rattle.mcs_types.specs.declared.id.ObjId.{ObjId}
 use Rattle.mcs_types.specs.declared.record.Rec.TheVariants.{Tied}
-use Rattle.mcs_book.specs.Cancelling.{untie, let_go}
+use Rattle.mcs_types.specs.declared.id.Kind.TheVariants.{CNode}
+use Rattle.mcs_types.specs.declared.record.Mode.TheVariants.{Inactive}
+use Rattle.mcs_book.specs.Cancelling.{cancel, untie, let_go}
 use Rattle.mcs_book.specs.Contexts.{context_of}
 use Rattle.mcs_book.specs.Notifications.{bound_of, tied_to}
+use Rattle.mcs_book.specs.Replies.{receiver_with}
 use Rattle.mcs_book.specs.Pieces.{Piece, say, with_any}
+
+-- o is no CNode
+abbrev pub IsNoCNode : ObjId → Type 0
+IsNoCNode o = o.kind ≢ CNode
 
 -- t is bound to no notification any more
 abbrev pub unties : ObjId → Piece
@@ -18,3 +25,7 @@ lets_go t R = let_go (context_of R t) R
 -- no thread is bound to n any more
 abbrev pub frees : ObjId → Piece
 frees n R = untie (tied_to R n) R
+
+-- who receives with r does so no more
+abbrev pub dismisses : ObjId → Piece
+dismisses r R = with_any (receiver_with R r) (λ x. cancel x Inactive) R

@@ -1,18 +1,20 @@
 //! The end of an object that no slot names any more (own; manual: Capability Spaces, deletion).
-ghost use Rattle.std.specs.Prelude.{◌≡◌, None};
+ghost use Rattle.std.specs.Prelude.{◌≡◌, None, IsTrue};
 ghost use Rattle.mcs_types.specs.declared.id.Kind.{Kind};
 ghost use Rattle.mcs_types.specs.declared.record.Queue.{Queue};
-ghost use Rattle.mcs_book.specs.Cancelling.{release};
+ghost use Rattle.mcs_book.specs.Cancelling.{release, void_deleted as voided};
 ghost use Rattle.mcs_book.specs.Notifications.{bound_of};
-ghost use Rattle.mcs_book.specs.Sound.{IsThere, IsEmptyLine, HoldsNone, IsUnbound, IsReleased};
+ghost use Rattle.mcs_book.specs.Objects.{is_alive};
+ghost use Rattle.mcs_book.specs.Sound.{IsThere, IsEmptyLine, HoldsNone, IsUnbound, IsUnattended, IsReleased};
 ghost use Rattle.mcs_state.specs.Now.{so_far};
 ghost use Rattle.mcs_state.specs.Doing.{Makes, HasRoomFor};
 ghost use Rattle.mcs_cancel.specs.Emptying.{restarts_all, KeepsOthers};
-ghost use Rattle.mcs_cancel.specs.Releasing.{unties, lets_go, frees};
+ghost use Rattle.mcs_cancel.specs.Releasing.{IsNoCNode, unties, lets_go, frees, dismisses};
 
 use crate::cancelling::cancel;
+use crate::returning::give_back;
 use mcs_state::State;
-use mcs_types::{Mode, ObjId, Queue};
+use mcs_types::{Ending, Kind, Mode, ObjId, Queue};
 use mcs_waiting::Waiting;
 
 /// Cancels each thread of a queue, first to last: it restarts. Nobody stands there then.
@@ -111,4 +113,61 @@ fn release_notification<W: Waiting>(state: &mut State<W>, notification: ObjId)
 {
     restart_all(state, Queue::Waiters(notification));
     free(state, notification);
+}
+
+/// The thread that receives with a reply object, if one does, leaves its queue and is Inactive.
+fn dismiss<W: Waiting>(state: &mut State<W>, reply: ObjId)
+    requires room { HasRoomFor (dismisses reply) state.old }
+    ensures made { Makes (dismisses reply) state.old state.new }
+    ensures unattended { IsUnattended (so_far state.new) reply }
+{
+    state.is_sound();
+    match state.receiver_with(reply) {
+        None => {}
+        Some(receiver) => cancel(state, receiver, Mode::Inactive),
+    }
+}
+
+/// A reply object owes nobody any more: the caller that it owed is Inactive, and the context whose chain it topped returns to it.
+fn void_deleted<W: Waiting>(state: &mut State<W>, reply: ObjId)
+    requires room { HasRoomFor (voided reply) state.old }
+    ensures { Makes (voided reply) state.old state.new }
+{
+    state.is_sound();
+    match state.owed(reply) {
+        None => {}
+        Some(caller) => {
+            let lent = state.voids(reply, caller, Ending::Deleted);
+            state.turns(caller, Mode::Inactive);
+            give_back(state, lent, caller);
+        }
+    }
+}
+
+/// Nobody is left with a reply object: nobody receives with it, and it owes nobody.
+fn release_reply<W: Waiting>(state: &mut State<W>, reply: ObjId)
+    requires room { HasRoomFor (release (so_far state.old) reply Kind.Reply) state.old }
+    ensures made { Makes (release (so_far state.old) reply Kind.Reply) state.old state.new }
+    ensures released { IsReleased (so_far state.new) Kind.Reply reply }
+{
+    dismiss(state, reply);
+    void_deleted(state, reply);
+}
+
+/// Nobody is left with an object that is there.
+fn release_object<W: Waiting>(state: &mut State<W>, object: ObjId)
+    requires there { IsTrue (is_alive (so_far state.old) object) }
+    requires kind { IsNoCNode object }
+    requires room { HasRoomFor (release (so_far state.old) object object.kind) state.old }
+    ensures made { Makes (release (so_far state.old) object object.kind) state.old state.new }
+    ensures released { IsReleased (so_far state.new) object.kind object }
+{
+    match object.kind {
+        Kind::CNode => unreachable!(),
+        Kind::Thread => release_thread(state, object),
+        Kind::Endpoint => release_endpoint(state, object),
+        Kind::Notification => release_notification(state, object),
+        Kind::Reply => release_reply(state, object),
+        Kind::Context => release_context(state, object),
+    }
 }

@@ -7,8 +7,10 @@ mod checks;
 mod destroying;
 mod modes;
 mod priority;
+mod returning;
 
 pub use badged::cancel_badged;
 pub use cancelling::cancel;
 pub use modes::{resume, suspend};
 pub use priority::set_priority;
+pub use returning::give_back;

@@ -1,7 +1,7 @@
 -- Callers that are answered: what is recorded, and what holds between.
 use Rattle.std.specs.Prelude.{◌≡◌, ◌≢◌, [], ◌∷◌, Option, Some, None, unwrap_or}
 use Rattle.std.specs.Option.{IfSome}
-use Rattle.std.proofs.Common.{refl, sym, inl, inr}
+use Rattle.std.proofs.Common.{refl, inl, inr}
 use Rattle.mcs_types.specs.Views.{Content}
 use Rattle.mcs_types.specs.declared.id.ObjId.{ObjId}
 use Rattle.mcs_types.specs.declared.id.Kind.TheVariants as kind
@@ -12,14 +12,12 @@ use Rattle.mcs_types.specs.declared.entry.Answer.TheVariants.{Done}
 use Rattle.mcs_types.specs.Ids.{same}
 use Rattle.mcs_book.specs.Logs.{Log, onto, given}
 use Rattle.mcs_book.specs.Threads.{mode_of}
-use Rattle.mcs_book.specs.Contexts.{context_of}
 use Rattle.mcs_book.specs.Replies.{owed_by}
 use Rattle.mcs_book.specs.Chains.{topped_by}
 use Rattle.mcs_book.specs.Pieces.{◌then◌, say}
 use Rattle.mcs_book.specs.Taking.{give_back, pay}
 use Rattle.mcs_book.specs.Sound.{Sound, Allowed, IsThere, IsOwedNothing}
 use Rattle.mcs_book.proofs.SoundLogs.KeptLaws.{set-split, set-kept, owed-there, ended-idle}
-use Rattle.mcs_book.proofs.Firm.Laws.{topped-there}
 use Rattle.mcs_book.proofs.Firm.Ends.{OutlastsEnding, outlasts-pay}
 use Rattle.mcs_state.specs.Entering.{IsActing}
 use Rattle.mcs_ipc.specs.declared.checks.Source.{Source}
@@ -46,31 +44,6 @@ pay-somebody R r x message lent owed is = rw (owed, is) refl
 -- who was answered may run
 pub paid-runs : (R : Log) (r x : ObjId) (message : Content) → Sound R → owed_by R r ≡ Some x → Allowed (rec.Paid r x message ∷ R) (rec.Turns x Running)
 paid-runs R r x message sound owed = ((owed-there R r x sound owed).1, ended-idle R r x (rec.Paid r x message) sound owed (λ d. refl) refl)
-
--- the context that returns is there
-pub lent-there : (R : Log) (r : ObjId) (lent : Option ObjId) → lent ≡ topped_by R r → IfSome lent (λ s. IsThere R kind.Context s)
-lent-there R r None is = tt
-lent-there R r (Some s) is = topped-there R r s (sym is)
-
--- and still is, when the caller was answered
-pub still-there : (R : Log) (r x : ObjId) (message : Content) (lent : Option ObjId) → IfSome lent (λ s. IsThere R kind.Context s) → IfSome lent (λ s. IsThere (rec.Turns x Running ∷ rec.Paid r x message ∷ R) kind.Context s)
-still-there R r x message None there = tt
-still-there R r x message (Some s) there = there
-
--- there is none to give back
-pub back-none : (R : Log) (x : ObjId) → give_back None x R ≡ []
-unfolding give_back
-back-none R x = refl
-
--- the thread holds one
-pub back-held : (R : Log) (s x c : ObjId) → context_of R x ≡ Some c → give_back (Some s) x R ≡ []
-unfolding give_back
-back-held R s x c holds = rw holds refl
-
--- it returns
-pub back-gives : (R : Log) (s x : ObjId) → context_of R x ≡ None → give_back (Some s) x R ≡ rec.Holds s (Some x) ∷ []
-unfolding give_back
-back-gives R s x none = rw none refl
 
 -- who is owed nothing is owed nothing after a debt ended
 unowed : (R : Log) (t q : ObjId) → IsOwedNothing R t → (d : ObjId) → unwrap_or (given (same d q) None) (owed_by R d) ≢ Some t

@@ -106,7 +106,7 @@ firm-void r R firm = go (owed_by R r) refl
     go None is = firm
 
 -- what outlasts that
-outlasts-void : (F : Log → Type 0) (f : OutlastsEnding Inactive F) (r : ObjId) (R : Log) → F R → F (onto (void_deleted r R) R)
+pub outlasts-void : (F : Log → Type 0) (f : OutlastsEnding Inactive F) (r : ObjId) (R : Log) → F R → F (onto (void_deleted r R) R)
 unfolding void_deleted
 outlasts-void F f r R h = go (owed_by R r)
   where
@@ -115,7 +115,7 @@ outlasts-void F f r R h = go (owed_by R r)
     go None = h
 
 -- once it is void, a reply object owes nobody
-void-free : (r : ObjId) (R : Log) → owed_by (onto (void_deleted r R) R) r ≡ None
+pub void-free : (r : ObjId) (R : Log) → owed_by (onto (void_deleted r R) R) r ≡ None
 unfolding void_deleted
 void-free r R = go (owed_by R r) refl
   where
@@ -287,7 +287,7 @@ last-ending o = record {
 }
 
 -- and what the end of an object does to others
-last-release : (R : Log) (o d : ObjId) (k : Kind) → IsLast o R → IsLast o (onto (release R d k R) R)
+pub last-release : (R : Log) (o d : ObjId) (k : Kind) → IsLast o R → IsLast o (onto (release R d k R) R)
 last-release R o d kind.CNode h = h
 last-release R o d kind.Endpoint h = outlasts-cancel_all (IsLast o) _ Restart (λ x. last-cancel o x Restart) R h
 last-release R o d kind.Notification h = then-next (IsLast o) (cancel_all _ Restart) (untie (tied_to R d)) R (go (tied_to R d) _ (outlasts-cancel_all (IsLast o) _ Restart (λ x. last-cancel o x Restart) R h))

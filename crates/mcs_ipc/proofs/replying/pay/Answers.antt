@@ -1,4 +1,4 @@
-use Rattle.std.proofs.Common.{List, refl, sym, ap, subst, ◌∙◌}
+use Rattle.std.proofs.Common.{List, ◌∷◌, refl, sym, ap, subst, ◌∙◌}
 use Rattle.mcs_types.specs.declared.record.Mode.TheVariants.{Running}
 use Rattle.mcs_types.specs.declared.record.Rec.{Rec}
 use Rattle.mcs_types.specs.declared.record.Rec.TheVariants as rec
@@ -9,8 +9,9 @@ use Rattle.mcs_book.proofs.SoundLogs.KeptLaws.{owed-there}
 use Rattle.mcs_state.specs.Now.{so_far, adds_all}
 use Rattle.mcs_state.specs.Doing.{Holds}
 use Rattle.mcs_state.proofs.Doing.{makes-then, room-first, room-next}
+use Rattle.mcs_cancel.proofs.Lending.{lent-there, still-there}
 use Rattle.mcs_ipc.proofs.Room.{room-one, room-say, room-between}
-use Rattle.mcs_ipc.proofs.Paying.{pay-nobody, pay-somebody, paid-runs, lent-there, still-there}
+use Rattle.mcs_ipc.proofs.Paying.{pay-nobody, pay-somebody, paid-runs}
 use Rattle.mcs_ipc.proofs.replying.pay.Goals as goal
 
 pub paid-lent-requires-clause-room : goal.paid-lent-requires-clause-room
@@ -36,8 +37,9 @@ turns-requires-clause-room g c =
 
 pub give_back-requires-clause-context : goal.give_back-requires-clause-context
 give_back-requires-clause-context g c =
-    let there = lent-there (so_far c.args.state.now) c.args.reply c.paid-lent.result c.paid-lent.ensures.topped in
-    rw (c.turns.ensures, c.paid-lent.ensures.paid) (still-there (so_far c.args.state.now) c.args.reply c.in-Some.caller c.args.message c.paid-lent.result there)
+    let R = so_far c.args.state.now in
+    let there = lent-there R c.args.reply c.paid-lent.result c.paid-lent.ensures.topped in
+    rw (c.turns.ensures, c.paid-lent.ensures.paid) (still-there R (rec.Turns c.in-Some.caller Running ∷ rec.Paid c.args.reply c.in-Some.caller c.args.message ∷ R) c.paid-lent.result (λ s h. h) there)
 
 pub give_back-requires-clause-thread : goal.give_back-requires-clause-thread
 give_back-requires-clause-thread g c = rw (c.turns.ensures, c.paid-lent.ensures.paid) ((owed-there (so_far c.args.state.now) c.args.reply c.in-Some.caller c.is_sound.ensures.sound (sym c.owed.ensures ∙ c.in-Some.is)).1)
