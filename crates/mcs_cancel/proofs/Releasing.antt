@@ -2,7 +2,6 @@
 use Rattle.std.specs.Prelude.{◌≡◌, List, ◌∷◌, ◌++◌, Option, Some, None}
 use Rattle.std.proofs.Common.{refl, ap, sym, ◌∙◌, inl, inr, subst}
 use Rattle.mcs_types.specs.declared.id.ObjId.{ObjId}
-use Rattle.mcs_types.specs.declared.id.Kind.{Kind}
 use Rattle.mcs_types.specs.declared.id.Kind.TheVariants as kind
 use Rattle.mcs_types.specs.declared.record.Mode.{Mode}
 use Rattle.mcs_types.specs.declared.record.Mode.TheVariants.{Restart, Inactive}
@@ -21,12 +20,8 @@ use Rattle.mcs_book.proofs.SoundLogs.Keeping.{then-next}
 use Rattle.mcs_book.proofs.SoundLogs.KeptLaws.{set-split, same-never, bound-one}
 use Rattle.mcs_book.proofs.Threads.HoldingLaws.{holder-one}
 use Rattle.mcs_cancel.specs.Emptying.{restarts_all}
-use Rattle.mcs_cancel.specs.Releasing.{unties, lets_go, frees}
+use Rattle.mcs_cancel.specs.Releasing.{releases, unties, lets_go, frees}
 use Rattle.mcs_cancel.proofs.Leaving.{left-turns}
-
--- nobody is left with an object
-abbrev pub releases : ObjId → Kind → Piece
-releases o k R = release R o k R
 
 -- a queue is emptied
 abbrev pub empties : Queue → Piece

@@ -18,8 +18,7 @@ use Rattle.mcs_book.specs.Taking.{give_back}
 use Rattle.mcs_book.proofs.Firm.Ends.{OutlastsEnding, outlasts-void, void-free}
 use Rattle.mcs_book.proofs.SoundLogs.KeptLaws.{owed-there, ended-idle}
 use Rattle.mcs_book.proofs.Threads.UserLaws.{receiver_with-named, unattended-parted}
-use Rattle.mcs_cancel.specs.Releasing.{dismisses}
-use Rattle.mcs_cancel.proofs.Releasing.{releases}
+use Rattle.mcs_cancel.specs.Releasing.{releases, dismisses}
 
 -- nobody is owed
 pub void-nobody : (R : Log) (r : ObjId) → owed_by R r ≡ None → void_deleted r R ≡ []

@@ -2,9 +2,11 @@
 use Rattle.std.specs.Prelude.{◌≢◌, None}
 use Rattle.mcs_types.specs.declared.id.ObjId.{ObjId}
 use Rattle.mcs_types.specs.declared.record.Rec.TheVariants.{Tied}
+use Rattle.mcs_types.specs.declared.id.Kind.{Kind}
 use Rattle.mcs_types.specs.declared.id.Kind.TheVariants.{CNode}
 use Rattle.mcs_types.specs.declared.record.Mode.TheVariants.{Inactive}
-use Rattle.mcs_book.specs.Cancelling.{cancel, untie, let_go}
+use Rattle.mcs_book.specs.Logs.{Log}
+use Rattle.mcs_book.specs.Cancelling.{cancel, untie, let_go, release}
 use Rattle.mcs_book.specs.Contexts.{context_of}
 use Rattle.mcs_book.specs.Notifications.{bound_of, tied_to}
 use Rattle.mcs_book.specs.Replies.{receiver_with}
@@ -13,6 +15,10 @@ use Rattle.mcs_book.specs.Pieces.{Piece, say, with_any}
 -- o is no CNode
 abbrev pub IsNoCNode : ObjId → Type 0
 IsNoCNode o = o.kind ≢ CNode
+
+-- what the end of an object of a kind does to others
+abbrev pub releases : ObjId → Kind → Piece
+releases o k R = release R o k R
 
 -- t is bound to no notification any more
 abbrev pub unties : ObjId → Piece

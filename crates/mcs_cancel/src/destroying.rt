@@ -2,14 +2,14 @@
 ghost use Rattle.std.specs.Prelude.{◌≡◌, None, IsTrue};
 ghost use Rattle.mcs_types.specs.declared.id.Kind.{Kind};
 ghost use Rattle.mcs_types.specs.declared.record.Queue.{Queue};
-ghost use Rattle.mcs_book.specs.Cancelling.{release, void_deleted as voided};
+ghost use Rattle.mcs_book.specs.Cancelling.{void_deleted as voided};
 ghost use Rattle.mcs_book.specs.Notifications.{bound_of};
 ghost use Rattle.mcs_book.specs.Objects.{is_alive};
 ghost use Rattle.mcs_book.specs.Sound.{IsThere, IsEmptyLine, HoldsNone, IsUnbound, IsUnattended, IsReleased};
 ghost use Rattle.mcs_state.specs.Now.{so_far};
 ghost use Rattle.mcs_state.specs.Doing.{Makes, HasRoomFor};
 ghost use Rattle.mcs_cancel.specs.Emptying.{restarts_all, KeepsOthers};
-ghost use Rattle.mcs_cancel.specs.Releasing.{IsNoCNode, unties, lets_go, frees, dismisses};
+ghost use Rattle.mcs_cancel.specs.Releasing.{IsNoCNode, releases, unties, lets_go, frees, dismisses};
 
 use crate::cancelling::cancel;
 use crate::returning::give_back;
@@ -33,8 +33,8 @@ fn restart_all<W: Waiting>(state: &mut State<W>, queue: Queue)
 
 /// Nobody is left with an endpoint: its senders restart, and then its receivers.
 fn release_endpoint<W: Waiting>(state: &mut State<W>, endpoint: ObjId)
-    requires room { HasRoomFor (release (so_far state.old) endpoint Kind.Endpoint) state.old }
-    ensures made { Makes (release (so_far state.old) endpoint Kind.Endpoint) state.old state.new }
+    requires room { HasRoomFor (releases endpoint Kind.Endpoint) state.old }
+    ensures made { Makes (releases endpoint Kind.Endpoint) state.old state.new }
     ensures released { IsReleased (so_far state.new) Kind.Endpoint endpoint }
 {
     restart_all(state, Queue::Senders(endpoint));
@@ -70,8 +70,8 @@ fn let_go<W: Waiting>(state: &mut State<W>, thread: ObjId)
 /// Nobody is left with a thread: it is Inactive, bound to no notification, and holds no context.
 fn release_thread<W: Waiting>(state: &mut State<W>, thread: ObjId)
     requires there { IsThere (so_far state.old) Kind.Thread thread }
-    requires room { HasRoomFor (release (so_far state.old) thread Kind.Thread) state.old }
-    ensures made { Makes (release (so_far state.old) thread Kind.Thread) state.old state.new }
+    requires room { HasRoomFor (releases thread Kind.Thread) state.old }
+    ensures made { Makes (releases thread Kind.Thread) state.old state.new }
     ensures released { IsReleased (so_far state.new) Kind.Thread thread }
 {
     state.is_sound();
@@ -82,8 +82,8 @@ fn release_thread<W: Waiting>(state: &mut State<W>, thread: ObjId)
 
 /// Nobody is left with a context: its holder gives it up.
 fn release_context<W: Waiting>(state: &mut State<W>, context: ObjId)
-    requires room { HasRoomFor (release (so_far state.old) context Kind.Context) state.old }
-    ensures made { Makes (release (so_far state.old) context Kind.Context) state.old state.new }
+    requires room { HasRoomFor (releases context Kind.Context) state.old }
+    ensures made { Makes (releases context Kind.Context) state.old state.new }
     ensures released { IsReleased (so_far state.new) Kind.Context context }
 {
     match state.holder(context) {
@@ -107,8 +107,8 @@ fn free<W: Waiting>(state: &mut State<W>, notification: ObjId)
 
 /// Nobody is left with a notification: its waiters restart, and no thread is bound to it.
 fn release_notification<W: Waiting>(state: &mut State<W>, notification: ObjId)
-    requires room { HasRoomFor (release (so_far state.old) notification Kind.Notification) state.old }
-    ensures made { Makes (release (so_far state.old) notification Kind.Notification) state.old state.new }
+    requires room { HasRoomFor (releases notification Kind.Notification) state.old }
+    ensures made { Makes (releases notification Kind.Notification) state.old state.new }
     ensures released { IsReleased (so_far state.new) Kind.Notification notification }
 {
     restart_all(state, Queue::Waiters(notification));
@@ -146,8 +146,8 @@ fn void_deleted<W: Waiting>(state: &mut State<W>, reply: ObjId)
 
 /// Nobody is left with a reply object: nobody receives with it, and it owes nobody.
 fn release_reply<W: Waiting>(state: &mut State<W>, reply: ObjId)
-    requires room { HasRoomFor (release (so_far state.old) reply Kind.Reply) state.old }
-    ensures made { Makes (release (so_far state.old) reply Kind.Reply) state.old state.new }
+    requires room { HasRoomFor (releases reply Kind.Reply) state.old }
+    ensures made { Makes (releases reply Kind.Reply) state.old state.new }
     ensures released { IsReleased (so_far state.new) Kind.Reply reply }
 {
     dismiss(state, reply);
@@ -158,8 +158,8 @@ fn release_reply<W: Waiting>(state: &mut State<W>, reply: ObjId)
 fn release_object<W: Waiting>(state: &mut State<W>, object: ObjId)
     requires there { IsTrue (is_alive (so_far state.old) object) }
     requires kind { IsNoCNode object }
-    requires room { HasRoomFor (release (so_far state.old) object object.kind) state.old }
-    ensures made { Makes (release (so_far state.old) object object.kind) state.old state.new }
+    requires room { HasRoomFor (releases object object.kind) state.old }
+    ensures made { Makes (releases object object.kind) state.old state.new }
     ensures released { IsReleased (so_far state.new) object.kind object }
 {
     match object.kind {

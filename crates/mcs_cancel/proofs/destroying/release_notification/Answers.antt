@@ -2,9 +2,9 @@ use Rattle.mcs_types.specs.declared.id.Kind.TheVariants as kind
 use Rattle.mcs_types.specs.declared.record.Queue.TheVariants.{Waiters}
 use Rattle.mcs_state.specs.Now.{so_far}
 use Rattle.mcs_state.proofs.Doing.{so_far-made}
-use Rattle.mcs_cancel.specs.Releasing.{frees}
+use Rattle.mcs_cancel.specs.Releasing.{releases, frees}
 use Rattle.mcs_cancel.proofs.Leaving.{room-one, room-other, both-made}
-use Rattle.mcs_cancel.proofs.Releasing.{releases, empties, notification-is, still-nobody}
+use Rattle.mcs_cancel.proofs.Releasing.{empties, notification-is, still-nobody}
 use Rattle.mcs_cancel.proofs.destroying.release_notification.Goals as goal
 
 pub restart_all-requires : goal.restart_all-requires

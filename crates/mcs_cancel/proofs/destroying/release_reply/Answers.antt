@@ -2,9 +2,8 @@ use Rattle.mcs_types.specs.declared.id.Kind.TheVariants as kind
 use Rattle.mcs_book.specs.Cancelling.{void_deleted}
 use Rattle.mcs_state.specs.Now.{so_far}
 use Rattle.mcs_state.proofs.Doing.{so_far-made}
-use Rattle.mcs_cancel.specs.Releasing.{dismisses}
+use Rattle.mcs_cancel.specs.Releasing.{releases, dismisses}
 use Rattle.mcs_cancel.proofs.Leaving.{room-one, room-other, both-made}
-use Rattle.mcs_cancel.proofs.Releasing.{releases}
 use Rattle.mcs_cancel.proofs.Voiding.{reply-is, reply-released}
 use Rattle.mcs_cancel.proofs.destroying.release_reply.Goals as goal
 

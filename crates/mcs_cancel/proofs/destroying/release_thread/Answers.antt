@@ -6,9 +6,9 @@ use Rattle.mcs_book.specs.Pieces.{◌then◌}
 use Rattle.mcs_book.specs.Sound.{IsIdle}
 use Rattle.mcs_state.specs.Now.{so_far}
 use Rattle.mcs_state.proofs.Doing.{so_far-made, makes-then, room-first, room-next}
-use Rattle.mcs_cancel.specs.Releasing.{unties, lets_go}
+use Rattle.mcs_cancel.specs.Releasing.{releases, unties, lets_go}
 use Rattle.mcs_cancel.proofs.Leaving.{room-one, room-other, both-made}
-use Rattle.mcs_cancel.proofs.Releasing.{releases, thread-is, cancelled-idle, thread-released}
+use Rattle.mcs_cancel.proofs.Releasing.{thread-is, cancelled-idle, thread-released}
 use Rattle.mcs_cancel.proofs.destroying.release_thread.Goals as goal
 
 pub cancel-requires-clause-room : goal.cancel-requires-clause-room
