@@ -1,5 +1,5 @@
 -- The end of an object: what its parts record together, and what they leave.
-use Rattle.std.specs.Prelude.{◌≡◌, List, ◌∷◌, ◌++◌, Option, Some, None}
+use Rattle.std.specs.Prelude.{◌≡◌, true, List, ◌∷◌, ◌++◌, Option, Some, None}
 use Rattle.std.proofs.Common.{refl, ap, sym, ◌∙◌, inl, inr, subst}
 use Rattle.mcs_types.specs.declared.id.ObjId.{ObjId}
 use Rattle.mcs_types.specs.declared.id.Kind.TheVariants as kind
@@ -9,18 +9,20 @@ use Rattle.mcs_types.specs.declared.record.Queue.{Queue}
 use Rattle.mcs_types.specs.declared.record.Queue.TheVariants.{Waiters}
 use Rattle.mcs_types.specs.declared.record.Rec.TheVariants as rec
 use Rattle.mcs_book.specs.Logs.{Log, onto}
-use Rattle.mcs_book.specs.Cancelling.{cancel, cancel_all, leave, untie, let_go, release}
+use Rattle.mcs_book.specs.Cancelling.{cancel, cancel_all, leave, untie, let_go, release, destroy}
 use Rattle.mcs_book.specs.Contexts.{context_of, holder_of}
 use Rattle.mcs_book.specs.Notifications.{bound_of, tied_to}
+use Rattle.mcs_book.specs.Objects.{is_alive}
 use Rattle.mcs_book.specs.Pieces.{Piece, ◌then◌, say, with_any}
 use Rattle.mcs_book.specs.Queues.{queue_of, queued_in}
-use Rattle.mcs_book.specs.Sound.{Sound, IsThere, IsIdle, HoldsNone, IsUnbound, IsEmptyLine}
+use Rattle.mcs_book.specs.Sound.{Sound, Allowed, IsReleased, IsThere, IsIdle, HoldsNone, IsUnbound, IsEmptyLine}
 use Rattle.mcs_book.proofs.Firm.Cancel.{outlasts-cancel, outlasts-cancel_all}
+use Rattle.mcs_book.proofs.Firm.Ends.{IsLast, last-release}
 use Rattle.mcs_book.proofs.SoundLogs.Keeping.{then-next}
 use Rattle.mcs_book.proofs.SoundLogs.KeptLaws.{set-split, same-never, bound-one}
 use Rattle.mcs_book.proofs.Threads.HoldingLaws.{holder-one}
 use Rattle.mcs_cancel.specs.Emptying.{restarts_all}
-use Rattle.mcs_cancel.specs.Releasing.{releases, unties, lets_go, frees}
+use Rattle.mcs_cancel.specs.Releasing.{IsUnnamed, releases, unties, lets_go, frees}
 use Rattle.mcs_cancel.proofs.Leaving.{left-turns}
 
 -- a queue is emptied
@@ -111,3 +113,14 @@ notification-is n R = let xs = queued_in R (Waiters n) in ap (λ b. cancel_all x
 -- nobody waits on it still
 pub still-nobody : (R S : Log) (n : ObjId) → S ≡ onto (frees n R) R → IsEmptyLine R (Waiters n) → IsEmptyLine S (Waiters n)
 still-nobody R S n is empty = subst (λ L. IsEmptyLine L (Waiters n)) (sym is) (freed (λ L. IsEmptyLine L (Waiters n)) n R (λ t h. h) empty)
+
+-- an object ends once nobody is left with it
+pub destroy-is : (o : ObjId) (R : Log) → (releases o o.kind then say (rec.Closed o)) R ≡ destroy o R
+unfolding destroy ◌then◌
+destroy-is o R = refl
+
+-- it may, if no slot names it
+pub may-close : (R S : Log) (o : ObjId) → is_alive R o ≡ true → IsUnnamed R o → S ≡ onto (release R o o.kind R) R → IsReleased S o.kind o → Allowed S (rec.Closed o)
+may-close R S o alive unnamed is done =
+    let last : IsLast o S = subst (λ L. IsLast o L) (sym is) (last-release R o o o.kind (record { alive = alive; no_cap = unnamed })) in
+    (last.alive, done, last.no_cap)

@@ -1,5 +1,5 @@
 -- What an object is that ends; and what its end takes from others, in the parts in which the code does it.
-use Rattle.std.specs.Prelude.{◌≢◌, None}
+use Rattle.std.specs.Prelude.{ℕ, ◌≡◌, ◌≢◌, false, None}
 use Rattle.mcs_types.specs.declared.id.ObjId.{ObjId}
 use Rattle.mcs_types.specs.declared.record.Rec.TheVariants.{Tied}
 use Rattle.mcs_types.specs.declared.id.Kind.{Kind}
@@ -11,10 +11,15 @@ use Rattle.mcs_book.specs.Contexts.{context_of}
 use Rattle.mcs_book.specs.Notifications.{bound_of, tied_to}
 use Rattle.mcs_book.specs.Replies.{receiver_with}
 use Rattle.mcs_book.specs.Pieces.{Piece, say, with_any}
+use Rattle.mcs_book.specs.Slots.{slot, is_cap_to}
 
 -- o is no CNode
 abbrev pub IsNoCNode : ObjId → Type 0
 IsNoCNode o = o.kind ≢ CNode
+
+-- no slot has a capability to o
+abbrev pub IsUnnamed : Log → ObjId → Type 0
+IsUnnamed R o = (c : ObjId) (i : ℕ) → is_cap_to o (slot R c i) ≡ false
 
 -- what the end of an object of a kind does to others
 abbrev pub releases : ObjId → Kind → Piece

@@ -2,14 +2,14 @@
 ghost use Rattle.std.specs.Prelude.{◌≡◌, None, IsTrue};
 ghost use Rattle.mcs_types.specs.declared.id.Kind.{Kind};
 ghost use Rattle.mcs_types.specs.declared.record.Queue.{Queue};
-ghost use Rattle.mcs_book.specs.Cancelling.{void_deleted as voided};
+ghost use Rattle.mcs_book.specs.Cancelling.{destroy as destroyed, void_deleted as voided};
 ghost use Rattle.mcs_book.specs.Notifications.{bound_of};
 ghost use Rattle.mcs_book.specs.Objects.{is_alive};
 ghost use Rattle.mcs_book.specs.Sound.{IsThere, IsEmptyLine, HoldsNone, IsUnbound, IsUnattended, IsReleased};
 ghost use Rattle.mcs_state.specs.Now.{so_far};
 ghost use Rattle.mcs_state.specs.Doing.{Makes, HasRoomFor};
 ghost use Rattle.mcs_cancel.specs.Emptying.{restarts_all, KeepsOthers};
-ghost use Rattle.mcs_cancel.specs.Releasing.{IsNoCNode, releases, unties, lets_go, frees, dismisses};
+ghost use Rattle.mcs_cancel.specs.Releasing.{IsNoCNode, IsUnnamed, releases, unties, lets_go, frees, dismisses};
 
 use crate::cancelling::cancel;
 use crate::returning::give_back;
@@ -170,4 +170,17 @@ fn release_object<W: Waiting>(state: &mut State<W>, object: ObjId)
         Kind::Reply => release_reply(state, object),
         Kind::Context => release_context(state, object),
     }
+}
+
+/// Destroys an object that no slot names any more: what waits for it or holds it is cancelled or let go, and it ends (own;
+/// manual: Capability Spaces, deletion).
+pub fn destroy<W: Waiting>(state: &mut State<W>, object: ObjId)
+    requires there { IsTrue (is_alive (so_far state.old) object) }
+    requires kind { IsNoCNode object }
+    requires unnamed { IsUnnamed (so_far state.old) object }
+    requires room { HasRoomFor (destroyed object) state.old }
+    ensures { Makes (destroyed object) state.old state.new }
+{
+    release_object(state, object);
+    state.closes(object);
 }
