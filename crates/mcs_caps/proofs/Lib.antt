@@ -1,3 +1,4 @@
 pub mod Rows
 pub mod Finding
 pub mod Places
+pub mod Deletions

@@ -4,5 +4,7 @@
 
 mod checks;
 mod copying;
+mod deleting;
 
 pub use copying::{copy_cap, mint_cap, move_cap};
+pub use deleting::delete_cap;

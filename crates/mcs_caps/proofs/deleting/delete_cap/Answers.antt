@@ -1,0 +1,33 @@
+use Rattle.std.proofs.Common.{ap, sym, ◌∙◌}
+use Rattle.mcs_types.specs.declared.entry.Entry.TheVariants.{DeleteCap}
+use Rattle.mcs_book.specs.Lookup.{slot_named}
+use Rattle.mcs_cspace.specs.Spaces.{name_of, named_by}
+use Rattle.mcs_state.specs.Checks.{act_of}
+use Rattle.mcs_state.specs.Now.{so_far}
+use Rattle.mcs_state.proofs.Doing.{refused, did, room-did}
+use Rattle.mcs_caps.specs.Deletions.{deletes}
+use Rattle.mcs_caps.proofs.Deletions.{deletes_named, row-delete, spared-ok}
+use Rattle.mcs_caps.proofs.deleting.delete_cap.Goals as goal
+
+pub delete-requires-clause-spared : goal.delete-requires-clause-spared
+delete-requires-clause-spared g c =
+    let R = so_far c.args.state.now in
+    spared-ok R (slot_named R c.args.thread c.args.place) (name_of c.in-Ok.at) (sym c.find_deletable.ensures.found ∙ ap (λ m. named_by m) c.in-Ok.is)
+
+pub delete-requires-clause-room : goal.delete-requires-clause-room
+delete-requires-clause-room g c =
+    let R = so_far c.args.state.now in
+    let row = row-delete R c.args.core c.args.thread c.args.place ∙ ap (λ m. act_of m (deletes_named R)) (sym c.find_deletable.ensures.found ∙ ap (λ m. named_by m) c.in-Ok.is) in
+    room-did c.args.state.now c.args.core c.args.thread (DeleteCap c.args.place) (deletes R c.in-Ok.at) row c.requires.room
+
+pub returns-in-Err : goal.returns-in-Err
+returns-in-Err g c =
+    let R = so_far c.args.state.now in
+    let row = row-delete R c.args.core c.args.thread c.args.place ∙ ap (λ m. act_of m (deletes_named R)) (sym c.find_deletable.ensures.found ∙ ap (λ m. named_by m) c.in-Err.is) in
+    refused c.args.state.now c.args.core c.args.thread (DeleteCap c.args.place) c.in-Err.refusal row
+
+pub returns-in-Ok : goal.returns-in-Ok
+returns-in-Ok g c =
+    let R = so_far c.args.state.now in
+    let row = row-delete R c.args.core c.args.thread c.args.place ∙ ap (λ m. act_of m (deletes_named R)) (sym c.find_deletable.ensures.found ∙ ap (λ m. named_by m) c.in-Ok.is) in
+    did c.args.state.now c.delete.new.state c.args.core c.args.thread (DeleteCap c.args.place) (deletes R c.in-Ok.at) c.delete.result row c.delete.ensures
