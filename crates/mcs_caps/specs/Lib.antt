@@ -1,3 +1,4 @@
 pub mod Rows
 pub mod Placed
 pub mod Deletions
+pub mod NewObjects

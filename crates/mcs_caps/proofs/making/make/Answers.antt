@@ -1,0 +1,34 @@
+use Rattle.std.proofs.Common.{ap, sym, ◌∙◌, arith}
+use Rattle.std.proofs.lemmas.Grind.{common_steps}
+use Rattle.mcs_book.specs.Lookup.{slot_named}
+use Rattle.mcs_cspace.specs.Spaces.{name_of, named_by}
+use Rattle.mcs_state.specs.Checks.{act_of}
+use Rattle.mcs_state.specs.Now.{so_far}
+use Rattle.mcs_state.proofs.Doing.{refused, did, room-did}
+use Rattle.mcs_caps.specs.NewObjects.{entry_making, makes}
+use Rattle.mcs_caps.proofs.NewObjects.{makes_named, row-make, free-room}
+use Rattle.mcs_caps.proofs.making.make.Goals as goal
+
+pub make_awake-requires-clause-few : goal.make_awake-requires-clause-few
+make_awake-requires-clause-few g c =
+    let R = so_far c.args.state.now in
+    let few = free-room R c.args.kind (slot_named R c.args.thread c.args.place) (name_of c.in-Ok.at) (sym c.find_vacant.ensures.found ∙ ap (λ m. named_by m) c.in-Ok.is) in
+    record { few = grind (arith, common_steps, few); fresh = c.requires.serials c.args.kind }
+
+pub make_awake-requires-clause-room : goal.make_awake-requires-clause-room
+make_awake-requires-clause-room g c =
+    let R = so_far c.args.state.now in
+    let row = row-make R c.args.core c.args.thread c.args.kind c.args.place c.requires.kind ∙ ap (λ m. act_of m (makes_named R c.args.kind c.args.core)) (sym c.find_vacant.ensures.found ∙ ap (λ m. named_by m) c.in-Ok.is) in
+    room-did c.args.state.now c.args.core c.args.thread (entry_making c.args.kind c.args.place) (makes R c.args.kind c.args.core c.in-Ok.at) row c.requires.room
+
+pub returns-in-Err : goal.returns-in-Err
+returns-in-Err g c =
+    let R = so_far c.args.state.now in
+    let row = row-make R c.args.core c.args.thread c.args.kind c.args.place c.requires.kind ∙ ap (λ m. act_of m (makes_named R c.args.kind c.args.core)) (sym c.find_vacant.ensures.found ∙ ap (λ m. named_by m) c.in-Err.is) in
+    refused c.args.state.now c.args.core c.args.thread (entry_making c.args.kind c.args.place) c.in-Err.refusal row
+
+pub returns-in-Ok : goal.returns-in-Ok
+returns-in-Ok g c =
+    let R = so_far c.args.state.now in
+    let row = row-make R c.args.core c.args.thread c.args.kind c.args.place c.requires.kind ∙ ap (λ m. act_of m (makes_named R c.args.kind c.args.core)) (sym c.find_vacant.ensures.found ∙ ap (λ m. named_by m) c.in-Ok.is) in
+    did c.args.state.now c.make_awake.new.state c.args.core c.args.thread (entry_making c.args.kind c.args.place) (makes R c.args.kind c.args.core c.in-Ok.at) c.make_awake.result row c.make_awake.ensures
