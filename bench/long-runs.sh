@@ -1,11 +1,20 @@
 #!/bin/sh
-# How long mcssim takes for long scripts of sends and receives, and how much memory: for each number of steps the seconds, the
-# peak of memory in bytes, and the bytes of memory for each line of the book. It takes the program that `rt ci` leaves in out/,
-# or proves and builds it where it is not there, and measures with python3.
+# How long mcssim takes for long scripts, and how much memory: for each number of steps the seconds, the peak of memory in bytes, the
+# bytes of memory for each line of the book, and the bytes written. Usage: long-runs.sh messages|entries [STEPS..]
+# `messages` are sends and receives in turn; `entries` are rounds of all 25 entries, with objects made and deleted in each
+# (bench/all-entries.txt). It takes the program that `rt ci` leaves in out/, or proves and builds it where it is not there, and
+# measures with python3.
 set -eu
 cd "$(dirname "$0")/.."
+kind=${1:-messages}
+[ $# -eq 0 ] || shift
 work=$(mktemp -d)
 trap 'rm -rf "$work"' EXIT
+case $kind in
+messages) printf '%s\n' '0 t1 send 1 7 5 6' '0 t2 recv 2 8' >"$work/round" ;;
+entries) cp bench/all-entries.txt "$work/round" ;;
+*) echo "long-runs.sh: messages or entries"; exit 1 ;;
+esac
 
 [ -x crates/mcssim/out/mcssim ] || (cd crates/mcssim && rt run -- replay) <crates/mcssim/stdin >"$work/built" 2>&1 || { cat "$work/built"; exit 1; }
 
@@ -13,7 +22,7 @@ echo "steps seconds peak-bytes bytes-a-line written-bytes"
 for steps in ${*:-10000 100000 999000}; do
     {
         sed '/^0 /d' crates/mcssim/stdin
-        awk -v steps="$steps" 'BEGIN { for (i = 0; i < steps; i += 2) { print "0 t1 send 1 7 5 6"; if (i + 1 < steps) print "0 t2 recv 2 8" } }'
+        awk -v steps="$steps" '{ round[NR] = $0 } END { for (i = 0; i < steps; i++) print round[i % NR + 1] }' "$work/round"
     } >"$work/script"
     python3 - "$work/script" "$work/trace" "$steps" <<'P'
 import resource, subprocess, sys, time

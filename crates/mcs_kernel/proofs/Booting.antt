@@ -238,13 +238,17 @@ gives-allowed R form p mode (Some s) sound boots h =
     more true i = refl
     more false i = i
 
+-- so it is after the lines of a boot
+pub boot-begun : (lines : List BootLine) → IsBooting (boot_log lines)
+boot-begun lines = record { alive = λ o. boot-open lines o; unowed = λ r. boot-unowed lines r }
+
 -- while only the boot was taken, its log is all there is
 pub so-far-boot : (n : Now) → n.hand ≡ [] → n.book.lines ≡ [] → so_far n ≡ boot_log n.book.boot.lines
 so-far-boot n h l = ap (λ (w : Log). w ++ past (boot_log n.book.boot.lines) n.book.lines) h ∙ ap (λ (ls : List Line). past (boot_log n.book.boot.lines) ls) l
 
 -- and nothing was closed
 pub boots : (n : Now) → n.hand ≡ [] → n.book.lines ≡ [] → IsBooting (so_far n)
-boots n h l = let lines : List BootLine = n.book.boot.lines in subst IsBooting (sym (so-far-boot n h l)) (record { alive = λ o. boot-open lines o; unowed = λ r. boot-unowed lines r })
+boots n h l = subst IsBooting (sym (so-far-boot n h l)) (boot-begun n.book.boot.lines)
 
 -- the older lines of a boot without fault have none
 pub faultless-older : (cores : ℕ) (newer older : List BootLine) → AreFaultless cores (newer ++ older) → AreFaultless cores older

@@ -1,3 +1,4 @@
 pub mod Booting
+pub mod Serials
 pub mod Serving
 pub mod Stepping

@@ -20,7 +20,7 @@ use Rattle.mcs_book.specs.Contexts.{context_of}
 use Rattle.mcs_book.specs.Replies.{owing}
 use Rattle.mcs_book.specs.Standing.{status_of, status_by, is_ready, is_on_core, may_enter}
 use Rattle.mcs_book.specs.History.{Book, IsLegal, log_of}
-use Rattle.mcs_types.specs.Limits.{line_limit}
+use Rattle.mcs_types.specs.Limits.{core_limit, line_limit}
 use Rattle.mcs_types.specs.Ranges.{InRange}
 use Rattle.mcs_types.proofs.Ids.{parts, both}
 use Rattle.mcs_book.proofs.Threads.EntersLaws.{enters-ready}
@@ -39,8 +39,11 @@ use Rattle.mcs_book.proofs.Lengths.Rows.{does-short}
 use Rattle.mcs_book.proofs.Messages.SendersOpen.{legal-senders}
 use Rattle.mcs_book.specs.Boots.{Boot, IsFaultless}
 use Rattle.mcs_book.proofs.SoundLogs.SoundBooks.{legal-firm}
+use Rattle.mcs_book.proofs.Books.KnownCores.{legal-cores}
+use Rattle.mcs_caps.specs.NewObjects.{HasSerials}
 use Rattle.mcs_kernel.specs.Resting.{IsResting}
 use Rattle.mcs_kernel.proofs.Booting.{length-made}
+use Rattle.mcs_kernel.proofs.Serials.{serials-left}
 use Rattle.mcs_types.specs.declared.entry.Step.{Step}
 use Rattle.mcs_state.specs.Now.{Now, so_far}
 use Rattle.mcs_kernel.specs.declared.fault.EnterFault.TheVariants.{NotRunning, WrongCore, BookFull}
@@ -158,6 +161,18 @@ module _ (b : Book) (core : CoreId) (t : ObjId) (n : Now) (s : IsServing b core 
   -- only the bound thread waits on a notification
   pub serving-waits : OnlyBoundWait (so_far n)
   serving-waits = subst OnlyBoundWait records-are (λ w o u at bound. waiter-bound (log_of b) w o u (legal-firm b s.legal) at bound)
+
+  -- not each serial was given
+  pub serving-serials : HasSerials (so_far n)
+  serving-serials = let few = s.few in subst HasSerials records-are (serials-left b s.legal (omega (arith, few)))
+
+  -- the core is one of the machine
+  pub serving-core : (entry : Entry) → InRange entry → core.0 < core_limit
+  serving-core entry range =
+      let step : Step = record { core = core; thread = t; entry = entry } in
+      let first : core.0 < b.boot.cores = (legal-cores (entered b step) (legal-entered b step s.legal s.may range)).0 in
+      let cores : b.boot.cores ≤ core_limit = s.legal.boot.few_cores in
+      omega (arith, first, cores)
 
   -- the kernel is at rest again when the line was closed
   pub rests-again : (entry : Entry) (a told : Answer) (m after : Now) → InRange entry → (did : Does n core t entry a m) → told ≡ a → after.hand ≡ []

@@ -4,7 +4,6 @@ use Rattle.std.specs.Option.{IfSome}
 use Rattle.mcs_types.specs.declared.entry.Step.{Step}
 use Rattle.mcs_book.specs.Boots.{Boot}
 use Rattle.mcs_book.specs.History.{Book, with_step}
-use Rattle.mcs_types.specs.Served.{IsServed}
 use Rattle.mcs_kernel.specs.Faults.{fault_of}
 use Rattle.mcs_kernel.specs.declared.fault.ReplayFault.{ReplayFault}
 use Rattle.mcs_kernel.specs.declared.fault.ReplayFault.TheVariants as ended
@@ -24,11 +23,6 @@ full_after n b (s ∷ ss) = cond (is_book_full (fault_of b s.core s.thread)) (So
 -- the same, of steps that begin with a boot
 abbrev pub full_in : Boot → List Step → Option ℕ
 full_in boot ss = full_after 0 (record { boot = boot; lines = [] }) ss
-
--- each step is of a kind that the kernel takes
-abbrev pub AreServed : List Step → Type 0
-AreServed [] = Unit {0}
-AreServed (s ∷ ss) = IsServed s.entry × AreServed ss
 
 -- a fault of a replay of so many steps, whose first step with a full book has this number: BookFull comes at that step alone,
 -- and OutOfMemory at one of the steps before or at it, or at the boot, which has the number 0

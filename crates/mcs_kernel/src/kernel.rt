@@ -4,7 +4,7 @@ ghost use Rattle.mcs_book.specs.History.{IsLegal, log_of};
 ghost use Rattle.mcs_book.specs.Each.{EachRecord, EachLine, AfterEachLine};
 ghost use Rattle.mcs_book.specs.Fair.{EndsOpen, IsWholeLine, TakesFirst, TakesInOrder, TakesAlive, SendersAreOpen, AnswersOwed, AnswersWhole, NoneWaitBeside};
 ghost use Rattle.mcs_book.specs.Standing.{may_enter};
-ghost use Rattle.mcs_types.specs.Served.{IsServed};
+ghost use Rattle.mcs_caps.specs.NewObjects.{HasSerials};
 ghost use Rattle.mcs_book.specs.Table.{does};
 ghost use Rattle.mcs_state.specs.Now.{so_far};
 ghost use Rattle.mcs_state.specs.Doing.{Does, Fits};
@@ -17,7 +17,10 @@ use crate::boot::{Boot, boot_state};
 use crate::fault::EnterFault;
 use mcs_book::Book;
 use mcs_cancel::{cancel_badged, resume, set_priority, suspend};
-use mcs_caps::{copy_cap, mint_cap, move_cap};
+use mcs_caps::{
+    copy_cap, delete_cap, make_context, make_endpoint, make_notification, make_reply, mint_cap,
+    move_cap,
+};
 use mcs_ipc::{
     bind_context, call, nb_receive, nb_send, nb_wait, receive, reply_receive, send, unbind_context,
     wait,
@@ -25,7 +28,7 @@ use mcs_ipc::{
 use mcs_notify::{bind, signal_at, unbind};
 use mcs_queues::Lines;
 use mcs_state::State;
-use mcs_types::{Answer, BOOK_LINES, CoreId, Entry, ObjId, OutOfMemory, Status, Step};
+use mcs_types::{Answer, BOOK_LINES, CORES, CoreId, Entry, ObjId, OutOfMemory, Status, Step};
 use mcs_waiting::{ObjectQueues, Waiting};
 use std::alloc::Global;
 use std::marker::Model;
@@ -49,10 +52,11 @@ impl<L: Lines> Model for Kernel<L> {
 
 /// Does an entry of a thread that may enter.
 fn operate<W: Waiting>(state: &mut State<W>, core: CoreId, thread: ObjId, entry: &Entry) -> Answer
-    requires served { IsServed entry.now }
+    requires core { core.0 < CORES }
     requires entering { IsEntering (so_far state.old) thread }
     requires stand { OpenStand (so_far state.old) }
     requires waiting { OnlyBoundWait (so_far state.old) }
+    requires serials { HasSerials (so_far state.old) }
     requires few { length state.old.book.lines < BOOK_LINES }
     requires room { Fits state.old core thread entry.now }
     ensures { Does state.old core thread entry.now result state.new }
@@ -101,7 +105,11 @@ fn operate<W: Waiting>(state: &mut State<W>, core: CoreId, thread: ObjId, entry:
             badge,
         } => mint_cap(state, core, thread, *source, *dest, *rights, *badge),
         Entry::MoveCap { source, dest } => move_cap(state, core, thread, *source, *dest),
-        _ => unreachable!(),
+        Entry::DeleteCap { place } => delete_cap(state, core, thread, *place),
+        Entry::MakeEndpoint { place } => make_endpoint(state, core, thread, *place),
+        Entry::MakeNotification { place } => make_notification(state, core, thread, *place),
+        Entry::MakeReply { place } => make_reply(state, core, thread, *place),
+        Entry::MakeContext { place } => make_context(state, core, thread, *place),
     }
 }
 
@@ -164,7 +172,6 @@ impl<L: Lines> Kernel<L> {
 
     /// Does an entry that is let in: its line is added. OutOfMemory where the room for it is refused.
     fn serve(&mut self, core: CoreId, thread: ObjId, entry: Entry) -> Result<Answer, OutOfMemory>
-        requires served { IsServed entry }
         requires let_in { fault_of self.old core thread ≡ None }
         ensures line { OnOk result (self.new ≡ with_entry self.old core thread entry) }
         ensures answer { IfOk result (λ a. a ≡ (does (log_of self.old) core thread entry).answer) }
@@ -195,7 +202,6 @@ impl<L: Lines> Kernel<L> {
         thread: ObjId,
         entry: Entry,
     ) -> Result<Answer, EnterFault>
-        requires served { IsServed entry }
         ensures turned { IfSome (fault_of self.old core thread) (λ f. result ≡ Err f) }
         ensures let_in { OnOk result (fault_of self.old core thread ≡ None) }
         ensures memory { IfNone (fault_of self.old core thread) (FailsForMemory result) }

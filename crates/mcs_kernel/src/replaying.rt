@@ -3,10 +3,9 @@ ghost use Rattle.std.specs.Prelude.{◌≡◌, ◌⊎◌, length, [], true, fals
 ghost use Rattle.mcs_book.specs.History.{IsLegal, book_of, with_step};
 ghost use Rattle.mcs_book.specs.Each.{EachRecord, EachLine, AfterEachLine};
 ghost use Rattle.mcs_book.specs.Fair.{EndsOpen, IsWholeLine, TakesFirst, TakesInOrder, TakesAlive, SendersAreOpen, AnswersOwed, AnswersWhole, NoneWaitBeside};
-ghost use Rattle.mcs_types.specs.Served.{IsServed};
 ghost use Rattle.mcs_kernel.specs.declared.fault.EnterFault.{EnterFault};
 ghost use Rattle.mcs_kernel.specs.Faults.{fault_of};
-ghost use Rattle.mcs_kernel.specs.Runs.{AreServed, is_book_full, full_in, EndsAt};
+ghost use Rattle.mcs_kernel.specs.Runs.{is_book_full, full_in, EndsAt};
 
 use crate::boot::Boot;
 use crate::fault::{EnterFault, ReplayFault};
@@ -17,7 +16,6 @@ use std::alloc::Global;
 
 /// Takes one step: a step that is turned away leaves no line.
 fn take<L: Lines>(kernel: &mut Kernel<L>, alloc: Global, step: &Step) -> Result<(), EnterFault>
-    requires { IsServed step.now.entry }
     ensures taken { OnOk result ((kernel.new ≡ with_step kernel.old step.now)
         × (is_book_full (fault_of kernel.old step.now.core step.now.thread) ≡ false)) }
     ensures full { IfErr result (λ f. (f ≡ EnterFault.BookFull) ⊎ (f ≡ EnterFault.OutOfMemory)) }
@@ -37,7 +35,6 @@ fn take<L: Lines>(kernel: &mut Kernel<L>, alloc: Global, step: &Step) -> Result<
 /// Takes the steps one after another on a kernel with this boot: steps that are turned away leave no line. BookFull comes
 /// exactly at the first step that would be let in and for which the book is full, unless memory was refused before.
 pub fn replay<L: Lines>(alloc: Global, boot: Boot, steps: &[Step]) -> Result<Kernel<L>, ReplayFault>
-    requires served { AreServed steps.now }
     ensures book { IfOk result (λ k. k ≡ book_of boot steps.now) }
     ensures room { OnOk result (full_in boot steps.now ≡ None) }
     ensures full { IfErr result (EndsAt (length steps.now) (full_in boot steps.now)) }

@@ -39,7 +39,7 @@ legal-again b is =
     let again : IsAgain b = record {
       cores = cores-again b.boot.cores is.legal.boot.some_core is.legal.boot.few_cores;
       boot = boots-again b.boot.cores b.boot.lines is.legal.boot few;
-      lines = lines-again b.boot b.lines (steps-again b.boot b.lines is.legal is.served few) (small-legal b is.legal);
+      lines = lines-again b.boot b.lines (steps-again b.boot b.lines is.legal few) (small-legal b is.legal);
     } in
     trace-again b again is.short
 

@@ -1,7 +1,6 @@
 -- Each step of a legal book is read again: its thread is one of the boot's, its core one of the boot's, its numbers are in range.
 use Rattle.std.specs.Prelude.{ℕ, ◌+◌, ◌<◌, ◌≤◌, ◌≡◌, Bool, true, false, cond, List, [], ◌∷◌, ◌++◌, Some, None, refl, length, map, reverse}
 use Rattle.std.proofs.Common.{subst, arith}
-use Rattle.std.proofs.lemmas.List.{reverse-append}
 use Rattle.mcs_types.specs.declared.id.ObjId.{ObjId}
 use Rattle.mcs_types.specs.declared.id.Kind.{Kind}
 use Rattle.mcs_types.specs.declared.id.Kind.TheVariants as kind
@@ -15,7 +14,6 @@ use Rattle.mcs_book.specs.Logs.{Log, onto, counted}
 use Rattle.mcs_book.specs.Objects.{makes_kind, was_made}
 use Rattle.mcs_book.specs.Threads.{threads}
 use Rattle.mcs_book.specs.Boots.{Boot, boot_line, boot_log}
-use Rattle.mcs_types.specs.Served.{IsServed}
 use Rattle.mcs_types.specs.Limits.{core_limit}
 use Rattle.mcs_book.specs.Sound.{Sound}
 use Rattle.mcs_book.specs.History.{Line, IsLegal, past, steps_of}
@@ -25,17 +23,12 @@ use Rattle.mcs_book.proofs.Lengths.Rows.{past-threads}
 use Rattle.mcs_book.proofs.Objects.MadeLaws.{made-in, serial-below, made-serial}
 use Rattle.mcs_book.proofs.SoundLogs.SoundBooks.{legal-sound}
 use Rattle.mcs_book.proofs.Queues.Sorted.{In}
-use Rattle.mcs_kernel.specs.Runs.{AreServed}
+use Rattle.mcs_kernel.proofs.Serials.{one-more}
 use Rattle.mcs_text.proofs.EntryLines.{step_line_again}
 use Rattle.mcs_sim.specs.Script.{threads_of}
 use Rattle.mcs_rereading.proofs.Scripts.{IsStepAgain}
 
 -- ---- serials
-
--- one more at most
-one-more : (b : Bool) (n : ℕ) → cond b (n + 1) n ≤ n + 1
-one-more true n = omega arith
-one-more false n = omega arith
 
 -- a line of the boot makes at most one object of a kind
 counted-line : (k : Kind) (R S : Log) (line : BootLine) → counted (makes_kind k) (onto (boot_line S line) R) ≤ counted (makes_kind k) R + 1
@@ -70,14 +63,9 @@ boot-serial lines o sound made =
 
 -- ---- the steps of a book
 
--- the last of steps that are served
-served-split : (ss : List Step) (s : Step) → AreServed (ss ++ s ∷ []) → AreServed ss × IsServed s.entry
-served-split [] s h = (tt, h.0)
-served-split (x ∷ xs) s h = let p : AreServed xs × IsServed s.entry = served-split xs s h.1 in ((h.0, p.0), p.1)
-
 -- the step of the newest line is read again
-newest-again : (b : Boot) (l : Line) (ls : List Line) → IsLegal (record { boot = b; lines = l ∷ ls }) → IsServed l.step.entry → length b.lines ≤ 2000000 → IsStepAgain b l.step
-newest-again b l ls legal served few =
+newest-again : (b : Boot) (l : Line) (ls : List Line) → IsLegal (record { boot = b; lines = l ∷ ls }) → length b.lines ≤ 2000000 → IsStepAgain b l.step
+newest-again b l ls legal few =
     let B : Log = boot_log b.lines in
     let R : Log = past B ls in
     let before : IsLegal (record { boot = b; lines = ls }) = record { boot = legal.boot; lines = legal.lines.1 } in
@@ -91,18 +79,15 @@ newest-again b l ls legal served few =
     let cores : b.cores ≤ core_limit = legal.boot.few_cores in
     let some : 0 < l.step.thread.serial = omega (arith, (made-serial R l.step.thread sound who.1).0) in
     let made : l.step.thread.serial ≤ threads_of b = serial-below B l.step.thread kind.Thread first in_boot in
-    step_line_again b.cores (threads_of b) l.step served legal.lines.0.in_range core (omega arith) who.0 some made (omega (arith, counted-boot kind.Thread b.lines))
+    step_line_again b.cores (threads_of b) l.step legal.lines.0.in_range core (omega arith) who.0 some made (omega (arith, counted-boot kind.Thread b.lines))
 
 -- each step of these lines is read again
 unfoldable pub AreStepsAgain : Boot → List Line → Type 0
 AreStepsAgain b [] = Unit {0}
 AreStepsAgain b (l ∷ ls) = IsStepAgain b l.step × AreStepsAgain b ls
 
--- each step of a legal book is, where its steps are served and its boot has not too many lines
-pub steps-again : (b : Boot) (ls : List Line) → IsLegal (record { boot = b; lines = ls }) → AreServed (steps_of (record { boot = b; lines = ls })) → length b.lines ≤ 2000000 → AreStepsAgain b ls
+-- each step of a legal book is, where its boot has not too many lines
+pub steps-again : (b : Boot) (ls : List Line) → IsLegal (record { boot = b; lines = ls }) → length b.lines ≤ 2000000 → AreStepsAgain b ls
 unfolding AreStepsAgain
-steps-again b [] legal served few = tt
-steps-again b (l ∷ ls) legal served few =
-    let old : List Step = map (λ (k : Line). k.step) ls in
-    let p : AreServed (reverse old) × IsServed l.step.entry = served-split (reverse old) l.step (subst AreServed (reverse-append (l.step ∷ []) old) served) in
-    (newest-again b l ls legal p.1 few, steps-again b ls (record { boot = legal.boot; lines = legal.lines.1 }) p.0 few)
+steps-again b [] legal few = tt
+steps-again b (l ∷ ls) legal few = (newest-again b l ls legal few, steps-again b ls (record { boot = legal.boot; lines = legal.lines.1 }) few)

@@ -3,5 +3,4 @@ pub mod ScriptLaws
 pub mod RunLaws
 pub mod InputLaws
 pub mod LongLaws
-pub mod ServedLaws
 pub mod TraceLaws

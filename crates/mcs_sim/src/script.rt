@@ -1,7 +1,6 @@
 //! What a script says.
 ghost use Rattle.std.specs.Prelude.{◌≡◌, ◌≤◌, Ok, Err, Some, OnOk, OnErr};
 ghost use Rattle.mcs_book.specs.Boots.{boot_log, is_object};
-ghost use Rattle.mcs_kernel.specs.Runs.{AreServed};
 ghost use Rattle.mcs_text.specs.Reading.{Gives, words_of};
 ghost use Rattle.mcs_text.specs.BootLines.{raw_line};
 ghost use Rattle.mcs_sim.specs.BootLines.{object_of, cores_of, cap_of, index_of, fitted, with_line};
@@ -27,14 +26,11 @@ pub struct Script {
 }
 
 impl Model for Script {
-    ghost use Rattle.mcs_kernel.specs.Runs.{AreServed};
     ghost use Rattle.mcs_sim.specs.Script.{Script};
 
     ghost Value = { Script };
 
     ghost view = { λ s. record { boot = s.boot; steps = s.steps.items } };
-
-    ghost invariant = { λ s. AreServed s.steps.items };
 }
 
 /// Why a line could not be taken.
@@ -224,8 +220,6 @@ fn read_next_boot(boot: &mut Boot, key: Key, words: &mut Words<'_>) -> Result<()
 /// Adds the step that a line spells.
 #[tactic(auto, unfolding(crate::specs::Script::next_steps))]
 fn read_next_step(boot: &Boot, steps: &mut Vec<Step>, line: &[u8]) -> Result<(), ReadFault>
-    requires { AreServed steps.old.items }
-    ensures served { AreServed steps.new.items }
     ensures reads { Reads (λ u. steps.new.items) result
         (next_steps boot.now steps.old.items line.now) }
     ensures unchanged { OnErr result (steps.new.items ≡ steps.old.items) }
@@ -246,8 +240,6 @@ fn read_later_line(
     key: Option<Key>,
     words: &mut Words<'_>,
 ) -> Result<(), ReadFault>
-    requires { AreServed steps.old.items }
-    ensures served { AreServed steps.new.items }
     ensures reads { Reads (λ u. record { boot = Some boot.new; steps = steps.new.items }) result
         (later_line boot.old steps.old.items line.now key words.old) }
     ensures boot_unchanged { OnErr result (boot.new ≡ boot.old) }

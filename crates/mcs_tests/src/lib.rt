@@ -8,6 +8,8 @@ mod boots;
 #[cfg(test)]
 mod cancelling;
 #[cfg(test)]
+mod deleting;
+#[cfg(test)]
 mod failing;
 #[cfg(test)]
 mod faults;

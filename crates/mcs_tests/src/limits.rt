@@ -53,7 +53,7 @@ fn a_script_has_at_most_2_000_000_lines(rt: HostRuntime) -> Result<(), Fail> {
 }
 
 /// Lines behind the boot with a number at the end of its range.
-const AT_END: [&str; 14] = [
+const AT_END: [&str; 16] = [
     "0 t1 send 18446744073709551615 0",
     "0 t1 send 1 4503599627370495",
     "0 t1 send 1 0 18446744073709551615 2 3 4",
@@ -62,6 +62,8 @@ const AT_END: [&str; 14] = [
     "0 t1 copy 18446744073709551615 255 0 0 rwgp",
     "0 t1 mint 0 0 18446744073709551615 255 - 18446744073709551615",
     "0 t1 move 18446744073709551615 255 18446744073709551615 255",
+    "0 t1 delete 18446744073709551615 255",
+    "0 t1 make reply 18446744073709551615 255",
     "cnode 1",
     "cnode 8",
     "context 0",
@@ -71,7 +73,7 @@ const AT_END: [&str; 14] = [
 ];
 
 /// The same with a number over its range.
-const OVER_END: [&str; 22] = [
+const OVER_END: [&str; 25] = [
     "0 t1 send 18446744073709551616 0",
     "0 t1 send 1 4503599627370496",
     "0 t1 send 1 0 18446744073709551616",
@@ -82,6 +84,9 @@ const OVER_END: [&str; 22] = [
     "0 t1 copy 0 256 0 64 -",
     "0 t1 mint 0 64 0 64 - 18446744073709551616",
     "0 t1 move 0 64 0 256",
+    "0 t1 delete 18446744073709551616 64",
+    "0 t1 delete 0 256",
+    "0 t1 make context 0 256",
     "1 t1 recv 2 8",
     "cnode 0",
     "cnode 9",

@@ -1,5 +1,4 @@
 //! What a kernel tells of its threads.
-ghost use Rattle.mcs_types.specs.Served.{IsServed};
 
 use mcs_kernel::{Boot, EnterFault, Kernel, replay};
 use mcs_queues::PlainLines;
@@ -89,9 +88,7 @@ fn enter(
     core: u8,
     serial: u32,
     entry: Entry,
-) -> Result<Answer, EnterFault>
-    requires { IsServed entry }
-{
+) -> Result<Answer, EnterFault> {
     kernel.enter(alloc, CoreId(core), thread(serial), entry)
 }
 

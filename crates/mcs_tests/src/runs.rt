@@ -1,5 +1,6 @@
 //! Scripts and their traces.
 use crate::cancelling::CANCELLING;
+use crate::deleting::DELETING;
 use crate::streams::{Input, Output, pipe};
 use mcs_sim::SimFault;
 use mcs_text::LineFault;
@@ -47,7 +48,7 @@ slot c1 25 s5
 ";
 
 /// Two CNodes that are the roots of a thread each, with guards of two sizes.
-const TWO_ROOTS: &str = "\
+pub const TWO_ROOTS: &str = "\
 cores 1
 cnode 4
 cnode 8
@@ -61,7 +62,7 @@ slot c2 1 e1 w 6
 ";
 
 /// A CNode behind a slot of another.
-const TWO_LEVELS: &str = "\
+pub const TWO_LEVELS: &str = "\
 cores 1
 cnode 4
 cnode 8
@@ -1111,7 +1112,7 @@ pub fn run(alloc: Global, script: &[u8]) -> Result<(Result<(), SimFault>, Vec<u8
 
 #[test]
 fn runs_give_their_traces(rt: HostRuntime) -> Result<(), Fail> {
-    for (boot, steps, trace) in RUNS.iter().chain(&CANCELLING) {
+    for (boot, steps, trace) in RUNS.iter().chain(&CANCELLING).chain(&DELETING) {
         let script = format!(in rt.alloc(); "{boot}{steps}")?;
         let (result, written) = run(rt.alloc(), script.as_bytes())?;
         assert_eq!(rt; result, Ok(()));
@@ -1155,6 +1156,12 @@ fn faulty_lines_are_told(rt: HostRuntime) -> Result<(), Fail> {
         ),
         ("cores 1\n0 t1 recv 01 2\n", 2, LineFault::Form),
         ("cores 1\n1 t1 recv 1 2\n", 2, LineFault::Number),
+        ("cores 1\n0 t1 delete 31\n", 2, LineFault::Form),
+        (
+            "cores 1\n0 t1 make thread 31 99999\n",
+            2,
+            LineFault::Form,
+        ),
     ];
     for (script, line, why) in faults {
         let (result, written) = run(rt.alloc(), script.as_bytes())?;

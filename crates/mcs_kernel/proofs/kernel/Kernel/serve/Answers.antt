@@ -1,7 +1,7 @@
 use Rattle.std.proofs.Common.{◌≡◌, ◌∙◌}
 use Rattle.mcs_types.specs.declared.entry.Step.{Step}
 use Rattle.mcs_kernel.specs.Faults.{entered}
-use Rattle.mcs_kernel.proofs.Serving.{IsServing, serving, serving-enters, serving-stands, serving-waits, entry-fits, line-entered, rests-again}
+use Rattle.mcs_kernel.proofs.Serving.{IsServing, serving, serving-enters, serving-stands, serving-waits, serving-serials, serving-core, entry-fits, line-entered, rests-again}
 use Rattle.mcs_kernel.proofs.kernel.Kernel.serve.Goals as goal
 
 pub operate-answer-requires-clause-entering : goal.operate-answer-requires-clause-entering
@@ -12,6 +12,12 @@ operate-answer-requires-clause-stand g c = serving-stands c.args.self.now c.args
 
 pub operate-answer-requires-clause-waiting : goal.operate-answer-requires-clause-waiting
 operate-answer-requires-clause-waiting g c = serving-waits c.args.self.now c.args.core c.args.thread c.reserve.new.self (serving c.args.self.now c.args.core c.args.thread c.self.inside.state c.reserve.new.self c.self.invariant c.self.view_is c.requires.let_in c.in_ok-reserve.ensures.hand c.in_ok-reserve.ensures.book)
+
+pub operate-answer-requires-clause-serials : goal.operate-answer-requires-clause-serials
+operate-answer-requires-clause-serials g c = serving-serials c.args.self.now c.args.core c.args.thread c.reserve.new.self (serving c.args.self.now c.args.core c.args.thread c.self.inside.state c.reserve.new.self c.self.invariant c.self.view_is c.requires.let_in c.in_ok-reserve.ensures.hand c.in_ok-reserve.ensures.book)
+
+pub operate-answer-requires-clause-core : goal.operate-answer-requires-clause-core
+operate-answer-requires-clause-core g c = serving-core c.args.self.now c.args.core c.args.thread c.reserve.new.self (serving c.args.self.now c.args.core c.args.thread c.self.inside.state c.reserve.new.self c.self.invariant c.self.view_is c.requires.let_in c.in_ok-reserve.ensures.hand c.in_ok-reserve.ensures.book) c.args.entry c.is_in_range.ensures
 
 pub operate-answer-requires-clause-room : goal.operate-answer-requires-clause-room
 operate-answer-requires-clause-room g c =
