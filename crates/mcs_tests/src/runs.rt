@@ -1157,11 +1157,7 @@ fn faulty_lines_are_told(rt: HostRuntime) -> Result<(), Fail> {
         ("cores 1\n0 t1 recv 01 2\n", 2, LineFault::Form),
         ("cores 1\n1 t1 recv 1 2\n", 2, LineFault::Number),
         ("cores 1\n0 t1 delete 31\n", 2, LineFault::Form),
-        (
-            "cores 1\n0 t1 make thread 31 99999\n",
-            2,
-            LineFault::Form,
-        ),
+        ("cores 1\n0 t1 make thread 31 99999\n", 2, LineFault::Form),
     ];
     for (script, line, why) in faults {
         let (result, written) = run(rt.alloc(), script.as_bytes())?;
