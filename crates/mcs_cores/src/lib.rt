@@ -1,0 +1,19 @@
+//! The running machine: one kernel under a lock, entered by the host threads of its cores.
+#![tactic(auto)]
+
+mod gate;
+mod machine;
+mod positions;
+mod run;
+mod users;
+
+pub use gate::{Gate, Open};
+pub use machine::{Machine, SeatsFault};
+pub use mcs_seats::{
+    Answered, Call, CoreSeat, FinishFault, Outcome, Settled, Turned, settle_seats, told_lines,
+};
+pub use run::RunFault;
+pub use users::Users;
+
+#[cfg(test)]
+mod tests;

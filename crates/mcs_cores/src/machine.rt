@@ -1,0 +1,229 @@
+//! The machine: a kernel under a lock, and the seats of its cores (own).
+ghost use Rattle.std.specs.Prelude.{◌≡◌, ◌≤◌, ◌+◌, [], length, IfOk, IfErr, OnErr, OnOk, IsTrue, ◌↔◌, ◌||◌, is_ok, false, None};
+ghost use Rattle.mcs_book.specs.History.{IsLegal, log_of};
+ghost use Rattle.mcs_book.specs.Table.{does};
+ghost use Rattle.mcs_kernel.specs.Faults.{fault_of, with_entry};
+ghost use Rattle.mcs_seats.specs.Seats.{AreNew, noted, WhyTurned};
+ghost use Rattle.mcs_seats.specs.Settling.{AllAgree, HasSeats, HasReason};
+
+use mcs_kernel::{Boot, Kernel};
+use mcs_queues::Lines;
+use mcs_seats::{Answered, CoreSeat, FinishFault, Settled, Turned, settle_seats};
+use mcs_types::{CORES, CoreId, Entry, ObjId, OutOfMemory};
+use std::alloc::Global;
+use std::marker::Model;
+use std::sync::ledger::{Blank, Book, Ledger, Share};
+use std::sync::{Mutex, MutexGuard, Wait};
+
+/// What lies under the lock: the kernel, and the ledger of the lines that seats were told. Clauses see the kernel's book. The
+/// ledger's total is the number of lines after the boot, and a part of it is each core's.
+#[derive(Drop)]
+pub struct Hall<G: Ledger, L: Lines> {
+    kernel: Kernel<L>,
+    book: Book<G>,
+    rest: Share<G>,
+    given: bool,
+}
+
+impl<G: Ledger, L: Lines> Model for Hall<G, L> {
+    ghost use Rattle.std.specs.Prelude.{◌≡◌, ◌+◌, length, if◌then◌else◌};
+    ghost use Rattle.mcs_types.specs.Limits.{core_limit};
+    ghost use Rattle.mcs_book.specs.History.{Book};
+
+    ghost Value = { Book };
+
+    ghost view = { λ h. h.kernel };
+
+    ghost invariant = { λ h. (h.book.total ≡ length h.kernel.lines)
+        × (h.rest.parts + (if h.given then h.kernel.boot.cores else 0) ≡ core_limit)
+        × (h.rest.amount ≡ 0) × (G.parts ≡ core_limit) };
+}
+
+impl<G: Ledger, L: Lines> Hall<G, L> {
+    /// The kernel, to look at.
+    pub(crate) fn kernel(&self) -> &Kernel<L>
+        ensures { result.now ≡ self.now }
+    {
+        &self.kernel
+    }
+
+    /// Lets in an entry of a thread on the seat's core, or turns it away.
+    fn enter(
+        &mut self,
+        alloc: Global,
+        seat: &mut CoreSeat<G>,
+        thread: ObjId,
+        entry: Entry,
+    ) -> Result<Answered, Turned>
+        ensures seat { seat.new ≡ noted seat.old thread entry result }
+        ensures let_in { OnOk result (fault_of self.old seat.old.core thread ≡ None) }
+        ensures number { IfOk result (λ a. a.line ≡ length self.old.lines + 1) }
+        ensures line { OnOk result (self.new ≡ with_entry self.old seat.old.core thread entry) }
+        ensures answer { IfOk result (λ a. a.answer
+            ≡ (does (log_of self.old) seat.old.core thread entry).answer) }
+        ensures unchanged { OnErr result (self.new ≡ self.old) }
+        ensures away { IfErr result (WhyTurned self.old seat.old.core thread) }
+    {
+        seat.enter(alloc, &mut self.kernel, &mut self.book, thread, entry)
+    }
+
+    /// A seat for each core, where none was given yet.
+    fn seats(&mut self, alloc: Global) -> Result<Vec<CoreSeat<G>>, OutOfMemory>
+        ensures unchanged { self.new ≡ self.old }
+        ensures seats { IfOk result (λ v. AreNew v.items) }
+        ensures count { IfOk result (λ v. length v.items ≡ self.old.boot.cores) }
+    {
+        if self.given {
+            return Err(OutOfMemory);
+        }
+        let cores = self.kernel.book().cores();
+        self.kernel.is_fair();
+        let seats = deal(alloc, &mut self.rest, cores)?;
+        self.given = true;
+        Ok(seats)
+    }
+
+    /// The kernel, when the lock is gone.
+    pub(crate) fn into_kernel(self) -> Kernel<L>
+        ensures { result ≡ self }
+    {
+        let Hall {
+            kernel,
+            book: _,
+            rest: _,
+            given: _,
+        } = self;
+        kernel
+    }
+}
+
+/// As many seats, each with a part of the ledger.
+fn deal<G: Ledger>(
+    alloc: Global,
+    rest: &mut Share<G>,
+    cores: u8,
+) -> Result<Vec<CoreSeat<G>>, OutOfMemory>
+    requires parts { cores ≤ rest.old.parts }
+    requires amount { rest.old.amount ≡ 0 }
+    ensures seats { IfOk result (λ v. AreNew v.items) }
+    ensures count { IfOk result (λ v. length v.items ≡ cores) }
+    ensures given { OnOk result (rest.new.parts + cores ≡ rest.old.parts) }
+    ensures kept { OnErr result (rest.new.parts ≡ rest.old.parts) }
+    ensures amount { rest.new.amount ≡ 0 }
+{
+    let mut seats = Vec::with_capacity(alloc, cores as usize)?;
+    for core in 0..cores {
+        let seat = CoreSeat::new(alloc, CoreId(core), rest.split_off(1, 0));
+        match seats.push(seat) {
+            Ok(()) => {}
+            Err(_) => unreachable!(),
+        }
+    }
+    Ok(seats)
+}
+
+/// A kernel that cores share: each entry has the lock for itself, from its first test to its last record.
+#[derive(Drop)]
+pub struct Machine<G: Ledger, L: Lines> {
+    hall: Mutex<Hall<G, L>>,
+    given: bool,
+}
+
+/// Why seats were not given.
+#[derive(Clone, Copy, PartialEq, Eq, Debug)]
+pub enum SeatsFault {
+    /// They were given before.
+    AlreadyGiven = 1,
+    /// A growth was refused; nothing was given, and seats may be asked for again.
+    OutOfMemory = 2,
+}
+
+impl<G: Ledger, L: Lines> Machine<G, L> {
+    /// A machine of a kernel whose book has line 0 alone, over a new ledger with a part for each of 16 cores.
+    pub fn new(kernel: Kernel<L>, blank: Blank) -> Machine<G, L>
+        requires name { blank.name ≡ G.name }
+        requires parts { blank.parts ≡ G.parts }
+        requires sixteen { blank.parts ≡ CORES }
+        requires booted { kernel.lines ≡ [] }
+        ensures { result.given ≡ false }
+    {
+        let (book, rest) = blank.open::<G>();
+        Machine {
+            hall: Mutex::new(Hall {
+                kernel,
+                book,
+                rest,
+                given: false,
+            }),
+            given: false,
+        }
+    }
+
+    /// A seat for each core, once.
+    pub fn seats<R: Wait>(&mut self, rt: &R, alloc: Global) -> Result<Vec<CoreSeat<G>>, SeatsFault>
+        ensures seats { IfOk result (λ v. AreNew v.items) }
+        ensures given { self.new.given ≡ (is_ok result || self.old.given) }
+        ensures again { IfErr result (λ f. f ≡ SeatsFault.AlreadyGiven ↔ IsTrue self.old.given) }
+        ensures once { OnOk result (self.old.given ≡ false) }
+    {
+        if self.given {
+            return Err(SeatsFault::AlreadyGiven);
+        }
+        match self.hall.lock(rt).seats(alloc) {
+            Ok(seats) => {
+                self.given = true;
+                Ok(seats)
+            }
+            Err(OutOfMemory) => Err(SeatsFault::OutOfMemory),
+        }
+    }
+
+    /// The lock.
+    pub(crate) fn hall<R: Wait>(&self, rt: &R) -> MutexGuard<'_, Hall<G, L>> {
+        self.hall.lock(rt)
+    }
+
+    /// What lay under the lock.
+    pub(crate) fn into_hall(self) -> Hall<G, L> {
+        let Machine { hall, given: _ } = self;
+        hall.into_inner()
+    }
+
+    /// Lets in an entry of a thread on the seat's core, or turns it away; the seat keeps the entry and what became of it. It
+    /// waits for the lock. OutOfMemory where the seat or the kernel gets no room: then both are as they were, and the entry
+    /// is dropped.
+    pub fn enter<R: Wait>(
+        &self,
+        rt: &R,
+        alloc: Global,
+        seat: &mut CoreSeat<G>,
+        thread: ObjId,
+        entry: Entry,
+    ) -> Result<Answered, Turned>
+        ensures { seat.new ≡ noted seat.old thread entry result }
+    {
+        if seat.reserve().is_err() {
+            return Err(Turned::OutOfMemory);
+        }
+        self.hall.lock(rt).enter(alloc, seat, thread, entry)
+    }
+
+    /// Compares what the seats were told with the book, as settle_seats does, and hands the kernel back where all agree. No
+    /// clause can name the book that lay under the lock where it is not handed back: a fault is right for some legal book.
+    pub fn finish(
+        self,
+        alloc: Global,
+        boot: &Boot,
+        seats: Vec<CoreSeat<G>>,
+    ) -> Result<Settled<L>, FinishFault>
+        ensures legal { IfOk result (λ s. IsLegal s) }
+        ensures boot { IfOk result (λ s. s.boot ≡ boot.now) }
+        ensures seats { IfOk result (λ s. HasSeats s seats.items) }
+        ensures agree { IfOk result (λ s. AllAgree s seats.items) }
+        ensures fault { IfErr result (HasReason boot.now seats.items) }
+    {
+        let kernel = self.into_hall().into_kernel();
+        kernel.is_fair();
+        settle_seats(alloc, kernel, boot, &seats)
+    }
+}

@@ -1,0 +1,312 @@
+//! A run: each core works off the lists of users by a host thread of its own (own).
+ghost use Rattle.std.specs.Prelude.{◌≡◌, ◌≤◌, vec_len, vec_capacity};
+
+use crate::gate::Gate;
+use crate::machine::Machine;
+use crate::positions::{Positions, Sight, Turn};
+use crate::users::Users;
+use mcs_kernel::EnterFault;
+use mcs_queues::Lines;
+use mcs_seats::{CoreSeat, Turned};
+use mcs_types::CoreId;
+use std::alloc::Global;
+use std::sync::ledger::Ledger;
+use std::sync::{Condvar, Mutex, Wait};
+use std::thread;
+use std::thread::Threads;
+
+/// Why a run ended before its users had nothing left.
+#[derive(Clone, Copy, PartialEq, Eq, Debug)]
+pub enum RunFault {
+    /// The book had no room for an entry that would have been let in.
+    BookFull = 1,
+    /// A growth was refused, that of the run itself, of a seat or of the kernel.
+    OutOfMemory = 2,
+    /// A host thread could not be started, also for want of memory.
+    NoThread = 3,
+}
+
+/// What the cores share beside the machine: how far the users are, and the news that it changed. Its lock is taken before
+/// the kernel's.
+#[derive(Drop)]
+struct Desk {
+    positions: Mutex<Positions>,
+    moved: Condvar,
+}
+
+/// All that the threads of a run share.
+#[derive(Drop)]
+struct Floor<'a, G: Ledger, L: Lines, T: Gate> {
+    alloc: Global,
+    machine: &'a Machine<G, L>,
+    users: &'a Users,
+    gate: &'a T,
+    desk: &'a Desk,
+}
+
+/// A core that is done: its seat, and how it ended.
+type Done<G> = (CoreSeat<G>, Result<(), RunFault>);
+
+/// The threads of the cores.
+type Running<G> = Vec<thread::JoinHandle<Done<G>>>;
+
+/// Whether a run ends because an entry was turned away. What the kernel turned away for its thread's sake is picked anew.
+fn ends_run(turned: Turned) -> Result<(), RunFault> {
+    match turned {
+        Turned::OutOfMemory => Err(RunFault::OutOfMemory),
+        Turned::Away { lines: _, fault } => match fault {
+            EnterFault::BookFull => Err(RunFault::BookFull),
+            EnterFault::OutOfMemory => Err(RunFault::OutOfMemory),
+            EnterFault::NotRunning | EnterFault::NoContext | EnterFault::WrongCore => Ok(()),
+        },
+    }
+}
+
+impl Desk {
+    /// Ends the run for all cores: they stop at their next turn.
+    fn close<R: Wait>(&self, rt: &R) {
+        self.positions.lock(rt).over = true;
+        self.moved.notify_all();
+    }
+}
+
+impl<G: Ledger, L: Lines, T: Gate> Floor<'_, G, L, T> {
+    /// Waits until the core can pick something; None where the run is over.
+    fn pick<R: Wait>(&self, rt: &R, core: CoreId) -> Option<Turn> {
+        let mut positions = self.desk.positions.lock(rt);
+        for _ in rt.forever() {
+            if positions.over {
+                return None;
+            }
+            // The kernel's lock is given up here: a core that waits below must not keep it.
+            let sight = positions.find(self.machine.hall(rt).kernel(), self.users, core);
+            match sight {
+                Sight::Picked(turn) => return Some(turn),
+                Sight::Nothing => {
+                    let seen = positions.turns;
+                    positions = self.desk.moved.wait_while(rt, positions, |positions| {
+                        !positions.over && positions.turns == seen
+                    });
+                }
+                Sight::End => {
+                    positions.over = true;
+                    self.desk.moved.notify_all();
+                    return None;
+                }
+            }
+        }
+        unreachable!()
+    }
+
+    /// Enters what the core picked, and tells the others of it. Only what the core looked at may be entered, so the users'
+    /// positions stay locked from the test whether they moved until they are moved on.
+    fn enter<R: Wait>(&self, rt: &R, seat: &mut CoreSeat<G>, turn: Turn) -> Result<(), RunFault> {
+        let entered = self
+            .desk
+            .positions
+            .lock(rt)
+            .enter(rt, self.alloc, self.machine, seat, turn);
+        match entered {
+            None => Ok(()),
+            Some(Err(turned)) => ends_run(turned),
+            Some(Ok(answered)) => {
+                self.desk.moved.notify_all();
+                self.gate.answered(seat.core(), answered.line);
+                Ok(())
+            }
+        }
+    }
+
+    /// The turns of a core, until the run is over.
+    fn work<R: Wait>(&self, rt: &R, seat: &mut CoreSeat<G>) -> Result<(), RunFault> {
+        for _ in rt.forever() {
+            let Some(turn) = self.pick(rt, seat.core()) else {
+                return Ok(());
+            };
+            self.gate.between(seat.core(), turn.thread);
+            self.enter(rt, seat, turn)?;
+        }
+        unreachable!()
+    }
+}
+
+/// What the thread of a core does. Its fault ends the run.
+fn serve<G: Ledger, L: Lines, T: Gate, R: Wait>(
+    rt: &R,
+    floor: &Floor<'_, G, L, T>,
+    seat: CoreSeat<G>,
+) -> Done<G> {
+    let mut seat = seat;
+    let result = floor.work(rt, &mut seat);
+    if result.is_err() {
+        floor.desk.close(rt);
+    }
+    (seat, result)
+}
+
+/// Starts the thread of a core. Where it is refused, the run ends.
+fn start<
+    's,
+    E,
+    G: Ledger + Send + Sync + 's,
+    L: Lines + Send + Sync + 's,
+    T: Gate + 's,
+    R: Threads + Wait + Sync + 's,
+>(
+    scope: &thread::Scope<'s, E>,
+    rt: &'s R,
+    floor: &'s Floor<'s, G, L, T>,
+    seat: CoreSeat<G>,
+) -> Option<thread::JoinHandle<Done<G>>> {
+    match scope.spawn(move || serve(rt, floor, seat)) {
+        Ok(handle) => Some(handle),
+        Err(_) => {
+            floor.desk.close(rt);
+            None
+        }
+    }
+}
+
+/// The fault of the lower core.
+fn lower(
+    fault: Option<(CoreId, RunFault)>,
+    core: CoreId,
+    other: RunFault,
+) -> Option<(CoreId, RunFault)> {
+    match fault {
+        Some((lowest, _)) if lowest.0 <= core.0 => fault,
+        _ => Some((core, other)),
+    }
+}
+
+/// Starts a thread for each seat; with the fault of the lowest core whose thread was refused. There is room for them all.
+fn start_all<
+    's,
+    E,
+    G: Ledger + Send + Sync + 's,
+    L: Lines + Send + Sync + 's,
+    T: Gate + 's,
+    R: Threads + Wait + Sync + 's,
+>(
+    scope: &thread::Scope<'s, E>,
+    rt: &'s R,
+    floor: &'s Floor<'s, G, L, T>,
+    seats: Vec<CoreSeat<G>>,
+    mut running: Running<G>,
+) -> (Running<G>, Option<(CoreId, RunFault)>)
+    requires room { vec_len seats ≤ vec_capacity running }
+    requires empty { vec_len running ≡ 0 }
+    ensures { vec_len result.0 ≤ vec_len seats }
+{
+    let mut fault = None;
+    for seat in seats {
+        let core = seat.core();
+        match start(scope, rt, floor, seat) {
+            Some(handle) => match running.push(handle) {
+                Ok(()) => {}
+                Err(_) => unreachable!(),
+            },
+            None => fault = lower(fault, core, RunFault::NoThread),
+        }
+    }
+    (running, fault)
+}
+
+/// Joins all threads, and gathers their seats, for which there is room; with the fault of the lowest core.
+fn join_all<G: Ledger, R: Threads>(
+    rt: &R,
+    running: Running<G>,
+    refused: Option<(CoreId, RunFault)>,
+    mut back: Vec<CoreSeat<G>>,
+) -> (Vec<CoreSeat<G>>, Result<(), RunFault>)
+    requires room { vec_len running ≤ vec_capacity back }
+    requires empty { vec_len back ≡ 0 }
+{
+    let mut fault = refused;
+    for handle in running {
+        let (seat, result) = handle.join(rt);
+        if let Err(found) = result {
+            fault = lower(fault, seat.core(), found);
+        }
+        match back.push(seat) {
+            Ok(()) => {}
+            Err(_) => unreachable!(),
+        }
+    }
+    match fault {
+        Some((_, found)) => (back, Err(found)),
+        None => (back, Ok(())),
+    }
+}
+
+/// Starts a thread for each seat and joins them.
+fn run_all<G: Ledger + Send + Sync, L: Lines + Send + Sync, T: Gate, R: Threads + Wait + Sync>(
+    rt: &R,
+    floor: &Floor<'_, G, L, T>,
+    seats: Vec<CoreSeat<G>>,
+    running: Running<G>,
+    back: Vec<CoreSeat<G>>,
+) -> (Vec<CoreSeat<G>>, Result<(), RunFault>)
+    requires room { vec_len seats ≤ vec_capacity running }
+    requires empty { vec_len running ≡ 0 }
+    requires room_back { vec_len seats ≤ vec_capacity back }
+    requires empty_back { vec_len back ≡ 0 }
+{
+    thread::scope(
+        thread::scope_env(),
+        rt,
+        |scope|
+            requires room { vec_len seats ≤ vec_capacity running }
+            requires empty { vec_len running ≡ 0 }
+            requires room_back { vec_len seats ≤ vec_capacity back }
+            requires empty_back { vec_len back ≡ 0 }
+        {
+            let (running, refused) = start_all(scope, rt, floor, seats, running);
+            join_all(rt, running, refused, back)
+        },
+    )
+}
+
+impl<G: Ledger + Send + Sync, L: Lines + Send + Sync> Machine<G, L> {
+    /// Works off the users' lists, each core by a host thread of its own, until no thread that may run has entries left;
+    /// an entry that is to be given again counts among them (own). A core picks its thread of greatest priority, then of
+    /// lowest serial, among those with entries left; it gives the thread's next entry, or its last one again where that was
+    /// answered Waits and the thread was restarted. Where the user gave another entry meanwhile, nothing is entered, and
+    /// after that, as after an entry that was turned away, the core picks anew. The gate is called between the pick and
+    /// the entry, and after an entry that was let in. There has to be a seat for each core of the machine: for a core
+    /// without one, which has entries left, the others wait.
+    ///
+    /// All seats come back but those whose thread could not be started. BookFull (1) where the book has no room for an
+    /// entry, OutOfMemory (2) where a growth was refused, NoThread (3) where a thread could not be started: of several
+    /// faults that of the lowest core. The other cores then stop at their next turn.
+    pub fn run<R: Threads + Wait + Sync, T: Gate>(
+        &self,
+        rt: &R,
+        alloc: Global,
+        seats: Vec<CoreSeat<G>>,
+        users: &Users,
+        gate: &T,
+    ) -> (Vec<CoreSeat<G>>, Result<(), RunFault>) {
+        let Ok(positions) = Positions::new(alloc, users.lists().len()) else {
+            return (seats, Err(RunFault::OutOfMemory));
+        };
+        let Ok(running) = Vec::with_capacity(alloc, seats.len()) else {
+            return (seats, Err(RunFault::OutOfMemory));
+        };
+        let Ok(back) = Vec::with_capacity(alloc, seats.len()) else {
+            return (seats, Err(RunFault::OutOfMemory));
+        };
+        let desk = Desk {
+            positions: Mutex::new(positions),
+            moved: Condvar::new(),
+        };
+        let floor = Floor {
+            alloc,
+            machine: self,
+            users,
+            gate,
+            desk: &desk,
+        };
+        run_all(rt, &floor, seats, running, back)
+    }
+}

@@ -1,0 +1,3 @@
+pub mod Seats
+pub mod Settling
+pub mod Steps

@@ -1,0 +1,47 @@
+-- What a seat keeps. Calls stand newest first.
+use Rattle.std.specs.Prelude.{ℕ, ◌≡◌, ◌≢◌, ◌+◌, ◌<◌, List, [], ◌∷◌, length, slice_index_or, Result, Ok, Err, Some}
+use Rattle.mcs_types.specs.declared.id.CoreId.{CoreId}
+use Rattle.mcs_types.specs.declared.id.ObjId.{ObjId}
+use Rattle.mcs_types.specs.declared.entry.Entry.{Entry}
+use Rattle.mcs_book.specs.History.{Book}
+use Rattle.mcs_kernel.specs.Faults.{fault_of}
+use Rattle.mcs_seats.specs.declared.call.Answered.{Answered}
+use Rattle.mcs_seats.specs.declared.call.Outcome.{Outcome}
+use Rattle.mcs_seats.specs.declared.call.Outcome.TheVariants.{Told, Away}
+use Rattle.mcs_seats.specs.declared.call.Call.{Call}
+use Rattle.mcs_seats.specs.declared.call.Turned.{Turned}
+use Rattle.mcs_seats.specs.declared.call.Turned.TheVariants as turned
+
+-- a core, and its calls
+pub record Seat : Type 0 where
+  pub core : CoreId
+  pub calls : List Call
+
+-- how many lines were told by an outcome
+abbrev pub lines_told : Outcome → ℕ
+lines_told (Told a) = 1
+lines_told (Away n f) = 0
+
+-- how many lines were told
+abbrev pub told : List Call → ℕ
+told [] = 0
+told (c ∷ cs) = lines_told c.outcome + told cs
+
+-- a seat with one call more
+abbrev pub with_call : Seat → ObjId → Entry → Outcome → Seat
+with_call s t e o = record s { calls = (record { thread = t; entry = e; outcome = o }) ∷ s.calls }
+
+-- the seat after an entry with this result
+abbrev pub noted : Seat → ObjId → Entry → Result Answered Turned → Seat
+noted s t e (Ok a) = with_call s t e (Told a)
+noted s t e (Err (turned.Away n f)) = with_call s t e (Away n f)
+noted s t e (Err turned.OutOfMemory) = s
+
+-- why an entry has no line: what is wrong with it, when the book has so many lines
+abbrev pub WhyTurned : Book → CoreId → ObjId → Turned → Type 0
+WhyTurned b c t (turned.Away n f) = (n ≡ length b.lines + 1) × (fault_of b c t ≡ Some f)
+WhyTurned b c t turned.OutOfMemory = Unit {0}
+
+-- a seat for each core in order, which was told nothing
+abbrev pub AreNew : List Seat → Type 0
+AreNew seats = (i : ℕ) (d : Seat) → i < length seats → slice_index_or seats i d ≡ record { core = record { 0 = i }; calls = [] }

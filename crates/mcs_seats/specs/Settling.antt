@@ -1,0 +1,158 @@
+-- How a seat stands to a book.
+use Rattle.std.specs.Prelude.{ℕ, true, false, ◌≡◌, ◌≢◌, ◌+◌, ◌-◌, ◌≤◌, ◌<◌, ◌==◌, ◌⊎◌, if◌then◌else◌, List, [], ◌∷◌, ◌++◌, length, take, drop, reverse, Option, Some, None, slice_index_or}
+use Rattle.std.specs.List.{list_any}
+use Rattle.mcs_types.specs.declared.id.CoreId.{CoreId}
+use Rattle.mcs_types.specs.declared.id.ObjId.{ObjId}
+use Rattle.mcs_types.specs.declared.entry.Entry.{Entry}
+use Rattle.mcs_types.specs.declared.entry.Answer.{Answer}
+use Rattle.mcs_book.specs.Boots.{Boot}
+use Rattle.mcs_book.specs.History.{Book, Line, IsLegal}
+use Rattle.mcs_kernel.specs.Faults.{fault_of}
+use Rattle.mcs_seats.specs.Seats.{Seat}
+use Rattle.mcs_seats.specs.declared.call.Outcome.{Outcome}
+use Rattle.mcs_seats.specs.declared.call.Outcome.TheVariants.{Told, Away}
+use Rattle.mcs_seats.specs.declared.call.Answered.{Answered}
+use Rattle.mcs_seats.specs.declared.call.Call.{Call}
+use Rattle.mcs_seats.specs.declared.settle.FinishFault.{FinishFault}
+use Rattle.mcs_seats.specs.declared.settle.FinishFault.TheVariants.{MissingSeat, OtherBoot, Torn, OutOfMemory}
+
+-- what a core is told of a line: its number, the thread, the entry and the answer
+pub record Note : Type 0 where
+  pub line : ℕ
+  pub thread : ObjId
+  pub entry : Entry
+  pub answer : Answer
+
+-- what it was told by a call with this answer
+abbrev pub told_note : Call → Answered → Note
+told_note x a = record { line = a.line; thread = x.thread; entry = x.entry; answer = a.answer }
+
+-- what it is told of the line of this number
+abbrev pub note_of : ℕ → Line → Note
+note_of n l = record { line = n; thread = l.step.thread; entry = l.step.entry; answer = l.answer }
+
+-- the same, where the line is its own
+abbrev pub own_note : CoreId → ℕ → Line → List Note
+own_note c n l = if l.step.core.0 == c.0 then note_of n l ∷ [] else []
+
+-- what it is told of lines, of which the first has this number
+abbrev pub notes_from : CoreId → ℕ → List Line → List Note
+notes_from c n [] = []
+notes_from c n (l ∷ ls) = own_note c n l ++ notes_from c (n + 1) ls
+
+-- what it is told of a book from the line of number n on
+abbrev pub left_at : Book → CoreId → ℕ → List Note
+left_at b c n = notes_from c n (drop (n - 1) (reverse b.lines))
+
+-- what it is told of a whole book
+abbrev pub notes_of : Book → CoreId → List Note
+notes_of b c = left_at b c 1
+
+-- the book when it had n lines after the boot
+abbrev pub cut : Book → ℕ → Book
+cut b n = record b { lines = reverse (take n (reverse b.lines)) }
+
+-- the next of these notes
+abbrev pub next_note : List Note → Option Note
+next_note [] = None
+next_note (n ∷ ns) = Some n
+
+-- the number of the next line, or how many lines the book has
+abbrev pub next_line : Book → List Note → ℕ
+next_line b [] = length b.lines + 1
+next_line b (n ∷ ns) = n.line
+
+-- the notes behind the next one
+abbrev pub later_notes : List Note → List Note
+later_notes [] = []
+later_notes (n ∷ ns) = ns
+
+-- a call of which this became is right, where these notes are left and the book had so many lines before: it was told the next line, or turned away
+-- rightly before that line came
+abbrev pub IsRightAt : Book → CoreId → List Note → ℕ → ObjId → Entry → Outcome → Type 0
+IsRightAt b c left low t e (Told a) = next_note left ≡ Some (record { line = a.line; thread = t; entry = e; answer = a.answer })
+IsRightAt b c left low t e (Away n f) = (low ≤ n) × (n ≤ next_line b left) × (fault_of (cut b (n - 1)) c t ≡ Some f)
+
+-- the same, of the call
+abbrev pub IsRight : Book → CoreId → List Note → ℕ → Call → Type 0
+IsRight b c left low x = IsRightAt b c left low x.thread x.entry x.outcome
+
+-- the notes that are left after it
+abbrev pub left_after : Outcome → List Note → List Note
+left_after (Told a) left = later_notes left
+left_after (Away n f) left = left
+
+-- how many lines the book had then
+abbrev pub low_after : Outcome → ℕ
+low_after (Told a) = a.line + 1
+low_after (Away n f) = n
+
+-- calls, the oldest first, are right one after another, and nothing is left
+abbrev pub AreRight : Book → CoreId → List Note → ℕ → List Call → Type 0
+AreRight b c left low [] = left ≡ []
+AreRight b c left low (x ∷ xs) = IsRight b c left low x × AreRight b c (left_after x.outcome left) (low_after x.outcome) xs
+
+-- the n-th of these calls is the first that is not right; or all are, n is one more than they are, and something is left
+abbrev pub IsTornAt : Book → CoreId → List Note → ℕ → List Call → ℕ → Type 0
+IsTornAt b c left low [] n = (n ≡ 1) × (left ≢ [])
+IsTornAt b c left low (x ∷ xs) n = ((n ≡ 1) × (IsRight b c left low x → ⊥)) ⊎ (IsRight b c left low x × IsTornAt b c (left_after x.outcome left) (low_after x.outcome) xs (n - 1) × (1 < n))
+
+-- what an outcome told
+abbrev pub notes_told : Call → Outcome → List Note
+notes_told x (Told a) = told_note x a ∷ []
+notes_told x (Away n f) = []
+
+-- what calls were told, the oldest first
+abbrev pub told_of : List Call → List Note
+told_of [] = []
+told_of (x ∷ xs) = notes_told x x.outcome ++ told_of xs
+
+-- a seat was told its core's lines and no other, in order, with their numbers and answers, and was turned away rightly
+abbrev pub Agrees : Book → Seat → Type 0
+Agrees b s = AreRight b s.core (notes_of b s.core) 1 (reverse s.calls)
+
+-- its n-th call is the first that does not agree with the book
+abbrev pub IsTorn : Book → Seat → ℕ → Type 0
+IsTorn b s n = IsTornAt b s.core (notes_of b s.core) 1 (reverse s.calls) n
+
+-- each seat agrees with the book
+abbrev pub AllAgree : Book → List Seat → Type 0
+AllAgree b seats = (i : ℕ) (d : Seat) → i < length seats → Agrees b (slice_index_or seats i d)
+
+-- each core has a seat
+abbrev pub HasSeats : Book → List Seat → Type 0
+HasSeats b seats = (c : ℕ) → c < b.boot.cores → list_any (λ s. s.core.0 == c) seats ≡ true
+
+-- a seat of this core whose n-th call does not agree
+pub record HasTorn (b : Book) (seats : List Seat) (c : CoreId) (n : ℕ) : Type 0 where
+  pub place : ℕ
+  pub seat : Seat
+  pub few : place < length seats
+  pub is : seat ≡ slice_index_or seats place seat
+  pub core : seat.core ≡ c
+  pub torn : IsTorn b seat n
+
+-- a core of the boot has no seat
+pub record LacksSeat (b : Book) (seats : List Seat) : Type 0 where
+  pub core : ℕ
+  pub first : core < b.boot.cores
+  pub none : list_any (λ s. s.core.0 == core) seats ≡ false
+
+-- a book, and a seat that agrees with it
+pub record Agreement : Type 0 where
+  pub book : Book
+  pub seat : Seat
+  pub agrees : Agrees book seat
+
+-- why a book is not settled by these seats, where this boot was given
+abbrev pub Because : Book → Boot → List Seat → FinishFault → Type 0
+Because b boot seats MissingSeat = LacksSeat b seats
+Because b boot seats OtherBoot = HasSeats b seats × (b.boot ≢ boot)
+Because b boot seats (Torn c n) = HasSeats b seats × (b.boot ≡ boot) × HasTorn b seats c n
+Because b boot seats OutOfMemory = Unit {0}
+
+-- there is a legal book that these seats do not settle for this reason
+pub record HasReason (boot : Boot) (seats : List Seat) (f : FinishFault) : Type 0 where
+  pub book : Book
+  pub legal : IsLegal book
+  pub because : Because book boot seats f

@@ -1,0 +1,14 @@
+//! Seats: what each core of a machine was told, and whether that agrees with a book.
+#![tactic(auto)]
+
+mod call;
+mod laws;
+mod same;
+mod seat;
+mod settle;
+
+pub use call::{Answered, Call, Outcome, Turned};
+pub use laws::told_lines;
+pub use same::{is_same_answer, is_same_entry};
+pub use seat::CoreSeat;
+pub use settle::{FinishFault, Settled, settle_seats};

@@ -1,0 +1,141 @@
+//! The seat of a core: its calls, and its share of the ledger of lines (own).
+ghost use Rattle.std.specs.Prelude.{◌≡◌, ◌<◌, ◌+◌, ◌++◌, ◌∷◌, [], reverse, length, vec_len, vec_capacity, None, IfOk, IfErr, OnOk, OnErr, is_ok, if◌then◌else◌};
+ghost use Rattle.mcs_book.specs.History.{log_of};
+ghost use Rattle.mcs_book.specs.Table.{does};
+ghost use Rattle.mcs_kernel.specs.Faults.{fault_of, with_entry};
+
+use crate::call::{Answered, Call, Outcome, Turned};
+use mcs_kernel::{EnterFault, Kernel};
+use mcs_queues::Lines;
+use mcs_types::{CoreId, Entry, ObjId, OutOfMemory};
+use std::alloc::Global;
+use std::marker::Model;
+use std::sync::ledger::{Book, Ledger, Share};
+
+/// What a core knows of its calls. Its share of the ledger counts the lines that it was told. Clauses see the core and the
+/// calls, newest first.
+#[derive(Drop)]
+pub struct CoreSeat<G: Ledger> {
+    core: CoreId,
+    calls: Vec<Call>,
+    share: Share<G>,
+}
+
+impl<G: Ledger> Model for CoreSeat<G> {
+    ghost use Rattle.std.specs.Prelude.{◌≡◌, reverse};
+    ghost use Rattle.mcs_seats.specs.Seats.{Seat, told};
+
+    ghost Value = { Seat };
+
+    ghost view = { λ s. record { core = s.core; calls = reverse s.calls.items } };
+
+    ghost invariant = { λ s. (s.share.parts ≡ 1)
+        × (s.share.amount ≡ told (reverse s.calls.items)) };
+}
+
+/// Keeps a call, for which there is room.
+fn keep(calls: &mut Vec<Call>, thread: ObjId, entry: Entry, outcome: Outcome)
+    requires { vec_len calls.old < vec_capacity calls.old }
+    ensures { calls.new.items ≡ calls.old.items
+        ++ record { thread = thread; entry = entry; outcome = outcome } ∷ [] }
+{
+    match calls.push(Call {
+        thread,
+        entry,
+        outcome,
+    }) {
+        Ok(()) => {}
+        Err(_) => unreachable!(),
+    }
+}
+
+impl<G: Ledger> CoreSeat<G> {
+    ghost use Rattle.mcs_seats.specs.Seats.{noted, WhyTurned};
+
+    /// A seat with one part of the ledger.
+    pub fn new(alloc: Global, core: CoreId, share: Share<G>) -> CoreSeat<G>
+        requires parts { share.parts ≡ 1 }
+        requires amount { share.amount ≡ 0 }
+        ensures { result ≡ record { core = core; calls = [] } }
+    {
+        CoreSeat {
+            core,
+            calls: Vec::new(alloc),
+            share,
+        }
+    }
+
+    /// The core.
+    pub fn core(&self) -> CoreId
+        ensures { result ≡ self.now.core }
+    {
+        self.core
+    }
+
+    /// All calls in their order, but those for which memory was refused.
+    pub fn calls(&self) -> &[Call]
+        ensures { result.now ≡ reverse self.now.calls }
+    {
+        self.calls.as_slice()
+    }
+
+    /// Makes room for one call.
+    pub fn reserve(&mut self) -> Result<(), OutOfMemory>
+        ensures { self.new ≡ self.old }
+    {
+        self.calls.reserve(1)?;
+        Ok(())
+    }
+
+    /// Lets in an entry of a thread on the seat's core, or turns it away, as Kernel::enter does; the seat keeps the entry
+    /// and what became of it. OutOfMemory where the seat or the kernel gets no room: then seat and kernel are as they were.
+    pub fn enter<L: Lines>(
+        &mut self,
+        alloc: Global,
+        kernel: &mut Kernel<L>,
+        book: &mut Book<G>,
+        thread: ObjId,
+        entry: Entry,
+    ) -> Result<Answered, Turned>
+        ensures seat { self.new ≡ noted self.old thread entry result }
+        ensures let_in { OnOk result (fault_of kernel.old self.old.core thread ≡ None) }
+        ensures number { IfOk result (λ a. a.line ≡ length kernel.old.lines + 1) }
+        ensures line { OnOk result (kernel.new
+            ≡ with_entry kernel.old self.old.core thread entry) }
+        ensures answer { IfOk result (λ a. a.answer
+            ≡ (does (log_of kernel.old) self.old.core thread entry).answer) }
+        ensures unchanged { OnErr result (kernel.new ≡ kernel.old) }
+        ensures away { IfErr result (WhyTurned kernel.old self.old.core thread) }
+        ensures total { book.new.total ≡ book.old.total + (if is_ok result then 1 else 0) }
+    {
+        if self.calls.reserve(1).is_err() {
+            return Err(Turned::OutOfMemory);
+        }
+        let lines = kernel.book().lines();
+        let kept = entry.copy();
+        match kernel.enter(alloc, self.core, thread, entry) {
+            Ok(answer) => {
+                book.add(&mut self.share, 1);
+                let told = Outcome::Told(Answered {
+                    line: lines,
+                    answer: answer.copy(),
+                });
+                keep(&mut self.calls, thread, kept, told);
+                Ok(Answered {
+                    line: lines,
+                    answer,
+                })
+            }
+            Err(EnterFault::OutOfMemory) => Err(Turned::OutOfMemory),
+            Err(fault) => {
+                keep(
+                    &mut self.calls,
+                    thread,
+                    kept,
+                    Outcome::Away { lines, fault },
+                );
+                Err(Turned::Away { lines, fault })
+            }
+        }
+    }
+}
