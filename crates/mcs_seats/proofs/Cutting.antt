@@ -5,8 +5,6 @@ use Rattle.std.proofs.lemmas.Grind.{common_steps}
 use Rattle.std.proofs.lemmas.List.{reverse-append, reverse-reverse, take-append-drop, length-reverse, length-take-le}
 use Rattle.mcs_types.specs.declared.id.ObjId.{ObjId}
 use Rattle.mcs_types.specs.declared.id.CoreId.{CoreId}
-use Rattle.mcs_types.specs.declared.entry.Step.{Step}
-use Rattle.mcs_types.specs.Limits.{line_limit}
 use Rattle.mcs_book.specs.Logs.{Log}
 use Rattle.mcs_book.specs.Objects.{form_of}
 use Rattle.mcs_book.specs.Contexts.{context_of}
@@ -15,8 +13,8 @@ use Rattle.mcs_book.specs.Boots.{Boot, boot_log}
 use Rattle.mcs_book.specs.Standing.{status_of, is_ready, is_on_core, may_enter}
 use Rattle.mcs_book.specs.Pieces.{Outcome}
 use Rattle.mcs_book.specs.Table.{does}
-use Rattle.mcs_book.specs.History.{Book, Line, Follows, AreLegal, IsLegal, past, log_of, line_for, line_of_number}
-use Rattle.mcs_kernel.specs.Faults.{has_room, context_fault, fault_of, entered, with_entry}
+use Rattle.mcs_book.specs.History.{Book, Line, Follows, AreLegal, IsLegal, log_of, line_for, line_of_number}
+use Rattle.mcs_kernel.specs.Faults.{has_room, context_fault, fault_of, with_entry}
 use Rattle.mcs_kernel.specs.declared.fault.EnterFault.TheVariants.{NotRunning, WrongCore, BookFull}
 use Rattle.mcs_seats.specs.Settling.{cut}
 use Rattle.mcs_seats.specs.Steps.{IsKernelBook, StandsAt}

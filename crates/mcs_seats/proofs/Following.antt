@@ -1,11 +1,11 @@
 -- Calls that are followed one after another.
-use Rattle.std.specs.Prelude.{ℕ, zero, suc, ◌≡◌, ◌≢◌, ◌<◌, ◌≤◌, ◌+◌, ◌-◌, ◌⊎◌, List, [], ◌∷◌, length, drop, take, reverse, slice_index_or, Option, Some, None}
+use Rattle.std.specs.Prelude.{ℕ, zero, suc, ◌≡◌, ◌<◌, ◌≤◌, ◌+◌, ◌-◌, List, [], ◌∷◌, length, drop, slice_index_or, Some, None}
 use Rattle.std.proofs.Common.{refl, ap, sym, ◌∙◌, subst, arith, inl, inr}
 use Rattle.mcs_types.specs.declared.id.CoreId.{CoreId}
 use Rattle.mcs_book.specs.Boots.{Boot}
 use Rattle.mcs_book.specs.History.{Book, Line, line_of_number}
 use Rattle.mcs_seats.specs.declared.call.Call.{Call}
-use Rattle.mcs_seats.specs.Settling.{Note, left_at, cut, note_of, IsRight, AreRight, IsTornAt, left_after, low_after}
+use Rattle.mcs_seats.specs.Settling.{Note, left_at, note_of, AreRight, IsTornAt, left_after, low_after}
 use Rattle.mcs_seats.specs.Steps.{StandsAt, IsNextOwn, IsWay}
 use Rattle.mcs_seats.proofs.Notes.{left-none}
 use Rattle.mcs_seats.proofs.Ways.{left-line}

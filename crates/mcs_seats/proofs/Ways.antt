@@ -1,5 +1,5 @@
 -- Whether a call is right, and where it leads.
-use Rattle.std.specs.Prelude.{ℕ, ◌≡◌, ◌≢◌, ◌<◌, ◌≤◌, ◌+◌, ◌-◌, ◌==◌, true, List, [], ◌∷◌, length, Option, Some, None}
+use Rattle.std.specs.Prelude.{ℕ, ◌≡◌, ◌<◌, ◌≤◌, ◌+◌, ◌-◌, ◌==◌, true, [], ◌∷◌, length, Option, Some, None}
 use Rattle.std.specs.Option.{IfSome}
 use Rattle.std.proofs.Common.{refl, ap, sym, ◌∙◌, subst, arith}
 use Rattle.mcs_types.specs.declared.id.CoreId.{CoreId}
@@ -9,11 +9,10 @@ use Rattle.mcs_book.specs.History.{Book, Line, line_of_number}
 use Rattle.mcs_kernel.specs.Faults.{fault_of}
 use Rattle.mcs_kernel.specs.declared.fault.EnterFault.{EnterFault}
 use Rattle.mcs_seats.specs.declared.call.Answered.{Answered}
-use Rattle.mcs_seats.specs.declared.call.Outcome.{Outcome}
 use Rattle.mcs_seats.specs.declared.call.Outcome.TheVariants.{Told, Away}
 use Rattle.mcs_seats.specs.declared.call.Call.{Call}
 use Rattle.mcs_seats.specs.Settling.{Note, note_of, left_at, cut, next_note, next_line, later_notes, told_note, IsRightAt}
-use Rattle.mcs_seats.specs.Steps.{IsNextOwn, IsPassed, IsBehind, IsWayOf}
+use Rattle.mcs_seats.specs.Steps.{IsNextOwn, IsPassed, IsWayOf}
 use Rattle.mcs_seats.proofs.Notes.{left-own, left-none, left-bounded}
 
 -- what is left where the next line of the core's is this one

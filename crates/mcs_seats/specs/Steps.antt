@@ -6,13 +6,12 @@ use Rattle.mcs_types.specs.declared.id.ObjId.{ObjId}
 use Rattle.mcs_types.specs.declared.entry.Entry.{Entry}
 use Rattle.mcs_types.specs.Limits.{line_limit}
 use Rattle.mcs_book.specs.History.{Book, IsLegal, line_of_number}
-use Rattle.mcs_kernel.specs.Faults.{fault_of}
 use Rattle.mcs_kernel.specs.declared.fault.EnterFault.{EnterFault}
 use Rattle.mcs_seats.specs.declared.call.Answered.{Answered}
 use Rattle.mcs_seats.specs.declared.call.Outcome.{Outcome}
 use Rattle.mcs_seats.specs.declared.call.Outcome.TheVariants.{Told, Away}
 use Rattle.mcs_seats.specs.declared.call.Call.{Call}
-use Rattle.mcs_seats.specs.Settling.{Note, left_at, cut, next_note, next_line, told_note, IsRightAt, left_after, low_after}
+use Rattle.mcs_seats.specs.Settling.{left_at, cut, next_line, IsRightAt, left_after, low_after}
 
 -- a book as a kernel has it
 pub record IsKernelBook (b : Book) : Type 0 where

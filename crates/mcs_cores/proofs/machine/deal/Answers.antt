@@ -1,5 +1,4 @@
-use Rattle.std.proofs.Common.{◌≡◌, ◌∷◌, [], ℕ, ap, ◌∙◌, sym, subst, List, length, arith, rules, vec_len}
-use Rattle.mcs_seats.specs.Seats.{AreNew, Seat}
+use Rattle.std.proofs.Common.{◌≡◌, [], ℕ, ap, ◌∙◌, sym, length, arith, rules}
 use Rattle.mcs_cores.proofs.Fresh.{new-push}
 use Rattle.mcs_cores.proofs.machine.deal.Goals as goal
 

@@ -1,7 +1,6 @@
-use Rattle.std.proofs.Common.{◌≡◌, true, false, refl, subst, sym, ap, ◌∙◌, arith}
+use Rattle.std.proofs.Common.{true, refl, subst, sym, ap, ◌∙◌, arith}
 use Rattle.mcs_book.specs.History.{Book}
 use Rattle.mcs_kernel.specs.Faults.{fault_of}
-use Rattle.mcs_seats.specs.Settling.{cut}
 use Rattle.mcs_seats.specs.Steps.{IsPassed, StandsAt}
 use Rattle.mcs_seats.proofs.Ways.{way-away, late-away}
 use Rattle.mcs_seats.proofs.settle.follow_away.Goals as goal

@@ -1,5 +1,5 @@
 use Rattle.std.proofs.Common.{◌≡◌, Some, None, true, false, refl, sym, ◌∙◌}
-use Rattle.mcs_book.specs.History.{Book, line_of_number}
+use Rattle.mcs_book.specs.History.{line_of_number}
 use Rattle.mcs_seats.proofs.Ways.{none-told, other-told, way-told}
 use Rattle.mcs_seats.proofs.settle.follow_told.Goals as goal
 

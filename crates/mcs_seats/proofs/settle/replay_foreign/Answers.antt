@@ -1,9 +1,9 @@
-use Rattle.std.proofs.Common.{◌≡◌, ◌==◌, ◌+◌, Option, Some, None, true, length, ap, sym, subst, refl, ◌∙◌, arith, nat_eq, ℕ}
+use Rattle.std.proofs.Common.{◌≡◌, ◌==◌, Option, Some, None, true, ap, sym, subst, refl, ◌∙◌, arith, nat_eq, ℕ}
 use Rattle.std.specs.Option.{IfSome}
 use Rattle.mcs_types.specs.declared.entry.Step.{Step}
 use Rattle.mcs_book.specs.History.{Book, Line, line_of_number}
 use Rattle.mcs_seats.specs.Settling.{left_at}
-use Rattle.mcs_seats.specs.Steps.{StandsAt, IsNextOwn}
+use Rattle.mcs_seats.specs.Steps.{StandsAt}
 use Rattle.mcs_seats.proofs.Notes.{left-foreign, past-none}
 use Rattle.mcs_seats.proofs.settle.replay_foreign.Goals as goal
 
