@@ -52,9 +52,9 @@ torn-step b c at next x xs n way torn =
     inr (way.0, subst (λ (m : ℕ). IsTornAt b c (left_after x.outcome (left_at b c at)) (low_after x.outcome) xs m) back two, omega (arith, some))
 
 -- all calls were right, and no line of the core's is left
-pub none-left : (b : Book) (c : CoreId) (at n : ℕ) (xs : List Call) → xs ≡ [] → IsNextOwn b c at n → 1 ≤ n → line_of_number b n ≡ None → AreRight b c (left_at b c at) at xs
+pub none-left : (b : Book) (c : CoreId) (at n : ℕ) (xs : List Call) → xs ≡ [] → IsNextOwn b c at (length b.lines + 1) n → 1 ≤ n → line_of_number b n ≡ None → AreRight b c (left_at b c at) at xs
 none-left b c at n xs none next some is = rw none (next.same ∙ left-none b c n some is)
 
 -- or one is
-pub one-left : (b : Book) (c : CoreId) (at n : ℕ) (l : Line) (xs : List Call) → xs ≡ [] → IsNextOwn b c at n → 1 ≤ n → line_of_number b n ≡ Some l → IsTornAt b c (left_at b c at) at xs 1
+pub one-left : (b : Book) (c : CoreId) (at n : ℕ) (l : Line) (xs : List Call) → xs ≡ [] → IsNextOwn b c at (length b.lines + 1) n → 1 ≤ n → line_of_number b n ≡ Some l → IsTornAt b c (left_at b c at) at xs 1
 one-left b c at n l xs none next some is = rw none (refl, λ e. let no : note_of n l ∷ left_at b c (n + 1) ≡ [] = sym (left-line b c at n l next some is) ∙ e in absurd cc)

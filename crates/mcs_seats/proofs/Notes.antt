@@ -1,5 +1,5 @@
 -- What a core is told of the lines of a book, from one line on.
-use Rattle.std.specs.Prelude.{ℕ, zero, suc, ◌≡◌, ◌<◌, ◌≤◌, ◌+◌, ◌-◌, ◌==◌, Bool, true, false, if◌then◌else◌, List, [], ◌∷◌, ◌++◌, length, drop, reverse, Some, None, slice_get}
+use Rattle.std.specs.Prelude.{ℕ, zero, suc, ◌≡◌, ◌<◌, ◌≤◌, ◌+◌, ◌-◌, ◌==◌, Bool, true, false, if◌then◌else◌, List, [], ◌∷◌, ◌++◌, length, drop, reverse, Some, None}
 use Rattle.std.proofs.Common.{refl, ap, sym, ◌∙◌, arith}
 use Rattle.std.proofs.lemmas.List.{length-reverse}
 use Rattle.mcs_types.specs.declared.id.CoreId.{CoreId}
@@ -72,13 +72,3 @@ left-bounded b c at some few = go (left_at b c at) (at-or-after c at (drop (at -
     go : (xs : List Note) → AtOrAfter at (length b.lines + 1) xs → IsBounded b xs at
     go [] h = record { low = few; high = omega arith }
     go (x ∷ xs) h = record { low = h.0; high = omega (arith, h.1) }
-
--- past its end a list has no element
-get-past : {X : Type 0} → (xs : List X) (i : ℕ) → length xs ≤ i → slice_get xs i ≡ None
-get-past [] i le = refl
-get-past (x ∷ xs) zero le = absurd (omega (arith, le))
-get-past (x ∷ xs) (suc i) le = get-past xs i (omega (arith, le))
-
--- behind the last line there is none
-pub past-none : (b : Book) → line_of_number b (length b.lines + 1) ≡ None
-past-none b = let whole = length-reverse b.lines in numbered b (length b.lines + 1) (omega arith) ∙ get-past (reverse b.lines) ((length b.lines + 1) - 1) (omega (arith, whole))

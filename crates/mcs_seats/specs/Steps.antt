@@ -1,5 +1,5 @@
 -- A replay that follows a core's calls through a book.
-use Rattle.std.specs.Prelude.{ℕ, Bool, true, false, ◌≡◌, ◌+◌, ◌-◌, ◌≤◌, ◌<◌, ◌==◌, length, Option, Some, None}
+use Rattle.std.specs.Prelude.{ℕ, true, ◌≡◌, ◌+◌, ◌-◌, ◌≤◌, ◌<◌, ◌==◌, length, Option, Some, None}
 use Rattle.std.specs.Option.{IfSome}
 use Rattle.mcs_types.specs.declared.id.CoreId.{CoreId}
 use Rattle.mcs_types.specs.declared.id.ObjId.{ObjId}
@@ -11,7 +11,7 @@ use Rattle.mcs_seats.specs.declared.call.Answered.{Answered}
 use Rattle.mcs_seats.specs.declared.call.Outcome.{Outcome}
 use Rattle.mcs_seats.specs.declared.call.Outcome.TheVariants.{Told, Away}
 use Rattle.mcs_seats.specs.declared.call.Call.{Call}
-use Rattle.mcs_seats.specs.Settling.{left_at, cut, next_line, IsRightAt, left_after, low_after}
+use Rattle.mcs_seats.specs.Settling.{left_at, cut, IsRightAt, left_after, low_after}
 
 -- a book as a kernel has it
 pub record IsKernelBook (b : Book) : Type 0 where
@@ -24,15 +24,11 @@ pub record StandsAt (b r : Book) (at : ℕ) : Type 0 where
   pub few : at ≤ length b.lines + 1
   pub is : r ≡ cut b (at - 1)
 
--- from a number on, the next line that is the core's has number n, or n lines are there and none is
-pub record IsNextOwn (b : Book) (c : CoreId) (from n : ℕ) : Type 0 where
+-- no line of the core's lies from a number on up to n, and the line of number n is the core's, or n is the end
+pub record IsNextOwn (b : Book) (c : CoreId) (from end n : ℕ) : Type 0 where
   pub same : left_at b c from ≡ left_at b c n
-  pub own : IfSome (line_of_number b n) (λ l. (l.step.core.0 == c.0) ≡ true)
-
--- whether no line of the core's lies on the way
-abbrev pub IsPassed : Book → CoreId → ℕ → ℕ → Bool → Type 0
-IsPassed b c from to true = left_at b c from ≡ left_at b c to
-IsPassed b c from to false = next_line b (left_at b c from) < to
+  pub few : n ≤ end
+  pub own : n < end → IfSome (line_of_number b n) (λ l. (l.step.core.0 == c.0) ≡ true)
 
 -- the way behind a call: what is left and how many lines there were, as its outcome says
 pub record IsBehind (b : Book) (c : CoreId) (at : ℕ) (o : Outcome) (n : ℕ) : Type 0 where

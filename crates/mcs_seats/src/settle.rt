@@ -4,7 +4,7 @@ ghost use Rattle.std.specs.List.{list_any};
 ghost use Rattle.mcs_book.specs.History.{IsLegal, line_of_number};
 ghost use Rattle.mcs_kernel.specs.Faults.{fault_of};
 ghost use Rattle.mcs_seats.specs.Settling.{left_at, note_of, told_note, AreRight, IsTornAt, AllAgree, HasSeats, LacksSeat, Because};
-ghost use Rattle.mcs_seats.specs.Steps.{IsKernelBook, StandsAt, IsNextOwn, IsPassed, IsWayTold, IsWayAway, IsWay};
+ghost use Rattle.mcs_seats.specs.Steps.{IsKernelBook, StandsAt, IsNextOwn, IsWayTold, IsWayAway, IsWay};
 
 use crate::call::{Answered, Call, Outcome};
 use crate::same::{are_same_lines, is_same_answer, is_same_entry, is_same_fault};
@@ -64,21 +64,24 @@ fn again<L: Lines>(
     }
 }
 
-/// Makes lines again up to the next of the core, and answers its number, or how many lines there are where no more is the
-/// core's.
+/// Makes lines again up to one of number `end`, or to the next that is the core's where that comes before, and answers the
+/// number of that line.
 fn replay_foreign<L: Lines>(
     alloc: Global,
     replay: &mut Kernel<L>,
     book: &Book,
     core: CoreId,
     from: usize,
+    end: usize,
 ) -> Result<usize, OutOfMemory>
     requires kept { IsKernelBook book.now.book }
     requires at { StandsAt book.now.book replay.old from }
+    requires order { from ≤ end }
+    requires end { end ≤ length book.now.book.lines + 1 }
     ensures stands { IfOk result (StandsAt book.now.book replay.new) }
-    ensures next { IfOk result (IsNextOwn book.now.book core from) }
+    ensures next { IfOk result (IsNextOwn book.now.book core from end) }
 {
-    for at in from..book.lines() {
+    for at in from..end {
         match book.line(at) {
             None => unreachable!(),
             Some(line) => {
@@ -89,37 +92,7 @@ fn replay_foreign<L: Lines>(
             }
         }
     }
-    Ok(book.lines())
-}
-
-/// Makes lines again up to the one of number `to`, where no line on the way is the core's; false where one is.
-fn passes<L: Lines>(
-    alloc: Global,
-    replay: &mut Kernel<L>,
-    book: &Book,
-    core: CoreId,
-    from: usize,
-    to: usize,
-) -> Result<bool, OutOfMemory>
-    requires kept { IsKernelBook book.now.book }
-    requires at { StandsAt book.now.book replay.old from }
-    requires order { from ≤ to }
-    requires end { to ≤ length book.now.book.lines + 1 }
-    ensures stands { IfOk result (λ b. b ≡ true → StandsAt book.now.book replay.new to) }
-    ensures passed { IfOk result (IsPassed book.now.book core from to) }
-{
-    for at in from..to {
-        match book.line(at) {
-            None => unreachable!(),
-            Some(line) => {
-                if line.step().core == core {
-                    return Ok(false);
-                }
-                again(alloc, replay, book, at, &line)?;
-            }
-        }
-    }
-    Ok(true)
+    Ok(end)
 }
 
 /// Whether a call was told this line.
@@ -148,7 +121,7 @@ fn follow_told<L: Lines>(
     ensures stands { IfOk result (λ o. IfSome o (StandsAt book.now.book replay.new)) }
     ensures right { IfOk result (IsWayTold book.now.book core at call.now told.now) }
 {
-    let number = replay_foreign(alloc, replay, book, core, at)?;
+    let number = replay_foreign(alloc, replay, book, core, at, book.lines())?;
     match book.line(number) {
         None => Ok(None),
         Some(line) => {
@@ -183,7 +156,7 @@ fn follow_away<L: Lines>(
     if book.lines() < lines {
         return Ok(None);
     }
-    if !passes(alloc, replay, book, core, at, lines)? {
+    if replay_foreign(alloc, replay, book, core, at, lines)? < lines {
         return Ok(None);
     }
     if !is_same_fault(replay.fault(core, thread), fault) {
@@ -239,7 +212,7 @@ fn torn_call<L: Lines>(
             Some(next) => at = next,
         }
     }
-    let number = replay_foreign(alloc, &mut replay, book, core, at)?;
+    let number = replay_foreign(alloc, &mut replay, book, core, at, book.lines())?;
     match book.line(number) {
         None => Ok(None),
         Some(_) => Ok(Some(count + 1)),

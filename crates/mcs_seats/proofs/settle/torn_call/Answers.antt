@@ -4,7 +4,7 @@ use Rattle.mcs_types.specs.declared.id.CoreId.{CoreId}
 use Rattle.mcs_book.specs.History.{Book, line_of_number}
 use Rattle.mcs_seats.specs.declared.call.Call.{Call}
 use Rattle.mcs_seats.specs.Settling.{left_at, AreRight, IsTornAt}
-use Rattle.mcs_seats.specs.Steps.{StandsAt, IsWay}
+use Rattle.mcs_seats.specs.Steps.{StandsAt, IsNextOwn, IsWay}
 use Rattle.mcs_seats.proofs.Following.{drop-next, drop-none, stands-begun, right-step, torn-step, none-left, one-left}
 use Rattle.mcs_seats.proofs.settle.torn_call.Goals as goal
 
@@ -55,13 +55,13 @@ returns-in-None-line-clause-none g c =
     let b : Book = c.args.book.now.book in
     let line : line_of_number b c.in_ok-number.number ≡ None = sym c.line.ensures ∙ c.in-None-line.is in
     let none = drop-none c.args.calls.now c.loop-call.call-index c.loop-call-test.false in
-    c.loop-call.invariant.2 (none-left b c.args.core c.loop-call.at c.in_ok-number.number (drop c.loop-call.call-index c.args.calls.now) none c.in_ok-number.ensures.next c.in_ok-number.ensures.stands.some line)
+    c.loop-call.invariant.2 (none-left b c.args.core c.loop-call.at c.in_ok-number.number (drop c.loop-call.call-index c.args.calls.now) none (subst (λ k. IsNextOwn b c.args.core c.loop-call.at k c.in_ok-number.number) c.lines.ensures c.in_ok-number.ensures.next) c.in_ok-number.ensures.stands.some line)
 
 pub returns-clause-torn : goal.returns-clause-torn
 returns-clause-torn g c =
     let b : Book = c.args.book.now.book in
     let line : line_of_number b c.in_ok-number.number ≡ Some c.in-Some-line.field-0 = sym c.line.ensures ∙ c.in-Some-line.is in
     let none = drop-none c.args.calls.now c.loop-call.call-index c.loop-call-test.false in
-    let torn = one-left b c.args.core c.loop-call.at c.in_ok-number.number c.in-Some-line.field-0 (drop c.loop-call.call-index c.args.calls.now) none c.in_ok-number.ensures.next c.in_ok-number.ensures.stands.some line in
+    let torn = one-left b c.args.core c.loop-call.at c.in_ok-number.number c.in-Some-line.field-0 (drop c.loop-call.call-index c.args.calls.now) none (subst (λ k. IsNextOwn b c.args.core c.loop-call.at k c.in_ok-number.number) c.lines.ensures c.in_ok-number.ensures.next) c.in_ok-number.ensures.stands.some line in
     let same : 1 + c.loop-call.count ≡ c.loop-call.count + 1 = omega arith in
     subst (λ m. IsTornAt b c.args.core (left_at b c.args.core 1) 1 c.args.calls.now m) same (c.loop-call.invariant.3 1 torn)
