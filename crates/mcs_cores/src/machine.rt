@@ -202,9 +202,6 @@ impl<G: Ledger, L: Lines> Machine<G, L> {
     ) -> Result<Answered, Turned>
         ensures { seat.new ≡ noted seat.old thread entry result }
     {
-        if seat.reserve().is_err() {
-            return Err(Turned::OutOfMemory);
-        }
         self.hall.lock(rt).enter(alloc, seat, thread, entry)
     }
 

@@ -7,7 +7,7 @@ ghost use Rattle.mcs_kernel.specs.Faults.{fault_of, with_entry};
 use crate::call::{Answered, Call, Outcome, Turned};
 use mcs_kernel::{EnterFault, Kernel};
 use mcs_queues::Lines;
-use mcs_types::{CoreId, Entry, ObjId, OutOfMemory};
+use mcs_types::{CoreId, Entry, ObjId};
 use std::alloc::Global;
 use std::marker::Model;
 use std::sync::ledger::{Book, Ledger, Share};
@@ -77,14 +77,6 @@ impl<G: Ledger> CoreSeat<G> {
         ensures { result.now ≡ reverse self.now.calls }
     {
         self.calls.as_slice()
-    }
-
-    /// Makes room for one call.
-    pub fn reserve(&mut self) -> Result<(), OutOfMemory>
-        ensures { self.new ≡ self.old }
-    {
-        self.calls.reserve(1)?;
-        Ok(())
     }
 
     /// Lets in an entry of a thread on the seat's core, or turns it away, as Kernel::enter does; the seat keeps the entry

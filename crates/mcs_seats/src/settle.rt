@@ -31,18 +31,6 @@ pub enum FinishFault {
     OutOfMemory,
 }
 
-impl FinishFault {
-    /// Its number.
-    pub fn number(self) -> u8 {
-        match self {
-            FinishFault::MissingSeat => 1,
-            FinishFault::OtherBoot => 2,
-            FinishFault::Torn { core: _, n: _ } => 3,
-            FinishFault::OutOfMemory => 4,
-        }
-    }
-}
-
 /// Makes a line of the book again, on the book before it.
 fn again<L: Lines>(
     alloc: Global,
