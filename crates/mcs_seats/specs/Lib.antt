@@ -1,3 +1,4 @@
+pub mod Families
 pub mod Seats
 pub mod Settling
 pub mod Steps

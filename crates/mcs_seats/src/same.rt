@@ -1,5 +1,6 @@
 //! Whether messages, entries and answers are the same.
 ghost use Rattle.std.specs.Prelude.{◌≡◌, ◌↔◌, IsTrue, Some};
+ghost use Rattle.mcs_seats.specs.Families.{family_of, WithMessage, WithAddress, WithAddresses, WithPlaces};
 
 use mcs_kernel::EnterFault;
 use mcs_types::{Answer, BootLine, Entry, Message};
@@ -49,60 +50,28 @@ pub fn is_same_answer(one: &Answer, other: &Answer) -> bool
         (
             Answer::Got { badge, message },
             Answer::Got {
-                badge: other_badge,
-                message: other_message,
+                badge: b,
+                message: m,
             },
-        ) => *badge == *other_badge && is_same_message(message, other_message),
-        (Answer::Heard { word }, Answer::Heard { word: other_word }) => *word == *other_word,
+        ) => *badge == *b && is_same_message(message, m),
+        (Answer::Heard { word }, Answer::Heard { word: w }) => *word == *w,
         (Answer::Empty, Answer::Empty) => true,
         (Answer::Waits, Answer::Waits) => true,
-        (Answer::Refused(why), Answer::Refused(other_why)) => *why == *other_why,
+        (Answer::Refused(refusal), Answer::Refused(r)) => *refusal == *r,
         _ => false,
     }
 }
 
-/// Whether two entries are the same.
-pub fn is_same_entry(one: &Entry, other: &Entry) -> bool
-    ensures { IsTrue result ↔ (one.now ≡ other.now) }
+/// Whether two entries are the same, and bring a message.
+fn is_same_entry_with_message(one: &Entry, other: &Entry) -> bool
+    ensures { IsTrue result ↔ ((family_of one.now ≡ WithMessage) × (one.now ≡ other.now)) }
 {
     match (one, other) {
-        (
-            Entry::Send { cap, message },
-            Entry::Send {
-                cap: other_cap,
-                message: other_message,
-            },
-        ) => { *cap == *other_cap && is_same_message(message, other_message) }
-        (
-            Entry::NbSend { cap, message },
-            Entry::NbSend {
-                cap: other_cap,
-                message: other_message,
-            },
-        ) => { *cap == *other_cap && is_same_message(message, other_message) }
-        (
-            Entry::Call { cap, message },
-            Entry::Call {
-                cap: other_cap,
-                message: other_message,
-            },
-        ) => { *cap == *other_cap && is_same_message(message, other_message) }
-        (
-            Entry::Recv { cap, reply },
-            Entry::Recv {
-                cap: other_cap,
-                reply: other_reply,
-            },
-        ) => { *cap == *other_cap && *reply == *other_reply }
-        (
-            Entry::NbRecv { cap, reply },
-            Entry::NbRecv {
-                cap: other_cap,
-                reply: other_reply,
-            },
-        ) => { *cap == *other_cap && *reply == *other_reply }
-        (Entry::Wait { cap }, Entry::Wait { cap: other_cap }) => { *cap == *other_cap }
-        (Entry::NbWait { cap }, Entry::NbWait { cap: other_cap }) => { *cap == *other_cap }
+        (Entry::Send { cap, message }, Entry::Send { cap: c, message: m })
+        | (Entry::NbSend { cap, message }, Entry::NbSend { cap: c, message: m })
+        | (Entry::Call { cap, message }, Entry::Call { cap: c, message: m }) => {
+            *cap == *c && is_same_message(message, m)
+        }
         (
             Entry::ReplyRecv {
                 cap,
@@ -110,14 +79,41 @@ pub fn is_same_entry(one: &Entry, other: &Entry) -> bool
                 message,
             },
             Entry::ReplyRecv {
-                cap: other_cap,
-                reply: other_reply,
-                message: other_message,
+                cap: c,
+                reply: r,
+                message: m,
             },
-        ) => {
-            *cap == *other_cap && *reply == *other_reply && is_same_message(message, other_message)
+        ) => *cap == *c && *reply == *r && is_same_message(message, m),
+        _ => false,
+    }
+}
+
+/// Whether two entries are the same, and have one address.
+fn is_same_entry_with_address(one: &Entry, other: &Entry) -> bool
+    ensures { IsTrue result ↔ ((family_of one.now ≡ WithAddress) × (one.now ≡ other.now)) }
+{
+    match (one, other) {
+        (Entry::Wait { cap: a }, Entry::Wait { cap: b })
+        | (Entry::NbWait { cap: a }, Entry::NbWait { cap: b })
+        | (Entry::Signal { cap: a }, Entry::Signal { cap: b })
+        | (Entry::Suspend { thread: a }, Entry::Suspend { thread: b })
+        | (Entry::Resume { thread: a }, Entry::Resume { thread: b })
+        | (Entry::UnbindNtfn { thread: a }, Entry::UnbindNtfn { thread: b })
+        | (Entry::UnbindCtx { context: a }, Entry::UnbindCtx { context: b })
+        | (Entry::CancelBadged { endpoint: a }, Entry::CancelBadged { endpoint: b }) => *a == *b,
+        _ => false,
+    }
+}
+
+/// Whether two entries are the same, and have several addresses but no message.
+fn is_same_entry_with_addresses(one: &Entry, other: &Entry) -> bool
+    ensures { IsTrue result ↔ ((family_of one.now ≡ WithAddresses) × (one.now ≡ other.now)) }
+{
+    match (one, other) {
+        (Entry::Recv { cap, reply }, Entry::Recv { cap: c, reply: r })
+        | (Entry::NbRecv { cap, reply }, Entry::NbRecv { cap: c, reply: r }) => {
+            *cap == *c && *reply == *r
         }
-        (Entry::Signal { cap }, Entry::Signal { cap: other_cap }) => { *cap == *other_cap }
         (
             Entry::SetPriority {
                 thread,
@@ -125,62 +121,37 @@ pub fn is_same_entry(one: &Entry, other: &Entry) -> bool
                 priority,
             },
             Entry::SetPriority {
-                thread: other_thread,
-                authority: other_authority,
-                priority: other_priority,
+                thread: t,
+                authority: a,
+                priority: p,
             },
-        ) => {
-            *thread == *other_thread
-                && *authority == *other_authority
-                && *priority == *other_priority
-        }
-        (
-            Entry::Suspend { thread },
-            Entry::Suspend {
-                thread: other_thread,
-            },
-        ) => { *thread == *other_thread }
-        (
-            Entry::Resume { thread },
-            Entry::Resume {
-                thread: other_thread,
-            },
-        ) => { *thread == *other_thread }
+        ) => *thread == *t && *authority == *a && *priority == *p,
         (
             Entry::BindNtfn {
                 thread,
                 notification,
             },
             Entry::BindNtfn {
-                thread: other_thread,
-                notification: other_notification,
+                thread: t,
+                notification: n,
             },
-        ) => { *thread == *other_thread && *notification == *other_notification }
-        (
-            Entry::UnbindNtfn { thread },
-            Entry::UnbindNtfn {
-                thread: other_thread,
-            },
-        ) => { *thread == *other_thread }
+        ) => *thread == *t && *notification == *n,
         (
             Entry::BindCtx { context, thread },
             Entry::BindCtx {
-                context: other_context,
-                thread: other_thread,
+                context: c,
+                thread: t,
             },
-        ) => { *context == *other_context && *thread == *other_thread }
-        (
-            Entry::UnbindCtx { context },
-            Entry::UnbindCtx {
-                context: other_context,
-            },
-        ) => { *context == *other_context }
-        (
-            Entry::CancelBadged { endpoint },
-            Entry::CancelBadged {
-                endpoint: other_endpoint,
-            },
-        ) => { *endpoint == *other_endpoint }
+        ) => *context == *c && *thread == *t,
+        _ => false,
+    }
+}
+
+/// Whether two entries are the same, and have places.
+fn is_same_entry_with_places(one: &Entry, other: &Entry) -> bool
+    ensures { IsTrue result ↔ ((family_of one.now ≡ WithPlaces) × (one.now ≡ other.now)) }
+{
+    match (one, other) {
         (
             Entry::CopyCap {
                 source,
@@ -188,11 +159,11 @@ pub fn is_same_entry(one: &Entry, other: &Entry) -> bool
                 rights,
             },
             Entry::CopyCap {
-                source: other_source,
-                dest: other_dest,
-                rights: other_rights,
+                source: s,
+                dest: d,
+                rights: r,
             },
-        ) => { *source == *other_source && *dest == *other_dest && *rights == *other_rights }
+        ) => *source == *s && *dest == *d && *rights == *r,
         (
             Entry::MintCap {
                 source,
@@ -201,39 +172,30 @@ pub fn is_same_entry(one: &Entry, other: &Entry) -> bool
                 badge,
             },
             Entry::MintCap {
-                source: other_source,
-                dest: other_dest,
-                rights: other_rights,
-                badge: other_badge,
+                source: s,
+                dest: d,
+                rights: r,
+                badge: b,
             },
-        ) => {
-            *source == *other_source
-                && *dest == *other_dest
-                && *rights == *other_rights
-                && *badge == *other_badge
+        ) => *source == *s && *dest == *d && *rights == *r && *badge == *b,
+        (Entry::MoveCap { source, dest }, Entry::MoveCap { source: s, dest: d }) => {
+            *source == *s && *dest == *d
         }
-        (
-            Entry::MoveCap { source, dest },
-            Entry::MoveCap {
-                source: other_source,
-                dest: other_dest,
-            },
-        ) => { *source == *other_source && *dest == *other_dest }
-        (Entry::DeleteCap { place }, Entry::DeleteCap { place: other_place }) => {
-            *place == *other_place
-        }
-        (Entry::MakeEndpoint { place }, Entry::MakeEndpoint { place: other_place }) => {
-            *place == *other_place
-        }
-        (Entry::MakeNotification { place }, Entry::MakeNotification { place: other_place }) => {
-            *place == *other_place
-        }
-        (Entry::MakeReply { place }, Entry::MakeReply { place: other_place }) => {
-            *place == *other_place
-        }
-        (Entry::MakeContext { place }, Entry::MakeContext { place: other_place }) => {
-            *place == *other_place
-        }
+        (Entry::DeleteCap { place: a }, Entry::DeleteCap { place: b })
+        | (Entry::MakeEndpoint { place: a }, Entry::MakeEndpoint { place: b })
+        | (Entry::MakeNotification { place: a }, Entry::MakeNotification { place: b })
+        | (Entry::MakeReply { place: a }, Entry::MakeReply { place: b })
+        | (Entry::MakeContext { place: a }, Entry::MakeContext { place: b }) => *a == *b,
         _ => false,
     }
+}
+
+/// Whether two entries are the same.
+pub fn is_same_entry(one: &Entry, other: &Entry) -> bool
+    ensures { IsTrue result ↔ (one.now ≡ other.now) }
+{
+    is_same_entry_with_message(one, other)
+        || is_same_entry_with_address(one, other)
+        || is_same_entry_with_addresses(one, other)
+        || is_same_entry_with_places(one, other)
 }
