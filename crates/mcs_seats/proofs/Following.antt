@@ -1,60 +1,54 @@
 -- Calls that are followed one after another.
-use Rattle.std.specs.Prelude.{ℕ, zero, suc, ◌≡◌, ◌<◌, ◌≤◌, ◌+◌, ◌-◌, List, [], ◌∷◌, length, drop, slice_index_or, Some, None}
-use Rattle.std.proofs.Common.{refl, ap, sym, ◌∙◌, subst, arith, inl, inr}
+use Rattle.std.specs.Prelude.{ℕ, ◌≡◌, ◌≤◌, ◌+◌, ◌-◌, List, [], ◌∷◌}
+use Rattle.std.proofs.Common.{refl, sym, ◌∙◌, subst, arith, inl, inr}
 use Rattle.mcs_types.specs.declared.id.CoreId.{CoreId}
-use Rattle.mcs_book.specs.Boots.{Boot}
-use Rattle.mcs_book.specs.History.{Book, Line, line_of_number}
+use Rattle.mcs_book.specs.History.{Book, Line}
 use Rattle.mcs_seats.specs.declared.call.Call.{Call}
-use Rattle.mcs_seats.specs.Settling.{Note, left_at, note_of, AreRight, IsTornAt, left_after, low_after}
-use Rattle.mcs_seats.specs.Steps.{StandsAt, IsNextOwn, IsWay}
-use Rattle.mcs_seats.proofs.Notes.{left-none}
-use Rattle.mcs_seats.proofs.Ways.{left-line}
+use Rattle.mcs_seats.specs.Settling.{Note, note_of, notes_from, AreRight, IsTornAt, notes_after, lines_after}
+use Rattle.mcs_seats.specs.Trails.{Trail, notes_ahead, IsAtNext, LeadsTo}
 
--- the calls that are left begin with the next one
-pub drop-next : {X : Type 0} → (xs : List X) (i : ℕ) (x : X) → i < length xs → x ≡ slice_index_or xs i x → drop i xs ≡ x ∷ drop (i + 1) xs
-drop-next [] i x lt e = absurd (omega (arith, lt))
-drop-next (y ∷ ys) zero x lt e = ap (λ z. z ∷ ys) (sym e)
-drop-next (y ∷ ys) (suc i) x lt e = let later = drop-next ys i x (omega (arith, lt)) e in let same : suc i + 1 ≡ suc (i + 1) = omega arith in rw same later
+-- calls are right from where a trail stands on
+abbrev pub AreRightFrom : Trail → List Call → Type 0
+AreRightFrom w xs = AreRight w.book w.core (notes_ahead w) w.at xs
 
-pub drop-none : {X : Type 0} → (xs : List X) (i : ℕ) → length xs ≤ i → drop i xs ≡ []
-drop-none [] zero past = refl
-drop-none [] (suc i) past = refl
-drop-none (x ∷ xs) zero past = absurd (omega (arith, past))
-drop-none (x ∷ xs) (suc i) past = drop-none xs i (omega (arith, past))
+-- the n-th of them is the first that is not
+abbrev pub IsTornFrom : Trail → List Call → ℕ → Type 0
+IsTornFrom w xs n = IsTornAt w.book w.core (notes_ahead w) w.at xs n
 
--- a replay of the boot alone
-pub stands-begun : (b r : Book) (boot : Boot) → b.boot ≡ boot → r ≡ record { boot = boot; lines = [] } → StandsAt b r 1
-stands-begun b r boot same is = record {
-  some = omega arith;
-  few = omega arith;
-  is = is ∙ ap (λ (x : Boot). record { boot = x; lines = [] }) (sym same);
-}
+-- what holds behind a call, said by its outcome
+behind : (w : Trail) (x : Call) (m : Trail) (P : Book → CoreId → List Note → ℕ → Type 0) → LeadsTo w x x.outcome m
+    → P m.book m.core (notes_ahead m) m.at → P w.book w.core (notes_after x.outcome (notes_ahead w)) (lines_after x.outcome)
+behind w x m P led later =
+    let here : P w.book w.core (notes_from w.book w.core m.at) m.at =
+    subst (λ (t : Trail). P t.book t.core (notes_ahead t) t.at) led.same later in
+    let noted : P w.book w.core (notes_after x.outcome (notes_ahead w)) m.at =
+    subst (λ (ns : List Note). P w.book w.core ns m.at) (sym led.notes) here in
+    subst (λ (n : ℕ). P w.book w.core (notes_after x.outcome (notes_ahead w)) n) (sym led.lines) noted
 
 -- a call that is right, and the others behind it
-pub right-step : (b : Book) (c : CoreId) (at next : ℕ) (x : Call) (xs : List Call) → IsWay b c at x (Some next) → AreRight b c (left_at b c next) next xs → AreRight b c (left_at b c at) at (x ∷ xs)
-right-step b c at next x xs way later =
-    let one : AreRight b c (left_after x.outcome (left_at b c at)) next xs = subst (λ (ns : List Note). AreRight b c ns next xs) (sym way.1.left) later in
-    (way.0, subst (λ (n : ℕ). AreRight b c (left_after x.outcome (left_at b c at)) n xs) (sym way.1.low) one)
+pub right-step : (w : Trail) (x : Call) (xs : List Call) (m : Trail) → LeadsTo w x x.outcome m → AreRightFrom m xs
+    → AreRightFrom w (x ∷ xs)
+right-step w x xs m led later = (led.right, behind w x m (λ b c ns n. AreRight b c ns n xs) led later)
 
 -- the number of a torn call counts from 1
-torn-some : (b : Book) (c : CoreId) (left : List Note) (low : ℕ) (xs : List Call) (n : ℕ) → IsTornAt b c left low xs n → 1 ≤ n
-torn-some b c left low [] n h = let is = h.0 in omega (arith, is)
-torn-some b c left low (x ∷ xs) n (inl h) = let is = h.0 in omega (arith, is)
-torn-some b c left low (x ∷ xs) n (inr h) = let is = h.2 in omega (arith, is)
+torn-some : (b : Book) (c : CoreId) (notes : List Note) (lines : ℕ) (xs : List Call) (n : ℕ) → IsTornAt b c notes lines xs n
+    → 1 ≤ n
+torn-some b c notes lines [] n h = let is = h.0 in omega (arith, is)
+torn-some b c notes lines (x ∷ xs) n (inl h) = let is = h.0 in omega (arith, is)
+torn-some b c notes lines (x ∷ xs) n (inr h) = let is = h.2 in omega (arith, is)
 
 -- a torn call behind one that is right
-pub torn-step : (b : Book) (c : CoreId) (at next : ℕ) (x : Call) (xs : List Call) (n : ℕ) → IsWay b c at x (Some next) → IsTornAt b c (left_at b c next) next xs n → IsTornAt b c (left_at b c at) at (x ∷ xs) (n + 1)
-torn-step b c at next x xs n way torn =
-    let some : 1 ≤ n = torn-some b c (left_at b c next) next xs n torn in
-    let one : IsTornAt b c (left_after x.outcome (left_at b c at)) next xs n = subst (λ (ns : List Note). IsTornAt b c ns next xs n) (sym way.1.left) torn in
-    let two : IsTornAt b c (left_after x.outcome (left_at b c at)) (low_after x.outcome) xs n = subst (λ (m : ℕ). IsTornAt b c (left_after x.outcome (left_at b c at)) m xs n) (sym way.1.low) one in
-    let back : n ≡ (n + 1) - 1 = omega arith in
-    inr (way.0, subst (λ (m : ℕ). IsTornAt b c (left_after x.outcome (left_at b c at)) (low_after x.outcome) xs m) back two, omega (arith, some))
+pub torn-step : (w : Trail) (x : Call) (xs : List Call) (m : Trail) (n : ℕ) → LeadsTo w x x.outcome m → IsTornFrom m xs n
+    → IsTornFrom w (x ∷ xs) (n + 1)
+torn-step w x xs m n led torn =
+    let some : 1 ≤ n = torn-some m.book m.core (notes_ahead m) m.at xs n torn in
+    let back : n ≡ n + 1 - 1 = omega arith in
+    let later = behind w x m (λ b c ns k. IsTornAt b c ns k xs (n + 1 - 1)) led (subst (λ k. IsTornFrom m xs k) back torn) in
+    inr (led.right, later, omega (arith, some))
 
--- all calls were right, and no line of the core's is left
-pub none-left : (b : Book) (c : CoreId) (at n : ℕ) (xs : List Call) → xs ≡ [] → IsNextOwn b c at (length b.lines + 1) n → 1 ≤ n → line_of_number b n ≡ None → AreRight b c (left_at b c at) at xs
-none-left b c at n xs none next some is = rw none (next.same ∙ left-none b c n some is)
-
--- or one is
-pub one-left : (b : Book) (c : CoreId) (at n : ℕ) (l : Line) (xs : List Call) → xs ≡ [] → IsNextOwn b c at (length b.lines + 1) n → 1 ≤ n → line_of_number b n ≡ Some l → IsTornAt b c (left_at b c at) at xs 1
-one-left b c at n l xs none next some is = rw none (refl, λ e. let no : note_of n l ∷ left_at b c (n + 1) ≡ [] = sym (left-line b c at n l next some is) ∙ e in absurd cc)
+-- all calls were right, and the core is told a line more
+pub one-left : (w m : Trail) (l : Line) → IsAtNext w m l → IsTornFrom w [] 1
+one-left w m l next = (
+  refl,
+  λ none. let no : note_of m.at l ∷ notes_from w.book w.core (m.at + 1) ≡ [] = sym next.notes ∙ none in absurd cc,
+)

@@ -1,5 +1,5 @@
 pub mod Cutting
 pub mod Notes
 pub mod Told
-pub mod Ways
+pub mod Trails
 pub mod Following

@@ -1,4 +1,4 @@
 pub mod Families
 pub mod Seats
 pub mod Settling
-pub mod Steps
+pub mod Trails

@@ -44,4 +44,6 @@ WhyTurned b c t turned.OutOfMemory = Unit {0}
 
 -- a seat for each core in order, which was told nothing
 abbrev pub AreNew : List Seat → Type 0
-AreNew seats = (i : ℕ) (d : Seat) → i < length seats → slice_index_or seats i d ≡ record { core = record { 0 = i }; calls = [] }
+AreNew seats =
+    (i : ℕ) (d : Seat) → i < length seats
+    → slice_index_or seats i d ≡ record { core = record { 0 = i }; calls = [] }

@@ -36,17 +36,17 @@ abbrev pub own_note : CoreId → ℕ → Line → List Note
 own_note c n l = if l.step.core.0 == c.0 then note_of n l ∷ [] else []
 
 -- what it is told of lines, of which the first has this number
-abbrev pub notes_from : CoreId → ℕ → List Line → List Note
-notes_from c n [] = []
-notes_from c n (l ∷ ls) = own_note c n l ++ notes_from c (n + 1) ls
+abbrev pub notes_of_lines : CoreId → ℕ → List Line → List Note
+notes_of_lines c n [] = []
+notes_of_lines c n (l ∷ ls) = own_note c n l ++ notes_of_lines c (n + 1) ls
 
 -- what it is told of a book from the line of number n on
-abbrev pub left_at : Book → CoreId → ℕ → List Note
-left_at b c n = notes_from c n (drop (n - 1) (reverse b.lines))
+abbrev pub notes_from : Book → CoreId → ℕ → List Note
+notes_from b c n = notes_of_lines c n (drop (n - 1) (reverse b.lines))
 
 -- what it is told of a whole book
 abbrev pub notes_of : Book → CoreId → List Note
-notes_of b c = left_at b c 1
+notes_of b c = notes_from b c 1
 
 -- the book when it had n lines after the boot
 abbrev pub cut : Book → ℕ → Book
@@ -67,35 +67,38 @@ abbrev pub later_notes : List Note → List Note
 later_notes [] = []
 later_notes (n ∷ ns) = ns
 
--- a call of which this became is right, where these notes are left and the book had so many lines before: it was told the next line, or turned away
--- rightly before that line came
-abbrev pub IsRightAt : Book → CoreId → List Note → ℕ → ObjId → Entry → Outcome → Type 0
-IsRightAt b c left low t e (Told a) = next_note left ≡ Some (record { line = a.line; thread = t; entry = e; answer = a.answer })
-IsRightAt b c left low t e (Away n f) = (low ≤ n) × (n ≤ next_line b left) × (fault_of (cut b (n - 1)) c t ≡ Some f)
+-- a call of which this became is right, where the core is still told these notes and the book had at least so many lines:
+-- it was told the next line, or turned away rightly before that line came
+abbrev pub IsRightAt : Book → CoreId → List Note → ℕ → Call → Outcome → Type 0
+IsRightAt b c notes lines x (Told a) = next_note notes ≡ Some (told_note x a)
+IsRightAt b c notes lines x (Away n f) = (lines ≤ n) × (n ≤ next_line b notes) × (fault_of (cut b (n - 1)) c x.thread ≡ Some f)
 
--- the same, of the call
+-- the same, of what became of it
 abbrev pub IsRight : Book → CoreId → List Note → ℕ → Call → Type 0
-IsRight b c left low x = IsRightAt b c left low x.thread x.entry x.outcome
+IsRight b c notes lines x = IsRightAt b c notes lines x x.outcome
 
--- the notes that are left after it
-abbrev pub left_after : Outcome → List Note → List Note
-left_after (Told a) left = later_notes left
-left_after (Away n f) left = left
+-- the notes that it is told after the call
+abbrev pub notes_after : Outcome → List Note → List Note
+notes_after (Told a) notes = later_notes notes
+notes_after (Away n f) notes = notes
 
 -- how many lines the book had then
-abbrev pub low_after : Outcome → ℕ
-low_after (Told a) = a.line + 1
-low_after (Away n f) = n
+abbrev pub lines_after : Outcome → ℕ
+lines_after (Told a) = a.line + 1
+lines_after (Away n f) = n
 
--- calls, the oldest first, are right one after another, and nothing is left
+-- calls, the oldest first, are right one after another, and the core is told no more
 abbrev pub AreRight : Book → CoreId → List Note → ℕ → List Call → Type 0
-AreRight b c left low [] = left ≡ []
-AreRight b c left low (x ∷ xs) = IsRight b c left low x × AreRight b c (left_after x.outcome left) (low_after x.outcome) xs
+AreRight b c notes lines [] = notes ≡ []
+AreRight b c notes lines (x ∷ xs) =
+    IsRight b c notes lines x × AreRight b c (notes_after x.outcome notes) (lines_after x.outcome) xs
 
--- the n-th of these calls is the first that is not right; or all are, n is one more than they are, and something is left
+-- the n-th of these calls is the first that is not right; or all are, n is one more than they are, and the core is told more
 abbrev pub IsTornAt : Book → CoreId → List Note → ℕ → List Call → ℕ → Type 0
-IsTornAt b c left low [] n = (n ≡ 1) × (left ≢ [])
-IsTornAt b c left low (x ∷ xs) n = ((n ≡ 1) × (IsRight b c left low x → ⊥)) ⊎ (IsRight b c left low x × IsTornAt b c (left_after x.outcome left) (low_after x.outcome) xs (n - 1) × (1 < n))
+IsTornAt b c notes lines [] n = (n ≡ 1) × (notes ≢ [])
+IsTornAt b c notes lines (x ∷ xs) n =
+    ((n ≡ 1) × (¬ (IsRight b c notes lines x)))
+    ⊎ (IsRight b c notes lines x × IsTornAt b c (notes_after x.outcome notes) (lines_after x.outcome) xs (n - 1) × (1 < n))
 
 -- what an outcome told
 abbrev pub notes_told : Call → Outcome → List Note

@@ -3,6 +3,7 @@
 
 mod call;
 mod laws;
+mod retrace;
 mod same;
 mod seat;
 mod settle;
