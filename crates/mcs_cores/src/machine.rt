@@ -1,9 +1,7 @@
 //! The machine: a kernel under a lock, and the seats of its cores (own).
-ghost use Rattle.std.specs.Prelude.{◌≡◌, ◌≤◌, ◌+◌, [], length, IfOk, IfErr, OnErr, OnOk, IsTrue, ◌↔◌, ◌||◌, is_ok, false, None};
-ghost use Rattle.mcs_book.specs.History.{IsLegal, log_of};
-ghost use Rattle.mcs_book.specs.Table.{does};
-ghost use Rattle.mcs_kernel.specs.Faults.{fault_of, with_entry};
-ghost use Rattle.mcs_seats.specs.Seats.{AreNew, noted, WhyTurned};
+ghost use Rattle.std.specs.Prelude.{◌≡◌, ◌≤◌, ◌+◌, [], length, IfOk, IfErr, OnErr, OnOk, IsTrue, ◌↔◌, ◌||◌, is_ok, false};
+ghost use Rattle.mcs_book.specs.History.{IsLegal};
+ghost use Rattle.mcs_seats.specs.Seats.{AreNew, Enters, noted};
 ghost use Rattle.mcs_seats.specs.Settling.{AllAgree, HasSeats, HasReason};
 
 use mcs_kernel::{Boot, Kernel};
@@ -18,28 +16,28 @@ use std::sync::{Mutex, MutexGuard, Wait};
 /// What lies under the lock: the kernel, and the ledger of the lines that seats were told. Clauses see the kernel's book. The
 /// ledger's total is the number of lines after the boot, and a part of it is each core's.
 #[derive(Drop)]
-pub struct Hall<G: Ledger, L: Lines> {
+pub struct LockedKernel<G: Ledger, L: Lines> {
     kernel: Kernel<L>,
     book: Book<G>,
     rest: Share<G>,
     given: bool,
 }
 
-impl<G: Ledger, L: Lines> Model for Hall<G, L> {
+impl<G: Ledger, L: Lines> Model for LockedKernel<G, L> {
     ghost use Rattle.std.specs.Prelude.{◌≡◌, ◌+◌, length, if◌then◌else◌};
     ghost use Rattle.mcs_types.specs.Limits.{core_limit};
     ghost use Rattle.mcs_book.specs.History.{Book};
 
     ghost Value = { Book };
 
-    ghost view = { λ h. h.kernel };
+    ghost view = { λ k. k.kernel };
 
-    ghost invariant = { λ h. (h.book.total ≡ length h.kernel.lines)
-        × (h.rest.parts + (if h.given then h.kernel.boot.cores else 0) ≡ core_limit)
-        × (h.rest.amount ≡ 0) × (G.parts ≡ core_limit) };
+    ghost invariant = { λ k. (k.book.total ≡ length k.kernel.lines)
+        × (k.rest.parts + (if k.given then k.kernel.boot.cores else 0) ≡ core_limit)
+        × (k.rest.amount ≡ 0) × (G.parts ≡ core_limit) };
 }
 
-impl<G: Ledger, L: Lines> Hall<G, L> {
+impl<G: Ledger, L: Lines> LockedKernel<G, L> {
     /// The kernel, to look at.
     pub(crate) fn kernel(&self) -> &Kernel<L>
         ensures { result.now ≡ self.now }
@@ -55,14 +53,7 @@ impl<G: Ledger, L: Lines> Hall<G, L> {
         thread: ObjId,
         entry: Entry,
     ) -> Result<Answered, Turned>
-        ensures seat { seat.new ≡ noted seat.old thread entry result }
-        ensures let_in { OnOk result (fault_of self.old seat.old.core thread ≡ None) }
-        ensures number { IfOk result (λ a. a.line ≡ length self.old.lines + 1) }
-        ensures line { OnOk result (self.new ≡ with_entry self.old seat.old.core thread entry) }
-        ensures answer { IfOk result (λ a. a.answer
-            ≡ (does (log_of self.old) seat.old.core thread entry).answer) }
-        ensures unchanged { OnErr result (self.new ≡ self.old) }
-        ensures away { IfErr result (WhyTurned self.old seat.old.core thread) }
+        ensures { Enters seat.old seat.new self.old self.new thread entry result }
     {
         seat.enter(alloc, &mut self.kernel, &mut self.book, thread, entry)
     }
@@ -78,16 +69,16 @@ impl<G: Ledger, L: Lines> Hall<G, L> {
         }
         let cores = self.kernel.book().cores();
         self.kernel.is_fair();
-        let seats = deal(alloc, &mut self.rest, cores)?;
+        let seats = new_seats(alloc, &mut self.rest, cores)?;
         self.given = true;
         Ok(seats)
     }
 
     /// The kernel, when the lock is gone.
-    pub(crate) fn into_kernel(self) -> Kernel<L>
+    fn into_kernel(self) -> Kernel<L>
         ensures { result ≡ self }
     {
-        let Hall {
+        let LockedKernel {
             kernel,
             book: _,
             rest: _,
@@ -98,7 +89,7 @@ impl<G: Ledger, L: Lines> Hall<G, L> {
 }
 
 /// As many seats, each with a part of the ledger.
-fn deal<G: Ledger>(
+fn new_seats<G: Ledger>(
     alloc: Global,
     rest: &mut Share<G>,
     cores: u8,
@@ -125,7 +116,7 @@ fn deal<G: Ledger>(
 /// A kernel that cores share: each entry has the lock for itself, from its first test to its last record.
 #[derive(Drop)]
 pub struct Machine<G: Ledger, L: Lines> {
-    hall: Mutex<Hall<G, L>>,
+    kernel: Mutex<LockedKernel<G, L>>,
     given: bool,
 }
 
@@ -149,7 +140,7 @@ impl<G: Ledger, L: Lines> Machine<G, L> {
     {
         let (book, rest) = blank.open::<G>();
         Machine {
-            hall: Mutex::new(Hall {
+            kernel: Mutex::new(LockedKernel {
                 kernel,
                 book,
                 rest,
@@ -169,7 +160,7 @@ impl<G: Ledger, L: Lines> Machine<G, L> {
         if self.given {
             return Err(SeatsFault::AlreadyGiven);
         }
-        match self.hall.lock(rt).seats(alloc) {
+        match self.kernel.lock(rt).seats(alloc) {
             Ok(seats) => {
                 self.given = true;
                 Ok(seats)
@@ -179,14 +170,14 @@ impl<G: Ledger, L: Lines> Machine<G, L> {
     }
 
     /// The lock.
-    pub(crate) fn hall<R: Wait>(&self, rt: &R) -> MutexGuard<'_, Hall<G, L>> {
-        self.hall.lock(rt)
+    pub(crate) fn lock<R: Wait>(&self, rt: &R) -> MutexGuard<'_, LockedKernel<G, L>> {
+        self.kernel.lock(rt)
     }
 
-    /// What lay under the lock.
-    pub(crate) fn into_hall(self) -> Hall<G, L> {
-        let Machine { hall, given: _ } = self;
-        hall.into_inner()
+    /// The kernel that lay under the lock.
+    fn into_kernel(self) -> Kernel<L> {
+        let Machine { kernel, given: _ } = self;
+        kernel.into_inner().into_kernel()
     }
 
     /// Lets in an entry of a thread on the seat's core, or turns it away; the seat keeps the entry and what became of it. It
@@ -202,7 +193,7 @@ impl<G: Ledger, L: Lines> Machine<G, L> {
     ) -> Result<Answered, Turned>
         ensures { seat.new ≡ noted seat.old thread entry result }
     {
-        self.hall.lock(rt).enter(alloc, seat, thread, entry)
+        self.kernel.lock(rt).enter(alloc, seat, thread, entry)
     }
 
     /// Compares what the seats were told with the book, as settle_seats does, and hands the kernel back where all agree. No
@@ -219,7 +210,7 @@ impl<G: Ledger, L: Lines> Machine<G, L> {
         ensures agree { IfOk result (λ s. AllAgree s seats.items) }
         ensures fault { IfErr result (HasReason boot.now seats.items) }
     {
-        let kernel = self.into_hall().into_kernel();
+        let kernel = self.into_kernel();
         kernel.is_fair();
         settle_seats(alloc, kernel, boot, &seats)
     }

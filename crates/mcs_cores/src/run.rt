@@ -26,22 +26,21 @@ pub enum RunFault {
     NoThread = 3,
 }
 
-/// What the cores share beside the machine: how far the users are, and the news that it changed. Its lock is taken before
-/// the kernel's.
+/// How far the users are, and the news that it changed. Its lock is taken before the kernel's.
 #[derive(Drop)]
-struct Desk {
+struct SharedPositions {
     positions: Mutex<Positions>,
-    moved: Condvar,
+    changed: Condvar,
 }
 
 /// All that the threads of a run share.
 #[derive(Drop)]
-struct Floor<'a, G: Ledger, L: Lines, T: Gate> {
+struct RunContext<'a, G: Ledger, L: Lines, T: Gate> {
     alloc: Global,
     machine: &'a Machine<G, L>,
     users: &'a Users,
     gate: &'a T,
-    desk: &'a Desk,
+    shared: &'a SharedPositions,
 }
 
 /// A core that is done: its seat, and how it ended.
@@ -62,35 +61,35 @@ fn ends_run(turned: Turned) -> Result<(), RunFault> {
     }
 }
 
-impl Desk {
+impl SharedPositions {
     /// Ends the run for all cores: they stop at their next turn.
     fn close<R: Wait>(&self, rt: &R) {
         self.positions.lock(rt).over = true;
-        self.moved.notify_all();
+        self.changed.notify_all();
     }
 }
 
-impl<G: Ledger, L: Lines, T: Gate> Floor<'_, G, L, T> {
+impl<G: Ledger, L: Lines, T: Gate> RunContext<'_, G, L, T> {
     /// Waits until the core can pick something; None where the run is over.
     fn pick<R: Wait>(&self, rt: &R, core: CoreId) -> Option<Turn> {
-        let mut positions = self.desk.positions.lock(rt);
+        let mut positions = self.shared.positions.lock(rt);
         for _ in rt.forever() {
             if positions.over {
                 return None;
             }
             // The kernel's lock is given up here: a core that waits below must not keep it.
-            let sight = positions.find(self.machine.hall(rt).kernel(), self.users, core);
+            let sight = positions.find(self.machine.lock(rt).kernel(), self.users, core);
             match sight {
                 Sight::Picked(turn) => return Some(turn),
                 Sight::Nothing => {
                     let seen = positions.turns;
-                    positions = self.desk.moved.wait_while(rt, positions, |positions| {
+                    positions = self.shared.changed.wait_while(rt, positions, |positions| {
                         !positions.over && positions.turns == seen
                     });
                 }
                 Sight::End => {
                     positions.over = true;
-                    self.desk.moved.notify_all();
+                    self.shared.changed.notify_all();
                     return None;
                 }
             }
@@ -102,7 +101,7 @@ impl<G: Ledger, L: Lines, T: Gate> Floor<'_, G, L, T> {
     /// positions stay locked from the test whether they moved until they are moved on.
     fn enter<R: Wait>(&self, rt: &R, seat: &mut CoreSeat<G>, turn: Turn) -> Result<(), RunFault> {
         let entered = self
-            .desk
+            .shared
             .positions
             .lock(rt)
             .enter(rt, self.alloc, self.machine, seat, turn);
@@ -110,7 +109,7 @@ impl<G: Ledger, L: Lines, T: Gate> Floor<'_, G, L, T> {
             None => Ok(()),
             Some(Err(turned)) => ends_run(turned),
             Some(Ok(answered)) => {
-                self.desk.moved.notify_all();
+                self.shared.changed.notify_all();
                 self.gate.answered(seat.core(), answered.line);
                 Ok(())
             }
@@ -133,42 +132,19 @@ impl<G: Ledger, L: Lines, T: Gate> Floor<'_, G, L, T> {
 /// What the thread of a core does. Its fault ends the run.
 fn serve<G: Ledger, L: Lines, T: Gate, R: Wait>(
     rt: &R,
-    floor: &Floor<'_, G, L, T>,
+    context: &RunContext<'_, G, L, T>,
     seat: CoreSeat<G>,
 ) -> Done<G> {
     let mut seat = seat;
-    let result = floor.work(rt, &mut seat);
+    let result = context.work(rt, &mut seat);
     if result.is_err() {
-        floor.desk.close(rt);
+        context.shared.close(rt);
     }
     (seat, result)
 }
 
-/// Starts the thread of a core. Where it is refused, the run ends.
-fn start<
-    's,
-    E,
-    G: Ledger + Send + Sync + 's,
-    L: Lines + Send + Sync + 's,
-    T: Gate + 's,
-    R: Threads + Wait + Sync + 's,
->(
-    scope: &thread::Scope<'s, E>,
-    rt: &'s R,
-    floor: &'s Floor<'s, G, L, T>,
-    seat: CoreSeat<G>,
-) -> Option<thread::JoinHandle<Done<G>>> {
-    match scope.spawn(move || serve(rt, floor, seat)) {
-        Ok(handle) => Some(handle),
-        Err(_) => {
-            floor.desk.close(rt);
-            None
-        }
-    }
-}
-
-/// The fault of the lower core.
-fn lower(
+/// The fault of the lowest core so far.
+fn lowest_fault(
     fault: Option<(CoreId, RunFault)>,
     core: CoreId,
     other: RunFault,
@@ -179,7 +155,8 @@ fn lower(
     }
 }
 
-/// Starts a thread for each seat; with the fault of the lowest core whose thread was refused. There is room for them all.
+/// Starts a thread for each seat, for which there is room; where one is refused, the run ends with the fault of the lowest
+/// core.
 fn start_all<
     's,
     E,
@@ -190,7 +167,7 @@ fn start_all<
 >(
     scope: &thread::Scope<'s, E>,
     rt: &'s R,
-    floor: &'s Floor<'s, G, L, T>,
+    context: &'s RunContext<'s, G, L, T>,
     seats: Vec<CoreSeat<G>>,
     mut running: Running<G>,
 ) -> (Running<G>, Option<(CoreId, RunFault)>)
@@ -201,12 +178,15 @@ fn start_all<
     let mut fault = None;
     for seat in seats {
         let core = seat.core();
-        match start(scope, rt, floor, seat) {
-            Some(handle) => match running.push(handle) {
+        match scope.spawn(move || serve(rt, context, seat)) {
+            Ok(handle) => match running.push(handle) {
                 Ok(()) => {}
                 Err(_) => unreachable!(),
             },
-            None => fault = lower(fault, core, RunFault::NoThread),
+            Err(_) => {
+                context.shared.close(rt);
+                fault = lowest_fault(fault, core, RunFault::NoThread);
+            }
         }
     }
     (running, fault)
@@ -226,7 +206,7 @@ fn join_all<G: Ledger, R: Threads>(
     for handle in running {
         let (seat, result) = handle.join(rt);
         if let Err(found) = result {
-            fault = lower(fault, seat.core(), found);
+            fault = lowest_fault(fault, seat.core(), found);
         }
         match back.push(seat) {
             Ok(()) => {}
@@ -242,7 +222,7 @@ fn join_all<G: Ledger, R: Threads>(
 /// Starts a thread for each seat and joins them.
 fn run_all<G: Ledger + Send + Sync, L: Lines + Send + Sync, T: Gate, R: Threads + Wait + Sync>(
     rt: &R,
-    floor: &Floor<'_, G, L, T>,
+    context: &RunContext<'_, G, L, T>,
     seats: Vec<CoreSeat<G>>,
     running: Running<G>,
     back: Vec<CoreSeat<G>>,
@@ -261,7 +241,7 @@ fn run_all<G: Ledger + Send + Sync, L: Lines + Send + Sync, T: Gate, R: Threads 
             requires room_back { vec_len seats ≤ vec_capacity back }
             requires empty_back { vec_len back ≡ 0 }
         {
-            let (running, refused) = start_all(scope, rt, floor, seats, running);
+            let (running, refused) = start_all(scope, rt, context, seats, running);
             join_all(rt, running, refused, back)
         },
     )
@@ -296,17 +276,17 @@ impl<G: Ledger + Send + Sync, L: Lines + Send + Sync> Machine<G, L> {
         let Ok(back) = Vec::with_capacity(alloc, seats.len()) else {
             return (seats, Err(RunFault::OutOfMemory));
         };
-        let desk = Desk {
+        let shared = SharedPositions {
             positions: Mutex::new(positions),
-            moved: Condvar::new(),
+            changed: Condvar::new(),
         };
-        let floor = Floor {
+        let context = RunContext {
             alloc,
             machine: self,
             users,
             gate,
-            desk: &desk,
+            shared: &shared,
         };
-        run_all(rt, &floor, seats, running, back)
+        run_all(rt, &context, seats, running, back)
     }
 }

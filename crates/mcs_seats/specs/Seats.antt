@@ -1,10 +1,11 @@
 -- What a seat keeps. Calls stand newest first.
-use Rattle.std.specs.Prelude.{ℕ, ◌≡◌, ◌+◌, ◌<◌, List, [], ◌∷◌, length, slice_index_or, Result, Ok, Err, Some}
+use Rattle.std.specs.Prelude.{ℕ, ◌≡◌, ◌+◌, ◌<◌, List, [], ◌∷◌, length, slice_index_or, Result, Ok, Err, Some, None, OnOk, OnErr, IfOk, IfErr}
 use Rattle.mcs_types.specs.declared.id.CoreId.{CoreId}
 use Rattle.mcs_types.specs.declared.id.ObjId.{ObjId}
 use Rattle.mcs_types.specs.declared.entry.Entry.{Entry}
-use Rattle.mcs_book.specs.History.{Book}
-use Rattle.mcs_kernel.specs.Faults.{fault_of}
+use Rattle.mcs_book.specs.History.{Book, log_of}
+use Rattle.mcs_book.specs.Table.{does}
+use Rattle.mcs_kernel.specs.Faults.{fault_of, with_entry}
 use Rattle.mcs_seats.specs.declared.call.Answered.{Answered}
 use Rattle.mcs_seats.specs.declared.call.Outcome.{Outcome}
 use Rattle.mcs_seats.specs.declared.call.Outcome.TheVariants.{Told, Away}
@@ -41,6 +42,17 @@ noted s t e (Err turned.OutOfMemory) = s
 abbrev pub WhyTurned : Book → CoreId → ObjId → Turned → Type 0
 WhyTurned b c t (turned.Away n f) = (n ≡ length b.lines + 1) × (fault_of b c t ≡ Some f)
 WhyTurned b c t turned.OutOfMemory = Unit {0}
+
+-- an entry of a thread that had this result: the seat keeps what became of it, and the book has its line and gave its answer,
+-- or is as it was where it was turned away
+pub record Enters (old new : Seat) (before after : Book) (t : ObjId) (e : Entry) (r : Result Answered Turned) : Type 0 where
+  pub seat : new ≡ noted old t e r
+  pub let_in : OnOk r (fault_of before old.core t ≡ None)
+  pub number : IfOk r (λ a. a.line ≡ length before.lines + 1)
+  pub line : OnOk r (after ≡ with_entry before old.core t e)
+  pub answer : IfOk r (λ a. a.answer ≡ (does (log_of before) old.core t e).answer)
+  pub unchanged : OnErr r (after ≡ before)
+  pub away : IfErr r (WhyTurned before old.core t)
 
 -- a seat for each core in order, which was told nothing
 abbrev pub AreNew : List Seat → Type 0

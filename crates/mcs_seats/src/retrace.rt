@@ -1,5 +1,5 @@
 //! Whether the calls of a core agree with a book, line by line (own).
-ghost use Rattle.std.specs.Prelude.{◌≡◌, ◌≤◌, ◌+◌, [], IfOk, IfSome, IfNone, IsTrue, ◌↔◌, OnOk, length, Some};
+ghost use Rattle.std.specs.Prelude.{◌≡◌, ◌≤◌, ◌+◌, IfOk, IfSome, IfNone, IsTrue, ◌↔◌, OnOk, length, Some};
 ghost use Rattle.mcs_book.specs.History.{line_of_number};
 ghost use Rattle.mcs_seats.specs.Settling.{notes_of, note_of, told_note, AreRight, IsTornAt};
 ghost use Rattle.mcs_seats.specs.Trails.{IsKernelBook, PassesForeign, IsNextLine, IsFollowed};

@@ -1,8 +1,5 @@
 //! The seat of a core: its calls, and its share of the ledger of lines (own).
-ghost use Rattle.std.specs.Prelude.{◌≡◌, ◌<◌, ◌+◌, ◌++◌, ◌∷◌, [], reverse, length, vec_len, vec_capacity, None, IfOk, IfErr, OnOk, OnErr, is_ok, if◌then◌else◌};
-ghost use Rattle.mcs_book.specs.History.{log_of};
-ghost use Rattle.mcs_book.specs.Table.{does};
-ghost use Rattle.mcs_kernel.specs.Faults.{fault_of, with_entry};
+ghost use Rattle.std.specs.Prelude.{◌≡◌, ◌<◌, ◌+◌, ◌++◌, ◌∷◌, [], reverse, vec_len, vec_capacity, is_ok, if◌then◌else◌};
 
 use crate::call::{Answered, Call, Outcome, Turned};
 use mcs_kernel::{EnterFault, Kernel};
@@ -50,7 +47,7 @@ fn keep(calls: &mut Vec<Call>, thread: ObjId, entry: Entry, outcome: Outcome)
 }
 
 impl<G: Ledger> CoreSeat<G> {
-    ghost use Rattle.mcs_seats.specs.Seats.{noted, WhyTurned};
+    ghost use Rattle.mcs_seats.specs.Seats.{Enters};
 
     /// A seat with one part of the ledger.
     pub fn new(alloc: Global, core: CoreId, share: Share<G>) -> CoreSeat<G>
@@ -89,15 +86,7 @@ impl<G: Ledger> CoreSeat<G> {
         thread: ObjId,
         entry: Entry,
     ) -> Result<Answered, Turned>
-        ensures seat { self.new ≡ noted self.old thread entry result }
-        ensures let_in { OnOk result (fault_of kernel.old self.old.core thread ≡ None) }
-        ensures number { IfOk result (λ a. a.line ≡ length kernel.old.lines + 1) }
-        ensures line { OnOk result (kernel.new
-            ≡ with_entry kernel.old self.old.core thread entry) }
-        ensures answer { IfOk result (λ a. a.answer
-            ≡ (does (log_of kernel.old) self.old.core thread entry).answer) }
-        ensures unchanged { OnErr result (kernel.new ≡ kernel.old) }
-        ensures away { IfErr result (WhyTurned kernel.old self.old.core thread) }
+        ensures entered { Enters self.old self.new kernel.old kernel.new thread entry result }
         ensures total { book.new.total ≡ book.old.total + (if is_ok result then 1 else 0) }
     {
         if self.calls.reserve(1).is_err() {

@@ -111,6 +111,23 @@ fn is_away(away: &[TurnedAway], lines: usize, fault: EnterFault) -> bool {
     away.len() == 1 && away.first() == Some(&turned)
 }
 
+/// Takes this context from the first thread, and gives it another.
+fn rebind(context: u64, other: u64) -> [Entry; 2] {
+    [
+        Entry::UnbindCtx { context },
+        Entry::BindCtx {
+            context: other,
+            thread: 1,
+        },
+    ]
+}
+
+/// The line of the first thread's signal on a core: the address is of a thread.
+fn refused(core: u8) -> (u8, u32, Entry, Answer) {
+    let answer = Answer::Refused(Refusal::WrongKind);
+    (core, 1, Entry::Signal { cap: 1 }, answer)
+}
+
 #[test]
 fn gate_row_16(rt: HostRuntime) -> Result<(), Fail> {
     let entries = [Entry::Suspend { thread: 1 }];
@@ -151,8 +168,7 @@ fn a_lower_priority_keeps_the_pick(rt: HostRuntime) -> Result<(), Fail> {
     let ran = crossed(&rt, rt.alloc(), &with_free_context(rt.alloc())?, &entries)?;
     assert!(rt; ran.away.is_empty());
     let mut lines = done(rt.alloc(), &entries)?;
-    let refused = Answer::Refused(Refusal::WrongKind);
-    lines.push((0, 1, Entry::Signal { cap: 1 }, refused))?;
+    lines.push(refused(0))?;
     assert!(rt; has_lines(ran.settled.book(), &lines));
     Ok(())
 }
@@ -160,18 +176,11 @@ fn a_lower_priority_keeps_the_pick(rt: HostRuntime) -> Result<(), Fail> {
 /// Another core may give the entry before it is entered, which the position tells, or after it was turned away.
 #[test]
 fn a_thread_that_changed_its_core_gives_its_entry_once(rt: HostRuntime) -> Result<(), Fail> {
-    let entries = [
-        Entry::UnbindCtx { context: 2 },
-        Entry::BindCtx {
-            context: 4,
-            thread: 1,
-        },
-    ];
+    let entries = rebind(2, 4);
     let ran = crossed(&rt, rt.alloc(), &with_free_context(rt.alloc())?, &entries)?;
     assert!(rt; ran.away.is_empty() || is_away(&ran.away, 3, EnterFault::WrongCore));
     let mut lines = done(rt.alloc(), &entries)?;
-    let refused = Answer::Refused(Refusal::WrongKind);
-    lines.push((1, 1, Entry::Signal { cap: 1 }, refused))?;
+    lines.push(refused(1))?;
     assert!(rt; has_lines(ran.settled.book(), &lines));
     Ok(())
 }
@@ -179,20 +188,8 @@ fn a_thread_that_changed_its_core_gives_its_entry_once(rt: HostRuntime) -> Resul
 /// The thread comes back to its core, where its only entry was picked before the other core entered it.
 #[test]
 fn a_moved_position_is_not_entered(rt: HostRuntime) -> Result<(), Fail> {
-    let away = [
-        Entry::UnbindCtx { context: 2 },
-        Entry::BindCtx {
-            context: 4,
-            thread: 1,
-        },
-    ];
-    let back = [
-        Entry::UnbindCtx { context: 4 },
-        Entry::BindCtx {
-            context: 2,
-            thread: 1,
-        },
-    ];
+    let away = rebind(2, 4);
+    let back = rebind(4, 2);
     let mut entries = Vec::new(rt.alloc());
     for entry in away.iter().chain(back.iter()) {
         entries.push(entry.copy())?;
@@ -206,8 +203,7 @@ fn a_moved_position_is_not_entered(rt: HostRuntime) -> Result<(), Fail> {
     )?;
     assert!(rt; ran.away.is_empty());
     let mut lines = done(rt.alloc(), &away)?;
-    let refused = Answer::Refused(Refusal::WrongKind);
-    lines.push((1, 1, Entry::Signal { cap: 1 }, refused))?;
+    lines.push(refused(1))?;
     for line in done(rt.alloc(), &back)? {
         lines.push(line)?;
     }

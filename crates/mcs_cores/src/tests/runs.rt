@@ -1,6 +1,5 @@
 //! A run from its boot to its settled book.
 ghost use Rattle.std.specs.Prelude.{◌≡◌};
-ghost use Rattle.mcs_types.specs.Limits.{core_limit};
 
 use super::boots::thread;
 use crate::{CoreSeat, Gate, Machine, Outcome, SeatsFault, Settled, Users};

@@ -1,6 +1,6 @@
 use Rattle.std.proofs.Common.{◌≡◌, [], ℕ, ap, ◌∙◌, sym, length, arith, rules}
 use Rattle.mcs_cores.proofs.Fresh.{new-push}
-use Rattle.mcs_cores.proofs.machine.deal.Goals as goal
+use Rattle.mcs_cores.proofs.machine.new_seats.Goals as goal
 
 pub loop-core-preserved : goal.loop-core-preserved
 loop-core-preserved g c =
