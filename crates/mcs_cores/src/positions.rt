@@ -130,7 +130,8 @@ impl Positions {
         let user = users.find(thread)?;
         let position = self.users.get(user)?;
         let number = position.due(kernel, thread);
-        let entry = users.lists().get(user)?.entries.get(number)?;
+        let list = users.lists().get(user)?;
+        let entry = list.entries.get(number)?;
         Some(Turn {
             thread,
             entry: entry.copy(),
