@@ -1,6 +1,7 @@
 #!/bin/sh
 # Refuses each allocation in turn: crates/mcs_retries gives each call once more that memory was refused to, and writes the same
-# trace; mcssim ends with status 6 and a beginning of the trace, or with status 0 and all of it, which is counted. Run it after
+# trace; mcssim replay ends with status 6 and a beginning of the trace, or with status 0 and all of it, which is counted; mcssim run
+# ends with status 6 or 7 and nothing written, or with status 0 and a trace that gives itself again. Run it after
 # `rt ci`, which leaves the programs in the folders out/; it proves and builds one that is not there. It needs a C compiler, for
 # the library below.
 set -eu
@@ -21,7 +22,7 @@ static long made;
 
 static int is_refused(void) {
     const char *wanted = getenv("REFUSED");
-    if (!wanted || ++made != atol(wanted)) return 0;
+    if (!wanted || __atomic_add_fetch(&made, 1, __ATOMIC_SEQ_CST) != atol(wanted)) return 0;
     close(open(getenv("COUNTED"), O_CREAT | O_WRONLY, 0600));
     return 1;
 }
@@ -48,14 +49,15 @@ build() {
 build mcs_retries
 build mcssim replay
 
-# Runs a program with the allocation of this number refused: its output is in $work/out, its status in $status. It fails
-# where the program made fewer allocations.
+# Runs a program on $input with the allocation of this number refused: its output is in $work/out, its status in $status. It
+# fails where the program made fewer allocations.
+input=crates/mcssim/stdin
 refuse() {
     number=$1
     shift
     rm -f "$work/counted"
     status=0
-    REFUSED=$number COUNTED=$work/counted LD_PRELOAD=$work/refuse.so "$@" >"$work/out" 2>"$work/err" <crates/mcssim/stdin || status=$?
+    REFUSED=$number COUNTED=$work/counted LD_PRELOAD=$work/refuse.so "$@" >"$work/out" 2>"$work/err" <"$input" || status=$?
     [ -e "$work/counted" ]
 }
 
@@ -78,5 +80,23 @@ while refuse $number crates/mcssim/out/mcssim replay; do
     [ $status -eq 0 ] || [ $status -eq 6 ] || { echo "allocation $number: status $status"; exit 1; }
     number=$((number + 1))
 done
-echo "mcssim: $((number - 1)) allocations, each refused in turn; $survived left the whole trace with status 0, the others status 6"
+echo "mcssim replay: $((number - 1)) allocations, each refused in turn; $survived left the whole trace with status 0, the others status 6"
+[ $number -gt 1 ]
+
+survived=0
+number=1
+input=examples/two-cores.mcs
+while refuse $number crates/mcssim/out/mcssim run; do
+    case $status in
+    0)
+        survived=$((survived + 1))
+        [ "$(grep -c '^= ' "$work/out")" -eq 7 ]
+        crates/mcssim/out/mcssim replay <"$work/out" | cmp - "$work/out"
+        ;;
+    6 | 7) [ ! -s "$work/out" ] ;;
+    *) echo "allocation $number: status $status" && exit 1 ;;
+    esac
+    number=$((number + 1))
+done
+echo "mcssim run: about $((number - 1)) allocations, each refused in turn; $survived left a whole trace with status 0, the others nothing"
 [ $number -gt 1 ]

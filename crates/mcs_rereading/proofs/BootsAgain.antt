@@ -24,11 +24,11 @@ use Rattle.mcs_types.proofs.Ids.{parts}
 use Rattle.mcs_book.proofs.SoundLogs.SoundBooks.{legal-sound}
 use Rattle.mcs_book.proofs.Queues.Standings.{line-checked}
 use Rattle.mcs_text.specs.Table.{form_line, boot_form, cores_form}
-use Rattle.mcs_text.specs.Laws.{IsContextName, FitsLine, raw_context, raw_cap, raw_of, IsLineReadAgain}
-use Rattle.mcs_text.proofs.RoundTrip.{below-is}
-use Rattle.mcs_text.proofs.BootLinesAgain.{boot_line-again, cores_line-words, boot_key-cores, cores_line-again}
+use Rattle.mcs_rereading.specs.LineLaws.{IsContextName, FitsLine, raw_context, raw_cap, raw_of, IsLineReadAgain}
+use Rattle.mcs_rereading.proofs.RoundTrip.{below-is}
+use Rattle.mcs_rereading.proofs.BootLinesAgain.{boot_line-again, cores_line-words, boot_key-cores, cores_line-again}
 use Rattle.mcs_sim.specs.BootLines.{context_of, cores_of, cap_of, fitted, if_passed, with_line}
-use Rattle.mcs_sim.specs.Script.{no_script, first_boot, next_boot, later_line, by_boot, spelled}
+use Rattle.mcs_sim.specs.Script.{of_steps, no_script, first_boot, next_boot, later_line, by_boot, spelled}
 use Rattle.mcs_rereading.proofs.BootFacts.{guard-fits, kind-fits, FitsTypes, kind-types, radix-few, IsBootName, boot-made, boot-name, named, object-again}
 use Rattle.mcs_rereading.proofs.Scripts.{so_far}
 use Rattle.mcs_rereading.proofs.WholeTraces.{AreCoresAgain, IsBootAgain, AreBootAgain}
@@ -150,7 +150,7 @@ boot-again cores lines line limit sound few ok =
     let known : IsAgainAfter (boot_log lines) line = line-again cores lines line limit sound few ok in
     let read : IsLineReadAgain line = boot_line-again line known.fits in
     let next : next_boot b read.key read.words ≡ Ok (record { cores = cores; lines = line ∷ lines }) = rw (read.read, known.again) (passed-adds b line (boot_check cores (boot_log lines) line) ok) in
-    ap (spelled (so_far b []) text) read.split ∙ ap (λ key. by_boot (Some b) [] text key read.words) read.found ∙ rw next refl
+    ap (spelled of_steps (so_far b []) text) read.split ∙ ap (λ key. by_boot of_steps (Some b) [] text key read.words) read.found ∙ rw next refl
 
 -- so is each line of a boot without fault
 pub boots-again : (cores : ℕ) (lines : List BootLine) → IsFaultless (record { cores = cores; lines = lines }) → length lines ≤ 2000000 → AreBootAgain cores lines
@@ -167,4 +167,4 @@ pub cores-again : (cores : ℕ) → 1 ≤ cores → cores ≤ core_limit → Are
 unfolding AreCoresAgain spelled by_boot first_boot cores_of
 cores-again cores some few =
     let text : List ℕ = form_line (cores_form cores) in
-    ap (spelled no_script text) (cores_line-words cores) ∙ ap (λ key. by_boot None [] text key (decimal cores ∷ [])) boot_key-cores ∙ rw (cores_line-again cores (omega arith), le-leb 1 cores some, le-leb cores core_limit few) refl
+    ap (spelled of_steps no_script text) (cores_line-words cores) ∙ ap (λ key. by_boot of_steps None [] text key (decimal cores ∷ [])) boot_key-cores ∙ rw (cores_line-again cores (omega arith), le-leb 1 cores some, le-leb cores core_limit few) refl

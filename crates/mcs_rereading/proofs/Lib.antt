@@ -1,3 +1,8 @@
+pub mod RoundTrip
+pub mod TextBytes
+pub mod FormWords
+pub mod EntryLines
+pub mod BootLinesAgain
 mod Lengths
 mod Lines
 mod Scripts

@@ -33,7 +33,7 @@ boot-few b =
     omega (arith, all, count)
 
 -- the trace of such a book gives its boot and its steps
-pub legal-again : (b : Book) → IsReadable b → steps (trace b) ≡ (record { boot = Some b.boot; steps = steps_of b }, None)
+pub legal-again : (b : Book) → IsReadable b → steps (trace b) ≡ (record { boot = Some b.boot; items = steps_of b }, None)
 legal-again b is =
     let few : length b.boot.lines ≤ 2000000 = omega (arith, boot-few b, is.short) in
     let again : IsAgain b = record {
@@ -46,4 +46,4 @@ legal-again b is =
 -- and so it is written again
 pub legal-written : (b : Book) → IsReadable b → written (trace b) ≡ trace b
 unfolding script_trace
-legal-written b is = written-is (trace b) (record { boot = Some b.boot; steps = steps_of b }) None (legal-again b is) ∙ ap trace (legal-replayed b is.legal)
+legal-written b is = written-is (trace b) (record { boot = Some b.boot; items = steps_of b }) None (legal-again b is) ∙ ap trace (legal-replayed b is.legal)

@@ -11,8 +11,8 @@ use Rattle.mcs_book.specs.History.{Line, Book, steps_of}
 use Rattle.mcs_text.specs.Table.{Form, form_line, cores_form, boot_form, entry_form, answer_form}
 use Rattle.mcs_text.specs.Reading.{lines_of, words_of}
 use Rattle.mcs_sim.specs.Trace.{sent_with, sent_after, sent_in, trace}
-use Rattle.mcs_sim.specs.Script.{Script, no_script, spelled, read_line, script_from, steps}
-use Rattle.mcs_text.proofs.TextBytes.{boot_line-first, answer_line-first}
+use Rattle.mcs_sim.specs.Script.{Script, of_steps, no_script, spelled, read_line, script_from, script_of, steps}
+use Rattle.mcs_rereading.proofs.TextBytes.{boot_line-first, answer_line-first}
 use Rattle.mcs_rereading.proofs.Lengths.{IsSmall, length-line}
 use Rattle.mcs_rereading.proofs.Lines.{record_forms, line_forms, lines_forms, trace_forms, lines_of-trace}
 use Rattle.mcs_rereading.proofs.Scripts.{Takes, takes-none, takes-one, takes-then, takes-records, read_line-skipped, read_line-spelled, so_far, AreSmall, IsStepAgain, read_line-step}
@@ -21,11 +21,11 @@ use Rattle.mcs_rereading.proofs.Scripts.{Takes, takes-none, takes-one, takes-the
 
 -- the line of the number of cores begins a boot of no line
 unfoldable pub AreCoresAgain : ℕ → Type 0
-AreCoresAgain cores = spelled no_script (form_line (cores_form cores)) (words_of (form_line (cores_form cores))) ≡ Ok (so_far (record { cores = cores; lines = [] }) [])
+AreCoresAgain cores = spelled of_steps no_script (form_line (cores_form cores)) (words_of (form_line (cores_form cores))) ≡ Ok (so_far (record { cores = cores; lines = [] }) [])
 
 -- a line of the boot, after those before it, is read as that line
 unfoldable pub IsBootAgain : ℕ → List BootLine → BootLine → Type 0
-IsBootAgain cores lines line = spelled (so_far (record { cores = cores; lines = lines }) []) (form_line (boot_form line)) (words_of (form_line (boot_form line))) ≡ Ok (so_far (record { cores = cores; lines = line ∷ lines }) [])
+IsBootAgain cores lines line = spelled of_steps (so_far (record { cores = cores; lines = lines }) []) (form_line (boot_form line)) (words_of (form_line (boot_form line))) ≡ Ok (so_far (record { cores = cores; lines = line ∷ lines }) [])
 
 -- so are all of them
 unfoldable pub AreBootAgain : ℕ → List BootLine → Type 0
@@ -53,9 +53,9 @@ takes-boot cores (line ∷ lines) again few =
     let split : map form_line (map boot_form (reverse (line ∷ lines))) ≡ before ++ form_line f ∷ [] =
     ap (λ (ls : List BootLine). map form_line (map boot_form ls)) (reverse-more line lines) ∙ ap (map form_line) (map-append boot_form (reverse lines) (line ∷ [])) ∙ map-append form_line (map boot_form (reverse lines)) (f ∷ []) in
     let count : length before ≡ length lines = length-map (map boot_form (reverse lines)) form_line ∙ length-map (reverse lines) boot_form ∙ length-reverse lines in
-    let old : Script = so_far (record { cores = cores; lines = lines }) [] in
-    let new : Script = so_far (record { cores = cores; lines = line ∷ lines }) [] in
-    let one : read_line old (2 + length before) (form_line f) ≡ Ok new = read_line-spelled old (2 + length before) (form_line f) (omega (arith, count, few)) (length-line f (small-boot line)) (boot_line-first line) ∙ again.0 in
+    let old : Script Step = so_far (record { cores = cores; lines = lines }) [] in
+    let new : Script Step = so_far (record { cores = cores; lines = line ∷ lines }) [] in
+    let one : read_line of_steps old (2 + length before) (form_line f) ≡ Ok new = read_line-spelled old (2 + length before) (form_line f) (omega (arith, count, few)) (length-line f (small-boot line)) (boot_line-first line) ∙ again.0 in
     subst (λ (ls : List (List ℕ)). Takes (so_far (record { cores = cores; lines = [] }) []) 2 ls new) (sym split)
     (takes-then _ old new 2 before (form_line f ∷ []) (takes-boot cores lines again.1 (omega arith)) (takes-one old new (2 + length before) (form_line f) one))
 
@@ -85,14 +85,14 @@ lines_forms-end n (m ∷ ls) l = ap (λ (fs : List Form). line_forms n m ++ fs) 
 takes-line : (b : Boot) (ss : List Step) (n m : ℕ) (l : Line) → IsLineAgain b l → n + length (line_forms m l) ≤ 2000001 → Takes (so_far b ss) n (map form_line (line_forms m l)) (so_far b (ss ++ l.step ∷ []))
 unfolding AreSmall
 takes-line b ss n m l again few =
-    let old : Script = so_far b ss in
-    let new : Script = so_far b (ss ++ l.step ∷ []) in
+    let old : Script Step = so_far b ss in
+    let new : Script Step = so_far b (ss ++ l.step ∷ []) in
     let f : Form = entry_form l.step l.step.entry in
     let a : Form = answer_form l.answer in
     let small : AreSmall (line_forms m l) = again.small m in
     let count : length (record_forms m l.records) ≡ length l.records = length-records m l.records in
-    let step : read_line old n (form_line f) ≡ Ok new = read_line-step b ss l.step n (omega arith) small.0 again.step in
-    let answer : read_line new (n + 1) (form_line a) ≡ Ok new = read_line-skipped new (n + 1) (form_line a) (omega arith) (length-line a small.1.0) (answer_line-first l.answer) in
+    let step : read_line of_steps old n (form_line f) ≡ Ok new = read_line-step b ss l.step n (omega arith) small.0 again.step in
+    let answer : read_line of_steps new (n + 1) (form_line a) ≡ Ok new = read_line-skipped new (n + 1) (form_line a) (omega arith) (length-line a small.1.0) (answer_line-first l.answer) in
     takes-then old new new n (form_line f ∷ []) (form_line a ∷ map form_line (record_forms m l.records)) (takes-one old new n (form_line f) step)
     (takes-then new new new (n + 1) (form_line a ∷ []) (map form_line (record_forms m l.records)) (takes-one new new (n + 1) (form_line a) answer)
     (takes-records new (n + 1 + 1) m l.records small.1.1 (omega (arith, count, few))))
@@ -130,8 +130,8 @@ unfolding IsSmall
 small-cores n = omega arith
 
 -- the trace of such a book, read again, gives its boot and its steps
-pub trace-again : (b : Book) → IsAgain b → length (lines_of (trace b)) ≤ 2000000 → steps (trace b) ≡ (record { boot = Some b.boot; steps = steps_of b }, None)
-unfolding steps Takes AreCoresAgain script_from
+pub trace-again : (b : Book) → IsAgain b → length (lines_of (trace b)) ≤ 2000000 → steps (trace b) ≡ (record { boot = Some b.boot; items = steps_of b }, None)
+unfolding script_of Takes AreCoresAgain script_from
 trace-again b again short =
     let lines : lines_of (trace b) ≡ map form_line (trace_forms b) = lines_of-trace b in
     let none : Boot = record { cores = b.boot.cores; lines = [] } in
@@ -142,7 +142,7 @@ trace-again b again short =
     let boot_count : length boots ≡ length b.boot.lines = length-map (map boot_form (reverse b.boot.lines)) form_line ∙ length-map (reverse b.boot.lines) boot_form ∙ length-reverse b.boot.lines in
     let rest_count : length rest ≡ length (lines_forms 0 (reverse b.lines)) = length-map (lines_forms 0 (reverse b.lines)) form_line in
     let all : length (lines_of (trace b)) ≡ suc (length boots) + length rest = ap length (lines ∙ split) ∙ length-append (first ∷ boots) rest in
-    let one : read_line no_script 1 first ≡ Ok (so_far none []) = read_line-spelled no_script 1 first (omega arith) (length-line (cores_form b.boot.cores) (small-cores b.boot.cores)) refl ∙ again.cores in
+    let one : read_line of_steps no_script 1 first ≡ Ok (so_far none []) = read_line-spelled no_script 1 first (omega arith) (length-line (cores_form b.boot.cores) (small-cores b.boot.cores)) refl ∙ again.cores in
     let begun : Takes no_script 1 (first ∷ boots) (so_far b.boot []) = takes-then no_script (so_far none []) (so_far b.boot []) 1 (first ∷ []) boots (takes-one no_script (so_far none []) 1 first one) (takes-boot b.boot.cores b.boot.lines again.boot (omega (arith, short, all, boot_count))) in
     let done : Takes no_script 1 ((first ∷ boots) ++ rest) (so_far b.boot (steps_of b)) = takes-then no_script (so_far b.boot []) (so_far b.boot (steps_of b)) 1 (first ∷ boots) rest begun (takes-lines b.boot (1 + suc (length boots)) b.lines again.lines (omega (arith, short, all, rest_count))) in
-    ap (script_from no_script 1) (lines ∙ split ∙ sym (append-nil ((first ∷ boots) ++ rest))) ∙ done []
+    ap (script_from of_steps no_script 1) (lines ∙ split ∙ sym (append-nil ((first ∷ boots) ++ rest))) ∙ done []

@@ -11,7 +11,7 @@ ghost use Rattle.mcs_rereading.specs.Readable.{IsReadable};
 pub fn read_again()
     ghost book: { Book }
     requires { IsReadable book }
-    ensures { steps (trace book) ≡ (record { boot = Some book.boot; steps = steps_of book }, None) }
+    ensures { steps (trace book) ≡ (record { boot = Some book.boot; items = steps_of book }, None) }
 {}
 
 /// Such a trace, run as a script, is written again.

@@ -1,20 +1,15 @@
 -- How many lines begin in a text, and how long a text without fault is.
-use Rattle.std.proofs.Common.{◌≡◌, ℕ, suc, ◌+◌, ◌*◌, ◌<◌, ◌≤◌, inl, inr, Bool, true, false, not, if◌then◌else◌, ltb, eqb, Option, Some, None, Result, Ok, Err, IfErr, OnOk, List, [], ◌∷◌, ◌++◌, length, get_or, drop, refl, sym, ap, subst, ◌∙◌, arith}
+use Rattle.std.proofs.Common.{◌≡◌, ℕ, suc, ◌+◌, ◌*◌, ◌<◌, ◌≤◌, inl, inr, Bool, true, false, not, if◌then◌else◌, ltb, eqb, Option, Some, None, Result, Ok, Err, List, [], ◌∷◌, ◌++◌, length, get_or, drop, refl, sym, ap, ◌∙◌, arith}
 use Rattle.std.proofs.Math.Seq.{drop-cons}
 use Rattle.std.proofs.lemmas.Bool.{ltb-false}
-use Rattle.std.specs.Io.KnownBytes.{Appends, Consumes}
+use Rattle.std.specs.Io.KnownBytes.{IsAtEnd}
 use Rattle.mcs_book.specs.Boots.{Boot}
-use Rattle.mcs_book.specs.History.{book_of}
 use Rattle.mcs_text.specs.declared.fault.LineFault.{LineFault}
 use Rattle.mcs_text.specs.declared.fault.LineFault.TheVariants.{LongLine, ManyLines}
 use Rattle.mcs_text.specs.Reading.{onto_first, lines_of}
-use Rattle.mcs_sim.specs.declared.fault.SimFault.{SimFault}
-use Rattle.mcs_sim.specs.declared.fault.SimFault.TheVariants as fault
 use Rattle.mcs_sim.specs.declared.source.Begun.{Begun}
-use Rattle.mcs_sim.specs.Input.{none_begun, begun_with, begun_after, EndsReading, IsTooLong, IsWithin}
-use Rattle.mcs_sim.specs.Script.{Script, no_script, ending, read_line, script_from, steps}
-use Rattle.mcs_sim.specs.Trace.{trace}
-use Rattle.mcs_sim.specs.Runs.{script_trace, told, written, IsFairRun, Finishes, Leaves, Ends}
+use Rattle.mcs_sim.specs.Input.{none_begun, begun_with, begun_after, EndsReading, IsShort, IsTooLong, IsWithin}
+use Rattle.mcs_sim.specs.Script.{Grammar, Script, no_script, ending, read_line, script_from, script_of}
 use Rattle.mcs_sim.proofs.ScriptLaws.{script_from-ok, script_from-err}
 
 begun_after-append : (s : Begun) (xs ys : List ℕ) → begun_after s (xs ++ ys) ≡ begun_after (begun_after s xs) ys
@@ -96,94 +91,82 @@ length-total (b ∷ bs) = go (length-total bs) (eqb b 10) refl
     go le false e = rw e (omega (arith, le, total-onto_first b (lines_of bs)))
 
 -- a line without fault is not beyond the last, and not too long
-pub within : (s t : Script) (n : ℕ) (line : List ℕ) → read_line s n line ≡ Ok t → (n ≤ 2000000) × (length line ≤ 4096)
+pub within : {T : Type 0} (grammar : Grammar T) (s t : Script T) (n : ℕ) (line : List ℕ) → read_line grammar s n line ≡ Ok t → (n ≤ 2000000) × (length line ≤ 4096)
 unfolding read_line
-within s t n line ok = go (ltb 2000000 n) refl
+within {T = T} grammar s t n line ok = go (ltb 2000000 n) refl
   where
     short : ltb 2000000 n ≡ false → (b : Bool) → ltb 4096 (length line) ≡ b → length line ≤ 4096
-    short few true e = absurd (let bad : read_line s n line ≡ Err LongLine = rw (few, e) refl in cc)
+    short few true e = absurd (let bad : read_line grammar s n line ≡ Err LongLine = rw (few, e) refl in cc)
     short few false e = ltb-false _ _ e
 
     go : (b : Bool) → ltb 2000000 n ≡ b → (n ≤ 2000000) × (length line ≤ 4096)
-    go true e = absurd (let bad : read_line s n line ≡ Err ManyLines = rw e refl in cc)
+    go true e = absurd (let bad : read_line grammar s n line ≡ Err ManyLines = rw e refl in cc)
     go false e = (ltb-false _ _ e, short e (ltb 4096 (length line)) refl)
 
 -- lines without fault are few and short
 Fits : ℕ → List (List ℕ) → Type 0
 Fits n lines = (n + length lines ≤ 2000001) × (total lines ≤ 4097 * length lines)
 
-fits-more : (s : Script) (n : ℕ) (line : List ℕ) (lines : List (List ℕ))
-    → ((t : Script) → (script_from t (n + 1) lines).1 ≡ None → n + 1 ≤ 2000001 → Fits (n + 1) lines)
-    → (script_from s n (line ∷ lines)).1 ≡ None → Fits n (line ∷ lines)
+fits-more : {T : Type 0} (grammar : Grammar T) (s : Script T) (n : ℕ) (line : List ℕ) (lines : List (List ℕ))
+    → ((t : Script T) → (script_from grammar t (n + 1) lines).1 ≡ None → n + 1 ≤ 2000001 → Fits (n + 1) lines)
+    → (script_from grammar s n (line ∷ lines)).1 ≡ None → Fits n (line ∷ lines)
 unfolding Fits total
-fits-more s n line lines more none = go (read_line s n line) refl
+fits-more {T = T} grammar s n line lines more none = go (read_line grammar s n line) refl
   where
-    go : (r : Result Script LineFault) → read_line s n line ≡ r → Fits n (line ∷ lines)
+    go : (r : Result (Script T) LineFault) → read_line grammar s n line ≡ r → Fits n (line ∷ lines)
     go (Ok t) e =
-        let w = within s t n line e in
-        let rest = more t (ap (λ (r : Script × Option (ℕ × LineFault)). r.1) (sym (script_from-ok s t n line lines e)) ∙ none) (omega (arith, w.0)) in
+        let w = within grammar s t n line e in
+        let rest = more t (ap (λ (r : Script T × Option (ℕ × LineFault)). r.1) (sym (script_from-ok grammar s t n line lines e)) ∙ none) (omega (arith, w.0)) in
         (omega (arith, rest.0), omega (arith, rest.1, w.1))
-    go (Err why) e = absurd (let some : (script_from s n (line ∷ lines)).1 ≡ Some (n, why) = ap (λ (r : Script × Option (ℕ × LineFault)). r.1) (script_from-err s n line lines why e) in cc)
+    go (Err why) e = absurd (let some : (script_from grammar s n (line ∷ lines)).1 ≡ Some (n, why) = ap (λ (r : Script T × Option (ℕ × LineFault)). r.1) (script_from-err grammar s n line lines why e) in cc)
 
-fits : (lines : List (List ℕ)) (s : Script) (n : ℕ) → (script_from s n lines).1 ≡ None → n ≤ 2000001 → Fits n lines
+fits : {T : Type 0} (grammar : Grammar T) (lines : List (List ℕ)) (s : Script T) (n : ℕ) → (script_from grammar s n lines).1 ≡ None → n ≤ 2000001 → Fits n lines
 unfolding Fits total
-fits [] s n none le = (omega arith, omega arith)
-fits (line ∷ lines) s n none le = fits-more s n line lines (λ t. fits lines t (n + 1)) none
+fits {T = T} grammar [] s n none le = (omega arith, omega arith)
+fits {T = T} grammar (line ∷ lines) s n none le = fits-more grammar s n line lines (λ t. fits grammar lines t (n + 1)) none
 
--- a text without fault is not too long
-not-too-long : (text : List ℕ) → (steps text).1 ≡ None → IsTooLong text → ⊥
-unfolding Fits steps
-not-too-long text none long =
-    let f = fits (lines_of text) no_script 1 none (omega arith) in
+-- a text without fault is short
+pub is-short : {T : Type 0} (grammar : Grammar T) (text : List ℕ) → (script_of grammar text).1 ≡ None → IsShort text
+unfolding Fits script_of
+is-short {T = T} grammar text none =
+    let f = fits grammar (lines_of text) no_script 1 none (omega arith) in
+    (omega (arith, f.0, f.1, length-total text), omega (arith, f.0))
+
+-- so it is not too long
+not-too-long : {T : Type 0} (grammar : Grammar T) (text : List ℕ) → (script_of grammar text).1 ≡ None → IsTooLong text → ⊥
+not-too-long {T = T} grammar text none long =
+    let short = is-short grammar text none in
     elim long [
-      | inl bytes ↦ absurd (omega (arith, bytes, f.0, f.1, length-total text))
-      | inr lines ↦ absurd (omega (arith, lines.next, f.0))
+      | inl bytes ↦ absurd (omega (arith, bytes, short.0))
+      | inr lines ↦ absurd (omega (arith, lines.next, short.1))
     ]
 
 -- lines without fault say the number of cores
-boot-said : (lines : List (List ℕ)) (s : Script) (n : ℕ) → (script_from s n lines).1 ≡ None → (b : Boot) × ((script_from s n lines).0.boot ≡ Some b)
+boot-said : {T : Type 0} (grammar : Grammar T) (lines : List (List ℕ)) (s : Script T) (n : ℕ) → (script_from grammar s n lines).1 ≡ None → (b : Boot) × ((script_from grammar s n lines).0.boot ≡ Some b)
 unfolding script_from
-boot-said [] s n none = go s.boot refl none
+boot-said {T = T} grammar [] s n none = go s.boot refl none
   where
     go : (b : Option Boot) → s.boot ≡ b → (ending s n b).1 ≡ None → (boot : Boot) × ((ending s n b).0.boot ≡ Some boot)
     go None is none = absurd cc
     go (Some b) is none = (b, is)
-boot-said (line ∷ lines) s n none = go (λ t. boot-said lines t (n + 1)) (read_line s n line) refl
+boot-said {T = T} grammar (line ∷ lines) s n none = go (λ t. boot-said grammar lines t (n + 1)) (read_line grammar s n line) refl
   where
-    go : ((t : Script) → (script_from t (n + 1) lines).1 ≡ None → (b : Boot) × ((script_from t (n + 1) lines).0.boot ≡ Some b)) → (r : Result Script LineFault) → read_line s n line ≡ r
-        → (b : Boot) × ((script_from s n (line ∷ lines)).0.boot ≡ Some b)
+    go : ((t : Script T) → (script_from grammar t (n + 1) lines).1 ≡ None → (b : Boot) × ((script_from grammar t (n + 1) lines).0.boot ≡ Some b)) → (r : Result (Script T) LineFault) → read_line grammar s n line ≡ r
+        → (b : Boot) × ((script_from grammar s n (line ∷ lines)).0.boot ≡ Some b)
     go rest (Ok t) e =
-        let same = script_from-ok s t n line lines e in
-        let said = rest t (ap (λ (r : Script × Option (ℕ × LineFault)). r.1) (sym same) ∙ none) in
-        (said.0, ap (λ (r : Script × Option (ℕ × LineFault)). r.0.boot) same ∙ said.1)
-    go rest (Err why) e = absurd (let some : (script_from s n (line ∷ lines)).1 ≡ Some (n, why) = ap (λ (r : Script × Option (ℕ × LineFault)). r.1) (script_from-err s n line lines why e) in cc)
+        let same = script_from-ok grammar s t n line lines e in
+        let said = rest t (ap (λ (r : Script T × Option (ℕ × LineFault)). r.1) (sym same) ∙ none) in
+        (said.0, ap (λ (r : Script T × Option (ℕ × LineFault)). r.0.boot) same ∙ said.1)
+    go rest (Err why) e = absurd (let some : (script_from grammar s n (line ∷ lines)).1 ≡ Some (n, why) = ap (λ (r : Script T × Option (ℕ × LineFault)). r.1) (script_from-err grammar s n line lines why e) in cc)
 
--- a run without fault has read its input to the end
-finishes : (left left' out out' : Option (List ℕ)) (text : List ℕ) (b : Boot) → Consumes left left' text → EndsReading left' text → (steps text).0.boot ≡ Some b
-    → Appends out out' (written text) → (steps text).1 ≡ None → IsFairRun (steps text).0.boot (steps text).0.steps → Finishes left left' out out'
-unfolding written script_trace
-finishes left left' out out' text b read end said wrote none fair =
-    let here : steps text ≡ (record { boot = Some b; steps = (steps text).0.steps }, None) = λ i. (record { boot = said i; steps = (steps text).0.steps }, none i) in
-    let told_is : written text ≡ trace (book_of b (steps text).0.steps) = ap (λ (r : Script × Option (ℕ × LineFault)). told r.0 r.1) here in
-    let laws : IsFairRun (Some b) (steps text).0.steps = subst (λ (o : Option Boot). IsFairRun o (steps text).0.steps) said fair in
-    record {
-      text = text;
-      boot = b;
-      taken = (steps text).0.steps;
-      read = read;
-      ended = elim end [ inl ended ↦ ended.0 | inr long ↦ absurd (not-too-long text none long) ];
-      faultless = here;
-      wrote = subst (Appends out out') told_is wrote;
-      legal = laws.0;
-      fair = laws.1;
-    }
+-- a text without fault was read to the end of the input
+pub read-whole : {T : Type 0} (grammar : Grammar T) (left : Option (List ℕ)) (text : List ℕ) → EndsReading left text → (script_of grammar text).1 ≡ None → IsAtEnd left
+read-whole grammar left text end none = elim end [ inl ended ↦ ended.0 | inr long ↦ absurd (not-too-long grammar text none long) ]
 
-pub OnOk-finishes : (r : Result (Unit {0}) SimFault) (left left' out out' : Option (List ℕ)) (text : List ℕ) → Consumes left left' text → EndsReading left' text
-    → OnOk r (Appends out out' (written text)) → OnOk r ((steps text).1 ≡ None) → OnOk r (IsFairRun (steps text).0.boot (steps text).0.steps) → OnOk r (Finishes left left' out out')
-unfolding steps
-OnOk-finishes (Ok u) left left' out out' text read end wrote none fair =
-    let said = boot-said (lines_of text) no_script 1 none in finishes left left' out out' text said.0 read end said.1 wrote none fair
-OnOk-finishes (Err e) left left' out out' text read end wrote none fair = tt
+-- and says the number of cores
+pub says-boot : {T : Type 0} (grammar : Grammar T) (text : List ℕ) → (script_of grammar text).1 ≡ None → (b : Boot) × ((script_of grammar text).0.boot ≡ Some b)
+unfolding script_of
+says-boot grammar text none = boot-said grammar (lines_of text) no_script 1 none
 
 -- a byte of a text, and those behind it
 pub begun_after-next : (s : Begun) (w : List ℕ) (i : ℕ) → i < length w → begun_after (begun_with s (get_or w i 0)) (drop (i + 1) w) ≡ begun_after s (drop i w)
@@ -200,16 +183,5 @@ lines-begun_with-le s b = go s.is_open
     go false = omega arith
 
 -- no byte is read behind the end, and none behind the one that makes a text too long
-within-ends : (left : Option (List ℕ)) (text : List ℕ) → EndsReading left text → IsWithin text
+pub within-ends : (left : Option (List ℕ)) (text : List ℕ) → EndsReading left text → IsWithin text
 within-ends left text end = elim end [ inl ended ↦ inl ended.1 | inr long ↦ inr long ]
-
--- a run that read its input and stopped later
-pub IfErr-ends : (r : Result (Unit {0}) SimFault) (left left' out out' : Option (List ℕ)) (text : List ℕ) → Consumes left left' text → EndsReading left' text
-    → IfErr r (λ e. Leaves e out out' text) → IfErr r (λ e. Ends e left left' out out')
-IfErr-ends (Ok u) left left' out out' text read end leaves = tt
-IfErr-ends (Err fault.Argument) left left' out out' text read end leaves = absurd leaves
-IfErr-ends (Err (fault.Script line why)) left left' out out' text read end leaves = (text, read, end, leaves)
-IfErr-ends (Err fault.Read) left left' out out' text read end leaves = absurd leaves
-IfErr-ends (Err fault.Write) left left' out out' text read end leaves = (text, read, end, leaves)
-IfErr-ends (Err fault.BookFull) left left' out out' text read end leaves = (text, read, end, leaves)
-IfErr-ends (Err fault.OutOfMemory) left left' out out' text read end leaves = (text, read, within-ends left' text end, leaves)

@@ -8,11 +8,13 @@ use Rattle.mcs_sim.specs.declared.fault.SimFault.{SimFault}
 use Rattle.mcs_sim.specs.declared.fault.SimFault.TheVariants as fault
 use Rattle.mcs_types.specs.declared.entry.Step.{Step}
 use Rattle.mcs_book.specs.Boots.{Boot}
-use Rattle.mcs_sim.specs.Input.{IsWithin}
-use Rattle.mcs_sim.specs.Script.{Script, steps}
+use Rattle.mcs_sim.specs.Input.{EndsReading, IsWithin}
+use Rattle.mcs_sim.specs.Trace.{trace}
+use Rattle.mcs_sim.specs.Script.{Script, of_steps, steps}
 use Rattle.mcs_book.specs.History.{Book, IsLegal, book_of}
 use Rattle.mcs_book.specs.Fair.{IsFair}
-use Rattle.mcs_sim.specs.Runs.{script_trace, trace_before, told, written, Begins, Leaves, Stops, IsFull, IsRoomy, IsFairRun, IsFairBefore}
+use Rattle.mcs_sim.specs.Runs.{script_trace, trace_before, told, written, Begins, Leaves, Stops, IsFull, IsRoomy, IsFairRun, IsFairBefore, Finishes, Ends}
+use Rattle.mcs_sim.proofs.InputLaws.{read-whole, says-boot, within-ends}
 
 -- a writer that took nothing
 pub Appends-nil : (a : Option (List ℕ)) → Appends a a []
@@ -24,25 +26,26 @@ pub Begins-nil : (a : Option (List ℕ)) (text : List ℕ) → Begins a a text
 Begins-nil a text = (text, record { sent = []; grown = Appends-nil a; split = refl })
 
 -- what is written of a text is told of its script
-pub written-is : (text : List ℕ) (s : Script) (f : Option (ℕ × LineFault)) → steps text ≡ (s, f) → written text ≡ told s f
+pub written-is : (text : List ℕ) (s : Script Step) (f : Option (ℕ × LineFault)) → steps text ≡ (s, f) → written text ≡ told s f
 unfolding written
-written-is text s f e = ap (λ (r : Script × Option (ℕ × LineFault)). told r.0 r.1) e
+written-is text s f e = ap (λ (r : Script Step × Option (ℕ × LineFault)). told r.0 r.1) e
 
-pub Leaves-stops : (e : SimFault) (a b : Option (List ℕ)) (text : List ℕ) (s : Script) → written text ≡ script_trace s.boot s.steps → (steps text).0 ≡ s → Stops e a b s → Leaves e a b text
+pub Leaves-stops : (e : SimFault) (a b : Option (List ℕ)) (text : List ℕ) (s : Script Step) → written text ≡ script_trace s.boot s.items → (steps text).0 ≡ s → Stops e a b s → Leaves e a b text
 Leaves-stops fault.Argument a b text s same is stops = stops
 Leaves-stops (fault.Script line why) a b text s same is stops = absurd stops
 Leaves-stops fault.Read a b text s same is stops = stops
 Leaves-stops fault.Write a b text s same is stops = subst (Begins a b) (sym same) stops
-Leaves-stops fault.BookFull a b text s same is stops = (subst (Begins a b) (sym same) stops.0, subst (λ (t : Script). IsFull t.boot t.steps) (sym is) stops.1)
+Leaves-stops fault.BookFull a b text s same is stops = (subst (Begins a b) (sym same) stops.0, subst (λ (t : Script Step). IsFull t.boot t.items) (sym is) stops.1)
 Leaves-stops fault.OutOfMemory a b text s same is stops = subst (Begins a b) (sym same) stops
+Leaves-stops fault.Failed a b text s same is stops = stops
 
-pub IfErr-leaves : (r : Result (Unit {0}) SimFault) (a b : Option (List ℕ)) (text : List ℕ) (s : Script) → written text ≡ script_trace s.boot s.steps → (steps text).0 ≡ s
+pub IfErr-leaves : (r : Result (Unit {0}) SimFault) (a b : Option (List ℕ)) (text : List ℕ) (s : Script Step) → written text ≡ script_trace s.boot s.items → (steps text).0 ≡ s
     → IfErr r (λ e. Stops e a b s) → IfErr r (λ e. Leaves e a b text)
 IfErr-leaves (Ok u) a b text s same is stops = tt
 IfErr-leaves (Err e) a b text s same is stops = Leaves-stops e a b text s same is stops
 
 -- the writing of a trace stops by a write fault alone
-pub IfErr-write : (r : Result (Unit {0}) SimFault) (a b : Option (List ℕ)) (text : List ℕ) (s : Script) → text ≡ script_trace s.boot s.steps
+pub IfErr-write : (r : Result (Unit {0}) SimFault) (a b : Option (List ℕ)) (text : List ℕ) (s : Script Step) → text ≡ script_trace s.boot s.items
     → OnErr r (Begins a b text) → OnErr r (r ≡ Err fault.Write) → IfErr r (λ e. Stops e a b s)
 IfErr-write (Ok u) a b text s same begins is = tt
 IfErr-write (Err e) a b text s same begins is =
@@ -101,3 +104,41 @@ Consumes-nil a bytes none = subst (Consumes a a) (sym none) (go a)
     go : (a : Option (List ℕ)) → Consumes a a []
     go None = tt
     go (Some xs) = refl
+
+-- a run without fault has read its input to the end
+finishes : (left left' out out' : Option (List ℕ)) (text : List ℕ) (b : Boot) → Consumes left left' text → EndsReading left' text → (steps text).0.boot ≡ Some b
+    → Appends out out' (written text) → (steps text).1 ≡ None → IsFairRun (steps text).0.boot (steps text).0.items → Finishes left left' out out'
+unfolding written script_trace
+finishes left left' out out' text b read end said wrote none fair =
+    let here : steps text ≡ (record { boot = Some b; items = (steps text).0.items }, None) = λ i. (record { boot = said i; items = (steps text).0.items }, none i) in
+    let told_is : written text ≡ trace (book_of b (steps text).0.items) = ap (λ (r : Script Step × Option (ℕ × LineFault)). told r.0 r.1) here in
+    let laws : IsFairRun (Some b) (steps text).0.items = subst (λ (o : Option Boot). IsFairRun o (steps text).0.items) said fair in
+    record {
+      text = text;
+      boot = b;
+      taken = (steps text).0.items;
+      read = read;
+      ended = read-whole of_steps left' text end none;
+      faultless = here;
+      wrote = subst (Appends out out') told_is wrote;
+      legal = laws.0;
+      fair = laws.1;
+    }
+
+pub OnOk-finishes : (r : Result (Unit {0}) SimFault) (left left' out out' : Option (List ℕ)) (text : List ℕ) → Consumes left left' text → EndsReading left' text
+    → OnOk r (Appends out out' (written text)) → OnOk r ((steps text).1 ≡ None) → OnOk r (IsFairRun (steps text).0.boot (steps text).0.items) → OnOk r (Finishes left left' out out')
+OnOk-finishes (Ok u) left left' out out' text read end wrote none fair =
+    let said = says-boot of_steps text none in finishes left left' out out' text said.0 read end said.1 wrote none fair
+OnOk-finishes (Err e) left left' out out' text read end wrote none fair = tt
+
+-- a run that read its input and stopped later
+pub IfErr-ends : (r : Result (Unit {0}) SimFault) (left left' out out' : Option (List ℕ)) (text : List ℕ) → Consumes left left' text → EndsReading left' text
+    → IfErr r (λ e. Leaves e out out' text) → IfErr r (λ e. Ends e left left' out out')
+IfErr-ends (Ok u) left left' out out' text read end leaves = tt
+IfErr-ends (Err fault.Argument) left left' out out' text read end leaves = absurd leaves
+IfErr-ends (Err (fault.Script line why)) left left' out out' text read end leaves = (text, read, end, leaves)
+IfErr-ends (Err fault.Read) left left' out out' text read end leaves = absurd leaves
+IfErr-ends (Err fault.Write) left left' out out' text read end leaves = (text, read, end, leaves)
+IfErr-ends (Err fault.BookFull) left left' out out' text read end leaves = (text, read, end, leaves)
+IfErr-ends (Err fault.OutOfMemory) left left' out out' text read end leaves = (text, read, within-ends left' text end, leaves)
+IfErr-ends (Err fault.Failed) left left' out out' text read end leaves = absurd leaves

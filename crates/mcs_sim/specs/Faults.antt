@@ -16,6 +16,7 @@ fault_status fault.Read = 3
 fault_status fault.Write = 4
 fault_status fault.BookFull = 5
 fault_status fault.OutOfMemory = 6
+fault_status fault.Failed = 7
 
 -- the line that tells a fault, without its newline
 abbrev pub fault_text : SimFault → List ℕ
@@ -25,6 +26,7 @@ fault_text fault.Read = codes "mcssim: read fault"
 fault_text fault.Write = codes "mcssim: write fault"
 fault_text fault.BookFull = codes "mcssim: book full"
 fault_text fault.OutOfMemory = codes "mcssim: out of memory"
+fault_text fault.Failed = codes "mcssim: run failed"
 
 -- the fault of an error in reading the arguments
 abbrev pub reading_fault : ReadKind → SimFault

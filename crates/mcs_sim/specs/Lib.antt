@@ -4,3 +4,4 @@ pub mod BootLines
 pub mod Script
 pub mod Input
 pub mod Runs
+pub mod Running

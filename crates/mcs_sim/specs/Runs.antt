@@ -27,9 +27,9 @@ trace_before b [] = []
 trace_before b (s ∷ ss) = script_trace b (s ∷ ss)
 
 -- what is written of a script
-abbrev pub told : Script → Option (ℕ × LineFault) → List ℕ
-told s None = script_trace s.boot s.steps
-told s (Some f) = trace_before s.boot s.steps
+abbrev pub told : Script Step → Option (ℕ × LineFault) → List ℕ
+told s None = script_trace s.boot s.items
+told s (Some f) = trace_before s.boot s.items
 
 -- what is written of a text
 unfoldable pub written : List ℕ → List ℕ
@@ -68,23 +68,25 @@ IsFairBefore b [] = Unit {0}
 IsFairBefore b (s ∷ ss) = IsFairRun b (s ∷ ss)
 
 -- a fault of the replay of a script, or of the writing of its trace: it leaves a beginning of the trace
-abbrev pub Stops : SimFault → (old new : Option (List ℕ)) → Script → Type 0
+abbrev pub Stops : SimFault → (old new : Option (List ℕ)) → Script Step → Type 0
 Stops fault.Argument old new s = ⊥
 Stops (fault.Script line why) old new s = ⊥
 Stops fault.Read old new s = ⊥
-Stops fault.Write old new s = Begins old new (script_trace s.boot s.steps)
-Stops fault.BookFull old new s = Begins old new (script_trace s.boot s.steps) × IsFull s.boot s.steps
-Stops fault.OutOfMemory old new s = Begins old new (script_trace s.boot s.steps)
+Stops fault.Write old new s = Begins old new (script_trace s.boot s.items)
+Stops fault.BookFull old new s = Begins old new (script_trace s.boot s.items) × IsFull s.boot s.items
+Stops fault.OutOfMemory old new s = Begins old new (script_trace s.boot s.items)
+Stops fault.Failed old new s = ⊥
 
 -- what a run of a text leaves that ended early, but for a read fault: all that is told before a faulty line, or a beginning of that
 abbrev pub Leaves : SimFault → (old new : Option (List ℕ)) (text : List ℕ) → Type 0
 Leaves fault.Argument old new text = ⊥
-Leaves (fault.Script line why) old new text = Appends old new (written text) × ((steps text).1 ≡ Some (line, why)) × IsRoomy (steps text).0.boot (steps text).0.steps
-    × IsFairBefore (steps text).0.boot (steps text).0.steps
+Leaves (fault.Script line why) old new text = Appends old new (written text) × ((steps text).1 ≡ Some (line, why)) × IsRoomy (steps text).0.boot (steps text).0.items
+    × IsFairBefore (steps text).0.boot (steps text).0.items
 Leaves fault.Read old new text = ⊥
 Leaves fault.Write old new text = Begins old new (written text)
-Leaves fault.BookFull old new text = Begins old new (written text) × IsFull (steps text).0.boot (steps text).0.steps
+Leaves fault.BookFull old new text = Begins old new (written text) × IsFull (steps text).0.boot (steps text).0.items
 Leaves fault.OutOfMemory old new text = Begins old new (written text)
+Leaves fault.Failed old new text = ⊥
 
 -- what a run leaves that ended without fault: it read a text to the end of the input, in which nothing is wrong, and wrote all of the
 -- trace of the book that its steps make after its boot, which is legal and fair
@@ -94,7 +96,7 @@ pub record Finishes (left left' out out' : Option (List ℕ)) : Type 0 where
   pub taken : List Step
   pub read : Consumes left left' text
   pub ended : IsAtEnd left'
-  pub faultless : steps text ≡ (record { boot = Some boot; steps = taken }, None)
+  pub faultless : steps text ≡ (record { boot = Some boot; items = taken }, None)
   pub wrote : Appends out out' (trace (book_of boot taken))
   pub legal : IsLegal (book_of boot taken)
   pub fair : IsFair (book_of boot taken)

@@ -1,4 +1,4 @@
--- What a script says: its boot and its steps, up to the first faulty line.
+-- What a script says: its boot and the items behind it, up to the first faulty line. The items are steps, or entries of users.
 use Rattle.std.specs.Prelude.{◌≡◌, ℕ, ◌+◌, Bool, true, List, [], ◌∷◌, ◌++◌, length, Option, Some, None, Result, Ok, Err, nat_lt, ◌==◌, ◌||◌, if◌then◌else◌}
 use Rattle.mcs_types.specs.declared.id.Kind.TheVariants as kind
 use Rattle.mcs_types.specs.declared.entry.Step.{Step}
@@ -14,7 +14,8 @@ use Rattle.mcs_text.specs.declared.key.Key.TheVariants as k
 use Rattle.mcs_text.specs.declared.boot.RawBootLine.{RawBootLine}
 use Rattle.mcs_text.specs.declared.boot.RawBootLine.TheVariants as raw
 use Rattle.mcs_text.specs.Keys.{boot_key}
-use Rattle.mcs_text.specs.Reading.{◌>>=◌, lines_of, words_of, step_of}
+use Rattle.mcs_text.specs.declared.steps.UserEntry.{UserEntry}
+use Rattle.mcs_text.specs.Reading.{◌>>=◌, lines_of, words_of, step_of, user_of}
 use Rattle.mcs_text.specs.BootLines.{raw_line}
 use Rattle.mcs_sim.specs.declared.script.ReadFault.{ReadFault}
 use Rattle.mcs_sim.specs.declared.script.ReadFault.TheVariants as read_fault
@@ -31,24 +32,35 @@ Reads view (Ok x) read = read ≡ Ok (view x)
 Reads view (Err (read_fault.Line e)) read = read ≡ Err e
 Reads view (Err read_fault.OutOfMemory) read = Unit {0}
 
--- the boot, once the number of cores was said, and the steps in order
-pub record Script : Type 0 where
+-- how a script is read: the number of cores that it has to say, where that is given, and the item that a line behind the boot spells,
+-- where so many cores and threads are there
+pub record Grammar (T : Type 0) : Type 0 where
+  pub cores : Option ℕ
+  pub item : ℕ → ℕ → List ℕ → Result T LineFault
+
+-- the boot, once the number of cores was said, and the items in order
+pub record Script (T : Type 0) : Type 0 where
   pub boot : Option Boot
-  pub steps : List Step
+  pub items : List T
 
 -- a script of no line
-abbrev pub no_script : Script
-no_script = record { boot = None; steps = [] }
+abbrev pub no_script : {T : Type 0} → Script T
+no_script = record { boot = None; items = [] }
+
+-- the number of cores, where it is the one that was asked for
+abbrev pub asked_cores : Option ℕ → ℕ → Result ℕ LineFault
+asked_cores None n = Ok n
+asked_cores (Some asked) n = if n == asked then Ok n else Err fault.Number
 
 -- the boot of a first line
-abbrev pub boot_in : RawBootLine → Result Boot LineFault
-boot_in (raw.Cores n) = cores_of n >>= λ cores. Ok (record { cores = cores; lines = [] })
-boot_in _ = Err fault.Form
+abbrev pub boot_in : Option ℕ → RawBootLine → Result Boot LineFault
+boot_in asked (raw.Cores n) = cores_of n >>= λ cores. asked_cores asked cores >>= λ cores. Ok (record { cores = cores; lines = [] })
+boot_in asked _ = Err fault.Form
 
 -- the boot that a first line begins: the words behind its first, by its key
-unfoldable pub first_boot : Option Key → List (List ℕ) → Result Boot LineFault
-first_boot (Some k.Cores) ws = raw_line k.Cores ws >>= boot_in
-first_boot _ ws = Err fault.NoCores
+unfoldable pub first_boot : Option ℕ → Option Key → List (List ℕ) → Result Boot LineFault
+first_boot asked (Some k.Cores) ws = raw_line k.Cores ws >>= boot_in asked
+first_boot asked _ ws = Err fault.NoCores
 
 -- how many threads a boot makes
 abbrev pub threads_of : Boot → ℕ
@@ -61,27 +73,27 @@ next_boot b key ws = do
   line ← fitted (boot_log b.lines) spelled
   with_line b line
 
--- the steps with the one that a line spells
-unfoldable pub next_steps : Boot → List Step → List ℕ → Result (List Step) LineFault
-next_steps b ss line = do
-  s ← step_of b.cores (threads_of b) line
-  Ok (ss ++ s ∷ [])
+-- the items with the one that a line spells
+unfoldable pub next_items : {T : Type 0} → (ℕ → ℕ → List ℕ → Result T LineFault) → Boot → List T → List ℕ → Result (List T) LineFault
+next_items item b xs line = do
+  x ← item b.cores (threads_of b) line
+  Ok (xs ++ x ∷ [])
 
--- a line after the first: of the boot, where no step was read, or a step
-unfoldable pub later_line : Boot → List Step → List ℕ → Option Key → List (List ℕ) → Result Script LineFault
-later_line b [] line (Some key) ws = next_boot b key ws >>= λ more. Ok (record { boot = Some more; steps = [] })
-later_line b (s ∷ ss) line (Some key) ws = Err fault.LateBoot
-later_line b ss line None ws = next_steps b ss line >>= λ more. Ok (record { boot = Some b; steps = more })
+-- a line after the first: of the boot, where no item was read, or an item
+unfoldable pub later_line : {T : Type 0} → (ℕ → ℕ → List ℕ → Result T LineFault) → Boot → List T → List ℕ → Option Key → List (List ℕ) → Result (Script T) LineFault
+later_line item b [] line (Some key) ws = next_boot b key ws >>= λ more. Ok (record { boot = Some more; items = [] })
+later_line item b (x ∷ xs) line (Some key) ws = Err fault.LateBoot
+later_line item b xs line None ws = next_items item b xs line >>= λ more. Ok (record { boot = Some b; items = more })
 
 -- a line by its first word and the others
-unfoldable pub by_boot : Option Boot → List Step → List ℕ → Option Key → List (List ℕ) → Result Script LineFault
-by_boot None ss line key ws = first_boot key ws >>= λ b. Ok (record { boot = Some b; steps = ss })
-by_boot (Some b) ss line key ws = later_line b ss line key ws
+unfoldable pub by_boot : {T : Type 0} → Grammar T → Option Boot → List T → List ℕ → Option Key → List (List ℕ) → Result (Script T) LineFault
+by_boot grammar None xs line key ws = first_boot grammar.cores key ws >>= λ b. Ok (record { boot = Some b; items = xs })
+by_boot grammar (Some b) xs line key ws = later_line grammar.item b xs line key ws
 
 -- a line that is not skipped
-unfoldable pub spelled : Script → List ℕ → List (List ℕ) → Result Script LineFault
-spelled s line [] = Err fault.Form
-spelled s line (w ∷ ws) = by_boot s.boot s.steps line (boot_key w) ws
+unfoldable pub spelled : {T : Type 0} → Grammar T → Script T → List ℕ → List (List ℕ) → Result (Script T) LineFault
+spelled grammar s line [] = Err fault.Form
+spelled grammar s line (w ∷ ws) = by_boot grammar s.boot s.items line (boot_key w) ws
 
 -- whether a line is skipped: it is empty, or begins with #, = or +
 abbrev pub is_skipped : List ℕ → Bool
@@ -89,24 +101,40 @@ is_skipped [] = true
 is_skipped (b ∷ bs) = (b == 35) || (b == 61) || (b == 43)
 
 -- a script with the line of this number
-unfoldable pub read_line : Script → ℕ → List ℕ → Result Script LineFault
-read_line s number line = if nat_lt 2000000 number then Err fault.ManyLines
+unfoldable pub read_line : {T : Type 0} → Grammar T → Script T → ℕ → List ℕ → Result (Script T) LineFault
+read_line grammar s number line = if nat_lt 2000000 number then Err fault.ManyLines
     else (if nat_lt 4096 (length line) then Err fault.LongLine
-    else (if is_skipped line then Ok s else spelled s line (words_of line)))
+    else (if is_skipped line then Ok s else spelled grammar s line (words_of line)))
 
 -- the end of a script stands in the line after the last
-abbrev pub ending : Script → ℕ → Option Boot → Script × Option (ℕ × LineFault)
+abbrev pub ending : {T : Type 0} → Script T → ℕ → Option Boot → Script T × Option (ℕ × LineFault)
 ending s number None = (s, Some (number, fault.NoCores))
 ending s number (Some b) = (s, None)
 
 -- the script of the lines from this number on, and the first fault with its line
-unfoldable pub script_from : Script → ℕ → List (List ℕ) → Script × Option (ℕ × LineFault)
-script_from s number [] = ending s number s.boot
-script_from s number (line ∷ lines) = elim (read_line s number line) [
-  | Ok t ↦ script_from t (number + 1) lines
+unfoldable pub script_from : {T : Type 0} → Grammar T → Script T → ℕ → List (List ℕ) → Script T × Option (ℕ × LineFault)
+script_from grammar s number [] = ending s number s.boot
+script_from grammar s number (line ∷ lines) = elim (read_line grammar s number line) [
+  | Ok t ↦ script_from grammar t (number + 1) lines
   | Err e ↦ (s, Some (number, e))
 ]
 
--- what a text says: its boot and its steps, or those before the first faulty line, with that line's number and its fault
-unfoldable pub steps : List ℕ → Script × Option (ℕ × LineFault)
-steps text = script_from no_script 1 (lines_of text)
+-- what a text says: its boot and its items, or those before the first faulty line, with that line's number and its fault
+unfoldable pub script_of : {T : Type 0} → Grammar T → List ℕ → Script T × Option (ℕ × LineFault)
+script_of grammar text = script_from grammar no_script 1 (lines_of text)
+
+-- scripts whose items are steps
+abbrev pub of_steps : Grammar Step
+of_steps = record { cores = None; item = step_of }
+
+-- scripts whose items are entries of users, on so many cores where that is asked for
+abbrev pub of_users : Option ℕ → Grammar UserEntry
+of_users asked = record { cores = asked; item = λ cores threads line. user_of threads line }
+
+-- what a text says whose items are steps
+abbrev pub steps : List ℕ → Script Step × Option (ℕ × LineFault)
+steps text = script_of of_steps text
+
+-- what a text says whose items are entries of users, where that many cores are asked for
+abbrev pub users : Option ℕ → List ℕ → Script UserEntry × Option (ℕ × LineFault)
+users asked text = script_of (of_users asked) text

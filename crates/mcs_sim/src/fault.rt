@@ -19,12 +19,15 @@ pub enum SimFault {
     BookFull,
     /// Memory was refused.
     OutOfMemory,
+    /// A run of users could not be ended well: a host thread was not started, or the book does not agree with what the cores
+    /// were told.
+    Failed,
 }
 
 impl SimFault {
     ghost use Rattle.mcs_sim.specs.Faults.{fault_status};
 
-    /// The exit status of the program, 1 to 6 (own).
+    /// The exit status of the program, 1 to 7 (own).
     pub fn status(self) -> u8
         ensures { result ≡ fault_status self }
     {
@@ -35,6 +38,7 @@ impl SimFault {
             SimFault::Write => 4,
             SimFault::BookFull => 5,
             SimFault::OutOfMemory => 6,
+            SimFault::Failed => 7,
         }
     }
 }
@@ -56,6 +60,7 @@ impl fmt::Display for SimFault {
             SimFault::Write => f.write_str("mcssim: write fault"),
             SimFault::BookFull => f.write_str("mcssim: book full"),
             SimFault::OutOfMemory => f.write_str("mcssim: out of memory"),
+            SimFault::Failed => f.write_str("mcssim: run failed"),
         }
     }
 }

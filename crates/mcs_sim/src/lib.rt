@@ -3,7 +3,8 @@
 
 mod fault;
 mod laws;
-mod run;
+mod replaying;
+mod running;
 mod script;
 mod source;
 mod startup;
@@ -11,9 +12,14 @@ mod writing;
 
 pub use fault::SimFault;
 pub use laws::{replayed_legal, too_long_stands};
+pub use mcs_cores::{Gate, Open};
 pub use mcs_options::{Options, options};
 pub use mcs_text::Sink;
-pub use run::simulate;
+pub use replaying::simulate;
+pub use running::run_text;
 pub use source::{ReadFault, Source};
 pub use startup::{answer_status, arguments};
 pub use writing::trace;
+
+#[cfg(test)]
+mod tests;

@@ -1,36 +1,65 @@
 //! What a script says.
-ghost use Rattle.std.specs.Prelude.{◌≡◌, ◌≤◌, Ok, Err, Some, OnOk, OnErr};
+ghost use Rattle.std.specs.Prelude.{◌≡◌, ◌≤◌, ℕ, List, Result, Ok, Err, Some, IfOk, OnOk, OnErr};
 ghost use Rattle.mcs_book.specs.Boots.{boot_log, is_object};
-ghost use Rattle.mcs_text.specs.Reading.{Gives, words_of};
+ghost use Rattle.mcs_text.specs.Reading.{Gives, words_of, step_of, user_of};
 ghost use Rattle.mcs_text.specs.BootLines.{raw_line};
 ghost use Rattle.mcs_sim.specs.BootLines.{object_of, cores_of, cap_of, index_of, fitted, with_line};
-ghost use Rattle.mcs_sim.specs.Script.{Reads, is_skipped, boot_in, first_boot, next_boot, next_steps, later_line};
+ghost use Rattle.mcs_sim.specs.Script.{Grammar, Reads, script_of, is_skipped, asked_cores, boot_in, first_boot, next_boot, next_items, later_line};
 
 use mcs_kernel::Boot;
 use mcs_text::{
-    Key, LineFault, RawBootLine, RawCap, RawNumber, Words, address, byte, find_boot_key,
-    read_boot_line, read_step,
+    Key, LineFault, Lines, RawBootLine, RawCap, RawNumber, UserEntry, Words, address, byte,
+    find_boot_key, read_boot_line, read_step, read_user,
 };
 use mcs_types::{
-    Badge, BootFault, BootLine, CORES, Cap, CoreId, Guard, Kind, ObjId, Prio, SCRIPT_LINE_BYTES,
-    SCRIPT_LINES, Step,
+    Badge, BootFault, BootLine, CORES, Cap, CoreId, Guard, Kind, ObjId, OutOfMemory, Prio,
+    SCRIPT_LINE_BYTES, SCRIPT_LINES, Step,
 };
 use std::alloc::Global;
 use std::marker::Model;
 
-/// The boot and the steps that the lines of a script have said so far.
-#[derive(Drop)]
-pub struct Script {
-    pub boot: Option<Boot>,
-    pub steps: Vec<Step>,
+/// What a line behind the boot of a script says.
+pub trait Item: Sized + Drop {
+    ghost use Rattle.mcs_text.specs.declared.fault.LineFault.{LineFault};
+
+    /// The item that a line spells, where so many cores and threads are there.
+    ghost item: { ℕ → ℕ → List ℕ → Result Self LineFault };
+
+    /// The item that a line spells, where so many cores and threads are there. Fault Form where it spells none; Number where a
+    /// number is out of its range; NoObject where the thread is not there.
+    fn read(cores: u8, threads: u32, line: &[u8]) -> Result<Self, LineFault>
+        ensures { Gives (λ x. x) result (item cores threads line.now) };
 }
 
-impl Model for Script {
+impl Item for Step {
+    ghost item = { step_of };
+
+    fn read(cores: u8, threads: u32, line: &[u8]) -> Result<Step, LineFault> {
+        read_step(cores, threads, line)
+    }
+}
+
+impl Item for UserEntry {
+    ghost item = { λ cores threads line. user_of threads line };
+
+    fn read(_cores: u8, threads: u32, line: &[u8]) -> Result<UserEntry, LineFault> {
+        read_user(threads, line)
+    }
+}
+
+/// The boot and the items that the lines of a script have said so far.
+#[derive(Drop)]
+pub struct Script<T> {
+    pub boot: Option<Boot>,
+    pub items: Vec<T>,
+}
+
+impl<T> Model for Script<T> {
     ghost use Rattle.mcs_sim.specs.Script.{Script};
 
-    ghost Value = { Script };
+    ghost Value = { Script T };
 
-    ghost view = { λ s. record { boot = s.boot; steps = s.steps.items } };
+    ghost view = { λ s. record { boot = s.boot; items = s.items.items } };
 }
 
 /// Why a line could not be taken.
@@ -178,17 +207,32 @@ fn fitted(boot: &Boot, line: RawBootLine) -> Result<BootLine, LineFault>
     }
 }
 
+/// The number of cores, where it is the one that was asked for.
+fn asked_cores(asked: Option<u8>, cores: u8) -> Result<u8, LineFault>
+    ensures { Gives (λ n. n) result (asked_cores asked cores) }
+{
+    match asked {
+        Some(asked) if cores != asked => Err(LineFault::Number),
+        _ => Ok(cores),
+    }
+}
+
 /// The boot that the first line begins, by the key of its first word and the words behind it.
 #[tactic(auto, unfolding(crate::specs::Script::first_boot))]
-fn first_boot(alloc: Global, key: Option<Key>, words: &mut Words<'_>) -> Result<Boot, ReadFault>
-    ensures { Reads (λ b. b) result (first_boot key words.old) }
+fn first_boot(
+    alloc: Global,
+    asked: Option<u8>,
+    key: Option<Key>,
+    words: &mut Words<'_>,
+) -> Result<Boot, ReadFault>
+    ensures { Reads (λ b. b) result (first_boot asked key words.old) }
 {
     let Some(Key::Cores) = key else {
         return Err(ReadFault::Line(LineFault::NoCores));
     };
     match read_boot_line(Key::Cores, words)? {
         RawBootLine::Cores { cores } => {
-            let cores = cores_of(cores)?;
+            let cores = asked_cores(asked, cores_of(cores)?)?;
             // the number was tested, so that only memory can be refused
             Boot::new(alloc, cores).map_err(|_| ReadFault::OutOfMemory)
         }
@@ -217,59 +261,66 @@ fn read_next_boot(boot: &mut Boot, key: Key, words: &mut Words<'_>) -> Result<()
     add_line(boot, line)
 }
 
-/// Adds the step that a line spells.
-#[tactic(auto, unfolding(crate::specs::Script::next_steps))]
-fn read_next_step(boot: &Boot, steps: &mut Vec<Step>, line: &[u8]) -> Result<(), ReadFault>
-    ensures reads { Reads (λ u. steps.new.items) result
-        (next_steps boot.now steps.old.items line.now) }
-    ensures unchanged { OnErr result (steps.new.items ≡ steps.old.items) }
+/// Adds the item that a line spells.
+#[tactic(auto, unfolding(crate::specs::Script::next_items))]
+fn read_next_item<T: Item>(boot: &Boot, items: &mut Vec<T>, line: &[u8]) -> Result<(), ReadFault>
+    ensures reads { Reads (λ u. items.new.items) result
+        (next_items T.item boot.now items.old.items line.now) }
+    ensures unchanged { OnErr result (items.new.items ≡ items.old.items) }
 {
-    let step = read_step(boot.cores(), boot.made(Kind::Thread), line)?;
-    match steps.push(step) {
+    let item = T::read(boot.cores(), boot.made(Kind::Thread), line)?;
+    match items.push(item) {
         Ok(()) => Ok(()),
         Err(_) => Err(ReadFault::OutOfMemory),
     }
 }
 
-/// Takes a line after the first: one of the boot, or a step.
+/// Takes a line after the first: one of the boot, or an item.
 #[tactic(auto, unfolding(crate::specs::Script::later_line))]
-fn read_later_line(
+fn read_later_line<T: Item>(
     boot: &mut Boot,
-    steps: &mut Vec<Step>,
+    items: &mut Vec<T>,
     line: &[u8],
     key: Option<Key>,
     words: &mut Words<'_>,
 ) -> Result<(), ReadFault>
-    ensures reads { Reads (λ u. record { boot = Some boot.new; steps = steps.new.items }) result
-        (later_line boot.old steps.old.items line.now key words.old) }
+    ensures reads { Reads (λ u. record { boot = Some boot.new; items = items.new.items }) result
+        (later_line T.item boot.old items.old.items line.now key words.old) }
     ensures boot_unchanged { OnErr result (boot.new ≡ boot.old) }
-    ensures steps_unchanged { OnErr result (steps.new.items ≡ steps.old.items) }
+    ensures items_unchanged { OnErr result (items.new.items ≡ items.old.items) }
 {
     match key {
-        Some(_) if !steps.is_empty() => Err(ReadFault::Line(LineFault::LateBoot)),
+        Some(_) if !items.is_empty() => Err(ReadFault::Line(LineFault::LateBoot)),
         Some(key) => read_next_boot(boot, key, words),
-        None => read_next_step(boot, steps, line),
+        None => read_next_item(boot, items, line),
     }
 }
 
-impl Script {
+impl<T: Item> Script<T> {
     ghost use Rattle.mcs_sim.specs.Script.{no_script, read_line, spelled};
 
     /// The script of no line.
-    pub fn new(alloc: Global) -> Script
+    pub fn new(alloc: Global) -> Script<T>
         ensures { result ≡ no_script }
     {
         Script {
             boot: None,
-            steps: Vec::new(alloc),
+            items: Vec::new(alloc),
         }
     }
 
-    /// Takes the line of this number. The faults are tested in the order 9, 7, 1, 8, 2, 3, 4, 5, 6, and a faulty line leaves
-    /// the script as it was.
+    /// Takes the line of this number, where so many cores are asked for. The faults are tested in the order 9, 7, 1, 8, 2, 3,
+    /// 4, 5, 6, and a faulty line leaves the script as it was.
     #[tactic(auto, unfolding(crate::specs::Script::read_line))]
-    pub fn read_line(&mut self, alloc: Global, number: u64, line: &[u8]) -> Result<(), ReadFault>
-        ensures reads { Reads (λ u. self.new) result (read_line self.old number line.now) }
+    pub fn read_line(
+        &mut self,
+        alloc: Global,
+        asked: Option<u8>,
+        number: u64,
+        line: &[u8],
+    ) -> Result<(), ReadFault>
+        ensures reads { Reads (λ u. self.new) result
+            (read_line (record { cores = asked; item = T.item }) self.old number line.now) }
         ensures numbered { OnOk result (number ≤ SCRIPT_LINES) }
         ensures unchanged { OnErr result (self.new ≡ self.old) }
     {
@@ -282,13 +333,14 @@ impl Script {
         if is_skipped(line) {
             return Ok(());
         }
-        self.read_words(alloc, line)
+        self.read_words(alloc, asked, line)
     }
 
     /// Takes a line that is not skipped.
     #[tactic(auto, unfolding(crate::specs::Script::spelled, crate::specs::Script::by_boot))]
-    fn read_words(&mut self, alloc: Global, line: &[u8]) -> Result<(), ReadFault>
-        ensures reads { Reads (λ u. self.new) result (spelled self.old line.now (words_of line.now)) }
+    fn read_words(&mut self, alloc: Global, asked: Option<u8>, line: &[u8]) -> Result<(), ReadFault>
+        ensures reads { Reads (λ u. self.new) result
+            (spelled (record { cores = asked; item = T.item }) self.old line.now (words_of line.now)) }
         ensures unchanged { OnErr result (self.new ≡ self.old) }
     {
         let mut words = Words::new(line);
@@ -296,10 +348,35 @@ impl Script {
         let key = find_boot_key(first);
         match &mut self.boot {
             None => {
-                self.boot = Some(first_boot(alloc, key, &mut words)?);
+                self.boot = Some(first_boot(alloc, asked, key, &mut words)?);
                 Ok(())
             }
-            Some(boot) => read_later_line(boot, &mut self.steps, line, key, &mut words),
+            Some(boot) => read_later_line(boot, &mut self.items, line, key, &mut words),
         }
     }
+}
+
+/// The script of a text, where so many cores are asked for, up to the first faulty line, and that line's number and fault.
+pub fn read_script<T: Item>(
+    alloc: Global,
+    asked: Option<u8>,
+    text: &[u8],
+) -> Result<(Script<T>, Option<(u64, LineFault)>), OutOfMemory>
+    ensures { IfOk result (λ r. script_of (record { cores = asked; item = T.item }) text.now
+        ≡ (r.0, r.1)) }
+{
+    let mut script = Script::new(alloc);
+    let mut lines = Lines::new(text);
+    let mut number = 1u64;
+    while let Some(line) = lines.next_line() {
+        match script.read_line(alloc, asked, number, line) {
+            Ok(()) => number += 1,
+            Err(ReadFault::Line(why)) => return Ok((script, Some((number, why)))),
+            Err(ReadFault::OutOfMemory) => return Err(OutOfMemory),
+        }
+    }
+    if script.boot.is_none() {
+        return Ok((script, Some((number, LineFault::NoCores))));
+    }
+    Ok((script, None))
 }

@@ -43,6 +43,7 @@ fn other_faults_have_their_texts(rt: HostRuntime) -> Result<(), Fail> {
         (SimFault::Write, 4, "mcssim: write fault"),
         (SimFault::BookFull, 5, "mcssim: book full"),
         (SimFault::OutOfMemory, 6, "mcssim: out of memory"),
+        (SimFault::Failed, 7, "mcssim: run failed"),
     ];
     for (fault, status, text) in faults {
         assert_eq!(rt; fault.status(), status);
@@ -93,10 +94,10 @@ fn an_argument_that_is_no_text_is_a_fault(rt: HostRuntime) -> Result<(), Fail> {
     Ok(())
 }
 
-/// The status and the text of what the command line answers, where it asks for no run.
+/// The status and the text of what the command line answers, where it asks for no command.
 fn answer(alloc: Global, words: &[&str]) -> Result<Option<(u8, String)>, Fail> {
     match options(alloc, words) {
-        Ok(Options::Replay) => Ok(None),
+        Ok(_) => Ok(None),
         Err(answer) => Ok(Some((answer_status(&answer), answer.to_string(alloc)?))),
     }
 }
@@ -116,5 +117,61 @@ fn the_command_line_asks_for_a_run_or_is_answered(rt: HostRuntime) -> Result<(),
     assert_eq!(rt; status, 1);
     let (status, _) = answer(rt.alloc(), &["mcssim", "replay", "x"])?.ok_or("a word more")?;
     assert_eq!(rt; status, 1);
+    Ok(())
+}
+
+/// How many cores a run is to have, where the command line asks for a run.
+fn cores(alloc: Global, words: &[&str]) -> Option<Option<u8>> {
+    match options(alloc, words) {
+        Ok(Options::Run { cores }) => Some(cores),
+        _ => None,
+    }
+}
+
+#[test]
+fn a_run_has_the_cores_that_are_said(rt: HostRuntime) {
+    let alloc = rt.alloc();
+    assert_eq!(rt; cores(alloc, &["mcssim", "run"]), Some(None));
+    assert_eq!(rt;
+        cores(alloc, &["mcssim", "run", "--cores", "1"]),
+        Some(Some(1))
+    );
+    assert_eq!(rt;
+        cores(alloc, &["mcssim", "run", "--cores", "16"]),
+        Some(Some(16))
+    );
+    assert_eq!(rt;
+        cores(alloc, &["mcssim", "run", "--cores=2"]),
+        Some(Some(2))
+    );
+    assert_eq!(rt; cores(alloc, &["mcssim", "replay"]), None);
+}
+
+/// Lines that are refused, and what is said of them.
+const REFUSED: [(&[&str], &str); 6] = [
+    (&["mcssim", "run", "--cores", "0"], "0 is not in 1..=16"),
+    (&["mcssim", "run", "--cores", "17"], "17 is not in 1..=16"),
+    (
+        &["mcssim", "run", "--cores", "x"],
+        "invalid digit found in string",
+    ),
+    (
+        &["mcssim", "run", "--cores"],
+        "a value is required for '--cores <N>'",
+    ),
+    (&["mcssim", "run", "3"], "unexpected argument '3' found"),
+    (
+        &["mcssim", "replay", "--cores", "2"],
+        "unexpected argument '--cores' found",
+    ),
+];
+
+#[test]
+fn other_words_of_a_run_are_refused(rt: HostRuntime) -> Result<(), Fail> {
+    for (words, text) in REFUSED {
+        let (status, told) = answer(rt.alloc(), words)?.ok_or("refused")?;
+        assert_eq!(rt; status, 1);
+        assert!(rt; told.as_str().contains(text));
+    }
     Ok(())
 }

@@ -1,12 +1,17 @@
-//! The program: `mcssim replay` reads a script from standard input and writes its trace to standard output.
+//! The program: `mcssim replay` reads a script of steps from standard input and writes its trace to standard output, and
+//! `mcssim run` a script of users, which it runs on a host thread for each core.
 #![tactic(auto)]
 
 use clap::Error;
 use clap::error::ErrorKind;
-use mcs_sim::{Options, SimFault, Sink, Source, answer_status, arguments, options, simulate};
-use std::alloc::AllocError;
-use std::io;
+use mcs_sim::{
+    Open, Options, SimFault, Sink, Source, answer_status, arguments, options, run_text, simulate,
+};
+use std::alloc::{AllocError, AllocGlobal};
+use std::io::{self, Input, Print};
 use std::process::ExitCode;
+use std::sync::Wait;
+use std::thread::Threads;
 
 /// How many bytes are kept back, so that not each line is a write of its own.
 const KEPT: usize = 65_536;
@@ -24,11 +29,17 @@ fn tell_answer(rt: &HostRuntime, answer: &Error) -> ExitCode {
     ExitCode::from(answer_status(answer))
 }
 
-fn replay(rt: &HostRuntime) -> Result<(), SimFault> {
+fn carry_out<R: AllocGlobal + Input + Print + Threads + Wait + Sync>(
+    rt: &R,
+    asked: Options,
+) -> Result<(), SimFault> {
     let mut source = Source::new(rt.reader());
     let mut sink = Sink::new(rt.alloc(), io::writer(rt));
     sink.reserve(KEPT).map_err(|_| SimFault::OutOfMemory)?;
-    simulate(rt.alloc(), &mut source, &mut sink)
+    match asked {
+        Options::Replay => simulate(rt.alloc(), &mut source, &mut sink),
+        Options::Run { cores } => run_text(rt, &mut source, &mut sink, cores, &Open),
+    }
 }
 
 fn texts<'a>(rt: &HostRuntime, words: &'a [String]) -> Result<Vec<&'a str>, AllocError> {
@@ -44,7 +55,7 @@ fn main(rt: HostRuntime) -> ExitCode {
         return tell(&rt, SimFault::OutOfMemory);
     };
     match options(rt.alloc(), &texts) {
-        Ok(Options::Replay) => match replay(&rt) {
+        Ok(asked) => match carry_out(&rt, asked) {
             Ok(()) => ExitCode::SUCCESS,
             Err(fault) => tell(&rt, fault),
         },

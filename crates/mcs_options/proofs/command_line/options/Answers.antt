@@ -1,62 +1,168 @@
-use Rattle.std.proofs.Common.{ap, ap₂, refl, codes, true, ℕ, List, [], ◌∷◌, ◌≡◌, ◌∙◌, sym, subst, Result, Ok, Err, IfErr}
-use Rattle.std.specs.Prelude.{IsErrAnd}
+use Rattle.std.proofs.Common.{ap, refl, sym, subst, ◌≡◌, ◌∙◌, ◌<◌, ◌^◌, inl, inr, arith, codes, true, map, ℕ, List, []}
+use Rattle.std.proofs.Common.{◌∷◌, Result, Ok, Err}
+use Rattle.std.specs.Prelude.{IsErrAnd, Some, None, decimal}
+use Rattle.std.specs.Borrow.{Bor}
+use Rattle.std.proofs.lemmas.Fmt.{decimal_is_IsNumeral}
+use Rattle.std.proofs.lemmas.Str.Parse.{digit_at, without_leading_plus_none}
 use Rattle.clap.specs.declared.error.Error.{Error}
 use Rattle.clap.specs.declared.error.kind.ErrorKind.TheVariants as kind
-use Rattle.clap.specs.Words.{App, HasKind, fault_of, is_simple_and_free, takes}
+use Rattle.clap.specs.declared.parser.ArgMatches.{ArgMatches}
+use Rattle.clap.specs.Words.{App, HasKind, HasMatchesOf, Text, fault_of, is_simple, is_simple_and_free, subcommand_of}
+use Rattle.clap.specs.Words.{subcommand_rows_of}
 use Rattle.clap.proofs.OnLiterals.{clap_on_literals}
-use Rattle.mcs_options.specs.CommandLine.{mcssim_line}
+use Rattle.mcs_options.specs.Asked.{Asks, Gives, IsChoice, IsChosen, IsCoreCount, Writes}
+use Rattle.mcs_options.specs.CommandLine.{AsksFor, AsksForCores, IsMemory, IsVersion, mcssim_line}
+use Rattle.mcs_options.specs.declared.choice.Options.{Options}
+use Rattle.mcs_options.specs.declared.choice.Options.TheVariants.{Replay, Run}
+use Rattle.mcs_options.proofs.Line.{asks}
+use Rattle.mcs_options.proofs.Refusals.{not_none}
+use Rattle.mcs_options.proofs.Taken.{chosen, no_fault}
 use Rattle.mcs_options.proofs.command_line.options.Goals as goal
 
--- the command line takes `replay`
-is_taken : (name : List ℕ) → takes mcssim_line (name ∷ codes "replay" ∷ []) ≡ true
+-- no rule of the command line is on another
+is_plain_line : is_simple_and_free mcssim_line ≡ true
 unfolding clap_on_literals
-is_taken name = refl
+is_plain_line = refl
 
--- no rule of it is on another
-is_simple : is_simple_and_free mcssim_line ≡ true
+is_simple_line : is_simple mcssim_line ≡ true
 unfolding clap_on_literals
-is_simple = refl
+is_simple_line = refl
 
 -- the version is asked for
-version_kinds : (name : List ℕ) → fault_of mcssim_line (name ∷ codes "--version" ∷ []) ≡ kind.DisplayVersion ∷ []
+version_kinds : (name : Text) → fault_of mcssim_line (name ∷ codes "--version" ∷ []) ≡ kind.DisplayVersion ∷ []
 unfolding clap_on_literals
 version_kinds name = refl
 
--- an error of these words tells the version
-tells_version : (a : App) (words : List (List ℕ)) (name : List ℕ) (e : Error) → a ≡ mcssim_line
-    → words ≡ name ∷ codes "--version" ∷ [] → (is_simple_and_free a ≡ true → HasKind (fault_of a words) e)
-    → HasKind (kind.DisplayVersion ∷ []) e
-tells_version a words name e line words_are fails =
-    subst (λ kinds. HasKind kinds e) (ap₂ fault_of line words_are ∙ version_kinds name) (fails (ap is_simple_and_free line ∙ is_simple))
+-- ---- what the plain lines ask for
 
--- these words are not taken
-is_not_taken : (a : App) (words : List (List ℕ)) (name : List ℕ) → a ≡ mcssim_line
-    → words ≡ name ∷ codes "--version" ∷ [] → (is_simple_and_free a ≡ true → fault_of a words ≡ []) → ⊥
-is_not_taken a words name line words_are fails =
-    let none : kind.DisplayVersion ∷ [] ≡ [] =
-    sym (ap₂ fault_of line words_are ∙ version_kinds name) ∙ fails (ap is_simple_and_free line ∙ is_simple) in
-    absurd cc
+asks_replay : (words : List (Bor Text)) → AsksFor words (codes "replay") → Asks (map (λ w. w.now) words) Replay
+asks_replay words asked = ([], asked, inl refl)
+
+asks_run : (words : List (Bor Text)) → AsksFor words (codes "run") → Asks (map (λ w. w.now) words) (Run None)
+asks_run words asked = ([], asked, inl refl)
+
+-- a number in decimal writes it
+decimal_writes : (n : ℕ) → IsCoreCount n → Writes (decimal n) n
+decimal_writes n count =
+    let small : n < 2 ^ 64 = omega arith in
+    let is = decimal_is_IsNumeral n small in
+    let first = digit_at (decimal n) 0 is.0.1 is.0.0 in
+    let plain = without_leading_plus_none (decimal n) (λ plus. absurd (omega arith)) in
+    rw plain is
+
+asks_cores : (words : List (Bor Text)) (n : ℕ) → IsCoreCount n → AsksForCores words n
+    → Asks (map (λ w. w.now) words) (Run (Some n))
+asks_cores words n count asked = (_, (asked.0, asked.1), (decimal n, [], inl refl, decimal_writes n count, count, inl refl))
+
+-- ---- what the line gives
+
+-- what is asked for has a number of cores that a machine may have
+is_choice : (words : List Text) (choice : Options) → Asks words choice → IsChoice choice
+is_choice words Replay asked = tt
+is_choice words (Run None) asked = tt
+is_choice words (Run (Some n)) asked = asked.2.4
+
+-- what is given of a line that was not refused is what it asks for
+found_asked : (words : List Text) (found : Options) → fault_of mcssim_line words ≡ []
+    → IsChosen (subcommand_of mcssim_line words) found → Asks words found
+found_asked words found passes is =
+    let one = asks words passes in
+    subst (Asks words) (sym (chosen words one.0 found one.1 is)) one.1
+
+-- what the parse says of the line
+kinds_are : (a : App) (words : List Text) (e : Error) → a ≡ mcssim_line
+    → (is_simple_and_free a ≡ true → HasKind (fault_of a words) e) → HasKind (fault_of mcssim_line words) e
+kinds_are a words e line kinds = subst (λ b. HasKind (fault_of b words) e) line
+    (kinds (ap is_simple_and_free line ∙ is_plain_line))
+
+none_failed : (a : App) (words : List Text) → a ≡ mcssim_line → (is_simple_and_free a ≡ true → fault_of a words ≡ [])
+    → fault_of mcssim_line words ≡ []
+none_failed a words line kinds = subst (λ b. fault_of b words ≡ []) line (kinds (ap is_simple_and_free line ∙ is_plain_line))
+
+found_is : (a : App) (words : List Text) (m : ArgMatches) (found : Options) → a ≡ mcssim_line → HasMatchesOf a words m
+    → IsChosen (subcommand_rows_of m) found
+    → IsChosen (subcommand_of mcssim_line words) found
+found_is a words m found line matches is =
+    subst (λ rows. IsChosen rows found) ((matches (ap is_simple line ∙ is_simple_line)).1
+    ∙ ap (λ b. subcommand_of b words) line) is
+
+-- an error that a line gives, by the kinds that it has: what is asked for was not given for want of memory alone
+refused_given : (words : List Text) (e : Error) → HasKind (fault_of mcssim_line words) e → (choice : Options)
+    → Asks words choice → IsMemory e
+refused_given words e has choice asked = go (subst (λ kinds. HasKind kinds e) (no_fault words choice asked) has)
+  where
+    go : HasKind [] e → IsMemory e
+    go (inl memory) = memory
+    go (inr none) = absurd none
+
+tells_version : (words : List (Bor Text)) (e : Error) → AsksFor words (codes "--version")
+    → HasKind (fault_of mcssim_line (map (λ w. w.now) words)) e → IsVersion e
+tells_version words e asked has = subst (λ kinds. HasKind kinds e) (ap (fault_of mcssim_line) asked.1 ∙ version_kinds asked.0) has
+
+no_version : (words : List (Bor Text)) → AsksFor words (codes "--version")
+    → fault_of mcssim_line (map (λ w. w.now) words) ≡ [] → ⊥
+no_version words asked passes = not_none _ _ (sym (ap (fault_of mcssim_line) asked.1 ∙ version_kinds asked.0) ∙ passes)
 
 -- what an error hands on
-if_err-passed : {T E : Type 0} (r : Result T E) (e : E) (Q : E → Type 0) → IsErrAnd r (λ x. x ≡ e) → Q e → IfErr r Q
-if_err-passed (Ok x) e Q same q = tt
-if_err-passed (Err x) e Q same q = subst Q (sym same) q
+gives-passed : (choice : Options) (r : Result Options Error) (e : Error) → IsErrAnd r (λ x. x ≡ e) → IsMemory e → Gives choice r
+gives-passed choice (Ok x) e same memory = absurd same
+gives-passed choice (Err x) e same memory = subst IsMemory (sym same) memory
 
--- and that it is one
-is_err_and-passed : {T E : Type 0} (r : Result T E) (e : E) (Q : E → Type 0) → IsErrAnd r (λ x. x ≡ e) → Q e → IsErrAnd r Q
-is_err_and-passed (Ok x) e Q same q = absurd same
-is_err_and-passed (Err x) e Q same q = subst Q (sym same) q
+version-passed : (r : Result Options Error) (e : Error) → IsErrAnd r (λ x. x ≡ e) → IsVersion e → IsErrAnd r IsVersion
+version-passed (Ok x) e same version = absurd same
+version-passed (Err x) e same version = subst IsVersion (sym same) version
 
-pub returns-in_err-try_get_matches_from-clause-replay : goal.returns-in_err-try_get_matches_from-clause-replay
-returns-in_err-try_get_matches_from-clause-replay c =
-    λ asked. if_err-passed _ _ _ c.from_residual-in_err-try_get_matches_from.ensures.1
-    (c.in_err-try_get_matches_from.ensures.passes (ap₂ takes c.in_ok-commands.ensures.line asked.1 ∙ is_taken asked.0))
+-- ---- where the words were refused
 
-pub returns-in_err-try_get_matches_from-clause-version : goal.returns-in_err-try_get_matches_from-clause-version
-returns-in_err-try_get_matches_from-clause-version c =
-    λ asked. is_err_and-passed _ _ _ c.from_residual-in_err-try_get_matches_from.ensures.1
-    (tells_version _ _ asked.0 c.in_err-try_get_matches_from.field-0.0 c.in_ok-commands.ensures.line asked.1 c.in_err-try_get_matches_from.ensures.kinds)
+pub returns-in_err-matches-clause-given : goal.returns-in_err-matches-clause-given
+returns-in_err-matches-clause-given c = λ choice asked.
+    let e = c.in_err-matches.field-0.0 in
+    let has = kinds_are _ _ e c.in_ok-commands.ensures.line c.in_err-matches.ensures.kinds in
+    gives-passed choice _ e c.from_residual-in_err-matches.ensures.1 (refused_given _ e has choice asked)
+
+pub returns-in_err-matches-clause-replay : goal.returns-in_err-matches-clause-replay
+returns-in_err-matches-clause-replay c = λ asked. returns-in_err-matches-clause-given c Replay (asks_replay _ asked)
+
+pub returns-in_err-matches-clause-run : goal.returns-in_err-matches-clause-run
+returns-in_err-matches-clause-run c = λ asked. returns-in_err-matches-clause-given c (Run None) (asks_run _ asked)
+
+pub returns-in_err-matches-clause-cores : goal.returns-in_err-matches-clause-cores
+returns-in_err-matches-clause-cores c = λ n count asked. returns-in_err-matches-clause-given c (Run (Some n))
+    (asks_cores _ n count asked)
+
+pub returns-in_err-matches-clause-version : goal.returns-in_err-matches-clause-version
+returns-in_err-matches-clause-version c = λ asked.
+    let e = c.in_err-matches.field-0.0 in
+    let has = kinds_are _ _ e c.in_ok-commands.ensures.line c.in_err-matches.ensures.kinds in
+    version-passed _ e c.from_residual-in_err-matches.ensures.1 (tells_version _ e asked has)
+
+-- ---- where they were taken
+
+pub returns-clause-asked : goal.returns-clause-asked
+returns-clause-asked c =
+    let line = c.in_ok-commands.ensures.line in
+    let passes = none_failed _ _ line c.in_ok-matches.ensures.kinds in
+    let is = found_is _ _ c.in_ok-matches.matches c.chosen.result line c.in_ok-matches.ensures.matches c.chosen.ensures in
+    found_asked _ c.chosen.result passes is
+
+pub returns-clause-given : goal.returns-clause-given
+returns-clause-given c = λ choice asked.
+    let line = c.in_ok-commands.ensures.line in
+    let is = found_is _ _ c.in_ok-matches.matches c.chosen.result line c.in_ok-matches.ensures.matches c.chosen.ensures in
+    chosen _ choice c.chosen.result asked is
+
+pub returns-clause-choice : goal.returns-clause-choice
+returns-clause-choice c = is_choice _ c.chosen.result (returns-clause-asked c)
+
+pub returns-clause-replay : goal.returns-clause-replay
+returns-clause-replay c = λ asked. returns-clause-given c Replay (asks_replay _ asked)
+
+pub returns-clause-run : goal.returns-clause-run
+returns-clause-run c = λ asked. returns-clause-given c (Run None) (asks_run _ asked)
+
+pub returns-clause-cores : goal.returns-clause-cores
+returns-clause-cores c = λ n count asked. returns-clause-given c (Run (Some n)) (asks_cores _ n count asked)
 
 pub returns-clause-version : goal.returns-clause-version
-returns-clause-version c =
-    λ asked. is_not_taken _ _ asked.0 c.in_ok-commands.ensures.line asked.1 c.in_ok-try_get_matches_from.ensures.kinds
+returns-clause-version c = λ asked. no_version _ asked (none_failed _ _ c.in_ok-commands.ensures.line
+    c.in_ok-matches.ensures.kinds)

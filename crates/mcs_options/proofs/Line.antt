@@ -1,0 +1,140 @@
+-- The words that the whole command line does not refuse.
+use Rattle.std.proofs.Common.{refl, sym, subst, ap, ◌≡◌, ◌∙◌, ◌⊎◌, ◌||◌, inl, inr, codes, Bool, true, false, List, [], ◌∷◌, cond}
+use Rattle.std.specs.Prelude.{Option, Some, None, fold, is_some, option_map}
+use Rattle.std.specs.List.{slice_index_or}
+use Rattle.std.specs.Str.{bytes_eq}
+use Rattle.std.proofs.lemmas.Slice.Eq.{bytes_eq-Decides}
+use Rattle.clap.specs.Kinds.{Kinds, or_else}
+use Rattle.clap.specs.Simple.{entered, names_of}
+use Rattle.clap.specs.Walk.{Names, Text, Walk, finished, idle, nothing_held, settled, subcommand_or_other, value, walked}
+use Rattle.clap.specs.Faults.{check_fault, defaults_fault, entered_fault, fault_of, other_fault, settle_fault}
+use Rattle.clap.specs.Faults.{step_fault, turn_fault, walk_fault}
+use Rattle.clap.proofs.FaultLemmas.{stopped_fault}
+use Rattle.clap.proofs.WalkLemmas.{walk_stopped}
+use Rattle.mcs_options.specs.Asked.{Asks, IsEnd}
+use Rattle.mcs_options.specs.CommandLine.{mcssim_line}
+use Rattle.mcs_options.specs.declared.choice.Options.{Options}
+use Rattle.mcs_options.specs.declared.choice.Options.TheVariants.{Replay, Run}
+use Rattle.mcs_options.proofs.Leaves.{between, ended, fault_from, fault_from-cons, line, nothing_after, replay_shape, run_shape}
+use Rattle.mcs_options.proofs.Refusals.{AllRequests, not_none, or_else-first, word_ends}
+use Rattle.mcs_options.proofs.RunLevel.{run_says}
+
+-- before the first word
+abbrev pub start : Walk
+start = between nothing_held idle
+
+-- ---- the words after `replay`
+
+replay_asks : AllRequests replay_shape.rules
+replay_asks = ((refl, λ again rows e. not_none _ _ e), tt)
+
+replay_stray : step_fault replay_shape 1 nothing_held value ≡ [] → ⊥
+replay_stray e = not_none _ _ e
+
+replay_word : (word : Text) → turn_fault replay_shape [] start word ≡ [] → word ≡ codes "--"
+replay_word word e = word_ends replay_shape [] None word replay_asks replay_stray e
+
+pub replay_says : (rest : List Text) → fault_from replay_shape start rest ≡ [] → IsEnd rest
+unfolding walked
+replay_says [] e = inl refl
+replay_says (word ∷ rest) e =
+    let parts = fault_from-cons replay_shape start word rest e in
+    let dashes = replay_word word parts.0 in
+    let after : walked replay_shape.rules [] start word ≡ ended nothing_held idle = ap (walked replay_shape.rules [] start)
+    dashes in
+    let none = nothing_after replay_shape nothing_held idle rest replay_stray
+    (subst (λ w. fault_from replay_shape w rest ≡ []) after parts.1) in
+    inr cc
+
+-- ---- the program's own words
+
+abbrev names : Names
+names = names_of line
+
+-- what fails once the words are read, those of the command among them
+abbrev line_end : Walk → Kinds
+line_end w = or_else (entered_fault line w.stopped) (or_else (settle_fault line.top.rules line.top.args_override_self w.held)
+    (or_else (defaults_fault (settled line.top.rules w.held).rows line.top.rules)
+    (check_fault line.top (finished line.top.rules w.held) (is_some (entered line w.stopped)))))
+
+-- the walk stops at the name of a command
+abbrev stopped_at : Text → List Text → Walk
+stopped_at name rest = record start { stopped = Some (name, rest) }
+
+pub run_fault : (name : Text) (rest : List Text) → fault_of mcssim_line (name ∷ codes "run" ∷ rest)
+    ≡ or_else (fault_from run_shape start rest) []
+unfolding walked walk_fault defaults_fault
+run_fault name rest =
+    ap (λ k. or_else k (line_end (fold (walked line.top.rules names) (stopped_at (codes "run") []) rest)))
+    (stopped_fault line.top names start (codes "run", []) rest)
+    ∙ ap line_end (sym (walk_stopped line.top.rules names start (codes "run") [] rest))
+
+pub replay_fault : (name : Text) (rest : List Text) → fault_of mcssim_line (name ∷ codes "replay" ∷ rest)
+    ≡ or_else (fault_from replay_shape start rest) []
+unfolding walked walk_fault defaults_fault
+replay_fault name rest =
+    ap (λ k. or_else k (line_end (fold (walked line.top.rules names) (stopped_at (codes "replay") []) rest)))
+    (stopped_fault line.top names start (codes "replay", []) rest)
+    ∙ ap line_end (sym (walk_stopped line.top.rules names start (codes "replay") [] rest))
+
+line_asks : AllRequests line.top.rules
+line_asks = ((refl, λ again rows e. not_none _ _ e), ((refl, λ again rows e. not_none _ _ e), tt))
+
+line_stray : step_fault line.top 1 nothing_held value ≡ [] → ⊥
+line_stray e = not_none _ _ e
+
+other_word : (word : Text)
+    → or_else (other_fault line.top None word nothing_held)
+    (step_fault line.top 1 (subcommand_or_other line.top.rules None idle 1 word nothing_held).0
+    (subcommand_or_other line.top.rules None idle 1 word nothing_held).1) ≡ []
+    → word ≡ codes "--"
+other_word word e = word_ends line.top [] None word line_asks line_stray e
+
+-- the command that a word names, by the tests whether it is this one or that
+abbrev named : Bool → Bool → Bool → Option Text
+named is_replay is_run is_help = option_map (λ s. s.0) (cond (is_replay || false) (Some (slice_index_or names 0 ([], [])))
+    (cond (is_run || false) (Some (slice_index_or names 1 ([], [])))
+    (cond (is_help || false) (Some (slice_index_or names 2 ([], []))) None)))
+
+abbrev word_fault_by : Option Text → Text → Kinds
+word_fault_by command word = or_else (other_fault line.top command word nothing_held)
+    (step_fault line.top 1 (subcommand_or_other line.top.rules command idle 1 word nothing_held).0
+    (subcommand_or_other line.top.rules command idle 1 word nothing_held).1)
+
+first_word : (word : Text) → turn_fault line.top names start word ≡ []
+    → (word ≡ codes "replay") ⊎ ((word ≡ codes "run") ⊎ (word ≡ codes "--"))
+first_word word e = go (bytes_eq (codes "replay") word) (bytes_eq (codes "run") word) (bytes_eq (codes "help") word) refl refl e
+  where
+    go : (is_replay is_run is_help : Bool) → bytes_eq (codes "replay") word ≡ is_replay → bytes_eq (codes "run") word ≡ is_run
+        → word_fault_by (named is_replay is_run is_help) word ≡ [] → (word ≡ codes "replay") ⊎
+        ((word ≡ codes "run") ⊎ (word ≡ codes "--"))
+    go true is_run is_help same other e = inl (sym ((bytes_eq-Decides (codes "replay") word).0 same))
+    go false true is_help other same e = inr (inl (sym ((bytes_eq-Decides (codes "run") word).0 same)))
+    go false false true other another e = absurd (not_none _ _ e)
+    go false false false other another e = inr (inr (other_word word e))
+
+-- after `--` there is no command
+no_command : (name : Text) (rest : List Text) → fault_of mcssim_line (name ∷ codes "--" ∷ rest) ≡ [] → ⊥
+unfolding walked walk_fault defaults_fault
+no_command name [] e = not_none _ _ e
+no_command name (word ∷ rest) e = not_none _ _ e
+
+-- the words that are not refused ask for something
+pub asks : (words : List Text) → fault_of mcssim_line words ≡ [] → (choice : Options) × Asks words choice
+unfolding walked walk_fault defaults_fault
+asks [] e = absurd (not_none _ _ e)
+asks (name ∷ []) e = absurd (not_none _ _ e)
+asks (name ∷ word ∷ rest) e = go (first_word word (or_else-first _ _ (or_else-first _ _ e)))
+  where
+    at_word : (command : Text) → word ≡ command → fault_of mcssim_line (name ∷ command ∷ rest) ≡ []
+    at_word command is = subst (λ w. fault_of mcssim_line (name ∷ w ∷ rest) ≡ []) is e
+
+    go : (word ≡ codes "replay") ⊎ ((word ≡ codes "run") ⊎ (word ≡ codes "--"))
+        → (choice : Options) × Asks (name ∷ word ∷ rest) choice
+    go (inl is) =
+        let end = replay_says rest (or_else-first _ _ (sym (replay_fault name rest) ∙ at_word (codes "replay") is)) in
+        (Replay, (rest, (name, ap (λ w. name ∷ w ∷ rest) is), end))
+    go (inr (inl is)) =
+        let says = run_says rest (or_else-first _ _ (sym (run_fault name rest) ∙ at_word (codes "run") is)) in
+        (Run says.0, (rest, (name, ap (λ w. name ∷ w ∷ rest) is), says.1))
+    go (inr (inr is)) = absurd (no_command name rest (at_word (codes "--") is))

@@ -1,0 +1,160 @@
+//! A script of users, from bytes to bytes: they run on a machine, and the trace of its book is written.
+ghost use Rattle.std.specs.Prelude.{◌≡◌, ◌≤◌, IfOk, IfErr, OnOk, Err};
+ghost use Rattle.mcs_book.specs.History.{IsLegal};
+ghost use Rattle.mcs_text.specs.Output.{Rose};
+ghost use Rattle.mcs_sim.specs.Running.{Reads, EndsUsers, IsOfMachine, IsBookOf, RunFinished, RunEndedBy, run_fault, finish_fault};
+
+use crate::fault::SimFault;
+use crate::script::{Script, read_script};
+use crate::source::{ReadFault, Source};
+use crate::writing::trace;
+use mcs_cores::{FinishFault, Gate, Machine, RunFault, Settled, Users};
+use mcs_kernel::{Boot, Kernel};
+use mcs_queues::PlainLines;
+use mcs_text::{Sink, UserEntry};
+use mcs_types::{CORES, OutOfMemory};
+use std::alloc::{AllocGlobal, Global};
+use std::io::{Read, Write};
+use std::marker::Brand;
+use std::sync::Wait;
+use std::sync::ledger::{Blank, Ledger};
+use std::thread::Threads;
+
+/// The boot and the entries of users that a source says, to its end.
+fn read_users<R: Read>(
+    alloc: Global,
+    from: &mut Source<R>,
+    cores: Option<u8>,
+) -> Result<(Boot, Vec<UserEntry>), SimFault>
+    ensures ok { IfOk result (λ r. Reads cores (R.remaining from.old.reader)
+        (R.remaining from.new.reader) r.0 r.1.items) }
+    ensures err { IfErr result (λ e. EndsUsers e cores (R.remaining from.old.reader)
+        (R.remaining from.new.reader)) }
+    ensures failed { result ≡ Err SimFault.Read → Rose from.old.failed from.new.failed }
+    ensures count { from.old.failed ≤ from.new.failed }
+{
+    let text = match from.read_all(alloc) {
+        Ok(text) => text,
+        Err(ReadFault::Read) => return Err(SimFault::Read),
+        Err(ReadFault::OutOfMemory) => return Err(SimFault::OutOfMemory),
+    };
+    let Ok((script, fault)) = read_script(alloc, cores, &text) else {
+        return Err(SimFault::OutOfMemory);
+    };
+    if let Some((line, why)) = fault {
+        return Err(SimFault::Script { line, why });
+    }
+    let Script { boot, items } = script;
+    match boot {
+        Some(boot) => Ok((boot, items)),
+        None => unreachable!(),
+    }
+}
+
+/// The users of these entries.
+fn users_of(alloc: Global, entries: Vec<UserEntry>) -> Result<Users, OutOfMemory> {
+    let mut users = Users::new(alloc);
+    for UserEntry { thread, entry } in entries {
+        users.add(thread, entry)?;
+    }
+    Ok(users)
+}
+
+/// How the program tells why a run ended early.
+fn run_fault(fault: RunFault) -> SimFault
+    ensures { result ≡ run_fault fault }
+{
+    match fault {
+        RunFault::BookFull => SimFault::BookFull,
+        RunFault::OutOfMemory => SimFault::OutOfMemory,
+        RunFault::NoThread => SimFault::Failed,
+    }
+}
+
+/// How the program tells why a machine did not settle.
+fn finish_fault(fault: FinishFault) -> SimFault
+    ensures { result ≡ finish_fault fault }
+{
+    match fault {
+        FinishFault::MissingSeat | FinishFault::OtherBoot | FinishFault::Torn { .. } => {
+            SimFault::Failed
+        }
+        FinishFault::OutOfMemory => SimFault::OutOfMemory,
+    }
+}
+
+/// Runs users on a machine with this ledger, and settles it.
+fn settle_run<G: Ledger + Send + Sync, X: Threads + Wait + Sync, T: Gate>(
+    rt: &X,
+    alloc: Global,
+    blank: Blank,
+    boot: &Boot,
+    users: &Users,
+    gate: &T,
+) -> Result<Settled<PlainLines>, SimFault>
+    requires name { blank.name ≡ G.name }
+    requires parts { blank.parts ≡ G.parts }
+    requires sixteen { blank.parts ≡ CORES }
+    ensures booted { IfOk result (λ s. s.boot ≡ boot.now) }
+    ensures legal { IfOk result (λ s. IsLegal s) }
+    ensures fault { IfErr result IsOfMachine }
+{
+    let Ok(kernel) = Kernel::new(alloc, boot) else {
+        return Err(SimFault::OutOfMemory);
+    };
+    let mut machine = Machine::<G, PlainLines>::new(kernel, blank);
+    let Ok(seats) = machine.seats(rt, alloc) else {
+        return Err(SimFault::OutOfMemory);
+    };
+    let (seats, ended) = machine.run(rt, alloc, seats, users, gate);
+    ended.map_err(run_fault)?;
+    machine.finish(alloc, boot, seats).map_err(finish_fault)
+}
+
+/// Runs the users of these entries on a machine of this boot, and settles it.
+fn run_users<X: Threads + Wait + Sync, T: Gate>(
+    rt: &X,
+    alloc: Global,
+    boot: &Boot,
+    entries: Vec<UserEntry>,
+    gate: &T,
+) -> Result<Settled<PlainLines>, SimFault>
+    ensures settled { IfOk result (λ s. IsBookOf boot.now s) }
+    ensures fault { IfErr result IsOfMachine }
+{
+    let Ok(users) = users_of(alloc, entries) else {
+        return Err(SimFault::OutOfMemory);
+    };
+    let blank = Blank::new(u64::from(CORES));
+    let settled = settle_run::<Brand, X, T>(rt, alloc, blank, boot, &users, gate)?;
+    settled.kernel().is_fair();
+    Ok(settled)
+}
+
+/// Reads a boot and the entries of users, runs them on a machine with a host thread for each core, settles it, and writes the
+/// trace of its book. Where a number of cores is asked for, a script that says another is refused with fault Number at the
+/// line that says it. After Ok the whole trace is written, of a book that is legal and fair and begins with the boot that was
+/// read. After Write a beginning of such a trace is written, and after any other fault nothing: Script where a line is faulty,
+/// BookFull where the book had no room for an entry, Failed where a host thread was not started or the book does not agree
+/// with what the cores were told. The gate is called as `Machine::run` says. Reads and writes are tried again as `simulate`
+/// does.
+pub fn run_text<R: Read, W: Write, X: AllocGlobal + Threads + Wait + Sync, T: Gate>(
+    rt: &X,
+    from: &mut Source<R>,
+    to: &mut Sink<W>,
+    cores: Option<u8>,
+    gate: &T,
+) -> Result<(), SimFault>
+    ensures ok { OnOk result (RunFinished R.remaining W.contents cores from.old from.new
+        to.old to.new) }
+    ensures err { IfErr result (RunEndedBy R.remaining W.contents cores from.old from.new
+        to.old to.new) }
+    ensures read_failed { result ≡ Err SimFault.Read → Rose from.old.failed from.new.failed }
+    ensures write_failed { result ≡ Err SimFault.Write → Rose to.old.failed to.new.failed }
+    ensures counts { (from.old.failed ≤ from.new.failed) × (to.old.failed ≤ to.new.failed) }
+{
+    let alloc = rt.alloc();
+    let (boot, entries) = read_users(alloc, from, cores)?;
+    let settled = run_users(rt, alloc, &boot, entries, gate)?;
+    trace(settled.book(), to)
+}

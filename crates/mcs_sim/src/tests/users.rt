@@ -1,0 +1,253 @@
+//! Scripts of users.
+use crate::{Open, SimFault, Sink, Source, run_text, simulate};
+use mcs_text::LineFault;
+use std::alloc::{AllocGlobal, Global};
+use std::io::{self, ErrorKind, Read, Write};
+use std::sync::Wait;
+use std::test::Fail;
+use std::thread::Threads;
+
+/// One core, a CNode, an endpoint with a badged capability to send, and two threads of priorities 10 and 20 with capabilities
+/// to each other.
+const BOOT: &str = "\
+cores 1
+cnode 5
+endpoint
+reply
+context 0
+context 0
+thread 10 255 c1 59 0 run s1
+thread 20 255 c1 59 0 run s2
+slot c1 1 e1 w 9
+slot c1 2 e1 rwgp 0
+slot c1 8 r1
+slot c1 11 t1
+slot c1 12 t2
+";
+
+/// What users say after the boot, and what the trace has after it.
+const RUNS: [(&str, &str); 3] = [
+    ("", ""),
+    // The thread of greater priority comes first, whatever line is first.
+    (
+        "\
+user t1 send 1 7
+user t2 recv 2 8
+",
+        "\
+0 t2 recv 2 8
+= waits
++ joins t2 e1.recv r1
+0 t1 send 1 7
+= done
++ sent m0 t1 e1 send 9 7
++ took m0 t2
++ parts t2 e1.recv
++ turns t2 running
+",
+    ),
+    // An entry that waited is given again after the restart.
+    (
+        "\
+user t2 send 1 7
+user t2 nbsend 1 8
+user t1 resume 12
+user t1 nbrecv 2 8
+",
+        "\
+0 t2 send 1 7
+= waits
++ sent m0 t2 e1 send 9 7
++ joins t2 e1.send
+0 t1 resume 12
+= done
++ dropped m0
++ parts t2 e1.send
++ turns t2 restart
+0 t2 send 1 7
+= waits
++ turns t2 running
++ sent m1 t2 e1 send 9 7
++ joins t2 e1.send
+0 t1 nbrecv 2 8
+= got 9 7
++ took m1 t1
++ parts t2 e1.send
++ turns t2 running
+0 t2 nbsend 1 8
+= done
+",
+    ),
+];
+
+/// A client on each of two cores, and a server on the second, which stands receiving at the end.
+const TWO_CORES: &str = "\
+cores 2
+cnode 5
+endpoint
+reply
+context 0
+context 1
+context 1
+thread 10 255 c1 59 0 run s1
+thread 10 255 c1 59 0 run s2
+thread 20 255 c1 59 0 run s3
+slot c1 1 e1 wg 7
+slot c1 2 e1 r 0
+slot c1 3 r1
+user t1 call 1 101
+user t1 call 1 102
+user t2 call 1 103
+user t3 recv 2 3
+user t3 replyrecv 2 3 201
+user t3 replyrecv 2 3 202
+user t3 replyrecv 2 3 203
+";
+
+/// What the users of a script give, and the bytes that are written.
+fn run_users<R: AllocGlobal + Threads + Wait + Sync>(
+    rt: &R,
+    script: &[u8],
+    cores: Option<u8>,
+) -> (Result<(), SimFault>, Vec<u8>) {
+    let mut written = Vec::new(rt.alloc());
+    let result = run_text(
+        rt,
+        &mut Source::new(script),
+        &mut Sink::new(rt.alloc(), &mut written),
+        cores,
+        &Open,
+    );
+    (result, written)
+}
+
+/// What a replay writes that has to end well.
+fn replayed(alloc: Global, script: &[u8]) -> Result<Vec<u8>, Fail> {
+    let mut written = Vec::new(alloc);
+    simulate(
+        alloc,
+        &mut Source::new(script),
+        &mut Sink::new(alloc, &mut written),
+    )?;
+    Ok(written)
+}
+
+#[test]
+fn users_on_one_core_give_their_traces(rt: HostRuntime) -> Result<(), Fail> {
+    for (users, trace) in RUNS {
+        let script = format!(in rt.alloc(); "{BOOT}{users}")?;
+        let want = format!(in rt.alloc(); "{BOOT}{trace}")?;
+        for cores in [None, Some(1)] {
+            let (result, written) = run_users(&rt, script.as_bytes(), cores);
+            assert_eq!(rt; result, Ok(()));
+            assert_eq!(rt; written.as_slice(), want.as_bytes());
+        }
+        let again = replayed(rt.alloc(), want.as_bytes())?;
+        assert_eq!(rt; again.as_slice(), want.as_bytes());
+    }
+    Ok(())
+}
+
+#[test]
+fn a_run_on_two_cores_is_replayed(rt: HostRuntime) -> Result<(), Fail> {
+    for _ in 0..20 {
+        let (result, written) = run_users(&rt, TWO_CORES.as_bytes(), Some(2));
+        assert_eq!(rt; result, Ok(()));
+        let entries = written
+            .split(|b| *b == b'\n')
+            .filter(|l| l.starts_with(b"= "));
+        assert_eq!(rt; entries.count(), 7);
+        let again = replayed(rt.alloc(), &written)?;
+        assert_eq!(rt; again.as_slice(), written.as_slice());
+    }
+    Ok(())
+}
+
+#[test]
+fn faulty_lines_of_users_are_told(rt: HostRuntime) -> Result<(), Fail> {
+    let faults = [
+        ("0 t1 nbsend 1 7\n", LineFault::Form),
+        ("user t1\n", LineFault::Form),
+        ("user t1 nbsend\n", LineFault::Form),
+        ("user 1 nbsend 1 7\n", LineFault::Form),
+        ("users t1 nbsend 1 7\n", LineFault::Form),
+        ("user t1 setprio 11 11 256\n", LineFault::Number),
+        ("user t3 nbsend 1 7\n", LineFault::NoObject),
+        ("user t1 nbsend 1 7\nendpoint\n", LineFault::LateBoot),
+    ];
+    for (lines, why) in faults {
+        let script = format!(in rt.alloc(); "{BOOT}{lines}")?;
+        let (result, written) = run_users(&rt, script.as_bytes(), None);
+        let line = if why == LineFault::LateBoot { 15 } else { 14 };
+        assert_eq!(rt; result, Err(SimFault::Script { line, why }), "{lines}");
+        assert!(rt; written.is_empty());
+    }
+    let (result, written) = run_users(&rt, b"", None);
+    let why = LineFault::NoCores;
+    assert_eq!(rt; result, Err(SimFault::Script { line: 1, why }));
+    assert!(rt; written.is_empty());
+    Ok(())
+}
+
+#[test]
+fn a_users_line_is_no_step(rt: HostRuntime) -> Result<(), Fail> {
+    let script = format!(in rt.alloc(); "{BOOT}user t1 nbsend 1 7\n")?;
+    let mut written = Vec::new(rt.alloc());
+    let result = simulate(
+        rt.alloc(),
+        &mut Source::new(script.as_bytes()),
+        &mut Sink::new(rt.alloc(), &mut written),
+    );
+    let why = LineFault::Form;
+    assert_eq!(rt; result, Err(SimFault::Script { line: 14, why }));
+    assert!(rt; written.is_empty());
+    Ok(())
+}
+
+#[test]
+fn another_number_of_cores_is_a_fault(rt: HostRuntime) -> Result<(), Fail> {
+    let script = format!(in rt.alloc(); "# users\n{BOOT}user t1 nbsend 1 7\nnonsense\n")?;
+    for cores in [2, 16] {
+        let (result, written) = run_users(&rt, script.as_bytes(), Some(cores));
+        let why = LineFault::Number;
+        assert_eq!(rt; result, Err(SimFault::Script { line: 2, why }));
+        assert!(rt; written.is_empty());
+    }
+    Ok(())
+}
+
+/// Fails at each call.
+#[derive(Drop)]
+struct Failing;
+
+impl Read for Failing {
+    fn read(&mut self, _buf: &mut [u8]) -> io::Result<usize> {
+        Err(io::Error::from(ErrorKind::TimedOut))
+    }
+}
+
+impl Write for Failing {
+    fn write(&mut self, _buf: &[u8]) -> io::Result<usize> {
+        Err(io::Error::from(ErrorKind::TimedOut))
+    }
+
+    fn flush(&mut self) -> io::Result<()> {
+        Ok(())
+    }
+}
+
+#[test]
+fn a_failing_read_or_write_is_told(rt: HostRuntime) -> Result<(), Fail> {
+    let mut written = Vec::new(rt.alloc());
+    let mut source = Source::new(Failing);
+    let mut sink = Sink::new(rt.alloc(), &mut written);
+    let result = run_text(&rt, &mut source, &mut sink, None, &Open);
+    assert_eq!(rt; result, Err(SimFault::Read));
+    assert_eq!(rt; source.failed(), 1);
+    let mut source = Source::new(TWO_CORES.as_bytes());
+    let mut sink = Sink::new(rt.alloc(), Failing);
+    let result = run_text(&rt, &mut source, &mut sink, None, &Open);
+    assert_eq!(rt; result, Err(SimFault::Write));
+    assert_eq!(rt; sink.failed(), 1);
+    Ok(())
+}
