@@ -1132,61 +1132,65 @@ fn the_number_of_cores_is_written(rt: HostRuntime) -> Result<(), Fail> {
     Ok(())
 }
 
+/// Scripts with a fault before the first step, its line and the fault.
+const FAULTY_BOOTS: [(&str, u64, LineFault); 15] = [
+    ("", 1, LineFault::NoCores),
+    ("# nothing\n", 2, LineFault::NoCores),
+    ("cores 0\n", 1, LineFault::Number),
+    ("cores 17\n", 1, LineFault::Number),
+    ("cores 16\n16 t1 recv 1 2\n", 2, LineFault::Number),
+    ("cores 1\ncores 1\n", 2, LineFault::Taken),
+    (
+        "cores 1\ncnode 5\nendpoint\nslot c1 3 e1 w 99999999999999999999\n",
+        4,
+        LineFault::Number,
+    ),
+    ("cores 1\nslot c1 300 e1 w 1\n", 2, LineFault::NoObject),
+    ("cores 1\nnotification\ntie t1 n1\n", 3, LineFault::NoObject),
+    ("cores 1\ntie t1\n", 2, LineFault::Form),
+    (
+        "cores 1\ncnode 4\nnotification\nthread 1 1 c1 60 0 run -\ntie t1 n1\ntie t1 n1\n",
+        6,
+        LineFault::Taken,
+    ),
+    ("cores 1\n0 t1 recv 01 2\n", 2, LineFault::Form),
+    ("cores 1\n1 t1 recv 1 2\n", 2, LineFault::Number),
+    ("cores 1\n0 t1 delete 31\n", 2, LineFault::Form),
+    ("cores 1\n0 t1 make thread 31 99999\n", 2, LineFault::Form),
+];
+
+/// Steps behind a boot of 36 lines with a fault in the second, the trace of the first, and the fault.
+const FAULTY_STEPS: [(&str, &str, LineFault); 4] = [
+    (
+        "0 t1 nbsend 1 7\n0 t1 setprio 11 11 256\n",
+        "0 t1 nbsend 1 7\n= done\n",
+        LineFault::Number,
+    ),
+    (
+        "0 t1 nbsend 1 7\n0 t1 setprio 11 11\n",
+        "0 t1 nbsend 1 7\n= done\n",
+        LineFault::Form,
+    ),
+    (
+        "0 t1 nbsend 1 7\nendpoint\n",
+        "0 t1 nbsend 1 7\n= done\n",
+        LineFault::LateBoot,
+    ),
+    (
+        "0 t1 nbsend 1 7\n0 t1 nbs",
+        "0 t1 nbsend 1 7\n= done\n",
+        LineFault::Form,
+    ),
+];
+
 #[test]
 fn faulty_lines_are_told(rt: HostRuntime) -> Result<(), Fail> {
-    let faults = [
-        ("", 1, LineFault::NoCores),
-        ("# nothing\n", 2, LineFault::NoCores),
-        ("cores 0\n", 1, LineFault::Number),
-        ("cores 17\n", 1, LineFault::Number),
-        ("cores 16\n16 t1 recv 1 2\n", 2, LineFault::Number),
-        ("cores 1\ncores 1\n", 2, LineFault::Taken),
-        (
-            "cores 1\ncnode 5\nendpoint\nslot c1 3 e1 w 99999999999999999999\n",
-            4,
-            LineFault::Number,
-        ),
-        ("cores 1\nslot c1 300 e1 w 1\n", 2, LineFault::NoObject),
-        ("cores 1\nnotification\ntie t1 n1\n", 3, LineFault::NoObject),
-        ("cores 1\ntie t1\n", 2, LineFault::Form),
-        (
-            "cores 1\ncnode 4\nnotification\nthread 1 1 c1 60 0 run -\ntie t1 n1\ntie t1 n1\n",
-            6,
-            LineFault::Taken,
-        ),
-        ("cores 1\n0 t1 recv 01 2\n", 2, LineFault::Form),
-        ("cores 1\n1 t1 recv 1 2\n", 2, LineFault::Number),
-        ("cores 1\n0 t1 delete 31\n", 2, LineFault::Form),
-        ("cores 1\n0 t1 make thread 31 99999\n", 2, LineFault::Form),
-    ];
-    for (script, line, why) in faults {
+    for (script, line, why) in FAULTY_BOOTS {
         let (result, written) = run(rt.alloc(), script.as_bytes())?;
         assert_eq!(rt; result, Err(SimFault::Script { line, why }), "{script}");
         assert!(rt; written.is_empty());
     }
-    let steps = [
-        (
-            "0 t1 nbsend 1 7\n0 t1 setprio 11 11 256\n",
-            "0 t1 nbsend 1 7\n= done\n",
-            LineFault::Number,
-        ),
-        (
-            "0 t1 nbsend 1 7\n0 t1 setprio 11 11\n",
-            "0 t1 nbsend 1 7\n= done\n",
-            LineFault::Form,
-        ),
-        (
-            "0 t1 nbsend 1 7\nendpoint\n",
-            "0 t1 nbsend 1 7\n= done\n",
-            LineFault::LateBoot,
-        ),
-        (
-            "0 t1 nbsend 1 7\n0 t1 nbs",
-            "0 t1 nbsend 1 7\n= done\n",
-            LineFault::Form,
-        ),
-    ];
-    for (script, trace, why) in steps {
+    for (script, trace, why) in FAULTY_STEPS {
         let script = format!(in rt.alloc(); "{BOOT}{script}")?;
         let (result, written) = run(rt.alloc(), script.as_bytes())?;
         assert_eq!(rt; result, Err(SimFault::Script { line: 38, why }));
