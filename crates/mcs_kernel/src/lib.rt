@@ -4,10 +4,12 @@
 mod boot;
 mod fault;
 mod kernel;
+mod ongoing;
 mod replaying;
 
 pub use boot::Boot;
 pub use fault::{EnterFault, ReplayFault};
 pub use kernel::Kernel;
 pub use mcs_types::Step;
+pub use ongoing::Replay;
 pub use replaying::replay;

@@ -1,0 +1,91 @@
+//! A replay that goes on, step by step.
+ghost use Rattle.std.specs.Prelude.{◌≡◌, false, IfOk, OnOk, IfErr, OnErr};
+ghost use Rattle.mcs_book.specs.History.{IsLegal};
+ghost use Rattle.mcs_book.specs.Each.{EachRecord, EachLine, AfterEachLine};
+ghost use Rattle.mcs_book.specs.Fair.{EndsOpen, IsWholeLine, TakesFirst, TakesInOrder, TakesAlive, SendersAreOpen, AnswersOwed, AnswersWhole, NoneWaitBeside};
+ghost use Rattle.mcs_kernel.specs.Faults.{fault_of};
+ghost use Rattle.mcs_kernel.specs.Runs.{is_book_full, begun, after_step, answer_to, next_count, StepEnds};
+
+use crate::boot::Boot;
+use crate::fault::{EnterFault, ReplayFault};
+use crate::kernel::Kernel;
+use mcs_queues::Lines;
+use mcs_types::{Answer, OutOfMemory, Step};
+use std::alloc::Global;
+use std::marker::Model;
+
+/// A replay that goes on: a kernel, and how many steps it took. Clauses see its book and that count.
+#[derive(Drop)]
+pub struct Replay<L: Lines> {
+    kernel: Kernel<L>,
+    taken: usize,
+}
+
+impl<L: Lines> Model for Replay<L> {
+    ghost use Rattle.mcs_kernel.specs.Runs.{Run};
+
+    ghost Value = { Run };
+
+    ghost view = { λ r. record { book = r.kernel; taken = r.taken } };
+}
+
+impl<L: Lines> Replay<L> {
+    /// A replay on a kernel with this boot, before the first step. OutOfMemory where the room of its tables is refused.
+    pub fn new(alloc: Global, boot: Boot) -> Result<Replay<L>, OutOfMemory>
+        ensures { IfOk result (λ r. r ≡ begun boot) }
+    {
+        let kernel = Kernel::new(alloc, &boot)?;
+        Ok(Replay { kernel, taken: 0 })
+    }
+
+    /// Takes the next step and gives its answer, or None where it is turned away, and then the book stays as it is. Either way
+    /// the step is counted, up to usize::MAX. BookFull comes exactly at a step that would be let in and for which the book is
+    /// full, and OutOfMemory where the room for its line is refused, each with the number of the step, from 1. After a fault
+    /// nothing has changed, and the same step may be given again.
+    pub fn step(&mut self, alloc: Global, step: Step) -> Result<Option<Answer>, ReplayFault>
+        ensures room { OnOk result
+            (is_book_full (fault_of self.old.book step.core step.thread) ≡ false) }
+        ensures answer { IfOk result (λ a. a ≡ answer_to self.old.book step) }
+        ensures taken { OnOk result (self.new ≡ after_step self.old step) }
+        ensures unchanged { OnErr result (self.new ≡ self.old) }
+        ensures full { IfErr result (StepEnds (next_count self.old.taken)
+            (is_book_full (fault_of self.old.book step.core step.thread))) }
+        ensures legal { IsLegal self.new.book }
+        ensures taken_once { EachRecord EndsOpen self.new.book }
+        ensures whole { EachLine IsWholeLine self.new.book }
+        ensures by_priority { EachRecord TakesFirst self.new.book }
+        ensures in_order { EachRecord TakesInOrder self.new.book }
+        ensures not_deleted { EachRecord TakesAlive self.new.book }
+        ensures not_cancelled { AfterEachLine SendersAreOpen self.new.book }
+        ensures answered_once { EachRecord AnswersOwed self.new.book }
+        ensures answered_whole { EachLine AnswersWhole self.new.book }
+        ensures none_beside { AfterEachLine NoneWaitBeside self.new.book }
+    {
+        let number = self.taken.saturating_add(1);
+        let answer = match self.kernel.enter(alloc, step.core, step.thread, step.entry) {
+            Ok(answer) => Some(answer),
+            Err(EnterFault::NotRunning) => None,
+            Err(EnterFault::NoContext) => None,
+            Err(EnterFault::WrongCore) => None,
+            Err(EnterFault::BookFull) => return Err(ReplayFault::BookFull { step: number }),
+            Err(EnterFault::OutOfMemory) => return Err(ReplayFault::OutOfMemory { step: number }),
+        };
+        self.taken = number;
+        Ok(answer)
+    }
+
+    /// The kernel after the steps so far.
+    pub fn kernel(&self) -> &Kernel<L>
+        ensures { result.now ≡ self.now.book }
+    {
+        &self.kernel
+    }
+
+    /// The kernel, with which the replay ends.
+    pub fn into_kernel(self) -> Kernel<L>
+        ensures { result ≡ self.book }
+    {
+        let Replay { kernel, taken: _ } = self;
+        kernel
+    }
+}
