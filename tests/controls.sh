@@ -39,7 +39,7 @@ for control in crates/*/must-fail/*.control.md; do
         echo "accepted: $crate/$name"
     else
         echo "REFUSED: $crate/$name"
-        grep ': no proof: ' "$copy/log" | head -3 || true
+        grep -E ': (no proof: |it is not proved )' "$copy/log" | head -3 || true
         refused=$((refused + 1))
     fi
     cp -R "$folder/src" "$copy/$folder/"
