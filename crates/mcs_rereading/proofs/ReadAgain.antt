@@ -1,5 +1,5 @@
 -- The trace of a legal book, read again, gives its boot and its steps.
-use Rattle.std.specs.Prelude.{◌+◌, ◌≤◌, ◌≡◌, List, [], ◌∷◌, Some, None, length, map, reverse}
+use Rattle.std.specs.Prelude.{ℕ, ◌+◌, ◌≤◌, ◌≡◌, List, [], ◌∷◌, Option, Some, None, length, map, reverse}
 use Rattle.std.proofs.Common.{◌∙◌, ap, length-append, arith}
 use Rattle.std.proofs.lemmas.List.{length-map, length-reverse}
 use Rattle.mcs_book.specs.Boots.{Boot}
@@ -7,9 +7,10 @@ use Rattle.mcs_book.specs.History.{Line, Book, steps_of}
 use Rattle.mcs_text.specs.Table.{Form, form_line, cores_form, boot_form}
 use Rattle.mcs_text.specs.Reading.{lines_of}
 use Rattle.mcs_sim.specs.Trace.{trace}
-use Rattle.mcs_sim.specs.Script.{steps}
-use Rattle.mcs_sim.specs.Runs.{script_trace, written}
-use Rattle.mcs_sim.proofs.RunLaws.{written-is}
+use Rattle.mcs_types.specs.declared.entry.Step.{Step}
+use Rattle.mcs_text.specs.declared.fault.LineFault.{LineFault}
+use Rattle.mcs_sim.specs.Script.{Script, steps}
+use Rattle.mcs_sim.specs.Runs.{script_trace, told, written}
 use Rattle.mcs_book.proofs.Books.ReplayLaws.{legal-replayed}
 use Rattle.mcs_rereading.specs.Readable.{IsReadable}
 use Rattle.mcs_rereading.proofs.Lines.{lines_forms, trace_forms, lines_of-trace}
@@ -45,5 +46,5 @@ legal-again b is =
 
 -- and so it is written again
 pub legal-written : (b : Book) → IsReadable b → written (trace b) ≡ trace b
-unfolding script_trace
-legal-written b is = written-is (trace b) (record { boot = Some b.boot; items = steps_of b }) None (legal-again b is) ∙ ap trace (legal-replayed b is.legal)
+unfolding script_trace written
+legal-written b is = ap (λ (r : Script Step × Option (ℕ × LineFault)). told r.0 r.1) (legal-again b is) ∙ ap trace (legal-replayed b is.legal)

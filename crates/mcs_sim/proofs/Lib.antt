@@ -3,5 +3,13 @@ pub mod ScriptLaws
 pub mod InputLaws
 pub mod LongLaws
 pub mod RunLaws
+pub mod GoingLaws
+pub mod GoingScripts
+pub mod GoingBooks
+pub mod GoingRuns
+pub mod GoingTakes
+pub mod Standings
+pub mod GoingWeights
+pub mod SimulateLaws
 pub mod TraceLaws
 pub mod RunningLaws

@@ -5,3 +5,5 @@ pub mod Script
 pub mod Input
 pub mod Runs
 pub mod Running
+pub mod Going
+pub mod Outcomes

@@ -1,19 +1,19 @@
 -- What a run writes.
-use Rattle.std.specs.Prelude.{◌≡◌, ℕ, List, [], ◌∷◌, Option, Some, None}
+use Rattle.std.specs.Prelude.{◌≡◌, ◌⊎◌, ◌≤◌, ℕ, Bool, true, false, Result, Err, List, [], ◌∷◌, ◌++◌, length, Option, Some, None}
 use Rattle.std.specs.Io.KnownBytes.{Appends, Consumes, IsAtEnd}
 use Rattle.mcs_types.specs.declared.entry.Step.{Step}
 use Rattle.mcs_book.specs.Boots.{Boot}
-use Rattle.mcs_book.specs.History.{book_of, IsLegal}
+use Rattle.mcs_book.specs.History.{Book, book_of, IsLegal}
 use Rattle.mcs_book.specs.Fair.{IsFair}
 use Rattle.mcs_kernel.specs.Runs.{full_after}
 use Rattle.mcs_text.specs.declared.fault.LineFault.{LineFault}
-use Rattle.mcs_text.specs.Output.{Moves}
+use Rattle.mcs_text.specs.Output.{Moves, Puts}
 use Rattle.mcs_text.specs.declared.sink.Sink.{Sink}
 use Rattle.mcs_sim.specs.declared.fault.SimFault.{SimFault}
 use Rattle.mcs_sim.specs.declared.fault.SimFault.TheVariants as fault
-use Rattle.mcs_sim.specs.Trace.{trace}
+use Rattle.mcs_sim.specs.Trace.{trace, trace_of}
 use Rattle.mcs_sim.specs.Script.{Script, steps}
-use Rattle.mcs_sim.specs.Input.{IsWithin, EndsReading}
+use Rattle.mcs_sim.specs.Going.{fed, at_line, no_line, answer_of}
 use Rattle.mcs_sim.specs.declared.source.Source.{Source}
 
 -- the trace of the book that the steps make after a boot
@@ -67,16 +67,6 @@ abbrev pub IsFairBefore : Option Boot → List Step → Type 0
 IsFairBefore b [] = Unit {0}
 IsFairBefore b (s ∷ ss) = IsFairRun b (s ∷ ss)
 
--- a fault of the replay of a script, or of the writing of its trace: it leaves a beginning of the trace
-abbrev pub Stops : SimFault → (old new : Option (List ℕ)) → Script Step → Type 0
-Stops fault.Argument old new s = ⊥
-Stops (fault.Script line why) old new s = ⊥
-Stops fault.Read old new s = ⊥
-Stops fault.Write old new s = Begins old new (script_trace s.boot s.items)
-Stops fault.BookFull old new s = Begins old new (script_trace s.boot s.items) × IsFull s.boot s.items
-Stops fault.OutOfMemory old new s = Begins old new (script_trace s.boot s.items)
-Stops fault.Failed old new s = ⊥
-
 -- what a run of a text leaves that ended early, but for a read fault: all that is told before a faulty line, or a beginning of that
 abbrev pub Leaves : SimFault → (old new : Option (List ℕ)) (text : List ℕ) → Type 0
 Leaves fault.Argument old new text = ⊥
@@ -101,13 +91,38 @@ pub record Finishes (left left' out out' : Option (List ℕ)) : Type 0 where
   pub legal : IsLegal (book_of boot taken)
   pub fair : IsFair (book_of boot taken)
 
--- what a run leaves that ended early. It read a text, to the end of the input or until that was too long for a script, and no byte
--- behind, and left what the text gives before the fault. Where a read failed or memory was refused, it may have read less; after a read
--- fault it wrote nothing
+-- what the trace of a book has more than that of one before was put into a sink
+abbrev pub TellsMore : {W : Type 0} → (W → Option (List ℕ)) → (old new : Sink W) → (before after : Option Book) → Type 0
+TellsMore contents old new before after = (more : List ℕ) × (trace_of after ≡ trace_of before ++ more) × Puts contents old new more
+
+-- the answer of a run with this fault, if it has one, unless its writing failed
+abbrev pub answer_with : Bool → Option SimFault → Result (Unit {0}) SimFault
+answer_with true f = Err fault.Write
+answer_with false f = answer_of f
+
+-- the fault of a line stands: the input has ended, or no bytes that follow change it
+abbrev pub IsNamed : (left : Option (List ℕ)) (text : List ℕ) (line : ℕ) (why : LineFault) → Type 0
+IsNamed left text line why = IsAtEnd left ⊎ ((more : List ℕ) → (steps (text ++ more)).1 ≡ Some (line, why))
+
+-- reading stops soon: within a piece of 4,096 bytes, at most, behind what gave no fault
+pub record StopsSoon (text : List ℕ) : Type 0 where
+  pub before : List ℕ
+  pub piece : List ℕ
+  pub split : text ≡ before ++ piece
+  pub few : length piece ≤ 4096
+  pub goes : (fed (at_line no_line) before).course.fault ≡ None
+
+-- a text was read from an input, at most a piece of it behind a fault
+pub record ReadsText (left left' : Option (List ℕ)) (text : List ℕ) : Type 0 where
+  pub read : Consumes left left' text
+  pub stops : StopsSoon text
+
+-- what a run leaves that ended early: it read a text, and left what the text gives before the fault; a line's fault is what is wrong with
+-- the text, whatever follows. After a fault of reading or writing, or a refusal of memory, a beginning of what the text gives was written
 abbrev pub Ends : SimFault → (left left' out out' : Option (List ℕ)) → Type 0
-Ends fault.Read left left' out out' = (text : List ℕ) × Consumes left left' text × IsWithin text × Appends out out' []
-Ends fault.OutOfMemory left left' out out' = (text : List ℕ) × Consumes left left' text × IsWithin text × Begins out out' (written text)
-Ends e left left' out out' = (text : List ℕ) × Consumes left left' text × EndsReading left' text × Leaves e out out' text
+Ends (fault.Script line why) left left' out out' = (text : List ℕ) × ReadsText left left' text × IsNamed left' text line why × Leaves (fault.Script line why) out out' text
+Ends fault.Read left left' out out' = (text : List ℕ) × ReadsText left left' text × Begins out out' (written text)
+Ends e left left' out out' = (text : List ℕ) × ReadsText left left' text × Leaves e out out' text
 
 -- a run from a source to a sink was finished
 abbrev pub Finished : {R W : Type 0} → (R → Option (List ℕ)) → (W → Option (List ℕ)) → (from from' : Source R) → (to to' : Sink W) → Type 0

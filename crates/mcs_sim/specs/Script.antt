@@ -1,5 +1,5 @@
 -- What a script says: its boot and the items behind it, up to the first faulty line. The items are steps, or entries of users.
-use Rattle.std.specs.Prelude.{◌≡◌, ℕ, ◌+◌, Bool, true, List, [], ◌∷◌, ◌++◌, length, Option, Some, None, Result, Ok, Err, nat_lt, ◌==◌, ◌||◌, if◌then◌else◌}
+use Rattle.std.specs.Prelude.{◌≡◌, ℕ, ◌+◌, Bool, true, List, [], ◌∷◌, ◌++◌, length, Option, Some, None, Result, Ok, Err, nat_lt, not, ◌==◌, ◌||◌, if◌then◌else◌}
 use Rattle.mcs_types.specs.declared.id.Kind.TheVariants as kind
 use Rattle.mcs_types.specs.declared.entry.Step.{Step}
 use Rattle.mcs_types.specs.declared.boot.BootFault.{BootFault}
@@ -100,11 +100,14 @@ abbrev pub is_skipped : List ℕ → Bool
 is_skipped [] = true
 is_skipped (b ∷ bs) = (b == 35) || (b == 61) || (b == 43)
 
+-- whether a line of this number says something: it is one that may be there, and is not skipped
+abbrev pub says_something : ℕ → List ℕ → Result Bool LineFault
+says_something number line = if nat_lt 2000000 number then Err fault.ManyLines
+    else (if nat_lt 4096 (length line) then Err fault.LongLine else Ok (not (is_skipped line)))
+
 -- a script with the line of this number
 unfoldable pub read_line : {T : Type 0} → Grammar T → Script T → ℕ → List ℕ → Result (Script T) LineFault
-read_line grammar s number line = if nat_lt 2000000 number then Err fault.ManyLines
-    else (if nat_lt 4096 (length line) then Err fault.LongLine
-    else (if is_skipped line then Ok s else spelled grammar s line (words_of line)))
+read_line grammar s number line = says_something number line >>= λ says. if says then spelled grammar s line (words_of line) else Ok s
 
 -- the end of a script stands in the line after the last
 abbrev pub ending : {T : Type 0} → Script T → ℕ → Option Boot → Script T × Option (ℕ × LineFault)

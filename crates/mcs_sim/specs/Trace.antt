@@ -1,10 +1,11 @@
 -- The trace of a book.
-use Rattle.std.specs.Prelude.{ℕ, ◌+◌, List, [], ◌∷◌, ◌++◌, reverse}
+use Rattle.std.specs.Prelude.{◌≡◌, ◌≤◌, ◌*◌, ◌^◌, ℕ, ◌+◌, ◌-◌, ◌==◌, if◌then◌else◌, List, [], ◌∷◌, ◌++◌, drop, length, reverse, Option, Some, None}
 use Rattle.std.specs.List.{flat_map}
 use Rattle.mcs_types.specs.declared.boot.BootLine.{BootLine}
 use Rattle.mcs_types.specs.declared.record.Rec.{Rec}
 use Rattle.mcs_types.specs.declared.record.Rec.TheVariants.{Sent}
 use Rattle.mcs_book.specs.History.{Line, Book}
+use Rattle.mcs_sim.specs.declared.writing.Told.{Told}
 use Rattle.mcs_text.specs.Table.{cores_text, boot_text, step_text, answer_text, record_text}
 
 -- how many messages were sent with a record more
@@ -43,3 +44,55 @@ lines_trace n (l ∷ ls) = line_trace n l ++ lines_trace (sent_after n l.records
 -- the trace of a book: the boot, and then its lines in order
 unfoldable pub trace : Book → List ℕ
 trace b = cores_text b.boot.cores ++ boot_lines_trace (reverse b.boot.lines) ++ lines_trace 0 (reverse b.lines)
+
+-- the trace of a book, if there is one
+abbrev pub trace_of : Option Book → List ℕ
+trace_of None = []
+trace_of (Some b) = trace b
+
+-- all of a trace was told: so many lines, with that of the boot, and so many messages sent with them
+abbrev pub all_told : Book → Told
+all_told b = record { lines = length b.lines + 1; sent = sent_in 0 (reverse b.lines) }
+
+-- the same, of the trace of a book, if there is one
+abbrev pub told_of : Option Book → Told
+told_of None = record { lines = 0; sent = 0 }
+told_of (Some b) = all_told b
+
+-- the lines of a book behind those that were told
+abbrev pub untold_lines : Told → Book → List Line
+untold_lines t b = drop (t.lines - 1) (reverse b.lines)
+
+-- the second book is the first, or goes on where that ends
+abbrev pub IsLonger : Option Book → Option Book → Type 0
+IsLonger None k = Unit {0}
+IsLonger (Some b) None = ⊥
+IsLonger (Some b) (Some c) = (c.boot ≡ b.boot) × ((more : List Line) × (c.lines ≡ more ++ b.lines))
+
+-- this was told: all of a book, if there is one
+pub record IsToldBy (t : Told) (k : Option Book) : Type 0 where
+  pub is : t ≡ told_of k
+  pub fits : t.sent ≤ (t.lines - 1) * 2 ^ 64
+
+-- so much was told of a beginning of a book, or nothing; no line has more messages than 64 bits can count
+pub record IsToldOf (t : Told) (b : Book) : Type 0 where
+  pub fits : t.sent ≤ (t.lines - 1) * 2 ^ 64
+  pub few : t.lines ≤ length b.lines + 1
+  pub all : sent_in t.sent (untold_lines t b) ≡ sent_in 0 (reverse b.lines)
+
+-- the lines of the boot, where nothing was told
+abbrev pub untold_boot : Told → Book → List ℕ
+untold_boot t b = if t.lines == 0 then cores_text b.boot.cores ++ boot_lines_trace (reverse b.boot.lines) else []
+
+-- what of a book's trace was not told
+unfoldable pub untold : Told → Book → List ℕ
+untold t b = untold_boot t b ++ lines_trace t.sent (untold_lines t b)
+
+-- the same of a book that there may be
+abbrev pub untold_of : Told → Option Book → List ℕ
+untold_of t None = []
+untold_of t (Some b) = untold t b
+
+-- this was told: all of a book of which this one is the same or longer
+abbrev pub IsToldUpTo : Told → Option Book → Type 0
+IsToldUpTo t k = (j : Option Book) × IsToldBy t j × IsLonger j k

@@ -5,6 +5,8 @@ ghost use Rattle.mcs_book.specs.Boots.{Boot, IsFaultless};
 ghost use Rattle.mcs_book.specs.History.{AllInRange, IsLegal, book_of};
 ghost use Rattle.mcs_sim.specs.Input.{IsTooLong};
 ghost use Rattle.mcs_sim.specs.Script.{steps, users};
+ghost use Rattle.mcs_sim.specs.Going.{Going, at_line, ended, fed, no_line};
+ghost use Rattle.mcs_sim.specs.Outcomes.{ComesOfScript};
 
 /// The book that steps make after a boot is legal, where nothing is wrong with the boot and the numbers of each step are in
 /// their ranges.
@@ -22,4 +24,17 @@ pub fn too_long_stands()
     requires { IsTooLong at.0 }
     ensures steps { steps (at.0 ++ at.1) ≡ steps at.0 }
     ensures users { (asked : Option ℕ) → users asked (at.0 ++ at.1) ≡ users asked at.0 }
+{}
+
+/// Going on by a text and then by another is going on by both, so that it does not matter how the bytes of a script were cut.
+pub fn fed_in_pieces()
+    ghost at: { Going × List ℕ × List ℕ }
+    ensures { fed at.0 (at.1 ++ at.2) ≡ fed (fed at.0 at.1) at.2 }
+{}
+
+/// A script that is taken byte by byte comes to what is read of it as a whole: to the book of its steps, to its first faulty
+/// line, or to the step for which the book is full.
+pub fn fed_as_read()
+    ghost text: { List ℕ }
+    ensures { ComesOfScript (steps text) (ended (fed (at_line no_line) text)) }
 {}

@@ -1,77 +1,79 @@
 //! A script of steps, from bytes to bytes.
-ghost use Rattle.std.specs.Prelude.{◌≡◌, ◌≤◌, IfOk, IfErr, OnOk, Err, None};
-ghost use Rattle.std.specs.Io.KnownBytes.{Appends};
-ghost use Rattle.mcs_text.specs.Output.{Rose};
-ghost use Rattle.mcs_sim.specs.Script.{steps};
-ghost use Rattle.mcs_sim.specs.Runs.{script_trace, written, IsRoomy, IsFairRun, Leaves, Stops, Finished, EndedBy};
+ghost use Rattle.std.specs.Prelude.{◌≡◌, ◌<◌, ◌≤◌, [], length, IfErr, IfSome, OnOk, OnErr, Err};
+ghost use Rattle.mcs_text.specs.Output.{Rose, Puts};
+ghost use Rattle.mcs_sim.specs.Trace.{IsToldBy, IsToldUpTo, untold_of};
+ghost use Rattle.mcs_sim.specs.Going.{TakesPiece, IsFairBook};
+ghost use Rattle.mcs_sim.specs.Runs.{Finished, EndedBy, TellsMore, answer_with};
 
 use crate::fault::SimFault;
-use crate::script::{Script, read_script};
-use crate::source::{self, Source};
-use crate::writing::trace;
-use mcs_kernel::{Kernel, ReplayFault, replay};
-use mcs_queues::PlainLines;
+use crate::feeding::ReplayRun;
+use crate::source::Source;
+use crate::writing::{Told, put_untold};
 use mcs_text::Sink;
-use mcs_types::Step;
 use std::alloc::Global;
 use std::io::{Read, Write};
 
-/// Replays a script and writes the trace. One without a boot has none.
-#[tactic(auto, unfolding(crate::specs::Runs::script_trace))]
-fn replay_script<W: Write>(
-    alloc: Global,
-    script: Script<Step>,
-    sink: &mut Sink<W>,
-) -> Result<(), SimFault>
-    ensures ok { OnOk result (Appends (W.contents sink.old.writer) (W.contents sink.new.writer)
-        (script_trace script.boot script.items)) }
-    ensures err { IfErr result (λ e. Stops e (W.contents sink.old.writer)
-        (W.contents sink.new.writer) script) }
-    ensures room { OnOk result (IsRoomy script.boot script.items) }
-    ensures fair { OnOk result (IsFairRun script.boot script.items) }
-    ensures rose { result ≡ Err SimFault.Write → Rose sink.old.failed sink.new.failed }
-    ensures count { sink.old.failed ≤ sink.new.failed }
-{
-    let Script { boot, items: steps } = script;
-    let Some(boot) = boot else {
-        return Ok(());
-    };
-    let kernel: Kernel<PlainLines> = match replay(alloc, boot, &steps) {
-        Ok(kernel) => kernel,
-        Err(ReplayFault::BookFull { step: _ }) => return Err(SimFault::BookFull),
-        Err(ReplayFault::OutOfMemory { step: _ }) => return Err(SimFault::OutOfMemory),
-    };
-    trace(kernel.book(), sink)
-}
+/// How many bytes are asked for at once.
+const PIECE: usize = 4_096;
 
-/// Replays the script of a text and writes the trace.
-fn replay_text<W: Write>(alloc: Global, text: &[u8], sink: &mut Sink<W>) -> Result<(), SimFault>
-    ensures ok { OnOk result (Appends (W.contents sink.old.writer) (W.contents sink.new.writer)
-        (written text.now)) }
-    ensures faultless { OnOk result ((steps text.now).1 ≡ None) }
-    ensures fair { OnOk result (IsFairRun (steps text.now).0.boot (steps text.now).0.items) }
-    ensures err { IfErr result (λ e. Leaves e (W.contents sink.old.writer)
-        (W.contents sink.new.writer) text.now) }
-    ensures rose { result ≡ Err SimFault.Write → Rose sink.old.failed sink.new.failed }
-    ensures count { sink.old.failed ≤ sink.new.failed }
+/// Puts what of a run's book was not told, if it has one, and answers how much is told with it.
+fn tell<W: Write>(to: &mut Sink<W>, told: Told, run: &ReplayRun) -> Told
+    requires told { IsToldUpTo told run.now.course.stands.book }
+    ensures puts { Puts W.contents to.old to.new (untold_of told run.now.course.stands.book) }
+    ensures told { IsToldBy result run.now.course.stands.book }
+    ensures fair { IsFairBook run.now.course.stands.book }
 {
-    let Ok((script, fault)) = read_script(alloc, None, text) else {
-        return Err(SimFault::OutOfMemory);
-    };
-    let Some((line, why)) = fault else {
-        return replay_script(alloc, script, sink);
-    };
-    if !script.items.is_empty() {
-        replay_script(alloc, script, sink)?;
+    match run.book() {
+        Some(book) => put_untold(to, told, book),
+        None => told,
     }
-    Err(SimFault::Script { line, why })
 }
 
-/// Reads a script, replays it and writes its trace. After Ok the whole trace is written, of a book that is legal and fair.
-/// Where a line is faulty the trace of the steps before it is written, of such a book, and nothing where the fault stands in
-/// the boot. After any other fault a beginning of the trace of the steps is written; BookFull comes only where the book is
-/// full at a step. A read or a write that is interrupted is tried again, at most 1,000 times in a row; a write that takes no
-/// byte is a fault.
+/// Sends out what a sink kept back, where a piece of this length ended the run or is not a full one: then the input may be slow.
+fn send_out<W: Write>(to: &mut Sink<W>, taken: &Result<(), SimFault>, length: usize)
+    ensures puts { Puts W.contents to.old to.new [] }
+    ensures ended { OnErr taken.now (to.new.kept.items ≡ []) }
+    ensures short { length < 4096 → to.new.kept.items ≡ [] }
+{
+    match taken {
+        Ok(()) if length >= PIECE => {}
+        _ => to.flush(),
+    }
+}
+
+/// Takes a piece of a script, or the end of it where the piece is empty, and puts what it adds to the trace.
+fn take_piece<W: Write>(
+    alloc: Global,
+    run: &mut ReplayRun,
+    told: &mut Told,
+    piece: &[u8],
+    to: &mut Sink<W>,
+) -> Result<(), SimFault>
+    requires told { IsToldBy told.old run.old.course.stands.book }
+    ensures takes { TakesPiece run.old piece.now run.new }
+    ensures tells { IsToldBy told.new run.new.course.stands.book }
+    ensures puts { TellsMore W.contents to.old to.new run.old.course.stands.book
+        run.new.course.stands.book }
+    ensures answer { result ≡ answer_with to.new.is_broken run.new.course.fault }
+    ensures ended { IfSome run.new.course.fault (λ e. to.new.kept.items ≡ []) }
+    ensures short { length piece.now < 4096 → to.new.kept.items ≡ [] }
+    ensures fair { IsFairBook run.new.course.stands.book }
+{
+    let taken = run.take_piece(alloc, piece);
+    *told = tell(to, *told, run);
+    send_out(to, &taken, piece.len());
+    if to.is_broken() {
+        return Err(SimFault::Write);
+    }
+    taken
+}
+
+/// Replays a script as it comes, and writes its trace: the boot once that has ended, and each line of the book once it is there.
+/// After Ok the whole trace is written, of a book that is legal and fair. Where a line is faulty the trace of the steps before it
+/// is written, of such a book, and nothing where the fault stands in the boot. After any other fault a beginning of the trace of
+/// the steps is written; BookFull comes only where the book is full at a step. Nothing is read behind the piece of at most 4,096
+/// bytes in which a fault stands. A read or a write that is interrupted is tried again, at most 1,000 times in a row; a write
+/// that takes no byte is a fault.
 pub fn simulate<R: Read, W: Write>(
     alloc: Global,
     from: &mut Source<R>,
@@ -83,10 +85,20 @@ pub fn simulate<R: Read, W: Write>(
     ensures write_failed { result ≡ Err SimFault.Write → Rose to.old.failed to.new.failed }
     ensures counts { (from.old.failed ≤ from.new.failed) × (to.old.failed ≤ to.new.failed) }
 {
-    let text = match from.read_all(alloc) {
-        Ok(text) => text,
-        Err(source::ReadFault::Read) => return Err(SimFault::Read),
-        Err(source::ReadFault::OutOfMemory) => return Err(SimFault::OutOfMemory),
+    to.start();
+    let Ok(mut run) = ReplayRun::new(alloc) else {
+        return Err(SimFault::OutOfMemory);
     };
-    replay_text(alloc, &text, to)
+    let mut told = Told::nothing();
+    let mut piece = [0; PIECE];
+    loop {
+        let Ok(n) = from.read_piece(&mut piece) else {
+            to.flush();
+            return Err(SimFault::Read);
+        };
+        take_piece(alloc, &mut run, &mut told, &piece[..n], to)?;
+        if n == 0 {
+            return Ok(());
+        }
+    }
 }

@@ -4,7 +4,7 @@ ghost use Rattle.mcs_book.specs.Boots.{boot_log, is_object};
 ghost use Rattle.mcs_text.specs.Reading.{Gives, words_of, step_of, user_of};
 ghost use Rattle.mcs_text.specs.BootLines.{raw_line};
 ghost use Rattle.mcs_sim.specs.BootLines.{object_of, cores_of, cap_of, index_of, fitted, with_line};
-ghost use Rattle.mcs_sim.specs.Script.{Grammar, Reads, script_of, is_skipped, asked_cores, boot_in, first_boot, next_boot, next_items, later_line};
+ghost use Rattle.mcs_sim.specs.Script.{Grammar, Reads, script_of, is_skipped, says_something, asked_cores, boot_in, first_boot, next_boot, next_items, later_line};
 
 use mcs_kernel::Boot;
 use mcs_text::{
@@ -102,6 +102,20 @@ fn is_skipped(line: &[u8]) -> bool
     ensures { result ≡ is_skipped line.now }
 {
     matches!(line, [] | [b'#' | b'=' | b'+', ..])
+}
+
+/// Whether a line says something. Fault ManyLines (9) or LongLine (7) where there may be no such line.
+pub fn says_something(number: u64, line: &[u8]) -> Result<bool, LineFault>
+    ensures says { Gives (λ says. says) result (says_something number line.now) }
+    ensures numbered { OnOk result (number ≤ SCRIPT_LINES) }
+{
+    if number > SCRIPT_LINES {
+        return Err(LineFault::ManyLines);
+    }
+    if line.len() > SCRIPT_LINE_BYTES {
+        return Err(LineFault::LongLine);
+    }
+    Ok(!is_skipped(line))
 }
 
 /// The object of a kind with this serial. One that is too large is never made, as 0 is not.
@@ -324,16 +338,10 @@ impl<T: Item> Script<T> {
         ensures numbered { OnOk result (number ≤ SCRIPT_LINES) }
         ensures unchanged { OnErr result (self.new ≡ self.old) }
     {
-        if number > SCRIPT_LINES {
-            return Err(ReadFault::Line(LineFault::ManyLines));
+        if says_something(number, line)? {
+            return self.read_words(alloc, asked, line);
         }
-        if line.len() > SCRIPT_LINE_BYTES {
-            return Err(ReadFault::Line(LineFault::LongLine));
-        }
-        if is_skipped(line) {
-            return Ok(());
-        }
-        self.read_words(alloc, asked, line)
+        Ok(())
     }
 
     /// Takes a line that is not skipped.

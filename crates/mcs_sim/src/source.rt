@@ -1,5 +1,5 @@
 //! Reading from any reader.
-ghost use Rattle.std.specs.Prelude.{◌≡◌, ◌+◌, ◌^◌, ◌<◌, ◌≤◌, length, take, IfOk, OnErr, Err};
+ghost use Rattle.std.specs.Prelude.{◌≡◌, ◌+◌, ◌^◌, ◌<◌, ◌≤◌, length, take, [], IfOk, OnErr, Err};
 ghost use Rattle.std.specs.Io.KnownBytes.{Consumes, Keeps, IsAtEnd};
 ghost use Rattle.mcs_text.specs.Output.{Rose};
 
@@ -119,6 +119,20 @@ impl<R> Source<R> {
 
 impl<R: Read> Source<R> {
     ghost use Rattle.mcs_sim.specs.Input.{EndsReading, Reads, ReadsWithin};
+
+    /// The next bytes, as many as one read gives, and none at the end of the input.
+    pub fn read_piece(&mut self, piece: &mut [u8]) -> Result<usize, ReadFault>
+        requires some { 0 < length piece.old }
+        ensures ok { IfOk result (λ n. n ≤ length piece.new) }
+        ensures bytes { IfOk result (λ n. Reads R.remaining self.old self.new (take n piece.new)) }
+        ensures end { IfOk result (λ n. n ≡ 0 → IsAtEnd (R.remaining self.new.reader)) }
+        ensures err { OnErr result (Reads R.remaining self.old self.new []) }
+        ensures count { self.old.failed ≤ self.new.failed }
+        ensures rose { OnErr result (Rose self.old.failed self.new.failed) }
+        ensures fault { OnErr result (result ≡ Err ReadFault.Read) }
+    {
+        read_some(&mut self.reader, &mut self.failed, piece)
+    }
 
     /// All bytes to the end, or to the first byte of the line after the last that a script may have, or as many bytes as all
     /// lines may have and one more.

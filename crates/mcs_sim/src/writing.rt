@@ -1,7 +1,7 @@
 //! The trace of a book.
-ghost use Rattle.std.specs.Prelude.{◌≡◌, ◌+◌, ◌^◌, ◌<◌, ◌≤◌, OnOk, OnErr, reverse, Err};
+ghost use Rattle.std.specs.Prelude.{◌≡◌, ◌+◌, ◌-◌, ◌*◌, ◌^◌, ◌<◌, ◌≤◌, OnOk, OnErr, length, Err, None};
 ghost use Rattle.mcs_text.specs.Output.{Puts, Rose};
-ghost use Rattle.mcs_sim.specs.Trace.{sent_with, sent_after, boot_lines_trace, records_trace, line_trace, lines_trace, trace};
+ghost use Rattle.mcs_sim.specs.Trace.{sent_with, sent_after, sent_in, boot_lines_trace, records_trace, line_trace, lines_trace, trace, untold_lines, untold_boot, untold, all_told, told_of, IsToldOf};
 ghost use Rattle.mcs_sim.specs.Runs.{Writes, WritesPart};
 
 use crate::fault::SimFault;
@@ -61,27 +61,67 @@ fn put_book_line<W: Write>(sink: &mut Sink<W>, sent: u128, line: &Line<'_>) -> u
     put_records(sink, sent, line)
 }
 
-fn put_lines<W: Write>(sink: &mut Sink<W>, book: &Book)
-    ensures { Puts W.contents sink.old sink.new (lines_trace 0 (reverse book.now.book.lines)) }
+/// How much of a book's trace was told: so many of its lines, with that of the boot, and so many messages sent with them.
+#[derive(Clone, Copy)]
+pub struct Told {
+    lines: usize,
+    sent: u128,
+}
+
+impl Told {
+    /// Nothing of it.
+    pub fn nothing() -> Told
+        ensures { result ≡ told_of None }
+    {
+        Told { lines: 0, sent: 0 }
+    }
+}
+
+/// Puts the lines behind those that were told, and answers how many messages were sent with all of them.
+fn put_lines<W: Write>(sink: &mut Sink<W>, told: Told, book: &Book) -> u128
+    requires fits { told.sent ≤ (told.lines - 1) * 2 ^ 64 }
+    requires few { told.lines ≤ length book.now.book.lines + 1 }
+    ensures puts { Puts W.contents sink.old sink.new
+        (lines_trace told.sent (untold_lines told book.now.book)) }
+    ensures sent { result ≡ sent_in told.sent (untold_lines told book.now.book) }
+    ensures fits { result ≤ length book.now.book.lines * 2 ^ 64 }
 {
     // a book of 2 to the 64 lines, with as many records in each, would fill this count
-    let mut sent = 0u128;
-    for i in 1..book.lines() {
+    let mut sent = told.sent;
+    for i in told.lines.max(1)..book.lines() {
         match book.line(i) {
             Some(line) => sent = put_book_line(sink, sent, &line),
             None => unreachable!(),
         }
     }
+    sent
 }
 
-/// The text of a book, piece by piece.
-#[tactic(auto, unfolding(crate::specs::Trace::trace))]
-fn put_book<W: Write>(sink: &mut Sink<W>, book: &Book)
-    ensures { Puts W.contents sink.old sink.new (trace book.now.book) }
+/// Puts the lines of the boot, where nothing was told.
+fn put_untold_boot<W: Write>(sink: &mut Sink<W>, told: Told, book: &Book)
+    ensures { Puts W.contents sink.old sink.new (untold_boot told book.now.book) }
 {
+    if told.lines != 0 {
+        return;
+    }
     put_cores(sink, book.cores());
     put_boot(sink, book.boot());
-    put_lines(sink, book);
+}
+
+/// Puts what of a book's trace was not told, and answers how much is told with it.
+#[tactic(auto, unfolding(crate::specs::Trace::untold))]
+pub fn put_untold<W: Write>(sink: &mut Sink<W>, told: Told, book: &Book) -> Told
+    requires told { IsToldOf told book.now.book }
+    ensures puts { Puts W.contents sink.old sink.new (untold told book.now.book) }
+    ensures told { result ≡ all_told book.now.book }
+    ensures fits { result.sent ≤ (result.lines - 1) * 2 ^ 64 }
+{
+    put_untold_boot(sink, told, book);
+    let sent = put_lines(sink, told, book);
+    Told {
+        lines: book.lines(),
+        sent,
+    }
 }
 
 /// Writes the trace of a book: its boot, and then for each line its step, its answer and its records. What the sink kept back
@@ -94,7 +134,7 @@ pub fn trace<W: Write>(book: &Book, sink: &mut Sink<W>) -> Result<(), SimFault>
     ensures count { sink.old.failed ≤ sink.new.failed }
 {
     sink.start();
-    put_book(sink, book);
+    put_untold(sink, Told::nothing(), book);
     sink.flush();
     if sink.is_broken() {
         return Err(SimFault::Write);

@@ -38,6 +38,7 @@ fn a_failed_write_is_told(rt: HostRuntime) -> Result<(), Fail> {
 #[test]
 fn each_read_fails_in_turn(rt: HostRuntime) -> Result<(), Fail> {
     let script = format!(in rt.alloc(); "{BOOT}{FIRST_STEPS}")?;
+    let want = format!(in rt.alloc(); "{BOOT}{FIRST_TRACE}")?;
     let piece = 50;
     // so many pieces, and the read that tells the end
     let reads = script.len().div_ceil(piece) as u32 + 1;
@@ -49,10 +50,9 @@ fn each_read_fails_in_turn(rt: HostRuntime) -> Result<(), Fail> {
         let result = pipe(rt.alloc(), input, &mut output);
         if reads_left < reads {
             assert_eq!(rt; result, Err(SimFault::Read), "{reads_left}");
-            assert!(rt; output.taken.is_empty());
+            assert!(rt; want.as_bytes().starts_with(&output.taken));
         } else {
             assert_eq!(rt; result, Ok(()));
-            let want = format!(in rt.alloc(); "{BOOT}{FIRST_TRACE}")?;
             assert_eq!(rt; output.taken.as_slice(), want.as_bytes());
         }
     }

@@ -14,6 +14,8 @@ mod failing;
 #[cfg(test)]
 mod faults;
 #[cfg(test)]
+mod feeding;
+#[cfg(test)]
 mod limits;
 #[cfg(test)]
 mod lookups;

@@ -1133,7 +1133,7 @@ fn the_number_of_cores_is_written(rt: HostRuntime) -> Result<(), Fail> {
 }
 
 /// Scripts with a fault before the first step, its line and the fault.
-const FAULTY_BOOTS: [(&str, u64, LineFault); 15] = [
+pub const FAULTY_BOOTS: [(&str, u64, LineFault); 15] = [
     ("", 1, LineFault::NoCores),
     ("# nothing\n", 2, LineFault::NoCores),
     ("cores 0\n", 1, LineFault::Number),
@@ -1160,7 +1160,7 @@ const FAULTY_BOOTS: [(&str, u64, LineFault); 15] = [
 ];
 
 /// Steps behind a boot of 36 lines with a fault in the second, the trace of the first, and the fault.
-const FAULTY_STEPS: [(&str, &str, LineFault); 4] = [
+pub const FAULTY_STEPS: [(&str, &str, LineFault); 4] = [
     (
         "0 t1 nbsend 1 7\n0 t1 setprio 11 11 256\n",
         "0 t1 nbsend 1 7\n= done\n",

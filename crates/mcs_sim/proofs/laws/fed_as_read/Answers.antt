@@ -1,0 +1,5 @@
+use Rattle.mcs_sim.proofs.GoingScripts.{fed-as-read}
+use Rattle.mcs_sim.proofs.laws.fed_as_read.Goals as goal
+
+pub returns : goal.returns
+returns g c = fed-as-read g.text

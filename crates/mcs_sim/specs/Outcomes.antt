@@ -1,0 +1,45 @@
+-- What comes of a script that is taken line by line.
+use Rattle.std.specs.Prelude.{◌≡◌, ◌⊎◌, ℕ, List, [], ◌∷◌, ◌++◌, Option, Some, None}
+use Rattle.mcs_types.specs.declared.entry.Step.{Step}
+use Rattle.mcs_book.specs.Boots.{Boot}
+use Rattle.mcs_book.specs.History.{book_of}
+use Rattle.mcs_text.specs.declared.fault.LineFault.{LineFault}
+use Rattle.mcs_sim.specs.declared.fault.SimFault.{SimFault}
+use Rattle.mcs_sim.specs.declared.fault.SimFault.TheVariants as fault
+use Rattle.mcs_sim.specs.Script.{Script}
+use Rattle.mcs_sim.specs.Runs.{IsFull, IsRoomy}
+use Rattle.mcs_sim.specs.Going.{Standing, Course, not_begun}
+
+-- what stands after the lines of a script
+abbrev pub standing_of : Option Boot → List Step → Standing
+standing_of boot [] = record { boot = boot; book = None }
+standing_of None (s ∷ ss) = not_begun
+standing_of (Some b) (s ∷ ss) = record { boot = None; book = Some (book_of b (s ∷ ss)) }
+
+-- all of a script was taken
+pub record IsTaken (t : Script Step) (c : Course) : Type 0 where
+  pub boot : Boot
+  pub said : t.boot ≡ Some boot
+  pub roomy : IsRoomy t.boot t.items
+  pub goes : c.fault ≡ None
+  pub book : c.stands.book ≡ Some (book_of boot t.items)
+
+-- a script was taken to its faulty line
+pub record IsTakenTo (line : ℕ) (why : LineFault) (t : Script Step) (c : Course) : Type 0 where
+  pub roomy : IsRoomy t.boot t.items
+  pub ended : c.fault ≡ Some (fault.Script line why)
+  pub book : c.stands.book ≡ (standing_of t.boot t.items).book
+
+-- a script was taken to a step for which the book is full
+pub record IsTakenToFull (t : Script Step) (c : Course) : Type 0 where
+  pub before : List Step
+  pub after : List Step
+  pub split : t.items ≡ before ++ after
+  pub full : IsFull t.boot t.items
+  pub ended : c.fault ≡ Some fault.BookFull
+  pub book : c.stands.book ≡ (standing_of t.boot before).book
+
+-- what comes of a script with its first faulty line, if it has one
+abbrev pub ComesOfScript : Script Step × Option (ℕ × LineFault) → Course → Type 0
+ComesOfScript (t, None) c = IsTaken t c ⊎ IsTakenToFull t c
+ComesOfScript (t, Some (line, why)) c = IsTakenTo line why t c ⊎ IsTakenToFull t c
