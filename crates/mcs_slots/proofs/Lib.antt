@@ -1,3 +1,4 @@
 pub mod CopyLaws
 pub mod SlotLaws
 pub mod AddLaws
+pub mod TallyLaws

@@ -16,6 +16,7 @@ use Rattle.mcs_slots.specs.declared.slots.SlotId.{SlotId}
 use Rattle.mcs_slots.specs.Numbers.{number_of}
 use Rattle.mcs_slots.specs.Pages.{Page, empty_page, IsPage, ArePages, page_of, page_at, page_radix, page_slot, page_slots, radix_of, slot_at, HasSlot, held}
 use Rattle.mcs_slots.specs.Filling.{Filling, fills_in, filled, ChangesOne}
+use Rattle.mcs_slots.specs.Tallies.{holding}
 
 -- numbers of objects
 number-cond : (a b : Bool) (x n : ℕ) → cond (not a || b) None (Some x) ≡ Some n → (a ≡ true) × (b ≡ false) × (x ≡ n)
@@ -80,25 +81,31 @@ pages-fills [] k i cap h = tt
 pages-fills (q ∷ qs) zero i cap h = ((h.0.0, h.0.1, length-set q.caps i cap ∙ h.0.2), h.1)
 pages-fills (q ∷ qs) (suc k) i cap h = (h.0, pages-fills qs k i cap h.1)
 
+pub pages-filled : (S : List Page) (at : SlotId) (cap : Option Cap) → ArePages S → ArePages (filled S at cap)
+pages-filled S at cap h = pages-fills S (at.cnode.serial - 1) at.index cap h
+
+pub length-filled : (S : List Page) (at : SlotId) (cap : Option Cap) → length (filled S at cap) ≡ length S
+length-filled S at cap = length-fills S (at.cnode.serial - 1) at.index cap
+
 pub page-found : (S : List Page) (k : ℕ) (p : Page) → ArePages S → slice_get S k ≡ Some p → IsPage p
 page-found [] k p h found = absurd (cc)
 page-found (q ∷ qs) zero p h found = let e : q ≡ p = cc in subst IsPage e h.0
 page-found (q ∷ qs) (suc k) p h found = page-found qs k p h.1 found
 
-pub count-fills : (S : List Page) (k i : ℕ) (cap : Option Cap) (p : Page) (o : ObjId) → slice_get S k ≡ Some p → i < length p.caps → held (fills_in S k i cap) o + cond (is_cap_to o (get_or p.caps i None)) 1 0 ≡ held S o + cond (is_cap_to o cap) 1 0
-count-fills [] k i cap p o h lt = absurd (cc)
-count-fills (q ∷ qs) zero i cap p o h lt =
-    let e : q ≡ p = cc in
-    let s = sum_by-set (λ (x : Option Cap). cond (is_cap_to o x) 1 0) p.caps i cap None lt in
-    let a = sum_by-cons (λ (x : Page). count_by (is_cap_to o) x.caps) q qs in
-    let b = sum_by-cons (λ (x : Page). count_by (is_cap_to o) x.caps) (record q { caps = set q.caps i cap }) qs in
-    let c = ap (λ (x : Page). count_by (is_cap_to o) x.caps) e in
-    let d = ap (λ (x : Page). count_by (is_cap_to o) (set x.caps i cap)) e in
+pub count-fills : (q : Option Cap → Bool) (S : List Page) (k i : ℕ) (cap : Option Cap) (p : Page) → slice_get S k ≡ Some p → i < length p.caps → holding q (fills_in S k i cap) + cond (q (get_or p.caps i None)) 1 0 ≡ holding q S + cond (q cap) 1 0
+count-fills q [] k i cap p h lt = absurd (cc)
+count-fills q (x ∷ xs) zero i cap p h lt =
+    let e : x ≡ p = cc in
+    let s = sum_by-set (λ (y : Option Cap). cond (q y) 1 0) p.caps i cap None lt in
+    let a = sum_by-cons (λ (y : Page). count_by q y.caps) x xs in
+    let b = sum_by-cons (λ (y : Page). count_by q y.caps) (record x { caps = set x.caps i cap }) xs in
+    let c = ap (λ (y : Page). count_by q y.caps) e in
+    let d = ap (λ (y : Page). count_by q (set y.caps i cap)) e in
     omega (arith, s, a, b, c, d)
-count-fills (q ∷ qs) (suc k) i cap p o h lt =
-    let ih = count-fills qs k i cap p o h lt in
-    let a = sum_by-cons (λ (x : Page). count_by (is_cap_to o) x.caps) q qs in
-    let b = sum_by-cons (λ (x : Page). count_by (is_cap_to o) x.caps) q (fills_in qs k i cap) in
+count-fills q (x ∷ xs) (suc k) i cap p h lt =
+    let ih = count-fills q xs k i cap p h lt in
+    let a = sum_by-cons (λ (y : Page). count_by q y.caps) x xs in
+    let b = sum_by-cons (λ (y : Page). count_by q y.caps) x (fills_in xs k i cap) in
     omega (arith, ih, a, b)
 
 -- the page of a slot that is there
@@ -171,20 +178,23 @@ slot_at-filled S at cap c i pages has =
 pub radix_of-filled : (S : List Page) (at : SlotId) (cap : Option Cap) (c : ObjId) → radix_of (filled S at cap) c ≡ radix_of S c
 radix_of-filled S at cap c = radix-number S (at.cnode.serial - 1) at.index cap (number_of c)
 
--- one where the slot holds a capability to o
-abbrev holds : ObjId → Option Cap → ℕ
-holds o x = cond (is_cap_to o x) 1 0
+-- one where a slot passes a test
+abbrev pub passing : (Option Cap → Bool) → Option Cap → ℕ
+passing q x = cond (q x) 1 0
 
-pub held-filled : (S : List Page) (at : SlotId) (cap : Option Cap) (o : ObjId) → ArePages S → HasSlot S at → held (filled S at cap) o + cond (is_cap_to o (slot_at S at.cnode at.index)) 1 0 ≡ held S o + cond (is_cap_to o cap) 1 0
-held-filled S at cap o pages has =
+pub holding-filled : (q : Option Cap → Bool) (S : List Page) (at : SlotId) (cap : Option Cap) → ArePages S → HasSlot S at → holding q (filled S at cap) + cond (q (slot_at S at.cnode at.index)) 1 0 ≡ holding q S + cond (q cap) 1 0
+holding-filled q S at cap pages has =
     let st = stands S at has in
     let page = page-found S st.number st.page pages st.found in
     let lt : at.index < length st.page.caps = omega (arith, st.within, page.2) in
     let slot : slot_at S at.cnode at.index ≡ get_or st.page.caps at.index None = ap (λ n. page_slot (page_of S n) at.index) st.is ∙ ap (λ p. page_slot p at.index) st.found in
-    let counted = count-fills S st.number at.index cap st.page o st.found lt in
-    let filled_is : held (filled S at cap) o ≡ held (fills_in S st.number at.index cap) o = ap (λ k. held (fills_in S k at.index cap) o) st.back in
-    let slot_is = ap (holds o) slot in
+    let counted = count-fills q S st.number at.index cap st.page st.found lt in
+    let filled_is : holding q (filled S at cap) ≡ holding q (fills_in S st.number at.index cap) = ap (λ k. holding q (fills_in S k at.index cap)) st.back in
+    let slot_is = ap (passing q) slot in
     omega (arith, counted, filled_is, slot_is)
+
+pub held-filled : (S : List Page) (at : SlotId) (cap : Option Cap) (o : ObjId) → ArePages S → HasSlot S at → held (filled S at cap) o + cond (is_cap_to o (slot_at S at.cnode at.index)) 1 0 ≡ held S o + cond (is_cap_to o cap) 1 0
+held-filled S at cap o pages has = holding-filled (is_cap_to o) S at cap pages has
 
 pub changes-one : (f : Filling) → ArePages f.before → HasSlot f.before f.at → ChangesOne f
 changes-one f pages has =
@@ -227,5 +237,5 @@ set-filled items S at number cap p same has is value =
     let lt : number < length items = omega (arith, slice_get_within S st.number st.page st.found, n, ap length same) in
     fills-set items number at.index cap p p lt value ∙ ap₂ (λ ps k. fills_in ps k at.index cap) same (n ∙ sym st.back)
 
-radix-few : (r : ℕ) → r ≤ 8 → 2 ^ r ≤ 256
+pub radix-few : (r : ℕ) → r ≤ 8 → 2 ^ r ≤ 256
 radix-few r h = omega (arith, pow_mono {i = r} {j = 8} h)

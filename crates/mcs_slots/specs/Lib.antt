@@ -1,5 +1,7 @@
+pub mod Buckets
 pub mod Copying
 pub mod Filling
 pub mod Masks
 pub mod Numbers
 pub mod Pages
+pub mod Tallies

@@ -4,7 +4,9 @@
 mod caps;
 mod laws;
 mod page;
+mod pages;
 mod slots;
+mod tallies;
 
 pub use caps::{takes_badge, with_badge, with_mask};
 pub use laws::one_slot_changes;

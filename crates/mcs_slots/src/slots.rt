@@ -1,10 +1,10 @@
 //! The slots of all CNodes, and the calls on them.
-ghost use Rattle.std.specs.Prelude.{◌≡◌, ◌≤◌, ◌<◌, ◌++◌, ◌∷◌, [], ◌↔◌, IsTrue, All, IfOk, OnOk, OnErr, Some, None, length, map, option_copied};
-ghost use Rattle.mcs_slots.specs.Numbers.{number_of};
+ghost use Rattle.std.specs.Prelude.{◌≡◌, ◌≤◌, ◌<◌, ◌++◌, ◌∷◌, [], ◌↔◌, IsTrue, All, IfOk, OnOk, OnErr, Some, None, length, map};
 
 use crate::caps::{takes_badge, with_badge, with_mask};
-use crate::page::Page;
-use mcs_types::{Badge, Cap, Kind, ObjId, OutOfMemory, Refusal, Rights};
+use crate::pages::Pages;
+use crate::tallies::Tallies;
+use mcs_types::{Badge, Cap, ObjId, OutOfMemory, Refusal, Rights};
 use std::alloc::Global;
 use std::marker::Model;
 
@@ -16,41 +16,37 @@ pub struct SlotId {
 }
 
 /// The slots of up to 64 CNodes, whose serials count from 1 (own). The memory of a CNode is taken when it is added, as a boot does;
-/// beside `new` and `add` no call takes any.
+/// beside `new` and `add` no call takes any. The tallies are a memo of what the slots hold, and always tell it.
 pub struct Slots {
-    pages: Vec<Page>,
+    pages: Pages,
+    tallies: Tallies,
 }
 
 // By hand, so that it is a function of its own: a derived drop would be proved anew wherever it is let go.
 impl Drop for Slots {
     fn drop(self) {
-        let Slots { pages: _ } = self;
+        let Slots {
+            pages: _,
+            tallies: _,
+        } = self;
     }
 }
 
 impl Model for Slots {
-    ghost use Rattle.std.specs.Prelude.{List, ◌≤◌, length};
-    ghost use Rattle.mcs_slots.specs.Pages.{Page, ArePages};
+    ghost use Rattle.std.specs.Prelude.{List};
+    ghost use Rattle.mcs_slots.specs.Pages.{Page};
 
     ghost Value = { List Page };
 
-    ghost view = { λ s. s.pages.items };
+    ghost use Rattle.mcs_slots.specs.Tallies.{Tells};
 
-    ghost invariant = { λ s. (length s.pages.items ≤ 64) × ArePages s.pages.items };
-}
+    ghost view = { λ s. s.pages };
 
-/// Where the page of a CNode stands, if it can be one.
-fn page_number(cnode: ObjId) -> Option<usize>
-    ensures { result ≡ number_of cnode }
-{
-    if cnode.kind as u8 != Kind::CNode as u8 || cnode.serial == 0 {
-        return None;
-    }
-    Some((cnode.serial - 1) as usize)
+    ghost invariant = { λ s. Tells s.tallies s.pages };
 }
 
 impl Slots {
-    ghost use Rattle.mcs_slots.specs.Pages.{empty_page, page_at, radix_of, slot_at, HasSlot, held, ArePages};
+    ghost use Rattle.mcs_slots.specs.Pages.{empty_page, radix_of, slot_at, HasSlot, held, ArePages};
     ghost use Rattle.mcs_slots.specs.Filling.{filled, Fills, Moves};
     ghost use Rattle.mcs_slots.specs.Copying.{source_cap, copy_of, mint_of, answered};
 
@@ -60,11 +56,9 @@ impl Slots {
         requires radices { All (λ r. (1 ≤ r) × (r ≤ 8)) radices.now }
         ensures { IfOk result (λ s. s ≡ map empty_page radices.now) }
     {
-        let mut pages = Vec::with_capacity(alloc, radices.len())?;
-        for radix in radices {
-            pages.push_reserved(Page::empty(alloc, *radix)?);
-        }
-        Ok(Slots { pages })
+        let tallies = Tallies::new(alloc)?;
+        let pages = Pages::new(alloc, radices)?;
+        Ok(Slots { pages, tallies })
     }
 
     /// Adds an empty CNode of a radix from 1 to 8, where fewer than 64 are there, as `len` tells: its serial is the next. The memory
@@ -76,9 +70,7 @@ impl Slots {
         ensures added { OnOk result (self.new ≡ self.old ++ empty_page radix ∷ []) }
         ensures refused { OnErr result (self.new ≡ self.old) }
     {
-        self.pages.reserve(1)?;
-        let page = Page::empty(*self.pages.allocator(), radix)?;
-        self.pages.push_reserved(page);
+        self.pages.add(radix)?;
         Ok(())
     }
 
@@ -87,7 +79,7 @@ impl Slots {
         ensures few { length self.now ≤ 64 }
         ensures pages { ArePages self.now }
     {
-        let _ = &self.pages;
+        self.pages.are_pages();
     }
 
     /// How many CNodes there are.
@@ -97,36 +89,25 @@ impl Slots {
         self.pages.len()
     }
 
-    fn page(&self, cnode: ObjId) -> Option<&Page>
-        ensures { option_copied result ≡ page_at self.now cnode }
-    {
-        self.pages.get(page_number(cnode)?)
-    }
-
     /// The radix of a CNode, or None where it is none of these.
     pub fn radix(&self, cnode: ObjId) -> Option<u8>
         ensures { result ≡ radix_of self.now cnode }
     {
-        let page = self.page(cnode)?;
-        Some(page.radix())
+        self.pages.radix(cnode)
     }
 
     /// The capability in a slot, or None where the slot is empty or not there.
     pub fn get(&self, slot: SlotId) -> Option<Cap>
         ensures { result ≡ slot_at self.now slot.cnode slot.index }
     {
-        let page = self.page(slot.cnode)?;
-        page.get(slot.index)
+        self.pages.get(slot)
     }
 
     /// Whether a slot is there: its index is below 2 to the radix of its CNode.
     pub fn has_slot(&self, slot: SlotId) -> bool
         ensures { IsTrue result ↔ HasSlot self.now slot }
     {
-        match self.page(slot.cnode) {
-            None => false,
-            Some(page) => (slot.index as usize) < page.len(),
-        }
+        self.pages.has_slot(slot)
     }
 
     /// Fills a slot that is there with a capability, or empties it. What the slot held is gone.
@@ -134,13 +115,10 @@ impl Slots {
         requires { HasSlot self.old slot }
         ensures { self.new ≡ filled self.old slot cap }
     {
-        match page_number(slot.cnode) {
-            None => unreachable!(),
-            Some(number) => {
-                let page = &mut self.pages[number];
-                page.set(slot.index, cap);
-            }
-        }
+        self.pages.are_pages();
+        self.tallies.let_go(&self.pages.get(slot));
+        self.tallies.count(&cap);
+        self.pages.set(slot, cap);
     }
 
     /// Puts a capability into a slot that is there. What the slot held is gone.
@@ -247,14 +225,15 @@ impl Slots {
         Ok(())
     }
 
-    /// How many slots hold a capability to an object.
+    /// How many slots hold a capability to an object. The tally of its bucket tells it; where another object came there first,
+    /// the slots are counted.
     pub fn count_of(&self, obj: ObjId) -> u32
         ensures { result ≡ held self.now obj }
     {
-        let mut count: u32 = 0;
-        for page in &self.pages {
-            count += page.count_of(obj);
+        let tally = self.tallies.of_bucket(obj);
+        if tally.owns(obj) {
+            return tally.held();
         }
-        count
+        self.pages.count_of(obj)
     }
 }

@@ -1,16 +1,11 @@
-use Rattle.std.proofs.Common.{refl, ap, ◌∙◌, ◌-◌, set, arith}
-use Rattle.mcs_slots.proofs.SlotLaws.{set-filled, length-fills, pages-fills}
+use Rattle.std.proofs.Common.{sym, subst}
+use Rattle.mcs_slots.specs.Tallies.{Tells, LetsGo}
+use Rattle.mcs_slots.proofs.TallyLaws.{filled-told}
 use Rattle.mcs_slots.proofs.slots.Slots.set.Goals as goal
 
 pub invariant_of-self : goal.invariant_of-self
 invariant_of-self c =
-    let items = c.self.inside.pages.items in
-    let place = c.args.slot in
-    let e = ap (set items c.in-Some.number) c.set.ensures ∙ set-filled items items place c.in-Some.number c.args.cap c.index_mut-page.result.now refl (rw (← c.self.view_is) at c.requires) c.in-Some.ensures c.index_mut-page.ensures.value in
-    rw e (omega (arith, length-fills items (place.cnode.serial - 1) place.index c.args.cap, c.self.invariant.0), pages-fills items (place.cnode.serial - 1) place.index c.args.cap c.self.invariant.1)
-
-pub returns : goal.returns
-returns c =
-    let items = c.self.inside.pages.items in
-    let place = c.args.slot in
-    ap (set items c.in-Some.number) c.set.ensures ∙ set-filled items c.args.self.now place c.in-Some.number c.args.cap c.index_mut-page.result.now c.self.view_is c.requires c.in-Some.ensures c.index_mut-page.ensures.value
+    let S = c.self.inside.pages in
+    let less = subst (λ x. LetsGo c.self.inside.tallies x c.let_go.new.self) c.get.ensures c.let_go.ensures in
+    subst (Tells c.count.new.self) (sym c.set.ensures)
+    (filled-told S c.args.slot c.args.cap c.self.inside.tallies c.let_go.new.self c.count.new.self c.are_pages.ensures.pages c.are_pages.ensures.few (rw (← c.self.view_is) at c.requires) c.self.invariant less c.count.ensures)

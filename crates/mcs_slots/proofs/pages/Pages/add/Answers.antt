@@ -2,7 +2,7 @@ use Rattle.std.proofs.Common.{◌∷◌, [], length, ap, sym, subst, arith}
 use Rattle.std.proofs.lemmas.List.{length-append}
 use Rattle.mcs_slots.specs.Pages.{IsPage}
 use Rattle.mcs_slots.proofs.SlotLaws.{pages-append, empty-is-page}
-use Rattle.mcs_slots.proofs.slots.Slots.add.Goals as goal
+use Rattle.mcs_slots.proofs.pages.Pages.add.Goals as goal
 
 pub invariant_of-self-2 : goal.invariant_of-self-2
 invariant_of-self-2 c =

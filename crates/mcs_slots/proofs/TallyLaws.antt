@@ -1,0 +1,214 @@
+-- The tallies tell of the slots while these change.
+use Rattle.std.proofs.Common.{◌≡◌, ◌≢◌, ◌≤◌, ◌+◌, ◌-◌, ◌*◌, ◌^◌, ◌==◌, ℕ, zero, suc, Bool, true, false, cond, List, [], ◌∷◌, length, set, map, replicate, count_by, All, Option, Some, None, refl, ap, subst, sym, ◌∙◌, arith}
+use Rattle.std.specs.Prelude.{slice_get}
+use Rattle.std.proofs.lemmas.Bool.{eq-eqb, eqb-true}
+use Rattle.std.proofs.lemmas.List.Sums.{sum_by-cons, sum_by-le-sum_by, count_by-le-length}
+use Rattle.std.proofs.lemmas.List.Folds.{sum_by-replicate}
+use Rattle.std.proofs.lemmas.Option.{slice_get_within, get_or_from_slice_get}
+use Rattle.mcs_types.specs.declared.id.ObjId.{ObjId}
+use Rattle.mcs_types.specs.declared.cap.Cap.{Cap}
+use Rattle.mcs_types.proofs.Ids.{same-equal}
+use Rattle.mcs_slots.specs.declared.slots.SlotId.{SlotId}
+use Rattle.mcs_slots.specs.declared.tallies.Tally.{Tally}
+use Rattle.mcs_slots.specs.Buckets.{bucket_of, falls_in, owns, is_owned}
+use Rattle.mcs_slots.specs.Filling.{filled}
+use Rattle.mcs_slots.specs.Pages.{Page, empty_page, ArePages, HasSlot, slot_at}
+use Rattle.mcs_slots.specs.Tallies.{holding, TellsOf, Tells, no_tally, one_less, taken_over, more_by_one, counted, one_more, LetsGo, Counts}
+use Rattle.mcs_slots.proofs.SlotLaws.{radix-few, holding-filled, pages-filled, length-filled}
+
+-- one where a test passes
+abbrev one : Bool → ℕ
+one v = cond v 1 0
+
+-- slots that pass a test pass a weaker one
+one-le : (a b : Bool) → (a ≡ true → b ≡ true) → cond a 1 0 ≤ cond b 1 0
+one-le true b h = rw (h refl) (omega arith)
+one-le false b h = omega arith
+
+holding-le : (q r : Option Cap → Bool) (S : List Page) → ((x : Option Cap) → q x ≡ true → r x ≡ true) → holding q S ≤ holding r S
+holding-le q r S h =
+    sum_by-le-sum_by (λ (p : Page). count_by q p.caps) (λ (p : Page). count_by r p.caps) S
+    (λ p. sum_by-le-sum_by (λ (x : Option Cap). cond (q x) 1 0) (λ (x : Option Cap). cond (r x) 1 0) p.caps (λ x. one-le (q x) (r x) (h x)))
+
+-- there are few slots
+holding-few : (q : Option Cap → Bool) (S : List Page) → ArePages S → holding q S ≤ 256 * length S
+holding-few q [] h = omega arith
+holding-few q (p ∷ ps) h =
+    let a = sum_by-cons (λ (x : Page). count_by q x.caps) p ps in
+    let b = count_by-le-length q p.caps in
+    let c = radix-few p.radix h.0.1 in
+    omega (arith, a, b, c, h.0.2, holding-few q ps h.1)
+
+-- empty slots pass no test that asks for a capability
+holding-empty : (q : Option Cap → Bool) (rs : List ℕ) → q None ≡ false → holding q (map empty_page rs) ≡ 0
+holding-empty q [] none = refl
+holding-empty q (r ∷ rs) none =
+    let a = sum_by-cons (λ (x : Page). count_by q x.caps) (empty_page r) (map empty_page rs) in
+    let b : count_by q (replicate (2 ^ r) None) ≡ 2 ^ r * cond (q None) 1 0 = sum_by-replicate (λ (x : Option Cap). cond (q x) 1 0) (2 ^ r) None in
+    let c : 2 ^ r * cond (q None) 1 0 ≡ 0 = rw none (omega arith) in
+    omega (arith, a, b, c, holding-empty q rs none)
+
+-- what the tests of a tally say
+unowned : (w : Option ObjId) → is_owned w None ≡ false
+unowned w = refl
+
+-- an owner falls in its bucket
+owned-falls : (b : ℕ) (w : Option ObjId) → ((o : ObjId) → w ≡ Some o → bucket_of o ≡ b) → (x : Option Cap) → is_owned w x ≡ true → falls_in b x ≡ true
+owned-falls b w h None e = absurd cc
+owned-falls b None h (Some cap) e = absurd cc
+owned-falls b (Some o) h (Some cap) e = eq-eqb (bucket_of cap.obj) b (ap bucket_of (same-equal cap.obj o e) ∙ h o refl)
+
+-- the slots have one capability more
+abbrev OneMore : List Page → Option Cap → List Page → Type 0
+OneMore old x new = (q : Option Cap → Bool) → q None ≡ false → holding q new ≡ holding q old + cond (q x) 1 0
+
+-- a test that fails adds nothing
+none-more : (q : Option Cap → Bool) (old new : List Page) (x : Option Cap) → OneMore old x new → q None ≡ false → q x ≡ false → holding q new ≡ holding q old
+none-more q old new x more none fails = let a = more q none in let b = ap one fails in omega (arith, a, b)
+
+-- the tally of another bucket
+falls-other : (b : ℕ) (cap : Cap) → b ≢ bucket_of cap.obj → falls_in b (Some cap) ≡ false
+falls-other b cap ne = go (bucket_of cap.obj == b) refl
+  where
+    go : (v : Bool) → (bucket_of cap.obj == b) ≡ v → v ≡ false
+    go true e = absurd (ne (sym (eqb-true (bucket_of cap.obj) b e)))
+    go false e = refl
+
+owned-other : (b : ℕ) (w : Option ObjId) (cap : Cap) → ((o : ObjId) → w ≡ Some o → bucket_of o ≡ b) → b ≢ bucket_of cap.obj → is_owned w (Some cap) ≡ false
+owned-other b w cap h ne = go (is_owned w (Some cap)) refl
+  where
+    go : (v : Bool) → is_owned w (Some cap) ≡ v → v ≡ false
+    go true e = let t = owned-falls b w h (Some cap) e in let f = falls-other b cap ne in absurd (let x : true ≡ false = sym t ∙ f in cc)
+    go false e = refl
+
+less-other : (old new : List Page) (cap : Cap) → OneMore new (Some cap) old → (b : ℕ) (t : Tally) → b ≢ bucket_of cap.obj → TellsOf old b t → TellsOf new b t
+less-other old new cap less b t ne told =
+    record {
+      owner = told.owner;
+      held = told.held ∙ none-more (is_owned t.owner) new old (Some cap) less refl (owned-other b t.owner cap told.owner ne);
+      total = told.total ∙ none-more (falls_in b) new old (Some cap) less refl (falls-other b cap ne);
+    }
+
+more-other : (old new : List Page) (cap : Cap) → OneMore old (Some cap) new → (b : ℕ) (t : Tally) → b ≢ bucket_of cap.obj → TellsOf old b t → TellsOf new b t
+more-other old new cap more b t ne told =
+    record {
+      owner = told.owner;
+      held = told.held ∙ sym (none-more (is_owned t.owner) old new (Some cap) more refl (owned-other b t.owner cap told.owner ne));
+      total = told.total ∙ sym (none-more (falls_in b) old new (Some cap) more refl (falls-other b cap ne));
+    }
+
+-- the tally of the bucket itself
+falls-own : (cap : Cap) → falls_in (bucket_of cap.obj) (Some cap) ≡ true
+falls-own cap = eq-eqb (bucket_of cap.obj) (bucket_of cap.obj) refl
+
+one-back : (v : Bool) (n old new : ℕ) → n ≡ old → old ≡ new + cond v 1 0 → cond v (n - 1) n ≡ new
+one-back true n old new e f = omega (arith, e, f)
+one-back false n old new e f = omega (arith, e, f)
+
+less-here : (old new : List Page) (cap : Cap) (t : Tally) → OneMore new (Some cap) old → TellsOf old (bucket_of cap.obj) t → TellsOf new (bucket_of cap.obj) (one_less cap.obj t)
+less-here old new cap t less told =
+    record {
+      owner = told.owner;
+      held = one-back (owns t.owner cap.obj) t.held (holding (is_owned t.owner) old) (holding (is_owned t.owner) new) told.held (less (is_owned t.owner) refl);
+      total = one-back true t.total (holding (falls_in (bucket_of cap.obj)) old) (holding (falls_in (bucket_of cap.obj)) new) told.total (less (falls_in (bucket_of cap.obj)) refl ∙ ap (λ v. holding (falls_in (bucket_of cap.obj)) new + cond v 1 0) (falls-own cap));
+    }
+
+taken-here : (S : List Page) (o : ObjId) (t : Tally) → TellsOf S (bucket_of o) t → TellsOf S (bucket_of o) (taken_over o t)
+taken-here S o t told = go (t.total == 0) refl
+  where
+    new : Tally
+    new = record { owner = Some o; held = 0; total = 0 }
+
+    within : (x : ObjId) → Some o ≡ Some x → bucket_of x ≡ bucket_of o
+    within x e = let f : o ≡ x = cc in sym (ap bucket_of f)
+
+    go : (v : Bool) → (t.total == 0) ≡ v → TellsOf S (bucket_of o) (cond v (record { owner = Some o; held = 0; total = 0 }) t)
+    go true e =
+        let z : t.total ≡ 0 = eqb-true t.total 0 e in
+        let le = holding-le (is_owned (Some o)) (falls_in (bucket_of o)) S (owned-falls (bucket_of o) (Some o) within) in
+        record {
+          owner = within;
+          held = omega (arith, le, told.total, z);
+          total = omega (arith, told.total, z);
+        }
+    go false e = told
+
+one-on : (v : Bool) (n old new : ℕ) → n ≡ old → new ≡ old + cond v 1 0 → new ≤ 16384 → cond v (more_by_one n) n ≡ new
+one-on true n old new e f few = omega (arith, e, f, few)
+one-on false n old new e f few = omega (arith, e, f, few)
+
+counted-here : (old new : List Page) (cap : Cap) (t : Tally) → OneMore old (Some cap) new → ((q : Option Cap → Bool) → holding q new ≤ 16384) → TellsOf old (bucket_of cap.obj) t → TellsOf new (bucket_of cap.obj) (counted cap.obj t)
+counted-here old new cap t more few told =
+    record {
+      owner = told.owner;
+      held = one-on (owns t.owner cap.obj) t.held (holding (is_owned t.owner) old) (holding (is_owned t.owner) new) told.held (more (is_owned t.owner) refl) (few (is_owned t.owner));
+      total = one-on true t.total (holding (falls_in (bucket_of cap.obj)) old) (holding (falls_in (bucket_of cap.obj)) new) told.total (more (falls_in (bucket_of cap.obj)) refl ∙ ap (λ v. holding (falls_in (bucket_of cap.obj)) old + cond v 1 0) (falls-own cap)) (few (falls_in (bucket_of cap.obj)));
+    }
+
+-- one tally is set
+each-set : (P : ℕ → Tally → Type 0) (T : List Tally) (k : ℕ) (t : Tally) → P k t → ((b : ℕ) (u : Tally) → b ≢ k → slice_get T b ≡ Some u → P b u) → (b : ℕ) (u : Tally) → slice_get (set T k t) b ≡ Some u → P b u
+each-set P [] k t here other b u h = absurd cc
+each-set P (x ∷ xs) zero t here other zero u h = let e : t ≡ u = cc in subst (P zero) e here
+each-set P (x ∷ xs) zero t here other (suc b) u h = other (suc b) u (λ e. absurd cc) h
+each-set P (x ∷ xs) (suc k) t here other zero u h = other zero u (λ e. absurd cc) h
+each-set P (x ∷ xs) (suc k) t here other (suc b) u h =
+    each-set (λ n. P (suc n)) xs k t here (λ n v ne. other (suc n) v (λ e. ne (cc))) b u h
+
+-- a slot lets go of what it held
+let-go : (x : Option Cap) (T U : List Tally) (old new : List Page) → OneMore new x old → Tells T old → LetsGo T x U → Tells U new
+let-go None T U old new less told is b t found =
+    let at : slice_get T b ≡ Some t = ap (λ ts. slice_get ts b) (sym is) ∙ found in
+    let was = told b t at in
+    record {
+      owner = was.owner;
+      held = was.held ∙ none-more (is_owned t.owner) new old None less refl refl;
+      total = was.total ∙ none-more (falls_in b) new old None less refl refl;
+    }
+let-go (Some cap) T U old new less told is b t found =
+    each-set (TellsOf new) T (bucket_of cap.obj) (one_less cap.obj is.tally)
+    (less-here old new cap is.tally less (told (bucket_of cap.obj) is.tally is.found))
+    (λ n u ne h. less-other old new cap less n u ne (told n u h))
+    b t (ap (λ ts. slice_get ts b) (sym is.is) ∙ found)
+
+-- an empty slot gets this
+count : (x : Option Cap) (T U : List Tally) (old new : List Page) → OneMore old x new → ((q : Option Cap → Bool) → holding q new ≤ 16384) → Tells T old → Counts T x U → Tells U new
+count None T U old new more few told is b t found =
+    let at : slice_get T b ≡ Some t = ap (λ ts. slice_get ts b) (sym is) ∙ found in
+    let was = told b t at in
+    record {
+      owner = was.owner;
+      held = was.held ∙ sym (none-more (is_owned t.owner) old new None more refl refl);
+      total = was.total ∙ sym (none-more (falls_in b) old new None more refl refl);
+    }
+count (Some cap) T U old new more few told is b t found =
+    each-set (TellsOf new) T (bucket_of cap.obj) (one_more cap.obj is.tally)
+    (counted-here old new cap (taken_over cap.obj is.tally) more few (taken-here old cap.obj is.tally (told (bucket_of cap.obj) is.tally is.found)))
+    (λ n u ne h. more-other old new cap more n u ne (told n u h))
+    b t (ap (λ ts. slice_get ts b) (sym is.is) ∙ found)
+
+-- what a slot that is filled changes: it is emptied first
+pub filled-told : (S : List Page) (at : SlotId) (cap : Option Cap) (T U V : List Tally) → ArePages S → length S ≤ 64 → HasSlot S at → Tells T S → LetsGo T (slot_at S at.cnode at.index) U → Counts U cap V → Tells V (filled S at cap)
+filled-told S at cap T U V pages few has told less more =
+    count cap U V (filled S at None) (filled S at cap) gains small (let-go (slot_at S at.cnode at.index) T U S (filled S at None) loses told less) more
+  where
+    emptied : (q : Option Cap → Bool) → q None ≡ false → holding q (filled S at None) + cond (q (slot_at S at.cnode at.index)) 1 0 ≡ holding q S
+    emptied q none = let a = holding-filled q S at None pages has in let b = ap one none in omega (arith, a, b)
+
+    loses : OneMore (filled S at None) (slot_at S at.cnode at.index) S
+    loses q none = sym (emptied q none)
+
+    gains : OneMore (filled S at None) cap (filled S at cap)
+    gains q none = let a = holding-filled q S at cap pages has in let b = emptied q none in omega (arith, a, b)
+
+    small : (q : Option Cap → Bool) → holding q (filled S at cap) ≤ 16384
+    small q = let a = holding-few q (filled S at cap) (pages-filled S at cap pages) in let b = length-filled S at cap in omega (arith, a, b, few)
+
+-- at the beginning nothing is held
+pub empty-told : (T : List Tally) (rs : List ℕ) → All (λ t. t ≡ no_tally) T → Tells T (map empty_page rs)
+empty-told T rs all b t found =
+    let none : t ≡ no_tally = sym (get_or_from_slice_get T b t t found) ∙ all b t (slice_get_within T b t found) in
+    subst (TellsOf (map empty_page rs) b) (sym none) (record {
+      owner = λ o e. absurd cc;
+      held = sym (holding-empty (is_owned None) rs refl);
+      total = sym (holding-empty (falls_in b) rs refl);
+    })

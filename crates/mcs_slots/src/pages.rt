@@ -1,0 +1,141 @@
+//! The pages of all CNodes.
+ghost use Rattle.std.specs.Prelude.{◌≡◌, ◌≤◌, ◌<◌, ◌++◌, ◌∷◌, [], ◌↔◌, IsTrue, All, IfOk, OnOk, OnErr, length, map, option_copied};
+ghost use Rattle.mcs_slots.specs.Numbers.{number_of};
+
+use crate::page::Page;
+use crate::slots::SlotId;
+use mcs_types::{Cap, Kind, ObjId, OutOfMemory};
+use std::alloc::Global;
+use std::marker::Model;
+
+/// A page for each CNode, that of serial 1 first: 64 at most.
+#[derive(Drop)]
+pub(crate) struct Pages {
+    pages: Vec<Page>,
+}
+
+impl Model for Pages {
+    ghost use Rattle.std.specs.Prelude.{List, ◌≤◌, length};
+    ghost use Rattle.mcs_slots.specs.Pages.{Page, ArePages};
+
+    ghost Value = { List Page };
+
+    ghost view = { λ s. s.pages.items };
+
+    ghost invariant = { λ s. (length s.pages.items ≤ 64) × ArePages s.pages.items };
+}
+
+/// Where the page of a CNode stands, if it can be one.
+fn page_number(cnode: ObjId) -> Option<usize>
+    ensures { result ≡ number_of cnode }
+{
+    if cnode.kind as u8 != Kind::CNode as u8 || cnode.serial == 0 {
+        return None;
+    }
+    Some((cnode.serial - 1) as usize)
+}
+
+impl Pages {
+    ghost use Rattle.mcs_slots.specs.Pages.{empty_page, page_at, radix_of, slot_at, HasSlot, held, ArePages};
+    ghost use Rattle.mcs_slots.specs.Filling.{filled};
+
+    /// Empty CNodes of these radices, each 1 to 8, in order: their serials are 1, 2 and so on. There are 64 at most.
+    pub(crate) fn new(alloc: Global, radices: &[u8]) -> Result<Pages, OutOfMemory>
+        requires few { length radices.now ≤ 64 }
+        requires radices { All (λ r. (1 ≤ r) × (r ≤ 8)) radices.now }
+        ensures { IfOk result (λ s. s ≡ map empty_page radices.now) }
+    {
+        let mut pages = Vec::with_capacity(alloc, radices.len())?;
+        for radix in radices {
+            pages.push_reserved(Page::empty(alloc, *radix)?);
+        }
+        Ok(Pages { pages })
+    }
+
+    /// Adds an empty CNode of a radix from 1 to 8, where fewer than 64 are there, as `len` tells: its serial is the next. The memory
+    /// for its slots is taken here; where it is refused, the slots are as they were.
+    pub(crate) fn add(&mut self, radix: u8) -> Result<(), OutOfMemory>
+        requires few { length self.old < 64 }
+        requires some { 1 ≤ radix }
+        requires small { radix ≤ 8 }
+        ensures added { OnOk result (self.new ≡ self.old ++ empty_page radix ∷ []) }
+        ensures refused { OnErr result (self.new ≡ self.old) }
+    {
+        self.pages.reserve(1)?;
+        let page = Page::empty(*self.pages.allocator(), radix)?;
+        self.pages.push_reserved(page);
+        Ok(())
+    }
+
+    /// There are 64 CNodes at most, each with a radix from 1 to 8 and with 2 to the radix slots.
+    pub(crate) fn are_pages(&self)
+        ensures few { length self.now ≤ 64 }
+        ensures pages { ArePages self.now }
+    {
+        let _ = &self.pages;
+    }
+
+    /// How many CNodes there are.
+    pub(crate) fn len(&self) -> usize
+        ensures { result ≡ length self.now }
+    {
+        self.pages.len()
+    }
+
+    fn page(&self, cnode: ObjId) -> Option<&Page>
+        ensures { option_copied result ≡ page_at self.now cnode }
+    {
+        self.pages.get(page_number(cnode)?)
+    }
+
+    /// The radix of a CNode, or None where it is none of these.
+    pub(crate) fn radix(&self, cnode: ObjId) -> Option<u8>
+        ensures { result ≡ radix_of self.now cnode }
+    {
+        let page = self.page(cnode)?;
+        Some(page.radix())
+    }
+
+    /// The capability in a slot, or None where the slot is empty or not there.
+    pub(crate) fn get(&self, slot: SlotId) -> Option<Cap>
+        ensures { result ≡ slot_at self.now slot.cnode slot.index }
+    {
+        let page = self.page(slot.cnode)?;
+        page.get(slot.index)
+    }
+
+    /// Whether a slot is there: its index is below 2 to the radix of its CNode.
+    pub(crate) fn has_slot(&self, slot: SlotId) -> bool
+        ensures { IsTrue result ↔ HasSlot self.now slot }
+    {
+        match self.page(slot.cnode) {
+            None => false,
+            Some(page) => (slot.index as usize) < page.len(),
+        }
+    }
+
+    /// Fills a slot that is there with a capability, or empties it. What the slot held is gone.
+    pub(crate) fn set(&mut self, slot: SlotId, cap: Option<Cap>)
+        requires { HasSlot self.old slot }
+        ensures { self.new ≡ filled self.old slot cap }
+    {
+        match page_number(slot.cnode) {
+            None => unreachable!(),
+            Some(number) => {
+                let page = &mut self.pages[number];
+                page.set(slot.index, cap);
+            }
+        }
+    }
+
+    /// How many slots hold a capability to an object.
+    pub(crate) fn count_of(&self, obj: ObjId) -> u32
+        ensures { result ≡ held self.now obj }
+    {
+        let mut count: u32 = 0;
+        for page in &self.pages {
+            count += page.count_of(obj);
+        }
+        count
+    }
+}

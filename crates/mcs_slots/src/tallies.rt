@@ -1,0 +1,165 @@
+//! How many slots hold a capability to each object, as a memo of the slots.
+ghost use Rattle.std.specs.Prelude.{◌≡◌, ◌<◌, All, IfOk, length, slice_get};
+ghost use Rattle.mcs_slots.specs.Buckets.{bucket_count, bucket_of, owns};
+ghost use Rattle.mcs_slots.specs.Tallies.{no_tally};
+
+use mcs_types::{Cap, ObjId, OutOfMemory};
+use std::alloc::Global;
+use std::marker::Model;
+
+/// How many buckets there are (own): eight for each serial below 1024, of which the kind of an object takes one.
+const BUCKETS: usize = 8_192;
+
+/// What is known of the objects of a bucket: how many slots hold a capability to the one that came first, its owner, and how many
+/// to any of them.
+#[derive(Clone, Copy)]
+pub(crate) struct Tally {
+    owner: Option<ObjId>,
+    held: u32,
+    total: u32,
+}
+
+/// A tally for each bucket of objects. They change with the slots, one capability at a time.
+#[derive(Drop)]
+pub(crate) struct Tallies {
+    tallies: Vec<Tally>,
+}
+
+impl Model for Tallies {
+    ghost use Rattle.std.specs.Prelude.{List, ◌≡◌, length};
+    ghost use Rattle.mcs_slots.specs.declared.tallies.Tally.{Tally};
+    ghost use Rattle.mcs_slots.specs.Buckets.{bucket_count};
+
+    ghost Value = { List Tally };
+
+    ghost view = { λ t. t.tallies.items };
+
+    ghost invariant = { λ t. length t.tallies.items ≡ bucket_count };
+}
+
+/// The bucket of an object. Objects of one kind share it where their serials differ by a multiple of 1024.
+fn bucket_of(obj: ObjId) -> usize
+    ensures value { result ≡ bucket_of obj }
+    ensures within { result < bucket_count }
+{
+    (obj.serial % 1024) as usize * 8 + obj.kind as usize
+}
+
+impl Tally {
+    ghost use Rattle.mcs_slots.specs.Tallies.{one_less, one_more, taken_over};
+
+    /// Whether its count is of this object.
+    pub(crate) fn owns(&self, obj: ObjId) -> bool
+        ensures { result ≡ owns self.now.owner obj }
+    {
+        match self.owner {
+            None => false,
+            Some(owner) => obj.is_same(owner),
+        }
+    }
+
+    /// How many slots hold a capability to its owner.
+    pub(crate) fn held(&self) -> u32
+        ensures { result ≡ self.now.held }
+    {
+        self.held
+    }
+
+    /// With one capability to an object less.
+    fn one_less(self, obj: ObjId) -> Tally
+        ensures { result ≡ one_less obj self }
+    {
+        let held = if self.owns(obj) {
+            self.held.saturating_sub(1)
+        } else {
+            self.held
+        };
+        Tally {
+            owner: self.owner,
+            held,
+            total: self.total.saturating_sub(1),
+        }
+    }
+
+    /// The object is its owner from now on where no slot holds a capability to one of its bucket.
+    fn taken_over(self, obj: ObjId) -> Tally
+        ensures { result ≡ taken_over obj self }
+    {
+        if self.total > 0 {
+            return self;
+        }
+        Tally {
+            owner: Some(obj),
+            held: 0,
+            total: 0,
+        }
+    }
+
+    /// With one capability to an object more. The slots are too few for a count to be cut off.
+    fn one_more(self, obj: ObjId) -> Tally
+        ensures { result ≡ one_more obj self }
+    {
+        let mut tally = self.taken_over(obj);
+        if tally.owns(obj) {
+            tally.held = tally.held.saturating_add(1);
+        }
+        tally.total = tally.total.saturating_add(1);
+        tally
+    }
+}
+
+/// This many tallies of empty buckets.
+fn no_tallies(alloc: Global, count: usize) -> Result<Vec<Tally>, OutOfMemory>
+    ensures empty { IfOk result (λ v. All (λ t. t ≡ no_tally) v.items) }
+    ensures len { IfOk result (λ v. length v.items ≡ count) }
+{
+    let none = Tally {
+        owner: None,
+        held: 0,
+        total: 0,
+    };
+    let tallies = vec![in alloc; none; count]?;
+    Ok(tallies)
+}
+
+impl Tallies {
+    ghost use Rattle.mcs_slots.specs.Tallies.{LetsGo, Counts};
+
+    /// The tallies of slots that are empty.
+    pub(crate) fn new(alloc: Global) -> Result<Tallies, OutOfMemory>
+        ensures { IfOk result (All (λ t. t ≡ no_tally)) }
+    {
+        Ok(Tallies {
+            tallies: no_tallies(alloc, BUCKETS)?,
+        })
+    }
+
+    /// The tally of the bucket of an object.
+    pub(crate) fn of_bucket(&self, obj: ObjId) -> Tally
+        ensures { slice_get self.now (bucket_of obj) ≡ Some result }
+    {
+        self.tallies[bucket_of(obj)]
+    }
+
+    /// A slot no longer holds what it held.
+    pub(crate) fn let_go(&mut self, cap: &Option<Cap>)
+        ensures { LetsGo self.old cap.now self.new }
+    {
+        let Some(cap) = cap else {
+            return;
+        };
+        let tally = &mut self.tallies[bucket_of(cap.obj)];
+        *tally = tally.one_less(cap.obj);
+    }
+
+    /// An empty slot holds this.
+    pub(crate) fn count(&mut self, cap: &Option<Cap>)
+        ensures { Counts self.old cap.now self.new }
+    {
+        let Some(cap) = cap else {
+            return;
+        };
+        let tally = &mut self.tallies[bucket_of(cap.obj)];
+        *tally = tally.one_more(cap.obj);
+    }
+}
