@@ -16,7 +16,7 @@ pub struct SlotId {
 }
 
 /// The slots of up to 64 CNodes, whose serials count from 1 (own). The memory of a CNode is taken when it is added, as a boot does;
-/// beside `new` and `add` no call takes any. The tallies are a memo of what the slots hold, and always tell it.
+/// beside `new` and `add` no call takes any. The tallies are a memo of what the slots hold, and change with them.
 pub struct Slots {
     pages: Pages,
     tallies: Tallies,
@@ -115,6 +115,7 @@ impl Slots {
         requires { HasSlot self.old slot }
         ensures { self.new ≡ filled self.old slot cap }
     {
+        // There are few slots, so no count outgrows its tally.
         self.pages.are_pages();
         self.tallies.let_go(&self.pages.get(slot));
         self.tallies.count(&cap);
@@ -225,8 +226,8 @@ impl Slots {
         Ok(())
     }
 
-    /// How many slots hold a capability to an object. The tally of its bucket tells it; where another object came there first,
-    /// the slots are counted.
+    /// How many slots hold a capability to an object. The tally of its bucket tells it; where another object came into the bucket
+    /// first, all slots are looked at (own).
     pub fn count_of(&self, obj: ObjId) -> u32
         ensures { result ≡ held self.now obj }
     {

@@ -7,8 +7,11 @@ use mcs_types::{Cap, ObjId, OutOfMemory};
 use std::alloc::Global;
 use std::marker::Model;
 
-/// How many buckets there are (own): eight for each serial below 1024, of which the kind of an object takes one.
-const BUCKETS: usize = 8_192;
+/// Objects of one kind whose serials differ by a multiple of this share a bucket (own).
+const SERIALS: u32 = 1_024;
+
+/// How many buckets there are: eight for each remainder of a serial, of which each kind takes one.
+const BUCKETS: usize = 8 * SERIALS as usize;
 
 /// What is known of the objects of a bucket: how many slots hold a capability to the one that came first, its owner, and how many
 /// to any of them.
@@ -37,12 +40,12 @@ impl Model for Tallies {
     ghost invariant = { λ t. length t.tallies.items ≡ bucket_count };
 }
 
-/// The bucket of an object. Objects of one kind share it where their serials differ by a multiple of 1024.
+/// The bucket of an object.
 fn bucket_of(obj: ObjId) -> usize
     ensures value { result ≡ bucket_of obj }
     ensures within { result < bucket_count }
 {
-    (obj.serial % 1024) as usize * 8 + obj.kind as usize
+    (obj.serial % SERIALS) as usize * 8 + obj.kind as usize
 }
 
 impl Tally {
