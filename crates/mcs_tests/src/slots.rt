@@ -91,3 +91,38 @@ fn other_capabilities_are_not_minted(rt: HostRuntime) {
     assert_eq!(rt; slots.mint(a, b, none, Badge(1)), Err(Refusal::WrongKind));
     assert_eq!(rt; slots.get(b), None);
 }
+
+#[test]
+fn objects_that_share_a_tally_are_counted(rt: HostRuntime) {
+    let made = Slots::new(rt.alloc(), &[2]);
+    assert!(rt; made.is_ok());
+    let (Ok(mut slots), Some(all)) = (made, Rights::new(15)) else {
+        return;
+    };
+    let (a, b, c) = (slot(1, 0), slot(1, 1), slot(1, 2));
+    let (first, second) = (object(Kind::Endpoint, 1), object(Kind::Endpoint, 1025));
+    assert!(rt; slots.has_slot(a));
+    slots.put(a, cap_to(first, all, 0));
+    assert!(rt; slots.has_slot(b));
+    slots.put(b, cap_to(second, all, 0));
+    assert!(rt; slots.has_slot(b) && slots.has_slot(c));
+    assert_eq!(rt; slots.copy(b, c, all), Ok(()));
+    assert_eq!(rt; slots.count_of(first), 1);
+    assert_eq!(rt; slots.count_of(second), 2);
+    assert!(rt; slots.has_slot(a));
+    slots.set(a, None);
+    assert_eq!(rt; slots.count_of(first), 0);
+    assert_eq!(rt; slots.count_of(second), 2);
+    assert!(rt; slots.has_slot(b));
+    slots.set(b, None);
+    assert!(rt; slots.has_slot(c));
+    slots.put(c, cap_to(first, all, 0));
+    assert!(rt; slots.has_slot(a));
+    slots.put(a, cap_to(second, all, 7));
+    assert_eq!(rt; slots.count_of(first), 1);
+    assert_eq!(rt; slots.count_of(second), 1);
+    assert!(rt; slots.has_slot(c));
+    slots.set(c, None);
+    assert_eq!(rt; slots.count_of(first), 0);
+    assert_eq!(rt; slots.count_of(second), 1);
+}
