@@ -6,11 +6,11 @@ use Rattle.mcs_types.specs.Ids.{same, kind_number}
 
 -- how many there are
 abbrev pub bucket_count : ℕ
-bucket_count = 8192
+bucket_count = 65536
 
--- the bucket of an object: objects of one kind share it where their serials differ by a multiple of 1024
+-- the bucket of an object: objects of one kind share it where their serials differ by a multiple of 8192
 abbrev pub bucket_of : ObjId → ℕ
-bucket_of o = (o.serial % 1024) * 8 + kind_number o.kind
+bucket_of o = (o.serial % 8192) * 8 + kind_number o.kind
 
 -- whether it is a capability to an object of this bucket
 abbrev pub falls_in : ℕ → Option Cap → Bool

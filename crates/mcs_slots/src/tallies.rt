@@ -8,7 +8,7 @@ use std::alloc::Global;
 use std::marker::Model;
 
 /// Objects of one kind whose serials differ by a multiple of this share a bucket (own).
-const SERIALS: u32 = 1_024;
+const SERIALS: u32 = 8_192;
 
 /// How many buckets there are: eight for each remainder of a serial, of which each kind takes one.
 const BUCKETS: usize = 8 * SERIALS as usize;

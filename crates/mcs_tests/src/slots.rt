@@ -100,7 +100,7 @@ fn objects_that_share_a_tally_are_counted(rt: HostRuntime) {
         return;
     };
     let (a, b, c) = (slot(1, 0), slot(1, 1), slot(1, 2));
-    let (first, second) = (object(Kind::Endpoint, 1), object(Kind::Endpoint, 1025));
+    let (first, second) = (object(Kind::Endpoint, 1), object(Kind::Endpoint, 8193));
     assert!(rt; slots.has_slot(a));
     slots.put(a, cap_to(first, all, 0));
     assert!(rt; slots.has_slot(b));
