@@ -16,11 +16,11 @@ insert-cons : (b : Bool) (n : ℕ) (r v : Row) (vs ys : List Row) → insert vs 
 insert-cons true n r v vs ys h = refl
 insert-cons false n r v vs ys h = grind (arith, common_steps, h)
 
-pub insert-enters : (r : Row) (rows : List Row) → insert rows (position_or_len (is_lower r.line.0 r.priority.0) rows) r ≡ enters r rows
+pub insert-enters : (r : Row) (rows : List Row) → insert rows (position_or_len (is_lower r.line.0 r.priority) rows) r ≡ enters r rows
 insert-enters r [] = refl
-insert-enters r (v ∷ vs) = insert-cons (is_lower r.line.0 r.priority.0 v) (position_or_len (is_lower r.line.0 r.priority.0) vs) r v vs (enters r vs) (insert-enters r vs)
+insert-enters r (v ∷ vs) = insert-cons (is_lower r.line.0 r.priority v) (position_or_len (is_lower r.line.0 r.priority) vs) r v vs (enters r vs) (insert-enters r vs)
 
-pub line-enters : (r : Row) (rows : List Row) (k : ℕ) → line_in (enters r rows) k ≡ cond (nat_eq r.line.0 k) (insert_behind (record { thread = r.thread.0; priority = r.priority.0 }) (line_in rows k)) (line_in rows k)
+pub line-enters : (r : Row) (rows : List Row) (k : ℕ) → line_in (enters r rows) k ≡ cond (nat_eq r.line.0 k) (insert_behind (record { thread = r.thread.0; priority = r.priority }) (line_in rows k)) (line_in rows k)
 line-enters r [] k = refl
 line-enters r (v ∷ vs) k = let h = line-enters r vs k in grind (arith, common_steps, h)
 
@@ -40,7 +40,7 @@ kept-enters n m r [] k a b out = (a, b, refl, tt)
 kept-enters n m r (v ∷ vs) k a b out =
     let o = apart r v vs out in
     let new : place_in (enters r vs) v.thread.0 ≡ None = (let p = place-enters r vs v.thread.0 o.1 in let q = k.2 in let ne = o.0 in grind (arith, common_steps, p, q, ne)) in
-    kept-first n m r v vs k a b out (kept-enters n m r vs k.3 a b o.1) new (is_lower r.line.0 r.priority.0 v)
+    kept-first n m r v vs k a b out (kept-enters n m r vs k.3 a b o.1) new (is_lower r.line.0 r.priority v)
 
 -- what the removed row does to the list
 remove-cons : (b : Bool) (n : ℕ) (v : Row) (vs ys : List Row) → cond (not b) (1 + n) 0 < length (v ∷ vs) → (n < length vs → remove vs n ≡ ys) → remove (v ∷ vs) (cond (not b) (1 + n) 0) ≡ cond b vs (v ∷ ys)
@@ -156,7 +156,7 @@ rises-cond true w vs h = never_rises-insert w vs h
 rises-cond false w vs h = h
 
 pub good-enters : (n m : ℕ) (r : Row) (rows : List Row) → Good n m rows → r.thread.0 < n → r.line.0 < m → place_in rows r.thread.0 ≡ None → Good n m (enters r rows)
-good-enters n m r rows g a b out = (kept-enters n m r rows g.0 a b out, λ k. rw (line-enters r rows k) (rises-cond (nat_eq r.line.0 k) (record { thread = r.thread.0; priority = r.priority.0 }) (line_in rows k) (g.1 k)))
+good-enters n m r rows g a b out = (kept-enters n m r rows g.0 a b out, λ k. rw (line-enters r rows k) (rises-cond (nat_eq r.line.0 k) (record { thread = r.thread.0; priority = r.priority }) (line_in rows k) (g.1 k)))
 
 pub good-leaves : (n m t : ℕ) (rows : List Row) → Good n m rows → Good n m (leaves t rows)
 good-leaves n m t rows g = (kept-leaves n m t rows g.0, λ k. rw (line-leaves n m t rows k g.0) (never_rises-without t (line_in rows k) (g.1 k)))
@@ -178,7 +178,7 @@ place-moved n m r rows u k h =
     grind (arith, common_steps, e, l, h)
 
 pub line-moved : (n m : ℕ) (r : Row) (rows : List Row) (k : ℕ) → Kept n m rows → place_in rows r.thread.0 ≡ Some r.line.0
-    → line_in (enters r (leaves r.thread.0 rows)) k ≡ cond (nat_eq r.line.0 k) (insert_behind (record { thread = r.thread.0; priority = r.priority.0 }) (without r.thread.0 (line_in rows k))) (line_in rows k)
+    → line_in (enters r (leaves r.thread.0 rows)) k ≡ cond (nat_eq r.line.0 k) (insert_behind (record { thread = r.thread.0; priority = r.priority }) (without r.thread.0 (line_in rows k))) (line_in rows k)
 line-moved n m r rows k kept h =
     let e = line-enters r (leaves r.thread.0 rows) k in
     let l = line-leaves n m r.thread.0 rows k kept in
@@ -198,14 +198,14 @@ leaves-nothing t (v ∷ vs) h = let r = leaves-nothing t vs in grind (arith, com
 
 -- who enters stands last of its priority
 pub put-enters : (r : Row) (rows : List Row) → NeverRises (line_in rows r.line.0)
-    → IsPut (record { thread = r.thread.0; priority = r.priority.0 }) (line_in rows r.line.0) (line_in (enters r rows) r.line.0)
+    → IsPut (record { thread = r.thread.0; priority = r.priority }) (line_in rows r.line.0) (line_in (enters r rows) r.line.0)
 put-enters r rows h =
-    let w : Waiter = record { thread = r.thread.0; priority = r.priority.0 } in
+    let w : Waiter = record { thread = r.thread.0; priority = r.priority } in
     let e : line_in (enters r rows) r.line.0 ≡ insert_behind w (line_in rows r.line.0) = (let l = line-enters r rows r.line.0 in grind (arith, common_steps, l)) in
     rw e (put-behind w (line_in rows r.line.0) h)
 
 pub put-moved : (n m : ℕ) (r : Row) (rows : List Row) (k : ℕ) → Good n m rows → place_in rows r.thread.0 ≡ Some r.line.0 → place_in rows r.thread.0 ≡ Some k
-    → IsPut (record { thread = r.thread.0; priority = r.priority.0 }) (without r.thread.0 (line_in rows k)) (line_in (enters r (leaves r.thread.0 rows)) k)
+    → IsPut (record { thread = r.thread.0; priority = r.priority }) (without r.thread.0 (line_in rows k)) (line_in (enters r (leaves r.thread.0 rows)) k)
 put-moved n m r rows k g was h =
     let e : k ≡ r.line.0 = grind (arith, common_steps, was, h) in
     let left = good-leaves n m r.thread.0 rows g in

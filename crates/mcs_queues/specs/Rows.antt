@@ -12,7 +12,7 @@ pub record Rows : Type 0 where
 -- the threads of a line
 abbrev pub line_in : List Row → ℕ → List Waiter
 line_in [] k = []
-line_in (r ∷ rs) k = cond (r.line.0 == k) (record { thread = r.thread.0; priority = r.priority.0 } ∷ line_in rs k) (line_in rs k)
+line_in (r ∷ rs) k = cond (r.line.0 == k) (record { thread = r.thread.0; priority = r.priority } ∷ line_in rs k) (line_in rs k)
 
 -- the line of a thread
 abbrev pub place_in : List Row → ℕ → Option ℕ
@@ -30,12 +30,12 @@ is_of t r = r.thread.0 == t
 
 -- whether a row stands in a line with a priority below a given one
 abbrev pub is_lower : ℕ → ℕ → Row → Bool
-is_lower k p r = (r.line.0 == k) && nat_lt r.priority.0 p
+is_lower k p r = (r.line.0 == k) && nat_lt r.priority p
 
 -- behind all of its line with its priority or a greater one
 abbrev pub enters : Row → List Row → List Row
 enters r [] = r ∷ []
-enters r (v ∷ vs) = cond (is_lower r.line.0 r.priority.0 v) (r ∷ v ∷ vs) (v ∷ enters r vs)
+enters r (v ∷ vs) = cond (is_lower r.line.0 r.priority v) (r ∷ v ∷ vs) (v ∷ enters r vs)
 
 -- all but the first row of a thread
 abbrev pub leaves : ℕ → List Row → List Row

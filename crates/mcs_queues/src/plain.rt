@@ -8,13 +8,15 @@ use mcs_types::{OutOfMemory, Prio};
 use std::alloc::Global;
 use std::marker::Model;
 
-/// A thread in its line.
+/// A thread in its line. The priority takes four bytes, so that a row takes eight and moves as one word.
 #[derive(Clone, Copy)]
 struct Row {
     thread: ThreadNo,
     line: LineNo,
-    priority: Prio,
+    priority: u32,
 }
+
+const _: () = prove!(size_of::<Row>() == 8);
 
 /// All lines in one list of rows: a row for each thread that stands in a line, and the rows of a line in that line's order.
 /// One list, so that nothing in it can disagree and its text is short enough to read; each call walks it for that. `new`
@@ -56,11 +58,11 @@ fn row_of(rows: &[Row], t: ThreadNo) -> Option<usize>
 }
 
 /// Where the first row of a lower priority stands in a line.
-fn first_lower(rows: &[Row], q: LineNo, p: Prio) -> Option<usize>
-    ensures { result ≡ position (is_lower q.0 p.0) rows.now }
+fn first_lower(rows: &[Row], q: LineNo, p: u32) -> Option<usize>
+    ensures { result ≡ position (is_lower q.0 p) rows.now }
 {
     rows.iter()
-        .position(|row| row.line.0 == q.0 && row.priority.0 < p.0)
+        .position(|row| row.line.0 == q.0 && row.priority < p)
 }
 
 /// The line of a thread.
@@ -142,7 +144,7 @@ impl Lines for PlainLines {
             let row = Row {
                 thread: t,
                 line: q,
-                priority: p,
+                priority: p.0 as u32,
             };
             enter(&mut self.rows, row);
         }
@@ -170,7 +172,7 @@ impl Lines for PlainLines {
                 let row = Row {
                     thread: t,
                     line,
-                    priority: p,
+                    priority: p.0 as u32,
                 };
                 enter(&mut self.rows, row);
                 true
