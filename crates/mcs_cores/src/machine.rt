@@ -58,16 +58,16 @@ impl<G: Ledger, L: Lines> LockedKernel<G, L> {
         seat.enter(alloc, &mut self.kernel, &mut self.book, thread, entry)
     }
 
-    /// A seat for each core, where none was given yet.
-    fn seats(&mut self, alloc: Global) -> Result<Vec<CoreSeat<G>>, OutOfMemory>
+    /// A seat for each of so many cores, where none was given yet: as many as the boot has. No invariant says outside of the lock
+    /// what is true under it, so both are tested again.
+    fn seats(&mut self, alloc: Global, cores: u8) -> Result<Vec<CoreSeat<G>>, OutOfMemory>
         ensures unchanged { self.new ≡ self.old }
         ensures seats { IfOk result (λ v. AreNew v.items) }
-        ensures count { IfOk result (λ v. length v.items ≡ self.old.boot.cores) }
+        ensures count { IfOk result (λ v. length v.items ≡ cores) }
     {
-        if self.given {
+        if self.given || self.kernel.book().cores() != cores {
             return Err(OutOfMemory);
         }
-        let cores = self.kernel.book().cores();
         self.kernel.is_fair();
         let seats = new_seats(alloc, &mut self.rest, cores)?;
         self.given = true;
@@ -117,6 +117,7 @@ fn new_seats<G: Ledger>(
 #[derive(Drop)]
 pub struct Machine<G: Ledger, L: Lines> {
     kernel: Mutex<LockedKernel<G, L>>,
+    cores: u8,
     given: bool,
 }
 
@@ -136,9 +137,11 @@ impl<G: Ledger, L: Lines> Machine<G, L> {
         requires parts { blank.parts ≡ G.parts }
         requires sixteen { blank.parts ≡ CORES }
         requires booted { kernel.lines ≡ [] }
-        ensures { result.given ≡ false }
+        ensures given { result.given ≡ false }
+        ensures cores { result.cores ≡ kernel.boot.cores }
     {
         let (book, rest) = blank.open::<G>();
+        let cores = kernel.book().cores();
         Machine {
             kernel: Mutex::new(LockedKernel {
                 kernel,
@@ -146,13 +149,16 @@ impl<G: Ledger, L: Lines> Machine<G, L> {
                 rest,
                 given: false,
             }),
+            cores,
             given: false,
         }
     }
 
-    /// A seat for each core, once.
+    /// A seat for each core of the boot in order, once.
     pub fn seats<R: Wait>(&mut self, rt: &R, alloc: Global) -> Result<Vec<CoreSeat<G>>, SeatsFault>
         ensures seats { IfOk result (λ v. AreNew v.items) }
+        ensures count { IfOk result (λ v. length v.items ≡ self.old.cores) }
+        ensures cores { self.new.cores ≡ self.old.cores }
         ensures given { self.new.given ≡ (is_ok result || self.old.given) }
         ensures again { IfErr result (λ f. f ≡ SeatsFault.AlreadyGiven ↔ IsTrue self.old.given) }
         ensures once { OnOk result (self.old.given ≡ false) }
@@ -160,7 +166,7 @@ impl<G: Ledger, L: Lines> Machine<G, L> {
         if self.given {
             return Err(SeatsFault::AlreadyGiven);
         }
-        match self.kernel.lock(rt).seats(alloc) {
+        match self.kernel.lock(rt).seats(alloc, self.cores) {
             Ok(seats) => {
                 self.given = true;
                 Ok(seats)
@@ -176,7 +182,11 @@ impl<G: Ledger, L: Lines> Machine<G, L> {
 
     /// The kernel that lay under the lock.
     fn into_kernel(self) -> Kernel<L> {
-        let Machine { kernel, given: _ } = self;
+        let Machine {
+            kernel,
+            cores: _,
+            given: _,
+        } = self;
         kernel.into_inner().into_kernel()
     }
 
