@@ -7,11 +7,11 @@ returns-then-n-lt10 g c = Puts-text _ _ _ _ _ (rw c.digit.ensures at c.put_byte.
 
 pub returns-then-n-lt100 : goal.returns-then-n-lt100
 returns-then-n-lt100 g c =
-    Puts-text _ _ _ _ _ (rw (c.digit-then-n-lt100.ensures, c.digit-then-n-lt100-2.ensures) at c.put_two.ensures) (two_digits c.args.n c.if-n-lt10.false c.if-n-lt100.true)
+    Puts-text _ _ _ _ _ (rw (c.tens.ensures, c.ones.ensures) at c.put_two.ensures) (two_digits c.args.n c.if-n-lt10.false c.if-n-lt100.true)
 
 pub returns-then-n-lt1000 : goal.returns-then-n-lt1000
 returns-then-n-lt1000 g c =
-    Puts-text _ _ _ _ _ (rw (c.digit-then-n-lt1000.ensures, c.digit-then-n-lt1000-2.ensures, c.digit-then-n-lt1000-3.ensures) at c.put_three.ensures)
+    Puts-text _ _ _ _ _ (rw (c.digit-then-n-lt1000.ensures, c.tens-then-n-lt1000.ensures, c.ones-then-n-lt1000.ensures) at c.put_three.ensures)
     (three_digits c.args.n c.if-n-lt100.false c.if-n-lt1000.true)
 
 pub returns-else-n-lt1000 : goal.returns-else-n-lt1000

@@ -11,7 +11,7 @@ returns-then-n-lt10 g c =
 
 pub returns-then-n-lt100 : goal.returns-then-n-lt100
 returns-then-n-lt100 g c =
-    Puts-text _ _ _ _ _ (rw (c.letter-then-n-lt100.ensures, c.digit-then-n-lt100.ensures, c.digit-then-n-lt100-2.ensures) at c.put_four.ensures)
+    Puts-text _ _ _ _ _ (rw (c.letter-then-n-lt100.ensures, c.tens.ensures, c.ones.ensures) at c.put_four.ensures)
     (ap (λ (l : List ℕ). 32 ∷ letter_of c.args.o.kind ∷ l) (two_digits c.args.o.serial c.if-n-lt10.false c.if-n-lt100.true))
 
 pub returns-else-n-lt100 : goal.returns-else-n-lt100
