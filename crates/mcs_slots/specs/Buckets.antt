@@ -3,14 +3,15 @@ use Rattle.std.specs.Prelude.{ℕ, ◌+◌, ◌*◌, ◌%◌, ◌==◌, Bool, fa
 use Rattle.mcs_types.specs.declared.id.ObjId.{ObjId}
 use Rattle.mcs_types.specs.declared.cap.Cap.{Cap}
 use Rattle.mcs_types.specs.Ids.{same, kind_number}
+use Rattle.mcs_slots.specs.declared.tallies.TheConstants.{SERIALS, BUCKETS}
 
 -- how many there are
 abbrev pub bucket_count : ℕ
-bucket_count = 65536
+bucket_count = BUCKETS
 
--- the bucket of an object: objects of one kind share it where their serials differ by a multiple of 8192
+-- the bucket of an object: objects of one kind share it where their serials differ by a multiple of SERIALS
 abbrev pub bucket_of : ObjId → ℕ
-bucket_of o = (o.serial % 8192) * 8 + kind_number o.kind
+bucket_of o = (o.serial % SERIALS) * 8 + kind_number o.kind
 
 -- whether it is a capability to an object of this bucket
 abbrev pub falls_in : ℕ → Option Cap → Bool
