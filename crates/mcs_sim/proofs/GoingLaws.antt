@@ -1,13 +1,13 @@
 -- A replay that goes on: bytes after bytes, parts of lines, and whole lines.
-use Rattle.std.proofs.Common.{◌≡◌, ◌≢◌, ℕ, zero, suc, ◌+◌, ◌<◌, ◌≤◌, Bool, true, false, ltb, eqb, if◌then◌else◌, Option, Some, None, Result, Ok, Err, List, [], ◌∷◌, ◌++◌, length, slice_index, refl, sym, ap, ◌∙◌, append_assoc, append-nil, arith}
-use Rattle.std.proofs.lemmas.Bool.{lt-ltb, le-ltb, ltb-true, ltb-false, ne_eqb}
+use Rattle.std.proofs.Common.{◌≡◌, ℕ, suc, ◌+◌, ◌<◌, Bool, true, false, ltb, eqb, if◌then◌else◌, Option, Some, None, Err, List, [], ◌∷◌, ◌++◌, length, refl, sym, ap, ◌∙◌, append_assoc, append-nil, arith}
+use Rattle.std.proofs.lemmas.Bool.{lt-ltb, ltb-true, ne_eqb}
 use Rattle.std.proofs.lemmas.List.{length-append}
 use Rattle.mcs_text.specs.declared.fault.LineFault.{LineFault}
 use Rattle.mcs_text.specs.declared.fault.LineFault.TheVariants as why
 use Rattle.mcs_sim.specs.declared.fault.SimFault.{SimFault}
 use Rattle.mcs_book.specs.History.{Book}
-use Rattle.mcs_sim.specs.Script.{of_steps, threads_of, says_something, read_line}
-use Rattle.mcs_sim.specs.Going.{Standing, Course, Going, step_line, read_at, book_after, after_line, after_line_on, ended_by, refused_for, past_line, with_line, at_line, with_part, with_next, with_byte, fed, HasNoNewline}
+use Rattle.mcs_sim.specs.Script.{says_something, read_line}
+use Rattle.mcs_sim.specs.Going.{Course, Going, step_line, book_after, after_line, after_line_on, refused_for, past_line, with_line, at_line, with_part, with_next, with_byte, fed, HasNoNewline}
 
 -- ---- bytes after bytes
 

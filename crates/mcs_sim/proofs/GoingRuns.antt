@@ -12,9 +12,9 @@ use Rattle.mcs_sim.specs.declared.fault.SimFault.{SimFault}
 use Rattle.mcs_sim.specs.declared.fault.SimFault.TheVariants as fault
 use Rattle.mcs_sim.specs.Script.{Script, steps}
 use Rattle.mcs_sim.specs.Trace.{trace, trace_of}
-use Rattle.mcs_sim.specs.Runs.{script_trace, trace_before, told, written, Begins, IsFull, IsRoomy, IsFairRun, IsFairBefore, IsNamed, StopsSoon, ReadsText, Finishes, Ends}
+use Rattle.mcs_sim.specs.Runs.{script_trace, trace_before, told, written, Begins, IsFull, IsRoomy, IsFairBefore, IsNamed, StopsSoon, ReadsText, Finishes, Ends}
 use Rattle.mcs_sim.specs.Trace.{IsLonger}
-use Rattle.mcs_sim.specs.Going.{Standing, Course, Going, ended_by, at_line, no_line, fed, at_end, ended, IsFairBook, TakesEnd, TakesPiece}
+use Rattle.mcs_sim.specs.Going.{Course, Going, ended_by, at_line, no_line, fed, at_end, ended, IsFairBook, TakesEnd, TakesPiece}
 use Rattle.mcs_sim.specs.Outcomes.{standing_of, IsTaken, IsTakenTo, IsTakenToFull, ComesOfScript}
 use Rattle.mcs_sim.proofs.GoingLaws.{fed-append, fed-stopped}
 use Rattle.mcs_sim.proofs.GoingScripts.{fed-as-read}

@@ -1,6 +1,6 @@
 -- A script that is taken line by line gives what is read of it as a whole.
-use Rattle.std.proofs.Common.{◌≡◌, ◌≢◌, ℕ, ◌+◌, ◌<◌, ◌≤◌, ◌⊎◌, inl, inr, Bool, true, false, cond, ltb, eqb, if◌then◌else◌, Option, Some, None, Result, Ok, Err, List, [], ◌∷◌, ◌++◌, length, fold, refl, sym, ap, subst, ◌∙◌, append_assoc, append-nil, arith}
-use Rattle.std.proofs.lemmas.Bool.{lt-ltb, ltb-true, ltb-false}
+use Rattle.std.proofs.Common.{◌≡◌, ℕ, ◌+◌, ◌<◌, ◌⊎◌, inl, inr, Bool, true, false, cond, ltb, eqb, if◌then◌else◌, Option, Some, None, Result, Ok, Err, List, [], ◌∷◌, ◌++◌, length, fold, refl, sym, ap, subst, ◌∙◌, append_assoc, append-nil, arith}
+use Rattle.std.proofs.lemmas.Bool.{lt-ltb, ltb-true}
 use Rattle.std.proofs.lemmas.List.{length-append}
 use Rattle.std.proofs.lemmas.List.Sums.{fold-append}
 use Rattle.mcs_types.specs.declared.entry.Step.{Step}
@@ -18,10 +18,10 @@ use Rattle.mcs_sim.specs.declared.fault.SimFault.{SimFault}
 use Rattle.mcs_sim.specs.declared.fault.SimFault.TheVariants as fault
 use Rattle.mcs_sim.specs.Script.{Script, of_steps, no_script, threads_of, says_something, first_boot, next_boot, next_items, later_line, by_boot, spelled, read_line, ending, script_from, script_of, steps}
 use Rattle.mcs_sim.specs.Runs.{IsFull, IsRoomy}
-use Rattle.mcs_sim.specs.Going.{Standing, Course, Going, not_begun, no_line, begun_by, stepped, behind_boot, step_spelled, step_line, read_at, stands, opened, after_boot_line, after_step, book_after, after_line_on, after_line, ended_by, refused_for, past_line, with_line, after_end_on, after_end, past_boot, boot_ended_after, boot_ended, at_line, with_part, with_next, fed, with_last, at_end, ended}
-use Rattle.mcs_sim.specs.Outcomes.{standing_of, IsTaken, IsTakenTo, IsTakenToFull, ComesOfScript}
+use Rattle.mcs_sim.specs.Going.{Standing, Course, Going, no_line, begun_by, stepped, behind_boot, step_spelled, step_line, read_at, stands, opened, after_boot_line, after_step, book_after, after_line, ended_by, refused_for, past_line, with_line, after_end, boot_ended_after, boot_ended, at_line, with_part, fed, with_last, at_end, ended}
+use Rattle.mcs_sim.specs.Outcomes.{standing_of, IsTakenToFull, ComesOfScript}
 use Rattle.mcs_sim.proofs.ScriptLaws.{script_from-ok, script_from-err}
-use Rattle.mcs_sim.proofs.GoingLaws.{fed-stopped, fed-next, fits-part, many-says, long-says}
+use Rattle.mcs_sim.proofs.GoingLaws.{fed-stopped, fits-part, many-says, long-says}
 
 -- ---- a line behind the boot
 

@@ -1,11 +1,11 @@
 -- A replay that goes on comes nearer to the end of what a script may have with each byte.
-use Rattle.std.proofs.Common.{◌≡◌, ℕ, ◌+◌, ◌*◌, ◌<◌, ◌≤◌, Bool, true, false, ltb, eqb, if◌then◌else◌, Option, Some, None, Result, Ok, Err, List, [], ◌∷◌, ◌++◌, length, refl, sym, ap, subst, ◌∙◌, arith}
-use Rattle.std.proofs.lemmas.Bool.{ltb-true, ltb-false}
+use Rattle.std.proofs.Common.{◌≡◌, ℕ, ◌+◌, ◌*◌, ◌≤◌, Bool, true, false, ltb, eqb, if◌then◌else◌, Option, Some, None, Result, Ok, Err, List, [], ◌∷◌, ◌++◌, length, refl, sym, ap, subst, ◌∙◌, arith}
+use Rattle.std.proofs.lemmas.Bool.{ltb-false}
 use Rattle.std.proofs.lemmas.List.{length-append}
 use Rattle.mcs_text.specs.declared.fault.LineFault.TheVariants as why
 use Rattle.mcs_sim.specs.declared.fault.SimFault.{SimFault}
 use Rattle.mcs_sim.specs.declared.fault.SimFault.TheVariants as fault
-use Rattle.mcs_sim.specs.Going.{Standing, Course, Going, after_line, ended_by, refused_for, past_line, with_line, at_line, with_part, with_next, with_byte, fed}
+use Rattle.mcs_sim.specs.Going.{Standing, Course, Going, after_line, refused_for, past_line, with_line, at_line, with_part, with_next, fed}
 use Rattle.mcs_sim.proofs.GoingLaws.{fed-stopped, fed-next, refused-line, many-says}
 
 -- how far a replay has come

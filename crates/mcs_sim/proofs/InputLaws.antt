@@ -8,7 +8,7 @@ use Rattle.mcs_text.specs.declared.fault.LineFault.{LineFault}
 use Rattle.mcs_text.specs.declared.fault.LineFault.TheVariants.{LongLine, ManyLines}
 use Rattle.mcs_text.specs.Reading.{onto_first, lines_of}
 use Rattle.mcs_sim.specs.declared.source.Begun.{Begun}
-use Rattle.mcs_sim.specs.Input.{none_begun, begun_with, begun_after, EndsReading, IsShort, IsTooLong, IsWithin}
+use Rattle.mcs_sim.specs.Input.{none_begun, begun_with, begun_after, EndsReading, IsShort, IsTooLong}
 use Rattle.mcs_sim.specs.Script.{Grammar, Script, no_script, ending, read_line, script_from, script_of}
 use Rattle.mcs_sim.proofs.ScriptLaws.{script_from-ok, script_from-err}
 
@@ -181,7 +181,3 @@ lines-begun_with-le s b = go s.is_open
     go : (o : Bool) → (if o then s.lines else s.lines + 1) ≤ s.lines + 1
     go true = omega arith
     go false = omega arith
-
--- no byte is read behind the end, and none behind the one that makes a text too long
-pub within-ends : (left : Option (List ℕ)) (text : List ℕ) → EndsReading left text → IsWithin text
-within-ends left text end = elim end [ inl ended ↦ inl ended.1 | inr long ↦ inr long ]

@@ -1,18 +1,17 @@
 -- A run of a source to a sink, piece by piece.
-use Rattle.std.proofs.Common.{◌≡◌, ℕ, ◌+◌, ◌*◌, ◌<◌, ◌≤◌, ◌⊎◌, inl, inr, Bool, true, false, Option, Some, None, Result, Ok, Err, IfErr, IfSome, List, [], ◌∷◌, ◌++◌, length, take, refl, sym, ap, subst, ◌∙◌, append_assoc, append-nil, arith}
+use Rattle.std.proofs.Common.{◌≡◌, ℕ, ◌<◌, ◌≤◌, inl, inr, Bool, true, false, Option, Some, None, Ok, Err, IfSome, List, [], ◌∷◌, ◌++◌, length, refl, sym, ap, subst, ◌∙◌, append-nil, arith}
 use Rattle.std.specs.Io.KnownBytes.{Appends, Consumes, IsAtEnd}
 use Rattle.mcs_book.specs.History.{Book}
 use Rattle.mcs_text.specs.declared.sink.Sink.{Sink}
-use Rattle.mcs_text.specs.Output.{Rose, Moves, Puts}
+use Rattle.mcs_text.specs.Output.{Moves, Puts}
 use Rattle.mcs_text.proofs.Outputs.{Puts-then, Puts-text}
 use Rattle.mcs_sim.specs.declared.fault.SimFault.{SimFault}
 use Rattle.mcs_sim.specs.declared.fault.SimFault.TheVariants as fault
-use Rattle.mcs_sim.specs.Script.{steps}
 use Rattle.mcs_sim.specs.Trace.{trace_of}
-use Rattle.mcs_sim.specs.Runs.{Ends, Finishes, TellsMore, answer_with}
-use Rattle.mcs_sim.specs.Going.{Going, at_line, no_line, fed, IsFairBook, Takes, TakesPiece, answer_of}
+use Rattle.mcs_sim.specs.Runs.{Ends, TellsMore, answer_with}
+use Rattle.mcs_sim.specs.Going.{Going, at_line, no_line, fed, IsFairBook, TakesPiece}
 use Rattle.mcs_sim.proofs.GoingLaws.{fed-append}
-use Rattle.mcs_sim.proofs.GoingRuns.{ends-by, ends-write, fault-of-piece, IsOfText}
+use Rattle.mcs_sim.proofs.GoingRuns.{ends-by, ends-write, fault-of-piece}
 use Rattle.mcs_sim.proofs.GoingTakes.{answer-err, answer-ok}
 use Rattle.mcs_sim.proofs.GoingWeights.{weight, IsWithin, HasCome, fed-come}
 

@@ -1,5 +1,5 @@
 -- What stands after a line, by the book before.
-use Rattle.std.proofs.Common.{◌≡◌, ℕ, ◌+◌, ◌⊎◌, inl, inr, Option, Some, None, Result, Ok, Err, List, [], ◌∷◌, ◌++◌, ◌-◌, length, take, refl, sym, ap, subst, ◌∙◌, arith}
+use Rattle.std.proofs.Common.{◌≡◌, ℕ, ◌⊎◌, inl, inr, Option, Some, None, Result, Ok, Err, List, [], ◌++◌, ◌-◌, length, take, refl, sym, ap, subst, ◌∙◌}
 use Rattle.std.specs.Prelude.{option_to_list}
 use Rattle.mcs_types.specs.declared.entry.Step.{Step}
 use Rattle.mcs_book.specs.Boots.{Boot}
@@ -7,7 +7,7 @@ use Rattle.mcs_book.specs.History.{Book}
 use Rattle.mcs_sim.specs.Script.{Script, of_steps, read_line}
 use Rattle.mcs_sim.specs.declared.fault.SimFault.{SimFault}
 use Rattle.mcs_sim.specs.declared.fault.SimFault.TheVariants as fault
-use Rattle.mcs_sim.specs.Going.{ComesOf, Standing, stands, read_at, opened, after_boot_line, book_after, after_line_on, after_line}
+use Rattle.mcs_sim.specs.Going.{ComesOf, Standing, stands, read_at, after_boot_line, book_after, after_line_on, after_line}
 use Rattle.mcs_sim.proofs.GoingScripts.{IsOpening, IsFirstStep, read_line-opening}
 
 -- a fault is passed on

@@ -1,9 +1,9 @@
 -- A replay that goes on: line by line, and byte by byte.
-use Rattle.std.specs.Prelude.{◌≡◌, ◌≢◌, ◌⊎◌, ℕ, ◌+◌, ◌<◌, slice_index, Bool, List, [], ◌∷◌, ◌++◌, length, Option, Some, None, Result, Ok, Err, nat_lt, ◌==◌, if◌then◌else◌}
+use Rattle.std.specs.Prelude.{◌≡◌, ◌≢◌, ◌⊎◌, ℕ, ◌+◌, ◌<◌, slice_index, List, [], ◌∷◌, ◌++◌, length, Option, Some, None, Result, Ok, Err, nat_lt, ◌==◌, if◌then◌else◌}
 use Rattle.mcs_types.specs.declared.entry.Step.{Step}
 use Rattle.mcs_types.specs.declared.limits.TheConstants.{SCRIPT_LINES, SCRIPT_LINE_BYTES}
 use Rattle.mcs_book.specs.Boots.{Boot}
-use Rattle.mcs_book.specs.History.{Book, IsLegal, Line, with_step}
+use Rattle.mcs_book.specs.History.{Book, IsLegal, with_step}
 use Rattle.mcs_book.specs.Fair.{IsFair}
 use Rattle.mcs_kernel.specs.Faults.{fault_of}
 use Rattle.mcs_kernel.specs.Runs.{is_book_full}

@@ -1,16 +1,15 @@
-use Rattle.std.proofs.Common.{◌≡◌, ℕ, ◌+◌, ◌<◌, ◌≤◌, ◌++◌, [], List, length, take, Option, Err, refl, ap, sym, subst, ◌∙◌, append-nil, arith}
+use Rattle.std.proofs.Common.{◌≡◌, ℕ, ◌++◌, [], List, length, take, Err, refl, ap, sym, subst, ◌∙◌, append-nil, arith}
 use Rattle.std.specs.Prelude.{IsErrAnd}
 use Rattle.std.specs.Io.KnownBytes.{Consumes}
-use Rattle.std.proofs.KnownBytes.{Consumes-trans, Consumes-kept}
+use Rattle.std.proofs.KnownBytes.{Consumes-trans}
 use Rattle.std.proofs.lemmas.List.{length-take-le}
-use Rattle.mcs_book.specs.History.{Book}
 use Rattle.mcs_text.specs.Output.{Rose}
 use Rattle.mcs_text.proofs.Outputs.{Puts-then, Puts-nil, Puts-text}
 use Rattle.mcs_sim.specs.declared.fault.SimFault.{SimFault}
 use Rattle.mcs_sim.specs.declared.fault.SimFault.TheVariants as fault
 use Rattle.mcs_sim.specs.Trace.{trace_of, told_of}
 use Rattle.mcs_sim.specs.Runs.{Ends}
-use Rattle.mcs_sim.specs.Going.{Going, at_line, no_line, fed, TakesPiece}
+use Rattle.mcs_sim.specs.Going.{Going, fed, TakesPiece}
 use Rattle.mcs_sim.proofs.RunLaws.{IfErr-same, Consumes-nil}
 use Rattle.mcs_sim.proofs.GoingRuns.{ends-early, ends-read, ends-well}
 use Rattle.mcs_sim.proofs.SimulateLaws.{tells-on, moves-out, appends-out, answer-well, piece-on, piece-nearer, ends-piece, never-read, only-broken}

@@ -1,4 +1,4 @@
-use Rattle.std.proofs.Common.{append-nil, ap, sym, subst, ◌∙◌}
+use Rattle.std.proofs.Common.{append-nil}
 use Rattle.mcs_text.proofs.Outputs.{Puts-then, Puts-text}
 use Rattle.mcs_sim.specs.Trace.{untold_of}
 use Rattle.mcs_sim.proofs.GoingBooks.{told-more}

@@ -1,7 +1,7 @@
-use Rattle.std.proofs.Common.{◌+◌, ◌-◌, take, reverse, sym, ap, ◌∙◌, arith}
+use Rattle.std.proofs.Common.{◌-◌, take, reverse, sym, ◌∙◌, arith}
 use Rattle.mcs_text.proofs.Outputs.{Puts-then, Puts-text}
 use Rattle.mcs_sim.specs.Trace.{untold_lines}
-use Rattle.mcs_sim.proofs.GoingBooks.{lines-next, lines-all}
+use Rattle.mcs_sim.proofs.GoingBooks.{lines-next}
 use Rattle.mcs_sim.proofs.TraceLaws.{lines_trace-next, sent_in-next}
 use Rattle.mcs_sim.proofs.writing.put_lines.Goals as goal
 

@@ -1,4 +1,4 @@
-use Rattle.std.proofs.Common.{◌≡◌, ◌+◌, ◌-◌, ◌*◌, ◌≤◌, length, take}
+use Rattle.std.proofs.Common.{◌≡◌, ◌-◌, ◌*◌, ◌≤◌, take}
 use Rattle.mcs_text.specs.Output.{Puts}
 use Rattle.mcs_sim.specs.Trace.{sent_in, lines_trace, untold_lines}
 use Rattle.mcs_sim.proofs.writing.put_lines.Given as goal

@@ -1,5 +1,4 @@
-use Rattle.std.proofs.Common.{◌≡◌, true, false, List, ℕ, [], ◌++◌, if◌then◌else◌, eqb, reverse, Bool, ap, sym, ◌∙◌}
-use Rattle.std.proofs.lemmas.Bool.{ne_eqb}
+use Rattle.std.proofs.Common.{◌≡◌, true, [], ◌++◌, if◌then◌else◌, eqb, reverse, Bool, ap, sym, ◌∙◌}
 use Rattle.mcs_text.specs.Table.{cores_text}
 use Rattle.mcs_text.proofs.Outputs.{Puts-then, Puts-text}
 use Rattle.mcs_sim.specs.Trace.{boot_lines_trace}

@@ -1,5 +1,5 @@
-use Rattle.std.proofs.Common.{List, ℕ, [], eqb, length, ap, sym, subst, ◌∙◌, arith}
-use Rattle.mcs_sim.specs.Going.{Going, Course, TakesEnd, TakesLine}
+use Rattle.std.proofs.Common.{List, ℕ, eqb, ap, sym, subst, ◌∙◌}
+use Rattle.mcs_sim.specs.Going.{Going, TakesEnd, TakesLine}
 use Rattle.mcs_sim.proofs.GoingTakes.{going_of, answer-err, answer-ok, end-stopped, end-line, end-boot, end-both, empty-is}
 use Rattle.mcs_sim.proofs.feeding.ReplayRun.end.Goals as goal
 

@@ -1,5 +1,5 @@
-use Rattle.std.proofs.Common.{List, ℕ, [], ◌∷◌, ◌++◌, eqb, ap, sym, subst, ◌∙◌, arith}
-use Rattle.mcs_sim.specs.Going.{Going, Course, Takes, TakesLine}
+use Rattle.std.proofs.Common.{List, ℕ, [], ◌∷◌, ◌++◌, eqb, ap, sym, subst, ◌∙◌}
+use Rattle.mcs_sim.specs.Going.{Going, Takes, TakesLine}
 use Rattle.mcs_sim.proofs.GoingTakes.{takes-append, takes-stopped, going_of, answer-err, answer-ok, line-empty, line-more}
 use Rattle.mcs_sim.proofs.feeding.ReplayRun.end_line.Goals as goal
 

@@ -1,5 +1,5 @@
-use Rattle.std.proofs.Common.{List, ℕ, ap, sym, subst, ◌∙◌, arith}
-use Rattle.mcs_sim.specs.Going.{Going, Course, Takes}
+use Rattle.std.proofs.Common.{ap, sym, subst, ◌∙◌, arith}
+use Rattle.mcs_sim.specs.Going.{Going, Takes}
 use Rattle.mcs_sim.proofs.GoingTakes.{takes-none, going_of, keep-many, keep-long, keep-fits, keep-memory}
 use Rattle.mcs_sim.proofs.feeding.ReplayRun.keep.Goals as goal
 
