@@ -193,18 +193,33 @@ fn run_calls(rt: &HostRuntime) -> Result<Vec<u8>, Failed> {
     text_of(rt, kernel.book())
 }
 
+/// Adds what a script gives to a text. A text that memory is refused to is a writer that fails.
+fn replay_into(rt: &HostRuntime, script: &[u8], text: &mut Vec<u8>) -> Result<(), SimFault> {
+    let mut sink = Sink::new(rt.alloc(), text);
+    simulate(rt.alloc(), &mut Source::new(script), &mut sink)
+}
+
+/// What a script gives, once more from the beginning where memory was refused: what was written until then is dropped.
+fn replayed(rt: &HostRuntime, script: &[u8]) -> Result<Vec<u8>, Failed> {
+    let mut text = Vec::new(rt.alloc());
+    match replay_into(rt, script, &mut text) {
+        Ok(()) => {}
+        Err(SimFault::OutOfMemory | SimFault::Write) => {
+            text.clear();
+            replay_into(rt, script, &mut text)?;
+        }
+        Err(_) => return Err(Failed),
+    }
+    Ok(text)
+}
+
 /// The trace of the example as a script.
 fn run_script(rt: &HostRuntime, script: &[u8]) -> Result<(), Failed> {
+    let text = replayed(rt, script)?;
     let mut sink = Sink::new(rt.alloc(), io::writer(rt));
-    let mut source = Source::new(script);
-    match simulate(rt.alloc(), &mut source, &mut sink) {
-        Ok(()) => Ok(()),
-        Err(SimFault::OutOfMemory) => {
-            let mut source = Source::new(script);
-            Ok(simulate(rt.alloc(), &mut source, &mut sink)?)
-        }
-        Err(_) => Err(Failed),
-    }
+    sink.put(&text);
+    sink.flush();
+    Ok(())
 }
 
 fn main(rt: HostRuntime) -> ExitCode {
