@@ -1,5 +1,5 @@
 -- What a step that is taken or turned away does to the book, and a run of steps cut at one of them.
-use Rattle.std.specs.Prelude.{ℕ, zero, suc, ◌≡◌, ◌≢◌, ◌<◌, ◌≤◌, ◌+◌, ◌^◌, ◌&&◌, Bool, true, false, cond, List, [], ◌∷◌, length, drop, fold, slice_index_or, Option, Some, None, Result, Err, option_and_then}
+use Rattle.std.specs.Prelude.{ℕ, ◌≡◌, ◌≢◌, ◌<◌, ◌≤◌, ◌+◌, ◌^◌, ◌&&◌, Bool, true, false, cond, List, [], ◌∷◌, fold, Option, Some, None, Result, Err, option_and_then}
 use Rattle.std.specs.Option.{IfSome, IfNone}
 use Rattle.std.specs.Result.{IfErr}
 use Rattle.std.proofs.Common.{refl, ap, sym, ◌∙◌, subst, arith}
@@ -73,18 +73,6 @@ module _ (b : Book) (s : Step) (r : Result Answer EnterFault) (f : EnterFault) (
 -- a replay that took a step
 pub run-stepped : (r : Run) (s : Step) (b : Book) (n : ℕ) → b ≡ with_step r.book s → n ≡ next_count r.taken → record { book = b; taken = n } ≡ after_step r s
 run-stepped r s b n book count = ap (λ x. record { book = x; taken = n }) book ∙ ap (λ k. record { book = with_step r.book s; taken = k }) count
-
--- the steps that are left begin with the next one
-pub drop-next : (ss : List Step) (i : ℕ) (s : Step) → i < length ss → s ≡ slice_index_or ss i s → drop i ss ≡ s ∷ drop (i + 1) ss
-drop-next [] i s lt e = absurd (omega (arith, lt))
-drop-next (x ∷ xs) zero s lt e = ap (λ y. y ∷ xs) (sym e)
-drop-next (x ∷ xs) (suc i) s lt e = let later = drop-next xs i s (omega (arith, lt)) e in let same : suc i + 1 ≡ suc (i + 1) = omega arith in rw same later
-
-pub drop-none : (ss : List Step) (i : ℕ) → length ss ≤ i → drop i ss ≡ []
-drop-none [] zero past = refl
-drop-none [] (suc i) past = refl
-drop-none (x ∷ xs) zero past = absurd (omega (arith, past))
-drop-none (x ∷ xs) (suc i) past = drop-none xs i (omega (arith, past))
 
 -- the book of all steps, begun on the boot alone
 pub book-begun : (boot : Boot) (b : Book) (ss : List Step) → b ≡ record { boot = boot; lines = [] } → fold with_step b ss ≡ book_of boot ss

@@ -20,6 +20,7 @@ use Rattle.mcs_types.specs.declared.entry.Answer.{Answer}
 use Rattle.mcs_types.specs.declared.entry.Answer.TheVariants as ans
 use Rattle.mcs_types.specs.declared.record.Rec.{Rec}
 use Rattle.mcs_types.specs.declared.record.Rec.TheVariants as rec
+use Rattle.mcs_text.proofs.KeyLaws.{digit-no-boot}
 use Rattle.mcs_text.specs.declared.key.Key.{Key}
 use Rattle.mcs_text.specs.declared.key.Key.TheVariants as k
 use Rattle.mcs_text.specs.declared.token.Token.{Token}
@@ -219,17 +220,9 @@ record_line-first n r = refl
 
 -- a step's first word is no key of the boot
 pub boot_key-digit : (w : List ℕ) → begins_digit w ≡ true → boot_key w ≡ None
-unfolding boot_key
 boot_key-digit [] h = absurd cc
 boot_key-digit (b ∷ bs) h =
-    let low : b < 58 = ltb-true b 58 (and_parts (ltb 47 b) (ltb b 58) h).1 in
-    let cores : eqb 99 b ≡ false = ne_eqb _ _ (λ e. omega arith) in
-    let endpoint : eqb 101 b ≡ false = ne_eqb _ _ (λ e. omega arith) in
-    let notification : eqb 110 b ≡ false = ne_eqb _ _ (λ e. omega arith) in
-    let reply : eqb 114 b ≡ false = ne_eqb _ _ (λ e. omega arith) in
-    let thread : eqb 116 b ≡ false = ne_eqb _ _ (λ e. omega arith) in
-    let slot : eqb 115 b ≡ false = ne_eqb _ _ (λ e. omega arith) in
-    rw (cores, endpoint, notification, reply, thread, slot) refl
+    digit-no-boot b bs (ltb-true b 58 (and_parts (ltb 47 b) (ltb b 58) h).1)
 
 pub boot_key-decimal : (n : ℕ) → boot_key (decimal n) ≡ None
 boot_key-decimal n = boot_key-digit (decimal n) (decimal-digit n)

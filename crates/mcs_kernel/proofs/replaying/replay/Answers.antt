@@ -1,8 +1,9 @@
-use Rattle.std.proofs.Common.{◌+◌, length, List, drop, sym, ap, subst, arith}
+use Rattle.std.proofs.Common.{◌+◌, ◌∷◌, ◌∙◌, length, List, drop, sym, ap, subst, arith}
+use Rattle.std.proofs.lemmas.List.{drop_more}
 use Rattle.mcs_types.specs.declared.entry.Step.{Step}
 use Rattle.mcs_kernel.specs.Runs.{Run, is_book_full, full_after, EndsAt, StepEnds}
 use Rattle.mcs_kernel.specs.Faults.{fault_of}
-use Rattle.mcs_kernel.proofs.Stepping.{drop-next, book-begun, counts-on, ends-at-next}
+use Rattle.mcs_kernel.proofs.Stepping.{book-begun, counts-on, ends-at-next}
 use Rattle.mcs_kernel.proofs.replaying.replay.Goals as goal
 
 pub loop-step-init : goal.loop-step-init
@@ -19,7 +20,7 @@ returns-in-Err-step-clause-full g c =
     let count = length c.args.steps.now in
     let s : Step = c.step-item.result in
     let rest : List Step = drop (c.loop-step.step-index + 1) c.args.steps.now in
-    let next = drop-next c.args.steps.now c.loop-step.step-index s c.loop-step-test.true c.step-item.is in
+    let next = drop_more c.args.steps.now c.loop-step.step-index s c.loop-step-test.true ∙ ap (λ x. x ∷ rest) (sym c.step-item.is) in
     let number = counts-on c.loop-step.run.taken (omega (arith, i.0, c.loop-step-test.true, c.loop-step.auto.step-index-end)) in
     let ends = subst (λ n. StepEnds n (is_book_full (fault_of c.loop-step.run.book s.core s.thread)) c.in-Err-step.fault) number c.in-Err-step.ensures.full in
     let at = ends-at-next c.loop-step.run.taken c.loop-step.run.book s rest count c.in-Err-step.fault ends (omega (arith, i.0, c.loop-step-test.true)) in
