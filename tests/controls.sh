@@ -1,7 +1,7 @@
 #!/bin/sh
-# Tries the controls of must-fail edits: NAME.control.md stands beside NAME.edit, has the shape of that edit and keeps the meaning,
-# so its crate must still be proved. That shows that the edit is refused for what it says, and not for how it is written. Each
-# control is applied to a copy of the tree, over what earlier checks left in the folders out/. Give names of crates to try those alone.
+# Tries the controls of edits, in must-fail/ and in wrong-bodies/: NAME.control.md stands beside NAME.edit, has the shape of that edit and
+# keeps the meaning, so its crate must still be proved. That shows that the edit is refused for what it says, and not for how it is written.
+# Each control is applied to a copy of the tree, over what earlier checks left in the folders out/. Give names of crates to try those alone.
 set -eu
 cd "$(dirname "$0")/.."
 copy=$(mktemp -d)
@@ -27,12 +27,12 @@ apply() {
 
 tried=0
 refused=0
-for control in crates/*/must-fail/*.control.md; do
-    folder=${control%/must-fail/*}
+for control in crates/*/must-fail/*.control.md crates/*/wrong-bodies/*.control.md; do
+    folder=${control%/*/*}
     crate=${folder#crates/}
     case " ${*:-$crate} " in *" $crate "*) ;; *) continue ;; esac
     name=$(basename "$control" .control.md)
-    [ -f "$folder/must-fail/$name.edit" ] || { echo "$control: there is no such edit"; exit 1; }
+    [ -f "${control%.control.md}.edit" ] || { echo "$control: there is no such edit"; exit 1; }
     apply "$control" "$copy/$folder" || { echo "$control: it cannot be applied"; exit 1; }
     tried=$((tried + 1))
     if (cd "$copy/$folder" && rt check) >"$copy/log" 2>&1; then
