@@ -1,7 +1,5 @@
 //! Scripts that are fed piece by piece.
-use crate::cancelling::CANCELLING;
-use crate::deleting::DELETING;
-use crate::runs::{BOOT, FAULTY_BOOTS, FAULTY_STEPS, RUNS};
+use crate::runs::{BOOT, FAULTY_BOOTS, FAULTY_STEPS, scripts};
 use crate::streams::Output;
 use mcs_sim::{ReplayRun, SimFault, Sink, Source, simulate, trace};
 use mcs_text::LineFault;
@@ -39,9 +37,7 @@ fn feed(
 
 #[test]
 fn pieces_give_what_the_whole_gives(rt: HostRuntime) -> Result<(), Fail> {
-    for (boot, steps, trace) in RUNS.iter().chain(&CANCELLING).chain(&DELETING) {
-        let script = format!(in rt.alloc(); "{boot}{steps}")?;
-        let want = format!(in rt.alloc(); "{boot}{trace}")?;
+    for (script, want) in scripts(rt.alloc())? {
         for piece in PIECES {
             let (result, told) = feed(rt.alloc(), script.as_bytes(), piece)?;
             assert_eq!(rt; result, Ok(()));

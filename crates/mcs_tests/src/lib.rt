@@ -16,6 +16,8 @@ mod faults;
 #[cfg(test)]
 mod feeding;
 #[cfg(test)]
+mod going_on;
+#[cfg(test)]
 mod limits;
 #[cfg(test)]
 mod lookups;

@@ -1,6 +1,7 @@
 //! Scripts and their traces.
 use crate::cancelling::CANCELLING;
 use crate::deleting::DELETING;
+use crate::going_on::GOING_ON;
 use crate::streams::{Input, Output, pipe};
 use mcs_sim::SimFault;
 use mcs_text::LineFault;
@@ -138,7 +139,7 @@ pub const FIRST_TRACE: &str = "\
 ";
 
 /// A boot, steps after it, and what the trace has after it.
-pub const RUNS: [(&str, &str, &str); 29] = [
+pub const RUNS: [(&str, &str, &str); 27] = [
     (BOOT, FIRST_STEPS, FIRST_TRACE),
     // A receiver that waits for its message.
     (
@@ -157,58 +158,6 @@ pub const RUNS: [(&str, &str, &str); 29] = [
 + took m0 t2
 + parts t2 e1.recv
 + turns t2 running
-",
-    ),
-    // The greatest priority goes first, and then who came first.
-    (
-        BOOT,
-        "\
-0 t1 send 1 1
-0 t2 send 1 2
-0 t3 send 1 3
-0 t4 send 1 4
-0 t5 recv 2 8
-0 t5 recv 2 8
-0 t5 recv 2 8
-0 t5 recv 2 8
-",
-        "\
-0 t1 send 1 1
-= waits
-+ sent m0 t1 e1 send 9 1
-+ joins t1 e1.send
-0 t2 send 1 2
-= waits
-+ sent m1 t2 e1 send 9 2
-+ joins t2 e1.send
-0 t3 send 1 3
-= waits
-+ sent m2 t3 e1 send 9 3
-+ joins t3 e1.send
-0 t4 send 1 4
-= waits
-+ sent m3 t4 e1 send 9 4
-+ joins t4 e1.send
-0 t5 recv 2 8
-= got 9 2
-+ took m1 t5
-+ parts t2 e1.send
-+ turns t2 running
-0 t5 recv 2 8
-= got 9 4
-+ took m3 t5
-+ parts t4 e1.send
-+ turns t4 running
-0 t5 recv 2 8
-= got 9 1
-+ took m0 t5
-+ parts t1 e1.send
-+ turns t1 running
-0 t5 recv 2 8
-= got 9 3
-+ took m2 t5
-+ parts t3 e1.send
-+ turns t3 running
 ",
     ),
     // Capabilities without the right to receive, and of the wrong kind; a mint, and one over a badge.
@@ -567,60 +516,6 @@ pub const RUNS: [(&str, &str, &str); 29] = [
 + turns t1 running
 + holds s1 t1
 + joins t2 e1.recv r1
-",
-    ),
-    // A reply object in the middle of a chain is paid: its caller runs, and the context stays with its holder.
-    (
-        BOOT,
-        "\
-0 t2 recv 2 8
-0 t3 recv 3 9
-0 t5 unbind 22
-0 t5 unbind 23
-0 t1 call 2 1
-0 t2 call 3 2
-0 t4 send 8 5
-0 t3 send 9 6
-0 t1 nbrecv 2 8
-",
-        "\
-0 t2 recv 2 8
-= waits
-+ joins t2 e1.recv r1
-0 t3 recv 3 9
-= waits
-+ joins t3 e2.recv r2
-0 t5 unbind 22
-= done
-+ holds s2 -
-0 t5 unbind 23
-= done
-+ holds s3 -
-0 t1 call 2 1
-= waits
-+ sent m0 t1 e1 call 0 1
-+ took m0 t2
-+ parts t2 e1.recv
-+ owes r1 t1 s1
-+ holds s1 t2
-+ turns t2 running
-0 t2 call 3 2
-= waits
-+ sent m1 t2 e2 call 0 2
-+ took m1 t3
-+ parts t3 e2.recv
-+ owes r2 t2 s1
-+ holds s1 t3
-+ turns t3 running
-0 t4 send 8 5
-= done
-+ paid r1 t1 5
-+ turns t1 running
-0 t3 send 9 6
-= done
-+ paid r2 t2 6
-+ turns t2 running
-+ holds s1 t2
 ",
     ),
     // A debt that is paid is paid once.
@@ -1110,13 +1005,25 @@ pub fn run(alloc: Global, script: &[u8]) -> Result<(Result<(), SimFault>, Vec<u8
     Ok((result, taken))
 }
 
+/// The script of each run, and the trace that it gives.
+pub fn scripts(alloc: Global) -> Result<Vec<(String, String)>, Fail> {
+    let mut all = Vec::new(alloc);
+    for (boot, steps, trace) in RUNS.iter().chain(&CANCELLING).chain(&DELETING) {
+        let script = format!(in alloc; "{boot}{steps}")?;
+        all.push((script, format!(in alloc; "{boot}{trace}")?))?;
+    }
+    for ((begun, told), steps, trace) in GOING_ON {
+        let script = format!(in alloc; "{BOOT}{begun}{steps}")?;
+        all.push((script, format!(in alloc; "{BOOT}{told}{trace}")?))?;
+    }
+    Ok(all)
+}
+
 #[test]
 fn runs_give_their_traces(rt: HostRuntime) -> Result<(), Fail> {
-    for (boot, steps, trace) in RUNS.iter().chain(&CANCELLING).chain(&DELETING) {
-        let script = format!(in rt.alloc(); "{boot}{steps}")?;
+    for (script, want) in scripts(rt.alloc())? {
         let (result, written) = run(rt.alloc(), script.as_bytes())?;
         assert_eq!(rt; result, Ok(()));
-        let want = format!(in rt.alloc(); "{boot}{trace}")?;
         assert_eq!(rt; written.as_slice(), want.as_bytes());
     }
     Ok(())
