@@ -7,11 +7,11 @@ cd "$(dirname "$0")/.."
 copy=$(mktemp -d)
 trap 'rm -rf "$copy"' EXIT
 cp -R crates crates.txt HANDLES "$copy"
-rm -f "$copy"/crates/*/must-fail/*
-for folder in crates/*/wrong-bodies; do
-    cp "$folder"/*.edit "$copy/${folder%/wrong-bodies}/must-fail/"
-done
 cd "$copy"
+rm -rf crates/*/must-fail
+for folder in crates/*/wrong-bodies; do
+    mv "$folder" "${folder%/wrong-bodies}/must-fail"
+done
 status=0
 rt must-fail "$@" >log 2>&1 || status=$?
 grep -v ': refused, as it must be' log || true
