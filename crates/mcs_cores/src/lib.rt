@@ -14,6 +14,3 @@ pub use mcs_seats::{
 };
 pub use run::RunFault;
 pub use users::Users;
-
-#[cfg(test)]
-mod tests;

@@ -24,6 +24,3 @@ pub use running::run_text;
 pub use source::{ReadFault, Source};
 pub use startup::{answer_status, arguments};
 pub use writing::trace;
-
-#[cfg(test)]
-mod tests;

@@ -1,5 +1,5 @@
 //! Scripts that are fed piece by piece.
-use crate::runs::{BOOT, FAULTY_BOOTS, FAULTY_STEPS, scripts};
+use crate::runs::BOOT;
 use crate::streams::Output;
 use mcs_sim::{ReplayRun, SimFault, Sink, Source, simulate, trace};
 use mcs_text::LineFault;
@@ -36,32 +36,17 @@ fn feed(
 }
 
 #[test]
-fn pieces_give_what_the_whole_gives(rt: HostRuntime) -> Result<(), Fail> {
-    for (script, want) in scripts(rt.alloc())? {
-        for piece in PIECES {
-            let (result, told) = feed(rt.alloc(), script.as_bytes(), piece)?;
-            assert_eq!(rt; result, Ok(()));
-            assert_eq!(rt; told.as_slice(), want.as_bytes());
-        }
-    }
-    Ok(())
-}
-
-#[test]
-fn pieces_give_the_faults_of_the_whole(rt: HostRuntime) -> Result<(), Fail> {
+fn a_line_that_is_cut_is_told(rt: HostRuntime) -> Result<(), Fail> {
+    let script = format!(in rt.alloc(); "{BOOT}0 t1 nbsend 1 7\n0 t1 nbs")?;
+    let want = format!(in rt.alloc(); "{BOOT}0 t1 nbsend 1 7\n= done\n")?;
+    let fault = SimFault::Script {
+        line: 38,
+        why: LineFault::Form,
+    };
     for piece in PIECES {
-        for (script, line, why) in FAULTY_BOOTS {
-            let (result, told) = feed(rt.alloc(), script.as_bytes(), piece)?;
-            assert_eq!(rt; result, Err(SimFault::Script { line, why }), "{script}");
-            assert!(rt; told.is_empty());
-        }
-        for (steps, trace, why) in FAULTY_STEPS {
-            let script = format!(in rt.alloc(); "{BOOT}{steps}")?;
-            let (result, told) = feed(rt.alloc(), script.as_bytes(), piece)?;
-            assert_eq!(rt; result, Err(SimFault::Script { line: 38, why }));
-            let want = format!(in rt.alloc(); "{BOOT}{trace}")?;
-            assert_eq!(rt; told.as_slice(), want.as_bytes());
-        }
+        let (result, told) = feed(rt.alloc(), script.as_bytes(), piece)?;
+        assert_eq!(rt; result, Err(fault));
+        assert_eq!(rt; told.as_slice(), want.as_bytes());
     }
     Ok(())
 }

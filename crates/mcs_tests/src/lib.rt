@@ -6,17 +6,11 @@ mod books;
 #[cfg(test)]
 mod boots;
 #[cfg(test)]
-mod cancelling;
-#[cfg(test)]
-mod deleting;
-#[cfg(test)]
 mod failing;
 #[cfg(test)]
 mod faults;
 #[cfg(test)]
 mod feeding;
-#[cfg(test)]
-mod going_on;
 #[cfg(test)]
 mod limits;
 #[cfg(test)]

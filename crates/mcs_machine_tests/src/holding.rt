@@ -1,7 +1,7 @@
 //! Five cores of which one is held at a pick.
-use super::boots::{five_threads, send, thread};
-use super::runs::{is_line, run_users};
-use crate::{Gate, Users};
+use crate::boots::{five_threads, send, thread};
+use crate::runs::{is_line, run_users};
+use mcs_cores::{Gate, Users};
 use mcs_book::Book;
 use mcs_kernel::{Boot, replay};
 use mcs_queues::PlainLines;

@@ -1,8 +1,8 @@
 //! A run from its boot to its settled book.
 ghost use Rattle.std.specs.Prelude.{◌≡◌};
 
-use super::boots::thread;
-use crate::{CoreSeat, Gate, Machine, Outcome, SeatsFault, Settled, Users};
+use crate::boots::thread;
+use mcs_cores::{CoreSeat, Gate, Machine, Outcome, SeatsFault, Settled, Users};
 use mcs_book::{Book, Line};
 use mcs_kernel::{Boot, EnterFault, Kernel};
 use mcs_queues::PlainLines;

@@ -1,7 +1,7 @@
 //! Users on one core.
-use super::boots::{message, one_core, send, thread};
-use super::runs::{has_lines, run_users};
-use crate::{Open, Users};
+use crate::boots::{message, one_core, send, thread};
+use crate::runs::{has_lines, run_users};
+use mcs_cores::{Open, Users};
 use mcs_types::{Answer, Badge, Entry};
 use std::test::Fail;
 

@@ -1,9 +1,9 @@
 //! Machines whose entries are made by hand.
 ghost use Rattle.std.specs.Prelude.{◌≡◌};
 
-use super::boots::{message, one_core, thread, two_cores};
-use super::runs::has_lines;
-use crate::{CoreSeat, FinishFault, Machine, Settled};
+use crate::boots::{message, one_core, thread, two_cores};
+use crate::runs::has_lines;
+use mcs_cores::{CoreSeat, FinishFault, Machine, Settled};
 use mcs_kernel::{Boot, Kernel};
 use mcs_queues::PlainLines;
 use mcs_seats::is_same_answer;

@@ -1,17 +1,12 @@
-//! The first example twice: as calls of the kernel, and with the trace of these calls as a script. A call that memory was refused
-//! to is given once more. A plain run is refused nothing; `tests/each-allocation.sh` has each allocation refused in turn, and
-//! wants the same traces.
-#![tactic(auto)]
+//! The first example as calls of the kernel.
 
 use mcs_book::Book;
 use mcs_kernel::{Boot, EnterFault, Kernel};
 use mcs_queues::PlainLines;
-use mcs_sim::{SimFault, Sink, Source, simulate, trace};
+use mcs_sim::{SimFault, Sink, trace};
 use mcs_types::{
     Badge, BootFault, BootLine, Cap, CoreId, Entry, Guard, Kind, Message, ObjId, Prio, Rights,
 };
-use std::io;
-use std::process::ExitCode;
 
 /// The objects that are made first.
 const OBJECTS: [BootLine; 11] = [
@@ -56,7 +51,7 @@ const SLOTS: [(u8, Kind, u32, u8, u64); 19] = [
 
 /// A call that failed twice, or changed something where it failed.
 #[derive(Drop)]
-struct Failed;
+pub struct Failed;
 
 impl From<BootFault> for Failed {
     fn from(_fault: BootFault) -> Failed {
@@ -179,8 +174,8 @@ fn text_of(rt: &HostRuntime, book: &Book) -> Result<Vec<u8>, Failed> {
     Ok(text)
 }
 
-/// The example by calls of the kernel: its trace is written, and is the result too.
-fn run_calls(rt: &HostRuntime) -> Result<Vec<u8>, Failed> {
+/// The trace of the example by calls of the kernel.
+pub fn trace_of_calls(rt: &HostRuntime) -> Result<Vec<u8>, Failed> {
     let boot = booted(rt)?;
     let mut kernel = match Kernel::new(rt.alloc(), &boot) {
         Ok(kernel) => kernel,
@@ -188,47 +183,5 @@ fn run_calls(rt: &HostRuntime) -> Result<Vec<u8>, Failed> {
     };
     send(rt, &mut kernel)?;
     receive(rt, &mut kernel)?;
-    let mut sink = Sink::new(rt.alloc(), io::writer(rt));
-    trace(kernel.book(), &mut sink)?;
     text_of(rt, kernel.book())
-}
-
-/// Adds what a script gives to a text. A text that memory is refused to is a writer that fails.
-fn replay_into(rt: &HostRuntime, script: &[u8], text: &mut Vec<u8>) -> Result<(), SimFault> {
-    let mut sink = Sink::new(rt.alloc(), text);
-    simulate(rt.alloc(), &mut Source::new(script), &mut sink)
-}
-
-/// What a script gives, once more from the beginning where memory was refused: what was written until then is dropped.
-fn replayed(rt: &HostRuntime, script: &[u8]) -> Result<Vec<u8>, Failed> {
-    let mut text = Vec::new(rt.alloc());
-    match replay_into(rt, script, &mut text) {
-        Ok(()) => {}
-        Err(SimFault::OutOfMemory | SimFault::Write) => {
-            text.clear();
-            replay_into(rt, script, &mut text)?;
-        }
-        Err(_) => return Err(Failed),
-    }
-    Ok(text)
-}
-
-/// The trace of the example as a script.
-fn run_script(rt: &HostRuntime, script: &[u8]) -> Result<(), Failed> {
-    let text = replayed(rt, script)?;
-    let mut sink = Sink::new(rt.alloc(), io::writer(rt));
-    sink.put(&text);
-    sink.flush();
-    Ok(())
-}
-
-fn main(rt: HostRuntime) -> ExitCode {
-    let Ok(script) = run_calls(&rt) else {
-        let _ = println!(rt; "a call failed, or changed something where it failed");
-        return ExitCode::SUCCESS;
-    };
-    if run_script(&rt, &script).is_err() {
-        let _ = println!(rt; "the script failed twice");
-    }
-    ExitCode::SUCCESS
 }

@@ -1,5 +1,5 @@
 //! Scripts of users.
-use crate::{Open, SimFault, Sink, Source, run_text, simulate};
+use mcs_sim::{Open, SimFault, Sink, Source, run_text, simulate};
 use mcs_text::LineFault;
 use std::alloc::{AllocGlobal, Global};
 use std::io::{self, ErrorKind, Read, Write};

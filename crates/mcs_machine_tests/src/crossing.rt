@@ -1,7 +1,7 @@
 //! Two cores of which each has picked before the other enters.
-use super::boots::{place, thread, two_cores, with_free_context};
-use super::runs::{Ran, TurnedAway, has_lines, run_users};
-use crate::{Gate, Users};
+use crate::boots::{place, thread, two_cores, with_free_context};
+use crate::runs::{Ran, TurnedAway, has_lines, run_users};
+use mcs_cores::{Gate, Users};
 use mcs_kernel::{Boot, EnterFault};
 use mcs_types::{Answer, CoreId, Entry, ObjId, Prio, Refusal};
 use std::alloc::Global;
@@ -129,7 +129,7 @@ fn refused(core: u8) -> (u8, u32, Entry, Answer) {
 }
 
 #[test]
-fn gate_row_16(rt: HostRuntime) -> Result<(), Fail> {
+fn a_suspended_thread_is_turned_away(rt: HostRuntime) -> Result<(), Fail> {
     let entries = [Entry::Suspend { thread: 1 }];
     let ran = crossed(&rt, rt.alloc(), &two_cores(rt.alloc())?, &entries)?;
     assert!(rt; is_away(&ran.away, 2, EnterFault::NotRunning));
