@@ -1,6 +1,6 @@
 #!/bin/sh
-# Refuses each allocation in turn: crates/mcs_retries gives each call once more that memory was refused to, and writes the same
-# trace; mcssim replay ends with status 6 and a beginning of the trace, or with status 0 and all of it, which is counted; mcssim run
+# Refuses each allocation in turn: crates/mcs_scripts gives each call once more that memory was refused to, and writes the same
+# traces; mcssim replay ends with status 6 and a beginning of the trace, or with status 0 and all of it, which is counted; mcssim run
 # ends with status 6 or 7 and nothing written, or with status 0 and a trace that gives itself again. Run it after
 # `rt ci`, which leaves the programs in the folders out/; it proves and builds one that is not there. It needs a C compiler, for
 # the library below.
@@ -46,7 +46,7 @@ build() {
     [ -x "crates/$1/out/$1" ] && return
     (cd "crates/$1" && shift && rt run -- "$@") <crates/mcssim/stdin >"$work/built" 2>&1 || { cat "$work/built"; exit 1; }
 }
-build mcs_retries
+build mcs_scripts
 build mcssim replay
 
 # Runs a program on $input with the allocation of this number refused: its output is in $work/out, its status in $status. It
@@ -62,11 +62,12 @@ refuse() {
 }
 
 number=1
-while refuse $number crates/mcs_retries/out/mcs_retries; do
-    cmp "$work/out" crates/mcs_retries/stdout
+crates/mcs_scripts/out/mcs_scripts <"$input" >"$work/plain"
+while refuse $number crates/mcs_scripts/out/mcs_scripts; do
+    cmp "$work/out" "$work/plain"
     number=$((number + 1))
 done
-echo "mcs_retries: $((number - 1)) allocations, each refused in turn, and each call given again"
+echo "mcs_scripts: $((number - 1)) allocations, each refused in turn, and each call given again"
 [ $number -gt 1 ]
 
 survived=0

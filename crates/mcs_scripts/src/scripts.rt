@@ -5,23 +5,23 @@ use std::alloc::Global;
 
 /// What a script gives: its trace, and the fault that ended it, if one did.
 #[derive(Drop)]
-pub struct Given {
+pub struct Told {
     pub trace: Vec<u8>,
     pub fault: Option<SimFault>,
 }
 
-impl Given {
-    fn is_same(&self, other: &Given) -> bool {
+impl Told {
+    fn is_same(&self, other: &Told) -> bool {
         self.trace == other.trace && self.fault == other.fault
     }
 }
 
 /// What is given; a text that memory is refused to is a writer that fails.
-fn given(trace: Vec<u8>, ended: Result<(), SimFault>) -> Result<Given, OutOfMemory> {
+fn given(trace: Vec<u8>, ended: Result<(), SimFault>) -> Result<Told, OutOfMemory> {
     match ended {
-        Ok(()) => Ok(Given { trace, fault: None }),
+        Ok(()) => Ok(Told { trace, fault: None }),
         Err(SimFault::OutOfMemory | SimFault::Write) => Err(OutOfMemory),
-        Err(fault) => Ok(Given {
+        Err(fault) => Ok(Told {
             trace,
             fault: Some(fault),
         }),
@@ -29,7 +29,7 @@ fn given(trace: Vec<u8>, ended: Result<(), SimFault>) -> Result<Given, OutOfMemo
 }
 
 /// What a script gives that is read to its end.
-fn replayed(alloc: Global, script: &[u8]) -> Result<Given, OutOfMemory> {
+fn replayed(alloc: Global, script: &[u8]) -> Result<Told, OutOfMemory> {
     let mut text = Vec::new(alloc);
     let result = simulate(
         alloc,
@@ -56,7 +56,7 @@ fn feed(
 }
 
 /// What a script gives that is fed in pieces of so many bytes, with the trace of the book at its end.
-fn fed(alloc: Global, script: &[u8], piece: usize) -> Result<Given, OutOfMemory> {
+fn fed(alloc: Global, script: &[u8], piece: usize) -> Result<Told, OutOfMemory> {
     let mut run = ReplayRun::new(alloc)?;
     let result = feed(alloc, &mut run, script, piece);
     let mut text = Vec::new(alloc);
@@ -67,7 +67,7 @@ fn fed(alloc: Global, script: &[u8], piece: usize) -> Result<Given, OutOfMemory>
 }
 
 /// Does it once more where memory was refused.
-fn again<F: Fn() -> Result<Given, OutOfMemory>>(give: F) -> Result<Given, OutOfMemory> {
+fn again<F: Fn() -> Result<Told, OutOfMemory>>(give: F) -> Result<Told, OutOfMemory> {
     match give() {
         Ok(given) => Ok(given),
         Err(OutOfMemory) => give(),
@@ -79,7 +79,7 @@ fn again<F: Fn() -> Result<Given, OutOfMemory>>(give: F) -> Result<Given, OutOfM
 pub fn given_by(
     alloc: Global,
     script: &[u8],
-) -> Result<(Given, Option<&'static str>), OutOfMemory> {
+) -> Result<(Told, Option<&'static str>), OutOfMemory> {
     let whole = again(|| replayed(alloc, script))?;
     for piece in [1, 7, usize::MAX] {
         if !again(|| fed(alloc, script, piece))?.is_same(&whole) {

@@ -29,14 +29,14 @@ fn tell<W: Write>(to: &mut Sink<W>, told: Told, run: &ReplayRun) -> Told
     }
 }
 
-/// Sends out what a sink kept back, where a piece of this length ended the run or is not a full one: then the input may be slow.
-fn send_out<W: Write>(to: &mut Sink<W>, taken: &Result<(), SimFault>, length: usize)
+/// Sends out what a sink kept back, where this piece ended the run or is not a full one: then the input may be slow.
+fn send_out<W: Write>(to: &mut Sink<W>, taken: &Result<(), SimFault>, piece: &[u8])
     ensures puts { Puts W.contents to.old to.new [] }
     ensures ended { OnErr taken.now (to.new.kept.items ≡ []) }
-    ensures short { length < 4096 → to.new.kept.items ≡ [] }
+    ensures short { length piece.now < 4096 → to.new.kept.items ≡ [] }
 {
     match taken {
-        Ok(()) if length >= PIECE => {}
+        Ok(()) if piece.len() >= PIECE => {}
         _ => to.flush(),
     }
 }
@@ -61,7 +61,7 @@ fn take_piece<W: Write>(
 {
     let taken = run.take_piece(alloc, piece);
     *told = tell(to, *told, run);
-    send_out(to, &taken, piece.len());
+    send_out(to, &taken, piece);
     if to.is_broken() {
         return Err(SimFault::Write);
     }
