@@ -21,7 +21,7 @@ use Rattle.mcs_state.specs.Checks.{kinded, object_found, object_named, act_of}
 use Rattle.mcs_state.specs.declared.changing.Change.{Change}
 use Rattle.mcs_state.specs.declared.changing.Change.TheVariants as change
 use Rattle.mcs_state.proofs.Named.{object-is, named-there}
-use Rattle.mcs_ipc.specs.Holding.{hold_entry, given, taken, given_found, taken_found, holdable}
+use Rattle.mcs_ipc.specs.Holding.{hold_entry, given_found, taken_found, holdable}
 
 -- the rows of the two entries
 row-is : (R : Log) (core : CoreId) (t : ObjId) (s : ℕ) (holder : Option ℕ) → row R core t (hold_entry s holder) ≡ act_of (holdable R t s holder) changes

@@ -37,11 +37,7 @@ fn tie_to_make<W: Waiting>(
 }
 
 /// What an unbind changes: the thread has a notification.
-fn tie_to_end<W: Waiting>(
-    state: &State<W>,
-    thread: ObjId,
-    holder: u64,
-) -> Result<Change, Refusal>
+fn tie_to_end<W: Waiting>(state: &State<W>, thread: ObjId, holder: u64) -> Result<Change, Refusal>
     requires { IsThere (so_far state.now) Kind.Thread thread }
     ensures { result ≡ unbindable (so_far state.now) thread holder }
 {
