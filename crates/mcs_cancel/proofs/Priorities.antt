@@ -16,11 +16,13 @@ use Rattle.mcs_book.specs.Table.{row}
 use Rattle.mcs_book.specs.Threads.{maximum_of}
 use Rattle.mcs_state.specs.Checks.{kinded, object_found, act_of}
 use Rattle.mcs_state.proofs.Named.{object-is}
-use Rattle.mcs_cancel.specs.Priorities.{under, settable_thread, sets_priority}
+use Rattle.mcs_state.specs.Changing.{changes}
+use Rattle.mcs_state.specs.declared.changing.Change.TheVariants as change
+use Rattle.mcs_cancel.specs.Priorities.{under, settable_thread}
 
 -- the act, of the thread that was found
 abbrev pub sets : Prio → ObjId → Act
-sets p x = sets_priority x p
+sets p x = changes (change.Sets x p)
 
 -- the row
 pub row-set : (R : Log) (core : CoreId) (t : ObjId) (x authority : ℕ) (p : Prio) → row R core t (SetPriority x authority p) ≡ act_of (settable_thread R t x authority p) (sets p)

@@ -1,14 +1,11 @@
--- The row of SetPriority, in the parts in which the code does it.
+-- What SetPriority tests.
 use Rattle.std.specs.Prelude.{ℕ, cond, nat_le, Ok, Err}
 use Rattle.mcs_types.specs.declared.id.ObjId.{ObjId}
 use Rattle.mcs_types.specs.declared.id.Prio.{Prio}
 use Rattle.mcs_types.specs.declared.id.Kind.TheVariants as kind
-use Rattle.mcs_types.specs.declared.record.Rec.TheVariants as rec
-use Rattle.mcs_types.specs.declared.entry.Answer.TheVariants.{Done}
 use Rattle.mcs_types.specs.declared.entry.Refusal.TheVariants.{Range}
 use Rattle.mcs_book.specs.Logs.{Log}
 use Rattle.mcs_book.specs.Checks.{Checked}
-use Rattle.mcs_book.specs.Pieces.{Act, say, answers}
 use Rattle.mcs_book.specs.Threads.{maximum_of}
 use Rattle.mcs_state.specs.Checks.{object_named}
 
@@ -21,7 +18,3 @@ under R p (Ok x) (Ok giver) = cond (nat_le p.0 (maximum_of R giver)) (Ok x) (Err
 -- the thread whose priority t may set, or the first check that fails
 abbrev pub settable_thread : Log → ObjId → ℕ → ℕ → Prio → Checked ObjId
 settable_thread R t x authority p = under R p (object_named R t kind.Thread x) (object_named R t kind.Thread authority)
-
--- a thread has this priority from now on
-abbrev pub sets_priority : ObjId → Prio → Act
-sets_priority x p = answers Done (say (rec.Prio x p))

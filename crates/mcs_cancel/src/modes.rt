@@ -45,6 +45,16 @@ fn set_mode<W: Waiting>(
     Answer::Done
 }
 
+/// The mode to which a thread of this status is resumed: none where it can run.
+fn mode_resumed(status: Option<Status>) -> Option<Mode>
+    ensures { result ≡ mode_resumed status }
+{
+    match status {
+        Some(Status::Running | Status::Restart) => None,
+        _ => Some(Mode::Restart),
+    }
+}
+
 /// Suspend: the thread leaves what it is blocked on, and is Inactive from now on; it may be the one that enters. The refusals
 /// are 1 to 3 of the lookup, and 4 for a capability of another kind; they change nothing (manual: Threads and Execution).
 pub fn suspend<W: Waiting>(
@@ -60,16 +70,6 @@ pub fn suspend<W: Waiting>(
     match find_thread(state, thread, address) {
         Err(refusal) => Answer::Refused(refusal),
         Ok(named) => set_mode(state, thread, named, Some(Mode::Inactive)),
-    }
-}
-
-/// The mode to which a thread of this status is resumed: none where it can run.
-fn mode_resumed(status: Option<Status>) -> Option<Mode>
-    ensures { result ≡ mode_resumed status }
-{
-    match status {
-        Some(Status::Running | Status::Restart) => None,
-        _ => Some(Mode::Restart),
     }
 }
 

@@ -1,29 +1,14 @@
 //! SetPriority.
 ghost use Rattle.std.specs.Prelude.{◌≡◌};
 ghost use Rattle.mcs_types.specs.declared.entry.Entry.TheVariants.{SetPriority};
-ghost use Rattle.mcs_types.specs.declared.id.Kind.{Kind};
-ghost use Rattle.mcs_book.specs.Sound.{IsThere};
 ghost use Rattle.mcs_state.specs.Now.{so_far};
-ghost use Rattle.mcs_state.specs.Doing.{ActsAwake, FitsAwake, Does, Fits};
+ghost use Rattle.mcs_state.specs.Doing.{Does, Fits};
 ghost use Rattle.mcs_state.specs.Entering.{IsEntering};
-ghost use Rattle.mcs_cancel.specs.Priorities.{sets_priority};
 
 use crate::checks::thread_to_set;
-use mcs_state::{State, wake};
+use mcs_state::{Change, State, change_awake};
 use mcs_types::{Answer, CoreId, ObjId, Prio};
 use mcs_waiting::Waiting;
-
-/// Wakes the thread that enters, and sets the priority of a thread.
-fn set<W: Waiting>(state: &mut State<W>, thread: ObjId, holder: ObjId, priority: Prio) -> Answer
-    requires entering { IsEntering (so_far state.old) thread }
-    requires there { IsThere (so_far state.old) Kind.Thread holder }
-    requires room { FitsAwake thread (sets_priority holder priority) state.old }
-    ensures { ActsAwake thread (sets_priority holder priority) state.old result state.new }
-{
-    wake(state, thread);
-    state.prio(holder, priority);
-    Answer::Done
-}
 
 /// SetPriority: the thread has this priority from now on; where it stands in a queue, it queues anew (own). The refusals are 1
 /// to 3 of the lookups, the thread's first, 4 for a capability of another kind, and 6 where the priority is above the maximum
@@ -42,6 +27,13 @@ pub fn set_priority<W: Waiting>(
 {
     match thread_to_set(state, thread, holder, authority, priority) {
         Err(refusal) => Answer::Refused(refusal),
-        Ok(holder) => set(state, thread, holder, priority),
+        Ok(holder) => change_awake(
+            state,
+            thread,
+            Change::Sets {
+                thread: holder,
+                priority,
+            },
+        ),
     }
 }

@@ -9,4 +9,4 @@ mod making;
 
 pub use copying::{copy_cap, mint_cap, move_cap};
 pub use deleting::delete_cap;
-pub use making::{make_context, make_endpoint, make_notification, make_reply};
+pub use making::make;

@@ -1,6 +1,5 @@
 //! MakeEndpoint, MakeNotification, MakeReply and MakeContext.
 ghost use Rattle.std.specs.Prelude.{◌≡◌, ◌<◌, true, IfOk, length};
-ghost use Rattle.mcs_types.specs.declared.entry.Entry.{Entry};
 ghost use Rattle.mcs_types.specs.declared.id.Kind.{Kind};
 ghost use Rattle.mcs_book.specs.Objects.{next_id};
 ghost use Rattle.mcs_book.specs.Sound.{IsFormOf};
@@ -15,7 +14,7 @@ ghost use Rattle.mcs_caps.specs.Placed.{IsSlot};
 
 use mcs_slots::SlotId;
 use mcs_state::{State, wake};
-use mcs_types::{Answer, Badge, CORES, Cap, CoreId, Guard, Kind, ObjId, Place, Refusal, Rights};
+use mcs_types::{Answer, Badge, Cap, CoreId, Guard, Kind, ObjId, Place, Refusal, Rights};
 use mcs_waiting::Waiting;
 
 /// Write, Read, Grant and GrantReply.
@@ -117,8 +116,11 @@ fn make_awake<W: Waiting>(
     Answer::Done
 }
 
-/// An object of a kind is made, and the slot gets a capability to it.
-fn make<W: Waiting>(
+/// MakeEndpoint, MakeNotification, MakeReply and MakeContext: an object of a kind is made, and the slot gets a capability to it,
+/// with all rights to an endpoint or a notification, and with none to another. A context is of the core on which the thread
+/// enters, one of the 16 that there may be. The refusals are 6, 2 and 3 of the slot's lookup, 7 where it is full, and 11 where
+/// 256 objects of the kind are there; they change nothing (own; manual: Capability Spaces).
+pub fn make<W: Waiting>(
     state: &mut State<W>,
     core: CoreId,
     thread: ObjId,
@@ -136,66 +138,4 @@ fn make<W: Waiting>(
         Err(refusal) => Answer::Refused(refusal),
         Ok(at) => make_awake(state, core, thread, kind, at),
     }
-}
-
-/// MakeEndpoint: an endpoint is made, and the slot gets a capability to it with all rights. The refusals are 6, 2 and 3 of the
-/// slot's lookup, 7 where it is full, and 11 where 256 endpoints are there; they change nothing (own; manual: Capability Spaces).
-pub fn make_endpoint<W: Waiting>(
-    state: &mut State<W>,
-    core: CoreId,
-    thread: ObjId,
-    place: Place,
-) -> Answer
-    requires entering { IsEntering (so_far state.old) thread }
-    requires serials { HasSerials (so_far state.old) }
-    requires room { Fits state.old core thread (Entry.MakeEndpoint place) }
-    ensures { Does state.old core thread (Entry.MakeEndpoint place) result state.new }
-{
-    make(state, core, thread, Kind::Endpoint, place)
-}
-
-/// MakeNotification: as MakeEndpoint, for a notification.
-pub fn make_notification<W: Waiting>(
-    state: &mut State<W>,
-    core: CoreId,
-    thread: ObjId,
-    place: Place,
-) -> Answer
-    requires entering { IsEntering (so_far state.old) thread }
-    requires serials { HasSerials (so_far state.old) }
-    requires room { Fits state.old core thread (Entry.MakeNotification place) }
-    ensures { Does state.old core thread (Entry.MakeNotification place) result state.new }
-{
-    make(state, core, thread, Kind::Notification, place)
-}
-
-/// MakeReply: as MakeEndpoint, for a reply object, whose capability has no rights.
-pub fn make_reply<W: Waiting>(
-    state: &mut State<W>,
-    core: CoreId,
-    thread: ObjId,
-    place: Place,
-) -> Answer
-    requires entering { IsEntering (so_far state.old) thread }
-    requires serials { HasSerials (so_far state.old) }
-    requires room { Fits state.old core thread (Entry.MakeReply place) }
-    ensures { Does state.old core thread (Entry.MakeReply place) result state.new }
-{
-    make(state, core, thread, Kind::Reply, place)
-}
-
-/// MakeContext: as MakeReply, for a scheduling context of the core on which the thread enters, one of the 16 that there may be.
-pub fn make_context<W: Waiting>(
-    state: &mut State<W>,
-    core: CoreId,
-    thread: ObjId,
-    place: Place,
-) -> Answer
-    requires core { core.0 < CORES }
-    requires entering { IsEntering (so_far state.old) thread }
-    requires serials { HasSerials (so_far state.old) }
-    requires room { Fits state.old core thread (Entry.MakeContext place) }
-    ensures { Does state.old core thread (Entry.MakeContext place) result state.new }
-{
-    make(state, core, thread, Kind::Context, place)
 }

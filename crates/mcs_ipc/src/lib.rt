@@ -10,6 +10,6 @@ mod replying;
 mod sending;
 mod taking;
 
-pub use contexts::{bind_context, unbind_context};
-pub use receiving::{nb_receive, nb_wait, receive, reply_receive, wait};
-pub use sending::{call, nb_send, send};
+pub use contexts::hold_context;
+pub use receiving::{receive, reply_receive};
+pub use sending::{call, send};

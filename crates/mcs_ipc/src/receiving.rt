@@ -146,8 +146,14 @@ fn receive_from<W: Waiting>(
     }
 }
 
-/// Recv and Wait where it blocks, and NBRecv and NBWait where not; the first of each pair has a reply object.
-fn receive_at<W: Waiting>(
+/// Recv and Wait where it blocks, and NBRecv and NBWait where not; Recv and NBRecv name a reply object. Over an endpoint the
+/// reply object's present user is cancelled; then the pending word of the thread's notification is heard, or else the message
+/// of the first sender is taken. Where there is neither, the thread waits among the receivers, with the reply object, if it
+/// blocks, and otherwise the answer is Empty; the reply object's user is cancelled all the same (own). Over a notification its
+/// pending word is heard, or else the thread waits on it, or is answered Empty; the reply object is not looked up. The refusals
+/// are 1 to 3 of the lookups, 4 for a capability of another kind, 5 where Read is missing, and 9 where the notification is
+/// bound to another thread; they change nothing (manual: Message Passing; Notifications).
+pub fn receive<W: Waiting>(
     state: &mut State<W>,
     core: CoreId,
     thread: ObjId,
@@ -168,68 +174,6 @@ fn receive_at<W: Waiting>(
             receive_from(state, thread, source, blocks)
         }
     }
-}
-
-/// Recv: over an endpoint the reply object's present user is cancelled; then the pending word of the thread's notification
-/// is heard, or else the message of the first sender is taken, or else the thread waits among the receivers, with the reply
-/// object. Over a notification its pending word is heard, or else the thread waits on it; the reply object is not looked up.
-/// The refusals are 1 to 3 of the lookups, 4 for a capability of another kind, 5 where Read is missing, and 9 where the
-/// notification is bound to another thread; they change nothing (manual: Message Passing; Notifications).
-pub fn receive<W: Waiting>(
-    state: &mut State<W>,
-    core: CoreId,
-    thread: ObjId,
-    address: u64,
-    reply: u64,
-) -> Answer
-    requires entering { IsEntering (so_far state.old) thread }
-    requires stand { OpenStand (so_far state.old) }
-    requires room { Fits state.old core thread (Entry.Recv address reply) }
-    ensures { Does state.old core thread (Entry.Recv address reply) result state.new }
-{
-    receive_at(state, core, thread, address, Some(reply), true)
-}
-
-/// NBRecv: as Recv, but where no word is pending and nobody sends the answer is Empty. The reply object's present user is
-/// cancelled all the same (manual: Message Passing; own).
-pub fn nb_receive<W: Waiting>(
-    state: &mut State<W>,
-    core: CoreId,
-    thread: ObjId,
-    address: u64,
-    reply: u64,
-) -> Answer
-    requires entering { IsEntering (so_far state.old) thread }
-    requires stand { OpenStand (so_far state.old) }
-    requires room { Fits state.old core thread (Entry.NbRecv address reply) }
-    ensures { Does state.old core thread (Entry.NbRecv address reply) result state.new }
-{
-    receive_at(state, core, thread, address, Some(reply), false)
-}
-
-/// Wait: as Recv, without a reply object (manual: Message Passing).
-pub fn wait<W: Waiting>(state: &mut State<W>, core: CoreId, thread: ObjId, address: u64) -> Answer
-    requires entering { IsEntering (so_far state.old) thread }
-    requires stand { OpenStand (so_far state.old) }
-    requires room { Fits state.old core thread (Entry.Wait address) }
-    ensures { Does state.old core thread (Entry.Wait address) result state.new }
-{
-    receive_at(state, core, thread, address, None, true)
-}
-
-/// NBWait: as NBRecv, without a reply object (manual: Message Passing; own).
-pub fn nb_wait<W: Waiting>(
-    state: &mut State<W>,
-    core: CoreId,
-    thread: ObjId,
-    address: u64,
-) -> Answer
-    requires entering { IsEntering (so_far state.old) thread }
-    requires stand { OpenStand (so_far state.old) }
-    requires room { Fits state.old core thread (Entry.NbWait address) }
-    ensures { Does state.old core thread (Entry.NbWait address) result state.new }
-{
-    receive_at(state, core, thread, address, None, false)
 }
 
 /// ReplyRecv: the reply object is paid, and then the thread receives with it, as by Recv, or waits on a notification. All

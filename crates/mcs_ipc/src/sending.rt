@@ -132,8 +132,13 @@ fn send_signal<W: Waiting>(state: &mut State<W>, cap: Cap) -> Answer
     Answer::Done
 }
 
-/// Send where it blocks, and NBSend where not.
-fn send_at<W: Waiting>(
+/// Send where it blocks, and NBSend where not. Over an endpoint the first receiver takes the message; where nobody receives, the
+/// thread waits among the senders if it blocks, and otherwise the message is dropped, with no record and the same answer. Over a
+/// notification the message is left out, and the notification is signalled with the badge of the capability; over a reply
+/// object the caller that it owes is answered, if it owes one. The refusals are 1 to 3 of the lookup, 4 for a capability of
+/// another kind, and 5 where one to an endpoint or a notification lacks Write; they change nothing (manual: Message Passing;
+/// Notifications).
+pub fn send<W: Waiting>(
     state: &mut State<W>,
     core: CoreId,
     thread: ObjId,
@@ -162,47 +167,6 @@ fn send_at<W: Waiting>(
             }
         }
     }
-}
-
-/// Send: over an endpoint the first receiver takes the message, or else the thread waits among the senders; over a
-/// notification the message is left out, and the notification is signalled with the badge of the capability; over a reply
-/// object the caller that it owes is answered, if it owes one. The refusals are 1 to 3 of the lookup, 4 for a capability of
-/// another kind, and 5 where one to an endpoint or a notification lacks Write; they change nothing (manual: Message Passing;
-/// Notifications).
-pub fn send<W: Waiting>(
-    state: &mut State<W>,
-    core: CoreId,
-    thread: ObjId,
-    address: u64,
-    message: Message,
-) -> Answer
-    requires entering { IsEntering (so_far state.old) thread }
-    requires stand { OpenStand (so_far state.old) }
-    requires waiting { OnlyBoundWait (so_far state.old) }
-    requires few { length state.old.book.lines < BOOK_LINES }
-    requires room { Fits state.old core thread (Entry.Send address message) }
-    ensures { Does state.old core thread (Entry.Send address message) result state.new }
-{
-    send_at(state, core, thread, address, message, true)
-}
-
-/// NBSend: as Send, but where nobody receives the message is dropped, with no record and the same answer (manual: Message
-/// Passing).
-pub fn nb_send<W: Waiting>(
-    state: &mut State<W>,
-    core: CoreId,
-    thread: ObjId,
-    address: u64,
-    message: Message,
-) -> Answer
-    requires entering { IsEntering (so_far state.old) thread }
-    requires stand { OpenStand (so_far state.old) }
-    requires waiting { OnlyBoundWait (so_far state.old) }
-    requires few { length state.old.book.lines < BOOK_LINES }
-    requires room { Fits state.old core thread (Entry.NbSend address message) }
-    ensures { Does state.old core thread (Entry.NbSend address message) result state.new }
-{
-    send_at(state, core, thread, address, message, false)
 }
 
 /// Call: over an endpoint the first receiver takes the message, and its reply object owes the thread an answer, or else the

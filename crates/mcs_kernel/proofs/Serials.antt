@@ -1,6 +1,6 @@
 -- No book gives each serial of a kind: its boot makes at most 256 objects of it, and each line few.
 use Rattle.std.specs.Prelude.{ℕ, ◌≡◌, ◌<◌, ◌≤◌, ◌+◌, ◌*◌, Bool, true, false, cond, nat_lt, List, [], ◌∷◌, length, IsTrue, is_ok, Some, None}
-use Rattle.std.proofs.Common.{ap, subst, refl, ◌∙◌, arith}
+use Rattle.std.proofs.Common.{ap, subst, refl, arith}
 use Rattle.mcs_types.specs.declared.id.Kind.{Kind}
 use Rattle.mcs_types.specs.declared.id.Kind.TheVariants as kind
 use Rattle.mcs_types.specs.declared.boot.BootLine.{BootLine}

@@ -17,18 +17,12 @@ use crate::boot::{Boot, boot_state};
 use crate::fault::EnterFault;
 use mcs_book::Book;
 use mcs_cancel::{cancel_badged, resume, set_priority, suspend};
-use mcs_caps::{
-    copy_cap, delete_cap, make_context, make_endpoint, make_notification, make_reply, mint_cap,
-    move_cap,
-};
-use mcs_ipc::{
-    bind_context, call, nb_receive, nb_send, nb_wait, receive, reply_receive, send, unbind_context,
-    wait,
-};
+use mcs_caps::{copy_cap, delete_cap, make, mint_cap, move_cap};
+use mcs_ipc::{call, hold_context, receive, reply_receive, send};
 use mcs_notify::{bind, signal_at, unbind};
 use mcs_queues::Lines;
 use mcs_state::State;
-use mcs_types::{Answer, BOOK_LINES, CORES, CoreId, Entry, ObjId, OutOfMemory, Status, Step};
+use mcs_types::{Answer, BOOK_LINES, CORES, CoreId, Entry, Kind, ObjId, OutOfMemory, Status, Step};
 use mcs_waiting::{ObjectQueues, Waiting};
 use std::alloc::Global;
 use std::marker::Model;
@@ -62,13 +56,13 @@ fn operate<W: Waiting>(state: &mut State<W>, core: CoreId, thread: ObjId, entry:
     ensures { Does state.old core thread entry.now result state.new }
 {
     match entry {
-        Entry::Send { cap, message } => send(state, core, thread, *cap, message.copy()),
-        Entry::NbSend { cap, message } => nb_send(state, core, thread, *cap, message.copy()),
+        Entry::Send { cap, message } => send(state, core, thread, *cap, message.copy(), true),
+        Entry::NbSend { cap, message } => send(state, core, thread, *cap, message.copy(), false),
         Entry::Call { cap, message } => call(state, core, thread, *cap, message.copy()),
-        Entry::Recv { cap, reply } => receive(state, core, thread, *cap, *reply),
-        Entry::NbRecv { cap, reply } => nb_receive(state, core, thread, *cap, *reply),
-        Entry::Wait { cap } => wait(state, core, thread, *cap),
-        Entry::NbWait { cap } => nb_wait(state, core, thread, *cap),
+        Entry::Recv { cap, reply } => receive(state, core, thread, *cap, Some(*reply), true),
+        Entry::NbRecv { cap, reply } => receive(state, core, thread, *cap, Some(*reply), false),
+        Entry::Wait { cap } => receive(state, core, thread, *cap, None, true),
+        Entry::NbWait { cap } => receive(state, core, thread, *cap, None, false),
         Entry::ReplyRecv {
             cap,
             reply,
@@ -90,8 +84,8 @@ fn operate<W: Waiting>(state: &mut State<W>, core: CoreId, thread: ObjId, entry:
         Entry::BindCtx {
             context,
             thread: holder,
-        } => bind_context(state, core, thread, *context, *holder),
-        Entry::UnbindCtx { context } => unbind_context(state, core, thread, *context),
+        } => hold_context(state, core, thread, *context, Some(*holder)),
+        Entry::UnbindCtx { context } => hold_context(state, core, thread, *context, None),
         Entry::CancelBadged { endpoint } => cancel_badged(state, core, thread, *endpoint),
         Entry::CopyCap {
             source,
@@ -106,10 +100,10 @@ fn operate<W: Waiting>(state: &mut State<W>, core: CoreId, thread: ObjId, entry:
         } => mint_cap(state, core, thread, *source, *dest, *rights, *badge),
         Entry::MoveCap { source, dest } => move_cap(state, core, thread, *source, *dest),
         Entry::DeleteCap { place } => delete_cap(state, core, thread, *place),
-        Entry::MakeEndpoint { place } => make_endpoint(state, core, thread, *place),
-        Entry::MakeNotification { place } => make_notification(state, core, thread, *place),
-        Entry::MakeReply { place } => make_reply(state, core, thread, *place),
-        Entry::MakeContext { place } => make_context(state, core, thread, *place),
+        Entry::MakeEndpoint { place } => make(state, core, thread, Kind::Endpoint, *place),
+        Entry::MakeNotification { place } => make(state, core, thread, Kind::Notification, *place),
+        Entry::MakeReply { place } => make(state, core, thread, Kind::Reply, *place),
+        Entry::MakeContext { place } => make(state, core, thread, Kind::Context, *place),
     }
 }
 

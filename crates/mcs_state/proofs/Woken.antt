@@ -1,5 +1,5 @@
 -- What holds of a thread that enters, after it was woken.
-use Rattle.std.specs.Prelude.{◌≡◌, true}
+use Rattle.std.specs.Prelude.{◌≡◌, true, Some, None}
 use Rattle.std.proofs.Common.{refl}
 use Rattle.mcs_types.specs.declared.id.ObjId.{ObjId}
 use Rattle.mcs_types.specs.declared.id.Kind.{Kind}
@@ -9,8 +9,11 @@ use Rattle.mcs_book.specs.Logs.{Log, onto}
 use Rattle.mcs_book.specs.Objects.{is_alive}
 use Rattle.mcs_book.specs.Threads.{mode_of}
 use Rattle.mcs_book.specs.Table.{wakes}
-use Rattle.mcs_book.specs.Sound.{IsThere}
+use Rattle.mcs_book.specs.Sound.{Allowed, IsThere}
 use Rattle.mcs_types.proofs.Ids.{same-self}
+use Rattle.mcs_state.specs.Changing.{record_of}
+use Rattle.mcs_state.specs.declared.changing.Change.{Change}
+use Rattle.mcs_state.specs.declared.changing.Change.TheVariants as change
 use Rattle.mcs_state.specs.Entering.{IsEntering, IsActing, OpenStand, OnlyBoundWait}
 
 -- who was woken acts
@@ -37,6 +40,16 @@ woken-alive R t Inactive o h = h
 -- so is one of a kind
 pub woken-there : (R : Log) (t : ObjId) (m : Mode) (k : Kind) (o : ObjId) → IsThere R k o → IsThere (onto (wakes m t R) R) k o
 woken-there R t m k o there = (there.0, woken-alive R t m o there.1)
+
+-- what may be changed may be changed still
+pub woken-change : (R : Log) (t : ObjId) (m : Mode) (one : Change) → Allowed R (record_of one) → Allowed (onto (wakes m t R) R) (record_of one)
+woken-change R t Running one ok = ok
+woken-change R t Inactive one ok = ok
+woken-change R t Restart (change.Holds s None) ok = ok
+woken-change R t Restart (change.Holds s (Some x)) ok = ok
+woken-change R t Restart (change.Ties x None) ok = ok
+woken-change R t Restart (change.Ties x (Some n)) ok = ok
+woken-change R t Restart (change.Sets x p) ok = ok
 
 -- only bound threads wait still
 pub woken-wait : (R : Log) (t : ObjId) → OnlyBoundWait R → OnlyBoundWait (onto (wakes (mode_of R t) t R) R)

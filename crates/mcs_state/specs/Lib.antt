@@ -8,3 +8,4 @@ pub mod Picking
 pub mod Entering
 pub mod Doing
 pub mod Checks
+pub mod Changing

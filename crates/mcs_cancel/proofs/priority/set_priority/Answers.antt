@@ -6,8 +6,8 @@ use Rattle.mcs_state.proofs.Doing.{refused, did, room-did}
 use Rattle.mcs_cancel.proofs.Priorities.{sets, row-set}
 use Rattle.mcs_cancel.proofs.priority.set_priority.Goals as goal
 
-pub set-requires-clause-room : goal.set-requires-clause-room
-set-requires-clause-room g c =
+pub change_awake-requires-clause-room : goal.change_awake-requires-clause-room
+change_awake-requires-clause-room g c =
     let row = row-set (so_far c.args.state.now) c.args.core c.args.thread c.args.holder c.args.authority c.args.priority ∙ ap (λ m. act_of m (sets c.args.priority)) (sym c.thread_to_set.ensures.found ∙ c.in-Ok.is) in
     room-did c.args.state.now c.args.core c.args.thread (SetPriority c.args.holder c.args.authority c.args.priority) (sets c.args.priority c.in-Ok.holder) row c.requires.room
 
@@ -19,4 +19,4 @@ returns-in-Err g c =
 pub returns-in-Ok : goal.returns-in-Ok
 returns-in-Ok g c =
     let row = row-set (so_far c.args.state.now) c.args.core c.args.thread c.args.holder c.args.authority c.args.priority ∙ ap (λ m. act_of m (sets c.args.priority)) (sym c.thread_to_set.ensures.found ∙ c.in-Ok.is) in
-    did c.args.state.now c.set.new.state c.args.core c.args.thread (SetPriority c.args.holder c.args.authority c.args.priority) (sets c.args.priority c.in-Ok.holder) c.set.result row c.set.ensures
+    did c.args.state.now c.change_awake.new.state c.args.core c.args.thread (SetPriority c.args.holder c.args.authority c.args.priority) (sets c.args.priority c.in-Ok.holder) c.change_awake.result row c.change_awake.ensures

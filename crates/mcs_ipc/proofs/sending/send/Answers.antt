@@ -12,7 +12,7 @@ use Rattle.mcs_ipc.specs.Ready.{IsSending}
 use Rattle.mcs_ipc.specs.Rows.{send_entry, target_act}
 use Rattle.mcs_ipc.proofs.Facts.{target-there, woken-sends}
 use Rattle.mcs_ipc.proofs.Rows.{send-row}
-use Rattle.mcs_ipc.proofs.sending.send_at.Goals as goal
+use Rattle.mcs_ipc.proofs.sending.send.Goals as goal
 
 pub wake-requires-clause-room : goal.wake-requires-clause-room
 wake-requires-clause-room g c =

@@ -7,7 +7,7 @@ use Rattle.mcs_ipc.specs.Ready.{IsReceivingFrom}
 use Rattle.mcs_ipc.specs.Rows.{receive_entry, source_act}
 use Rattle.mcs_ipc.proofs.Rows.{receive-row}
 use Rattle.mcs_ipc.proofs.Sources.{source-there, woken-receives}
-use Rattle.mcs_ipc.proofs.receiving.receive_at.Goals as goal
+use Rattle.mcs_ipc.proofs.receiving.receive.Goals as goal
 
 pub wake-requires-clause-room : goal.wake-requires-clause-room
 wake-requires-clause-room g c =

@@ -1,0 +1,58 @@
+//! Entries that change one thing, by one record.
+ghost use Rattle.std.specs.Prelude.{◌≡◌, ◌<◌, length};
+ghost use Rattle.mcs_book.specs.Sound.{Allowed};
+ghost use Rattle.mcs_state.specs.Changing.{record_of, changes};
+ghost use Rattle.mcs_state.specs.Doing.{ActsAwake, FitsAwake};
+ghost use Rattle.mcs_state.specs.Entering.{IsEntering};
+ghost use Rattle.mcs_state.specs.Now.{so_far, adds};
+ghost use Rattle.mcs_state.specs.Tables.{HAND};
+
+use crate::state::State;
+use crate::waking::wake;
+use mcs_types::{Answer, ObjId, Prio};
+use mcs_waiting::Waiting;
+
+/// One thing that an entry changes: who holds a context, which notification is bound to a thread, or a thread's priority.
+#[derive(Clone, Copy)]
+pub enum Change {
+    Holds {
+        context: ObjId,
+        thread: Option<ObjId>,
+    },
+    Ties {
+        thread: ObjId,
+        notification: Option<ObjId>,
+    },
+    Sets {
+        thread: ObjId,
+        priority: Prio,
+    },
+}
+
+/// Changes one thing.
+fn make_change<W: Waiting>(state: &mut State<W>, change: Change)
+    requires allowed { Allowed (so_far state.old) (record_of change) }
+    requires room { length state.old.hand < HAND }
+    ensures { state.new ≡ adds (record_of change) state.old }
+{
+    match change {
+        Change::Holds { context, thread } => state.holds(context, thread),
+        Change::Ties {
+            thread,
+            notification,
+        } => state.ties(thread, notification),
+        Change::Sets { thread, priority } => state.prio(thread, priority),
+    }
+}
+
+/// Wakes the thread that enters, and changes one thing, which may be changed (own).
+pub fn change_awake<W: Waiting>(state: &mut State<W>, thread: ObjId, change: Change) -> Answer
+    requires entering { IsEntering (so_far state.old) thread }
+    requires allowed { Allowed (so_far state.old) (record_of change) }
+    requires room { FitsAwake thread (changes change) state.old }
+    ensures { ActsAwake thread (changes change) state.old result state.new }
+{
+    wake(state, thread);
+    make_change(state, change);
+    Answer::Done
+}
