@@ -42,6 +42,29 @@ fn release_endpoint<W: Waiting>(state: &mut State<W>, endpoint: ObjId)
     state.is_sound();
 }
 
+/// No thread is bound to a notification any more.
+fn free<W: Waiting>(state: &mut State<W>, notification: ObjId)
+    requires room { HasRoomFor (frees notification) state.old }
+    ensures made { Makes (frees notification) state.old state.new }
+    ensures unbound { IsUnbound (so_far state.new) notification }
+{
+    state.is_sound();
+    match state.tied_to(notification) {
+        None => {}
+        Some(thread) => state.ties(thread, None),
+    }
+}
+
+/// Nobody is left with a notification: its waiters restart, and no thread is bound to it.
+fn release_notification<W: Waiting>(state: &mut State<W>, notification: ObjId)
+    requires room { HasRoomFor (releases notification Kind.Notification) state.old }
+    ensures made { Makes (releases notification Kind.Notification) state.old state.new }
+    ensures released { IsReleased (so_far state.new) Kind.Notification notification }
+{
+    restart_all(state, Queue::Waiters(notification));
+    free(state, notification);
+}
+
 /// A thread is bound to no notification any more.
 fn untie<W: Waiting>(state: &mut State<W>, thread: ObjId)
     requires room { HasRoomFor (unties thread) state.old }
@@ -78,41 +101,6 @@ fn release_thread<W: Waiting>(state: &mut State<W>, thread: ObjId)
     cancel(state, thread, Mode::Inactive);
     untie(state, thread);
     let_go(state, thread);
-}
-
-/// Nobody is left with a context: its holder gives it up.
-fn release_context<W: Waiting>(state: &mut State<W>, context: ObjId)
-    requires room { HasRoomFor (releases context Kind.Context) state.old }
-    ensures made { Makes (releases context Kind.Context) state.old state.new }
-    ensures released { IsReleased (so_far state.new) Kind.Context context }
-{
-    match state.holder(context) {
-        None => {}
-        Some(_) => state.holds(context, None),
-    }
-}
-
-/// No thread is bound to a notification any more.
-fn free<W: Waiting>(state: &mut State<W>, notification: ObjId)
-    requires room { HasRoomFor (frees notification) state.old }
-    ensures made { Makes (frees notification) state.old state.new }
-    ensures unbound { IsUnbound (so_far state.new) notification }
-{
-    state.is_sound();
-    match state.tied_to(notification) {
-        None => {}
-        Some(thread) => state.ties(thread, None),
-    }
-}
-
-/// Nobody is left with a notification: its waiters restart, and no thread is bound to it.
-fn release_notification<W: Waiting>(state: &mut State<W>, notification: ObjId)
-    requires room { HasRoomFor (releases notification Kind.Notification) state.old }
-    ensures made { Makes (releases notification Kind.Notification) state.old state.new }
-    ensures released { IsReleased (so_far state.new) Kind.Notification notification }
-{
-    restart_all(state, Queue::Waiters(notification));
-    free(state, notification);
 }
 
 /// The thread that receives with a reply object, if one does, leaves its queue and is Inactive.
@@ -152,6 +140,18 @@ fn release_reply<W: Waiting>(state: &mut State<W>, reply: ObjId)
 {
     dismiss(state, reply);
     void_deleted(state, reply);
+}
+
+/// Nobody is left with a context: its holder gives it up.
+fn release_context<W: Waiting>(state: &mut State<W>, context: ObjId)
+    requires room { HasRoomFor (releases context Kind.Context) state.old }
+    ensures made { Makes (releases context Kind.Context) state.old state.new }
+    ensures released { IsReleased (so_far state.new) Kind.Context context }
+{
+    match state.holder(context) {
+        None => {}
+        Some(_) => state.holds(context, None),
+    }
 }
 
 /// Nobody is left with an object that is there.

@@ -84,28 +84,14 @@ impl Contexts {
         })
     }
 
-    /// Whether no context can be made: 256 are there, or each serial was given (own).
-    pub fn is_full(&self) -> bool
-        ensures { result ≡ no_room self.now }
+    /// What is kept of each context: how many were made and are there, and whether there is room for one more (own).
+    pub fn rows(&self) -> &Store<ContextRow>
+        ensures { result.now ≡ self.now.rows }
     {
-        self.rows.is_full()
+        &self.rows
     }
 
-    /// How many contexts were made; one that was closed counts still (own).
-    pub fn made(&self) -> u32
-        ensures { result ≡ (counts self.now).given }
-    {
-        self.rows.given()
-    }
-
-    /// How many contexts are there (own).
-    pub fn len(&self) -> usize
-        ensures { result ≡ (counts self.now).there }
-    {
-        self.rows.len()
-    }
-
-    /// Adds a context of a core where there is room, as `is_full` tells: its serial is the next, and nobody holds it (own).
+    /// Adds a context of a core where there is room, as `rows` tell: its serial is the next, and nobody holds it (own).
     pub fn add(&mut self, core: CoreId) -> ObjId
         requires { no_room self.old ≡ false }
         ensures id { result ≡ next_context self.old }

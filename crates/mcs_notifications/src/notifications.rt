@@ -67,20 +67,6 @@ impl Notifications {
         })
     }
 
-    /// Whether no notification can be made: 256 are there, or each serial was given (own).
-    pub fn is_full(&self) -> bool
-        ensures { result ≡ no_room self.now }
-    {
-        self.rows.is_full()
-    }
-
-    /// How many notifications were made; one that was closed counts still (own).
-    pub fn made(&self) -> u32
-        ensures { result ≡ (counts self.now).given }
-    {
-        self.rows.given()
-    }
-
     /// Adds a notification where there is room: its serial is the next, no word is pending, and it is bound to no thread (own).
     pub fn add(&mut self) -> ObjId
         requires { no_room self.old ≡ false }
@@ -88,8 +74,8 @@ impl Notifications {
         ensures counts { counts self.new ≡ one_more (counts self.old) }
         ensures there { ChangesAt (is_there self.old) (is_there self.new) result true }
         ensures quiet { word_in self.new result ≡ None }
-        ensures unbound { thread_in self.new result ≡ None }
         ensures words { (n : ObjId) → word_in self.new n ≡ word_in self.old n }
+        ensures unbound { thread_in self.new result ≡ None }
         ensures threads { (n : ObjId) → thread_in self.new n ≡ thread_in self.old n }
     {
         // A law for the proof: what is there was given, so the next serial is new.
@@ -111,6 +97,13 @@ impl Notifications {
         ensures threads { (n : ObjId) → thread_in self.new n ≡ thread_in self.old n }
     {
         self.rows.remove(notification);
+    }
+
+    /// What is kept of each notification: how many were made and are there, and whether there is room for one more (own).
+    pub fn rows(&self) -> &Store<NotificationRow>
+        ensures { result.now ≡ self.now.rows }
+    {
+        &self.rows
     }
 
     /// What is kept of a notification that is there.

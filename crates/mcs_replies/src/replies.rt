@@ -106,25 +106,11 @@ impl Replies {
         })
     }
 
-    /// Whether no reply object can be made: 256 are there, or each serial was given (own).
-    pub fn is_full(&self) -> bool
-        ensures { result ≡ no_room self.now }
+    /// What is kept of each reply object: how many were made and are there, and whether there is room for one more (own).
+    pub fn rows(&self) -> &Store<ReplyRow>
+        ensures { result.now ≡ self.now.rows }
     {
-        self.rows.is_full()
-    }
-
-    /// How many reply objects were made; one that was closed counts still (own).
-    pub fn made(&self) -> u32
-        ensures { result ≡ (counts self.now).given }
-    {
-        self.rows.given()
-    }
-
-    /// How many reply objects are there (own).
-    pub fn len(&self) -> usize
-        ensures { result ≡ (counts self.now).there }
-    {
-        self.rows.len()
+        &self.rows
     }
 
     /// Adds a reply object where there is room: its serial is the next, it owes nobody, and no receiver stands with it (own).
@@ -145,21 +131,6 @@ impl Replies {
             receiver: None,
             caller: None,
         })
-    }
-
-    /// Forgets a reply object that owes nobody and with which no receiver stands: its serial is never given again (manual:
-    /// Kernel Services and Objects).
-    pub fn close(&mut self, reply: ObjId)
-        requires there { is_there self.old reply ≡ true }
-        requires alone { receiver_in self.old reply ≡ None }
-        requires free { owed_in self.old reply ≡ None }
-        ensures counts { IsOneFewer (counts self.old) (counts self.new) }
-        ensures there { ChangesAt (is_there self.old) (is_there self.new) reply false }
-        ensures receivers { (r : ObjId) → receiver_in self.new r ≡ receiver_in self.old r }
-        ensures owed { (r : ObjId) → owed_in self.new r ≡ owed_in self.old r }
-        ensures chains { (s : ObjId) → chain_in self.new s ≡ chain_in self.old s }
-    {
-        self.rows.remove(reply);
     }
 
     /// Whether a reply object was made and not closed (own).
@@ -297,5 +268,20 @@ impl Replies {
         ensures receivers { (r : ObjId) → receiver_in self.new r ≡ receiver_in self.old r }
     {
         debts::clear(&mut self.debts, context);
+    }
+
+    /// Forgets a reply object that owes nobody and with which no receiver stands: its serial is never given again (manual:
+    /// Kernel Services and Objects).
+    pub fn close(&mut self, reply: ObjId)
+        requires there { is_there self.old reply ≡ true }
+        requires alone { receiver_in self.old reply ≡ None }
+        requires free { owed_in self.old reply ≡ None }
+        ensures counts { IsOneFewer (counts self.old) (counts self.new) }
+        ensures there { ChangesAt (is_there self.old) (is_there self.new) reply false }
+        ensures receivers { (r : ObjId) → receiver_in self.new r ≡ receiver_in self.old r }
+        ensures owed { (r : ObjId) → owed_in self.new r ≡ owed_in self.old r }
+        ensures chains { (s : ObjId) → chain_in self.new s ≡ chain_in self.old s }
+    {
+        self.rows.remove(reply);
     }
 }

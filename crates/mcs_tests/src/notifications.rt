@@ -18,7 +18,7 @@ fn thread(serial: u32) -> ObjId {
 
 /// Adds a notification where there is room.
 fn add(notifications: &mut Notifications) -> Option<ObjId> {
-    if notifications.is_full() {
+    if notifications.rows().is_full() {
         return None;
     }
     Some(notifications.add())
@@ -92,5 +92,5 @@ fn notifications_are_bound_and_closed(rt: HostRuntime) {
     assert!(rt; close(&mut notifications, notification(2)));
     assert_eq!(rt; notifications.word(notification(2)), None);
     assert_eq!(rt; add(&mut notifications), Some(notification(3)));
-    assert_eq!(rt; notifications.made(), 3);
+    assert_eq!(rt; notifications.rows().given(), 3);
 }

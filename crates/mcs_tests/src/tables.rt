@@ -126,7 +126,7 @@ fn threads_keep_their_mail_and_are_closed(rt: HostRuntime) {
 
 /// Adds a reply object where there is room.
 fn add(replies: &mut Replies) -> Option<ObjId> {
-    if replies.is_full() {
+    if replies.rows().is_full() {
         return None;
     }
     Some(replies.add())
@@ -231,7 +231,7 @@ fn reply_objects_are_made_and_closed(rt: HostRuntime) {
     let Ok(mut replies) = made else {
         return;
     };
-    assert_eq!(rt; replies.made(), 3);
+    assert_eq!(rt; replies.rows().given(), 3);
     replies.drop_chain(context(1));
     assert!(rt; is_chain(&replies, context(1), &[]));
     replies.are_chained();
@@ -247,7 +247,7 @@ fn reply_objects_are_made_and_closed(rt: HostRuntime) {
 
 /// Adds a context where there is room.
 fn add_context(contexts: &mut Contexts, core: CoreId) -> Option<ObjId> {
-    if contexts.is_full() {
+    if contexts.rows().is_full() {
         return None;
     }
     Some(contexts.add(core))
@@ -273,7 +273,7 @@ fn contexts_are_bound_lent_and_closed(rt: HostRuntime) {
     let beyond = object(Kind::Thread, 257);
     let a = object(Kind::Context, 1);
     assert_eq!(rt; add_context(&mut contexts, CoreId(3)), Some(a));
-    assert_eq!(rt; contexts.made(), 1);
+    assert_eq!(rt; contexts.rows().given(), 1);
     assert_eq!(rt; contexts.core(a), Some(CoreId(3)));
     let unmade = object(Kind::Context, 2);
     assert_eq!(rt; contexts.bind(unmade, t), Err(Refusal::Missing));
@@ -292,5 +292,5 @@ fn contexts_are_bound_lent_and_closed(rt: HostRuntime) {
     assert_eq!(rt; contexts.unbind(a), Err(Refusal::NotBound));
     assert!(rt; close_context(&mut contexts, a));
     assert_eq!(rt; contexts.core(a), None);
-    assert_eq!(rt; contexts.made(), 1);
+    assert_eq!(rt; contexts.rows().given(), 1);
 }

@@ -45,8 +45,8 @@ impl<W: Waiting> State<W> {
             }
             Kind::Thread => self.threads.made() as u32,
             Kind::Endpoint | Kind::Notification => self.queues.made(kind),
-            Kind::Reply => self.replies.made(),
-            Kind::Context => self.contexts.made(),
+            Kind::Reply => self.replies.rows().given(),
+            Kind::Context => self.contexts.rows().given(),
         }
     }
 
@@ -57,8 +57,8 @@ impl<W: Waiting> State<W> {
     {
         let count = match kind {
             Kind::Endpoint | Kind::Notification => self.queues.count(kind),
-            Kind::Reply => self.replies.len(),
-            Kind::Context => self.contexts.len(),
+            Kind::Reply => self.replies.rows().len(),
+            Kind::Context => self.contexts.rows().len(),
             Kind::CNode | Kind::Thread => unreachable!(),
         };
         count < OBJECTS as usize
