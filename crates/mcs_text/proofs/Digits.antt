@@ -1,11 +1,11 @@
--- The text of a number, digit by digit and eight digits at a time.
-use Rattle.std.proofs.Common.{◌≡◌, ℕ, zero, suc, ◌+◌, ◌-◌, ◌*◌, ◌/◌, ◌%◌, ◌^◌, ◌<◌, ◌≤◌, Bool, true, ◌&&◌, T, eqb, [], ◌∷◌, ◌++◌, get_or, refl, sym, append_assoc, eq-zero-or-pos, eqb→eq, inl, inr, arith}
+-- The text of a number, digit by digit.
+use Rattle.std.proofs.Common.{◌≡◌, ℕ, zero, suc, ◌+◌, ◌-◌, ◌*◌, ◌/◌, ◌%◌, ◌<◌, ◌≤◌, Bool, true, ◌&&◌, T, eqb, [], ◌∷◌, get_or, refl, sym, eq-zero-or-pos, eqb→eq, inl, inr, arith}
 use lib.Ieee.Fits.{and_l, and_r}
 use Rattle.std.specs.Fmt.{decimal}
 use Rattle.std.proofs.lemmas.Fmt.{decimal_digit}
-use Rattle.itoa.proofs.Decimal.{decimal_two, decimal_pair, decimal_four}
+use Rattle.itoa.proofs.Decimal.{decimal_two, decimal_pair}
 use Rattle.mcs_text.specs.declared.spelling.TheConstants.{PAIRS}
-use Rattle.mcs_text.specs.Spelling.{four, eight}
+use Rattle.mcs_text.specs.Spelling.{four}
 
 -- the table has the two digits of each number below p
 abbrev are_pairs : ℕ → Bool
@@ -23,13 +23,6 @@ below (suc n) p t h =
 -- both digits of a number below 100 stand in the table
 pub pair-at : (p : ℕ) → p < 100 → (get_or PAIRS (p * 2) 0 ≡ 48 + p / 10) × (get_or PAIRS (p * 2 + 1) 0 ≡ 48 + p % 10)
 pair-at p h = below 100 p tt h
-
-pub decimal_eight : (n : ℕ) → 100000000 ≤ n → n < 2 ^ 64 → decimal n ≡ decimal (n / 100000000) ++ eight (n % 100000000)
-decimal_eight n lo hi =
-    let a : n / 10000 / 10000 ≡ n / 100000000 = omega arith in
-    let b : n / 10000 % 10000 ≡ n % 100000000 / 10000 = omega arith in
-    let c : n % 100000000 % 10000 ≡ n % 10000 = omega arith in
-    rw (decimal_four n (omega arith) hi, decimal_four (n / 10000) (omega arith) (omega arith), append_assoc (decimal (n / 10000 / 10000)) _ _, a, b, c)
 
 -- the numbers below 10,000, digit by digit
 pub one_digit : (n : ℕ) → n < 10 → (48 + n / 1 % 10) ∷ [] ≡ decimal n

@@ -18,13 +18,6 @@ pub struct Threads {
     mails: Vec<Option<Mail>>,
 }
 
-// By hand, so that it is a function of its own: a derived drop would be proved anew wherever it is let go.
-impl Drop for Threads {
-    fn drop(self) {
-        let Threads { rows: _, mails: _ } = self;
-    }
-}
-
 impl Model for Threads {
     ghost use Rattle.std.specs.Prelude.{◌≡◌, ◌≤◌, vec_len, vec_capacity};
     ghost use Rattle.mcs_threads.specs.Tables.{Table};
@@ -34,6 +27,13 @@ impl Model for Threads {
     ghost view = { λ t. record { rows = t.rows.items; mails = t.mails.items } };
 
     ghost invariant = { λ t. (vec_len t.mails ≡ vec_len t.rows) × (vec_len t.rows ≤ 256) × (256 ≤ vec_capacity t.rows) × (256 ≤ vec_capacity t.mails) };
+}
+
+// By hand, so that it is a function of its own: a derived drop would be proved anew wherever it is let go.
+impl Drop for Threads {
+    fn drop(self) {
+        let Threads { rows: _, mails: _ } = self;
+    }
 }
 
 impl Threads {
