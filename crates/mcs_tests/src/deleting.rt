@@ -3,7 +3,7 @@ use crate::runs::{BOOT, TWO_LEVELS, TWO_ROOTS, run};
 use std::test::Fail;
 
 /// Boots, the steps behind them, and the traces of these steps.
-pub const DELETING: [(&str, &str, &str); 10] = [
+pub const DELETING: [(&str, &str, &str); 8] = [
     // A deleted endpoint drops its senders' messages, and they restart; the endpoint that is made in its slot has another serial
     // and no queue.
     (
@@ -121,96 +121,6 @@ pub const DELETING: [(&str, &str, &str); 10] = [
 + slot c2 1 -
 0 t1 delete 3 64
 = done
-",
-    ),
-    // A deleted context leaves its holder; one that a caller lent empties the chain on which it came.
-    (
-        BOOT,
-        "\
-0 t5 delete 25 64
-0 t2 recv 2 8
-0 t1 unbind 22
-0 t1 call 2 3 1
-0 t3 delete 21 64
-0 t3 bind 22 12
-0 t2 replyrecv 2 8 4
-0 t1 nbrecv 2 8
-",
-        "\
-0 t5 delete 25 64
-= done
-+ slot c1 25 -
-+ holds s5 -
-+ closed s5
-0 t2 recv 2 8
-= waits
-+ joins t2 e1.recv r1
-0 t1 unbind 22
-= done
-+ holds s2 -
-0 t1 call 2 3 1
-= waits
-+ sent m0 t1 e1 call 0 3 1
-+ took m0 t2
-+ parts t2 e1.recv
-+ owes r1 t1 s1
-+ holds s1 t2
-+ turns t2 running
-0 t3 delete 21 64
-= done
-+ slot c1 21 -
-+ holds s1 -
-+ closed s1
-0 t3 bind 22 12
-= done
-+ holds s2 t2
-0 t2 replyrecv 2 8 4
-= waits
-+ paid r1 t1 4
-+ turns t1 running
-+ joins t2 e1.recv r1
-",
-    ),
-    // A deleted reply object gives its caller the context back and leaves it inactive; one that nobody owes anything goes alone.
-    (
-        BOOT,
-        "\
-0 t2 recv 2 8
-0 t1 unbind 22
-0 t1 call 2 3 1
-0 t5 delete 8 64
-0 t2 nbrecv 2 9
-0 t5 delete 9 64
-0 t5 nbrecv 2 9
-",
-        "\
-0 t2 recv 2 8
-= waits
-+ joins t2 e1.recv r1
-0 t1 unbind 22
-= done
-+ holds s2 -
-0 t1 call 2 3 1
-= waits
-+ sent m0 t1 e1 call 0 3 1
-+ took m0 t2
-+ parts t2 e1.recv
-+ owes r1 t1 s1
-+ holds s1 t2
-+ turns t2 running
-0 t5 delete 8 64
-= done
-+ slot c1 8 -
-+ void r1 t1 deleted
-+ turns t1 inactive
-+ holds s1 t1
-+ closed r1
-0 t5 delete 9 64
-= done
-+ slot c1 9 -
-+ closed r2
-0 t5 nbrecv 2 9
-= refused 1
 ",
     ),
     // A deleted thread drops its message, leaves its queue, and gives up its context and its notification.

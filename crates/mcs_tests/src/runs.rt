@@ -1,7 +1,7 @@
 //! Scripts and their traces.
 use crate::cancelling::CANCELLING;
 use crate::deleting::DELETING;
-use crate::going_on::GOING_ON;
+use crate::going_on::add_going_on;
 use crate::streams::{Input, Output, pipe};
 use mcs_sim::SimFault;
 use mcs_text::LineFault;
@@ -139,7 +139,7 @@ pub const FIRST_TRACE: &str = "\
 ";
 
 /// A boot, steps after it, and what the trace has after it.
-pub const RUNS: [(&str, &str, &str); 27] = [
+pub const RUNS: [(&str, &str, &str); 23] = [
     (BOOT, FIRST_STEPS, FIRST_TRACE),
     // A receiver that waits for its message.
     (
@@ -484,146 +484,6 @@ pub const RUNS: [(&str, &str, &str); 27] = [
 + void r1 t1 cancelled
 + turns t1 inactive
 + joins t2 e1.recv r1
-",
-    ),
-    // A call lends its context to a server that holds none, and the answer brings it back.
-    (
-        BOOT,
-        "\
-0 t2 recv 2 8
-0 t1 unbind 22
-0 t1 call 2 3 1
-0 t2 replyrecv 2 8 4 2
-",
-        "\
-0 t2 recv 2 8
-= waits
-+ joins t2 e1.recv r1
-0 t1 unbind 22
-= done
-+ holds s2 -
-0 t1 call 2 3 1
-= waits
-+ sent m0 t1 e1 call 0 3 1
-+ took m0 t2
-+ parts t2 e1.recv
-+ owes r1 t1 s1
-+ holds s1 t2
-+ turns t2 running
-0 t2 replyrecv 2 8 4 2
-= waits
-+ paid r1 t1 4 2
-+ turns t1 running
-+ holds s1 t1
-+ joins t2 e1.recv r1
-",
-    ),
-    // A debt that is paid is paid once.
-    (
-        BOOT,
-        "\
-0 t2 recv 2 8
-0 t1 call 2 1
-0 t2 send 8 4
-0 t2 send 8 4
-",
-        "\
-0 t2 recv 2 8
-= waits
-+ joins t2 e1.recv r1
-0 t1 call 2 1
-= waits
-+ sent m0 t1 e1 call 0 1
-+ took m0 t2
-+ parts t2 e1.recv
-+ owes r1 t1 -
-+ turns t2 running
-0 t2 send 8 4
-= done
-+ paid r1 t1 4
-+ turns t1 running
-0 t2 send 8 4
-= done
-",
-    ),
-    // A reply and receive over a capability of another kind, or one without Read, is refused before anything is paid;
-    // so is one with no reply object.
-    (
-        BOOT,
-        "\
-0 t2 recv 2 8
-0 t1 call 2 1
-0 t2 replyrecv 11 8 4
-0 t2 replyrecv 1 8 4
-0 t2 replyrecv 2 11 4
-0 t2 send 8 4
-",
-        "\
-0 t2 recv 2 8
-= waits
-+ joins t2 e1.recv r1
-0 t1 call 2 1
-= waits
-+ sent m0 t1 e1 call 0 1
-+ took m0 t2
-+ parts t2 e1.recv
-+ owes r1 t1 -
-+ turns t2 running
-0 t2 replyrecv 11 8 4
-= refused 4
-0 t2 replyrecv 1 8 4
-= refused 5
-0 t2 replyrecv 2 11 4
-= refused 4
-0 t2 send 8 4
-= done
-+ paid r1 t1 4
-+ turns t1 running
-",
-    ),
-    // A context that came along a chain is bound to nobody while the chain is not empty.
-    (
-        BOOT,
-        "\
-0 t2 recv 2 8
-0 t5 unbind 22
-0 t1 call 2 1
-0 t5 unbind 21
-0 t5 bind 21 11
-0 t5 bind 22 12
-0 t2 send 8 4
-0 t5 bind 21 11
-",
-        "\
-0 t2 recv 2 8
-= waits
-+ joins t2 e1.recv r1
-0 t5 unbind 22
-= done
-+ holds s2 -
-0 t1 call 2 1
-= waits
-+ sent m0 t1 e1 call 0 1
-+ took m0 t2
-+ parts t2 e1.recv
-+ owes r1 t1 s1
-+ holds s1 t2
-+ turns t2 running
-0 t5 unbind 21
-= done
-+ holds s1 -
-0 t5 bind 21 11
-= refused 9
-0 t5 bind 22 12
-= done
-+ holds s2 t2
-0 t2 send 8 4
-= done
-+ paid r1 t1 4
-+ turns t1 running
-+ holds s1 t1
-0 t5 bind 21 11
-= refused 9
 ",
     ),
     // A call that waits is taken by a receive; without a reply object its caller becomes inactive.
@@ -1012,10 +872,7 @@ pub fn scripts(alloc: Global) -> Result<Vec<(String, String)>, Fail> {
         let script = format!(in alloc; "{boot}{steps}")?;
         all.push((script, format!(in alloc; "{boot}{trace}")?))?;
     }
-    for ((begun, told), steps, trace) in GOING_ON {
-        let script = format!(in alloc; "{BOOT}{begun}{steps}")?;
-        all.push((script, format!(in alloc; "{BOOT}{told}{trace}")?))?;
-    }
+    add_going_on(alloc, &mut all)?;
     Ok(all)
 }
 

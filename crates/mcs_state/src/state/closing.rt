@@ -30,9 +30,6 @@ impl<W: Waiting> State<W> {
     {
         note(&mut self.hand, Rec::Closed { object });
         match object.kind {
-            Kind::Thread => {
-                self.threads.close(object);
-            }
             Kind::Endpoint => self.queues.close(object),
             Kind::Notification => {
                 self.queues.close(object);
@@ -42,6 +39,9 @@ impl<W: Waiting> State<W> {
             Kind::Context => {
                 self.contexts.close(object);
                 self.replies.drop_chain(object);
+            }
+            Kind::Thread => {
+                self.threads.close(object);
             }
             // A CNode stays as long as the state.
             Kind::CNode => unreachable!(),

@@ -10,42 +10,23 @@ use Rattle.mcs_state.proofs.ThreadLaws.{thread-there}
 use Rattle.mcs_state.proofs.Following.{follows, follows-closed, inside, inside-room}
 use Rattle.mcs_state.proofs.state.State.closes.Goals as goal
 
-pub invariant_of-self : goal.invariant_of-self
-invariant_of-self g c =
-    let ok = inside (rec.Closed c.args.object) c.self.view_is c.requires.allowed in
-    let there = thread-there _ c.self.inside.threads c.args.object c.self.invariant.1.sound c.self.invariant.1.threads (c.in-Thread.is, ok.0) in
-    let close = c.close.ensures in (
-      omega (arith, c.self.invariant.0, c.note.ensures.capacity),
-      follows (rec.Closed c.args.object) _ _ _ _ _ _ c.note.ensures.items (inside-room c.self.view_is c.requires.room) ok
-          (follows-closed _ c.args.object kind.Thread _ _ c.in-Thread.is (record {
-            threads = record { made = close.made; rows = close.rows; mails = close.mails there };
-            letters = refl;
-            contexts = refl;
-            queues = refl;
-            replies = refl;
-            notifications = refl;
-            slots = refl;
-            sent = refl;
-          })) c.self.invariant.1,
-    )
+pub close-requires-clause-queued : goal.close-requires-clause-queued
+close-requires-clause-queued g c = ap has_queues c.in-Endpoint.is
 
-pub close-requires-in-Endpoint-clause-queued : goal.close-requires-in-Endpoint-clause-queued
-close-requires-in-Endpoint-clause-queued g c = ap has_queues c.in-Endpoint.is
-
-pub close-requires-in-Endpoint-clause-there : goal.close-requires-in-Endpoint-clause-there
-close-requires-in-Endpoint-clause-there g c =
+pub close-requires-clause-there : goal.close-requires-clause-there
+close-requires-clause-there g c =
     let ok = inside (rec.Closed c.args.object) c.self.view_is c.requires.allowed in
     closing-queues _ _ c.args.object ok c.self.invariant.1.queues
 
-pub close-requires-in-Endpoint-clause-empty : goal.close-requires-in-Endpoint-clause-empty
-close-requires-in-Endpoint-clause-empty g c =
+pub close-requires-clause-empty : goal.close-requires-clause-empty
+close-requires-clause-empty g c =
     let ok = inside (rec.Closed c.args.object) c.self.view_is c.requires.allowed in
     closing-empty _ _ c.args.object c.self.invariant.1.sound ok c.self.invariant.1.queues
 
-pub invariant_of-self-in-Endpoint : goal.invariant_of-self-in-Endpoint
-invariant_of-self-in-Endpoint g c =
+pub invariant_of-self : goal.invariant_of-self
+invariant_of-self g c =
     let ok = inside (rec.Closed c.args.object) c.self.view_is c.requires.allowed in
-    let close = c.close-in-Endpoint.ensures in (
+    let close = c.close.ensures in (
       omega (arith, c.self.invariant.0, c.note.ensures.capacity),
       follows (rec.Closed c.args.object) _ _ _ _ _ _ c.note.ensures.items (inside-room c.self.view_is c.requires.room) ok
           (follows-closed _ c.args.object kind.Endpoint _ _ c.in-Endpoint.is (record {
@@ -157,6 +138,25 @@ invariant_of-self-in-Context g c =
             contexts = record { counts = close.counts; cores = close.cores; holders = close.holders };
             queues = refl;
             replies = record { same = record { objects = record { counts = chain.counts; there = chain.there }; receivers = chain.receivers }; owed = chain.owed; chains = chain.chains };
+            notifications = refl;
+            slots = refl;
+            sent = refl;
+          })) c.self.invariant.1,
+    )
+
+pub invariant_of-self-in-Thread : goal.invariant_of-self-in-Thread
+invariant_of-self-in-Thread g c =
+    let ok = inside (rec.Closed c.args.object) c.self.view_is c.requires.allowed in
+    let there = thread-there _ c.self.inside.threads c.args.object c.self.invariant.1.sound c.self.invariant.1.threads (c.in-Thread.is, ok.0) in
+    let close = c.close-in-Thread.ensures in (
+      omega (arith, c.self.invariant.0, c.note.ensures.capacity),
+      follows (rec.Closed c.args.object) _ _ _ _ _ _ c.note.ensures.items (inside-room c.self.view_is c.requires.room) ok
+          (follows-closed _ c.args.object kind.Thread _ _ c.in-Thread.is (record {
+            threads = record { made = close.made; rows = close.rows; mails = close.mails there };
+            letters = refl;
+            contexts = refl;
+            queues = refl;
+            replies = refl;
             notifications = refl;
             slots = refl;
             sent = refl;
