@@ -40,7 +40,7 @@ const UNBOUND: Part = (
 ",
 );
 
-/// The client's call lends it one.
+/// The client's call lends it the client's context.
 const LENT: Part = (
     "0 t1 call 2 1\n",
     "\
@@ -55,7 +55,7 @@ const LENT: Part = (
 ",
 );
 
-/// So does a call of two words.
+/// The server holds no context, and a call of two words lends it the client's.
 const LONG: Part = (
     "\
 0 t1 unbind 22
@@ -76,7 +76,7 @@ const LONG: Part = (
 ",
 );
 
-/// A second server, and neither holds a context.
+/// A second server stands receiving, and neither holds a context.
 const SECOND: Part = (
     "\
 0 t3 recv 3 9
@@ -558,7 +558,9 @@ impl Growing {
     fn reach(&mut self, alloc: Global, receiver: u32, label: u32, number: u32) -> Result<(), Fail> {
         let step = format!(in alloc; "0 t5 nbsend 1 {label}\n")?;
         let sent = format!(in alloc; "= done\n+ sent m{number} t5 e1 send 9 {label}\n")?;
-        let took = format!(in alloc; "+ took m{number} t{receiver}\n+ parts t{receiver} e1.recv\n")?;
+        let took = format!(in alloc;
+            "+ took m{number} t{receiver}\n+ parts t{receiver} e1.recv\n"
+        )?;
         let runs = format!(in alloc; "{took}+ turns t{receiver} running\n")?;
         self.answer(step.as_str(), sent.as_str(), runs.as_str())
     }
@@ -633,7 +635,13 @@ pub fn add_going_on(alloc: Global, all: &mut Vec<(String, String)>) -> Result<()
     let two = [(1, 1, 9, 1, 0), (3, 2, 0, 2, 1)];
     add_cancelled(alloc, all, &[MINTED], &two, RESTARTED)?;
     let three = [(1, 1, 9, 1, 0), (2, 1, 9, 2, 1), (3, 2, 0, 3, 2)];
-    add_cancelled(alloc, all, &[MINTED, MINTED_ELSEWHERE], &three, RESTARTED_IN_ORDER)?;
+    add_cancelled(
+        alloc,
+        all,
+        &[MINTED, MINTED_ELSEWHERE],
+        &three,
+        RESTARTED_IN_ORDER,
+    )?;
     add_received(alloc, all)?;
     add_reached(alloc, all)
 }
