@@ -1,8 +1,8 @@
 //! Five cores of which one is held at a pick.
 use crate::boots::{five_threads, send, thread};
 use crate::runs::{is_line, run_users};
-use mcs_cores::{Gate, Users};
 use mcs_book::Book;
+use mcs_cores::{Gate, Users};
 use mcs_kernel::{Boot, replay};
 use mcs_queues::PlainLines;
 use mcs_types::{CoreId, Entry, ObjId, Step};

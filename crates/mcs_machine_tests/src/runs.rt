@@ -2,8 +2,8 @@
 ghost use Rattle.std.specs.Prelude.{◌≡◌};
 
 use crate::boots::thread;
-use mcs_cores::{CoreSeat, Gate, Machine, Outcome, SeatsFault, Settled, Users};
 use mcs_book::{Book, Line};
+use mcs_cores::{CoreSeat, Gate, Machine, Outcome, SeatsFault, Settled, Users};
 use mcs_kernel::{Boot, EnterFault, Kernel};
 use mcs_queues::PlainLines;
 use mcs_seats::{is_same_answer, is_same_entry};

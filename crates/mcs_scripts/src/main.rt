@@ -4,6 +4,8 @@
 //! and wants the same traces.
 #![tactic(auto)]
 
+ghost use Rattle.std.specs.Prelude.{◌≤◌, length};
+
 mod calls;
 mod scripts;
 
@@ -38,7 +40,9 @@ fn read_scripts(rt: &HostRuntime) -> Result<Vec<u8>, ReadFault> {
 }
 
 /// How many bytes of a text are its first line, with the newline, where it names a script.
-fn name_length(text: &[u8]) -> usize {
+fn name_length(text: &[u8]) -> usize
+    ensures { result ≤ length text.now }
+{
     if !text.starts_with(NAME) {
         return 0;
     }
@@ -49,7 +53,9 @@ fn name_length(text: &[u8]) -> usize {
 }
 
 /// How many bytes stand before the next name of a script.
-fn script_length(text: &[u8]) -> usize {
+fn script_length(text: &[u8]) -> usize
+    ensures { result ≤ length text.now }
+{
     match text.windows(2).position(|bytes| bytes == NAME) {
         None => text.len(),
         Some(start) => start,
@@ -77,7 +83,11 @@ fn write_given(rt: &HostRuntime, name: &[u8], script: &[u8]) -> io::Result<()> {
 /// Writes what each script of a text gives, behind its name.
 fn write_all(rt: &HostRuntime, text: &[u8]) -> io::Result<()> {
     let mut rest = text;
-    while !rest.is_empty() {
+    // Each turn takes a byte at least.
+    for _ in 0..text.len() {
+        if rest.is_empty() {
+            break;
+        }
         let (name, behind) = rest.split_at(name_length(rest));
         let (script, others) = behind.split_at(script_length(behind));
         write_given(rt, name, script)?;

@@ -40,12 +40,7 @@ fn replayed(alloc: Global, script: &[u8]) -> Result<Told, OutOfMemory> {
 }
 
 /// Feeds a script in pieces of so many bytes.
-fn feed(
-    alloc: Global,
-    run: &mut ReplayRun,
-    script: &[u8],
-    piece: usize,
-) -> Result<(), SimFault> {
+fn feed(alloc: Global, run: &mut ReplayRun, script: &[u8], piece: usize) -> Result<(), SimFault> {
     let mut rest = script;
     while !rest.is_empty() {
         let count = piece.max(1).min(rest.len());
@@ -66,27 +61,32 @@ fn fed(alloc: Global, script: &[u8], piece: usize) -> Result<Told, OutOfMemory> 
     given(text, result)
 }
 
-/// Does it once more where memory was refused.
-fn again<F: Fn() -> Result<Told, OutOfMemory>>(give: F) -> Result<Told, OutOfMemory> {
-    match give() {
-        Ok(given) => Ok(given),
-        Err(OutOfMemory) => give(),
+/// What it gives as a whole, asked once more where memory was refused.
+fn replayed_again(alloc: Global, script: &[u8]) -> Result<Told, OutOfMemory> {
+    match replayed(alloc, script) {
+        Ok(told) => Ok(told),
+        Err(OutOfMemory) => replayed(alloc, script),
+    }
+}
+
+/// What it gives in pieces, asked once more where memory was refused.
+fn fed_again(alloc: Global, script: &[u8], piece: usize) -> Result<Told, OutOfMemory> {
+    match fed(alloc, script, piece) {
+        Ok(told) => Ok(told),
+        Err(OutOfMemory) => fed(alloc, script, piece),
     }
 }
 
 /// What a script gives, and what is wrong with it, if anything is: in pieces of a byte, of seven bytes or of all it gives something
 /// else, or its trace does not give itself.
-pub fn given_by(
-    alloc: Global,
-    script: &[u8],
-) -> Result<(Told, Option<&'static str>), OutOfMemory> {
-    let whole = again(|| replayed(alloc, script))?;
+pub fn given_by(alloc: Global, script: &[u8]) -> Result<(Told, Option<&'static str>), OutOfMemory> {
+    let whole = replayed_again(alloc, script)?;
     for piece in [1, 7, usize::MAX] {
-        if !again(|| fed(alloc, script, piece))?.is_same(&whole) {
+        if !fed_again(alloc, script, piece)?.is_same(&whole) {
             return Ok((whole, Some("in pieces it gives something else")));
         }
     }
-    if whole.fault.is_none() && !again(|| replayed(alloc, &whole.trace))?.is_same(&whole) {
+    if whole.fault.is_none() && !replayed_again(alloc, &whole.trace)?.is_same(&whole) {
         return Ok((whole, Some("its trace does not give itself")));
     }
     Ok((whole, None))
