@@ -1,5 +1,5 @@
 //! The first example by calls of the kernel, and then the scripts of standard input: what each gives is written, and that it gives
-//! the same in pieces, and its trace itself, is tested. A line that begins with `#!` names the script behind it. A call that memory
+//! the same in pieces, and its trace itself, is tested. `#!` begins the name of the script behind its line. A call that memory
 //! was refused to is given once more. A plain run is refused nothing; `tests/each-allocation.sh` has each allocation refused in turn,
 //! and wants the same traces.
 #![tactic(auto)]
