@@ -1,5 +1,5 @@
 //! Scripts that are fed piece by piece.
-use crate::runs::BOOT;
+use crate::runs::{BOOT, run};
 use crate::streams::Output;
 use mcs_sim::{ReplayRun, SimFault, Sink, Source, simulate, trace};
 use mcs_text::LineFault;
@@ -48,6 +48,9 @@ fn a_line_that_is_cut_is_told(rt: HostRuntime) -> Result<(), Fail> {
         assert_eq!(rt; result, Err(fault));
         assert_eq!(rt; told.as_slice(), want.as_bytes());
     }
+    let (result, told) = run(rt.alloc(), script.as_bytes())?;
+    assert_eq!(rt; result, Err(fault));
+    assert_eq!(rt; told.as_slice(), want.as_bytes());
     Ok(())
 }
 
