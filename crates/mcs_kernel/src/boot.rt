@@ -11,7 +11,7 @@ mod checks;
 mod taking;
 
 use checks::{check, exists_as};
-use mcs_queues::PlainLines;
+use mcs_queues::LinkedLines;
 use mcs_state::State;
 use mcs_types::{BootFault, BootLine, CORES, Kind, ObjId, OutOfMemory};
 use mcs_waiting::{ObjectQueues, Waiting};
@@ -23,7 +23,7 @@ use taking::takes_line;
 /// first.
 #[derive(Drop)]
 pub struct Boot {
-    state: State<ObjectQueues<PlainLines>>,
+    state: State<ObjectQueues<LinkedLines>>,
 }
 
 impl Model for Boot {

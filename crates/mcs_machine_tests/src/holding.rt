@@ -4,7 +4,7 @@ use crate::runs::{is_line, run_users};
 use mcs_book::Book;
 use mcs_cores::{Gate, Users};
 use mcs_kernel::{Boot, replay};
-use mcs_queues::PlainLines;
+use mcs_queues::LinkedLines;
 use mcs_types::{CoreId, Entry, ObjId, Step};
 use std::alloc::Global;
 use std::hint::spin_loop;
@@ -64,7 +64,7 @@ fn is_replayed(alloc: Global, boot: Boot, book: &Book) -> Result<bool, Fail> {
         let line = book.line(i).ok_or("a line of the book")?;
         steps.push(line.step())?;
     }
-    let kernel = replay::<PlainLines>(alloc, boot, &steps)?;
+    let kernel = replay::<LinkedLines>(alloc, boot, &steps)?;
     if kernel.book().lines() != book.lines() {
         return Ok(false);
     }

@@ -5,7 +5,7 @@ use crate::boots::thread;
 use mcs_book::{Book, Line};
 use mcs_cores::{CoreSeat, Gate, Machine, Outcome, SeatsFault, Settled, Users};
 use mcs_kernel::{Boot, EnterFault, Kernel};
-use mcs_queues::PlainLines;
+use mcs_queues::LinkedLines;
 use mcs_seats::{is_same_answer, is_same_entry};
 use mcs_types::{Answer, CORES, CoreId, Entry, ObjId};
 use std::alloc::Global;
@@ -27,7 +27,7 @@ pub struct TurnedAway {
 /// A run that ended well and was settled.
 #[derive(Drop)]
 pub struct Ran {
-    pub settled: Settled<PlainLines>,
+    pub settled: Settled<LinkedLines>,
     pub away: Vec<TurnedAway>,
 }
 
@@ -62,8 +62,8 @@ fn settle_run<G: Ledger + Send + Sync, R: Threads + Wait + Sync, T: Gate>(
     requires parts { blank.parts ≡ G.parts }
     requires sixteen { blank.parts ≡ CORES }
 {
-    let kernel: Kernel<PlainLines> = Kernel::new(alloc, boot)?;
-    let mut machine = Machine::<G, PlainLines>::new(kernel, blank);
+    let kernel: Kernel<LinkedLines> = Kernel::new(alloc, boot)?;
+    let mut machine = Machine::<G, LinkedLines>::new(kernel, blank);
     let Ok(seats) = machine.seats(rt, alloc) else {
         return Err(Fail::from("seats are given"));
     };

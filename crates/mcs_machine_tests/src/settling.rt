@@ -5,7 +5,7 @@ use crate::boots::{message, one_core, thread, two_cores};
 use crate::runs::has_lines;
 use mcs_cores::{CoreSeat, FinishFault, Machine, Settled};
 use mcs_kernel::{Boot, Kernel};
-use mcs_queues::PlainLines;
+use mcs_queues::LinkedLines;
 use mcs_seats::is_same_answer;
 use mcs_types::{Answer, Badge, CORES, Entry, Mail};
 use std::alloc::Global;
@@ -34,7 +34,7 @@ fn exchange() -> Result<[(u8, u32, Entry, Answer); 2], Fail> {
 fn enter_exchange<G: Ledger, R: Wait>(
     rt: &R,
     alloc: Global,
-    machine: &Machine<G, PlainLines>,
+    machine: &Machine<G, LinkedLines>,
     seat: &mut CoreSeat<G>,
 ) -> Result<(), Fail> {
     for (i, (_, serial, entry, answer)) in exchange()?.iter().enumerate() {
@@ -53,14 +53,14 @@ fn finish_exchange<G: Ledger, R: Wait>(
     blank: Blank,
     boot: &Boot,
     kept_back: bool,
-) -> Result<Result<Settled<PlainLines>, FinishFault>, Fail>
+) -> Result<Result<Settled<LinkedLines>, FinishFault>, Fail>
     requires name { blank.name ≡ G.name }
     requires parts { blank.parts ≡ G.parts }
     requires sixteen { blank.parts ≡ CORES }
 {
     let begun = one_core(alloc)?;
-    let kernel: Kernel<PlainLines> = Kernel::new(alloc, &begun)?;
-    let mut machine = Machine::<G, PlainLines>::new(kernel, blank);
+    let kernel: Kernel<LinkedLines> = Kernel::new(alloc, &begun)?;
+    let mut machine = Machine::<G, LinkedLines>::new(kernel, blank);
     let Ok(mut seats) = machine.seats(rt, alloc) else {
         return Err(Fail::from("seats are given"));
     };
@@ -80,7 +80,7 @@ fn finished<R: Wait>(
     alloc: Global,
     boot: &Boot,
     kept_back: bool,
-) -> Result<Result<Settled<PlainLines>, FinishFault>, Fail> {
+) -> Result<Result<Settled<LinkedLines>, FinishFault>, Fail> {
     finish_exchange::<Brand, R>(rt, alloc, Blank::new(16), boot, kept_back)
 }
 

@@ -1,1 +1,7 @@
+pub mod ChangeLaws
+pub mod LinkLaws
+pub mod LinkSteps
+pub mod NeighbourLaws
+pub mod Relinking
 pub mod RowLaws
+pub mod WalkLaws

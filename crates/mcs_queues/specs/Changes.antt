@@ -1,5 +1,5 @@
 -- How lines change: who may join one, and what the lines and the places of threads are then.
-use Rattle.std.specs.Prelude.{ℕ, ◌≡◌, ◌==◌, ◌&&◌, nat_lt, Bool, cond, List, Option, Some, is_none}
+use Rattle.std.specs.Prelude.{ℕ, ◌≡◌, ◌==◌, ◌&&◌, nat_lt, Bool, cond, List, Option, Some, None, is_none}
 use Rattle.mcs_types.specs.declared.id.Prio.{Prio}
 use Rattle.mcs_types.specs.Waiters.{Waiter, insert_behind, without, stands_in, is_place, IsPut}
 use Rattle.mcs_queues.specs.declared.lines.ThreadNo.{ThreadNo}
@@ -24,6 +24,10 @@ JoinsLine old new joins w q = (k : ℕ) → new k ≡ cond (joins && (q == k)) (
 -- the places after that
 abbrev pub JoinsPlace : (ℕ → Option ℕ) → (ℕ → Option ℕ) → Bool → ℕ → ℕ → Type 0
 JoinsPlace old new joins t q = (u : ℕ) → new u ≡ cond (joins && (t == u)) (Some q) (old u)
+
+-- the places after a thread left its line
+abbrev pub LeavesPlace : (ℕ → Option ℕ) → (ℕ → Option ℕ) → ℕ → Type 0
+LeavesPlace old new t = (u : ℕ) → new u ≡ cond (t == u) None (old u)
 
 -- the lines after a thread went behind all of its priority in its own, if it stands in one
 abbrev pub ShiftsLine : (ℕ → List Waiter) → (ℕ → List Waiter) → (ℕ → Option ℕ) → Waiter → Type 0

@@ -1,3 +1,6 @@
 pub mod Changes
+pub mod Linked
+pub mod Links
+pub mod Neighbours
 pub mod Numbers
 pub mod Rows

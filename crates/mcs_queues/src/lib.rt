@@ -2,7 +2,11 @@
 #![tactic(auto)]
 
 mod lines;
+mod linked;
 mod plain;
+mod slots;
 
 pub use lines::{LineNo, Lines, ThreadNo};
+pub use linked::LinkedLines;
 pub use plain::PlainLines;
+pub use slots::Steps;

@@ -1,6 +1,6 @@
-ghost use Rattle.std.specs.Prelude.{◌≡◌, ℕ, ◌==◌, List, [], IfOk, Option, is_some, None, if◌then◌else◌, true};
+ghost use Rattle.std.specs.Prelude.{◌≡◌, ℕ, List, [], IfOk, Option, is_some, None, true};
 ghost use Rattle.mcs_types.specs.Waiters.{Waiter, without, first_waiter, behind_in, NeverRises, IsPut};
-ghost use Rattle.mcs_queues.specs.Changes.{Rooms, waiter, may_join, JoinsLine, JoinsPlace, ShiftsLine, IsPutAnew, StandsAtPlace};
+ghost use Rattle.mcs_queues.specs.Changes.{Rooms, waiter, may_join, JoinsLine, JoinsPlace, LeavesPlace, ShiftsLine, IsPutAnew, StandsAtPlace};
 ghost use Rattle.mcs_queues.specs.Numbers.{thread_number, line_number};
 
 use mcs_types::{OutOfMemory, Prio};
@@ -58,7 +58,7 @@ pub trait Lines: Sized + Drop {
     fn part(&mut self, t: ThreadNo) -> Option<LineNo>
         ensures answer { line_number result ≡ place self.old t.0 }
         ensures line { (k : ℕ) → line self.new k ≡ without t.0 (line self.old k) }
-        ensures place { (u : ℕ) → place self.new u ≡ (if t.0 == u then None else place self.old u) }
+        ensures place { LeavesPlace (place self.old) (place self.new) t.0 }
         ensures rooms { rooms self.new ≡ rooms self.old };
 
     /// Gives thread `t` the priority `p` in its line: it goes behind all of that priority, even where it had that priority

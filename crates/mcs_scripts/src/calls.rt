@@ -2,7 +2,7 @@
 
 use mcs_book::Book;
 use mcs_kernel::{Boot, EnterFault, Kernel};
-use mcs_queues::PlainLines;
+use mcs_queues::LinkedLines;
 use mcs_sim::{SimFault, Sink, trace};
 use mcs_types::{
     Badge, BootFault, BootLine, Cap, CoreId, Entry, Guard, Kind, Message, ObjId, Prio, Rights,
@@ -129,7 +129,7 @@ fn booted(rt: &HostRuntime) -> Result<Boot, Failed> {
 }
 
 /// Sends from the first thread, once more where memory was refused; a refusal adds no line.
-fn send(rt: &HostRuntime, kernel: &mut Kernel<PlainLines>) -> Result<(), Failed> {
+fn send(rt: &HostRuntime, kernel: &mut Kernel<LinkedLines>) -> Result<(), Failed> {
     let message = Message::new(7, &[5, 6]).ok_or(Failed)?;
     let sender = object(Kind::Thread, 1);
     let before = kernel.book().lines();
@@ -149,7 +149,7 @@ fn send(rt: &HostRuntime, kernel: &mut Kernel<PlainLines>) -> Result<(), Failed>
 }
 
 /// Receives in the second thread, once more where memory was refused; a refusal adds no line.
-fn receive(rt: &HostRuntime, kernel: &mut Kernel<PlainLines>) -> Result<(), Failed> {
+fn receive(rt: &HostRuntime, kernel: &mut Kernel<LinkedLines>) -> Result<(), Failed> {
     let receiver = object(Kind::Thread, 2);
     let before = kernel.book().lines();
     let entry = Entry::Recv { cap: 2, reply: 8 };

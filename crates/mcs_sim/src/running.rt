@@ -10,7 +10,7 @@ use crate::source::{ReadFault, Source};
 use crate::writing::trace;
 use mcs_cores::{FinishFault, Gate, Machine, RunFault, Settled, Users};
 use mcs_kernel::{Boot, Kernel};
-use mcs_queues::PlainLines;
+use mcs_queues::LinkedLines;
 use mcs_text::{Sink, UserEntry};
 use mcs_types::{CORES, OutOfMemory};
 use std::alloc::{AllocGlobal, Global};
@@ -91,7 +91,7 @@ fn settle_run<G: Ledger + Send + Sync, X: Threads + Wait + Sync, T: Gate>(
     boot: &Boot,
     users: &Users,
     gate: &T,
-) -> Result<Settled<PlainLines>, SimFault>
+) -> Result<Settled<LinkedLines>, SimFault>
     requires name { blank.name ≡ G.name }
     requires parts { blank.parts ≡ G.parts }
     requires sixteen { blank.parts ≡ CORES }
@@ -102,7 +102,7 @@ fn settle_run<G: Ledger + Send + Sync, X: Threads + Wait + Sync, T: Gate>(
     let Ok(kernel) = Kernel::new(alloc, boot) else {
         return Err(SimFault::OutOfMemory);
     };
-    let mut machine = Machine::<G, PlainLines>::new(kernel, blank);
+    let mut machine = Machine::<G, LinkedLines>::new(kernel, blank);
     let Ok(seats) = machine.seats(rt, alloc) else {
         return Err(SimFault::OutOfMemory);
     };
@@ -118,7 +118,7 @@ fn run_users<X: Threads + Wait + Sync, T: Gate>(
     boot: &Boot,
     entries: Vec<UserEntry>,
     gate: &T,
-) -> Result<Settled<PlainLines>, SimFault>
+) -> Result<Settled<LinkedLines>, SimFault>
     ensures settled { IfOk result (λ s. IsBookOf boot.now s) }
     ensures fault { IfErr result IsOfMachine }
 {

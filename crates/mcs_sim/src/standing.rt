@@ -8,7 +8,7 @@ use crate::fault::SimFault;
 use crate::script::{ReadFault, Script, says_something};
 use mcs_book::Book;
 use mcs_kernel::{Boot, Replay, ReplayFault};
-use mcs_queues::PlainLines;
+use mcs_queues::LinkedLines;
 use mcs_text::{LineFault, Words, find_boot_key, read_step};
 use mcs_types::{Kind, OutOfMemory, SCRIPT_LINES, Step};
 use std::alloc::Global;
@@ -19,7 +19,7 @@ use std::marker::Model;
 struct Steps {
     cores: u8,
     threads: u32,
-    replay: Replay<PlainLines>,
+    replay: Replay<LinkedLines>,
 }
 
 impl Model for Steps {

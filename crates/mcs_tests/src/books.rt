@@ -69,9 +69,8 @@ fn message(words: &[u64]) -> Result<Message, Fail> {
     Ok(Message::new((1 << 52) - 1, words).ok_or("message")?)
 }
 
-/// What was made and ended, and what slots hold.
-fn slots(alloc: Global, ids: &Ids) -> Result<Vec<Rec>, Fail> {
-    let mut facts = Vec::new(alloc);
+/// What was made and ended.
+fn add_objects(facts: &mut Vec<Rec>, ids: &Ids) -> Result<(), Fail> {
     let root = cap_to(ids.cnode, 0, 63, u64::MAX)?.ok_or("root")?;
     let maximum = Prio(255);
     let core = CoreId(255);
@@ -84,6 +83,11 @@ fn slots(alloc: Global, ids: &Ids) -> Result<Vec<Rec>, Fail> {
         facts.push(Rec::Made { object, form })?;
     }
     facts.push(Rec::Closed { object: ids.reply })?;
+    Ok(())
+}
+
+/// What slots hold.
+fn add_slots(facts: &mut Vec<Rec>, ids: &Ids) -> Result<(), Fail> {
     let caps = [
         None,
         cap_to(ids.endpoint, 0, 0, 0)?,
@@ -99,12 +103,11 @@ fn slots(alloc: Global, ids: &Ids) -> Result<Vec<Rec>, Fail> {
             cap,
         })?;
     }
-    Ok(facts)
+    Ok(())
 }
 
 /// How threads run, hold contexts and are bound.
-fn threads(alloc: Global, ids: &Ids) -> Result<Vec<Rec>, Fail> {
-    let mut facts = Vec::new(alloc);
+fn add_threads(facts: &mut Vec<Rec>, ids: &Ids) -> Result<(), Fail> {
     let (thread, context) = (ids.thread, ids.context);
     let priority = Prio(255);
     facts.push(Rec::Prio { thread, priority })?;
@@ -120,12 +123,11 @@ fn threads(alloc: Global, ids: &Ids) -> Result<Vec<Rec>, Fail> {
             notification,
         })?;
     }
-    Ok(facts)
+    Ok(())
 }
 
 /// How threads stand in queues.
-fn queued(alloc: Global, ids: &Ids) -> Result<Vec<Rec>, Fail> {
-    let mut facts = Vec::new(alloc);
+fn add_queued(facts: &mut Vec<Rec>, ids: &Ids) -> Result<(), Fail> {
     let thread = ids.thread;
     let queues = [
         Queue::Senders(ids.endpoint),
@@ -142,82 +144,92 @@ fn queued(alloc: Global, ids: &Ids) -> Result<Vec<Rec>, Fail> {
         }
         facts.push(Rec::Parts { thread, queue })?;
     }
-    Ok(facts)
+    Ok(())
 }
 
-/// What was sent, taken, dropped, raised and heard.
-fn messages(alloc: Global, ids: &Ids) -> Result<Vec<Rec>, Fail> {
-    let mut facts = Vec::new(alloc);
-    let texts = [
-        (SendMode::Plain, 0, message(&[])?),
-        (SendMode::Call, 9, message(&[1])?),
-        (SendMode::Mute, u64::MAX, message(&[1, 2, 3, u64::MAX])?),
-    ];
-    for (mode, badge, message) in texts {
-        facts.push(Rec::Sent {
-            sender: ids.thread,
-            endpoint: ids.endpoint,
-            mode,
-            badge: Badge(badge),
-            message,
-        })?;
-    }
+/// A message that was sent with this badge.
+fn add_sent(
+    facts: &mut Vec<Rec>,
+    ids: &Ids,
+    mode: SendMode,
+    badge: u64,
+    words: &[u64],
+) -> Result<(), Fail> {
+    facts.push(Rec::Sent {
+        sender: ids.thread,
+        endpoint: ids.endpoint,
+        mode,
+        badge: Badge(badge),
+        message: message(words)?,
+    })?;
+    Ok(())
+}
+
+/// What was sent, taken and dropped.
+fn add_messages(facts: &mut Vec<Rec>, ids: &Ids) -> Result<(), Fail> {
+    add_sent(facts, ids, SendMode::Plain, 0, &[])?;
+    add_sent(facts, ids, SendMode::Call, 9, &[1])?;
+    add_sent(facts, ids, SendMode::Mute, u64::MAX, &[1, 2, 3, u64::MAX])?;
+    let thread = ids.thread;
     for message in [0, 2, u32::MAX] {
-        let thread = ids.thread;
         facts.push(Rec::Took { message, thread })?;
         facts.push(Rec::Dropped { message })?;
     }
+    Ok(())
+}
+
+/// What was raised and heard.
+fn add_words(facts: &mut Vec<Rec>, ids: &Ids) -> Result<(), Fail> {
+    let (thread, notification) = (ids.thread, ids.notification);
     for word in [0, u64::MAX] {
+        let badge = Badge(word);
         facts.push(Rec::Raised {
-            notification: ids.notification,
-            badge: Badge(word),
+            notification,
+            badge,
         })?;
         facts.push(Rec::Heard {
-            thread: ids.thread,
-            notification: ids.notification,
+            thread,
+            notification,
             word,
         })?;
     }
-    Ok(facts)
+    Ok(())
 }
 
 /// What reply objects owe, and how that ends.
-fn debts(alloc: Global, ids: &Ids) -> Result<Vec<Rec>, Fail> {
+fn add_debts(facts: &mut Vec<Rec>, ids: &Ids) -> Result<(), Fail> {
     let (reply, caller) = (ids.reply, ids.thread);
-    let owes = |context| Rec::Owes {
+    for context in [None, Some(ids.context)] {
+        facts.push(Rec::Owes {
+            reply,
+            caller,
+            context,
+        })?;
+    }
+    facts.push(Rec::Paid {
         reply,
         caller,
-        context,
-    };
-    let void = |ending| Rec::Void {
-        reply,
-        caller,
-        ending,
-    };
-    let message = message(&[4, 3, 2, 1])?;
-    let paid = Rec::Paid {
-        reply,
-        caller,
-        message,
-    };
-    let facts = vec![in alloc;
-        owes(None),
-        owes(Some(ids.context)),
-        paid,
-        void(Ending::Deleted),
-        void(Ending::Cancelled),
-    ]?;
-    Ok(facts)
+        message: message(&[4, 3, 2, 1])?,
+    })?;
+    for ending in [Ending::Deleted, Ending::Cancelled] {
+        facts.push(Rec::Void {
+            reply,
+            caller,
+            ending,
+        })?;
+    }
+    Ok(())
 }
 
-/// Records of all kinds.
-fn records(alloc: Global, ids: &Ids) -> Result<Vec<Rec>, Fail> {
-    let mut facts = slots(alloc, ids)?;
-    facts.append(&mut threads(alloc, ids)?)?;
-    facts.append(&mut queued(alloc, ids)?)?;
-    facts.append(&mut messages(alloc, ids)?)?;
-    facts.append(&mut debts(alloc, ids)?)?;
-    Ok(facts)
+/// Adds records of all kinds.
+fn add_records(facts: &mut Vec<Rec>, ids: &Ids) -> Result<(), Fail> {
+    add_objects(facts, ids)?;
+    add_slots(facts, ids)?;
+    add_threads(facts, ids)?;
+    add_queued(facts, ids)?;
+    add_messages(facts, ids)?;
+    add_words(facts, ids)?;
+    add_debts(facts, ids)
 }
 
 /// The entries that receive, and a signal.
@@ -256,10 +268,9 @@ fn changes(alloc: Global) -> Result<Vec<Entry>, Fail> {
     Ok(entries)
 }
 
-/// The entries that send messages.
-fn sends(alloc: Global) -> Result<Vec<Entry>, Fail> {
+/// Adds the entries that send messages.
+fn add_sends(entries: &mut Vec<Entry>) -> Result<(), Fail> {
     let (cap, reply) = (u64::MAX, 1);
-    let mut entries = Vec::new(alloc);
     entries.push(Entry::Send {
         cap,
         message: message(&[])?,
@@ -277,7 +288,7 @@ fn sends(alloc: Global) -> Result<Vec<Entry>, Fail> {
         reply,
         message: message(&[4, 3, 2, 1])?,
     })?;
-    Ok(entries)
+    Ok(())
 }
 
 /// The entries that name places.
@@ -354,7 +365,7 @@ fn add_lines<W: Write>(alloc: Global, book: &mut Book, sink: &mut Sink<W>) -> Re
     let answers = answers(alloc)?;
     let mut entries = receives(alloc)?;
     entries.append(&mut changes(alloc)?)?;
-    entries.append(&mut sends(alloc)?)?;
+    add_sends(&mut entries)?;
     entries.append(&mut placed(alloc)?)?;
     for entry in entries {
         let at = book.lines() % 7;
@@ -366,7 +377,8 @@ fn add_lines<W: Write>(alloc: Global, book: &mut Book, sink: &mut Sink<W>) -> Re
         };
         let answer = answers.get(at).ok_or("answer")?.copy();
         let names = if at % 2 == 0 { own_ids() } else { odd_ids() };
-        let mut facts = records(alloc, &names)?;
+        let mut facts = Vec::new(alloc);
+        add_records(&mut facts, &names)?;
         put(sink, &step, &answer, &facts);
         book.reserve(facts.len())?;
         book.append(step, answer, &mut facts);

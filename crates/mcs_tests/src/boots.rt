@@ -1,6 +1,6 @@
 //! Boots by calls.
 use mcs_kernel::{Boot, Kernel};
-use mcs_queues::PlainLines;
+use mcs_queues::LinkedLines;
 use mcs_types::{Badge, BootFault, BootLine, Cap, CoreId, Guard, Kind, ObjId, Prio, Rights};
 use std::alloc::Global;
 
@@ -64,7 +64,7 @@ fn lines_are_taken(rt: HostRuntime) {
     };
     assert_eq!(rt; boot.lines().len(), 5);
     assert_eq!(rt; boot.radix(CNODE), Some(8));
-    let Ok(kernel) = Kernel::<PlainLines>::new(rt.alloc(), &boot) else {
+    let Ok(kernel) = Kernel::<LinkedLines>::new(rt.alloc(), &boot) else {
         assert!(rt; false, "there is memory");
         return;
     };
@@ -119,7 +119,7 @@ fn notifications_are_bound_once(rt: HostRuntime) {
     assert_eq!(rt; tie(&mut boot, 1, 2), Err(BootFault::Taken));
     assert_eq!(rt; tie(&mut boot, 2, 1), Err(BootFault::Taken));
     assert_eq!(rt; tie(&mut boot, 2, 2), Ok(()));
-    let Ok(kernel) = Kernel::<PlainLines>::new(rt.alloc(), &boot) else {
+    let Ok(kernel) = Kernel::<LinkedLines>::new(rt.alloc(), &boot) else {
         assert!(rt; false, "there is memory");
         return;
     };

@@ -1,7 +1,7 @@
 //! What a kernel tells of its threads.
 
 use mcs_kernel::{Boot, EnterFault, Kernel, replay};
-use mcs_queues::PlainLines;
+use mcs_queues::LinkedLines;
 use mcs_types::{
     Answer, Badge, BootFault, BootLine, Cap, CoreId, Entry, Guard, Kind, Mail, Message, ObjId,
     Prio, Queue, Rights, Status, Step, ThreadSet,
@@ -64,7 +64,7 @@ fn five_threads(alloc: Global) -> Result<Boot, BootFault> {
 }
 
 /// The kernel over a boot.
-fn booted(alloc: Global, boot: Result<Boot, BootFault>) -> Result<Kernel<PlainLines>, Fail> {
+fn booted(alloc: Global, boot: Result<Boot, BootFault>) -> Result<Kernel<LinkedLines>, Fail> {
     Ok(Kernel::new(alloc, &boot?)?)
 }
 
@@ -84,7 +84,7 @@ fn the_first_of_those_that_may_enter_is_picked(rt: HostRuntime) -> Result<(), Fa
 /// Enters, and tells no more of the kernel than these tests ask for.
 fn enter(
     alloc: Global,
-    kernel: &mut Kernel<PlainLines>,
+    kernel: &mut Kernel<LinkedLines>,
     core: u8,
     serial: u32,
     entry: Entry,
@@ -94,7 +94,7 @@ fn enter(
 
 /// Whether this message is what last reached a thread.
 fn has_mail(
-    kernel: &Kernel<PlainLines>,
+    kernel: &Kernel<LinkedLines>,
     serial: u32,
     from: u64,
     label: u64,
@@ -278,7 +278,7 @@ fn who_may_not_enter_is_turned_away(rt: HostRuntime) -> Result<(), Fail> {
 }
 
 /// A send, a wait of the sender, which is turned away, and a receive.
-fn replayed(alloc: Global) -> Result<Kernel<PlainLines>, Fail> {
+fn replayed(alloc: Global) -> Result<Kernel<LinkedLines>, Fail> {
     let boot = five_threads(alloc)?;
     let message = Message::new(7, &[5, 6]).ok_or("too many words")?;
     let core = CoreId(0);

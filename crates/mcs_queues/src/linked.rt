@@ -1,0 +1,319 @@
+//! Lines as links between slots.
+ghost use Rattle.std.specs.Prelude.{◌≡◌, ℕ, ◌+◌, ◌<◌, ◌≤◌, true, Some, None, is_some, length, IfSome};
+ghost use Rattle.mcs_types.specs.Waiters.{without, lower, first_waiter, behind_in, NeverRises, IsPut};
+ghost use Rattle.mcs_queues.specs.Changes.{waiter, may_join, JoinsLine, JoinsPlace, LeavesPlace, ShiftsLine, IsPutAnew, StandsAtPlace};
+ghost use Rattle.mcs_queues.specs.Numbers.{thread_number, line_number};
+ghost use Rattle.mcs_queues.specs.Links.{Ranged, relinked, rooms_of, spelled, stands_at, link_changes};
+ghost use Rattle.mcs_queues.specs.Linked.{Linked, Between};
+
+use crate::lines::{LineNo, Lines, ThreadNo};
+use crate::slots::{Slots, Steps, ThreadSlot};
+use mcs_types::{OutOfMemory, Prio};
+use std::alloc::Global;
+use std::marker::{Brand, Model};
+use std::sync::ledger::{Blank, Ledger};
+
+/// Lines as links: each thread's slot names the threads before and behind it, and each line's slot its first and its last. To
+/// leave a line or to ask for a neighbour reads no other thread's slot; to join one walks from its end past the threads of a
+/// lower priority (own). `new` takes all slots.
+#[derive(Drop)]
+pub struct LinkedLines {
+    slots: Slots,
+}
+
+impl Model for LinkedLines {
+    ghost use Rattle.mcs_queues.specs.Links.{Links, spelled};
+    ghost use Rattle.mcs_queues.specs.Linked.{Linked};
+
+    ghost Value = { Links };
+
+    ghost view = { λ s. s.slots };
+
+    ghost invariant = { λ s. Linked s.slots (spelled s.slots) };
+}
+
+/// Between which threads of a line a priority belongs, by a walk from the line's end.
+fn seek<G: Ledger>(
+    slots: &Slots,
+    q: LineNo,
+    p: Prio,
+    steps: &mut Steps<G>,
+) -> (Option<ThreadNo>, Option<ThreadNo>)
+    requires line { q.0 < length slots.now.lines }
+    requires linked { Linked slots.now (spelled slots.now) }
+    ensures between { Between (spelled slots.now q.0) p.0 result.0 result.1 }
+    ensures steps { steps.new ≤ steps.old + 1 + lower p.0 (spelled slots.now q.0) }
+{
+    let mut before = slots.ends(q).last;
+    let mut after = None;
+    while let Some(t) = before {
+        let slot = slots.visit(t, steps);
+        if p.0 <= slot.priority.0 {
+            return (before, after);
+        }
+        after = before;
+        before = slot.previous;
+    }
+    (before, after)
+}
+
+/// Writes a thread's slot, and the links to it: what is next to the thread `around.0`, and previous to `around.1`.
+fn relink(
+    slots: &mut Slots,
+    q: LineNo,
+    t: ThreadNo,
+    around: (Option<ThreadNo>, Option<ThreadNo>),
+    links: (Option<ThreadNo>, Option<ThreadNo>),
+    slot: ThreadSlot,
+)
+    requires { Ranged q.0 t.0 around.0 around.1 slots.old }
+    ensures { slots.new ≡ relinked q.0 t.0 around.0 around.1 links.0 links.1 slot slots.old }
+{
+    slots.set_next(q, around.0, links.0);
+    slots.set_previous(q, around.1, links.1);
+    slots.set(t, slot);
+}
+
+/// Takes a thread out of its line, which is answered.
+fn leave(slots: &mut Slots, t: ThreadNo) -> Option<LineNo>
+    requires { Linked slots.old (spelled slots.old) }
+    ensures answer { line_number result ≡ stands_at slots.old t.0 }
+    ensures thread { IfSome result (λ q. t.0 < length slots.new.threads) }
+    ensures within { IfSome result (λ q. q.0 < length slots.new.lines) }
+    ensures linked { Linked slots.new (spelled slots.new) }
+    ensures line { (k : ℕ) → spelled slots.new k ≡ without t.0 (spelled slots.old k) }
+    ensures place { LeavesPlace (stands_at slots.old) (stands_at slots.new) t.0 }
+    ensures threads { length slots.new.threads ≡ length slots.old.threads }
+    ensures lines { length slots.new.lines ≡ length slots.old.lines }
+    ensures changes { link_changes slots.old slots.new ≤ 4 }
+{
+    if slots.threads() <= t.0 as usize {
+        return None;
+    }
+    let slot = slots.named(t);
+    let q = slot.line?;
+    let blank = ThreadSlot {
+        line: None,
+        priority: slot.priority,
+        previous: None,
+        next: None,
+    };
+    relink(
+        slots,
+        q,
+        t,
+        (slot.previous, slot.next),
+        (slot.next, slot.previous),
+        blank,
+    );
+    Some(q)
+}
+
+/// Puts a thread that stands in no line behind all of its priority.
+fn enter<G: Ledger>(slots: &mut Slots, t: ThreadNo, q: LineNo, p: Prio, steps: &mut Steps<G>)
+    requires linked { Linked slots.old (spelled slots.old) }
+    requires thread { t.0 < length slots.old.threads }
+    requires line { q.0 < length slots.old.lines }
+    requires free { stands_at slots.old t.0 ≡ None }
+    ensures linked { Linked slots.new (spelled slots.new) }
+    ensures line { JoinsLine (spelled slots.old) (spelled slots.new) true (waiter t p) q.0 }
+    ensures put { IsPut (waiter t p) (spelled slots.old q.0) (spelled slots.new q.0) }
+    ensures place { JoinsPlace (stands_at slots.old) (stands_at slots.new) true t.0 q.0 }
+    ensures threads { length slots.new.threads ≡ length slots.old.threads }
+    ensures lines { length slots.new.lines ≡ length slots.old.lines }
+    ensures steps { steps.new ≤ steps.old + 1 + lower p.0 (spelled slots.old q.0) }
+{
+    let (before, after) = seek(slots, q, p, steps);
+    let slot = ThreadSlot {
+        line: Some(q),
+        priority: p,
+        previous: before,
+        next: after,
+    };
+    relink(slots, q, t, (before, after), (Some(t), Some(t)), slot);
+}
+
+/// The first thread of a line.
+fn first_in(slots: &Slots, q: LineNo) -> Option<ThreadNo>
+    requires { Linked slots.now (spelled slots.now) }
+    ensures answer { thread_number result ≡ first_waiter (spelled slots.now q.0) }
+    ensures ordered { NeverRises (spelled slots.now q.0) }
+{
+    if slots.lines() <= q.0 as usize {
+        return None;
+    }
+    slots.ends(q).first
+}
+
+/// The thread behind another in its line.
+fn next_in(slots: &Slots, t: ThreadNo) -> Option<ThreadNo>
+    requires { Linked slots.now (spelled slots.now) }
+    ensures { thread_number result ≡ behind_in (stands_at slots.now t.0) (spelled slots.now) t.0 }
+{
+    if slots.threads() <= t.0 as usize {
+        return None;
+    }
+    let slot = slots.named(t);
+    match slot.line {
+        None => None,
+        Some(_) => slot.next,
+    }
+}
+
+/// The line of a thread.
+fn line_of(slots: &Slots, t: ThreadNo) -> Option<LineNo>
+    requires { Linked slots.now (spelled slots.now) }
+    ensures answer { line_number result ≡ stands_at slots.now t.0 }
+    ensures stands { StandsAtPlace (spelled slots.now) (stands_at slots.now) t.0 }
+{
+    if slots.threads() <= t.0 as usize {
+        return None;
+    }
+    slots.named(t).line
+}
+
+/// Whether a thread may join a line.
+fn may_enter(slots: &Slots, t: ThreadNo, q: LineNo) -> bool
+    ensures { result ≡ may_join (rooms_of slots.now) (stands_at slots.now) t.0 q.0 }
+{
+    (t.0 as usize) < slots.threads()
+        && (q.0 as usize) < slots.lines()
+        && slots.named(t).line.is_none()
+}
+
+impl LinkedLines {
+    /// `join`, which counts its visits: at most one more than threads of a lower priority stand in the line (own).
+    pub fn join_counted<G: Ledger>(
+        &mut self,
+        t: ThreadNo,
+        q: LineNo,
+        p: Prio,
+        steps: &mut Steps<G>,
+    ) -> bool
+        ensures answer { result ≡ may_join (rooms_of self.old) (stands_at self.old) t.0 q.0 }
+        ensures line { JoinsLine (spelled self.old) (spelled self.new) result (waiter t p) q.0 }
+        ensures put { result ≡ true
+            → IsPut (waiter t p) (spelled self.old q.0) (spelled self.new q.0) }
+        ensures place { JoinsPlace (stands_at self.old) (stands_at self.new) result t.0 q.0 }
+        ensures rooms { rooms_of self.new ≡ rooms_of self.old }
+        ensures steps { steps.new ≤ steps.old + 1 + lower p.0 (spelled self.old q.0) }
+    {
+        let may = may_enter(&self.slots, t, q);
+        if may {
+            enter(&mut self.slots, t, q, p, steps);
+        }
+        may
+    }
+
+    /// `shift`, which counts its visits: none where the thread stands in no line, and else at most one more than other threads
+    /// of a lower priority stand in its line (own).
+    pub fn shift_counted<G: Ledger>(&mut self, t: ThreadNo, p: Prio, steps: &mut Steps<G>) -> bool
+        ensures answer { result ≡ is_some (stands_at self.old t.0) }
+        ensures line { ShiftsLine (spelled self.old) (spelled self.new) (stands_at self.old)
+            (waiter t p) }
+        ensures put { IsPutAnew (spelled self.old) (spelled self.new) (stands_at self.old)
+            (waiter t p) }
+        ensures place { (u : ℕ) → stands_at self.new u ≡ stands_at self.old u }
+        ensures rooms { rooms_of self.new ≡ rooms_of self.old }
+        ensures still { stands_at self.old t.0 ≡ None → steps.new ≡ steps.old }
+        ensures steps { (q : ℕ) → stands_at self.old t.0 ≡ Some q
+            → steps.new ≤ steps.old + 1 + lower p.0 (without t.0 (spelled self.old q)) }
+    {
+        match leave(&mut self.slots, t) {
+            None => false,
+            Some(q) => {
+                enter(&mut self.slots, t, q, p, steps);
+                true
+            }
+        }
+    }
+}
+
+/// `join` with visits of its own.
+fn join_alone<G: Ledger>(
+    lines: &mut LinkedLines,
+    t: ThreadNo,
+    q: LineNo,
+    p: Prio,
+    blank: Blank,
+) -> bool
+    requires name { blank.name ≡ G.name }
+    requires parts { blank.parts ≡ G.parts }
+    requires some { 0 < blank.parts }
+    ensures answer { result ≡ may_join (rooms_of lines.old) (stands_at lines.old) t.0 q.0 }
+    ensures line { JoinsLine (spelled lines.old) (spelled lines.new) result (waiter t p) q.0 }
+    ensures put { result ≡ true
+        → IsPut (waiter t p) (spelled lines.old q.0) (spelled lines.new q.0) }
+    ensures place { JoinsPlace (stands_at lines.old) (stands_at lines.new) result t.0 q.0 }
+    ensures rooms { rooms_of lines.new ≡ rooms_of lines.old }
+{
+    let mut steps = Steps::<G>::new(blank);
+    lines.join_counted(t, q, p, &mut steps)
+}
+
+/// `shift` with visits of its own.
+fn shift_alone<G: Ledger>(lines: &mut LinkedLines, t: ThreadNo, p: Prio, blank: Blank) -> bool
+    requires name { blank.name ≡ G.name }
+    requires parts { blank.parts ≡ G.parts }
+    requires some { 0 < blank.parts }
+    ensures answer { result ≡ is_some (stands_at lines.old t.0) }
+    ensures line { ShiftsLine (spelled lines.old) (spelled lines.new) (stands_at lines.old)
+        (waiter t p) }
+    ensures put { IsPutAnew (spelled lines.old) (spelled lines.new) (stands_at lines.old)
+        (waiter t p) }
+    ensures place { (u : ℕ) → stands_at lines.new u ≡ stands_at lines.old u }
+    ensures rooms { rooms_of lines.new ≡ rooms_of lines.old }
+{
+    let mut steps = Steps::<G>::new(blank);
+    lines.shift_counted(t, p, &mut steps)
+}
+
+impl Lines for LinkedLines {
+    ghost use Rattle.std.specs.Prelude.{◌≡◌, ◌≤◌, ℕ};
+    ghost use Rattle.mcs_types.specs.Waiters.{without};
+    ghost use Rattle.mcs_queues.specs.Changes.{LeavesPlace};
+    ghost use Rattle.mcs_queues.specs.Numbers.{line_number};
+    ghost use Rattle.mcs_queues.specs.Links.{rooms_of, spelled, stands_at, link_changes};
+
+    ghost line = { λ l. spelled l };
+
+    ghost place = { λ l. stands_at l };
+
+    ghost rooms = { λ l. rooms_of l };
+
+    fn new(alloc: Global, threads: u16, lines: u16) -> Result<LinkedLines, OutOfMemory> {
+        let slots = Slots::new(alloc, threads, lines)?;
+        Ok(LinkedLines { slots })
+    }
+
+    fn join(&mut self, t: ThreadNo, q: LineNo, p: Prio) -> bool {
+        join_alone::<Brand>(self, t, q, p, Blank::new(1))
+    }
+
+    fn first(&self, q: LineNo) -> Option<ThreadNo> {
+        first_in(&self.slots, q)
+    }
+
+    fn next(&self, t: ThreadNo) -> Option<ThreadNo> {
+        next_in(&self.slots, t)
+    }
+
+    /// As the trait's. At most four links differ after it (own).
+    fn part(&mut self, t: ThreadNo) -> Option<LineNo>
+        ensures answer { line_number result ≡ stands_at self.old t.0 }
+        ensures line { (k : ℕ) → spelled self.new k ≡ without t.0 (spelled self.old k) }
+        ensures place { LeavesPlace (stands_at self.old) (stands_at self.new) t.0 }
+        ensures rooms { rooms_of self.new ≡ rooms_of self.old }
+        ensures changes { link_changes self.old self.new ≤ 4 }
+    {
+        leave(&mut self.slots, t)
+    }
+
+    fn shift(&mut self, t: ThreadNo, p: Prio) -> bool {
+        shift_alone::<Brand>(self, t, p, Blank::new(1))
+    }
+
+    fn where_is(&self, t: ThreadNo) -> Option<LineNo> {
+        line_of(&self.slots, t)
+    }
+}
