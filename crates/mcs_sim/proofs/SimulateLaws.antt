@@ -3,7 +3,7 @@ use Rattle.std.proofs.Common.{◌≡◌, ℕ, ◌<◌, ◌≤◌, inl, inr, Bool
 use Rattle.std.specs.Io.KnownBytes.{Appends, Consumes, IsAtEnd}
 use Rattle.mcs_book.specs.History.{Book}
 use Rattle.mcs_text.specs.declared.sink.Sink.{Sink}
-use Rattle.mcs_text.specs.Output.{Moves, Puts}
+use Rattle.mcs_text.specs.Output.{Moves, Puts, kept}
 use Rattle.mcs_text.proofs.Outputs.{Puts-then, Puts-text}
 use Rattle.mcs_sim.specs.declared.fault.SimFault.{SimFault}
 use Rattle.mcs_sim.specs.declared.fault.SimFault.TheVariants as fault
@@ -20,11 +20,11 @@ pub tells-on : {W : Type 0} (f : W → Option (List ℕ)) (s t v : Sink W) (j k 
 tells-on f s t v j k puts more = Puts-text f s v (trace_of j ++ more.0) (trace_of k) (Puts-then f s t v (trace_of j) more.0 puts more.2) (sym more.1)
 
 -- what a sink that kept nothing back has sent out
-pub moves-out : {W : Type 0} (f : W → Option (List ℕ)) (a s t : Sink W) (text : List ℕ) → s.writer ≡ a.writer → s.kept.items ≡ [] → (puts : Puts f s t text) → Moves (f a.writer) (f t.writer) text puts.rest
+pub moves-out : {W : Type 0} (f : W → Option (List ℕ)) (a s t : Sink W) (text : List ℕ) → s.writer ≡ a.writer → kept s ≡ [] → (puts : Puts f s t text) → Moves (f a.writer) (f t.writer) text puts.rest
 moves-out {W = W} f a s t text same none puts =
     subst (λ (w : W). Moves (f w) (f t.writer) text puts.rest) same (subst (λ (l : List ℕ). Moves (f s.writer) (f t.writer) (l ++ text) puts.rest) none puts.moves)
 
-pub appends-out : {W : Type 0} (f : W → Option (List ℕ)) (a s t : Sink W) (text : List ℕ) → s.writer ≡ a.writer → s.kept.items ≡ [] → Puts f s t text → t.is_broken ≡ false → t.kept.items ≡ [] → Appends (f a.writer) (f t.writer) text
+pub appends-out : {W : Type 0} (f : W → Option (List ℕ)) (a s t : Sink W) (text : List ℕ) → s.writer ≡ a.writer → kept s ≡ [] → Puts f s t text → t.is_broken ≡ false → kept t ≡ [] → Appends (f a.writer) (f t.writer) text
 appends-out f a s t text same none puts whole empty =
     let moves = moves-out f a s t text same none puts in
     subst (Appends (f a.writer) (f t.writer)) (sym (moves.split ∙ ap (λ (l : List ℕ). moves.sent ++ l) ((puts.whole whole).1 ∙ empty) ∙ append-nil moves.sent)) moves.grown
@@ -57,8 +57,8 @@ piece-nearer g text piece h is live some takes goes =
 
 -- a piece ended the run
 pub ends-piece : {W : Type 0} (f : W → Option (List ℕ)) (a s t v : Sink W) (left left' : Option (List ℕ)) (g : Going) (text piece : List ℕ) (h : Going) (e : SimFault)
-    → s.writer ≡ a.writer → s.kept.items ≡ [] → g ≡ fed (at_line no_line) text → g.course.fault ≡ None → length piece ≤ 4096 → Consumes left left' (text ++ piece) → (piece ≡ [] → IsAtEnd left') → TakesPiece g piece h
-    → Puts f s t (trace_of g.course.stands.book) → TellsMore f t v g.course.stands.book h.course.stands.book → IfSome h.course.fault (λ e. v.kept.items ≡ []) → IsFairBook h.course.stands.book
+    → s.writer ≡ a.writer → kept s ≡ [] → g ≡ fed (at_line no_line) text → g.course.fault ≡ None → length piece ≤ 4096 → Consumes left left' (text ++ piece) → (piece ≡ [] → IsAtEnd left') → TakesPiece g piece h
+    → Puts f s t (trace_of g.course.stands.book) → TellsMore f t v g.course.stands.book h.course.stands.book → IfSome h.course.fault (λ e. kept v ≡ []) → IsFairBook h.course.stands.book
     → Err e ≡ answer_with v.is_broken h.course.fault → Ends e left left' (f a.writer) (f v.writer)
 ends-piece f a s t v left left' g text piece h e same none is goes few read end takes puts more empty fair answer = go v.is_broken refl answer
   where
@@ -72,8 +72,8 @@ ends-piece f a s t v left left' g text piece h e same none is goes few read end 
         (ends-write left left' (f a.writer) (f v.writer) g text piece h all.rest is goes few read takes (moves-out f a s v (trace_of h.course.stands.book) same none all))
     go false is_broken answer =
         let ends = answer-err h.course.fault e answer in
-        let kept = subst (λ (o : Option SimFault). IfSome o (λ e. v.kept.items ≡ [])) ends empty in
-        ends-by e left left' (f a.writer) (f v.writer) g text piece h all.rest is goes few read end takes (moves-out f a s v (trace_of h.course.stands.book) same none all) (appends-out f a s v (trace_of h.course.stands.book) same none all is_broken kept) fair ends
+        let nothing = subst (λ (o : Option SimFault). IfSome o (λ e. kept v ≡ [])) ends empty in
+        ends-by e left left' (f a.writer) (f v.writer) g text piece h all.rest is goes few read end takes (moves-out f a s v (trace_of h.course.stands.book) same none all) (appends-out f a s v (trace_of h.course.stands.book) same none all is_broken nothing) fair ends
 
 -- a piece answers no read fault, and a write fault only where the sink broke
 pub never-read : (broken : Bool) (g : Going) (text piece : List ℕ) (h : Going) → g ≡ fed (at_line no_line) text → TakesPiece g piece h → Err fault.Read ≡ answer_with broken h.course.fault → ⊥

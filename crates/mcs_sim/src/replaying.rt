@@ -1,6 +1,6 @@
 //! A script of steps, from bytes to bytes.
 ghost use Rattle.std.specs.Prelude.{◌≡◌, ◌<◌, ◌≤◌, [], length, IfErr, IfSome, OnOk, OnErr, Err};
-ghost use Rattle.mcs_text.specs.Output.{Rose, Puts};
+ghost use Rattle.mcs_text.specs.Output.{Rose, Puts, kept};
 ghost use Rattle.mcs_sim.specs.Trace.{IsToldBy, IsToldUpTo, untold_of};
 ghost use Rattle.mcs_sim.specs.Going.{TakesPiece, IsFairBook};
 ghost use Rattle.mcs_sim.specs.Runs.{Finished, EndedBy, TellsMore, answer_with};
@@ -32,8 +32,8 @@ fn tell<W: Write>(to: &mut Sink<W>, told: Told, run: &ReplayRun) -> Told
 /// Sends out what a sink kept back, where this piece ended the run or is not a full one: then the input may be slow.
 fn send_out<W: Write>(to: &mut Sink<W>, taken: &Result<(), SimFault>, piece: &[u8])
     ensures puts { Puts W.contents to.old to.new [] }
-    ensures ended { OnErr taken.now (to.new.kept.items ≡ []) }
-    ensures short { length piece.now < 4096 → to.new.kept.items ≡ [] }
+    ensures ended { OnErr taken.now (kept to.new ≡ []) }
+    ensures short { length piece.now < 4096 → kept to.new ≡ [] }
 {
     match taken {
         Ok(()) if piece.len() >= PIECE => {}
@@ -55,8 +55,8 @@ fn take_piece<W: Write>(
     ensures puts { TellsMore W.contents to.old to.new run.old.course.stands.book
         run.new.course.stands.book }
     ensures answer { result ≡ answer_with to.new.is_broken run.new.course.fault }
-    ensures ended { IfSome run.new.course.fault (λ e. to.new.kept.items ≡ []) }
-    ensures short { length piece.now < 4096 → to.new.kept.items ≡ [] }
+    ensures ended { IfSome run.new.course.fault (λ e. kept to.new ≡ []) }
+    ensures short { length piece.now < 4096 → kept to.new ≡ [] }
     ensures fair { IsFairBook run.new.course.stands.book }
 {
     let taken = run.take_piece(alloc, piece);

@@ -1,7 +1,0 @@
-use Rattle.mcs_text.proofs.Outputs.{Puts-then}
-use Rattle.mcs_text.specs.Spelling.{line_text}
-use Rattle.mcs_text.proofs.table.put_reply_receive.Goals as goal
-
-pub returns : goal.returns
-unfolding line_text
-returns g c = Puts-then _ _ _ _ _ _ (Puts-then _ _ _ _ _ _ c.put_head.ensures (Puts-then _ _ _ _ _ _ c.put_spaced.ensures (Puts-then _ _ _ _ _ _ c.put_spaced-2.ensures c.put_message.ensures))) c.put_end.ensures

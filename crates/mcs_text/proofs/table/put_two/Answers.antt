@@ -1,7 +1,0 @@
-use Rattle.mcs_text.proofs.Outputs.{Puts-then, Puts-nil}
-use Rattle.mcs_text.specs.Spelling.{line_text}
-use Rattle.mcs_text.proofs.table.put_two.Goals as goal
-
-pub returns : goal.returns
-unfolding line_text
-returns g c = Puts-then _ _ _ _ _ _ (Puts-then _ _ _ _ _ _ (Puts-then _ _ _ _ _ _ c.put_key.ensures (Puts-then _ _ _ _ _ _ c.put_spaced_token.ensures (Puts-then _ _ _ _ _ _ c.put_spaced_token-2.ensures (Puts-nil _ _)))) (Puts-nil _ _)) c.put_end.ensures
