@@ -1,11 +1,27 @@
 -- The trace of one record and of one line more.
-use Rattle.std.proofs.Common.{◌≡◌, ℕ, zero, suc, Some, slice_get, ◌+◌, ◌<◌, ◌≤◌, List, [], ◌∷◌, ◌++◌, length, get_or, take, refl, sym, ap, ◌∙◌, append_assoc, append-nil, arith}
-use Rattle.std.proofs.lemmas.List.{take_more}
+use Rattle.std.proofs.Common.{◌≡◌, ℕ, zero, suc, Some, None, false, eqb, inl, inr, reverse, slice_get, ◌-◌, ◌+◌, ◌<◌, ◌≤◌, List, [], ◌∷◌, ◌++◌, length, get_or, take, refl, sym, ap, ◌∙◌, append_assoc, append-nil, arith}
+use Rattle.std.proofs.lemmas.List.{take_more, length-reverse}
+use Rattle.std.proofs.lemmas.Option.{slice_get_cases}
+use Rattle.std.proofs.lemmas.Bool.{ne_eqb}
 use Rattle.mcs_types.specs.declared.record.Rec.{Rec}
 use Rattle.mcs_types.specs.declared.record.Rec.TheVariants.{Sent}
-use Rattle.mcs_book.specs.History.{Line}
+use Rattle.mcs_book.specs.History.{Book, Line, line_of_number}
 use Rattle.mcs_text.specs.Table.{record_text}
 use Rattle.mcs_sim.specs.Trace.{sent_with, sent_after, sent_in, records_trace, line_trace, lines_trace}
+
+-- what stands within a list is there
+pub none-past : {X : Type 0} (xs : List X) (i : ℕ) → None ≡ slice_get xs i → i < length xs → ⊥
+none-past xs i none lt =
+    elim (slice_get_cases xs i).1 [
+      | inl there ↦ let both : None ≡ Some there.0 = none ∙ there.2 in cc
+      | inr past ↦ omega (arith, past.0)
+    ]
+
+-- so does a line of a book
+pub line-past : (b : Book) (i : ℕ) → 0 < i → None ≡ line_of_number b i → i < length b.lines + 1 → ⊥
+line-past b i some none lt =
+    let other : eqb i 0 ≡ false = ne_eqb _ _ (λ e. omega arith) in
+    none-past (reverse b.lines) (i - 1) (rw other at none) (omega (arith, length-reverse b.lines))
 
 pub sent_with-le : (n : ℕ) (r : Rec) → sent_with n r ≤ n + 1
 sent_with-le n (Sent x e mode badge message) = omega arith

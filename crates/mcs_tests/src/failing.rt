@@ -65,12 +65,13 @@ fn each_write_fails_in_turn(rt: HostRuntime) -> Result<(), Fail> {
     let want = format!(in rt.alloc(); "{BOOT}{FIRST_TRACE}")?;
     for writes_left in 0..10_000 {
         let mut output = Output::new(rt.alloc());
+        output.piece = 7;
         output.writes_left = writes_left;
         let result = pipe(rt.alloc(), Input::new(script.as_bytes()), &mut output);
         assert!(rt; want.as_bytes().starts_with(&output.taken));
         if result == Ok(()) {
             assert_eq!(rt; output.taken.len(), want.len());
-            assert!(rt; writes_left > 100, "each piece is a write of its own");
+            assert!(rt; writes_left > 100, "a line takes several writes");
             return Ok(());
         }
         assert_eq!(rt; result, Err(SimFault::Write), "{writes_left}");

@@ -1,8 +1,8 @@
-use Rattle.std.proofs.Common.{◌-◌, take, reverse, sym, ◌∙◌, arith}
-use Rattle.mcs_text.proofs.Outputs.{Puts-then, Puts-text}
+use Rattle.std.proofs.Common.{◌≡◌, ◌-◌, take, reverse, refl, sym, ◌∙◌, arith}
+use Rattle.mcs_text.proofs.Outputs.{Puts-then, Puts-nil, Puts-text}
 use Rattle.mcs_sim.specs.Trace.{untold_lines}
 use Rattle.mcs_sim.proofs.GoingBooks.{lines-next}
-use Rattle.mcs_sim.proofs.TraceLaws.{lines_trace-next, sent_in-next}
+use Rattle.mcs_sim.proofs.TraceLaws.{line-past, lines_trace-next, sent_in-next}
 use Rattle.mcs_sim.proofs.writing.put_lines.Goals as goal
 
 pub loop-i-preserved : goal.loop-i-preserved
@@ -17,3 +17,12 @@ loop-i-preserved g c =
       sent = c.put_book_line-sent.ensures.sent ∙ sent_in-next told.sent (take (c.loop-i.i - 1 - (told.lines - 1)) lines) _ line c.loop-i.sent more before.sent;
       few = omega (arith, before.few, c.put_book_line-sent.ensures.few, c.loop-i.auto.i);
     }
+
+pub loop-i-init : goal.loop-i-init
+loop-i-init g c =
+    let none : c.max-i.result - 1 - (c.args.told.lines - 1) ≡ 0 = omega (arith, c.max-i.ensures) in
+    record { puts = rw none (Puts-nil _ _); sent = rw none refl; few = omega (arith, c.max-i.ensures, c.requires.fits) }
+
+pub unreachable-requires : goal.unreachable-requires
+unreachable-requires g c =
+    line-past c.args.book.now.book c.loop-i.i (omega (arith, c.loop-i.auto.i, c.max-i.ensures)) (sym c.in-None.is ∙ c.line.ensures) (omega (arith, c.loop-i-test.true, c.lines-i-end.ensures))

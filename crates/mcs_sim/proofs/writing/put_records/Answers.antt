@@ -1,6 +1,6 @@
-use Rattle.std.proofs.Common.{◌<◌, length, sym, ◌∙◌, arith}
-use Rattle.mcs_text.proofs.Outputs.{Puts-then, Puts-text}
-use Rattle.mcs_sim.proofs.TraceLaws.{get_or-at, sent_with-le, records_trace-next, sent_after-next}
+use Rattle.std.proofs.Common.{◌<◌, length, refl, sym, ◌∙◌, arith}
+use Rattle.mcs_text.proofs.Outputs.{Puts-then, Puts-nil, Puts-text}
+use Rattle.mcs_sim.proofs.TraceLaws.{none-past, get_or-at, sent_with-le, records_trace-next, sent_after-next}
 use Rattle.mcs_sim.proofs.writing.put_records.Goals as goal
 
 pub loop-i-preserved : goal.loop-i-preserved
@@ -16,3 +16,10 @@ loop-i-preserved g c =
       sent = c.count_sent-count.ensures ∙ sent_after-next c.args.sent rs i r c.loop-i.count within it before.sent;
       few = omega (arith, before.few, c.count_sent-count.ensures, sent_with-le c.loop-i.count r);
     }
+
+pub loop-i-init : goal.loop-i-init
+loop-i-init g c = record { puts = Puts-nil _ _; sent = refl; few = omega arith }
+
+pub unreachable-requires : goal.unreachable-requires
+unreachable-requires g c =
+    none-past c.args.line.now.records c.loop-i.i (sym c.in-None.is ∙ c.record.ensures) (omega (arith, c.loop-i-test.true, c.record_count-i-end.ensures))
