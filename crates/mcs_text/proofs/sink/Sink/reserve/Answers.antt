@@ -1,4 +1,4 @@
-use Rattle.std.proofs.Common.{◌≤◌, ◌+◌, length, take, arith}
+use Rattle.std.proofs.Common.{length, take, arith}
 use Rattle.std.proofs.lemmas.List.{length-take}
 use Rattle.mcs_text.proofs.Outputs.{kept-grown, room-grown}
 use Rattle.mcs_text.proofs.sink.Sink.reserve.Goals as goal
