@@ -1,13 +1,20 @@
 -- The trace of one record and of one line more.
-use Rattle.std.proofs.Common.{◌≡◌, ℕ, zero, suc, Some, None, false, eqb, inl, inr, reverse, slice_get, ◌-◌, ◌+◌, ◌<◌, ◌≤◌, List, [], ◌∷◌, ◌++◌, length, get_or, take, refl, sym, ap, ◌∙◌, append_assoc, append-nil, arith}
+use Rattle.std.proofs.Common.{◌≡◌, ℕ, zero, suc, Some, None, Option, false, eqb, inl, inr, reverse, slice_get, ◌-◌, ◌+◌, ◌<◌, ◌≤◌, List, [], ◌∷◌, ◌++◌, length, get_or, take, refl, sym, ap, ◌∙◌, append_assoc, append-nil, arith}
 use Rattle.std.proofs.lemmas.List.{take_more, length-reverse}
 use Rattle.std.proofs.lemmas.Option.{slice_get_cases}
 use Rattle.std.proofs.lemmas.Bool.{ne_eqb}
 use Rattle.mcs_types.specs.declared.record.Rec.{Rec}
 use Rattle.mcs_types.specs.declared.record.Rec.TheVariants.{Sent}
 use Rattle.mcs_book.specs.History.{Book, Line, line_of_number}
+use Rattle.mcs_text.specs.declared.sink.Sink.{Sink}
+use Rattle.mcs_text.specs.Output.{Puts}
 use Rattle.mcs_text.specs.Table.{record_text}
+use Rattle.mcs_text.proofs.Outputs.{Puts-nil}
 use Rattle.mcs_sim.specs.Trace.{sent_with, sent_after, sent_in, records_trace, line_trace, lines_trace}
+
+-- nothing was put
+pub puts_nothing : {W : Type 0} (f : W → Option (List ℕ)) (s : Sink W) → Puts f s s []
+puts_nothing f s = Puts-nil f s
 
 -- what stands within a list is there
 pub none-past : {X : Type 0} (xs : List X) (i : ℕ) → None ≡ slice_get xs i → i < length xs → ⊥

@@ -17,6 +17,7 @@ use std::io::{Read, Write};
 const PIECE: usize = 4_096;
 
 /// Puts what of a run's book was not told, if it has one, and answers how much is told with it.
+#[tactic(auto, using(crate::proofs::TraceLaws::puts_nothing))]
 fn tell<W: Write>(to: &mut Sink<W>, told: Told, run: &ReplayRun) -> Told
     requires told { IsToldUpTo told run.now.course.stands.book }
     ensures puts { Puts W.contents to.old to.new (untold_of told run.now.course.stands.book) }
@@ -30,6 +31,7 @@ fn tell<W: Write>(to: &mut Sink<W>, told: Told, run: &ReplayRun) -> Told
 }
 
 /// Sends out what a sink kept back, where this piece ended the run or is not a full one: then the input may be slow.
+#[tactic(auto, using(crate::proofs::TraceLaws::puts_nothing))]
 fn send_out<W: Write>(to: &mut Sink<W>, taken: &Result<(), SimFault>, piece: &[u8])
     ensures puts { Puts W.contents to.old to.new [] }
     ensures ended { OnErr taken.now (kept to.new ≡ []) }

@@ -1,7 +1,6 @@
 use Rattle.std.proofs.Common.{Option, ap, sym, subst, ◌∙◌}
 use Rattle.mcs_book.specs.History.{Book}
-use Rattle.mcs_text.proofs.Outputs.{Puts-nil, Puts-text}
-use Rattle.mcs_sim.specs.Trace.{IsToldUpTo, untold_of}
+use Rattle.mcs_sim.specs.Trace.{IsToldUpTo}
 use Rattle.mcs_sim.specs.Going.{book_lent}
 use Rattle.mcs_sim.proofs.GoingBooks.{told-of}
 use Rattle.mcs_sim.proofs.replaying.tell.Goals as goal
@@ -10,8 +9,3 @@ pub put_untold-requires : goal.put_untold-requires
 put_untold-requires g c =
     let there = sym c.book.ensures.lent ∙ ap book_lent c.in-Some.is in
     record { told = told-of c.args.told c.in-Some.book.now.book (subst (λ (k : Option Book). IsToldUpTo c.args.told k) there c.requires.told) }
-
-pub returns-in-None-clause-puts : goal.returns-in-None-clause-puts
-returns-in-None-clause-puts g c =
-    let there = sym c.book.ensures.lent ∙ ap book_lent c.in-None.is in
-    Puts-text _ _ _ _ _ (Puts-nil _ _) (ap (untold_of c.args.told) (sym there))
