@@ -1,4 +1,5 @@
 pub mod ChangeLaws
+pub mod FingerLaws
 pub mod LinkLaws
 pub mod LinkSteps
 pub mod NeighbourLaws

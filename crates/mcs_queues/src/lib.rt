@@ -1,6 +1,7 @@
 //! Lines in which threads wait, by priority and within one priority by when they came.
 #![tactic(auto)]
 
+mod fingers;
 mod lines;
 mod linked;
 mod plain;

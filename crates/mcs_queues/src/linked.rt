@@ -1,11 +1,13 @@
 //! Lines as links between slots.
-ghost use Rattle.std.specs.Prelude.{◌≡◌, ℕ, ◌+◌, ◌<◌, ◌≤◌, true, Some, None, is_some, length, IfSome};
+ghost use Rattle.std.specs.Prelude.{◌≡◌, ℕ, ◌+◌, ◌-◌, ◌<◌, ◌≤◌, true, Some, None, is_some, length, IfSome};
 ghost use Rattle.mcs_types.specs.Waiters.{without, lower, first_waiter, behind_in, NeverRises, IsPut};
 ghost use Rattle.mcs_queues.specs.Changes.{waiter, may_join, JoinsLine, JoinsPlace, LeavesPlace, ShiftsLine, IsPutAnew, StandsAtPlace};
 ghost use Rattle.mcs_queues.specs.Numbers.{thread_number, line_number};
 ghost use Rattle.mcs_queues.specs.Links.{Ranged, relinked, rooms_of, spelled, stands_at, link_changes};
-ghost use Rattle.mcs_queues.specs.Linked.{Linked, Between};
+ghost use Rattle.mcs_queues.specs.Linked.{Linked, Between, Walked};
+ghost use Rattle.mcs_queues.specs.Fingers.{Pointed};
 
+use crate::fingers::Fingers;
 use crate::lines::{LineNo, Lines, ThreadNo};
 use crate::slots::{Slots, Steps, ThreadSlot};
 use mcs_types::{OutOfMemory, Prio};
@@ -19,33 +21,58 @@ use std::sync::ledger::{Blank, Ledger};
 #[derive(Drop)]
 pub struct LinkedLines {
     slots: Slots,
+    fingers: Fingers,
 }
 
 impl Model for LinkedLines {
     ghost use Rattle.mcs_queues.specs.Links.{Links, spelled};
     ghost use Rattle.mcs_queues.specs.Linked.{Linked};
+    ghost use Rattle.mcs_queues.specs.Fingers.{Pointed};
 
     ghost Value = { Links };
 
     ghost view = { λ s. s.slots };
 
-    ghost invariant = { λ s. Linked s.slots (spelled s.slots) };
+    ghost invariant = { λ s. Linked s.slots (spelled s.slots)
+        × Pointed s.fingers s.slots };
 }
 
-/// Between which threads of a line a priority belongs, by a walk from the line's end.
-fn seek<G: Ledger>(
+/// Where a walk to a priority begins: before a finger of a lower band, or at the line's end. It answers the thread that is next to be
+/// visited, and the one behind it.
+fn begin<G: Ledger>(
     slots: &Slots,
+    fingers: &Fingers,
     q: LineNo,
     p: Prio,
     steps: &mut Steps<G>,
 ) -> (Option<ThreadNo>, Option<ThreadNo>)
     requires line { q.0 < length slots.now.lines }
     requires linked { Linked slots.now (spelled slots.now) }
+    requires pointed { Pointed fingers.now slots.now }
+    ensures more { steps.old ≤ steps.new }
+    ensures walked { Walked (spelled slots.now q.0) p.0 result.0 result.1 (steps.new - steps.old) }
+{
+    match fingers.below(q, p) {
+        Some(t) => (slots.visit(t, steps).previous, Some(t)),
+        None => (slots.ends(q).last, None),
+    }
+}
+
+/// Between which threads of a line a priority belongs, by a walk from a finger or from the line's end.
+fn seek<G: Ledger>(
+    slots: &Slots,
+    fingers: &Fingers,
+    q: LineNo,
+    p: Prio,
+    steps: &mut Steps<G>,
+) -> (Option<ThreadNo>, Option<ThreadNo>)
+    requires line { q.0 < length slots.now.lines }
+    requires linked { Linked slots.now (spelled slots.now) }
+    requires pointed { Pointed fingers.now slots.now }
     ensures between { Between (spelled slots.now q.0) p.0 result.0 result.1 }
     ensures steps { steps.new ≤ steps.old + 1 + lower p.0 (spelled slots.now q.0) }
 {
-    let mut before = slots.ends(q).last;
-    let mut after = None;
+    let (mut before, mut after) = begin(slots, fingers, q, p, steps);
     while let Some(t) = before {
         let slot = slots.visit(t, steps);
         if p.0 <= slot.priority.0 {
@@ -75,12 +102,14 @@ fn relink(
 }
 
 /// Takes a thread out of its line, which is answered.
-fn leave(slots: &mut Slots, t: ThreadNo) -> Option<LineNo>
-    requires { Linked slots.old (spelled slots.old) }
+fn leave(slots: &mut Slots, fingers: &mut Fingers, t: ThreadNo) -> Option<LineNo>
+    requires linked { Linked slots.old (spelled slots.old) }
+    requires pointed { Pointed fingers.old slots.old }
     ensures answer { line_number result ≡ stands_at slots.old t.0 }
     ensures thread { IfSome result (λ q. t.0 < length slots.new.threads) }
     ensures within { IfSome result (λ q. q.0 < length slots.new.lines) }
     ensures linked { Linked slots.new (spelled slots.new) }
+    ensures pointed { Pointed fingers.new slots.new }
     ensures line { (k : ℕ) → spelled slots.new k ≡ without t.0 (spelled slots.old k) }
     ensures place { LeavesPlace (stands_at slots.old) (stands_at slots.new) t.0 }
     ensures threads { length slots.new.threads ≡ length slots.old.threads }
@@ -106,16 +135,26 @@ fn leave(slots: &mut Slots, t: ThreadNo) -> Option<LineNo>
         (slot.next, slot.previous),
         blank,
     );
+    fingers.release(q, slot.priority, t);
     Some(q)
 }
 
 /// Puts a thread that stands in no line behind all of its priority.
-fn enter<G: Ledger>(slots: &mut Slots, t: ThreadNo, q: LineNo, p: Prio, steps: &mut Steps<G>)
+fn enter<G: Ledger>(
+    slots: &mut Slots,
+    fingers: &mut Fingers,
+    t: ThreadNo,
+    q: LineNo,
+    p: Prio,
+    steps: &mut Steps<G>,
+)
     requires linked { Linked slots.old (spelled slots.old) }
+    requires pointed { Pointed fingers.old slots.old }
     requires thread { t.0 < length slots.old.threads }
     requires line { q.0 < length slots.old.lines }
     requires free { stands_at slots.old t.0 ≡ None }
     ensures linked { Linked slots.new (spelled slots.new) }
+    ensures pointed { Pointed fingers.new slots.new }
     ensures line { JoinsLine (spelled slots.old) (spelled slots.new) true (waiter t p) q.0 }
     ensures put { IsPut (waiter t p) (spelled slots.old q.0) (spelled slots.new q.0) }
     ensures place { JoinsPlace (stands_at slots.old) (stands_at slots.new) true t.0 q.0 }
@@ -123,7 +162,7 @@ fn enter<G: Ledger>(slots: &mut Slots, t: ThreadNo, q: LineNo, p: Prio, steps: &
     ensures lines { length slots.new.lines ≡ length slots.old.lines }
     ensures steps { steps.new ≤ steps.old + 1 + lower p.0 (spelled slots.old q.0) }
 {
-    let (before, after) = seek(slots, q, p, steps);
+    let (before, after) = seek(slots, fingers, q, p, steps);
     let slot = ThreadSlot {
         line: Some(q),
         priority: p,
@@ -131,6 +170,7 @@ fn enter<G: Ledger>(slots: &mut Slots, t: ThreadNo, q: LineNo, p: Prio, steps: &
         next: after,
     };
     relink(slots, q, t, (before, after), (Some(t), Some(t)), slot);
+    fingers.point(q, p, Some(t));
 }
 
 /// The first thread of a line.
@@ -200,7 +240,7 @@ impl LinkedLines {
     {
         let may = may_enter(&self.slots, t, q);
         if may {
-            enter(&mut self.slots, t, q, p, steps);
+            enter(&mut self.slots, &mut self.fingers, t, q, p, steps);
         }
         may
     }
@@ -219,10 +259,10 @@ impl LinkedLines {
         ensures steps { (q : ℕ) → stands_at self.old t.0 ≡ Some q
             → steps.new ≤ steps.old + 1 + lower p.0 (without t.0 (spelled self.old q)) }
     {
-        match leave(&mut self.slots, t) {
+        match leave(&mut self.slots, &mut self.fingers, t) {
             None => false,
             Some(q) => {
-                enter(&mut self.slots, t, q, p, steps);
+                enter(&mut self.slots, &mut self.fingers, t, q, p, steps);
                 true
             }
         }
@@ -283,7 +323,8 @@ impl Lines for LinkedLines {
 
     fn new(alloc: Global, threads: u16, lines: u16) -> Result<LinkedLines, OutOfMemory> {
         let slots = Slots::new(alloc, threads, lines)?;
-        Ok(LinkedLines { slots })
+        let fingers = Fingers::new(alloc, lines)?;
+        Ok(LinkedLines { slots, fingers })
     }
 
     fn join(&mut self, t: ThreadNo, q: LineNo, p: Prio) -> bool {
@@ -306,7 +347,7 @@ impl Lines for LinkedLines {
         ensures rooms { rooms_of self.new ≡ rooms_of self.old }
         ensures changes { link_changes self.old self.new ≤ 4 }
     {
-        leave(&mut self.slots, t)
+        leave(&mut self.slots, &mut self.fingers, t)
     }
 
     fn shift(&mut self, t: ThreadNo, p: Prio) -> bool {

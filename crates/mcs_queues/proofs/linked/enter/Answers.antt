@@ -4,7 +4,8 @@ use Rattle.mcs_queues.specs.declared.slots.ThreadSlot.{ThreadSlot}
 use Rattle.mcs_queues.specs.Links.{spelled, relinked}
 use Rattle.mcs_types.specs.Waiters.{Waiter, insert_behind}
 use Rattle.mcs_types.proofs.Waiters.{put-behind}
-use Rattle.mcs_queues.proofs.LinkLaws.{relinked-place, linked-spelled, spells-is}
+use Rattle.mcs_queues.proofs.LinkLaws.{relinked-is, relinked-place, linked-spelled, spells-is}
+use Rattle.mcs_queues.proofs.FingerLaws.{pointed-enter}
 use Rattle.mcs_queues.proofs.LinkSteps.{enter-ranged, enter-linked}
 use Rattle.mcs_queues.proofs.linked.enter.Goals as goal
 
@@ -38,3 +39,13 @@ returns-clause-put g c =
     let joined = returns-clause-line g c q in
     let behind : spelled c.relink.new.slots q ≡ insert_behind w (spelled l q) = grind (arith, common_steps, joined) in
     rw behind (put-behind w (spelled l q) (c.requires.linked q).rises)
+
+pub returns-clause-pointed : goal.returns-clause-pointed
+returns-clause-pointed g c =
+    let s : ThreadSlot = record { line = Some c.args.q; priority = c.args.p; previous = c.seek-before.result.0; next = c.seek-before.result.1 } in
+    let l = c.args.slots.now in
+    let b = c.seek-before.result.0 in
+    let a = c.seek-before.result.1 in
+    let t = Some c.args.t in
+    let r = relinked-is c.args.q.0 c.args.t.0 b a t t s l (enter-ranged l c.args.t c.args.q.0 c.args.p.0 b a c.requires.linked c.requires.thread c.requires.line c.seek-before.ensures.between) in
+    rw c.relink.ensures (pointed-enter c.args.fingers.now c.point.new.self c.args.q.0 c.args.t b a t t s l (relinked c.args.q.0 c.args.t.0 b a t t s l) c.requires.pointed r c.requires.free refl c.point.ensures.points c.point.ensures.lines)
