@@ -6,6 +6,7 @@ use Rattle.mcs_types.specs.Waiters.{Waiter, lower, NoneAbove, NeverRises}
 use Rattle.mcs_queues.specs.declared.lines.ThreadNo.{ThreadNo}
 use Rattle.mcs_queues.specs.declared.slots.ThreadSlot.{ThreadSlot}
 use Rattle.mcs_queues.specs.declared.fingers.Row.{Row}
+use Rattle.mcs_queues.specs.declared.fingers.TheConstants.{BAND, BANDS}
 use Rattle.mcs_queues.specs.Numbers.{line_number}
 use Rattle.mcs_queues.specs.Links.{Links, blank_ends, slot_at, spelled, stands_at}
 use Rattle.mcs_queues.specs.Linked.{Linked, Walked}
@@ -22,7 +23,7 @@ get-replicate x (suc n) (suc i) = get-replicate x n i
 no-finger : (rows : List Row) (n : ℕ) → rows ≡ replicate n no_fingers → (q b : ℕ) → finger rows q b ≡ None
 no-finger rows n h q b =
     let e : get_or rows q no_fingers ≡ no_fingers = ap (λ (zs : List Row). get_or zs q no_fingers) h ∙ get-replicate no_fingers n q in
-    ap (λ (r : Row). get_or r.threads b None) e ∙ get-replicate None 64 b
+    ap (λ (r : Row). get_or r.threads b None) e ∙ get-replicate None BANDS b
 
 -- lines without fingers
 pub pointed-none : (rows : List Row) (l : Links) (n : ℕ) → rows ≡ replicate n no_fingers → l.lines ≡ replicate n blank_ends → Pointed rows l
@@ -33,7 +34,7 @@ pointed-none rows l n h e = record {
 }
 
 -- of two priorities the one of the lower band is lower
-lower-band : (a p b : ℕ) → a / 4 ≡ b → b < p / 4 → a < p
+lower-band : (a p b : ℕ) → a / BAND ≡ b → b < p / BAND → a < p
 lower-band a p b e h = omega (arith, e, h)
 
 rises-behind : (xs ys : List Waiter) → NeverRises (xs ++ ys) → NeverRises ys
@@ -75,27 +76,27 @@ finger-in_room rows l q p t h f i = (place l t q h (f.stands q i.0 t i.2)).withi
 
 -- a thread stands in a line with a priority of a band
 abbrev IsIn : Links → ℕ → ℕ → ℕ → Type 0
-IsIn l q b t = (stands_at l t ≡ Some q) × ((slot_at l t).priority.0 / 4 ≡ b)
+IsIn l q b t = (stands_at l t ≡ Some q) × ((slot_at l t).priority.0 / BAND ≡ b)
 
 in-other : (q t : ℕ) (before after x y : Option ThreadNo) (s : ThreadSlot) (l m : Links) → Relinked q t before after x y s l m → (k b u : ℕ) → u ≢ t → IsIn l k b u → IsIn m k b u
 in-other q t before after x y s l m r k b u ne i = (
   ap (λ (z : ThreadSlot). line_number z.line) (r.others u ne) ∙ i.0,
-  ap (λ (z : ThreadSlot). z.priority.0 / 4) (r.others u ne) ∙ i.1,
+  ap (λ (z : ThreadSlot). z.priority.0 / BAND) (r.others u ne) ∙ i.1,
 )
 
-in-own : (q t : ℕ) (before after x y : Option ThreadNo) (s : ThreadSlot) (l m : Links) → Relinked q t before after x y s l m → line_number s.line ≡ Some q → IsIn m q (s.priority.0 / 4) t
+in-own : (q t : ℕ) (before after x y : Option ThreadNo) (s : ThreadSlot) (l m : Links) → Relinked q t before after x y s l m → line_number s.line ≡ Some q → IsIn m q (s.priority.0 / BAND) t
 in-own q t before after x y s l m r e = (
   ap (λ (z : ThreadSlot). line_number z.line) r.here ∙ e,
-  ap (λ (z : ThreadSlot). z.priority.0 / 4) r.here,
+  ap (λ (z : ThreadSlot). z.priority.0 / BAND) r.here,
 )
 
-enter-finger : (old new : List Row) (q : ℕ) (t : ThreadNo) (before after x y : Option ThreadNo) (s : ThreadSlot) (l m : Links) → Pointed old l → Relinked q t.0 before after x y s l m → stands_at l t.0 ≡ None → line_number s.line ≡ Some q → Points old new q (s.priority.0 / 4) (Some t)
-    → (k c : ℕ) (u : ThreadNo) → finger new k c ≡ Some u → (e : Bool) → (nat_eq k q && nat_eq c (s.priority.0 / 4)) ≡ e → IsIn m k c u.0
+enter-finger : (old new : List Row) (q : ℕ) (t : ThreadNo) (before after x y : Option ThreadNo) (s : ThreadSlot) (l m : Links) → Pointed old l → Relinked q t.0 before after x y s l m → stands_at l t.0 ≡ None → line_number s.line ≡ Some q → Points old new q (s.priority.0 / BAND) (Some t)
+    → (k c : ℕ) (u : ThreadNo) → finger new k c ≡ Some u → (e : Bool) → (nat_eq k q && nat_eq c (s.priority.0 / BAND)) ≡ e → IsIn m k c u.0
 enter-finger old new q t before after x y s l m f r out own points k c u h true e =
     let is = points k c in
     let w : u ≡ t = cc in
     let a : k ≡ q = grind (arith, common_steps, e) in
-    let b : c ≡ s.priority.0 / 4 = grind (arith, common_steps, e) in
+    let b : c ≡ s.priority.0 / BAND = grind (arith, common_steps, e) in
     let P : ThreadNo → Type 0 = λ z. IsIn m k c z.0 in
     let Q : ℕ → Type 0 = λ z. IsIn m z c t.0 in
     let R : ℕ → Type 0 = λ z. IsIn m q z t.0 in
@@ -108,9 +109,9 @@ enter-finger old new q t before after x y s l m f r out own points k c u h false
     in-other q t.0 before after x y s l m r k c u.0 ne (st, f.bands k c u was)
 
 -- after a thread has entered a line, whose finger it is now
-pub pointed-enter : (old new : List Row) (q : ℕ) (t : ThreadNo) (before after x y : Option ThreadNo) (s : ThreadSlot) (l m : Links) → Pointed old l → Relinked q t.0 before after x y s l m → stands_at l t.0 ≡ None → line_number s.line ≡ Some q → Points old new q (s.priority.0 / 4) (Some t) → length new ≡ length old → Pointed new m
+pub pointed-enter : (old new : List Row) (q : ℕ) (t : ThreadNo) (before after x y : Option ThreadNo) (s : ThreadSlot) (l m : Links) → Pointed old l → Relinked q t.0 before after x y s l m → stands_at l t.0 ≡ None → line_number s.line ≡ Some q → Points old new q (s.priority.0 / BAND) (Some t) → length new ≡ length old → Pointed new m
 pointed-enter old new q t before after x y s l m f r out own points n =
-    let each : (k c : ℕ) (u : ThreadNo) → finger new k c ≡ Some u → IsIn m k c u.0 = λ k c u h. enter-finger old new q t before after x y s l m f r out own points k c u h (nat_eq k q && nat_eq c (s.priority.0 / 4)) refl in
+    let each : (k c : ℕ) (u : ThreadNo) → finger new k c ≡ Some u → IsIn m k c u.0 = λ k c u h. enter-finger old new q t before after x y s l m f r out own points k c u h (nat_eq k q && nat_eq c (s.priority.0 / BAND)) refl in
     record {
       lines = n ∙ f.lines ∙ sym r.lines;
       stands = λ k c u h. (each k c u h).0;
@@ -118,7 +119,7 @@ pointed-enter old new q t before after x y s l m f r out own points n =
     }
 
 -- after a thread has left its line, which has no finger at it any more
-pub pointed-leave : (old new : List Row) (q : ℕ) (t : ThreadNo) (before after x y : Option ThreadNo) (s : ThreadSlot) (l m : Links) → Pointed old l → Relinked q t.0 before after x y s l m → stands_at l t.0 ≡ Some q → IsReleased old new q ((slot_at l t.0).priority.0 / 4) t → length new ≡ length old → Pointed new m
+pub pointed-leave : (old new : List Row) (q : ℕ) (t : ThreadNo) (before after x y : Option ThreadNo) (s : ThreadSlot) (l m : Links) → Pointed old l → Relinked q t.0 before after x y s l m → stands_at l t.0 ≡ Some q → IsReleased old new q ((slot_at l t.0).priority.0 / BAND) t → length new ≡ length old → Pointed new m
 pointed-leave old new q t before after x y s l m f r was left n =
     let each : (k c : ℕ) (u : ThreadNo) → finger new k c ≡ Some u → IsIn m k c u.0 = λ k c u h.
     let o = left.same k c u h in
@@ -127,7 +128,7 @@ pointed-leave old new q t before after x y s l m f r was left n =
     let ne : u.0 ≢ t.0 = λ g.
     let w : u ≡ t = ap (λ (n : ℕ). record { 0 = n }) g in
     let a : k ≡ q = let z = ap (stands_at l) g in cc in
-    let b : c ≡ (slot_at l t.0).priority.0 / 4 = sym bd ∙ ap (λ n. (slot_at l n).priority.0 / 4) g in
+    let b : c ≡ (slot_at l t.0).priority.0 / BAND = sym bd ∙ ap (λ n. (slot_at l n).priority.0 / BAND) g in
     left.left (sym (ap (λ n. finger new n c) a ∙ ap (λ n. finger new q n) b) ∙ h ∙ ap (λ z. Some z) w) in
     in-other q t.0 before after x y s l m r k c u.0 ne (st, bd)
     in

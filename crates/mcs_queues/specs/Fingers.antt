@@ -2,11 +2,12 @@
 use Rattle.std.specs.Prelude.{ℕ, ◌≡◌, ◌≢◌, ◌<◌, ◌/◌, ◌==◌, ◌&&◌, cond, List, length, slice_index_or, Option, Some, None, replicate}
 use Rattle.mcs_queues.specs.declared.lines.ThreadNo.{ThreadNo}
 use Rattle.mcs_queues.specs.declared.fingers.Row.{Row}
+use Rattle.mcs_queues.specs.declared.fingers.TheConstants.{BAND, BANDS}
 use Rattle.mcs_queues.specs.Links.{Links, slot_at, stands_at}
 
 -- a row with no finger
 abbrev pub no_fingers : Row
-no_fingers = record { known = 0; threads = replicate 64 None }
+no_fingers = record { known = 0; threads = replicate BANDS None }
 
 -- the finger of line q for band b
 abbrev pub finger : List Row → ℕ → ℕ → Option ThreadNo
@@ -16,17 +17,17 @@ finger rows q b = slice_index_or (slice_index_or rows q no_fingers).threads b No
 abbrev pub Points : List Row → List Row → ℕ → ℕ → Option ThreadNo → Type 0
 Points old new q b o = (k c : ℕ) → finger new k c ≡ cond ((k == q) && (c == b)) o (finger old k c)
 
--- a finger of line q for band b that points at thread t points at none now, and all others are as they were
+-- the finger of line q for band b does not point at thread t any more, and none points where it did not
 pub record IsReleased (old new : List Row) (q b : ℕ) (t : ThreadNo) : Type 0 where
   pub left : finger new q b ≢ Some t
   pub same : (k c : ℕ) (u : ThreadNo) → finger new k c ≡ Some u → finger old k c ≡ Some u
 
 -- a thread is the finger of a band below that of a priority
 abbrev pub IsLower : List Row → ℕ → ℕ → ThreadNo → Type 0
-IsLower rows q p t = (b : ℕ) × (b < p / 4) × (finger rows q b ≡ Some t)
+IsLower rows q p t = (b : ℕ) × (b < p / BAND) × (finger rows q b ≡ Some t)
 
 -- each finger points at a thread that stands in its line, with a priority of its band
 pub record Pointed (rows : List Row) (l : Links) : Type 0 where
   pub lines : length rows ≡ length l.lines
   pub stands : (q b : ℕ) (t : ThreadNo) → finger rows q b ≡ Some t → stands_at l t.0 ≡ Some q
-  pub bands : (q b : ℕ) (t : ThreadNo) → finger rows q b ≡ Some t → (slot_at l t.0).priority.0 / 4 ≡ b
+  pub bands : (q b : ℕ) (t : ThreadNo) → finger rows q b ≡ Some t → (slot_at l t.0).priority.0 / BAND ≡ b

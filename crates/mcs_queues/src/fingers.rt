@@ -20,7 +20,8 @@ pub struct Row {
     threads: [Option<ThreadNo>; BANDS],
 }
 
-/// For each line and each band of four priorities a finger: the thread that joined there last, as long as it stays (own).
+/// For each line and each band of four priorities a finger: the thread that joined the line last with a priority of the band, as
+/// long as it stands there (own).
 #[derive(Drop)]
 pub struct Fingers {
     rows: Vec<Row>,
@@ -38,8 +39,8 @@ impl Model for Fingers {
 /// The band of a priority.
 #[inline(always)]
 fn band_of(p: Prio) -> u8
-    ensures band { result ≡ p.0 / 4 }
-    ensures within { result < 64 }
+    ensures band { result ≡ p.0 / BAND }
+    ensures within { result < BANDS }
 {
     p.0 / BAND
 }
@@ -61,14 +62,14 @@ impl Fingers {
     /// The finger of a band of a line.
     fn at(&self, q: LineNo, band: u8) -> Option<ThreadNo>
         requires line { q.0 < length self.now }
-        requires band { band < 64 }
+        requires band { band < BANDS }
         ensures { result ≡ finger self.now q.0 band }
     {
         let row = &self.rows[q.0 as usize];
         row.threads[band as usize]
     }
 
-    /// The bands below that of a priority which have a finger, a bit for each.
+    /// The bands below that of a priority which have a finger, a bit for each. No clause says so: what is looked for there is compared.
     fn known_below(&self, q: LineNo, p: Prio) -> u64
         requires { q.0 < length self.now }
     {
@@ -95,7 +96,7 @@ impl Fingers {
     /// Points the finger of a priority's band at a thread, or at none.
     pub fn point(&mut self, q: LineNo, p: Prio, to: Option<ThreadNo>)
         requires { q.0 < length self.old }
-        ensures points { Points self.old self.new q.0 (p.0 / 4) to }
+        ensures points { Points self.old self.new q.0 (p.0 / BAND) to }
         ensures lines { length self.new ≡ length self.old }
     {
         let band = band_of(p);
@@ -111,7 +112,7 @@ impl Fingers {
     /// Takes the finger of a priority's band from a thread, if it points there.
     pub fn release(&mut self, q: LineNo, p: Prio, t: ThreadNo)
         requires { q.0 < length self.old }
-        ensures released { IsReleased self.old self.new q.0 (p.0 / 4) t }
+        ensures released { IsReleased self.old self.new q.0 (p.0 / BAND) t }
         ensures lines { length self.new ≡ length self.old }
     {
         if self.at(q, band_of(p)) == Some(t) {

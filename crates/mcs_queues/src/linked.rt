@@ -16,8 +16,8 @@ use std::marker::{Brand, Model};
 use std::sync::ledger::{Blank, Ledger};
 
 /// Lines as links: each thread's slot names the threads before and behind it, and each line's slot its first and its last. To
-/// leave a line or to ask for a neighbour reads no other thread's slot; to join one walks from its end past the threads of a
-/// lower priority (own). `new` takes all slots.
+/// leave a line or to ask for a neighbour reads no other thread's slot; to join one walks past threads of a lower priority,
+/// from a finger of the nearest lower band that has one, or from the line's end (own). `new` takes all slots and fingers.
 #[derive(Drop)]
 pub struct LinkedLines {
     slots: Slots,
@@ -37,8 +37,8 @@ impl Model for LinkedLines {
         × Pointed s.fingers s.slots };
 }
 
-/// Where a walk to a priority begins: before a finger of a lower band, or at the line's end. It answers the thread that is next to be
-/// visited, and the one behind it.
+/// Where a walk to a priority begins: ahead of a finger of a lower band, or at the line's end. It answers the thread that is to be
+/// visited next, and the one behind it.
 fn begin<G: Ledger>(
     slots: &Slots,
     fingers: &Fingers,
