@@ -1,14 +1,11 @@
 -- Each step of a legal book is read again: its thread is one of the boot's, its core one of the boot's, its numbers are in range.
-use Rattle.std.specs.Prelude.{ℕ, ◌+◌, ◌<◌, ◌≤◌, ◌≡◌, Bool, true, false, cond, List, [], ◌∷◌, ◌++◌, Some, None, refl, length, map, reverse}
+use Rattle.std.specs.Prelude.{ℕ, ◌+◌, ◌<◌, ◌≤◌, ◌≡◌, true, List, [], ◌∷◌, Some, None, refl, length}
 use Rattle.std.proofs.Common.{subst, arith}
 use Rattle.mcs_types.specs.declared.id.ObjId.{ObjId}
 use Rattle.mcs_types.specs.declared.id.Kind.{Kind}
 use Rattle.mcs_types.specs.declared.id.Kind.TheVariants as kind
 use Rattle.mcs_types.specs.declared.boot.BootLine.{BootLine}
 use Rattle.mcs_types.specs.declared.boot.BootLine.TheVariants as boot
-use Rattle.mcs_types.specs.declared.entry.Step.{Step}
-use Rattle.mcs_types.specs.declared.entry.Entry.{Entry}
-use Rattle.mcs_types.specs.declared.entry.Entry.TheVariants.{Send, NbSend, Recv, NbRecv, Wait, NbWait, BindCtx, UnbindCtx, CopyCap, MintCap, MoveCap}
 use Rattle.mcs_types.specs.Ids.{same_kind}
 use Rattle.mcs_book.specs.Logs.{Log, onto, counted}
 use Rattle.mcs_book.specs.Objects.{makes_kind, was_made}
@@ -16,7 +13,7 @@ use Rattle.mcs_book.specs.Threads.{threads}
 use Rattle.mcs_book.specs.Boots.{Boot, boot_line, boot_log}
 use Rattle.mcs_types.specs.Limits.{core_limit}
 use Rattle.mcs_book.specs.Sound.{Sound}
-use Rattle.mcs_book.specs.History.{Line, IsLegal, past, steps_of}
+use Rattle.mcs_book.specs.History.{Line, IsLegal, past}
 use Rattle.mcs_book.proofs.Threads.EntersLaws.{enters-made}
 use Rattle.mcs_book.proofs.Books.KnownCores.{legal-cores}
 use Rattle.mcs_book.proofs.Lengths.Rows.{past-threads}
