@@ -1,5 +1,5 @@
 -- Fingers of lines.
-use Rattle.std.proofs.Common.{◌≡◌, ◌≢◌, ◌<◌, ◌/◌, ◌&&◌, ℕ, zero, suc, Bool, true, false, nat_eq, List, [], ◌∷◌, ◌++◌, length, get_or, replicate, Option, Some, None, refl, ap, sym, ◌∙◌, subst, arith}
+use Rattle.std.proofs.Common.{◌≡◌, ◌≢◌, ◌<◌, ◌/◌, ◌&&◌, ℕ, Bool, true, false, nat_eq, List, [], ◌∷◌, ◌++◌, length, get_or, replicate, Option, Some, None, refl, ap, sym, ◌∙◌, subst, arith}
 use Rattle.std.proofs.lemmas.Grind.{common_steps}
 use Rattle.std.proofs.lemmas.List.{length-replicate}
 use Rattle.mcs_types.specs.Waiters.{Waiter, lower, NoneAbove, NeverRises}
@@ -12,13 +12,8 @@ use Rattle.mcs_queues.specs.Links.{Links, blank_ends, slot_at, spelled, stands_a
 use Rattle.mcs_queues.specs.Linked.{Linked, Walked}
 use Rattle.mcs_queues.specs.Fingers.{finger, no_fingers, Points, IsReleased, IsLower, Pointed}
 use Rattle.mcs_queues.proofs.LinkLaws.{Relinked}
-use Rattle.mcs_queues.proofs.LinkSteps.{place}
+use Rattle.mcs_queues.proofs.LinkSteps.{get-replicate, place}
 use Rattle.mcs_queues.proofs.WalkLaws.{visited}
-
-get-replicate : {X : Type 0} (x : X) (n i : ℕ) → get_or (replicate n x) i x ≡ x
-get-replicate x zero i = refl
-get-replicate x (suc n) zero = refl
-get-replicate x (suc n) (suc i) = get-replicate x n i
 
 no-finger : (rows : List Row) (n : ℕ) → rows ≡ replicate n no_fingers → (q b : ℕ) → finger rows q b ≡ None
 no-finger rows n h q b =

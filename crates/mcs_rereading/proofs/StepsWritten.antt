@@ -1,7 +1,6 @@
 -- A line that is read as a step is the line of that step.
-use Rattle.std.proofs.Common.{◌≡◌, ℕ, Bool, true, false, cond, List, [], ◌∷◌, ◌++◌, Option, Some, Result, Ok, map, refl, ap, sym, subst, ◌∙◌, decimal}
+use Rattle.std.proofs.Common.{◌≡◌, ℕ, List, [], ◌∷◌, ◌++◌, Option, Some, Result, Ok, map, refl, ap, sym, subst, ◌∙◌, decimal}
 use Rattle.std.specs.Prelude.{bytes_eq}
-use Rattle.std.specs.List.{find}
 use Rattle.mcs_types.specs.Views.{Content}
 use Rattle.mcs_types.specs.declared.cap.Place.{Place}
 use Rattle.mcs_types.specs.declared.entry.Entry.{Entry}
@@ -16,6 +15,7 @@ use Rattle.mcs_text.specs.Spelling.{name_text, rights_text}
 use Rattle.mcs_text.specs.RightsReading.{rights_at}
 use Rattle.mcs_text.specs.Table.{entry_form, form_line}
 use Rattle.mcs_text.specs.Reading.{◌>>=◌, words_of, number_at, name_at, end_at, below, made, content, kept_after, sent_at, replied_at, pair_at, priority_at, address_at, place_at, place_of, copy_at, mint_at, move_at, last_place_at, make_of, make_at, entry_of, entry_at, step_of, word_limit}
+use Rattle.mcs_book.proofs.Messages.MessageLaws.{find-passes}
 use Rattle.mcs_rereading.specs.LineLaws.{step_with, IsWrittenAgain}
 use Rattle.mcs_rereading.proofs.RoundTrip.{form_text-words}
 use Rattle.mcs_rereading.proofs.FormWords.{form_rest}
@@ -24,21 +24,13 @@ use Rattle.mcs_rereading.proofs.WordsWritten.{same-bytes, same-words, reads, pas
 
 -- ---- keys
 
-found-passes : (p : Key → Bool) (xs : List Key) (y : Key) → find p xs ≡ Some y → p y ≡ true
-found-passes p [] y h = absurd (cc)
-found-passes p (x ∷ xs) y h = go (p x) refl h (λ e. found-passes p xs y e)
-  where
-    go : (b : Bool) → p x ≡ b → cond b (Some x) (find p xs) ≡ Some y → (find p xs ≡ Some y → p y ≡ true) → p y ≡ true
-    go true e f later = let same : x ≡ y = cc in ap p (sym same) ∙ e
-    go false e f later = later f
-
 entry_key-text : (w : List ℕ) (key : Key) → entry_key w ≡ Some key → key_text key ≡ w
 unfolding entry_key
-entry_key-text w key h = same-bytes (key_text key) w (found-passes (λ x. bytes_eq (key_text x) w) entry_keys key h)
+entry_key-text w key h = same-bytes (key_text key) w (find-passes (λ x. bytes_eq (key_text x) w) entry_keys key h)
 
 boot_key-text : (w : List ℕ) (key : Key) → boot_key w ≡ Some key → key_text key ≡ w
 unfolding boot_key
-boot_key-text w key h = same-bytes (key_text key) w (found-passes (λ x. bytes_eq (key_text x) w) boot_keys key h)
+boot_key-text w key h = same-bytes (key_text key) w (find-passes (λ x. bytes_eq (key_text x) w) boot_keys key h)
 
 -- ---- the fields of entries
 
