@@ -5,7 +5,7 @@ ghost use Rattle.mcs_packing.specs.Heads.{AllHeadsFit, all_entered};
 ghost use Rattle.mcs_book.specs.History.{with_boot_line, with_line, line_of_number};
 ghost use Rattle.mcs_book.specs.Pages.{EndsRise, facts, lines_of, start_at};
 
-use mcs_packing::{Arena, Head, Packed, unpack, unpack_answer, unpack_entry};
+use mcs_packing::{Arena, Head, KeptAnswer, KeptRecord, KeptStep, Packed};
 use mcs_types::{Answer, BootLine, ObjId, OutOfMemory, Rec, Step};
 use std::alloc::Global;
 use std::marker::Model;
@@ -38,17 +38,33 @@ impl<'a> Model for Line<'a> {
 }
 
 impl<'a> Line<'a> {
+    /// Who entered on which core, and the entry, where the book keeps them.
+    pub fn kept_step(&self) -> KeptStep<'_>
+        ensures { result ≡ self.now.step }
+    {
+        KeptStep {
+            core: self.head.core,
+            kind: self.head.kind,
+            serial: self.head.serial,
+            entry: &self.head.entry,
+            words: self.words,
+        }
+    }
+
     /// Who entered on which core, and the entry.
     pub fn step(&self) -> Step
         ensures { result ≡ self.now.step }
     {
-        Step {
-            core: self.head.core,
-            thread: ObjId {
-                kind: self.head.kind,
-                serial: self.head.serial,
-            },
-            entry: unpack_entry(&self.head.entry, self.words),
+        self.kept_step().unpack()
+    }
+
+    /// What the entry was answered, where the book keeps it.
+    pub fn kept_answer(&self) -> KeptAnswer<'_>
+        ensures { result ≡ self.now.answer }
+    {
+        KeptAnswer {
+            answer: &self.head.answer,
+            words: self.words,
         }
     }
 
@@ -56,7 +72,7 @@ impl<'a> Line<'a> {
     pub fn answer(&self) -> Answer
         ensures { result ≡ self.now.answer }
     {
-        unpack_answer(&self.head.answer, self.words)
+        self.kept_answer().unpack()
     }
 
     /// How many records there are.
@@ -66,22 +82,41 @@ impl<'a> Line<'a> {
         self.packed.len()
     }
 
-    /// The record of number `i`, if there is one, in the order in which they were recorded.
-    pub fn record(&self, i: usize) -> Option<Rec>
+    /// The record of number `i` where the book keeps it, if there is one, in the order in which they were recorded.
+    pub fn kept_record(&self, i: usize) -> Option<KeptRecord<'_>>
         ensures { result ≡ slice_get self.now.records i }
     {
         record_at(self.packed, self.words, self.wide, i)
     }
+
+    /// The record of number `i`, if there is one, in the order in which they were recorded.
+    pub fn record(&self, i: usize) -> Option<Rec>
+        ensures { result ≡ slice_get self.now.records i }
+    {
+        match self.kept_record(i) {
+            None => None,
+            Some(kept) => Some(kept.unpack()),
+        }
+    }
 }
 
-/// The record that a packed one stands for, if there is one of this number.
-fn record_at(packed: &[Packed], words: &[u64], wide: &[Rec], i: usize) -> Option<Rec>
+/// The record of this number, if there is one, where it is kept.
+fn record_at<'a>(
+    packed: &'a [Packed],
+    words: &'a [u64],
+    wide: &'a [Rec],
+    i: usize,
+) -> Option<KeptRecord<'a>>
     requires { AllFit packed.now words.now wide.now }
     ensures { result ≡ slice_get (records_of packed.now words.now wide.now) i }
 {
     match packed.get(i) {
         None => None,
-        Some(one) => Some(unpack(one, words, wide)),
+        Some(one) => Some(KeptRecord {
+            packed: one,
+            words,
+            wide,
+        }),
     }
 }
 

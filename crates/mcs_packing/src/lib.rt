@@ -6,13 +6,15 @@ mod arena;
 mod copying;
 mod entries;
 mod heads;
+mod kept;
 mod laws;
 mod packed;
 mod unpacking;
 
 pub use arena::Arena;
-pub use entries::{PackedEntry, unpack_entry};
+pub use entries::{OverAddress, OverPair, OverPlace, PackedEntry, Sending, unpack_entry};
 pub use heads::{Head, PackedAnswer, unpack_answer};
+pub use kept::{KeptAnswer, KeptRecord, KeptStep};
 pub use laws::{answers_kept, entries_kept, records_kept};
 pub use packed::{Packed, Side};
-pub use unpacking::unpack;
+pub use unpacking::{guarded, id_of, plain, queue_of, unpack};

@@ -7,14 +7,15 @@ use crate::copying::copy_of;
 use crate::packed::{Packed, Side};
 use mcs_types::{Badge, Cap, Form, Guard, Kind, ObjId, Queue, Rec, Rights};
 
-fn id_of(kind: Kind, serial: u32) -> ObjId
+/// The object of a kind with this serial.
+pub fn id_of(kind: Kind, serial: u32) -> ObjId
     ensures { result ≡ object kind serial }
 {
     ObjId { kind, serial }
 }
 
 /// The queue of this side of an object.
-fn queue_of(side: Side, serial: u32) -> Queue
+pub fn queue_of(side: Side, serial: u32) -> Queue
     ensures { result ≡ queue_on side serial }
 {
     match side {
@@ -25,7 +26,7 @@ fn queue_of(side: Side, serial: u32) -> Queue
 }
 
 /// A capability without a guard.
-fn plain(obj: ObjId, rights: Rights, badge: u64) -> Cap
+pub fn plain(obj: ObjId, rights: Rights, badge: u64) -> Cap
     ensures { result ≡ plain_cap obj rights badge }
 {
     Cap {
@@ -37,7 +38,7 @@ fn plain(obj: ObjId, rights: Rights, badge: u64) -> Cap
 }
 
 /// A capability to a CNode with a guard.
-fn guarded(serial: u32, rights: Rights, bits: u8, value: u64) -> Cap
+pub fn guarded(serial: u32, rights: Rights, bits: u8, value: u64) -> Cap
     ensures { result ≡ guarded_cap serial rights bits value }
 {
     Cap {

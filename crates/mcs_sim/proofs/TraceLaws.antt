@@ -1,11 +1,12 @@
 -- The trace of one record and of one line more.
-use Rattle.std.proofs.Common.{◌≡◌, ℕ, zero, suc, Some, None, Option, false, eqb, inl, inr, reverse, slice_get, ◌-◌, ◌+◌, ◌<◌, ◌≤◌, List, [], ◌∷◌, ◌++◌, length, get_or, take, refl, sym, ap, ◌∙◌, append_assoc, append-nil, arith}
+use Rattle.std.proofs.Common.{◌≡◌, ℕ, zero, suc, Some, None, Option, false, eqb, if◌then◌else◌, inl, inr, reverse, slice_get, ◌-◌, ◌+◌, ◌<◌, ◌≤◌, List, [], ◌∷◌, ◌++◌, length, get_or, take, refl, sym, ap, ◌∙◌, append_assoc, append-nil, arith}
 use Rattle.std.proofs.lemmas.List.{take_more, length-reverse}
 use Rattle.std.proofs.lemmas.Option.{slice_get_cases}
 use Rattle.std.proofs.lemmas.Bool.{ne_eqb}
 use Rattle.mcs_types.specs.declared.record.Rec.{Rec}
 use Rattle.mcs_types.specs.declared.record.Rec.TheVariants.{Sent}
 use Rattle.mcs_book.specs.History.{Book, Line, line_of_number}
+use Rattle.mcs_packing.specs.Kept.{is_sent}
 use Rattle.mcs_text.specs.declared.sink.Sink.{Sink}
 use Rattle.mcs_text.specs.Output.{Puts}
 use Rattle.mcs_text.specs.Table.{record_text}
@@ -29,6 +30,10 @@ pub line-past : (b : Book) (i : ℕ) → 0 < i → None ≡ line_of_number b i �
 line-past b i some none lt =
     let other : eqb i 0 ≡ false = ne_eqb _ _ (λ e. omega arith) in
     none-past (reverse b.lines) (i - 1) (rw other at none) (omega (arith, length-reverse b.lines))
+
+pub sent_with_more : (n : ℕ) (r : Rec) → sent_with n r ≡ (if is_sent r then n + 1 else n)
+sent_with_more n (Sent x e mode badge message) = refl
+sent_with_more n r = refl
 
 pub sent_with-le : (n : ℕ) (r : Rec) → sent_with n r ≤ n + 1
 sent_with-le n (Sent x e mode badge message) = omega arith

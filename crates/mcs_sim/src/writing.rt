@@ -6,8 +6,10 @@ ghost use Rattle.mcs_sim.specs.Runs.{Writes, WritesPart};
 
 use crate::fault::SimFault;
 use mcs_book::{Book, Line};
-use mcs_text::{Sink, put_answer, put_boot_line, put_cores, put_record, put_step};
-use mcs_types::{BootLine, Rec};
+use mcs_packing::KeptRecord;
+use mcs_text::{Sink, put_boot_line, put_cores};
+use mcs_trace::{put_kept_answer, put_kept_record, put_kept_step};
+use mcs_types::BootLine;
 use std::io::Write;
 
 fn put_boot<W: Write>(sink: &mut Sink<W>, lines: &[BootLine])
@@ -19,14 +21,12 @@ fn put_boot<W: Write>(sink: &mut Sink<W>, lines: &[BootLine])
 }
 
 /// How many messages were sent with a record more.
-fn count_sent(sent: u128, fact: &Rec) -> u128
+#[tactic(auto, using(crate::proofs::TraceLaws::sent_with_more))]
+fn count_sent(sent: u128, fact: &KeptRecord<'_>) -> u128
     requires { sent + 1 < 2 ^ 128 }
     ensures { result ≡ sent_with sent fact.now }
 {
-    match fact {
-        Rec::Sent { .. } => sent + 1,
-        _ => sent,
-    }
+    if fact.is_sent() { sent + 1 } else { sent }
 }
 
 /// Writes the records of a line before which so many messages were sent, and answers how many were sent with them.
@@ -38,9 +38,9 @@ fn put_records<W: Write>(sink: &mut Sink<W>, sent: u128, line: &Line<'_>) -> u12
 {
     let mut count = sent;
     for i in 0..line.record_count() {
-        match line.record(i) {
+        match line.kept_record(i) {
             Some(fact) => {
-                put_record(sink, count, &fact);
+                put_kept_record(sink, count, &fact);
                 count = count_sent(count, &fact);
             }
             None => unreachable!(),
@@ -56,8 +56,8 @@ fn put_book_line<W: Write>(sink: &mut Sink<W>, sent: u128, line: &Line<'_>) -> u
     ensures sent { result ≡ sent_after sent line.now.records }
     ensures few { result ≤ sent + 2 ^ 64 }
 {
-    put_step(sink, &line.step());
-    put_answer(sink, &line.answer());
+    put_kept_step(sink, &line.kept_step());
+    put_kept_answer(sink, &line.kept_answer());
     put_records(sink, sent, line)
 }
 

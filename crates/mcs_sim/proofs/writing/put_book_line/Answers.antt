@@ -5,5 +5,5 @@ use Rattle.mcs_sim.proofs.writing.put_book_line.Goals as goal
 
 pub returns-clause-puts : goal.returns-clause-puts
 returns-clause-puts g c =
-    Puts-then _ _ _ _ _ _ (Puts-then _ _ _ _ _ _ (Puts-text _ _ _ _ _ c.put_step.ensures (ap step_text c.step.ensures)) (Puts-text _ _ _ _ _ c.put_answer.ensures (ap answer_text c.answer.ensures)))
+    Puts-then _ _ _ _ _ _ (Puts-then _ _ _ _ _ _ (Puts-text _ _ _ _ _ c.put_kept_step.ensures (ap step_text c.kept_step.ensures)) (Puts-text _ _ _ _ _ c.put_kept_answer.ensures (ap answer_text c.kept_answer.ensures)))
     c.put_records.ensures.puts

@@ -1,0 +1,117 @@
+//! What a book keeps, read where it stands: nothing is unpacked before it is asked for.
+ghost use Rattle.std.specs.Prelude.{◌≡◌};
+ghost use Rattle.mcs_packing.specs.Kept.{is_sent};
+
+use crate::entries::{PackedEntry, unpack_entry};
+use crate::heads::{PackedAnswer, unpack_answer};
+use crate::packed::Packed;
+use crate::unpacking::unpack;
+use mcs_types::{Answer, CoreId, Kind, ObjId, Rec, Step};
+use std::marker::Model;
+
+/// A record where it is kept. Clauses see the record.
+#[derive(Drop)]
+pub struct KeptRecord<'a> {
+    pub packed: &'a Packed,
+    pub words: &'a [u64],
+    pub wide: &'a [Rec],
+}
+
+impl<'a> Model for KeptRecord<'a> {
+    ghost use Rattle.mcs_types.specs.declared.record.Rec.{Rec};
+    ghost use Rattle.mcs_packing.specs.Packing.{Fits, record_of};
+
+    ghost Value = { Rec };
+
+    ghost view = { λ r. record_of r.packed.now r.words.now r.wide.now };
+
+    ghost invariant = { λ r. Fits r.packed.now r.words.now r.wide.now };
+}
+
+impl<'a> KeptRecord<'a> {
+    /// The record.
+    pub fn unpack(&self) -> Rec
+        ensures { result ≡ self.now }
+    {
+        unpack(self.packed, self.words, self.wide)
+    }
+
+    /// Whether it is that of a message that was sent.
+    pub fn is_sent(&self) -> bool
+        ensures { result ≡ is_sent self.now }
+    {
+        match self.packed {
+            Packed::Sent { .. } => true,
+            Packed::Wide { at } => matches!(&self.wide[*at as usize], Rec::Sent { .. }),
+            _ => false,
+        }
+    }
+}
+
+/// Who entered on which core, and the entry, where it is kept. Clauses see the step.
+#[derive(Drop)]
+pub struct KeptStep<'a> {
+    pub core: CoreId,
+    pub kind: Kind,
+    pub serial: u32,
+    pub entry: &'a PackedEntry,
+    pub words: &'a [u64],
+}
+
+impl<'a> Model for KeptStep<'a> {
+    ghost use Rattle.mcs_types.specs.declared.entry.Step.{Step};
+    ghost use Rattle.mcs_packing.specs.Entries.{EntryFits, entry_of};
+
+    ghost Value = { Step };
+
+    ghost view = { λ s. record {
+      core = s.core;
+      thread = record { kind = s.kind; serial = s.serial };
+      entry = entry_of s.entry.now s.words.now;
+    } };
+
+    ghost invariant = { λ s. EntryFits s.entry.now s.words.now };
+}
+
+impl<'a> KeptStep<'a> {
+    /// The step.
+    pub fn unpack(&self) -> Step
+        ensures { result ≡ self.now }
+    {
+        Step {
+            core: self.core,
+            thread: ObjId {
+                kind: self.kind,
+                serial: self.serial,
+            },
+            entry: unpack_entry(self.entry, self.words),
+        }
+    }
+}
+
+/// An answer where it is kept. Clauses see the answer.
+#[derive(Drop)]
+pub struct KeptAnswer<'a> {
+    pub answer: &'a PackedAnswer,
+    pub words: &'a [u64],
+}
+
+impl<'a> Model for KeptAnswer<'a> {
+    ghost use Rattle.mcs_types.specs.declared.entry.Answer.{Answer};
+    ghost use Rattle.mcs_packing.specs.Heads.{AnswerFits, answer_of};
+
+    ghost Value = { Answer };
+
+    ghost view = { λ a. answer_of a.answer.now a.words.now };
+
+    ghost invariant = { λ a. AnswerFits a.answer.now a.words.now };
+}
+
+impl<'a> KeptAnswer<'a> {
+    /// The answer.
+    pub fn unpack(&self) -> Answer
+        ensures { result ≡ self.now }
+    {
+        unpack_answer(self.answer, self.words)
+    }
+}
