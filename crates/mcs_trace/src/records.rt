@@ -7,8 +7,9 @@ ghost use Rattle.mcs_packing.specs.Heads.{AnswerFits, answer_of};
 
 use mcs_packing::{Packed, PackedAnswer, guarded, id_of, plain, queue_of};
 use mcs_text::{
-    Key, Token, end_word, number_of, write_bare, write_got, write_heard, write_joins, write_number_of,
-    write_numbered, write_one, write_paid, write_record, write_sent, write_three, write_turns, write_two,
+    Key, Token, end_word, number_of, write_bare, write_got, write_heard, write_joins,
+    write_number_of, write_numbered, write_one, write_paid, write_record, write_sent, write_three,
+    write_turns, write_two,
 };
 use mcs_types::{Cap, Kind, Rec};
 
@@ -249,7 +250,13 @@ fn write_bond(
             notification,
         } => {
             let notification = Token::Maybe(Some(id_of(Kind::Notification, *notification)));
-            write_two(out, at, Key::Tied, name(Kind::Thread, *thread), notification)
+            write_two(
+                out,
+                at,
+                Key::Tied,
+                name(Kind::Thread, *thread),
+                notification,
+            )
         }
         Packed::Untied { thread } => {
             let thread = name(Kind::Thread, *thread);
@@ -339,7 +346,10 @@ fn write_message(
             endpoint,
             at: place,
         } => {
-            let between = (id_of(Kind::Thread, *sender), id_of(Kind::Endpoint, *endpoint));
+            let between = (
+                id_of(Kind::Thread, *sender),
+                id_of(Kind::Endpoint, *endpoint),
+            );
             let badge = words[*place as usize + 1 + *len as usize];
             let label = words[*place as usize];
             let rest = words_at(words, *place, *len);

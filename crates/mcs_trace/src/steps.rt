@@ -89,13 +89,7 @@ fn write_over_address(
 }
 
 /// The line of an entry of one place.
-fn write_at_place(
-    out: &mut [u8],
-    at: usize,
-    from: Entrant,
-    form: OverPlace,
-    place: Place,
-) -> usize
+fn write_at_place(out: &mut [u8], at: usize, from: Entrant, form: OverPlace, place: Place) -> usize
     requires { at + 320 ≤ length out.old }
     ensures text { Written out.old out.new at result
         (step_text (step_by from (over_place form place))) }
@@ -172,7 +166,10 @@ pub fn write_kept_step(
             source,
             dest,
         } => {
-            let places = (place_of(*source, *source_depth), place_of(*dest, *dest_depth));
+            let places = (
+                place_of(*source, *source_depth),
+                place_of(*dest, *dest_depth),
+            );
             write_copy(out, at, from, places, *rights)
         }
         PackedEntry::MintCap {
@@ -183,8 +180,18 @@ pub fn write_kept_step(
             source,
             dest,
         } => {
-            let places = (place_of(*source, *source_depth), place_of(*dest, *dest_depth));
-            write_mint(out, at, from, places, *rights, Badge(words[*place as usize]))
+            let places = (
+                place_of(*source, *source_depth),
+                place_of(*dest, *dest_depth),
+            );
+            write_mint(
+                out,
+                at,
+                from,
+                places,
+                *rights,
+                Badge(words[*place as usize]),
+            )
         }
         PackedEntry::MoveCap {
             source_depth,
@@ -192,7 +199,10 @@ pub fn write_kept_step(
             source,
             dest,
         } => {
-            let (source, dest) = (place_of(*source, *source_depth), place_of(*dest, *dest_depth));
+            let (source, dest) = (
+                place_of(*source, *source_depth),
+                place_of(*dest, *dest_depth),
+            );
             write_move(out, at, from, source, dest)
         }
     }
