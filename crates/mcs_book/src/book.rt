@@ -257,10 +257,7 @@ fn pack_all(
     for fact in records {
         let one = arena.pack(fact);
         place = note(sent, &one, place);
-        match packed.push(one) {
-            Ok(()) => {}
-            Err(_) => unreachable!(),
-        }
+        packed.push_reserved(one);
     }
     place
 }

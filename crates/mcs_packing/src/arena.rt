@@ -63,10 +63,7 @@ fn push_word(words: &mut Vec<u64>, word: u64)
     ensures capacity { vec_capacity words.old ≤ vec_capacity words.new }
     ensures len { vec_len words.new ≡ vec_len words.old + 1 }
 {
-    match words.push(word) {
-        Ok(()) => {}
-        Err(_) => unreachable!(),
-    }
+    words.push_reserved(word);
 }
 
 /// Adds words, for which there is room.

@@ -90,15 +90,13 @@ impl<W: Waiting> Model for State<W> {
 }
 
 /// Notes a record, for which there is room.
+#[inline(always)]
 fn note(hand: &mut Vec<Rec>, rec: Rec)
     requires { vec_len hand.old < vec_capacity hand.old }
     ensures items { hand.new.items ≡ hand.old.items ++ rec ∷ [] }
     ensures capacity { vec_capacity hand.old ≤ vec_capacity hand.new }
 {
-    match hand.push(rec) {
-        Ok(()) => {}
-        Err(_) => unreachable!(),
-    }
+    hand.push_reserved(rec);
 }
 
 /// The mail that a letter is to its receiver.
