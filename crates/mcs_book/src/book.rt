@@ -339,9 +339,10 @@ impl Book {
     }
 
     /// Adds a line, and empties the records, whose room stays.
-    pub fn append(&mut self, step: Step, answer: Answer, records: &mut Vec<Rec>)
+    pub fn append(&mut self, step: &Step, answer: &Answer, records: &mut Vec<Rec>)
         requires { vec_len records.old < self.old.room }
-        ensures line { self.new.book ≡ with_line self.old.book step answer records.old.items }
+        ensures line { self.new.book
+            ≡ with_line self.old.book step.now answer.now records.old.items }
         ensures empty { records.new.items ≡ [] }
         ensures capacity { vec_capacity records.new ≡ vec_capacity records.old }
     {
@@ -349,7 +350,7 @@ impl Book {
         self.room = 0;
         let place = pack_all(&mut self.arena, &mut self.packed, &mut self.sent, records);
         let entry = self.arena.pack_entry(&step.entry, first);
-        let told = self.arena.pack_answer(&answer, place);
+        let told = self.arena.pack_answer(answer, place);
         let head = Head {
             entry,
             end: self.packed.len(),

@@ -9,7 +9,7 @@ ghost use Rattle.mcs_book.specs.Table.{does};
 ghost use Rattle.mcs_state.specs.Now.{so_far};
 ghost use Rattle.mcs_state.specs.Doing.{Does, Fits};
 ghost use Rattle.mcs_state.specs.Entering.{IsEntering, OpenStand, OnlyBoundWait};
-ghost use Rattle.mcs_kernel.specs.Faults.{fault_of, with_entry, FailsForMemory};
+ghost use Rattle.mcs_kernel.specs.Faults.{fault_of, entered, with_entry, FailsForMemory};
 
 mod queries;
 
@@ -164,31 +164,59 @@ impl<L: Lines> Kernel<L> {
         }
     }
 
-    /// Does an entry that is let in: its line is added. OutOfMemory where the room for it is refused.
-    fn serve(&mut self, core: CoreId, thread: ObjId, entry: Entry) -> Result<Answer, OutOfMemory>
-        requires let_in { fault_of self.old core thread ≡ None }
-        ensures line { OnOk result (self.new ≡ with_entry self.old core thread entry) }
-        ensures answer { IfOk result (λ a. a ≡ (does (log_of self.old) core thread entry).answer) }
+    /// Does a step that is let in: its line is added. OutOfMemory where the room for it is refused.
+    fn serve(&mut self, step: &Step) -> Result<Answer, OutOfMemory>
+        requires let_in { fault_of self.old step.now.core step.now.thread ≡ None }
+        ensures line { OnOk result (self.new ≡ entered self.old step.now) }
+        ensures answer { IfOk result (λ a.
+            a ≡ (does (log_of self.old) step.now.core step.now.thread step.now.entry).answer) }
         ensures err { OnErr result (self.new ≡ self.old) }
     {
         self.state.reserve()?;
-        entry.is_in_range();
+        step.entry.is_in_range();
         self.state.is_sound();
-        let answer = operate(&mut self.state, core, thread, &entry);
-        let told = answer.copy();
+        let answer = operate(&mut self.state, step.core, step.thread, &step.entry);
         self.state.is_sound();
-        let step = Step {
-            core,
-            thread,
-            entry,
-        };
-        self.state.close(step, told);
+        self.state.close(step, &answer);
         Ok(answer)
     }
 
-    /// Lets in an entry of a thread on a core, and adds its line to the book, also where the answer is a refusal; or
-    /// turns it away for the first of EnterFault's reasons, and then nothing has changed. OutOfMemory comes only where
-    /// the others do not. The thread need not be the one of greatest priority.
+    /// Lets in the entry of a step, and adds its line to the book, also where the answer is a refusal; or turns it away for
+    /// the first of EnterFault's reasons, and then nothing has changed. OutOfMemory comes only where the others do not.
+    /// The thread need not be the one of greatest priority.
+    pub fn admit(&mut self, step: &Step) -> Result<Answer, EnterFault>
+        ensures turned { IfSome (fault_of self.old step.now.core step.now.thread)
+            (λ f. result ≡ Err f) }
+        ensures let_in { OnOk result (fault_of self.old step.now.core step.now.thread ≡ None) }
+        ensures memory { IfNone (fault_of self.old step.now.core step.now.thread)
+            (FailsForMemory result) }
+        ensures line { OnOk result (self.new ≡ entered self.old step.now) }
+        ensures answer { IfOk result (λ a.
+            a ≡ (does (log_of self.old) step.now.core step.now.thread step.now.entry).answer) }
+        ensures err { OnErr result (self.new ≡ self.old) }
+        ensures legal { IsLegal self.new }
+        ensures taken_once { EachRecord EndsOpen self.new }
+        ensures whole { EachLine IsWholeLine self.new }
+        ensures by_priority { EachRecord TakesFirst self.new }
+        ensures in_order { EachRecord TakesInOrder self.new }
+        ensures not_deleted { EachRecord TakesAlive self.new }
+        ensures not_cancelled { AfterEachLine SendersAreOpen self.new }
+        ensures answered_once { EachRecord AnswersOwed self.new }
+        ensures answered_whole { EachLine AnswersWhole self.new }
+        ensures none_beside { AfterEachLine NoneWaitBeside self.new }
+    {
+        let result = match self.fault(step.core, step.thread) {
+            Some(fault) => Err(fault),
+            None => match self.serve(step) {
+                Ok(answer) => Ok(answer),
+                Err(OutOfMemory) => Err(EnterFault::OutOfMemory),
+            },
+        };
+        self.is_fair();
+        result
+    }
+
+    /// Lets in an entry of a thread on a core, or turns it away, as `admit` does.
     pub fn enter(
         &mut self,
         _alloc: Global,
@@ -213,14 +241,11 @@ impl<L: Lines> Kernel<L> {
         ensures answered_whole { EachLine AnswersWhole self.new }
         ensures none_beside { AfterEachLine NoneWaitBeside self.new }
     {
-        let result = match self.fault(core, thread) {
-            Some(fault) => Err(fault),
-            None => match self.serve(core, thread, entry) {
-                Ok(answer) => Ok(answer),
-                Err(OutOfMemory) => Err(EnterFault::OutOfMemory),
-            },
+        let step = Step {
+            core,
+            thread,
+            entry,
         };
-        self.is_fair();
-        result
+        self.admit(&step)
     }
 }

@@ -42,7 +42,40 @@ impl<L: Lines> Replay<L> {
     /// the step is counted, up to usize::MAX. BookFull comes exactly at a step that would be let in and for which the book is
     /// full, and OutOfMemory where the room for its line is refused, each with the number of the step, from 1. After a fault
     /// nothing has changed, and the same step may be given again.
-    pub fn step(&mut self, alloc: Global, step: Step) -> Result<Option<Answer>, ReplayFault>
+    pub fn advance(&mut self, step: &Step) -> Result<Option<Answer>, ReplayFault>
+        ensures room { OnOk result
+            (is_book_full (fault_of self.old.book step.now.core step.now.thread) ≡ false) }
+        ensures answer { IfOk result (λ a. a ≡ answer_to self.old.book step.now) }
+        ensures taken { OnOk result (self.new ≡ after_step self.old step.now) }
+        ensures unchanged { OnErr result (self.new ≡ self.old) }
+        ensures full { IfErr result (StepEnds (next_count self.old.taken)
+            (is_book_full (fault_of self.old.book step.now.core step.now.thread))) }
+        ensures legal { IsLegal self.new.book }
+        ensures taken_once { EachRecord EndsOpen self.new.book }
+        ensures whole { EachLine IsWholeLine self.new.book }
+        ensures by_priority { EachRecord TakesFirst self.new.book }
+        ensures in_order { EachRecord TakesInOrder self.new.book }
+        ensures not_deleted { EachRecord TakesAlive self.new.book }
+        ensures not_cancelled { AfterEachLine SendersAreOpen self.new.book }
+        ensures answered_once { EachRecord AnswersOwed self.new.book }
+        ensures answered_whole { EachLine AnswersWhole self.new.book }
+        ensures none_beside { AfterEachLine NoneWaitBeside self.new.book }
+    {
+        let number = self.taken.saturating_add(1);
+        let answer = match self.kernel.admit(step) {
+            Ok(answer) => Some(answer),
+            Err(EnterFault::NotRunning) => None,
+            Err(EnterFault::NoContext) => None,
+            Err(EnterFault::WrongCore) => None,
+            Err(EnterFault::BookFull) => return Err(ReplayFault::BookFull { step: number }),
+            Err(EnterFault::OutOfMemory) => return Err(ReplayFault::OutOfMemory { step: number }),
+        };
+        self.taken = number;
+        Ok(answer)
+    }
+
+    /// Takes the next step, as `advance` does.
+    pub fn step(&mut self, _alloc: Global, step: Step) -> Result<Option<Answer>, ReplayFault>
         ensures room { OnOk result
             (is_book_full (fault_of self.old.book step.core step.thread) ≡ false) }
         ensures answer { IfOk result (λ a. a ≡ answer_to self.old.book step) }
@@ -61,17 +94,7 @@ impl<L: Lines> Replay<L> {
         ensures answered_whole { EachLine AnswersWhole self.new.book }
         ensures none_beside { AfterEachLine NoneWaitBeside self.new.book }
     {
-        let number = self.taken.saturating_add(1);
-        let answer = match self.kernel.enter(alloc, step.core, step.thread, step.entry) {
-            Ok(answer) => Some(answer),
-            Err(EnterFault::NotRunning) => None,
-            Err(EnterFault::NoContext) => None,
-            Err(EnterFault::WrongCore) => None,
-            Err(EnterFault::BookFull) => return Err(ReplayFault::BookFull { step: number }),
-            Err(EnterFault::OutOfMemory) => return Err(ReplayFault::OutOfMemory { step: number }),
-        };
-        self.taken = number;
-        Ok(answer)
+        self.advance(&step)
     }
 
     /// The kernel after the steps so far.

@@ -35,12 +35,7 @@ pub fn replay<L: Lines>(alloc: Global, boot: Boot, steps: &[Step]) -> Result<Ker
         Err(OutOfMemory) => return Err(ReplayFault::OutOfMemory { step: 0 }),
     };
     for step in steps {
-        let next = Step {
-            core: step.core,
-            thread: step.thread,
-            entry: step.entry.copy(),
-        };
-        match run.step(alloc, next) {
+        match run.advance(step) {
             Ok(_) => {}
             Err(fault) => return Err(fault),
         }

@@ -170,9 +170,10 @@ impl<W: Waiting> State<W> {
     }
 
     /// Moves the records in hand to a line of the book.
-    pub fn close(&mut self, step: Step, answer: Answer)
+    pub fn close(&mut self, step: &Step, answer: &Answer)
         requires { length self.old.hand < self.old.room }
-        ensures book { self.new.book ≡ with_line self.old.book step answer (reverse self.old.hand) }
+        ensures book { self.new.book
+            ≡ with_line self.old.book step.now answer.now (reverse self.old.hand) }
         ensures hand { self.new.hand ≡ [] }
     {
         self.book.append(step, answer, &mut self.hand);

@@ -381,7 +381,7 @@ fn add_lines<W: Write>(alloc: Global, book: &mut Book, sink: &mut Sink<W>) -> Re
         add_records(&mut facts, &names)?;
         put(sink, &step, &answer, &facts);
         book.reserve(facts.len())?;
-        book.append(step, answer, &mut facts);
+        book.append(&step, &answer, &mut facts);
     }
     sink.flush();
     Ok(())

@@ -14,15 +14,15 @@ loop-step-init g c =
       ap (λ (r : Run). full_after r.taken r.book c.args.steps.now) e,
     )
 
-pub returns-in-Err-step-clause-full : goal.returns-in-Err-step-clause-full
-returns-in-Err-step-clause-full g c =
+pub returns-in-Err-advance-clause-full : goal.returns-in-Err-advance-clause-full
+returns-in-Err-advance-clause-full g c =
     let i = c.loop-step.invariant in
     let count = length c.args.steps.now in
     let s : Step = c.step-item.result in
     let rest : List Step = drop (c.loop-step.step-index + 1) c.args.steps.now in
     let next = drop_more c.args.steps.now c.loop-step.step-index s c.loop-step-test.true ∙ ap (λ x. x ∷ rest) (sym c.step-item.is) in
     let number = counts-on c.loop-step.run.taken (omega (arith, i.0, c.loop-step-test.true, c.loop-step.auto.step-index-end)) in
-    let ends = subst (λ n. StepEnds n (is_book_full (fault_of c.loop-step.run.book s.core s.thread)) c.in-Err-step.fault) number c.in-Err-step.ensures.full in
-    let at = ends-at-next c.loop-step.run.taken c.loop-step.run.book s rest count c.in-Err-step.fault ends (omega (arith, i.0, c.loop-step-test.true)) in
-    subst (λ o. EndsAt count o c.in-Err-step.fault) i.2
-    (subst (λ ss. EndsAt count (full_after c.loop-step.run.taken c.loop-step.run.book ss) c.in-Err-step.fault) (sym next) at)
+    let ends = subst (λ n. StepEnds n (is_book_full (fault_of c.loop-step.run.book s.core s.thread)) c.in-Err-advance.fault) number c.in-Err-advance.ensures.full in
+    let at = ends-at-next c.loop-step.run.taken c.loop-step.run.book s rest count c.in-Err-advance.fault ends (omega (arith, i.0, c.loop-step-test.true)) in
+    subst (λ o. EndsAt count o c.in-Err-advance.fault) i.2
+    (subst (λ ss. EndsAt count (full_after c.loop-step.run.taken c.loop-step.run.book ss) c.in-Err-advance.fault) (sym next) at)
