@@ -1,6 +1,6 @@
 use Rattle.std.proofs.Common.{◌≡◌, ◌<◌, true, take}
 use Rattle.mcs_text.specs.Reading.{all_digits, value}
-use Rattle.mcs_text.proofs.words.scan_digits.Given as goal
+use Rattle.mcs_text.proofs.words.more_digits.Given as goal
 
 abbrev pub invariant-loop-i : goal.invariant-loop-i
 invariant-loop-i l = record {
