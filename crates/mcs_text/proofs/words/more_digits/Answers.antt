@@ -2,7 +2,7 @@ use Rattle.std.proofs.Common.{◌≡◌, ◌+◌, true, take, get_or, [], ◌∷
 use Rattle.std.proofs.lemmas.List.{take_more}
 use Rattle.mcs_text.specs.Reading.{is_digit}
 use Rattle.mcs_text.proofs.WordLaws.{all_digits-more, value-more, small-some}
-use Rattle.mcs_text.proofs.words.scan_digits.Goals as goal
+use Rattle.mcs_text.proofs.words.more_digits.Goals as goal
 
 pub loop-i-preserved : goal.loop-i-preserved
 loop-i-preserved c =
