@@ -333,7 +333,9 @@ impl Book {
         self.packed.reserve(records)?;
         self.arena.words.reserve(MOST_WORDS * (records + 2))?;
         self.arena.wide.reserve(records + 2)?;
-        self.sent.reserve(records)?;
+        if self.sent.capacity().saturating_sub(self.sent.len()) < records {
+            self.sent.reserve(records)?;
+        }
         self.room = records + 1;
         Ok(())
     }
@@ -359,10 +361,7 @@ impl Book {
             kind: step.thread.kind,
             core: step.core,
         };
-        match self.heads.push(head) {
-            Ok(()) => {}
-            Err(_) => unreachable!(),
-        }
+        self.heads.push_reserved(head);
         records.clear();
     }
 
