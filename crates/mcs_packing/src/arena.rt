@@ -73,9 +73,9 @@ fn push_words(words: &mut Vec<u64>, more: &[u64])
     ensures capacity { vec_capacity words.old ≤ vec_capacity words.new }
     ensures len { vec_len words.new ≡ vec_len words.old + length more.now }
 {
-    match words.extend_from_slice(more) {
-        Ok(()) => {}
-        Err(_) => unreachable!(),
+    // a message has few words: a call that copies any number of them costs more
+    for word in more {
+        words.push_reserved(*word);
     }
 }
 
