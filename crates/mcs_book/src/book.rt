@@ -222,10 +222,7 @@ fn pack_all(
     for fact in records {
         let one = arena.pack(fact);
         place = note(sent, &one, place);
-        match packed.push(one) {
-            Ok(()) => {}
-            Err(_) => unreachable!(),
-        }
+        packed.push_reserved(one);
     }
     place
 }
@@ -327,10 +324,7 @@ impl Book {
             kind: step.thread.kind,
             core: step.core,
         };
-        match self.heads.push(head) {
-            Ok(()) => {}
-            Err(_) => unreachable!(),
-        }
+        self.heads.push_reserved(head);
         records.clear();
     }
 

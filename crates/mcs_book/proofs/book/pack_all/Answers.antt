@@ -20,11 +20,11 @@ loop-fact-preserved c =
     let one : length c.args.records.now - i + 2 ≡ (length c.args.records.now - (i + 1) + 2) + 1 = omega (arith, c.loop-fact-test.true) in
     let P : ℕ → Type 0 = λ n. HasRoom c.loop-fact.arena n in
     record {
-      value = ap (λ l. records_of l ws rs) c.in-Ok.ensures.items ∙ records_of-push ps p ws rs ∙ ap (λ l. l ++ record_of p ws rs ∷ []) (same ∙ before.value) ∙ append_assoc start (take i c.args.records.now) (record_of p ws rs ∷ []) ∙ ap (λ l. start ++ l) next;
-      fit = rw c.in-Ok.ensures.items (AllFit-push ps p ws rs (AllFit-grows ps c.loop-fact.arena.words.items ws c.loop-fact.arena.wide.items rs grew.words grew.wide before.fit) c.pack-one.ensures.fits);
+      value = ap (λ l. records_of l ws rs) c.push_reserved.ensures.items ∙ records_of-push ps p ws rs ∙ ap (λ l. l ++ record_of p ws rs ∷ []) (same ∙ before.value) ∙ append_assoc start (take i c.args.records.now) (record_of p ws rs ∷ []) ∙ ap (λ l. start ++ l) next;
+      fit = rw c.push_reserved.ensures.items (AllFit-push ps p ws rs (AllFit-grows ps c.loop-fact.arena.words.items ws c.loop-fact.arena.wide.items rs grew.words grew.wide before.fit) c.pack-one.ensures.fits);
       words = GrowsBy-then _ _ _ before.words grew.words;
       wide = GrowsBy-then _ _ _ before.wide grew.wide;
       room = grew.room _ (subst P one before.room);
-      len = omega (arith, c.in-Ok.ensures.len, before.len);
-      capacity = omega (arith, c.in-Ok.ensures.capacity, before.capacity);
+      len = omega (arith, c.push_reserved.ensures.len, before.len);
+      capacity = omega (arith, c.push_reserved.ensures.capacity, before.capacity);
     }
