@@ -49,6 +49,30 @@ freed v w s t one held new_h new_c = record {
   held_by_holder = λ a b. half-freed (context_in v) (holder_in v) (context_in w) (holder_in w) t s (λ c d. one.held_by_holder d c) held new_c new_h b a;
 }
 
+-- one of its maps, with nothing at one place
+abbrev but : (ObjId → Option ObjId) → ObjId → ObjId → Option ObjId
+but K s x = cond (same x s) None (K x)
+
+-- and where the context of one thread goes to another
+pub handed-on : (v w : Holding) (s f t : ObjId) → IsOneToOne v → holder_in v s ≡ Some f → context_in v t ≡ None
+    → ((x : ObjId) → holder_in w x ≡ cond (same x s) (Some t) (holder_in v x))
+    → ((x : ObjId) → context_in w x ≡ cond (same x t) (Some s) (cond (same x f) None (context_in v x))) → IsOneToOne w
+handed-on v w s f t one held idle new_h new_c =
+    let pairs = half-freed (holder_in v) (context_in v) (but (holder_in v) s) (but (context_in v) f) s f one.holder_holds (one.holder_holds s f held) (λ x. refl) (λ x. refl) in
+    let back = half-freed (context_in v) (holder_in v) (but (context_in v) f) (but (holder_in v) s) f s (λ c d. one.held_by_holder d c) held (λ x. refl) (λ x. refl) in
+    record {
+      holder_holds = half-bound (but (holder_in v) s) (but (context_in v) f) (holder_in w) (context_in w) s t pairs (none (same t f)) (λ x. new_h x ∙ again (same x s) (holder_in v x)) new_c;
+      held_by_holder = λ a b. half-bound (but (context_in v) f) (but (holder_in v) s) (context_in w) (holder_in w) t s back (ap (λ b. cond b None (holder_in v s)) (same-self s)) new_c (λ x. new_h x ∙ again (same x s) (holder_in v x)) b a;
+    }
+  where
+    none : (b : Bool) → cond b None (context_in v t) ≡ None
+    none true = refl
+    none false = idle
+
+    again : (b : Bool) (o : Option ObjId) → cond b (Some t) o ≡ cond b (Some t) (cond b None o)
+    again true o = refl
+    again false o = refl
+
 pub kept : (v w : Holding) → IsOneToOne v → ((x : ObjId) → holder_in w x ≡ holder_in v x) → ((x : ObjId) → context_in w x ≡ context_in v x) → IsOneToOne w
 kept v w one h c = record {
   holder_holds = λ s t p. c t ∙ one.holder_holds s t (sym (h s) ∙ p);

@@ -2,7 +2,7 @@
 ghost use Rattle.std.specs.Prelude.{◌≡◌, IfOk, OnOk, OnErr, IsSome, false, Some, None};
 ghost use Rattle.std.specs.Bool.{OnTrue, OnFalse};
 ghost use Rattle.mcs_types.specs.declared.id.ObjId.{ObjId};
-ghost use Rattle.mcs_types.specs.Ids.{IsThread, ChangesAt};
+ghost use Rattle.mcs_types.specs.Ids.{IsThread, ChangesAt, value_after};
 ghost use Rattle.mcs_types.specs.declared.id.Kind.{Kind};
 ghost use Rattle.mcs_objects.specs.Store.{shape, empty_shape, one_more, is_full, IsOneFewer};
 ghost use Rattle.mcs_contexts.specs.Holding.{counts, no_room, next_context, core_at, holder_at, core_in, holder_in, context_in, is_holder, bound, unbound, may_lend, SetsHolder, SetsContext, FreesHolder, LendsHolders, LendsContexts, HoldersDiffer, IsOneToOne};
@@ -46,6 +46,7 @@ impl Model for Contexts {
 }
 
 /// Keeps another holder of a context that is there.
+#[inline(always)]
 fn set_holder(rows: &mut Store<ContextRow>, context: ObjId, holder: Option<ObjId>)
     requires { IsSome (core_at rows.old context) }
     ensures shape { shape rows.new ≡ shape rows.old }
@@ -179,6 +180,22 @@ impl Contexts {
         keep(Kind::Thread, &mut self.held, thread, None);
     }
 
+    /// Gives the context of one thread to another, which holds none.
+    fn hand_on(&mut self, context: ObjId, from: ObjId, to: ObjId)
+        requires held { holder_in self.old context ≡ Some from }
+        requires thread { IsThread to }
+        requires idle { context_in self.old to ≡ None }
+        ensures holders { SetsHolder self.old self.new context (Some to) }
+        ensures contexts { (x : ObjId) → context_in self.new x
+            ≡ value_after x to (Some context) (value_after x from None (context_in self.old x)) }
+        ensures counts { counts self.new ≡ counts self.old }
+        ensures cores { (x : ObjId) → core_in self.new x ≡ core_in self.old x }
+    {
+        set_holder(&mut self.rows, context, Some(to));
+        keep(Kind::Thread, &mut self.held, from, None);
+        keep(Kind::Thread, &mut self.held, to, Some(context));
+    }
+
     /// Gives a context to a thread. Refused, in this order, where the context was not made or was closed (Missing; own), where
     /// the thread is none of a serial from 1 to 256 (Range; own), and where the context has a holder or the thread has a context
     /// (AlreadyBound): then nothing changes (manual: Threads and Execution).
@@ -235,8 +252,7 @@ impl Contexts {
         match self.of(from) {
             Some(context) if is_holder(to) && self.of(to).is_none() => {
                 self.is_one_to_one();
-                self.release(context, from);
-                self.attach(context, to);
+                self.hand_on(context, from, to);
                 true
             }
             _ => false,

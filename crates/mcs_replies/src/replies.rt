@@ -75,6 +75,7 @@ fn keep_receiver(rows: &mut Store<ReplyRow>, reply: ObjId, receiver: Option<ObjI
 }
 
 /// Keeps another caller of a reply object that is there.
+#[inline(always)]
 fn keep_caller(rows: &mut Store<ReplyRow>, reply: ObjId, caller: Option<ObjId>)
     requires { has_row rows.old reply ≡ true }
     ensures shape { shape rows.new ≡ shape rows.old }

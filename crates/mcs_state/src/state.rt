@@ -89,7 +89,7 @@ impl<W: Waiting> Model for State<W> {
         }) (length s.book.book.lines) (reverse s.hand.items) (reverse s.hand.items ++ log_of s.book.book) };
 }
 
-/// Notes a record, for which there is room.
+/// Notes a record, for which there is room. It stands in its callers, where the record is made in its place.
 #[inline(always)]
 fn note(hand: &mut Vec<Rec>, rec: Rec)
     requires { vec_len hand.old < vec_capacity hand.old }

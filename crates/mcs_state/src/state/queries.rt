@@ -282,6 +282,7 @@ impl<W: Waiting> State<W> {
 
     /// The capability that a thread that is there names by an address: Missing where there is none, GuardMismatch and
     /// DepthMismatch where the address leads nowhere.
+    #[inline(always)]
     pub fn capability(&self, thread: ObjId, address: u64) -> Result<Cap, Refusal>
         requires { IsThere (so_far self.now) Kind.Thread thread }
         ensures { result ≡ capability (so_far self.now) thread address }
