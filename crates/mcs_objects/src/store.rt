@@ -45,7 +45,22 @@ impl<T> Model for Store<T> {
 }
 
 /// Where the row of a serial stands, among rows whose serials rise.
+#[inline(always)]
 fn row_of(rows: &[Row], serial: u32) -> Option<usize>
+    requires { Rises 0 rows.now }
+    ensures { result ≡ position (is_of serial) rows.now }
+{
+    // it stands where its serial says, until an object that was made before it ends
+    let first = serial.saturating_sub(1) as usize;
+    if first < rows.len() && rows[first].serial == serial {
+        return Some(first);
+    }
+    search_row(rows, serial)
+}
+
+/// The same by search.
+#[inline(never)]
+fn search_row(rows: &[Row], serial: u32) -> Option<usize>
     requires { Rises 0 rows.now }
     ensures { result ≡ position (is_of serial) rows.now }
 {
