@@ -1,8 +1,8 @@
-use Rattle.std.proofs.Common.{◌≡◌, ℕ, ◌+◌, ◌-◌, ◌*◌, ◌%◌, ◌<◌, ◌≤◌, ◌^◌, true, take, get_or, [], ◌∷◌, ◌++◌, arith}
+use Rattle.std.proofs.Common.{◌≡◌, ℕ, ◌+◌, ◌-◌, ◌*◌, ◌%◌, ◌<◌, ◌≤◌, ◌^◌, take, get_or, [], ◌∷◌, ◌++◌, arith}
 use Rattle.std.proofs.lemmas.List.{take_more}
 use Rattle.std.proofs.Math.Nat.{pow-le-pow_right}
 use Rattle.std.proofs.lemmas.Grind.{pow_more}
-use Rattle.mcs_text.specs.Reading.{is_digit, value}
+use Rattle.mcs_text.specs.Reading.{value}
 use Rattle.mcs_text.proofs.WordLaws.{all_digits-more, value-more, wrapped-low, wrapped-high, wrapped-is, digit-is}
 use Rattle.mcs_text.proofs.words.leading_digits.Goals as goal
 
