@@ -9,7 +9,7 @@ use crate::script::{ReadFault, Script, says_something};
 use mcs_book::Book;
 use mcs_kernel::{Boot, Replay, ReplayFault};
 use mcs_queues::LinkedLines;
-use mcs_text::{LineFault, Words, find_boot_key, read_step};
+use mcs_text::{LineFault, first_boot_key, read_step};
 use mcs_types::{Kind, OutOfMemory, SCRIPT_LINES, Step};
 use std::alloc::Global;
 use std::marker::Model;
@@ -52,11 +52,11 @@ impl Steps {
 
     /// Takes a step.
     #[tactic(auto, unfolding(crate::specs::Going::stepped))]
-    fn take(&mut self, alloc: Global, step: Step) -> Result<(), SimFault>
-        ensures takes { ComesOf (λ u. self.new) result (stepped self.old step) }
+    fn take(&mut self, step: &Step) -> Result<(), SimFault>
+        ensures takes { ComesOf (λ u. self.new) result (stepped self.old step.now) }
         ensures unchanged { OnErr result (self.new ≡ self.old) }
     {
-        match self.replay.step(alloc, step) {
+        match self.replay.advance(step) {
             Ok(_) => Ok(()),
             Err(ReplayFault::BookFull { step: _ }) => Err(SimFault::BookFull),
             Err(ReplayFault::OutOfMemory { step: _ }) => Err(SimFault::OutOfMemory),
@@ -70,20 +70,20 @@ impl Steps {
         let Ok(mut steps) = Steps::new(alloc, boot) else {
             return Err(SimFault::OutOfMemory);
         };
-        steps.take(alloc, step)?;
+        steps.take(&step)?;
         Ok(steps)
     }
 
     /// Takes the line of this number.
     #[tactic(auto, unfolding(crate::specs::Going::book_after))]
-    fn take_line(&mut self, alloc: Global, number: u64, line: &[u8]) -> Result<(), SimFault>
+    fn take_line(&mut self, number: u64, line: &[u8]) -> Result<(), SimFault>
         ensures takes { ComesOf (λ u. self.new) result (book_after self.old number line.now) }
         ensures unchanged { OnErr result (self.new ≡ self.old) }
         ensures numbered { OnOk result (number ≤ SCRIPT_LINES) }
     {
         match self.read(number, line) {
             Ok(None) => Ok(()),
-            Ok(Some(step)) => self.take(alloc, step),
+            Ok(Some(step)) => self.take(&step),
             Err(why) => Err(SimFault::Script { line: number, why }),
         }
     }
@@ -98,9 +98,7 @@ impl Steps {
         if !says_something(number, line)? {
             return Ok(None);
         }
-        let mut words = Words::new(line);
-        let first = words.next_word().ok_or(LineFault::Form)?;
-        if find_boot_key(first).is_some() {
+        if first_boot_key(line).is_some() {
             return Err(LineFault::LateBoot);
         }
         let step = read_step(self.cores, self.threads, line)?;
@@ -232,7 +230,7 @@ impl Standing {
         ensures numbered { OnOk result (number ≤ SCRIPT_LINES) }
     {
         match &mut self.steps {
-            Some(steps) => steps.take_line(alloc, number, line),
+            Some(steps) => steps.take_line(number, line),
             None => self.open(alloc, number, line),
         }
     }
