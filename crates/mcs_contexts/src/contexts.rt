@@ -53,12 +53,9 @@ fn set_holder(rows: &mut Store<ContextRow>, context: ObjId, holder: Option<ObjId
     ensures cores { (x : ObjId) → core_at rows.new x ≡ core_at rows.old x }
     ensures holders { ChangesAt (holder_at rows.old) (holder_at rows.new) context holder }
 {
-    match rows.get(context) {
+    match rows.get_mut(context) {
         None => unreachable!(),
-        Some(row) => {
-            let core = row.core;
-            rows.set(context, ContextRow { core, holder });
-        }
+        Some(row) => row.holder = holder,
     }
 }
 

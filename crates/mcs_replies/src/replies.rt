@@ -65,12 +65,9 @@ fn keep_receiver(rows: &mut Store<ReplyRow>, reply: ObjId, receiver: Option<ObjI
     ensures receivers { ChangesAt (receiver_at rows.old) (receiver_at rows.new) reply receiver }
     ensures owed { (r : ObjId) → owed_at rows.new r ≡ owed_at rows.old r }
 {
-    match rows.get(reply) {
+    match rows.get_mut(reply) {
         None => unreachable!(),
-        Some(row) => {
-            let caller = row.caller;
-            rows.set(reply, ReplyRow { receiver, caller });
-        }
+        Some(row) => row.receiver = receiver,
     }
 }
 
@@ -83,12 +80,9 @@ fn keep_caller(rows: &mut Store<ReplyRow>, reply: ObjId, caller: Option<ObjId>)
     ensures receivers { (r : ObjId) → receiver_at rows.new r ≡ receiver_at rows.old r }
     ensures owed { ChangesAt (owed_at rows.old) (owed_at rows.new) reply caller }
 {
-    match rows.get(reply) {
+    match rows.get_mut(reply) {
         None => unreachable!(),
-        Some(row) => {
-            let receiver = row.receiver;
-            rows.set(reply, ReplyRow { receiver, caller });
-        }
+        Some(row) => row.caller = caller,
     }
 }
 

@@ -125,8 +125,9 @@ impl Threads {
         ensures changed { ChangesRow (λ r. record r { mode = mode }) self.old self.new id }
         ensures missing { IfNone result (self.new ≡ self.old) }
     {
-        let row = *self.get(id)?;
-        self.put(id, Some(ThreadRow { mode, ..row }));
+        let place = id.place(Kind::Thread)?;
+        let row = self.rows.get_mut(place)?.as_mut()?;
+        row.mode = mode;
         Some(())
     }
 
@@ -136,8 +137,9 @@ impl Threads {
         ensures changed { ChangesRow (λ r. record r { priority = priority }) self.old self.new id }
         ensures missing { IfNone result (self.new ≡ self.old) }
     {
-        let row = *self.get(id)?;
-        self.put(id, Some(ThreadRow { priority, ..row }));
+        let place = id.place(Kind::Thread)?;
+        let row = self.rows.get_mut(place)?.as_mut()?;
+        row.priority = priority;
         Some(())
     }
 
@@ -147,9 +149,9 @@ impl Threads {
         ensures changed { ChangesRow (λ r. record r { block = Some block }) self.old self.new id }
         ensures missing { IfNone result (self.new ≡ self.old) }
     {
-        let row = *self.get(id)?;
-        let block = Some(block);
-        self.put(id, Some(ThreadRow { block, ..row }));
+        let place = id.place(Kind::Thread)?;
+        let row = self.rows.get_mut(place)?.as_mut()?;
+        row.block = Some(block);
         Some(())
     }
 
@@ -159,9 +161,9 @@ impl Threads {
         ensures changed { ChangesRow (λ r. record r { block = None }) self.old self.new id }
         ensures missing { IfNone result (self.new ≡ self.old) }
     {
-        let row = *self.get(id)?;
-        let block = None;
-        self.put(id, Some(ThreadRow { block, ..row }));
+        let place = id.place(Kind::Thread)?;
+        let row = self.rows.get_mut(place)?.as_mut()?;
+        row.block = None;
         Some(())
     }
 
@@ -171,15 +173,9 @@ impl Threads {
         ensures changed { ChangesRow (with_notification (Some notification)) self.old self.new id }
         ensures missing { IfNone result (self.new ≡ self.old) }
     {
-        let row = *self.get(id)?;
-        let notification = Some(notification);
-        self.put(
-            id,
-            Some(ThreadRow {
-                notification,
-                ..row
-            }),
-        );
+        let place = id.place(Kind::Thread)?;
+        let row = self.rows.get_mut(place)?.as_mut()?;
+        row.notification = Some(notification);
         Some(())
     }
 
@@ -189,15 +185,9 @@ impl Threads {
         ensures changed { ChangesRow (with_notification None) self.old self.new id }
         ensures missing { IfNone result (self.new ≡ self.old) }
     {
-        let row = *self.get(id)?;
-        let notification = None;
-        self.put(
-            id,
-            Some(ThreadRow {
-                notification,
-                ..row
-            }),
-        );
+        let place = id.place(Kind::Thread)?;
+        let row = self.rows.get_mut(place)?.as_mut()?;
+        row.notification = None;
         Some(())
     }
 
