@@ -40,8 +40,8 @@ pub fn in_range(depth: u8) -> bool
     depth != 0 && depth <= 64
 }
 
-fn cap_from(slots: &Slots, root: Cap, address: u64) -> Result<Cap, Refusal>
-    ensures { result ≡ capability_from (slots_space slots.now) root address }
+fn cap_from(slots: &Slots, root: &Cap, address: u64) -> Result<Cap, Refusal>
+    ensures { result ≡ capability_from (slots_space slots.now) root.now address }
 {
     match find(slots, root, 64, address) {
         Err(refusal) => Err(refusal),
@@ -49,8 +49,8 @@ fn cap_from(slots: &Slots, root: Cap, address: u64) -> Result<Cap, Refusal>
     }
 }
 
-fn place_from(slots: &Slots, root: Cap, place: Place) -> Result<SlotId, Refusal>
-    ensures value { named_by result ≡ slot_from (slots_space slots.now) root place }
+fn place_from(slots: &Slots, root: &Cap, place: Place) -> Result<SlotId, Refusal>
+    ensures value { named_by result ≡ slot_from (slots_space slots.now) root.now place }
     ensures within { IfOk result (IsWithin slots.now) }
 {
     if !in_range(place.depth) {
@@ -66,10 +66,10 @@ fn place_from(slots: &Slots, root: Cap, place: Place) -> Result<SlotId, Refusal>
 /// the complete path; refused with Missing where that slot is empty, and else as the longest path says: GuardMismatch, or
 /// DepthMismatch. Any root may be given: of a guard's value the low bits count, as many as the guard has, and a CNode that is not
 /// there has a radix of 0 and empty slots (own).
-pub fn lookup(slots: &Slots, root: Cap, address: u64) -> Result<Cap, Refusal>
-    ensures value { result ≡ capability_from (slots_space slots.now) root address }
-    ensures named { IfOk result (λ cap. IsNamedFrom (slots_space slots.now) root address cap) }
-    ensures unnamed { IfErr result (λ why. IsUnnamedFrom (slots_space slots.now) root address why) }
+pub fn lookup(slots: &Slots, root: &Cap, address: u64) -> Result<Cap, Refusal>
+    ensures value { result ≡ capability_from (slots_space slots.now) root.now address }
+    ensures named { IfOk result (IsNamedFrom (slots_space slots.now) root.now address) }
+    ensures unnamed { IfErr result (IsUnnamedFrom (slots_space slots.now) root.now address) }
 {
     slots.are_pages();
     cap_from(slots, root, address)
@@ -79,10 +79,10 @@ pub fn lookup(slots: &Slots, root: Cap, address: u64) -> Result<Cap, Refusal>
 /// above 64, which comes first, with DepthMismatch where bits are left at the path's end, and else as the longest path says.
 /// Any root may be given, as for `lookup`. So the slot is there exactly where its CNode is: each slot on the way is below 2 to the
 /// radix of its CNode, and a path may end at index 0 of a CNode that is not there (own).
-pub fn lookup_slot(slots: &Slots, root: Cap, place: Place) -> Result<SlotId, Refusal>
-    ensures value { named_by result ≡ slot_from (slots_space slots.now) root place }
-    ensures named { IfOk result (EndsAt slots.now root place) }
-    ensures unnamed { IfErr result (EndsNowhere slots.now root place) }
+pub fn lookup_slot(slots: &Slots, root: &Cap, place: Place) -> Result<SlotId, Refusal>
+    ensures value { named_by result ≡ slot_from (slots_space slots.now) root.now place }
+    ensures named { IfOk result (EndsAt slots.now root.now place) }
+    ensures unnamed { IfErr result (EndsNowhere slots.now root.now place) }
     ensures there { IfOk result (IsThereWithCNode slots.now) }
 {
     slots.are_pages();

@@ -44,12 +44,12 @@ fn next_in(slots: &Slots, slot: SlotId, left: u32) -> Option<Cap>
 }
 
 /// The slot at the end of the path from a root that spells the low `depth` bits of an address, and how many of them are left.
-pub(crate) fn find(slots: &Slots, root: Cap, depth: u32, address: u64) -> Result<End, Refusal>
+pub(crate) fn find(slots: &Slots, root: &Cap, depth: u32, address: u64) -> Result<End, Refusal>
     requires { depth ≤ 64 }
-    ensures value { walked_by address result ≡ walk_from slots.now root depth address }
+    ensures value { walked_by address result ≡ walk_from slots.now root.now depth address }
     ensures within { IfOk result (λ end. IsWithin slots.now end.slot) }
 {
-    let mut cap = root;
+    let mut cap = *root;
     let mut left = depth;
     for _ in 0..64u32 {
         let step = level(cap.guard, radix_in(slots, cap.obj), left, address)?;

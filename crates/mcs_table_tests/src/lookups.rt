@@ -61,7 +61,7 @@ fn capabilities_are_found(rt: HostRuntime) -> Result<(), Fail> {
         (0b0011_01_101, Err(Refusal::Missing)),
     ];
     for (address, want) in found {
-        assert_eq!(rt; lookup(&slots, root.again(), address), want);
+        assert_eq!(rt; lookup(&slots, &root.again(), address), want);
     }
     Ok(())
 }
@@ -77,7 +77,7 @@ fn slots_are_found(rt: HostRuntime) -> Result<(), Fail> {
     ];
     for (index, depth, want) in found {
         let place = Place { index, depth };
-        assert_eq!(rt; lookup_slot(&slots, root.again(), place), want);
+        assert_eq!(rt; lookup_slot(&slots, &root.again(), place), want);
     }
     Ok(())
 }
@@ -99,14 +99,14 @@ fn any_root_may_be_given(rt: HostRuntime) {
         depth: 6,
     };
     assert_eq!(rt;
-        lookup_slot(&slots, root(1, none, wide), place),
+        lookup_slot(&slots, &root(1, none, wide), place),
         Ok(slot(1, 7))
     );
     // a CNode that is not there has a radix of 0, and no slot
     let guard = Guard { bits: 1, value: 1 };
     let end = Place { index: 1, depth: 1 };
     assert_eq!(rt;
-        lookup_slot(&slots, root(9, none, guard), end),
+        lookup_slot(&slots, &root(9, none, guard), end),
         Ok(slot(9, 0))
     );
     assert!(rt; !slots.has_slot(slot(9, 0)));

@@ -18,6 +18,7 @@ struct StepPiece<'a> {
 impl<'a> Piece for StepPiece<'a> {
     ghost text = { λ s. step_text s.step.now };
 
+    #[inline(always)]
     fn write(&self, out: &mut [u8], at: usize) -> usize {
         let step = self.step;
         let from = Entrant {
@@ -37,6 +38,7 @@ struct AnswerPiece<'a> {
 impl<'a> Piece for AnswerPiece<'a> {
     ghost text = { λ a. answer_text a.answer.now };
 
+    #[inline(always)]
     fn write(&self, out: &mut [u8], at: usize) -> usize {
         let kept = self.answer;
         write_kept_answer(out, at, kept.answer, kept.words)
@@ -53,6 +55,7 @@ struct RecordPiece<'a> {
 impl<'a> Piece for RecordPiece<'a> {
     ghost text = { λ r. record_text r.sent r.fact.now };
 
+    #[inline(always)]
     fn write(&self, out: &mut [u8], at: usize) -> usize {
         let fact = self.fact;
         write_kept(out, at, self.sent, fact.packed, fact.words, fact.wide)

@@ -136,13 +136,13 @@ impl<W: Waiting> State<W> {
     }
 
     /// The capability to the root of the capability space of a thread that is there.
-    fn root(&self, thread: ObjId) -> Cap
+    fn root(&self, thread: ObjId) -> &Cap
         requires { IsThere (so_far self.now) Kind.Thread thread }
-        ensures { root_of (so_far self.now) thread ≡ Some result }
+        ensures { root_of (so_far self.now) thread ≡ Some result.now }
     {
         match self.threads.get(thread) {
             None => unreachable!(),
-            Some(row) => row.root,
+            Some(row) => &row.root,
         }
     }
 

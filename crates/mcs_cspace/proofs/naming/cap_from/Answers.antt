@@ -4,7 +4,7 @@ use Rattle.mcs_cspace.proofs.NamedLaws.{cap-ends, cap-refused}
 use Rattle.mcs_cspace.proofs.naming.cap_from.Goals as goal
 
 pub returns-in-Err : goal.returns-in-Err
-returns-in-Err c = cap-refused (slots_space c.args.slots.now) c.args.root c.args.address c.in-Err.refusal (ap (walked_by c.args.address) (sym c.in-Err.is) ∙ c.find.ensures.value)
+returns-in-Err c = cap-refused (slots_space c.args.slots.now) c.args.root.now c.args.address c.in-Err.refusal (ap (walked_by c.args.address) (sym c.in-Err.is) ∙ c.find.ensures.value)
 
 pub returns-in-Ok : goal.returns-in-Ok
-returns-in-Ok c = c.held.ensures ∙ cap-ends (slots_space c.args.slots.now) c.args.root c.args.address c.in-Ok.end (ap (walked_by c.args.address) (sym c.in-Ok.is) ∙ c.find.ensures.value)
+returns-in-Ok c = c.held.ensures ∙ cap-ends (slots_space c.args.slots.now) c.args.root.now c.args.address c.in-Ok.end (ap (walked_by c.args.address) (sym c.in-Ok.is) ∙ c.find.ensures.value)

@@ -4,7 +4,7 @@ use Rattle.mcs_cspace.proofs.NamedLaws.{cap-named, cap-unnamed}
 use Rattle.mcs_cspace.proofs.naming.lookup.Goals as goal
 
 pub returns-clause-named : goal.returns-clause-named
-returns-clause-named c = cap-named (slots_space c.args.slots.now) c.args.root c.args.address c.cap_from.result c.cap_from.ensures
+returns-clause-named c = cap-named (slots_space c.args.slots.now) c.args.root.now c.args.address c.cap_from.result c.cap_from.ensures
 
 pub returns-clause-unnamed : goal.returns-clause-unnamed
-returns-clause-unnamed c = cap-unnamed (slots_space c.args.slots.now) c.args.root c.args.address c.cap_from.result (slots-narrow c.args.slots.now c.args.root c.are_pages.ensures.pages) c.cap_from.ensures
+returns-clause-unnamed c = cap-unnamed (slots_space c.args.slots.now) c.args.root.now c.args.address c.cap_from.result (slots-narrow c.args.slots.now c.args.root.now c.are_pages.ensures.pages) c.cap_from.ensures

@@ -4,7 +4,7 @@ use Rattle.mcs_cspace.proofs.NamedLaws.{slot-named, slot-unnamed}
 use Rattle.mcs_cspace.proofs.naming.lookup_slot.Goals as goal
 
 pub returns-clause-named : goal.returns-clause-named
-returns-clause-named c = slot-named (slots_space c.args.slots.now) c.args.root c.args.place c.place_from.result c.place_from.ensures.value
+returns-clause-named c = slot-named (slots_space c.args.slots.now) c.args.root.now c.args.place c.place_from.result c.place_from.ensures.value
 
 pub returns-clause-unnamed : goal.returns-clause-unnamed
-returns-clause-unnamed c = slot-unnamed (slots_space c.args.slots.now) c.args.root c.args.place c.place_from.result (slots-narrow c.args.slots.now c.args.root c.are_pages.ensures.pages) c.place_from.ensures.value
+returns-clause-unnamed c = slot-unnamed (slots_space c.args.slots.now) c.args.root.now c.args.place c.place_from.result (slots-narrow c.args.slots.now c.args.root.now c.are_pages.ensures.pages) c.place_from.ensures.value
