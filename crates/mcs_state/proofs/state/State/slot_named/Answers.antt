@@ -5,4 +5,4 @@ use Rattle.mcs_state.proofs.Following.{seen}
 use Rattle.mcs_state.proofs.state.State.slot_named.Goals as goal
 
 pub returns : goal.returns
-returns g c = rw (← c.self.view_is) (c.lookup_slot.ensures.value ∙ sym (slot_named-is _ c.self.inside.slots c.args.thread c.root.result c.args.place c.self.invariant.1.slots (seen c.self.view_is (λ R. root_of R c.args.thread ≡ Some c.root.result) c.root.ensures)))
+returns g c = rw (← c.self.view_is) (c.lookup_slot.ensures.value ∙ sym (slot_named-is _ c.self.inside.slots c.args.thread c.root.result.now c.args.place c.self.invariant.1.slots (seen c.self.view_is (λ R. root_of R c.args.thread ≡ Some c.root.result.now) c.root.ensures)))
