@@ -6,12 +6,13 @@ use Rattle.mcs_types.specs.declared.id.ObjId.{ObjId}
 use Rattle.mcs_types.specs.declared.id.CoreId.{CoreId}
 use Rattle.mcs_types.specs.declared.id.Kind.{Kind}
 use Rattle.mcs_types.specs.declared.id.Kind.TheVariants.{Thread}
-use Rattle.mcs_types.specs.Ids.{IsThread, place_of, same, is_just}
+use Rattle.mcs_types.specs.Ids.{IsThread, place_of, same, is_just, value_after}
 use Rattle.mcs_types.proofs.Ids.{parts, same_kind-equal, same-self, same-equal, same-other}
-use Rattle.mcs_objects.specs.Store.{Objects, WasGiven, next_id, value_at}
+use Rattle.mcs_objects.specs.Store.{Objects, WasGiven, next_id, value_at, with_value}
+use Rattle.mcs_objects.proofs.MapLaws.{value-written}
 use Rattle.mcs_places.specs.Places.{kept_in, HasPlace}
 use Rattle.mcs_contexts.specs.declared.contexts.ContextRow.{ContextRow}
-use Rattle.mcs_contexts.specs.Holding.{Holding, holder_at, core_in, holder_in, context_in, holds, IsOneToOne, IsHolding}
+use Rattle.mcs_contexts.specs.Holding.{Holding, core_at, holder_at, core_in, holder_in, context_in, holds, IsOneToOne, IsHolding}
 
 -- one half of being one to one, as two of its maps change in one place
 pub half-bound : (H C K D : ObjId → Option ObjId) (s t : ObjId) → ((a b : ObjId) → H a ≡ Some b → C b ≡ Some a) → C t ≡ None
@@ -159,3 +160,18 @@ unheld old new id core given is made x = ap (λ r. option_and_then (λ (r : Cont
         let high = (given x there).high in
         let number = ap (λ (y : ObjId). y.serial) (here ∙ is) in
         absurd (omega (arith, high, number))
+
+-- a row is written over that of a context: its holder is that of the row, and its core as it was where both have it
+pub holder_written : (s : Objects ContextRow) (id x : ObjId) (r : ContextRow) → IsSome (value_at s id) → holder_at (with_value s id r) x ≡ value_after x id r.holder (holder_at s x)
+holder_written s id x r there = ap (option_and_then (λ k. k.holder)) (value-written s id x r there) ∙ go (same x id)
+  where
+    go : (b : Bool) → option_and_then (λ k. k.holder) (cond b (Some r) (value_at s x)) ≡ cond b r.holder (holder_at s x)
+    go true = refl
+    go false = refl
+
+pub core_written : (s : Objects ContextRow) (id x : ObjId) (was r : ContextRow) → value_at s id ≡ Some was → was.core ≡ r.core → core_at (with_value s id r) x ≡ core_at s x
+core_written s id x was r there same_core = ap (option_map (λ k. k.core)) (value-written s id x r (rw there refl)) ∙ go (same x id) refl
+  where
+    go : (b : Bool) → same x id ≡ b → option_map (λ k. k.core) (cond b (Some r) (value_at s x)) ≡ core_at s x
+    go true e = let at = same-equal x id e in rw (at, there) (ap Some (sym same_core))
+    go false e = refl

@@ -3,3 +3,4 @@ pub mod DebtLaws
 pub mod LeavingLaws
 pub mod OwingLaws
 pub mod PlaceLaws
+pub mod RowLaws
