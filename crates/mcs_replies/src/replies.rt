@@ -195,11 +195,13 @@ impl Replies {
         ensures there { (r : ObjId) → is_there self.new r ≡ is_there self.old r }
         ensures receivers { (r : ObjId) → receiver_in self.new r ≡ receiver_in self.old r }
     {
-        if !self.is_there(reply) || self.owed(reply).is_some() {
-            return false;
+        match self.rows.get(reply) {
+            Some(row) if row.caller.is_none() => {
+                self.begin(reply, caller, brought);
+                true
+            }
+            _ => false,
         }
-        self.begin(reply, caller, brought);
-        true
     }
 
     /// The debt of a reply object is paid. On top of a chain it is taken off; else it and all below leave their chain, and those
