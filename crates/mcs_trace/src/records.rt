@@ -7,8 +7,8 @@ ghost use Rattle.mcs_packing.specs.Heads.{AnswerFits, answer_of};
 
 use mcs_packing::{Packed, PackedAnswer, guarded, id_of, plain, queue_of};
 use mcs_text::{
-    Key, Token, end_word, number_of, write_bare, write_got, write_heard, write_joins,
-    write_number_of, write_numbered, write_one, write_paid, write_record, write_sent, write_three,
+    Key, Token, end_word, number_of, write_bare, write_got, write_heard, write_held, write_joins,
+    write_number_of, write_numbered, write_one, write_owing, write_paid, write_record, write_sent,
     write_turns, write_two,
 };
 use mcs_types::{Cap, Kind, Rec};
@@ -40,15 +40,7 @@ fn write_slot(out: &mut [u8], at: usize, cnode: u32, index: u8, cap: Option<Cap>
     ensures len { length out.new ≡ length out.old }
     ensures end { result ≤ at + 205 }
 {
-    let index = Token::Number(index as u64);
-    write_three(
-        out,
-        at,
-        Key::SlotIs,
-        name(Kind::CNode, cnode),
-        index,
-        Token::Held(cap),
-    )
+    write_held(out, at, id_of(Kind::CNode, cnode), index, cap)
 }
 
 /// What was made and what ended.
@@ -188,25 +180,25 @@ fn write_debt(
             write_one(out, at, Key::Dropped, Token::Message(*message as u128))
         }
         Packed::Owes { reply, caller } => {
-            let (reply, caller) = (name(Kind::Reply, *reply), name(Kind::Thread, *caller));
-            write_three(out, at, Key::Owes, reply, caller, Token::Maybe(None))
+            let (reply, caller) = (id_of(Kind::Reply, *reply), id_of(Kind::Thread, *caller));
+            write_owing(out, at, Key::Owes, reply, caller, Token::Maybe(None))
         }
         Packed::OwesWith {
             reply,
             caller,
             context,
         } => {
-            let (reply, caller) = (name(Kind::Reply, *reply), name(Kind::Thread, *caller));
+            let (reply, caller) = (id_of(Kind::Reply, *reply), id_of(Kind::Thread, *caller));
             let context = Token::Maybe(Some(id_of(Kind::Context, *context)));
-            write_three(out, at, Key::Owes, reply, caller, context)
+            write_owing(out, at, Key::Owes, reply, caller, context)
         }
         Packed::Void {
             ending,
             reply,
             caller,
         } => {
-            let (reply, caller) = (name(Kind::Reply, *reply), name(Kind::Thread, *caller));
-            write_three(out, at, Key::Void, reply, caller, end_word(*ending))
+            let (reply, caller) = (id_of(Kind::Reply, *reply), id_of(Kind::Thread, *caller));
+            write_owing(out, at, Key::Void, reply, caller, end_word(*ending))
         }
         _ => unreachable!(),
     }

@@ -14,6 +14,6 @@ returns-clause-cores c = λ x.
     core_written c.args.rows.now c.args.context x c.in-Some.row.now _ was refl
 
 pub returns-clause-holders : goal.returns-clause-holders
-returns-clause-holders c = λ x. 
+returns-clause-holders c = λ x.
     let was : value_at c.args.rows.now c.args.context ≡ Some c.in-Some.row.now = sym c.get_mut.ensures.value ∙ ap option_copied_mut c.in-Some.is in
     holder_written c.args.rows.now c.args.context x _ (rw was refl)
