@@ -1,4 +1,5 @@
 pub mod Buckets
+pub mod Cells
 pub mod Copying
 pub mod Filling
 pub mod Masks

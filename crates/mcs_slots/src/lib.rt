@@ -2,6 +2,7 @@
 #![tactic(auto)]
 
 mod caps;
+mod cell;
 mod laws;
 mod page;
 mod pages;

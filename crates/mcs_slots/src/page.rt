@@ -1,17 +1,18 @@
 //! The slots of one CNode.
-ghost use Rattle.std.specs.Prelude.{◌≡◌, ◌<◌, ◌≤◌, ◌^◌, IfOk, None, count_by, slice_index_or, slice_set};
+ghost use Rattle.std.specs.Prelude.{◌≡◌, ◌<◌, ◌≤◌, ◌^◌, IfOk, None, count_by, replicate, slice_index_or, slice_set};
 ghost use Rattle.mcs_book.specs.Slots.{is_cap_to};
 ghost use Rattle.mcs_types.specs.Ids.{same};
 
-use mcs_types::{Cap, ObjId, OutOfMemory, cap_again};
-use std::alloc::Global;
+use crate::cell::Cell;
+use mcs_types::{Cap, ObjId, OutOfMemory};
+use std::alloc::{AllocError, Global};
 use std::marker::Model;
 
 /// A CNode's slots: 2 to the radix, 1 to 8.
 #[derive(Drop)]
 pub(crate) struct Page {
     radix: u8,
-    caps: Vec<Option<Cap>>,
+    caps: Vec<Cell>,
 }
 
 impl Model for Page {
@@ -51,6 +52,17 @@ fn slots_of(radix: u8) -> usize
     1 << radix
 }
 
+/// So many slots that hold nothing.
+fn empty_cells(alloc: Global, count: usize) -> Result<Vec<Cell>, AllocError>
+    ensures { IfOk result (λ v. v.items ≡ replicate count None) }
+{
+    let mut cells = Vec::with_capacity(alloc, count)?;
+    for _ in 0..count {
+        cells.push(Cell::empty())?;
+    }
+    Ok(cells)
+}
+
 impl Page {
     ghost use Rattle.mcs_slots.specs.Pages.{empty_page, IsPage};
 
@@ -60,8 +72,7 @@ impl Page {
         requires few { radix ≤ 8 }
         ensures { IfOk result (λ p. p ≡ empty_page radix) }
     {
-        let cap: Option<Cap> = None;
-        let caps = vec![in alloc; cap; slots_of(radix)]?;
+        let caps = empty_cells(alloc, slots_of(radix))?;
         Ok(Page { radix, caps })
     }
 
@@ -82,17 +93,14 @@ impl Page {
     pub(crate) fn get(&self, index: u8) -> Option<Cap>
         ensures { result ≡ slice_index_or self.now.caps index None }
     {
-        match self.caps.get(index as usize) {
-            None => None,
-            Some(cap) => cap_again(cap),
-        }
+        self.caps.get(index as usize)?.cap()
     }
 
     pub(crate) fn set(&mut self, index: u8, cap: Option<Cap>)
         requires { index < 2 ^ self.old.radix }
         ensures { self.new ≡ record self.old { caps = slice_set self.old.caps index cap } }
     {
-        self.caps[index as usize] = cap;
+        self.caps[index as usize] = Cell::of(cap);
     }
 
     /// How many slots hold a capability to an object.
@@ -102,7 +110,7 @@ impl Page {
     {
         let mut count: u32 = 0;
         for cap in &self.caps {
-            if is_to(cap, obj) {
+            if is_to(&cap.cap(), obj) {
                 count += 1;
             }
         }
