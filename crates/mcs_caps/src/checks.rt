@@ -32,8 +32,10 @@ pub fn find_places<W: Waiting>(
 {
     state.is_sound();
     let source = state.slot_named(thread, source)?;
+    // Read here, so that the processor need not wait for it when it has found the other slot.
+    let held = state.slot(source);
     let dest = state.slot_named(thread, dest)?;
-    let Some(cap) = state.slot(source) else {
+    let Some(cap) = held else {
         return Err(Refusal::SlotEmpty);
     };
     if state.slot(dest).is_some() {

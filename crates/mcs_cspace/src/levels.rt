@@ -35,6 +35,22 @@ fn bits_at(word: u64, below: u32, count: u32) -> u64
     low_bits(front, count)
 }
 
+/// How many bits are left behind a guard, where the next of `left` bits of the address are the guard's.
+fn past_guard(guard: Guard, left: u32, address: u64) -> Result<u32, Refusal>
+    requires { left ≤ 64 }
+    ensures past { result ≡ past_guard guard left address }
+    ensures fewer { IfOk result (λ n. n ≤ left) }
+{
+    let size = guard.bits as u32;
+    if size == 0 {
+        return Ok(left);
+    }
+    if size > left || bits_at(address, left - size, size) != low_bits(guard.value, size) {
+        return Err(Refusal::GuardMismatch);
+    }
+    Ok(left - size)
+}
+
 /// One level by numbers: where `left` bits of the address are left, the first of these are the guard, and the next the index. Of a
 /// guard's value its low bits count, as many as the guard has.
 #[tactic(auto, unfolding(crate::specs::Levels::level_at))]
@@ -45,16 +61,15 @@ pub(crate) fn level(guard: Guard, radix: u8, left: u32, address: u64) -> Result<
     ensures fewer { IfOk result (λ s. s.left ≤ left) }
     ensures within { IfOk result (λ s. s.index < 2 ^ radix) }
 {
-    let size = guard.bits as u32;
-    if size > left || bits_at(address, left - size, size) != low_bits(guard.value, size) {
-        return Err(Refusal::GuardMismatch);
-    }
-    let after = left - size;
+    let after = past_guard(guard, left, address)?;
     let width = radix as u32;
     if width > after {
         return Err(Refusal::DepthMismatch);
     }
     let left = after - width;
-    let index = bits_at(address, left, width) as u8;
+    if width == 0 {
+        return Ok(Step { index: 0, left });
+    }
+    let index = (address >> left) as u8 & ((1u32 << width) - 1) as u8;
     Ok(Step { index, left })
 }

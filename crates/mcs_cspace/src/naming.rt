@@ -10,7 +10,7 @@ ghost use Rattle.mcs_cspace.specs.Spaces.{slots_space, IsWithin, IsThereWithCNod
 
 use crate::paths::{End, find};
 use mcs_slots::{SlotId, Slots};
-use mcs_types::{Cap, Place, Refusal};
+use mcs_types::{Cap, ObjId, Place, Refusal};
 
 /// The capability in a slot, which is Missing where the slot is empty.
 fn held(slots: &Slots, slot: SlotId) -> Result<Cap, Refusal>
@@ -22,12 +22,26 @@ fn held(slots: &Slots, slot: SlotId) -> Result<Cap, Refusal>
     }
 }
 
+/// The slot at the end of a path, put together by its fields: so the compiler need not keep the bytes between them.
+fn slot_of(end: End) -> SlotId
+    ensures { result ≡ end.slot }
+{
+    let End { slot, left: _ } = end;
+    SlotId {
+        cnode: ObjId {
+            kind: slot.cnode.kind,
+            serial: slot.cnode.serial,
+        },
+        index: slot.index,
+    }
+}
+
 /// The slot at the end of a path, where no bits are left.
 fn whole(end: End) -> Result<SlotId, Refusal>
     ensures { result ≡ cond (end.left == 0) (Ok end.slot) (Err DepthMismatch) }
 {
     if end.left == 0 {
-        Ok(end.slot)
+        Ok(slot_of(end))
     } else {
         Err(Refusal::DepthMismatch)
     }

@@ -1,10 +1,10 @@
 //! The way from a root to the slot at the end of the path that an address spells.
-ghost use Rattle.std.specs.Prelude.{◌≡◌, ◌≤◌, IfOk};
+ghost use Rattle.std.specs.Prelude.{◌≡◌, ◌≤◌, IfOk, option_copied};
 ghost use Rattle.mcs_book.specs.Lookup.{cnode_cap};
-ghost use Rattle.mcs_cspace.specs.Spaces.{slots_space, IsWithin, next_at, walk_from, walked_by};
+ghost use Rattle.mcs_cspace.specs.Spaces.{slots_space, IsWithin, radix_on, next_on, walk_from, walked_by};
 
-use crate::levels::level;
-use mcs_slots::{SlotId, Slots};
+use crate::levels::{Step, level};
+use mcs_slots::{Page, SlotId, Slots};
 use mcs_types::{Cap, Kind, ObjId, Refusal};
 
 /// The slot at which lookup ends, and how many bits of the address are left there.
@@ -33,14 +33,39 @@ fn to_cnode(cap: Option<Cap>) -> Option<Cap>
     }
 }
 
-/// The capability to the CNode at which lookup goes on: bits are left, and the slot holds it.
-fn next_in(slots: &Slots, slot: SlotId, left: u32) -> Option<Cap>
-    ensures { result ≡ next_at slots.now slot left }
+/// The radix of a CNode with these slots, or 0 where it is not there.
+fn radix_of(page: Option<&Page>) -> u8
+    ensures value { result ≡ radix_on (option_copied page) }
+    ensures few { result ≤ 8 }
 {
-    if left == 0 {
+    match page {
+        None => 0,
+        Some(page) => page.radix(),
+    }
+}
+
+/// The capability to the CNode at which lookup goes on: bits are left, and the slot of this CNode holds it.
+fn next_in(page: Option<&Page>, step: Step) -> Option<Cap>
+    ensures { result ≡ next_on (option_copied page) step }
+{
+    if step.left == 0 {
         return None;
     }
-    to_cnode(slots.get(slot))
+    to_cnode(page?.get(step.index))
+}
+
+/// The slot of a CNode at which lookup ends.
+fn end_at(cnode: ObjId, step: Step) -> End
+    ensures { result ≡ record { slot = record { cnode = cnode; index = step.index }; left = step.left } }
+{
+    let slot = SlotId {
+        cnode,
+        index: step.index,
+    };
+    End {
+        slot,
+        left: step.left,
+    }
 }
 
 /// The slot at the end of the path from a root that spells the low `depth` bits of an address, and how many of them are left.
@@ -52,14 +77,11 @@ pub(crate) fn find(slots: &Slots, root: &Cap, depth: u32, address: u64) -> Resul
     let mut cap = *root;
     let mut left = depth;
     for _ in 0..64u32 {
-        let step = level(cap.guard, radix_in(slots, cap.obj), left, address)?;
-        let slot = SlotId {
-            cnode: cap.obj,
-            index: step.index,
-        };
+        let page = slots.page(cap.obj);
+        let step = level(cap.guard, radix_of(page), left, address)?;
         left = step.left;
-        match next_in(slots, slot, left) {
-            None => return Ok(End { slot, left }),
+        match next_in(page, step) {
+            None => return Ok(end_at(cap.obj, step)),
             Some(next) => cap = next,
         }
     }

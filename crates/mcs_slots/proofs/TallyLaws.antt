@@ -1,5 +1,5 @@
 -- The tallies tell of the slots while these change.
-use Rattle.std.proofs.Common.{◌≡◌, ◌≢◌, ◌≤◌, ◌+◌, ◌-◌, ◌*◌, ◌^◌, ◌==◌, ℕ, zero, suc, Bool, true, false, cond, List, [], ◌∷◌, length, set, map, replicate, count_by, All, Option, Some, None, refl, ap, subst, sym, ◌∙◌, arith}
+use Rattle.std.proofs.Common.{◌≡◌, ◌≢◌, ◌≤◌, ◌+◌, ◌-◌, ◌*◌, ◌^◌, ◌==◌, ◌&&◌, ◌%◌, ℕ, zero, suc, Bool, true, false, cond, List, [], ◌∷◌, length, set, map, replicate, count_by, All, Option, Some, None, refl, ap, subst, sym, ◌∙◌, arith}
 use Rattle.std.specs.Prelude.{slice_get}
 use Rattle.std.proofs.lemmas.Bool.{eq-eqb, eqb-true}
 use Rattle.std.proofs.lemmas.List.Sums.{sum_by-cons, sum_by-le-sum_by, count_by-le-length}
@@ -7,12 +7,15 @@ use Rattle.std.proofs.lemmas.List.Folds.{sum_by-replicate}
 use Rattle.std.proofs.lemmas.Option.{slice_get_within, get_or_from_slice_get}
 use Rattle.mcs_types.specs.declared.id.ObjId.{ObjId}
 use Rattle.mcs_types.specs.declared.cap.Cap.{Cap}
+use Rattle.mcs_types.specs.Ids.{same, kind_number}
 use Rattle.mcs_types.proofs.Ids.{same-equal}
+use Rattle.mcs_book.specs.Slots.{is_cap_to}
 use Rattle.mcs_slots.specs.declared.slots.SlotId.{SlotId}
+use Rattle.mcs_slots.specs.declared.tallies.TheConstants.{SERIALS}
 use Rattle.mcs_slots.specs.declared.tallies.Tally.{Tally}
 use Rattle.mcs_slots.specs.Buckets.{bucket_of, falls_in, owns, is_owned}
 use Rattle.mcs_slots.specs.Filling.{filled}
-use Rattle.mcs_slots.specs.Pages.{Page, empty_page, ArePages, HasSlot, slot_at}
+use Rattle.mcs_slots.specs.Pages.{Page, empty_page, ArePages, HasSlot, slot_at, held}
 use Rattle.mcs_slots.specs.Tallies.{holding, TellsOf, Tells, no_tally, one_less, taken_over, more_by_one, counted, one_more, LetsGo, Counts}
 use Rattle.mcs_slots.proofs.SlotLaws.{radix-few, holding-filled, pages-filled, length-filled}
 
@@ -48,15 +51,14 @@ holding-empty q (r ∷ rs) none =
     let c : 2 ^ r * cond (q None) 1 0 ≡ 0 = rw none (omega arith) in
     omega (arith, a, b, c, holding-empty q rs none)
 
--- what the tests of a tally say
-unowned : (w : Option ObjId) → is_owned w None ≡ false
-unowned w = refl
-
 -- an owner falls in its bucket
-owned-falls : (b : ℕ) (w : Option ObjId) → ((o : ObjId) → w ≡ Some o → bucket_of o ≡ b) → (x : Option Cap) → is_owned w x ≡ true → falls_in b x ≡ true
-owned-falls b w h None e = absurd cc
-owned-falls b None h (Some cap) e = absurd cc
-owned-falls b (Some o) h (Some cap) e = eq-eqb (bucket_of cap.obj) b (ap bucket_of (same-equal cap.obj o e) ∙ h o refl)
+owned-falls : (b n : ℕ) (x : Option Cap) → is_owned b n x ≡ true → falls_in b x ≡ true
+owned-falls b n None e = absurd cc
+owned-falls b n (Some cap) e = go (bucket_of cap.obj == b) refl e
+  where
+    go : (v : Bool) → (bucket_of cap.obj == b) ≡ v → (v && owns n cap.obj) ≡ true → (bucket_of cap.obj == b) ≡ true
+    go true was h = was
+    go false was h = absurd cc
 
 -- the slots have one capability more
 abbrev OneMore : List Page → Option Cap → List Page → Type 0
@@ -74,32 +76,29 @@ falls-other b cap ne = go (bucket_of cap.obj == b) refl
     go true e = absurd (ne (sym (eqb-true (bucket_of cap.obj) b e)))
     go false e = refl
 
-owned-other : (b : ℕ) (w : Option ObjId) (cap : Cap) → ((o : ObjId) → w ≡ Some o → bucket_of o ≡ b) → b ≢ bucket_of cap.obj → is_owned w (Some cap) ≡ false
-owned-other b w cap h ne = go (is_owned w (Some cap)) refl
-  where
-    go : (v : Bool) → is_owned w (Some cap) ≡ v → v ≡ false
-    go true e = let t = owned-falls b w h (Some cap) e in let f = falls-other b cap ne in absurd (let x : true ≡ false = sym t ∙ f in cc)
-    go false e = refl
+owned-other : (b n : ℕ) (cap : Cap) → b ≢ bucket_of cap.obj → is_owned b n (Some cap) ≡ false
+owned-other b n cap ne = ap (λ v. v && owns n cap.obj) (falls-other b cap ne)
 
 less-other : (old new : List Page) (cap : Cap) → OneMore new (Some cap) old → (b : ℕ) (t : Tally) → b ≢ bucket_of cap.obj → TellsOf old b t → TellsOf new b t
 less-other old new cap less b t ne told =
     record {
-      owner = told.owner;
-      held = told.held ∙ none-more (is_owned t.owner) new old (Some cap) less refl (owned-other b t.owner cap told.owner ne);
+      held = told.held ∙ none-more (is_owned b t.owner) new old (Some cap) less refl (owned-other b t.owner cap ne);
       total = told.total ∙ none-more (falls_in b) new old (Some cap) less refl (falls-other b cap ne);
     }
 
 more-other : (old new : List Page) (cap : Cap) → OneMore old (Some cap) new → (b : ℕ) (t : Tally) → b ≢ bucket_of cap.obj → TellsOf old b t → TellsOf new b t
 more-other old new cap more b t ne told =
     record {
-      owner = told.owner;
-      held = told.held ∙ sym (none-more (is_owned t.owner) old new (Some cap) more refl (owned-other b t.owner cap told.owner ne));
+      held = told.held ∙ sym (none-more (is_owned b t.owner) old new (Some cap) more refl (owned-other b t.owner cap ne));
       total = told.total ∙ sym (none-more (falls_in b) old new (Some cap) more refl (falls-other b cap ne));
     }
 
 -- the tally of the bucket itself
 falls-own : (cap : Cap) → falls_in (bucket_of cap.obj) (Some cap) ≡ true
 falls-own cap = eq-eqb (bucket_of cap.obj) (bucket_of cap.obj) refl
+
+owned-own : (n : ℕ) (cap : Cap) → is_owned (bucket_of cap.obj) n (Some cap) ≡ owns n cap.obj
+owned-own n cap = ap (λ v. v && owns n cap.obj) (falls-own cap)
 
 one-back : (v : Bool) (n old new : ℕ) → n ≡ old → old ≡ new + cond v 1 0 → cond v (n - 1) n ≡ new
 one-back true n old new e f = omega (arith, e, f)
@@ -108,26 +107,20 @@ one-back false n old new e f = omega (arith, e, f)
 less-here : (old new : List Page) (cap : Cap) (t : Tally) → OneMore new (Some cap) old → TellsOf old (bucket_of cap.obj) t → TellsOf new (bucket_of cap.obj) (one_less cap.obj t)
 less-here old new cap t less told =
     record {
-      owner = told.owner;
-      held = one-back (owns t.owner cap.obj) t.held (holding (is_owned t.owner) old) (holding (is_owned t.owner) new) told.held (less (is_owned t.owner) refl);
+      held =
+          let q = is_owned (bucket_of cap.obj) t.owner in
+          one-back (owns t.owner cap.obj) t.held (holding q old) (holding q new) told.held (less q refl ∙ ap (λ v. holding q new + cond v 1 0) (owned-own t.owner cap));
       total = one-back true t.total (holding (falls_in (bucket_of cap.obj)) old) (holding (falls_in (bucket_of cap.obj)) new) told.total (less (falls_in (bucket_of cap.obj)) refl ∙ ap (λ v. holding (falls_in (bucket_of cap.obj)) new + cond v 1 0) (falls-own cap));
     }
 
 taken-here : (S : List Page) (o : ObjId) (t : Tally) → TellsOf S (bucket_of o) t → TellsOf S (bucket_of o) (taken_over o t)
 taken-here S o t told = go (t.total == 0) refl
   where
-    new : Tally
-    new = record { owner = Some o; held = 0; total = 0 }
-
-    within : (x : ObjId) → Some o ≡ Some x → bucket_of x ≡ bucket_of o
-    within x e = let f : o ≡ x = cc in sym (ap bucket_of f)
-
-    go : (v : Bool) → (t.total == 0) ≡ v → TellsOf S (bucket_of o) (cond v (record { owner = Some o; held = 0; total = 0 }) t)
+    go : (v : Bool) → (t.total == 0) ≡ v → TellsOf S (bucket_of o) (cond v (record { owner = o.serial; held = 0; total = 0 }) t)
     go true e =
         let z : t.total ≡ 0 = eqb-true t.total 0 e in
-        let le = holding-le (is_owned (Some o)) (falls_in (bucket_of o)) S (owned-falls (bucket_of o) (Some o) within) in
+        let le = holding-le (is_owned (bucket_of o) o.serial) (falls_in (bucket_of o)) S (owned-falls (bucket_of o) o.serial) in
         record {
-          owner = within;
           held = omega (arith, le, told.total, z);
           total = omega (arith, told.total, z);
         }
@@ -140,8 +133,9 @@ one-on false n old new e f few = omega (arith, e, f, few)
 counted-here : (old new : List Page) (cap : Cap) (t : Tally) → OneMore old (Some cap) new → ((q : Option Cap → Bool) → holding q new ≤ 16384) → TellsOf old (bucket_of cap.obj) t → TellsOf new (bucket_of cap.obj) (counted cap.obj t)
 counted-here old new cap t more few told =
     record {
-      owner = told.owner;
-      held = one-on (owns t.owner cap.obj) t.held (holding (is_owned t.owner) old) (holding (is_owned t.owner) new) told.held (more (is_owned t.owner) refl) (few (is_owned t.owner));
+      held =
+          let q = is_owned (bucket_of cap.obj) t.owner in
+          one-on (owns t.owner cap.obj) t.held (holding q old) (holding q new) told.held (more q refl ∙ ap (λ v. holding q old + cond v 1 0) (owned-own t.owner cap)) (few q);
       total = one-on true t.total (holding (falls_in (bucket_of cap.obj)) old) (holding (falls_in (bucket_of cap.obj)) new) told.total (more (falls_in (bucket_of cap.obj)) refl ∙ ap (λ v. holding (falls_in (bucket_of cap.obj)) old + cond v 1 0) (falls-own cap)) (few (falls_in (bucket_of cap.obj)));
     }
 
@@ -160,8 +154,7 @@ let-go None T U old new less told is b t found =
     let at : slice_get T b ≡ Some t = ap (λ ts. slice_get ts b) (sym is) ∙ found in
     let was = told b t at in
     record {
-      owner = was.owner;
-      held = was.held ∙ none-more (is_owned t.owner) new old None less refl refl;
+      held = was.held ∙ none-more (is_owned b t.owner) new old None less refl refl;
       total = was.total ∙ none-more (falls_in b) new old None less refl refl;
     }
 let-go (Some cap) T U old new less told is b t found =
@@ -176,8 +169,7 @@ count None T U old new more few told is b t found =
     let at : slice_get T b ≡ Some t = ap (λ ts. slice_get ts b) (sym is) ∙ found in
     let was = told b t at in
     record {
-      owner = was.owner;
-      held = was.held ∙ sym (none-more (is_owned t.owner) old new None more refl refl);
+      held = was.held ∙ sym (none-more (is_owned b t.owner) old new None more refl refl);
       total = was.total ∙ sym (none-more (falls_in b) old new None more refl refl);
     }
 count (Some cap) T U old new more few told is b t found =
@@ -208,7 +200,35 @@ pub empty-told : (T : List Tally) (rs : List ℕ) → All (λ t. t ≡ no_tally)
 empty-told T rs all b t found =
     let none : t ≡ no_tally = sym (get_or_from_slice_get T b t t found) ∙ all b t (slice_get_within T b t found) in
     subst (TellsOf (map empty_page rs) b) (sym none) (record {
-      owner = λ o e. absurd cc;
-      held = sym (holding-empty (is_owned None) rs refl);
+      held = sym (holding-empty (is_owned b 0) rs refl);
       total = sym (holding-empty (falls_in b) rs refl);
     })
+
+-- the capabilities to the owner of its bucket are those to the object with that serial
+owned-same : (o : ObjId) (x : Option Cap) → is_owned (bucket_of o) o.serial x ≡ true → is_cap_to o x ≡ true
+owned-same o None e = absurd cc
+owned-same o (Some cap) e = go (bucket_of cap.obj == bucket_of o) (o.serial == cap.obj.serial) refl refl e
+  where
+    go : (v w : Bool) → (bucket_of cap.obj == bucket_of o) ≡ v → (o.serial == cap.obj.serial) ≡ w → (v && w) ≡ true → same cap.obj o ≡ true
+    go true true b n h =
+        let serial : cap.obj.serial ≡ o.serial = sym (eqb-true o.serial cap.obj.serial n) in
+        let bucket : bucket_of cap.obj ≡ bucket_of o = eqb-true (bucket_of cap.obj) (bucket_of o) b in
+        let kind : kind_number cap.obj.kind ≡ kind_number o.kind = let m = ap (λ k. k % SERIALS) serial in omega (arith, bucket, m) in
+        rw (eq-eqb (kind_number cap.obj.kind) (kind_number o.kind) kind) (eq-eqb cap.obj.serial o.serial serial)
+    go true false b n h = absurd cc
+    go false w b n h = absurd cc
+
+same-owned : (o : ObjId) (x : Option Cap) → is_cap_to o x ≡ true → is_owned (bucket_of o) o.serial x ≡ true
+same-owned o None e = absurd cc
+same-owned o (Some cap) e =
+    let is : cap.obj ≡ o = same-equal cap.obj o e in
+    rw (eq-eqb (bucket_of cap.obj) (bucket_of o) (ap bucket_of is)) (eq-eqb o.serial cap.obj.serial (ap ObjId.serial (sym is)))
+
+-- so the tally of an object that owns its bucket tells how many slots hold a capability to it
+pub owner-held : (T : List Tally) (S : List Page) (o : ObjId) (t : Tally) → Tells T S → slice_get T (bucket_of o) ≡ Some t → owns t.owner o ≡ true → t.held ≡ held S o
+owner-held T S o t told found own =
+    let serial : t.owner ≡ o.serial = eqb-true t.owner o.serial own in
+    let is : t.held ≡ holding (is_owned (bucket_of o) o.serial) S = (told (bucket_of o) t found).held ∙ ap (λ n. holding (is_owned (bucket_of o) n) S) serial in
+    let below = holding-le (is_owned (bucket_of o) o.serial) (is_cap_to o) S (owned-same o) in
+    let above = holding-le (is_cap_to o) (is_owned (bucket_of o) o.serial) S (same-owned o) in
+    omega (arith, is, below, above)

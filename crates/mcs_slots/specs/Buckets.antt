@@ -1,8 +1,8 @@
 -- Buckets of objects: a tally is kept for each.
-use Rattle.std.specs.Prelude.{ℕ, ◌+◌, ◌*◌, ◌%◌, ◌==◌, Bool, false, Option, Some, None}
+use Rattle.std.specs.Prelude.{ℕ, ◌+◌, ◌*◌, ◌%◌, ◌==◌, ◌&&◌, Bool, false, Option, Some, None}
 use Rattle.mcs_types.specs.declared.id.ObjId.{ObjId}
 use Rattle.mcs_types.specs.declared.cap.Cap.{Cap}
-use Rattle.mcs_types.specs.Ids.{same, kind_number}
+use Rattle.mcs_types.specs.Ids.{kind_number}
 use Rattle.mcs_slots.specs.declared.tallies.TheConstants.{SERIALS, BUCKETS}
 
 -- how many there are
@@ -18,12 +18,11 @@ abbrev pub falls_in : ℕ → Option Cap → Bool
 falls_in b None = false
 falls_in b (Some cap) = bucket_of cap.obj == b
 
--- whether an object is the owner
-abbrev pub owns : Option ObjId → ObjId → Bool
-owns None x = false
-owns (Some o) x = same x o
+-- whether an object of a bucket is its owner, which has this serial
+abbrev pub owns : ℕ → ObjId → Bool
+owns n x = n == x.serial
 
--- whether it is a capability to the owner
-abbrev pub is_owned : Option ObjId → Option Cap → Bool
-is_owned owner None = false
-is_owned owner (Some cap) = owns owner cap.obj
+-- whether it is a capability to the owner of this bucket
+abbrev pub is_owned : ℕ → ℕ → Option Cap → Bool
+is_owned b n None = false
+is_owned b n (Some cap) = (bucket_of cap.obj == b) && owns n cap.obj

@@ -12,8 +12,7 @@ holding q S = sum_by (λ p. count_by q p.caps) S
 
 -- a tally tells of bucket b how many slots hold a capability to one of its objects, the owner, and how many to any of them
 pub record TellsOf (S : List Page) (b : ℕ) (t : Tally) : Type 0 where
-  pub owner : (o : ObjId) → t.owner ≡ Some o → bucket_of o ≡ b
-  pub held : t.held ≡ holding (is_owned t.owner) S
+  pub held : t.held ≡ holding (is_owned b t.owner) S
   pub total : t.total ≡ holding (falls_in b) S
 
 -- each tally tells of its bucket
@@ -22,7 +21,7 @@ Tells T S = (b : ℕ) (t : Tally) → slice_get T b ≡ Some t → TellsOf S b t
 
 -- the tally of a bucket where there was none yet
 abbrev pub no_tally : Tally
-no_tally = record { owner = None; held = 0; total = 0 }
+no_tally = record { owner = 0; held = 0; total = 0 }
 
 -- with one capability to an object less
 abbrev pub one_less : ObjId → Tally → Tally
@@ -30,11 +29,11 @@ one_less o t = record t { held = cond (owns t.owner o) (t.held - 1) t.held; tota
 
 -- the object is the owner from now on where there is none
 abbrev pub taken_over : ObjId → Tally → Tally
-taken_over o t = cond (t.total == 0) (record { owner = Some o; held = 0; total = 0 }) t
+taken_over o t = cond (t.total == 0) (record { owner = o.serial; held = 0; total = 0 }) t
 
--- one more, in 32 bits
+-- one more, in 16 bits
 abbrev pub more_by_one : ℕ → ℕ
-more_by_one n = min (n + 1) (2 ^ 32 - 1)
+more_by_one n = min (n + 1) (2 ^ 16 - 1)
 
 -- a capability to the object is counted
 abbrev pub counted : ObjId → Tally → Tally

@@ -8,9 +8,9 @@ use mcs_types::{Cap, ObjId, OutOfMemory};
 use std::alloc::{AllocError, Global};
 use std::marker::Model;
 
-/// A CNode's slots: 2 to the radix, 1 to 8.
+/// The slots of a CNode (manual: Capability Spaces): 2 to the radix, which is 1 to 8.
 #[derive(Drop)]
-pub(crate) struct Page {
+pub struct Page {
     radix: u8,
     caps: Vec<Cell>,
 }
@@ -76,7 +76,8 @@ impl Page {
         Ok(Page { radix, caps })
     }
 
-    pub(crate) fn radix(&self) -> u8
+    /// The radix.
+    pub fn radix(&self) -> u8
         ensures value { result ≡ self.now.radix }
         ensures page { IsPage self.now }
     {
@@ -90,17 +91,23 @@ impl Page {
         slots_of(self.radix)
     }
 
-    pub(crate) fn get(&self, index: u8) -> Option<Cap>
+    /// The capability in a slot, or None where the slot is empty or not there.
+    pub fn get(&self, index: u8) -> Option<Cap>
         ensures { result ≡ slice_index_or self.now.caps index None }
     {
         self.caps.get(index as usize)?.cap()
     }
 
-    pub(crate) fn set(&mut self, index: u8, cap: Option<Cap>)
+    /// Fills a slot that is there with a capability, or empties it, and gives what it held.
+    pub(crate) fn set(&mut self, index: u8, cap: Option<Cap>) -> Option<Cap>
         requires { index < 2 ^ self.old.radix }
-        ensures { self.new ≡ record self.old { caps = slice_set self.old.caps index cap } }
+        ensures held { result ≡ slice_index_or self.old.caps index None }
+        ensures filled { self.new ≡ record self.old { caps = slice_set self.old.caps index cap } }
     {
-        self.caps[index as usize] = Cell::of(cap);
+        let cell = &mut self.caps[index as usize];
+        let held = cell.cap();
+        *cell = Cell::of(cap);
+        held
     }
 
     /// How many slots hold a capability to an object.

@@ -82,7 +82,8 @@ impl Pages {
         self.pages.len()
     }
 
-    fn page(&self, cnode: ObjId) -> Option<&Page>
+    /// The slots of a CNode, or None where it is none of these.
+    pub(crate) fn page(&self, cnode: ObjId) -> Option<&Page>
         ensures { option_copied result ≡ page_at self.now cnode }
     {
         self.pages.get(page_number(cnode)?)
@@ -114,16 +115,17 @@ impl Pages {
         }
     }
 
-    /// Fills a slot that is there with a capability, or empties it. What the slot held is gone.
-    pub(crate) fn set(&mut self, slot: SlotId, cap: Option<Cap>)
+    /// Fills a slot that is there with a capability, or empties it, and gives what it held.
+    pub(crate) fn set(&mut self, slot: SlotId, cap: Option<Cap>) -> Option<Cap>
         requires { HasSlot self.old slot }
-        ensures { self.new ≡ filled self.old slot cap }
+        ensures held { result ≡ slot_at self.old slot.cnode slot.index }
+        ensures filled { self.new ≡ filled self.old slot cap }
     {
         match page_number(slot.cnode) {
             None => unreachable!(),
             Some(number) => {
                 let page = &mut self.pages[number];
-                page.set(slot.index, cap);
+                page.set(slot.index, cap)
             }
         }
     }

@@ -1,10 +1,11 @@
 //! The slots of all CNodes, and the calls on them.
-ghost use Rattle.std.specs.Prelude.{◌≡◌, ◌≤◌, ◌<◌, ◌++◌, ◌∷◌, [], ◌↔◌, IsTrue, All, IfOk, OnOk, OnErr, Some, None, length, map};
+ghost use Rattle.std.specs.Prelude.{◌≡◌, ◌≤◌, ◌<◌, ◌++◌, ◌∷◌, [], ◌↔◌, IsTrue, All, IfOk, OnOk, OnErr, Some, None, length, map, option_copied};
 
 use crate::caps::{takes_badge, with_badge, with_mask};
+use crate::page::Page;
 use crate::pages::Pages;
 use crate::tallies::Tallies;
-use mcs_types::{Badge, Cap, ObjId, OutOfMemory, Refusal, Rights};
+use mcs_types::{Badge, Cap, ObjId, OutOfMemory, Refusal, Rights, cap_again};
 use std::alloc::Global;
 use std::marker::Model;
 
@@ -46,7 +47,7 @@ impl Model for Slots {
 }
 
 impl Slots {
-    ghost use Rattle.mcs_slots.specs.Pages.{empty_page, radix_of, slot_at, HasSlot, held, ArePages};
+    ghost use Rattle.mcs_slots.specs.Pages.{empty_page, page_at, radix_of, slot_at, HasSlot, held, ArePages};
     ghost use Rattle.mcs_slots.specs.Filling.{filled, Fills, Moves};
     ghost use Rattle.mcs_slots.specs.Copying.{source_cap, copy_of, mint_of, answered};
 
@@ -89,6 +90,13 @@ impl Slots {
         self.pages.len()
     }
 
+    /// The slots of a CNode, or None where it is none of these.
+    pub fn page(&self, cnode: ObjId) -> Option<&Page>
+        ensures { option_copied result ≡ page_at self.now cnode }
+    {
+        self.pages.page(cnode)
+    }
+
     /// The radix of a CNode, or None where it is none of these.
     pub fn radix(&self, cnode: ObjId) -> Option<u8>
         ensures { result ≡ radix_of self.now cnode }
@@ -117,9 +125,9 @@ impl Slots {
     {
         // There are few slots, so no count outgrows its tally.
         self.pages.are_pages();
-        self.tallies.let_go(&self.pages.get(slot));
+        let held = self.pages.set(slot, cap_again(&cap));
+        self.tallies.let_go(&held);
         self.tallies.count(&cap);
-        self.pages.set(slot, cap);
     }
 
     /// Puts a capability into a slot that is there. What the slot held is gone.

@@ -13,13 +13,13 @@ const SERIALS: u32 = 8_192;
 /// How many buckets there are: eight for each remainder of a serial, of which each kind takes one.
 const BUCKETS: usize = 8 * SERIALS as usize;
 
-/// What is known of the objects of a bucket: how many slots hold a capability to the one that came first, its owner, and how many
-/// to any of them.
+/// What is known of the objects of a bucket, which are of one kind: the serial of the one that came first, the owner, how many slots
+/// hold a capability to it, and how many to any of them. There are fewer slots than 16 bits count.
 #[derive(Clone, Copy)]
 pub(crate) struct Tally {
-    owner: Option<ObjId>,
-    held: u32,
-    total: u32,
+    owner: u32,
+    held: u16,
+    total: u16,
 }
 
 /// A tally for each bucket of objects. They change with the slots, one capability at a time.
@@ -49,65 +49,45 @@ fn bucket_of(obj: ObjId) -> usize
 }
 
 impl Tally {
-    ghost use Rattle.mcs_slots.specs.Tallies.{one_less, one_more, taken_over};
+    ghost use Rattle.mcs_slots.specs.Tallies.{one_less, one_more};
 
-    /// Whether its count is of this object.
+    /// Whether its count is of this object of its bucket.
     pub(crate) fn owns(&self, obj: ObjId) -> bool
         ensures { result ≡ owns self.now.owner obj }
     {
-        match self.owner {
-            None => false,
-            Some(owner) => obj.is_same(owner),
-        }
+        self.owner == obj.serial
     }
 
     /// How many slots hold a capability to its owner.
     pub(crate) fn held(&self) -> u32
         ensures { result ≡ self.now.held }
     {
-        self.held
+        self.held as u32
     }
 
-    /// With one capability to an object less.
-    fn one_less(self, obj: ObjId) -> Tally
-        ensures { result ≡ one_less obj self }
+    /// One capability to an object of its bucket less.
+    fn count_down(&mut self, obj: ObjId)
+        ensures { self.new ≡ one_less obj self.old }
     {
-        let held = if self.owns(obj) {
-            self.held.saturating_sub(1)
-        } else {
-            self.held
-        };
-        Tally {
-            owner: self.owner,
-            held,
-            total: self.total.saturating_sub(1),
+        if self.owns(obj) {
+            self.held = self.held.saturating_sub(1);
         }
+        self.total = self.total.saturating_sub(1);
     }
 
-    /// The object is its owner from now on where no slot holds a capability to one of its bucket.
-    fn taken_over(self, obj: ObjId) -> Tally
-        ensures { result ≡ taken_over obj self }
+    /// One capability to an object of its bucket more. The object is its owner from now on where no slot held a capability to one of
+    /// them. The slots are too few for a count to be cut off.
+    fn count_up(&mut self, obj: ObjId)
+        ensures { self.new ≡ one_more obj self.old }
     {
-        if self.total > 0 {
-            return self;
+        if self.total == 0 {
+            self.owner = obj.serial;
+            self.held = 0;
         }
-        Tally {
-            owner: Some(obj),
-            held: 0,
-            total: 0,
+        if self.owns(obj) {
+            self.held = self.held.saturating_add(1);
         }
-    }
-
-    /// With one capability to an object more. The slots are too few for a count to be cut off.
-    fn one_more(self, obj: ObjId) -> Tally
-        ensures { result ≡ one_more obj self }
-    {
-        let mut tally = self.taken_over(obj);
-        if tally.owns(obj) {
-            tally.held = tally.held.saturating_add(1);
-        }
-        tally.total = tally.total.saturating_add(1);
-        tally
+        self.total = self.total.saturating_add(1);
     }
 }
 
@@ -117,7 +97,7 @@ fn no_tallies(alloc: Global, count: usize) -> Result<Vec<Tally>, OutOfMemory>
     ensures len { IfOk result (λ v. length v.items ≡ count) }
 {
     let none = Tally {
-        owner: None,
+        owner: 0,
         held: 0,
         total: 0,
     };
@@ -151,8 +131,7 @@ impl Tallies {
         let Some(cap) = cap else {
             return;
         };
-        let tally = &mut self.tallies[bucket_of(cap.obj)];
-        *tally = tally.one_less(cap.obj);
+        self.tallies[bucket_of(cap.obj)].count_down(cap.obj);
     }
 
     /// An empty slot holds this.
@@ -162,7 +141,6 @@ impl Tallies {
         let Some(cap) = cap else {
             return;
         };
-        let tally = &mut self.tallies[bucket_of(cap.obj)];
-        *tally = tally.one_more(cap.obj);
+        self.tallies[bucket_of(cap.obj)].count_up(cap.obj);
     }
 }
