@@ -5,11 +5,13 @@ use Rattle.std.specs.Cmp.Lexicographic.{pointwise, unequal}
 use Rattle.std.proofs.Common.{refl, ap, sym, ◌∙◌, arith}
 use Rattle.std.proofs.lemmas.Grind.{common_steps}
 use Rattle.mcs_types.specs.declared.cap.Cap.{Cap}
+use Rattle.mcs_types.specs.declared.cap.Guard.{Guard}
+use Rattle.mcs_types.specs.declared.entry.Refusal.{Refusal}
 use Rattle.mcs_types.specs.declared.entry.Refusal.TheVariants.{DepthMismatch, GuardMismatch}
 use Rattle.mcs_book.specs.Checks.{Checked, ◌>>=◌, ◌>>◌, need}
 use Rattle.mcs_book.specs.Lookup.{Space, bits_of, number_of_bits, same_bit, Reached, level}
 use Rattle.mcs_cspace.specs.declared.levels.Step.{Step}
-use Rattle.mcs_cspace.specs.Levels.{level_at}
+use Rattle.mcs_cspace.specs.Levels.{past_guard, level_at}
 use Rattle.mcs_cspace.proofs.Numbering.{same-test}
 use Rattle.mcs_cspace.proofs.Bits.{length-bits, drop-bits, number-bits, starts-bits}
 
@@ -106,3 +108,42 @@ level-is S cap n a = go (nat_le g n) refl
         (λ i. checks (starts-long g n a v e i) (after-is e i) ((ap (λ bits. length bits) (after-is e) ∙ length-bits m a) i))
         ∙ ends (a / 2 ^ m % 2 ^ g == v % 2 ^ g) (nat_le radix m) same
     go false e = ap (λ b. checks b after (length after)) (starts-short g n a v e)
+
+-- a level in two steps: past the guard, and then along the index
+abbrev along : ℕ → ℕ → ℕ → Checked Step
+along radix a after = cond (nat_le radix after) (Ok (record { index = a / 2 ^ (after - radix) % 2 ^ radix; left = after - radix })) (Err DepthMismatch)
+
+past-along : (guard : Guard) (radix n a after : ℕ) → past_guard guard n a ≡ Ok after → level_at guard radix n a ≡ along radix a after
+unfolding past_guard level_at
+past-along guard radix n a after e =
+    go (n - guard.bits) (nat_le guard.bits n) (a / 2 ^ (n - guard.bits) % 2 ^ guard.bits == guard.value % 2 ^ guard.bits) e
+  where
+    go : (m : ℕ) (v w : Bool) → cond v (cond w (Ok m) (Err GuardMismatch)) (Err GuardMismatch) ≡ Ok after
+        → cond v (cond w (along radix a m) (Err GuardMismatch)) (Err GuardMismatch) ≡ along radix a after
+    go m true true h = let same : m ≡ after = cc in ap (along radix a) same
+    go m true false h = absurd cc
+    go m false w h = absurd cc
+
+pub past-err : (guard : Guard) (radix n a : ℕ) (why : Refusal) → past_guard guard n a ≡ Err why → level_at guard radix n a ≡ Err why
+unfolding past_guard level_at
+past-err guard radix n a why e =
+    go (n - guard.bits) (nat_le guard.bits n) (a / 2 ^ (n - guard.bits) % 2 ^ guard.bits == guard.value % 2 ^ guard.bits) e
+  where
+    go : (m : ℕ) (v w : Bool) → cond v (cond w (Ok m) (Err GuardMismatch)) (Err GuardMismatch) ≡ Err why
+        → cond v (cond w (along radix a m) (Err GuardMismatch)) (Err GuardMismatch) ≡ Err why
+    go m true true h = absurd cc
+    go m true false h = let same : GuardMismatch ≡ why = cc in ap Err same
+    go m false w h = let same : GuardMismatch ≡ why = cc in ap Err same
+
+pub past-short : (guard : Guard) (radix n a after : ℕ) → past_guard guard n a ≡ Ok after → after < radix → level_at guard radix n a ≡ Err DepthMismatch
+past-short guard radix n a after e short =
+    let no : nat_le radix after ≡ false = grind (arith, common_steps, short) in
+    past-along guard radix n a after e ∙ ap (λ b. cond b (Ok (record { index = a / 2 ^ (after - radix) % 2 ^ radix; left = after - radix })) (Err DepthMismatch)) no
+
+pub past-long : (guard : Guard) (radix n a after index : ℕ) → past_guard guard n a ≡ Ok after → radix ≤ after → index ≡ a / 2 ^ (after - radix) % 2 ^ radix
+    → Ok (record { index = index; left = after - radix }) ≡ level_at guard radix n a
+past-long guard radix n a after index e long is =
+    let yes : nat_le radix after ≡ true = grind (arith, common_steps, long) in
+    let told : Step → Checked Step = Ok in
+    ap (λ i. told (record { index = i; left = after - radix })) is
+    ∙ sym (past-along guard radix n a after e ∙ ap (λ b. cond b (Ok (record { index = a / 2 ^ (after - radix) % 2 ^ radix; left = after - radix })) (Err DepthMismatch)) yes)

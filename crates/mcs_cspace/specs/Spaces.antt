@@ -8,7 +8,8 @@ use Rattle.mcs_book.specs.Slots.{SlotName}
 use Rattle.mcs_book.specs.Lookup.{Space, Reached, bits_of, cnode_cap, walk}
 use Rattle.mcs_book.specs.LookupEnds.{IsSlotNamedFrom, IsSlotUnnamedFrom}
 use Rattle.mcs_slots.specs.declared.slots.SlotId.{SlotId}
-use Rattle.mcs_slots.specs.Pages.{Page, HasSlot, radix_of, slot_at}
+use Rattle.mcs_slots.specs.Pages.{Page, HasSlot, page_radix, page_slot, radix_of, slot_at}
+use Rattle.mcs_cspace.specs.declared.levels.Step.{Step}
 use Rattle.mcs_cspace.specs.declared.paths.End.{End}
 
 -- the space of slots: a CNode that is not there has a radix of 0, and empty slots
@@ -23,9 +24,13 @@ IsWithin P at = at.index < 2 ^ (slots_space P).radix at.cnode
 abbrev pub IsThereWithCNode : List Page → SlotId → Type 0
 IsThereWithCNode P at = HasSlot P at ↔ IsSome (radix_of P at.cnode)
 
--- the CNode at which lookup goes on: bits are left, and the slot holds a capability to it
-abbrev pub next_at : List Page → SlotId → ℕ → Option Cap
-next_at P at left = cond (left == 0) None (cnode_cap (slot_at P at.cnode at.index))
+-- the radix of a CNode with these slots, or 0 where it is not there
+abbrev pub radix_on : Option Page → ℕ
+radix_on p = unwrap_or (page_radix p) 0
+
+-- the CNode at which lookup goes on behind a level: bits are left, and the slot holds a capability to it
+abbrev pub next_on : Option Page → Step → Option Cap
+next_on p s = cond (s.left == 0) None (cnode_cap (page_slot p s.index))
 
 -- what is reached by an address, where lookup ended
 abbrev pub reached_by : ℕ → End → Reached

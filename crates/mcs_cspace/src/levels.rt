@@ -1,6 +1,6 @@
 //! One level of lookup: the next bits of an address are the guard of a CNode's capability, and then the index of a slot.
 ghost use Rattle.std.specs.Prelude.{◌≡◌, ◌≤◌, ◌<◌, ◌/◌, ◌%◌, ◌^◌, IfOk};
-ghost use Rattle.mcs_cspace.specs.Levels.{level_at};
+ghost use Rattle.mcs_cspace.specs.Levels.{past_guard, level_at};
 
 use mcs_types::{Guard, Refusal};
 
@@ -35,7 +35,19 @@ fn bits_at(word: u64, below: u32, count: u32) -> u64
     low_bits(front, count)
 }
 
-/// How many bits are left behind a guard, where the next of `left` bits of the address are the guard's.
+/// The next `width` bits of a word, of which the low `below` come later.
+fn index_at(word: u64, below: u32, width: u32) -> u8
+    requires within { below < 64 }
+    requires few { width ≤ 8 }
+    ensures value { result ≡ word / 2 ^ below % 2 ^ width }
+    ensures small { result < 2 ^ width }
+{
+    let mask = (1u64 << width) - 1;
+    (word >> below & mask) as u8
+}
+
+/// How many bits are left behind a guard, where the next of `left` bits of the address are the guard's. Most guards have none.
+#[tactic(auto, unfolding(crate::specs::Levels::past_guard))]
 fn past_guard(guard: Guard, left: u32, address: u64) -> Result<u32, Refusal>
     requires { left ≤ 64 }
     ensures past { result ≡ past_guard guard left address }
@@ -67,9 +79,10 @@ pub(crate) fn level(guard: Guard, radix: u8, left: u32, address: u64) -> Result<
         return Err(Refusal::DepthMismatch);
     }
     let left = after - width;
-    if width == 0 {
-        return Ok(Step { index: 0, left });
-    }
-    let index = (address >> left) as u8 & ((1u32 << width) - 1) as u8;
+    let index = if width == 0 {
+        0
+    } else {
+        index_at(address, left, width)
+    };
     Ok(Step { index, left })
 }

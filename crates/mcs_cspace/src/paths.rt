@@ -35,7 +35,7 @@ fn to_cnode(cap: Option<Cap>) -> Option<Cap>
 
 /// The radix of a CNode with these slots, or 0 where it is not there.
 fn radix_of(page: Option<&Page>) -> u8
-    ensures value { result ≡ radix_on (option_copied page) }
+    ensures value { result ≡ radix_on (option_copied page.entry) }
     ensures few { result ≤ 8 }
 {
     match page {
@@ -46,7 +46,7 @@ fn radix_of(page: Option<&Page>) -> u8
 
 /// The capability to the CNode at which lookup goes on: bits are left, and the slot of this CNode holds it.
 fn next_in(page: Option<&Page>, step: Step) -> Option<Cap>
-    ensures { result ≡ next_on (option_copied page) step }
+    ensures { result ≡ next_on (option_copied page.entry) step }
 {
     if step.left == 0 {
         return None;
