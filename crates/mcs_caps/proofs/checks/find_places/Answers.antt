@@ -26,14 +26,14 @@ returns-in_default-clause-places g c =
     let R : Log = so_far c.args.state.now in
     let from = looked R c.args.thread c.args.source _ _ c.slot_named.ensures c.in_ok-source.was in
     let to = looked R c.args.thread c.args.dest _ _ c.slot_named-2.ensures c.in_ok-dest.was in
-    source-empty R c.args.thread c.args.source c.args.dest c.in_ok-source.source c.in_ok-dest.dest _ from to c.slot.ensures c.in_default.not-Some
+    source-empty R c.args.thread c.args.source c.args.dest c.in_ok-source.source c.in_ok-dest.dest _ from to c.slot-held.ensures c.in_default.not-Some
 
 pub returns-then-is_some-clause-places : goal.returns-then-is_some-clause-places
 returns-then-is_some-clause-places g c =
     let R : Log = so_far c.args.state.now in
     let from = looked R c.args.thread c.args.source _ _ c.slot_named.ensures c.in_ok-source.was in
     let to = looked R c.args.thread c.args.dest _ _ c.slot_named-2.ensures c.in_ok-dest.was in
-    let all = source-holds R c.args.thread c.args.source c.args.dest c.in_ok-source.source c.in_ok-dest.dest c.in-Some.cap c.slot-2.result from to (sym c.slot.ensures ∙ c.in-Some.is) c.slot-2.ensures in
+    let all = source-holds R c.args.thread c.args.source c.args.dest c.in_ok-source.source c.in_ok-dest.dest c.in-Some.cap c.slot.result from to (sym c.slot-held.ensures ∙ c.in-Some.is) c.slot.ensures in
     rw (sym c.is_some.ensures ∙ c.if-is_some.true) at all
 
 pub returns-clause-places : goal.returns-clause-places
@@ -41,7 +41,7 @@ returns-clause-places g c =
     let R : Log = so_far c.args.state.now in
     let from = looked R c.args.thread c.args.source _ _ c.slot_named.ensures c.in_ok-source.was in
     let to = looked R c.args.thread c.args.dest _ _ c.slot_named-2.ensures c.in_ok-dest.was in
-    let all = source-holds R c.args.thread c.args.source c.args.dest c.in_ok-source.source c.in_ok-dest.dest c.in-Some.cap c.slot-2.result from to (sym c.slot.ensures ∙ c.in-Some.is) c.slot-2.ensures in
+    let all = source-holds R c.args.thread c.args.source c.args.dest c.in_ok-source.source c.in_ok-dest.dest c.in-Some.cap c.slot.result from to (sym c.slot-held.ensures ∙ c.in-Some.is) c.slot.ensures in
     rw (sym c.is_some.ensures ∙ c.if-is_some.false) at all
 
 pub returns-clause-placed : goal.returns-clause-placed
@@ -52,5 +52,5 @@ returns-clause-placed g c =
     record {
       source = named-slot R c.args.thread c.args.source c.in_ok-source.source c.is_sound.ensures.sound c.requires from;
       dest = named-slot R c.args.thread c.args.dest c.in_ok-dest.dest c.is_sound.ensures.sound c.requires to;
-      held = sym c.slot.ensures ∙ c.in-Some.is;
+      held = sym c.slot-held.ensures ∙ c.in-Some.is;
     }
