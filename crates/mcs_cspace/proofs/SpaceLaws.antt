@@ -1,6 +1,6 @@
--- The space of slots: its radices are at most 8, and where a slot holds a capability at least 1.
+-- The space of slots: a radix is at least 1 where a slot holds a capability.
 use Rattle.std.specs.Prelude.{ℕ, zero, suc, ◌≡◌, ◌≤◌, List, [], ◌∷◌, Option, Some, None, unwrap_or, slice_get}
-use Rattle.std.proofs.Common.{refl, subst, arith}
+use Rattle.std.proofs.Common.{refl, subst}
 use Rattle.mcs_types.specs.declared.id.ObjId.{ObjId}
 use Rattle.mcs_types.specs.declared.cap.Cap.{Cap}
 use Rattle.mcs_book.specs.Lookup.{cnode_cap}
@@ -20,15 +20,7 @@ cnode-good : (P : List Page) (o : Option ℕ) (p : Page) → ArePages P → page
 cnode-good P None p h is = absurd cc
 cnode-good P (Some n) p h is = page-good P n p h is
 
--- a radix is at most 8
-pub radix-few : (P : List Page) (c : ObjId) → ArePages P → unwrap_or (radix_of P c) 0 ≤ 8
-radix-few P c h = go (page_at P c) refl
-  where
-    go : (o : Option Page) → page_at P c ≡ o → unwrap_or (page_radix o) 0 ≤ 8
-    go None is = omega arith
-    go (Some p) is = (cnode-good P (number_of c) p h is).1
-
--- and at least 1 where a slot holds a capability to a CNode
+-- a radix is at least 1 where a slot of the CNode holds a capability to a CNode
 radix-some : (P : List Page) (c : ObjId) (i : ℕ) (next : Cap) → ArePages P → cnode_cap (slot_at P c i) ≡ Some next → 1 ≤ unwrap_or (radix_of P c) 0
 radix-some P c i next h = go (page_at P c) refl
   where

@@ -14,15 +14,6 @@ pub(crate) struct End {
     pub(crate) left: u32,
 }
 
-/// The radix of a CNode, or 0 where it is not there.
-pub fn radix_in(slots: &Slots, cnode: ObjId) -> u8
-    ensures value { result ≡ (slots_space slots.now).radix cnode }
-    ensures few { result ≤ 8 }
-{
-    slots.are_pages();
-    slots.radix(cnode).unwrap_or(0)
-}
-
 /// The capability, where it is to a CNode.
 fn to_cnode(cap: Option<Cap>) -> Option<Cap>
     ensures { result ≡ cnode_cap cap }
@@ -42,6 +33,14 @@ fn radix_of(page: Option<&Page>) -> u8
         None => 0,
         Some(page) => page.radix(),
     }
+}
+
+/// The radix of a CNode, or 0 where it is not there.
+pub fn radix_in(slots: &Slots, cnode: ObjId) -> u8
+    ensures value { result ≡ (slots_space slots.now).radix cnode }
+    ensures few { result ≤ 8 }
+{
+    radix_of(slots.page(cnode))
 }
 
 /// The capability to the CNode at which lookup goes on: bits are left, and the slot of this CNode holds it.

@@ -11,7 +11,7 @@ mod checks;
 mod taking;
 
 use checks::{check, exists_as};
-use mcs_queues::LinkedLines;
+use mcs_queues::PlainLines;
 use mcs_state::State;
 use mcs_types::{BootFault, BootLine, CORES, Kind, ObjId, OutOfMemory};
 use mcs_waiting::{ObjectQueues, Waiting};
@@ -23,7 +23,8 @@ use taking::takes_line;
 /// first.
 #[derive(Drop)]
 pub struct Boot {
-    state: State<ObjectQueues<LinkedLines>>,
+    // No thread waits yet, so these lines stay empty, and no room for links is cleared twice.
+    state: State<ObjectQueues<PlainLines>>,
 }
 
 impl Model for Boot {

@@ -11,7 +11,7 @@ bucket_count = BUCKETS
 
 -- the bucket of an object: objects of one kind share it where their serials differ by a multiple of SERIALS
 abbrev pub bucket_of : ObjId → ℕ
-bucket_of o = (o.serial % SERIALS) * 8 + kind_number o.kind
+bucket_of o = (o.serial % SERIALS) * 6 + kind_number o.kind
 
 -- whether it is a capability to an object of this bucket
 abbrev pub falls_in : ℕ → Option Cap → Bool

@@ -8,10 +8,10 @@ use std::alloc::Global;
 use std::marker::Model;
 
 /// Objects of one kind whose serials differ by a multiple of this share a bucket (own).
-const SERIALS: u32 = 8_192;
+const SERIALS: u32 = 4_096;
 
-/// How many buckets there are: eight for each remainder of a serial, of which each kind takes one.
-const BUCKETS: usize = 8 * SERIALS as usize;
+/// How many buckets there are: one for each kind and each remainder of a serial.
+const BUCKETS: usize = 6 * SERIALS as usize;
 
 /// What is known of the objects of a bucket, which are of one kind: the serial of the one that came first, the owner, how many slots
 /// hold a capability to it, and how many to any of them. There are fewer slots than 16 bits count.
@@ -45,7 +45,7 @@ fn bucket_of(obj: ObjId) -> usize
     ensures value { result ≡ bucket_of obj }
     ensures within { result < bucket_count }
 {
-    (obj.serial % SERIALS) as usize * 8 + obj.kind as usize
+    (obj.serial % SERIALS) as usize * 6 + obj.kind as usize
 }
 
 impl Tally {
