@@ -1,6 +1,7 @@
 #!/bin/sh
 # How long mcssim takes for long scripts, and how much memory: for each number of steps the seconds, the peak of memory in bytes, the
 # bytes of memory for each line of the book, and the bytes written. Usage: long-runs.sh messages|entries [STEPS..]
+# The peak of a process begins with that of the one which starts it, here of python3, so a smaller one is told as less than that (<).
 # `messages` are sends and receives in turn; `entries` are rounds of all 25 entries, with objects made and deleted in each
 # (bench/all-entries.txt). It takes the program that `rt ci` leaves in out/, or proves and builds it where it is not there, and
 # measures with python3.
@@ -28,6 +29,7 @@ for steps in ${*:-10000 100000 999000}; do
 import resource, subprocess, sys, time
 
 script, trace, steps = sys.argv[1], sys.argv[2], int(sys.argv[3])
+floor = resource.getrusage(resource.RUSAGE_SELF).ru_maxrss * 1024
 began = time.monotonic()
 with open(script) as given, open(trace, "w") as written:
     subprocess.run(["crates/mcssim/out/mcssim", "replay"], stdin=given, stdout=written, check=True)
@@ -36,6 +38,7 @@ peak = resource.getrusage(resource.RUSAGE_CHILDREN).ru_maxrss * 1024
 with open(trace, "rb") as written:
     text = written.read()
 assert text.count(b"\n= ") == steps, "each step has its line"
-print(steps, f"{seconds:.2f}", peak, peak // steps, len(text))
+less = "" if peak > floor + (1 << 19) else "<"
+print(steps, f"{seconds:.2f}", f"{less}{peak}", f"{less}{peak // steps}", len(text))
 P
 done
