@@ -1,6 +1,10 @@
-pub mod ChainLaws
-pub mod DebtLaws
-pub mod LeavingLaws
-pub mod OwingLaws
-pub mod PlaceLaws
 pub mod RowLaws
+mod Neighbours
+mod WalkLaws
+mod Relinking
+mod AmongLaws
+mod TopLaws
+mod ChangeLaws
+mod Walking
+mod Leaving
+mod OwingLaws

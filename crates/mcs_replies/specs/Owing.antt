@@ -1,19 +1,22 @@
 -- What a contract sees of `Replies`: what is kept of each reply object that is there, and the chain of each context.
-use Rattle.std.specs.Prelude.{◌≡◌, ◌≤◌, ℕ, Bool, true, false, cond, ◌&&◌, List, [], ◌∷◌, Option, is_some, is_none, IsSome, option_and_then}
+use Rattle.std.specs.Prelude.{◌≡◌, ℕ, Bool, true, false, cond, ◌&&◌, List, [], ◌∷◌, Option, Some, is_some, is_none, IsSome, option_and_then}
 use Rattle.mcs_types.specs.declared.id.ObjId.{ObjId}
 use Rattle.mcs_types.specs.declared.id.Kind.TheVariants.{Reply}
 use Rattle.mcs_types.specs.declared.record.Ending.{Ending}
 use Rattle.mcs_types.specs.Ids.{is_just, ChangesAt}
 use Rattle.mcs_types.specs.Limits.{object_limit}
 use Rattle.mcs_types.specs.Chains.{head_of, taken_off, ended, is_in}
-use Rattle.mcs_objects.specs.Store.{Objects, Shape, value_at, shape, next_id, is_full}
+use Rattle.mcs_objects.specs.Store.{Objects, Shape, value_at, place_at, shape, next_id, is_full}
 use Rattle.mcs_replies.specs.declared.replies.ReplyRow.{ReplyRow}
-use Rattle.mcs_replies.specs.declared.debts.Debt.{Debt}
-use Rattle.mcs_replies.specs.Debts.{chain_of, has_debt, AreApart}
+use Rattle.mcs_replies.specs.declared.links.Link.{Link}
+use Rattle.mcs_replies.specs.Tops.{TopRows}
+use Rattle.mcs_replies.specs.Changes.{changes}
+use Rattle.mcs_replies.specs.Links.{linked_of, reply_in, Sound}
 
 pub record Owing : Type 0 where
   pub rows : Objects ReplyRow
-  pub debts : List Debt
+  pub links : List (Option Link)
+  pub tops : TopRows
 
 -- how many reply objects were made and are there
 abbrev pub counts : Owing → Shape
@@ -55,7 +58,7 @@ SetsOwed old new r caller = ChangesAt (owed_in old) (owed_in new) r caller
 
 -- the chain of a context, from the top
 abbrev pub chain_in : Owing → ObjId → List ObjId
-chain_in v s = chain_of s v.debts
+chain_in v s = linked_of v.links v.tops s
 
 -- whether a reply object may come to owe: it is there and owes nobody
 abbrev pub may_owe : Owing → ObjId → Bool
@@ -85,6 +88,10 @@ TakesOff old new r = (s : ObjId) → chain_in new s ≡ taken_off r (chain_in ol
 abbrev pub EndsDebt : Owing → Owing → Ending → ObjId → Type 0
 EndsDebt old new how r = (s : ObjId) → chain_in new s ≡ ended how r (chain_in old s)
 
+-- how many links of places and tops of contexts differ
+abbrev pub link_changes : Owing → Owing → ℕ
+link_changes old new = changes old.links old.tops new.links new.tops
+
 -- none stands twice in a chain
 abbrev pub AreOnce : List ObjId → Type 0
 AreOnce [] = Unit {0}
@@ -96,10 +103,10 @@ pub record IsChained (v : Owing) : Type 0 where
   pub apart : (s u r : ObjId) → is_in r (chain_in v s) ≡ true → is_in r (chain_in v u) ≡ true → s ≡ u
   pub once : (s : ObjId) → AreOnce (chain_in v s)
 
--- what holds of all reply objects, with room for so many debts
-pub record IsOwing (v : Owing) (capacity : ℕ) : Type 0 where
+-- what holds of all reply objects
+pub record IsOwing (v : Owing) : Type 0 where
   pub room : v.rows.room ≡ object_limit
   pub kind : v.rows.kind ≡ Reply
-  pub reserved : object_limit ≤ capacity
-  pub apart : AreApart v.debts
-  pub owing : (r : ObjId) → has_debt r v.debts ≡ true → IsSome (owed_in v r)
+  pub sound : Sound v.links v.tops
+  pub owners : (u : ℕ) (r : ObjId) → reply_in v.links u ≡ Some r → place_at v.rows r ≡ Some u
+  pub owing : (u : ℕ) (r : ObjId) → reply_in v.links u ≡ Some r → IsSome (owed_in v r)

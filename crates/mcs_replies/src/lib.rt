@@ -1,8 +1,10 @@
 //! Reply objects, whom they owe, and the chain of each context.
 #![tactic(auto)]
 
-mod debts;
+mod links;
+mod places;
 mod replies;
+mod tops;
 
-pub use debts::Chain;
+pub use links::Chain;
 pub use replies::{Ended, Replies};

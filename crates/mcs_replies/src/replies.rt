@@ -1,16 +1,19 @@
 //! The table of reply objects.
-ghost use Rattle.std.specs.Prelude.{◌≡◌, true, false, [], Some, None, IfOk, IfSome, IfNone, option_map};
+ghost use Rattle.std.specs.Prelude.{◌≡◌, ◌≤◌, true, false, [], Some, None, IsSome, IfOk, IfSome, IfNone, option_map};
 ghost use Rattle.std.specs.Bool.{OnTrue, OnFalse};
 ghost use Rattle.mcs_types.specs.declared.id.ObjId.{ObjId};
 ghost use Rattle.mcs_types.specs.declared.id.Kind.{Kind};
+ghost use Rattle.mcs_types.specs.declared.record.Ending.TheVariants.{Deleted};
 ghost use Rattle.mcs_types.specs.Ids.{ChangesAt};
 ghost use Rattle.mcs_types.specs.Chains.{head_of};
 ghost use Rattle.mcs_types.specs.Limits.{object_limit};
-ghost use Rattle.mcs_objects.specs.Store.{shape, empty_shape, one_more, is_full, IsOneFewer};
-ghost use Rattle.mcs_replies.specs.Owing.{counts, no_room, next_reply, has_row, receiver_at, owed_at, is_there, receiver_in, owed_in, chain_in, may_owe, SetsOwed, LiesOnTop, NamesTopped, TakesOff, EndsDebt, IsChained};
-ghost use Rattle.mcs_replies.specs.Links.{rest_of};
+ghost use Rattle.mcs_objects.specs.Store.{shape, empty_shape, one_more, is_full, IsOneFewer, place_at};
+ghost use Rattle.mcs_replies.specs.Owing.{counts, no_room, next_reply, has_row, receiver_at, owed_at, is_there, receiver_in, owed_in, chain_in, may_owe, SetsOwed, LiesOnTop, NamesTopped, TakesOff, EndsDebt, IsChained, link_changes};
+ghost use Rattle.mcs_replies.specs.Rest.{rest_of};
 
-use crate::debts::{self, Chain, Debt};
+use crate::links::{self, Chain, Link};
+use crate::places::PlaceNo;
+use crate::tops::Tops;
 use mcs_objects::Store;
 use mcs_types::{Ending, Kind, OBJECTS, ObjId, OutOfMemory};
 use std::alloc::Global;
@@ -36,25 +39,29 @@ pub struct Ended {
 /// stands in no other. All memory is taken when they are made (own).
 pub struct Replies {
     rows: Store<ReplyRow>,
-    debts: Vec<Debt>,
+    links: Vec<Option<Link>>,
+    tops: Tops,
 }
 
 // By hand, so that it is a function of its own: a derived drop would be proved anew wherever it is let go.
 impl Drop for Replies {
     fn drop(self) {
-        let Replies { rows: _, debts: _ } = self;
+        let Replies {
+            rows: _,
+            links: _,
+            tops: _,
+        } = self;
     }
 }
 
 impl Model for Replies {
-    ghost use Rattle.std.specs.Prelude.{vec_capacity};
     ghost use Rattle.mcs_replies.specs.Owing.{Owing, IsOwing};
 
     ghost Value = { Owing };
 
-    ghost view = { λ s. record { rows = s.rows; debts = s.debts.items } };
+    ghost view = { λ s. record { rows = s.rows; links = s.links.items; tops = s.tops } };
 
-    ghost invariant = { λ s. IsOwing (record { rows = s.rows; debts = s.debts.items }) (vec_capacity s.debts) };
+    ghost invariant = { λ s. IsOwing (record { rows = s.rows; links = s.links.items; tops = s.tops }) };
 }
 
 /// Keeps another receiver of a reply object that is there.
@@ -62,6 +69,7 @@ fn keep_receiver(rows: &mut Store<ReplyRow>, reply: ObjId, receiver: Option<ObjI
     requires { has_row rows.old reply ≡ true }
     ensures shape { shape rows.new ≡ shape rows.old }
     ensures there { (r : ObjId) → has_row rows.new r ≡ has_row rows.old r }
+    ensures places { (r : ObjId) → place_at rows.new r ≡ place_at rows.old r }
     ensures receivers { ChangesAt (receiver_at rows.old) (receiver_at rows.new) reply receiver }
     ensures owed { (r : ObjId) → owed_at rows.new r ≡ owed_at rows.old r }
 {
@@ -77,6 +85,7 @@ fn keep_caller(rows: &mut Store<ReplyRow>, reply: ObjId, caller: Option<ObjId>)
     requires { has_row rows.old reply ≡ true }
     ensures shape { shape rows.new ≡ shape rows.old }
     ensures there { (r : ObjId) → has_row rows.new r ≡ has_row rows.old r }
+    ensures places { (r : ObjId) → place_at rows.new r ≡ place_at rows.old r }
     ensures receivers { (r : ObjId) → receiver_at rows.new r ≡ receiver_at rows.old r }
     ensures owed { ChangesAt (owed_at rows.old) (owed_at rows.new) reply caller }
 {
@@ -95,9 +104,11 @@ impl Replies {
         ensures owed { IfOk result (λ v. (r : ObjId) → owed_in v r ≡ None) }
         ensures chains { IfOk result (λ v. (s : ObjId) → chain_in v s ≡ []) }
     {
+        let nothing: Option<Link> = None;
         Ok(Replies {
             rows: Store::with_room(alloc, Kind::Reply, OBJECTS)?,
-            debts: Vec::with_capacity(alloc, OBJECTS as usize)?,
+            links: Vec::from_elem(alloc, nothing, OBJECTS as usize)?,
+            tops: Tops::new(alloc)?,
         })
     }
 
@@ -165,7 +176,8 @@ impl Replies {
     pub fn are_chained(&self)
         ensures { IsChained self.now }
     {
-        let _ = &self.debts;
+        self.rows.are_apart();
+        let _ = &self.links;
     }
 
     /// Begins a debt of a reply object that is there and owes nobody.
@@ -181,7 +193,14 @@ impl Replies {
         // A law for the proof: reply objects that owe have different places, so there is room for a debt.
         self.rows.are_apart();
         keep_caller(&mut self.rows, reply, Some(caller));
-        debts::add(&mut self.debts, reply, brought);
+        let Some(context) = brought else {
+            return;
+        };
+        let place = match self.rows.place(reply) {
+            Some(number) => PlaceNo(number),
+            None => unreachable!(),
+        };
+        links::lay(&mut self.links, &mut self.tops, place, reply, context);
     }
 
     /// A reply object owes a caller from now on, and lies on top of the chain of the context that the caller brought. False where
@@ -205,13 +224,15 @@ impl Replies {
     }
 
     /// The debt of a reply object is paid. On top of a chain it is taken off; else it and all below leave their chain, and those
-    /// below owe still. None, and nothing changes, where it owes nobody (manual: Message Passing; chains are own).
+    /// below owe still. None, and nothing changes, where it owes nobody (manual: Message Passing; chains are own). On top of a chain
+    /// at most three links change, however long the chain is (own).
     pub fn pay(&mut self, reply: ObjId) -> Option<Ended>
         ensures caller { option_map (λ e. e.caller) result ≡ owed_in self.old reply }
         ensures topped { IfSome result (λ e. NamesTopped self.old reply e.topped) }
         ensures none { IfNone result (self.new ≡ self.old) }
         ensures owed { SetsOwed self.old self.new reply None }
         ensures chains { TakesOff self.old self.new reply }
+        ensures changes { IfSome result (λ e. IsSome e.topped → link_changes self.old self.new ≤ 3) }
         ensures counts { counts self.new ≡ counts self.old }
         ensures there { (r : ObjId) → is_there self.new r ≡ is_there self.old r }
         ensures receivers { (r : ObjId) → receiver_in self.new r ≡ receiver_in self.old r }
@@ -229,13 +250,20 @@ impl Replies {
         ensures none { IfNone result (self.new ≡ self.old) }
         ensures owed { SetsOwed self.old self.new reply None }
         ensures chains { EndsDebt self.old self.new how reply }
+        ensures changes { how ≡ Deleted
+            → IfSome result (λ e. IsSome e.topped → link_changes self.old self.new ≤ 3) }
         ensures counts { counts self.new ≡ counts self.old }
         ensures there { (r : ObjId) → is_there self.new r ≡ is_there self.old r }
         ensures receivers { (r : ObjId) → receiver_in self.new r ≡ receiver_in self.old r }
     {
         let caller = self.owed(reply)?;
+        self.rows.are_apart();
         keep_caller(&mut self.rows, reply, None);
-        let topped = debts::leave(&mut self.debts, reply, how);
+        let place = match self.rows.place(reply) {
+            Some(number) => PlaceNo(number),
+            None => unreachable!(),
+        };
+        let topped = links::leave(&mut self.links, &mut self.tops, place, how);
         Some(Ended { caller, topped })
     }
 
@@ -244,8 +272,9 @@ impl Replies {
         ensures { rest_of result ≡ chain_in self.now context }
     {
         Chain {
-            debts: &self.debts,
-            context,
+            links: &self.links,
+            at: self.tops.top(context),
+            left: OBJECTS,
         }
     }
 
@@ -264,7 +293,7 @@ impl Replies {
         ensures there { (r : ObjId) → is_there self.new r ≡ is_there self.old r }
         ensures receivers { (r : ObjId) → receiver_in self.new r ≡ receiver_in self.old r }
     {
-        debts::clear(&mut self.debts, context);
+        links::drop_links(&mut self.links, &mut self.tops, context);
     }
 
     /// Forgets a reply object that owes nobody and with which no receiver stands: its serial is never given again (manual:
@@ -279,6 +308,7 @@ impl Replies {
         ensures owed { (r : ObjId) → owed_in self.new r ≡ owed_in self.old r }
         ensures chains { (s : ObjId) → chain_in self.new s ≡ chain_in self.old s }
     {
+        self.rows.are_apart();
         self.rows.remove(reply);
     }
 }

@@ -1,7 +1,7 @@
 use Rattle.std.proofs.Common.{◌≡◌, Some, ap, refl, sym, ◌∙◌}
 use Rattle.std.specs.Option.{option_copied_mut}
 use Rattle.mcs_objects.specs.Store.{value_at}
-use Rattle.mcs_objects.proofs.MapLaws.{shape-written}
+use Rattle.mcs_objects.proofs.MapLaws.{shape-written, place-written}
 use Rattle.mcs_replies.proofs.RowLaws.{row_stays, field_changes, field_stays}
 use Rattle.mcs_replies.proofs.replies.keep_caller.Goals as goal
 
@@ -22,3 +22,6 @@ pub returns-clause-owed : goal.returns-clause-owed
 returns-clause-owed c = λ x.
     let was : value_at c.args.rows.now c.args.reply ≡ Some c.in-Some.row.now = sym c.get_mut.ensures.value ∙ ap option_copied_mut c.in-Some.is in
     field_changes (λ r. r.caller) c.args.rows.now c.args.reply x _ (rw was refl)
+
+pub returns-clause-places : goal.returns-clause-places
+returns-clause-places c = λ x. place-written c.args.rows.now c.args.reply x _

@@ -1,28 +1,37 @@
-use Rattle.std.proofs.Common.{ap, sym, ◌∙◌, subst, arith}
-use Rattle.mcs_replies.specs.Debts.{chain_of, has_debt, AreApart}
-use Rattle.mcs_replies.proofs.OwingLaws.{no-debt, room-left, apart-added, owing-added, chains-added}
+use Rattle.std.proofs.Common.{◌≡◌, ◌<◌, Some, ap, sym, cond, ◌∙◌, ◌∷◌, subst}
+use Rattle.mcs_types.specs.Ids.{same}
+use Rattle.mcs_types.specs.Limits.{object_limit}
+use Rattle.mcs_objects.specs.Store.{place_at}
+use Rattle.mcs_replies.specs.Links.{linked_of}
+use Rattle.mcs_replies.specs.Owing.{chain_in, chain_with}
+use Rattle.mcs_replies.proofs.OwingLaws.{free-out, free-link, few-tops, same-sym}
 use Rattle.mcs_replies.proofs.replies.Replies.begin.Goals as goal
 
-pub add-requires : goal.add-requires
-add-requires c =
-    let s = c.self.inside in
-    let lt = room-left c.args.reply s.rows s.debts.items c.are_apart.ensures c.self.invariant.apart c.self.invariant.owing (rw (← c.self.view_is) at c.requires.free) (rw (← c.self.view_is) at c.requires.there) in
-    omega (arith, lt, c.self.invariant.room, c.self.invariant.reserved, s.debts.ok.0)
+pub returns-in_default-clause-chains : goal.returns-in_default-clause-chains
+returns-in_default-clause-chains c = λ s.
+    ap (λ v. chain_in v s) c.self.view_is ∙ sym (ap (λ b. chain_with b c.args.reply s (chain_in c.args.self.now s)) c.in_default.is)
 
-pub invariant_of-self : goal.invariant_of-self
-invariant_of-self c =
+pub lay-requires-clause-free : goal.lay-requires-clause-free
+lay-requires-clause-free c =
     let s = c.self.inside in
-    let all = c.self.invariant in
-    let out = no-debt c.args.reply s.rows s.debts.items all.owing (rw (← c.self.view_is) at c.requires.free) in
-    let shape = c.keep_caller.ensures.shape in
-    record {
-      room = ap (λ n. n.room) shape ∙ all.room;
-      kind = ap (λ n. n.kind) shape ∙ all.kind;
-      reserved = omega (arith, all.reserved, c.add.ensures.capacity);
-      apart = subst AreApart (sym c.add.ensures.items) (apart-added c.args.brought c.args.reply s.debts.items all.apart out);
-      owing = λ r h. owing-added c.args.brought c.args.reply c.args.caller s.rows c.keep_caller.new.rows s.debts.items all.owing c.keep_caller.ensures.owed r (ap (λ zs. has_debt r zs) (sym c.add.ensures.items) ∙ h);
-    }
+    let at : place_at s.rows c.args.reply ≡ Some c.in-Some-place.number = sym (c.keep_caller.ensures.places c.args.reply) ∙ sym c.in-Some-place.ensures in
+    free-link s.rows s.links.items c.args.reply c.in-Some-place.number c.are_apart.ensures c.self.invariant.owners c.self.invariant.owing (rw (← c.self.view_is) at c.requires.free) at
+
+pub lay-requires-clause-out : goal.lay-requires-clause-out
+lay-requires-clause-out c = free-out c.self.inside.rows c.self.inside.links.items c.args.reply c.self.invariant.owing (rw (← c.self.view_is) at c.requires.free)
+
+pub lay-requires-clause-room : goal.lay-requires-clause-room
+lay-requires-clause-room c =
+    let s = c.self.inside in
+    let at : place_at s.rows c.args.reply ≡ Some c.in-Some-place.number = sym (c.keep_caller.ensures.places c.args.reply) ∙ sym c.in-Some-place.ensures in
+    let free = free-link s.rows s.links.items c.args.reply c.in-Some-place.number c.are_apart.ensures c.self.invariant.owners c.self.invariant.owing (rw (← c.self.view_is) at c.requires.free) at in
+    let within : c.in-Some-place.number < object_limit = subst (λ n. c.in-Some-place.number < n) c.self.invariant.room (c.are_apart.ensures.room c.args.reply c.in-Some-place.number at) in
+    let few = few-tops s.links.items s.tops c.in-Some-place.number c.self.invariant.sound within free in
+    few
 
 pub returns-clause-chains : goal.returns-clause-chains
-returns-clause-chains c =
-    rw (← c.self.view_is) (λ s. ap (λ zs. chain_of s zs) c.add.ensures.items ∙ chains-added c.args.brought c.args.reply s c.self.inside.debts.items)
+returns-clause-chains c = λ s.
+    let old = linked_of c.self.inside.links.items c.self.inside.tops s in
+    c.lay.ensures.chains s ∙ ap (λ b. cond b (c.args.reply ∷ old) old) (same-sym s c.in-Some.context)
+    ∙ ap (λ os. cond (same c.in-Some.context s) (c.args.reply ∷ os) os) (ap (λ v. chain_in v s) c.self.view_is)
+    ∙ sym (ap (λ b. chain_with b c.args.reply s (chain_in c.args.self.now s)) c.in-Some.is)

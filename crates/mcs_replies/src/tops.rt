@@ -1,0 +1,165 @@
+//! The top of each context's chain, which stands where the serial of the context says.
+ghost use Rattle.std.specs.Prelude.{◌≡◌, ◌≤◌, ◌<◌, ◌++◌, ◌%◌, position, length, replicate, vec_len, vec_capacity, [], Some, None, IsSome, IfOk};
+ghost use Rattle.mcs_types.specs.Limits.{object_limit};
+ghost use Rattle.mcs_replies.specs.Places.{place_number};
+ghost use Rattle.mcs_replies.specs.Tops.{is_for, top_among, row_of, entered_among, left_among, home, top_at, takes_home, entered, left, moved};
+
+use crate::places::PlaceNo;
+use mcs_types::{OBJECTS, ObjId, OutOfMemory};
+use std::alloc::Global;
+use std::marker::Model;
+
+/// The top of the chain of a context, as the place of a reply object (own).
+#[derive(Clone, Copy)]
+pub struct Top {
+    context: ObjId,
+    top: PlaceNo,
+}
+
+/// The top of each chain that is not empty (own). The row of a context stands at its home, which its serial tells, or among the
+/// others, where the row of another context was at home as it came: their serials then differ by a multiple of 256, which is rare.
+#[derive(Drop)]
+pub struct Tops {
+    homes: Vec<Option<Top>>,
+    others: Vec<Top>,
+}
+
+impl Model for Tops {
+    ghost use Rattle.std.specs.Prelude.{◌≡◌, ◌≤◌, length, vec_capacity};
+    ghost use Rattle.mcs_types.specs.Limits.{object_limit};
+    ghost use Rattle.mcs_replies.specs.Tops.{TopRows};
+
+    ghost Value = { TopRows };
+
+    ghost view = { λ t. record { homes = t.homes.items; others = t.others.items } };
+
+    ghost invariant = { λ t. (length t.homes.items ≡ object_limit) × (object_limit ≤ vec_capacity t.others) };
+}
+
+/// Where the row of a context stands among those that are not at home.
+fn place_among(others: &[Top], context: ObjId) -> Option<usize>
+    ensures { result ≡ position (is_for context) others.now }
+{
+    others.iter().position(|row| row.context.is_same(context))
+}
+
+/// The top of the chain of a context whose row is not at home.
+fn top_among(others: &[Top], context: ObjId) -> Option<PlaceNo>
+    ensures { place_number result ≡ top_among others.now context }
+{
+    let at = place_among(others, context)?;
+    Some(others[at].top)
+}
+
+/// A row more. There is room for one.
+fn push_row(others: &mut Vec<Top>, context: ObjId, top: PlaceNo)
+    requires { vec_len others.old < vec_capacity others.old }
+    ensures items { others.new.items ≡ others.old.items ++ row_of context top.0 }
+    ensures capacity { vec_capacity others.old ≤ vec_capacity others.new }
+{
+    match others.push(Top { context, top }) {
+        Ok(()) => {}
+        Err(_) => unreachable!(),
+    }
+}
+
+/// Another top in the row of a context. There is room for one more, unless it has one.
+fn enter_among(others: &mut Vec<Top>, context: ObjId, top: PlaceNo)
+    requires { top_among others.old.items context ≡ None
+        → vec_len others.old < vec_capacity others.old }
+    ensures items { others.new.items ≡ entered_among context top.0 others.old.items }
+    ensures capacity { vec_capacity others.old ≤ vec_capacity others.new }
+{
+    match place_among(others, context) {
+        Some(at) => others[at].top = top,
+        None => push_row(others, context, top),
+    }
+}
+
+/// The row of a context goes, if it has one.
+fn leave_among(others: &mut Vec<Top>, context: ObjId)
+    ensures items { others.new.items ≡ left_among context others.old.items }
+    ensures capacity { vec_capacity others.old ≤ vec_capacity others.new }
+{
+    if let Some(at) = place_among(others, context) {
+        others.remove(at);
+    }
+}
+
+/// Where the row of a context is at home.
+#[inline(always)]
+fn home_of(context: ObjId) -> usize
+    ensures home { result ≡ home context }
+    ensures within { result < object_limit }
+{
+    (context.serial % OBJECTS as u32) as usize
+}
+
+impl Tops {
+    /// No tops, and room for those of 256 chains.
+    pub(crate) fn new(alloc: Global) -> Result<Tops, OutOfMemory>
+        ensures homes { IfOk result (λ t. t.homes ≡ replicate object_limit None) }
+        ensures others { IfOk result (λ t. t.others ≡ []) }
+    {
+        let nothing: Option<Top> = None;
+        Ok(Tops {
+            homes: Vec::from_elem(alloc, nothing, OBJECTS as usize)?,
+            others: Vec::with_capacity(alloc, OBJECTS as usize)?,
+        })
+    }
+
+    /// The top of the chain of a context, or None where the chain is empty.
+    pub(crate) fn top(&self, context: ObjId) -> Option<PlaceNo>
+        ensures { place_number result ≡ top_at self.now context }
+    {
+        match self.homes[home_of(context)] {
+            Some(row) if row.context.is_same(context) => Some(row.top),
+            _ => top_among(&self.others, context),
+        }
+    }
+
+    /// Whether the row of a context is to stand at home.
+    fn takes_home(&self, context: ObjId) -> bool
+        ensures { result ≡ takes_home self.now context }
+    {
+        match self.homes[home_of(context)] {
+            Some(row) => row.context.is_same(context),
+            None => top_among(&self.others, context).is_none(),
+        }
+    }
+
+    /// Another top of the chain of a context.
+    fn enter(&mut self, context: ObjId, top: PlaceNo)
+        requires { top_at self.old context ≡ None → length self.old.others < object_limit }
+        ensures { self.new ≡ entered context top.0 self.old }
+    {
+        if self.takes_home(context) {
+            self.homes[home_of(context)] = Some(Top { context, top });
+        } else {
+            enter_among(&mut self.others, context, top);
+        }
+    }
+
+    /// The chain of a context has no top any more.
+    fn leave(&mut self, context: ObjId)
+        ensures { self.new ≡ left context self.old }
+    {
+        let home = home_of(context);
+        match self.homes[home] {
+            Some(row) if row.context.is_same(context) => self.homes[home] = None,
+            _ => leave_among(&mut self.others, context),
+        }
+    }
+
+    /// Another top of the chain of a context, or none. There is room for one, unless it has one.
+    pub(crate) fn move_to(&mut self, context: ObjId, top: Option<PlaceNo>)
+        requires { IsSome top → top_at self.old context ≡ None
+            → length self.old.others < object_limit }
+        ensures { self.new ≡ moved context (place_number top) self.old }
+    {
+        match top {
+            Some(place) => self.enter(context, place),
+            None => self.leave(context),
+        }
+    }
+}
