@@ -1,7 +1,8 @@
 #!/bin/sh
 # Refuses each allocation in turn: crates/mcs_scripts gives each call once more that memory was refused to, and writes the same
 # traces; mcssim replay ends with status 6 and a beginning of the trace, or with status 0 and all of it, which is counted; mcssim run
-# ends with status 6 or 7 and nothing written, or with status 0 and a trace that gives itself again. Run it after
+# ends with status 6 or 7 and nothing written, or with status 0 and a trace that gives itself again. Each does so for short
+# messages and for messages of more than four words, which take memory of their own. Run it after
 # `rt ci`, which leaves the programs in the folders out/; it proves and builds one that is not there. It needs a C compiler, for
 # the library below.
 set -eu
@@ -51,7 +52,6 @@ build mcssim replay
 
 # Runs a program on $input with the allocation of this number refused: its output is in $work/out, its status in $status. It
 # fails where the program made fewer allocations.
-input=crates/mcssim/stdin
 refuse() {
     number=$1
     shift
@@ -61,43 +61,64 @@ refuse() {
     [ -e "$work/counted" ]
 }
 
-number=1
-crates/mcs_scripts/out/mcs_scripts <"$input" >"$work/plain"
-while refuse $number crates/mcs_scripts/out/mcs_scripts; do
-    cmp "$work/out" "$work/plain"
-    number=$((number + 1))
-done
-echo "mcs_scripts: $((number - 1)) allocations, each refused in turn, and each call given again"
-[ $number -gt 1 ]
+# Tries mcs_scripts on a script.
+scripts() {
+    input=$1
+    number=1
+    crates/mcs_scripts/out/mcs_scripts <"$input" >"$work/plain"
+    while refuse $number crates/mcs_scripts/out/mcs_scripts; do
+        cmp "$work/out" "$work/plain"
+        number=$((number + 1))
+    done
+    echo "mcs_scripts, $input: $((number - 1)) allocations, each refused in turn, and each call given again"
+    [ $number -gt 1 ]
+}
 
-survived=0
-number=1
-while refuse $number crates/mcssim/out/mcssim replay; do
-    # status 0 is taken with the whole trace alone, and counted: why the program can do without is not known here
-    [ $status -ne 0 ] || survived=$((survived + 1))
-    [ $status -eq 0 ] || head -c "$(wc -c <"$work/out")" crates/mcssim/stdout >"$work/wanted"
-    [ $status -ne 0 ] || cp crates/mcssim/stdout "$work/wanted"
-    cmp "$work/wanted" "$work/out"
-    [ $status -eq 0 ] || [ $status -eq 6 ] || { echo "allocation $number: status $status"; exit 1; }
-    number=$((number + 1))
-done
-echo "mcssim replay: $((number - 1)) allocations, each refused in turn; $survived left the whole trace with status 0, the others status 6"
-[ $number -gt 1 ]
+# Tries mcssim replay on a script.
+replays() {
+    input=$1
+    survived=0
+    number=1
+    crates/mcssim/out/mcssim replay <"$input" >"$work/plain"
+    while refuse $number crates/mcssim/out/mcssim replay; do
+        # status 0 is taken with the whole trace alone, and counted: why the program can do without is not known here
+        [ $status -ne 0 ] || survived=$((survived + 1))
+        [ $status -eq 0 ] || head -c "$(wc -c <"$work/out")" "$work/plain" >"$work/wanted"
+        [ $status -ne 0 ] || cp "$work/plain" "$work/wanted"
+        cmp "$work/wanted" "$work/out"
+        [ $status -eq 0 ] || [ $status -eq 6 ] || { echo "allocation $number: status $status"; exit 1; }
+        number=$((number + 1))
+    done
+    echo "mcssim replay, $input: $((number - 1)) allocations, each refused in turn; $survived left the whole trace with status 0, the others status 6"
+    [ $number -gt 1 ]
+}
 
-survived=0
-number=1
-input=examples/two-cores.mcs
-while refuse $number crates/mcssim/out/mcssim run; do
-    case $status in
-    0)
-        survived=$((survived + 1))
-        [ "$(grep -c '^= ' "$work/out")" -eq 7 ]
-        crates/mcssim/out/mcssim replay <"$work/out" | cmp - "$work/out"
-        ;;
-    6 | 7) [ ! -s "$work/out" ] ;;
-    *) echo "allocation $number: status $status" && exit 1 ;;
-    esac
-    number=$((number + 1))
+# Tries mcssim run on a script of users, who enter seven times.
+runs() {
+    input=$1
+    survived=0
+    number=1
+    while refuse $number crates/mcssim/out/mcssim run; do
+        case $status in
+        0)
+            survived=$((survived + 1))
+            [ "$(grep -c '^= ' "$work/out")" -eq 7 ]
+            crates/mcssim/out/mcssim replay <"$work/out" | cmp - "$work/out"
+            ;;
+        6 | 7) [ ! -s "$work/out" ] ;;
+        *) echo "allocation $number: status $status" && exit 1 ;;
+        esac
+        number=$((number + 1))
+    done
+    echo "mcssim run, $(basename "$input"): about $((number - 1)) allocations, each refused in turn; $survived left a whole trace with status 0, the others nothing"
+    [ $number -gt 1 ]
+}
+
+crates/mcssim/out/mcssim replay <crates/mcssim/stdin | cmp - crates/mcssim/stdout
+sed '/^user .* \(call\|replyrecv\) /s/$/ 1 2 3 4 5 6 7/' examples/two-cores.mcs >"$work/long-users"
+for script in crates/mcssim/stdin examples/long-messages.mcs; do
+    scripts "$script"
+    replays "$script"
 done
-echo "mcssim run: about $((number - 1)) allocations, each refused in turn; $survived left a whole trace with status 0, the others nothing"
-[ $number -gt 1 ]
+runs examples/two-cores.mcs
+runs "$work/long-users"

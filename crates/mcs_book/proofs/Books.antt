@@ -8,3 +8,4 @@ pub mod TableLaws
 pub mod CoreLines
 pub mod KnownCores
 pub mod LegalFair
+pub mod PlainAnswers

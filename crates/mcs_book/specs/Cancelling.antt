@@ -8,12 +8,12 @@ use Rattle.mcs_types.specs.declared.record.Mode.TheVariants.{Restart, Inactive}
 use Rattle.mcs_types.specs.declared.record.Queue.{Queue}
 use Rattle.mcs_types.specs.declared.record.Queue.TheVariants.{Senders, Receivers, Waiters}
 use Rattle.mcs_types.specs.declared.record.Ending.TheVariants.{Deleted, Cancelled}
-use Rattle.mcs_types.specs.declared.record.Rec.TheVariants.{Turns, Parts, Dropped, Void, Holds, Tied, Closed}
+use Rattle.mcs_types.specs.declared.record.Rec.TheVariants.{Turns, Parts, Dropped, Void, Holds, Tied, Homed, Closed}
 use Rattle.mcs_book.specs.Logs.{Log}
 use Rattle.mcs_types.specs.declared.record.Letter.{Letter}
 use Rattle.mcs_book.specs.Messages.{open_of}
 use Rattle.mcs_book.specs.Queues.{queue_of, queued_in}
-use Rattle.mcs_book.specs.Contexts.{context_of, holder_of}
+use Rattle.mcs_book.specs.Contexts.{context_of, holder_of, home_of, homed_at}
 use Rattle.mcs_book.specs.Replies.{owed_by, owing, receiver_with}
 use Rattle.mcs_book.specs.Chains.{topped_by}
 use Rattle.mcs_book.specs.Notifications.{bound_of, tied_to}
@@ -48,6 +48,14 @@ untie x = with_any x (λ x. say (Tied x None))
 abbrev pub let_go : Option ObjId → Piece
 let_go s = with_any s (λ s. say (Holds s None))
 
+-- a context is homed nowhere any more
+abbrev pub unhome : Option ObjId → Piece
+unhome s = with_any s (λ s. say (Homed s None))
+
+-- the context s is homed nowhere and held by nobody any more
+unfoldable pub unbind : ObjId → Piece
+unbind s R = (with_any (home_of R s) (λ n. say (Homed s None)) then with_any (holder_of R s) (λ t. say (Holds s None))) R
+
 -- a reply object that is deleted owes nobody any more; at a chain's top it returns the context
 unfoldable pub void_deleted : ObjId → Piece
 void_deleted r R = with_any (owed_by R r) (λ x. say (Void r x Deleted) then say (Turns x Inactive) then give_back (topped_by R r) x) R
@@ -56,9 +64,9 @@ void_deleted r R = with_any (owed_by R r) (λ x. say (Void r x Deleted) then say
 abbrev pub release : Log → ObjId → Kind → Piece
 release R o CNode = nothing
 release R o Endpoint = cancel_all (queued_in R (Senders o) ++ queued_in R (Receivers o)) Restart
-release R o Notification = cancel_all (queued_in R (Waiters o)) Restart then untie (tied_to R o)
+release R o Notification = cancel_all (queued_in R (Waiters o)) Restart then untie (tied_to R o) then unhome (homed_at R o)
 release R o Reply = with_any (receiver_with R o) (λ x. cancel x Inactive) then void_deleted o
-release R o Context = with_any (holder_of R o) (λ t. say (Holds o None))
+release R o Context = unbind o
 release R o Thread = cancel o Inactive then with_any (bound_of R o) (λ n. say (Tied o None)) then let_go (context_of R o)
 
 -- the object o ends

@@ -21,6 +21,7 @@ pub mod Cancelling
 pub mod Sending
 pub mod Receiving
 pub mod Placing
+pub mod Binding
 pub mod Table
 pub mod Boots
 pub mod History

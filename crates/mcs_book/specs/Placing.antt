@@ -66,11 +66,6 @@ make R t kind rights form place = do
   let cap : Cap = record { obj = o; rights = rights; badge = record { 0 = 0 }; guard = record { bits = 0; value = 0 } }
   Ok (answers Done (say (Made o form) then fills at (Some cap)))
 
--- whether nothing is in a list
-abbrev pub is_empty : List ObjId → Bool
-is_empty [] = true
-is_empty _ = false
-
 -- whether a message has this badge
 abbrev pub has_badge : ℕ → Option Letter → Bool
 has_badge badge None = false

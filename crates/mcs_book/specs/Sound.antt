@@ -10,14 +10,14 @@ use Rattle.mcs_types.specs.declared.record.Mode.TheVariants.{Running}
 use Rattle.mcs_types.specs.declared.record.Queue.{Queue}
 use Rattle.mcs_types.specs.declared.record.Queue.TheVariants.{Senders, Receivers, Waiters}
 use Rattle.mcs_types.specs.declared.record.Rec.{Rec}
-use Rattle.mcs_types.specs.declared.record.Rec.TheVariants.{Made, Closed, Slot, Prio, Turns, Joins, Parts, Sent, Took, Dropped, Owes, Paid, Void, Holds, Raised, Heard, Tied}
+use Rattle.mcs_types.specs.declared.record.Rec.TheVariants.{Made, Closed, Slot, Prio, Turns, Joins, Parts, Sent, Took, Dropped, Owes, Paid, Void, Holds, Raised, Heard, Tied, Homed}
 use Rattle.mcs_book.specs.Logs.{Log}
 use Rattle.mcs_book.specs.Objects.{is_alive, form_of, next_id}
 use Rattle.mcs_book.specs.Slots.{slot, is_cap_to}
 use Rattle.mcs_book.specs.Threads.{mode_of}
 use Rattle.mcs_book.specs.Queues.{queue_of, reply_with}
 use Rattle.mcs_book.specs.Messages.{is_open}
-use Rattle.mcs_book.specs.Contexts.{holder_of}
+use Rattle.mcs_book.specs.Contexts.{holder_of, home_of}
 use Rattle.mcs_book.specs.Replies.{owed_by}
 use Rattle.mcs_book.specs.Notifications.{bound_of, pending}
 use Rattle.mcs_book.specs.Lookup.{radix_kept}
@@ -72,6 +72,10 @@ HoldsNone R x = (s : ObjId) → holder_of R s ≢ Some x
 abbrev pub IsUnbound : Log → ObjId → Type 0
 IsUnbound R n = (t : ObjId) → bound_of R t ≢ Some n
 
+-- no context is homed at n
+abbrev pub IsNoHome : Log → ObjId → Type 0
+IsNoHome R n = (s : ObjId) → home_of R s ≢ Some n
+
 -- x has no open message
 abbrev pub HasNoneOpen : Log → ObjId → Type 0
 HasNoneOpen R x = (e : ObjId) (m : ℕ) → IsOpenOf R x e m → ⊥
@@ -80,9 +84,9 @@ HasNoneOpen R x = (e : ObjId) (m : ℕ) → IsOpenOf R x e m → ⊥
 abbrev pub IsReleased : Log → Kind → ObjId → Type 0
 IsReleased R kind.CNode o = ⊥
 IsReleased R kind.Endpoint o = IsEmptyLine R (Senders o) × IsEmptyLine R (Receivers o)
-IsReleased R kind.Notification o = IsEmptyLine R (Waiters o) × IsUnbound R o
+IsReleased R kind.Notification o = IsEmptyLine R (Waiters o) × IsUnbound R o × IsNoHome R o
 IsReleased R kind.Reply o = IsFreeReply R o
-IsReleased R kind.Context o = holder_of R o ≡ None
+IsReleased R kind.Context o = (holder_of R o ≡ None) × (home_of R o ≡ None)
 IsReleased R kind.Thread o = IsIdle R o × HoldsNone R o × (bound_of R o ≡ None)
 
 -- what must hold before a record is made; R stands before it
@@ -106,6 +110,8 @@ Allowed R (Raised n badge) = IsThere R kind.Notification n × (badge.0 < 2 ^ 64)
 Allowed R (Heard t n word) = IsThere R kind.Thread t × (pending R n ≡ Some word) × ((u : ObjId) → bound_of R u ≡ Some n → u ≡ t)
 Allowed R (Tied t None) = IsSome (bound_of R t)
 Allowed R (Tied t (Some n)) = IsThere R kind.Thread t × IsThere R kind.Notification n × (bound_of R t ≡ None) × IsUnbound R n
+Allowed R (Homed s None) = IsSome (home_of R s)
+Allowed R (Homed s (Some n)) = IsThere R kind.Context s × IsThere R kind.Notification n × (home_of R s ≡ None) × IsNoHome R n
 
 -- each record was allowed when it was made
 abbrev pub Sound : Log → Type 0

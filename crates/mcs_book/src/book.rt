@@ -1,6 +1,6 @@
 //! The book: all lines, kept packed, with their records side by side.
-ghost use Rattle.std.specs.Prelude.{◌≡◌, ◌<◌, ◌≤◌, ◌∷◌, ◌++◌, [], ◌+◌, ◌-◌, take, drop, OnOk, OnErr, reverse, length, slice_get, vec_len, vec_capacity};
-ghost use Rattle.mcs_packing.specs.Packing.{AllFit, GrowsBy, HasRoom, records_of};
+ghost use Rattle.std.specs.Prelude.{◌≡◌, ◌<◌, ◌≤◌, ◌∷◌, ◌++◌, [], ◌+◌, ◌-◌, take, drop, IfOk, OnOk, OnErr, reverse, length, slice_get, vec_len, vec_capacity};
+ghost use Rattle.mcs_packing.specs.Packing.{AllFit, GrowsBy, HasMessageRoom, HasRoom, records_of};
 ghost use Rattle.mcs_packing.specs.Heads.{AllHeadsFit, all_entered};
 ghost use Rattle.mcs_book.specs.History.{with_boot_line, with_line, line_of_number};
 ghost use Rattle.mcs_book.specs.Pages.{EndsRise, facts, lines_of, start_at};
@@ -51,11 +51,11 @@ impl<'a> Line<'a> {
         }
     }
 
-    /// Who entered on which core, and the entry.
-    pub fn step(&self) -> Step
-        ensures { result ≡ self.now.step }
+    /// Who entered on which core, and the entry. A message of four words takes no memory.
+    pub fn step(&self, alloc: Global) -> Result<Step, OutOfMemory>
+        ensures { IfOk result (λ s. s ≡ self.now.step) }
     {
-        self.kept_step().unpack()
+        self.kept_step().unpack(alloc)
     }
 
     /// What the entry was answered, where the book keeps it.
@@ -68,11 +68,11 @@ impl<'a> Line<'a> {
         }
     }
 
-    /// What the entry was answered.
-    pub fn answer(&self) -> Answer
-        ensures { result ≡ self.now.answer }
+    /// What the entry was answered. A message of four words takes no memory.
+    pub fn answer(&self, alloc: Global) -> Result<Answer, OutOfMemory>
+        ensures { IfOk result (λ a. a ≡ self.now.answer) }
     {
-        self.kept_answer().unpack()
+        self.kept_answer().unpack(alloc)
     }
 
     /// How many records there are.
@@ -90,12 +90,13 @@ impl<'a> Line<'a> {
     }
 
     /// The record of number `i`, if there is one, in the order in which they were recorded.
-    pub fn record(&self, i: usize) -> Option<Rec>
-        ensures { result ≡ slice_get self.now.records i }
+    /// A message of four words takes no memory.
+    pub fn record(&self, alloc: Global, i: usize) -> Result<Option<Rec>, OutOfMemory>
+        ensures { IfOk result (λ o. o ≡ slice_get self.now.records i) }
     {
         match self.kept_record(i) {
-            None => None,
-            Some(kept) => Some(kept.unpack()),
+            None => Ok(None),
+            Some(kept) => Ok(Some(kept.unpack(alloc)?)),
         }
     }
 }
@@ -169,7 +170,7 @@ impl Model for Book {
     ghost invariant = { λ b. AllHeadsFit b.heads.items b.arena.words.items
         × AllFit b.packed.items b.arena.words.items b.arena.wide.items
         × EndsRise 0 (all_entered b.heads.items b.arena.words.items) (vec_len b.packed)
-        × (0 < b.room → HasRoom b.arena (b.room + 1))
+        × (0 < b.room → HasRoom b.arena (b.room - 1))
         × (0 < b.room → vec_len b.packed + b.room ≤ vec_capacity b.packed + 1)
         × (0 < b.room → vec_len b.heads < vec_capacity b.heads) };
 }
@@ -235,26 +236,26 @@ fn note(sent: &mut Vec<u32>, packed: &Packed, place: u32) -> u32 {
     }
 }
 
-/// Packs records, for which there is room, and answers where the words of the answer may stand.
+/// Packs records, for which there is room, and answers where the words of the answer may stand. Those that are kept whole are moved.
 fn pack_all(
     arena: &mut Arena,
     packed: &mut Vec<Packed>,
     sent: &mut Vec<u32>,
-    records: &[Rec],
+    records: &mut [Rec],
 ) -> u32
-    requires room { HasRoom arena.old (length records.now + 2) }
-    requires packed { vec_len packed.old + length records.now ≤ vec_capacity packed.old }
+    requires room { HasRoom arena.old (length records.old) }
+    requires packed { vec_len packed.old + length records.old ≤ vec_capacity packed.old }
     requires fit { AllFit packed.old.items arena.old.words.items arena.old.wide.items }
     ensures value { facts packed.new.items arena.new
-        ≡ facts packed.old.items arena.old ++ records.now }
+        ≡ facts packed.old.items arena.old ++ records.old }
     ensures fit { AllFit packed.new.items arena.new.words.items arena.new.wide.items }
     ensures words { GrowsBy arena.old.words.items arena.new.words.items }
     ensures wide { GrowsBy arena.old.wide.items arena.new.wide.items }
-    ensures room { HasRoom arena.new 2 }
-    ensures len { vec_len packed.new ≡ vec_len packed.old + length records.now }
+    ensures room { HasMessageRoom arena.new 2 }
+    ensures len { vec_len packed.new ≡ vec_len packed.old + length records.old }
 {
     let mut place = 0;
-    for fact in records {
+    for fact in records.iter_mut() {
         let one = arena.pack(fact);
         place = note(sent, &one, place);
         packed.push_reserved(one);
@@ -262,8 +263,14 @@ fn pack_all(
     place
 }
 
-/// The most words that one record, one entry or one answer keeps.
+/// The most words that one record keeps, but for long messages.
 const MOST_WORDS: usize = 6;
+
+/// The most words that one entry or one answer keeps, and a record with a long message.
+const MESSAGE_ROOM: usize = 122;
+
+/// How many words long messages of records may take beyond six each: a line has at most one record with a message.
+const SPARE_WORDS: usize = MESSAGE_ROOM - MOST_WORDS;
 
 /// The most records of one line, for which there may be room.
 const MOST_RECORDS: usize = 1_000_000;
@@ -286,6 +293,7 @@ impl Book {
             arena: Arena {
                 words: Vec::new(alloc),
                 wide: Vec::new(alloc),
+                spare: 0,
             },
             sent: Vec::new(alloc),
             room: 0,
@@ -331,11 +339,14 @@ impl Book {
         }
         self.heads.reserve(1)?;
         self.packed.reserve(records)?;
-        self.arena.words.reserve(MOST_WORDS * (records + 2))?;
-        self.arena.wide.reserve(records + 2)?;
+        self.arena
+            .words
+            .reserve(MOST_WORDS * records + SPARE_WORDS + 2 * MESSAGE_ROOM)?;
+        self.arena.wide.reserve(records)?;
         if self.sent.capacity().saturating_sub(self.sent.len()) < records {
             self.sent.reserve(records)?;
         }
+        self.arena.spare = SPARE_WORDS;
         self.room = records + 1;
         Ok(())
     }

@@ -17,6 +17,6 @@ pub use laws::{
     none_beside, not_cancelled, not_deleted, open_found, queue_in_order, replayed, sent_in_order,
     serials_counted, sound, taken_once, word_joined,
 };
-pub use limits::{entry_short, lines_short};
+pub use limits::{answered_plain, entry_short, lines_short};
 pub use lookup::{capability_lookup, one_path, slot_lookup};
 pub use whole::messages_whole;

@@ -1,5 +1,6 @@
-//! How long a line may be: laws, each the contract of a function that does nothing.
-ghost use Rattle.std.specs.Prelude.{length, ◌≤◌};
+//! What a line may have at most: laws, each the contract of a function that does nothing.
+ghost use Rattle.std.specs.Prelude.{false, length, ◌≡◌, ◌≤◌};
+ghost use Rattle.mcs_types.specs.Brings.{receives, IsPlain};
 ghost use Rattle.mcs_types.specs.declared.id.CoreId.{CoreId};
 ghost use Rattle.mcs_types.specs.declared.id.ObjId.{ObjId};
 ghost use Rattle.mcs_types.specs.declared.entry.Entry.{Entry};
@@ -21,4 +22,11 @@ pub fn lines_short()
     ghost book: { Book }
     requires { IsLegal book }
     ensures { EachLine (HasAtMost (most_records (threads_of book.boot.lines))) book }
+{}
+
+/// An entry that does not receive is answered without a message.
+pub fn answered_plain()
+    ghost at: { Log × CoreId × ObjId × Entry }
+    requires { receives at.3 ≡ false }
+    ensures { IsPlain (does at.0 at.1 at.2 at.3).answer }
 {}

@@ -9,20 +9,20 @@ use Rattle.mcs_types.specs.declared.record.Queue.{Queue}
 use Rattle.mcs_types.specs.declared.record.Queue.TheVariants.{Waiters}
 use Rattle.mcs_types.specs.declared.record.Rec.TheVariants as rec
 use Rattle.mcs_book.specs.Logs.{Log, onto}
-use Rattle.mcs_book.specs.Cancelling.{cancel, cancel_all, leave, untie, let_go, release, destroy}
-use Rattle.mcs_book.specs.Contexts.{context_of, holder_of}
+use Rattle.mcs_book.specs.Cancelling.{cancel, cancel_all, leave, untie, let_go, unhome, unbind, release, destroy}
+use Rattle.mcs_book.specs.Contexts.{context_of, holder_of, home_of, homed_at}
 use Rattle.mcs_book.specs.Notifications.{bound_of, tied_to}
 use Rattle.mcs_book.specs.Objects.{is_alive}
 use Rattle.mcs_book.specs.Pieces.{Piece, ◌then◌, say, with_any}
 use Rattle.mcs_book.specs.Queues.{queue_of, queued_in}
-use Rattle.mcs_book.specs.Sound.{Sound, Allowed, IsReleased, IsThere, IsIdle, HoldsNone, IsUnbound, IsEmptyLine}
+use Rattle.mcs_book.specs.Sound.{Sound, Allowed, IsReleased, IsThere, IsIdle, HoldsNone, IsUnbound, IsNoHome, IsEmptyLine}
 use Rattle.mcs_book.proofs.Firm.Cancel.{outlasts-cancel, outlasts-cancel_all}
 use Rattle.mcs_book.proofs.Firm.Ends.{IsLast, last-release}
 use Rattle.mcs_book.proofs.SoundLogs.Keeping.{then-next}
-use Rattle.mcs_book.proofs.SoundLogs.KeptLaws.{set-split, same-never, bound-one}
+use Rattle.mcs_book.proofs.SoundLogs.KeptLaws.{set-split, same-never, bound-one, home-one}
 use Rattle.mcs_book.proofs.Threads.HoldingLaws.{holder-one}
 use Rattle.mcs_cancel.specs.Emptying.{restarts_all}
-use Rattle.mcs_cancel.specs.Releasing.{IsUnnamed, releases, unties, lets_go, frees}
+use Rattle.mcs_cancel.specs.Releasing.{IsUnnamed, releases, unties, lets_go, frees, clears, unhomes, unholds}
 use Rattle.mcs_cancel.proofs.Leaving.{left-turns}
 
 -- a queue is emptied
@@ -105,10 +105,65 @@ given-up R x s sound held c k = elim (set-split c s None (holder_of R c) (Some x
 pub tied-alone : (R : Log) (n t : ObjId) → Sound R → bound_of R t ≡ Some n → IsUnbound (rec.Tied t None ∷ R) n
 tied-alone R n t sound bound y b = elim (set-split y t None (bound_of R y) (Some n) b) [ inl (who, none) ↦ absurd cc | inr (other, still) ↦ same-never y t (bound-one R y t n sound still bound) other ]
 
--- the end of a notification: its waiters restart, and nobody is bound to it
-pub notification-is : (n : ObjId) (R : Log) → (empties (Waiters n) then frees n) R ≡ releases n kind.Notification R
+-- nor does it home anything elsewhere
+homes-kept : (R : Log) (xs : List ObjId) (n : ObjId) (mode : Mode) → homed_at (onto (cancel_all xs mode R) R) n ≡ homed_at R n
+unfolding homed_at
+homes-kept R xs n mode = outlasts-cancel_all (λ S. homed_at S n ≡ homed_at R n) xs mode (λ x. record { dropped = λ S m h. h; parts = λ S q h. h; voided = λ S r h. h; turns = λ S h. h }) R refl
+
+-- nor is anything homed elsewhere once nobody is bound
+homed-freed : (R : Log) (n o : ObjId) → homed_at (onto (frees n R) R) o ≡ homed_at R o
+unfolding homed_at
+homed-freed R n o = freed (λ S. homed_at S o ≡ homed_at R o) n R (λ t h. h) refl
+
+-- the end of a notification: its waiters restart, nobody is bound to it, and nothing is homed at it
+pub notification-is : (n : ObjId) (R : Log) → ((empties (Waiters n) then frees n) then clears n) R ≡ releases n kind.Notification R
 unfolding ◌then◌
-notification-is n R = let xs = queued_in R (Waiters n) in ap (λ b. cancel_all xs Restart R ++ untie b (onto (cancel_all xs Restart R) R)) (ties-kept R xs n Restart)
+notification-is n R = homes ties
+  where
+    xs : List ObjId
+    xs = queued_in R (Waiters n)
+
+    ties : (empties (Waiters n) then frees n) R ≡ (cancel_all xs Restart then untie (tied_to R n)) R
+    ties = ap (λ b. cancel_all xs Restart R ++ untie b (onto (cancel_all xs Restart R) R)) (ties-kept R xs n Restart)
+
+    keeps : homed_at (onto ((empties (Waiters n) then frees n) R) R) n ≡ homed_at R n
+    keeps = then-next (λ S. homed_at S n ≡ homed_at R n) (empties (Waiters n)) (frees n) R (homed-freed (onto (cancel_all xs Restart R) R) n n ∙ homes-kept R xs n Restart)
+
+    homes : (empties (Waiters n) then frees n) R ≡ (cancel_all xs Restart then untie (tied_to R n)) R → ((empties (Waiters n) then frees n) then clears n) R ≡ release R n kind.Notification R
+    homes is = ap (λ s. (empties (Waiters n) then frees n) R ++ unhome s (onto ((empties (Waiters n) then frees n) R) R)) keeps ∙ ap (λ made. made ++ unhome (homed_at R n) (onto made R)) is
+
+-- what outlasts that no context is homed at n any more
+pub cleared : (F : Log → Type 0) (n : ObjId) (R : Log) → ((s : ObjId) → F R → F (rec.Homed s None ∷ R)) → F R → F (onto (clears n R) R)
+cleared F n R f h = go (homed_at R n)
+  where
+    go : (o : Option ObjId) → F (onto (unhome o R) R)
+    go None = h
+    go (Some s) = f s h
+
+-- the only context that was homed at a notification is homed there no more
+pub homed-alone : (R : Log) (n s : ObjId) → Sound R → home_of R s ≡ Some n → IsNoHome (rec.Homed s None ∷ R) n
+homed-alone R n s sound home c k = elim (set-split c s None (home_of R c) (Some n) k) [ inl (who, none) ↦ absurd cc | inr (other, still) ↦ same-never c s (home-one R c s n sound still home) other ]
+
+-- nobody waits on it or is bound to it still
+pub still-unwatched : (R S : Log) (n : ObjId) → S ≡ onto (clears n R) R → IsEmptyLine R (Waiters n) → IsUnbound R n → IsEmptyLine S (Waiters n) × IsUnbound S n
+still-unwatched R S n is empty unbound = subst (λ L. IsEmptyLine L (Waiters n) × IsUnbound L n) (sym is) (cleared (λ L. IsEmptyLine L (Waiters n) × IsUnbound L n) n R (λ s h. h) (empty, unbound))
+
+-- a context that is homed nowhere and held by nobody: what is recorded, and that it is still homed nowhere
+pub unbind-is : (s : ObjId) (R : Log) → (unhomes s then unholds s) R ≡ unbind s R
+unfolding ◌then◌ unbind
+unbind-is s R = go (home_of R s)
+  where
+    go : (o : Option ObjId) → with_any o (λ n. say (rec.Homed s None)) R ++ unholds s (onto (with_any o (λ n. say (rec.Homed s None)) R) R)
+        ≡ with_any o (λ n. say (rec.Homed s None)) R ++ with_any (holder_of R s) (λ t. say (rec.Holds s None)) (onto (with_any o (λ n. say (rec.Homed s None)) R) R)
+    go None = refl
+    go (Some n) = refl
+
+pub still-homeless : (R S : Log) (s : ObjId) → S ≡ onto (unholds s R) R → home_of R s ≡ None → home_of S s ≡ None
+still-homeless R S s is none = subst (λ L. home_of L s ≡ None) (sym is) (go (holder_of R s))
+  where
+    go : (o : Option ObjId) → home_of (onto (with_any o (λ t. say (rec.Holds s None)) R) R) s ≡ None
+    go None = none
+    go (Some t) = none
 
 -- nobody waits on it still
 pub still-nobody : (R S : Log) (n : ObjId) → S ≡ onto (frees n R) R → IsEmptyLine R (Waiters n) → IsEmptyLine S (Waiters n)

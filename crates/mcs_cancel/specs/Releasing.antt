@@ -1,13 +1,13 @@
 -- What an object is that ends; and what its end takes from others, in the parts in which the code does it.
 use Rattle.std.specs.Prelude.{ℕ, ◌≡◌, ◌≢◌, false, None}
 use Rattle.mcs_types.specs.declared.id.ObjId.{ObjId}
-use Rattle.mcs_types.specs.declared.record.Rec.TheVariants.{Tied}
+use Rattle.mcs_types.specs.declared.record.Rec.TheVariants.{Tied, Holds, Homed}
 use Rattle.mcs_types.specs.declared.id.Kind.{Kind}
 use Rattle.mcs_types.specs.declared.id.Kind.TheVariants.{CNode}
 use Rattle.mcs_types.specs.declared.record.Mode.TheVariants.{Inactive}
 use Rattle.mcs_book.specs.Logs.{Log}
-use Rattle.mcs_book.specs.Cancelling.{cancel, untie, let_go, release}
-use Rattle.mcs_book.specs.Contexts.{context_of}
+use Rattle.mcs_book.specs.Cancelling.{cancel, untie, let_go, unhome, release}
+use Rattle.mcs_book.specs.Contexts.{context_of, holder_of, home_of, homed_at}
 use Rattle.mcs_book.specs.Notifications.{bound_of, tied_to}
 use Rattle.mcs_book.specs.Replies.{receiver_with}
 use Rattle.mcs_book.specs.Pieces.{Piece, say, with_any}
@@ -36,6 +36,17 @@ lets_go t R = let_go (context_of R t) R
 -- no thread is bound to n any more
 abbrev pub frees : ObjId → Piece
 frees n R = untie (tied_to R n) R
+
+-- no context is homed at n any more
+abbrev pub clears : ObjId → Piece
+clears n R = unhome (homed_at R n) R
+
+-- s is homed nowhere any more, and then held by nobody
+abbrev pub unhomes : ObjId → Piece
+unhomes s R = with_any (home_of R s) (λ n. say (Homed s None)) R
+
+abbrev pub unholds : ObjId → Piece
+unholds s R = with_any (holder_of R s) (λ t. say (Holds s None)) R
 
 -- who receives with r does so no more
 abbrev pub dismisses : ObjId → Piece

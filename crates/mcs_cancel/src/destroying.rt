@@ -2,14 +2,15 @@
 ghost use Rattle.std.specs.Prelude.{◌≡◌, None, IsTrue};
 ghost use Rattle.mcs_types.specs.declared.id.Kind.{Kind};
 ghost use Rattle.mcs_types.specs.declared.record.Queue.{Queue};
-ghost use Rattle.mcs_book.specs.Cancelling.{destroy as destroyed, void_deleted as voided};
+ghost use Rattle.mcs_book.specs.Cancelling.{destroy as destroyed, unbind as unbound, void_deleted as voided};
+ghost use Rattle.mcs_book.specs.Contexts.{holder_of, home_of};
 ghost use Rattle.mcs_book.specs.Notifications.{bound_of};
 ghost use Rattle.mcs_book.specs.Objects.{is_alive};
-ghost use Rattle.mcs_book.specs.Sound.{IsThere, IsEmptyLine, HoldsNone, IsUnbound, IsUnattended, IsReleased};
+ghost use Rattle.mcs_book.specs.Sound.{IsThere, IsEmptyLine, HoldsNone, IsUnbound, IsNoHome, IsUnattended, IsReleased};
 ghost use Rattle.mcs_state.specs.Now.{so_far};
 ghost use Rattle.mcs_state.specs.Doing.{Makes, HasRoomFor};
 ghost use Rattle.mcs_cancel.specs.Emptying.{restarts_all, KeepsOthers};
-ghost use Rattle.mcs_cancel.specs.Releasing.{IsNoCNode, IsUnnamed, releases, unties, lets_go, frees, dismisses};
+ghost use Rattle.mcs_cancel.specs.Releasing.{IsNoCNode, IsUnnamed, releases, unties, lets_go, frees, clears, unhomes, unholds, dismisses};
 
 use crate::cancelling::cancel;
 use crate::returning::give_back;
@@ -55,7 +56,20 @@ fn free<W: Waiting>(state: &mut State<W>, notification: ObjId)
     }
 }
 
-/// Nobody is left with a notification: its waiters restart, and no thread is bound to it.
+/// No context is homed at a notification any more.
+fn clear<W: Waiting>(state: &mut State<W>, notification: ObjId)
+    requires room { HasRoomFor (clears notification) state.old }
+    ensures made { Makes (clears notification) state.old state.new }
+    ensures homeless { IsNoHome (so_far state.new) notification }
+{
+    state.is_sound();
+    match state.homed_at(notification) {
+        None => {}
+        Some(context) => state.homes(context, None),
+    }
+}
+
+/// Nobody is left with a notification: its waiters restart, no thread is bound to it, and no context is homed at it.
 fn release_notification<W: Waiting>(state: &mut State<W>, notification: ObjId)
     requires room { HasRoomFor (releases notification Kind.Notification) state.old }
     ensures made { Makes (releases notification Kind.Notification) state.old state.new }
@@ -63,6 +77,7 @@ fn release_notification<W: Waiting>(state: &mut State<W>, notification: ObjId)
 {
     restart_all(state, Queue::Waiters(notification));
     free(state, notification);
+    clear(state, notification);
 }
 
 /// A thread is bound to no notification any more.
@@ -142,16 +157,47 @@ fn release_reply<W: Waiting>(state: &mut State<W>, reply: ObjId)
     void_deleted(state, reply);
 }
 
-/// Nobody is left with a context: its holder gives it up.
-fn release_context<W: Waiting>(state: &mut State<W>, context: ObjId)
-    requires room { HasRoomFor (releases context Kind.Context) state.old }
-    ensures made { Makes (releases context Kind.Context) state.old state.new }
-    ensures released { IsReleased (so_far state.new) Kind.Context context }
+/// A context is homed nowhere any more.
+fn unhome<W: Waiting>(state: &mut State<W>, context: ObjId)
+    requires room { HasRoomFor (unhomes context) state.old }
+    ensures made { Makes (unhomes context) state.old state.new }
+    ensures homeless { home_of (so_far state.new) context ≡ None }
+{
+    match state.home_of(context) {
+        None => {}
+        Some(_) => state.homes(context, None),
+    }
+}
+
+/// A context is held by nobody any more.
+fn unhold<W: Waiting>(state: &mut State<W>, context: ObjId)
+    requires room { HasRoomFor (unholds context) state.old }
+    ensures made { Makes (unholds context) state.old state.new }
+    ensures unheld { holder_of (so_far state.new) context ≡ None }
 {
     match state.holder(context) {
         None => {}
         Some(_) => state.holds(context, None),
     }
+}
+
+/// A context is homed nowhere any more, and its holder gives it up (own).
+pub fn unbind<W: Waiting>(state: &mut State<W>, context: ObjId)
+    requires room { HasRoomFor (unbound context) state.old }
+    ensures made { Makes (unbound context) state.old state.new }
+    ensures released { IsReleased (so_far state.new) Kind.Context context }
+{
+    unhome(state, context);
+    unhold(state, context);
+}
+
+/// Nobody is left with a context: it is homed nowhere, and its holder gives it up.
+fn release_context<W: Waiting>(state: &mut State<W>, context: ObjId)
+    requires room { HasRoomFor (releases context Kind.Context) state.old }
+    ensures made { Makes (releases context Kind.Context) state.old state.new }
+    ensures released { IsReleased (so_far state.new) Kind.Context context }
+{
+    unbind(state, context);
 }
 
 /// Nobody is left with an object that is there.

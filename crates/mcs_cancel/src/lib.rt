@@ -11,7 +11,7 @@ mod returning;
 
 pub use badged::cancel_badged;
 pub use cancelling::cancel;
-pub use destroying::destroy;
+pub use destroying::{destroy, unbind};
 pub use modes::{resume, suspend};
 pub use priority::set_priority;
 pub use returning::give_back;

@@ -12,7 +12,7 @@ use Rattle.mcs_objects.specs.Store.{Objects, WasGiven, next_id, value_at, with_v
 use Rattle.mcs_objects.proofs.MapLaws.{value-written}
 use Rattle.mcs_places.specs.Places.{kept_in, HasPlace}
 use Rattle.mcs_contexts.specs.declared.contexts.ContextRow.{ContextRow}
-use Rattle.mcs_contexts.specs.Holding.{Holding, core_at, holder_at, core_in, holder_in, context_in, holds, IsOneToOne, IsHolding}
+use Rattle.mcs_contexts.specs.Holding.{Holding, core_at, holder_at, home_at, core_in, holder_in, context_in, holds, IsOneToOne, IsHolding}
 
 -- one half of being one to one, as two of its maps change in one place
 pub half-bound : (H C K D : ObjId → Option ObjId) (s t : ObjId) → ((a b : ObjId) → H a ≡ Some b → C b ≡ Some a) → C t ≡ None
@@ -148,10 +148,10 @@ holds-holder v s t one h x = go (context_in v x) refl
 
 -- who holds what, after a context was made that nobody holds
 pub unheld : (old new : Objects ContextRow) (id : ObjId) (core : CoreId) → ((x : ObjId) → IsSome (value_at old x) → WasGiven old x) → id ≡ next_id old
-    → ((x : ObjId) → value_at new x ≡ cond (same x id) (Some (record { core = core; holder = None })) (value_at old x)) → (x : ObjId) → holder_at new x ≡ holder_at old x
+    → ((x : ObjId) → value_at new x ≡ cond (same x id) (Some (record { core = core; holder = None; home = None })) (value_at old x)) → (x : ObjId) → holder_at new x ≡ holder_at old x
 unheld old new id core given is made x = ap (λ r. option_and_then (λ (r : ContextRow). r.holder) r) (made x) ∙ go (same x id) (value_at old x) refl refl
   where
-    go : (b : Bool) (o : Option ContextRow) → same x id ≡ b → value_at old x ≡ o → option_and_then (λ (r : ContextRow). r.holder) (cond b (Some (record { core = core; holder = None })) o) ≡ option_and_then (λ (r : ContextRow). r.holder) o
+    go : (b : Bool) (o : Option ContextRow) → same x id ≡ b → value_at old x ≡ o → option_and_then (λ (r : ContextRow). r.holder) (cond b (Some (record { core = core; holder = None; home = None })) o) ≡ option_and_then (λ (r : ContextRow). r.holder) o
     go false o e f = refl
     go true None e f = refl
     go true (Some r) e f =
@@ -174,4 +174,41 @@ core_written s id x was r there same_core = ap (option_map (λ k. k.core)) (valu
   where
     go : (b : Bool) → same x id ≡ b → option_map (λ k. k.core) (cond b (Some r) (value_at s x)) ≡ core_at s x
     go true e = let at = same-equal x id e in rw (at, there) (ap Some (sym same_core))
+    go false e = refl
+
+-- where contexts are homed, after one was made that is homed nowhere
+pub unhomed : (old new : Objects ContextRow) (id : ObjId) (core : CoreId) → ((x : ObjId) → IsSome (value_at old x) → WasGiven old x) → id ≡ next_id old
+    → ((x : ObjId) → value_at new x ≡ cond (same x id) (Some (record { core = core; holder = None; home = None })) (value_at old x)) → (x : ObjId) → home_at new x ≡ home_at old x
+unhomed old new id core given is made x = ap (λ r. option_and_then (λ (r : ContextRow). r.home) r) (made x) ∙ go (same x id) (value_at old x) refl refl
+  where
+    go : (b : Bool) (o : Option ContextRow) → same x id ≡ b → value_at old x ≡ o → option_and_then (λ (r : ContextRow). r.home) (cond b (Some (record { core = core; holder = None; home = None })) o) ≡ option_and_then (λ (r : ContextRow). r.home) o
+    go false o e f = refl
+    go true None e f = refl
+    go true (Some r) e f =
+        let here = same-equal x id e in
+        let there : IsSome (value_at old x) = rw f refl in
+        let high = (given x there).high in
+        let number = ap (λ (y : ObjId). y.serial) (here ∙ is) in
+        absurd (omega (arith, high, number))
+
+-- a row is written over that of a context: its home is that of the row, and its holder or home as it was where both have it
+pub home_written : (s : Objects ContextRow) (id x : ObjId) (r : ContextRow) → IsSome (value_at s id) → home_at (with_value s id r) x ≡ value_after x id r.home (home_at s x)
+home_written s id x r there = ap (option_and_then (λ k. k.home)) (value-written s id x r there) ∙ go (same x id)
+  where
+    go : (b : Bool) → option_and_then (λ k. k.home) (cond b (Some r) (value_at s x)) ≡ cond b r.home (home_at s x)
+    go true = refl
+    go false = refl
+
+pub holder_same : (s : Objects ContextRow) (id x : ObjId) (was r : ContextRow) → value_at s id ≡ Some was → was.holder ≡ r.holder → holder_at (with_value s id r) x ≡ holder_at s x
+holder_same s id x was r there same_holder = ap (option_and_then (λ k. k.holder)) (value-written s id x r (rw there refl)) ∙ go (same x id) refl
+  where
+    go : (b : Bool) → same x id ≡ b → option_and_then (λ k. k.holder) (cond b (Some r) (value_at s x)) ≡ holder_at s x
+    go true e = let at = same-equal x id e in rw (at, there) (sym same_holder)
+    go false e = refl
+
+pub home_same : (s : Objects ContextRow) (id x : ObjId) (was r : ContextRow) → value_at s id ≡ Some was → was.home ≡ r.home → home_at (with_value s id r) x ≡ home_at s x
+home_same s id x was r there same_home = ap (option_and_then (λ k. k.home)) (value-written s id x r (rw there refl)) ∙ go (same x id) refl
+  where
+    go : (b : Bool) → same x id ≡ b → option_and_then (λ k. k.home) (cond b (Some r) (value_at s x)) ≡ home_at s x
+    go true e = let at = same-equal x id e in rw (at, there) (sym same_home)
     go false e = refl

@@ -26,12 +26,15 @@ no_room v = is_full v.rows
 abbrev pub next_context : Holding → ObjId
 next_context v = next_id v.rows
 
--- the core of a context among rows, and its holder
+-- the core of a context among rows, its holder, and the notification at which it is homed
 abbrev pub core_at : Objects ContextRow → ObjId → Option CoreId
 core_at rows s = option_map (λ r. r.core) (value_at rows s)
 
 abbrev pub holder_at : Objects ContextRow → ObjId → Option ObjId
 holder_at rows s = option_and_then (λ r. r.holder) (value_at rows s)
+
+abbrev pub home_at : Objects ContextRow → ObjId → Option ObjId
+home_at rows s = option_and_then (λ r. r.home) (value_at rows s)
 
 -- the core of a context
 abbrev pub core_in : Holding → ObjId → Option CoreId
@@ -40,6 +43,10 @@ core_in v s = core_at v.rows s
 -- the thread that holds a context
 abbrev pub holder_in : Holding → ObjId → Option ObjId
 holder_in v s = holder_at v.rows s
+
+-- the notification at which a context is homed
+abbrev pub home_in : Holding → ObjId → Option ObjId
+home_in v s = home_at v.rows s
 
 -- the context that a thread holds
 abbrev pub context_in : Holding → ObjId → Option ObjId
@@ -69,6 +76,10 @@ SetsHolder old new s holder = ChangesAt (holder_in old) (holder_in new) s holder
 abbrev pub SetsContext : Holding → Holding → ObjId → Option ObjId → Type 0
 SetsContext old new t context = ChangesAt (context_in old) (context_in new) t context
 
+-- this is the home of one context now, and the others have those that they had
+abbrev pub SetsHome : Holding → Holding → ObjId → Option ObjId → Type 0
+SetsHome old new s home = ChangesAt (home_in old) (home_in new) s home
+
 -- the thread that held s holds none, and the others hold what they held
 abbrev pub FreesHolder : Holding → Holding → ObjId → Type 0
 FreesHolder old new s = (x : ObjId) → context_in new x ≡ context_but old s x
@@ -89,9 +100,13 @@ is_holder t = same_kind t.kind Thread && nat_le 1 t.serial && nat_le t.serial 25
 abbrev pub may_lend : Holding → ObjId → ObjId → Bool
 may_lend v from to = is_some (context_in v from) && is_holder to && is_none (context_in v to)
 
--- done, where nobody holds the context and the thread holds none
+-- done, where nobody holds the context, it is homed nowhere, and the thread holds none
 abbrev pub joined : Holding → ObjId → ObjId → Result (Unit {0}) Refusal
-joined v s t = cond (is_some (holder_in v s) || is_some (context_in v t)) (Err AlreadyBound) (Ok tt)
+joined v s t = cond (is_some (holder_in v s) || is_some (home_in v s) || is_some (context_in v t)) (Err AlreadyBound) (Ok tt)
+
+-- whether a context may wake with a thread: it is there and nobody holds it, and the thread may hold one and holds none
+abbrev pub may_wake : Holding → ObjId → ObjId → Bool
+may_wake v s t = is_some (core_in v s) && is_none (holder_in v s) && is_holder t && is_none (context_in v t)
 
 -- so, where the context is there and the thread may hold one
 abbrev pub bound : Holding → ObjId → ObjId → Result (Unit {0}) Refusal
@@ -100,6 +115,14 @@ bound v s t = cond (is_none (core_in v s)) (Err Missing) (cond (is_holder t) (jo
 -- done where somebody holds the context
 abbrev pub unbound : Holding → ObjId → Result (Unit {0}) Refusal
 unbound v s = cond (is_some (holder_in v s)) (Ok tt) (Err NotBound)
+
+-- done, where the context is there and homed nowhere
+abbrev pub homed : Holding → ObjId → Result (Unit {0}) Refusal
+homed v s = cond (is_none (core_in v s)) (Err Missing) (cond (is_some (home_in v s)) (Err AlreadyBound) (Ok tt))
+
+-- done where the context is homed
+abbrev pub unhomed : Holding → ObjId → Result (Unit {0}) Refusal
+unhomed v s = cond (is_some (home_in v s)) (Ok tt) (Err NotBound)
 
 -- two contexts with one holder are one
 abbrev pub HoldersDiffer : Holding → Type 0

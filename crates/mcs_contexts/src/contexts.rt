@@ -5,7 +5,7 @@ ghost use Rattle.mcs_types.specs.declared.id.ObjId.{ObjId};
 ghost use Rattle.mcs_types.specs.Ids.{IsThread, ChangesAt, value_after};
 ghost use Rattle.mcs_types.specs.declared.id.Kind.{Kind};
 ghost use Rattle.mcs_objects.specs.Store.{shape, empty_shape, one_more, is_full, IsOneFewer};
-ghost use Rattle.mcs_contexts.specs.Holding.{counts, no_room, next_context, core_at, holder_at, core_in, holder_in, context_in, is_holder, bound, unbound, may_lend, SetsHolder, SetsContext, FreesHolder, LendsHolders, LendsContexts, HoldersDiffer, IsOneToOne};
+ghost use Rattle.mcs_contexts.specs.Holding.{counts, no_room, next_context, core_at, holder_at, home_at, core_in, holder_in, home_in, context_in, is_holder, bound, unbound, homed, unhomed, may_lend, may_wake, SetsHolder, SetsContext, SetsHome, FreesHolder, LendsHolders, LendsContexts, HoldersDiffer, IsOneToOne};
 
 use mcs_objects::Store;
 use mcs_places::{keep, kept_at};
@@ -13,11 +13,13 @@ use mcs_types::{CoreId, Kind, ObjId, OutOfMemory, Refusal};
 use std::alloc::Global;
 use std::marker::Model;
 
-/// A scheduling context: its core, and the thread that holds it (manual: Threads and Execution).
+/// A scheduling context: its core, the thread that holds it (manual: Threads and Execution), and the notification at which it is
+/// homed (own).
 #[derive(Clone, Copy)]
 pub struct ContextRow {
     core: CoreId,
     holder: Option<ObjId>,
+    home: Option<ObjId>,
 }
 
 /// Up to 256 scheduling contexts, which come and go under serials that count from 1, and the threads of the serials 1 to 256
@@ -52,10 +54,26 @@ fn set_holder(rows: &mut Store<ContextRow>, context: ObjId, holder: Option<ObjId
     ensures shape { shape rows.new ≡ shape rows.old }
     ensures cores { (x : ObjId) → core_at rows.new x ≡ core_at rows.old x }
     ensures holders { ChangesAt (holder_at rows.old) (holder_at rows.new) context holder }
+    ensures homes { (x : ObjId) → home_at rows.new x ≡ home_at rows.old x }
 {
     match rows.get_mut(context) {
         None => unreachable!(),
         Some(row) => row.holder = holder,
+    }
+}
+
+/// Keeps another home of a context that is there.
+#[inline(always)]
+fn set_home(rows: &mut Store<ContextRow>, context: ObjId, home: Option<ObjId>)
+    requires { IsSome (core_at rows.old context) }
+    ensures shape { shape rows.new ≡ shape rows.old }
+    ensures cores { (x : ObjId) → core_at rows.new x ≡ core_at rows.old x }
+    ensures holders { (x : ObjId) → holder_at rows.new x ≡ holder_at rows.old x }
+    ensures homes { ChangesAt (home_at rows.old) (home_at rows.new) context home }
+{
+    match rows.get_mut(context) {
+        None => unreachable!(),
+        Some(row) => row.home = home,
     }
 }
 
@@ -73,6 +91,7 @@ impl Contexts {
         ensures counts { IfOk result (λ v. counts v ≡ empty_shape Kind.Context 256) }
         ensures cores { IfOk result (λ v. (x : ObjId) → core_in v x ≡ None) }
         ensures holders { IfOk result (λ v. (x : ObjId) → holder_in v x ≡ None) }
+        ensures homes { IfOk result (λ v. (x : ObjId) → home_in v x ≡ None) }
         ensures contexts { IfOk result (λ v. (x : ObjId) → context_in v x ≡ None) }
     {
         let nothing: Option<ObjId> = None;
@@ -97,9 +116,14 @@ impl Contexts {
         ensures cores { ChangesAt (core_in self.old) (core_in self.new) result (Some core) }
         ensures holders { (x : ObjId) → holder_in self.new x ≡ holder_in self.old x }
         ensures contexts { (x : ObjId) → context_in self.new x ≡ context_in self.old x }
+        ensures homes { (x : ObjId) → home_in self.new x ≡ home_in self.old x }
     {
         self.rows.are_apart();
-        self.rows.add(ContextRow { core, holder: None })
+        self.rows.add(ContextRow {
+            core,
+            holder: None,
+            home: None,
+        })
     }
 
     /// Forgets a context that is there, as `core` tells, and that nobody holds, as `holder` tells: its serial is never given again
@@ -107,10 +131,12 @@ impl Contexts {
     pub fn close(&mut self, context: ObjId)
         requires there { IsSome (core_in self.old context) }
         requires free { holder_in self.old context ≡ None }
+        requires homeless { home_in self.old context ≡ None }
         ensures counts { IsOneFewer (counts self.old) (counts self.new) }
         ensures cores { ChangesAt (core_in self.old) (core_in self.new) context None }
         ensures holders { (x : ObjId) → holder_in self.new x ≡ holder_in self.old x }
         ensures contexts { (x : ObjId) → context_in self.new x ≡ context_in self.old x }
+        ensures homes { (x : ObjId) → home_in self.new x ≡ home_in self.old x }
     {
         self.rows.remove(context);
     }
@@ -129,6 +155,14 @@ impl Contexts {
     {
         let row = self.rows.get(context)?;
         row.holder
+    }
+
+    /// The notification at which a context is homed, or None where it is homed nowhere (own).
+    pub fn home_of(&self, context: ObjId) -> Option<ObjId>
+        ensures { result ≡ home_in self.now context }
+    {
+        let row = self.rows.get(context)?;
+        row.home
     }
 
     /// The context that a thread holds, or None where it holds none (manual: Threads and Execution).
@@ -160,6 +194,7 @@ impl Contexts {
         ensures contexts { SetsContext self.old self.new thread (Some context) }
         ensures counts { counts self.new ≡ counts self.old }
         ensures cores { (x : ObjId) → core_in self.new x ≡ core_in self.old x }
+        ensures homes { (x : ObjId) → home_in self.new x ≡ home_in self.old x }
     {
         set_holder(&mut self.rows, context, Some(thread));
         keep(Kind::Thread, &mut self.held, thread, Some(context));
@@ -172,6 +207,7 @@ impl Contexts {
         ensures contexts { SetsContext self.old self.new thread None }
         ensures counts { counts self.new ≡ counts self.old }
         ensures cores { (x : ObjId) → core_in self.new x ≡ core_in self.old x }
+        ensures homes { (x : ObjId) → home_in self.new x ≡ home_in self.old x }
     {
         set_holder(&mut self.rows, context, None);
         keep(Kind::Thread, &mut self.held, thread, None);
@@ -187,6 +223,7 @@ impl Contexts {
             ≡ value_after x to (Some context) (value_after x from None (context_in self.old x)) }
         ensures counts { counts self.new ≡ counts self.old }
         ensures cores { (x : ObjId) → core_in self.new x ≡ core_in self.old x }
+        ensures homes { (x : ObjId) → home_in self.new x ≡ home_in self.old x }
     {
         set_holder(&mut self.rows, context, Some(to));
         keep(Kind::Thread, &mut self.held, from, None);
@@ -194,8 +231,8 @@ impl Contexts {
     }
 
     /// Gives a context to a thread. Refused, in this order, where the context was not made or was closed (Missing; own), where
-    /// the thread is none of a serial from 1 to 256 (Range; own), and where the context has a holder or the thread has a context
-    /// (AlreadyBound): then nothing changes (manual: Threads and Execution).
+    /// the thread is none of a serial from 1 to 256 (Range; own), and where the context has a holder or a home, or the thread has a
+    /// context (AlreadyBound): then nothing changes (manual: Threads and Execution).
     pub fn bind(&mut self, context: ObjId, thread: ObjId) -> Result<(), Refusal>
         ensures answer { result ≡ bound self.old context thread }
         ensures refused { OnErr result (self.new ≡ self.old) }
@@ -203,6 +240,7 @@ impl Contexts {
         ensures contexts { OnOk result (SetsContext self.old self.new thread (Some context)) }
         ensures counts { counts self.new ≡ counts self.old }
         ensures cores { (x : ObjId) → core_in self.new x ≡ core_in self.old x }
+        ensures homes { (x : ObjId) → home_in self.new x ≡ home_in self.old x }
     {
         if self.core(context).is_none() {
             return Err(Refusal::Missing);
@@ -210,11 +248,36 @@ impl Contexts {
         if !is_holder(thread) {
             return Err(Refusal::Range);
         }
-        if self.holder(context).is_some() || self.of(thread).is_some() {
+        if self.holder(context).is_some()
+            || self.home_of(context).is_some()
+            || self.of(thread).is_some()
+        {
             return Err(Refusal::AlreadyBound);
         }
         self.attach(context, thread);
         Ok(())
+    }
+
+    /// Gives a context to a thread, whether it is homed or not. False where the context was not made or was closed, where it has a
+    /// holder, and where the thread is none of a serial from 1 to 256 or has a context: then nothing changes (own).
+    pub fn wake(&mut self, context: ObjId, thread: ObjId) -> bool
+        ensures answer { result ≡ may_wake self.old context thread }
+        ensures refused { OnFalse result (self.new ≡ self.old) }
+        ensures holders { OnTrue result (SetsHolder self.old self.new context (Some thread)) }
+        ensures contexts { OnTrue result (SetsContext self.old self.new thread (Some context)) }
+        ensures counts { counts self.new ≡ counts self.old }
+        ensures cores { (x : ObjId) → core_in self.new x ≡ core_in self.old x }
+        ensures homes { (x : ObjId) → home_in self.new x ≡ home_in self.old x }
+    {
+        if self.core(context).is_none()
+            || self.holder(context).is_some()
+            || !is_holder(thread)
+            || self.of(thread).is_some()
+        {
+            return false;
+        }
+        self.attach(context, thread);
+        true
     }
 
     /// Takes a context from its holder. NotBound where nobody holds it: then nothing changes (manual: Threads and Execution).
@@ -225,12 +288,53 @@ impl Contexts {
         ensures contexts { OnOk result (FreesHolder self.old self.new context) }
         ensures counts { counts self.new ≡ counts self.old }
         ensures cores { (x : ObjId) → core_in self.new x ≡ core_in self.old x }
+        ensures homes { (x : ObjId) → home_in self.new x ≡ home_in self.old x }
     {
         match self.holder(context) {
             None => Err(Refusal::NotBound),
             Some(thread) => {
                 self.is_one_to_one();
                 self.release(context, thread);
+                Ok(())
+            }
+        }
+    }
+
+    /// Homes a context at a notification, whether it is held or not. Refused where the context was not made or was closed (Missing),
+    /// and where it is homed (AlreadyBound): then nothing changes (own).
+    pub fn home(&mut self, context: ObjId, notification: ObjId) -> Result<(), Refusal>
+        ensures answer { result ≡ homed self.old context }
+        ensures refused { OnErr result (self.new ≡ self.old) }
+        ensures homes { OnOk result (SetsHome self.old self.new context (Some notification)) }
+        ensures counts { counts self.new ≡ counts self.old }
+        ensures cores { (x : ObjId) → core_in self.new x ≡ core_in self.old x }
+        ensures holders { (x : ObjId) → holder_in self.new x ≡ holder_in self.old x }
+        ensures contexts { (x : ObjId) → context_in self.new x ≡ context_in self.old x }
+    {
+        match self.core(context) {
+            None => Err(Refusal::Missing),
+            Some(_) if self.home_of(context).is_some() => Err(Refusal::AlreadyBound),
+            Some(_) => {
+                set_home(&mut self.rows, context, Some(notification));
+                Ok(())
+            }
+        }
+    }
+
+    /// Takes a context from its home. NotBound where it is homed nowhere: then nothing changes (own).
+    pub fn unhome(&mut self, context: ObjId) -> Result<(), Refusal>
+        ensures answer { result ≡ unhomed self.old context }
+        ensures refused { OnErr result (self.new ≡ self.old) }
+        ensures homes { OnOk result (SetsHome self.old self.new context None) }
+        ensures counts { counts self.new ≡ counts self.old }
+        ensures cores { (x : ObjId) → core_in self.new x ≡ core_in self.old x }
+        ensures holders { (x : ObjId) → holder_in self.new x ≡ holder_in self.old x }
+        ensures contexts { (x : ObjId) → context_in self.new x ≡ context_in self.old x }
+    {
+        match self.home_of(context) {
+            None => Err(Refusal::NotBound),
+            Some(_) => {
+                set_home(&mut self.rows, context, None);
                 Ok(())
             }
         }
@@ -245,6 +349,7 @@ impl Contexts {
         ensures contexts { OnTrue result (LendsContexts self.old self.new from to) }
         ensures counts { counts self.new ≡ counts self.old }
         ensures cores { (x : ObjId) → core_in self.new x ≡ core_in self.old x }
+        ensures homes { (x : ObjId) → home_in self.new x ≡ home_in self.old x }
     {
         match self.of(from) {
             Some(context) if is_holder(to) && self.of(to).is_none() => {

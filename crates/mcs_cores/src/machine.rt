@@ -6,7 +6,7 @@ ghost use Rattle.mcs_seats.specs.Settling.{AllAgree, HasSeats, HasReason};
 
 use mcs_kernel::{Boot, Kernel};
 use mcs_queues::Lines;
-use mcs_seats::{Answered, CoreSeat, FinishFault, Settled, Turned, settle_seats};
+use mcs_seats::{Answered, CoreSeat, FinishFault, Prepared, Settled, Turned, settle_seats};
 use mcs_types::{CORES, CoreId, Entry, ObjId, OutOfMemory};
 use std::alloc::Global;
 use std::marker::Model;
@@ -51,11 +51,11 @@ impl<G: Ledger, L: Lines> LockedKernel<G, L> {
         alloc: Global,
         seat: &mut CoreSeat<G>,
         thread: ObjId,
-        entry: Entry,
+        prepared: Prepared,
     ) -> Result<Answered, Turned>
-        ensures { Enters seat.old seat.new self.old self.new thread entry result }
+        ensures { Enters seat.old seat.new self.old self.new thread prepared result }
     {
-        seat.enter(alloc, &mut self.kernel, &mut self.book, thread, entry)
+        seat.enter(alloc, &mut self.kernel, &mut self.book, thread, prepared)
     }
 
     /// A seat for each of so many cores, where none was given yet: as many as the boot has. No invariant says outside of the lock
@@ -191,8 +191,8 @@ impl<G: Ledger, L: Lines> Machine<G, L> {
     }
 
     /// Lets in an entry of a thread on the seat's core, or turns it away; the seat keeps the entry and what became of it. It
-    /// waits for the lock. OutOfMemory where the seat or the kernel gets no room: then both are as they were, and the entry
-    /// is dropped.
+    /// waits for the lock, behind which the seat takes no memory. OutOfMemory where the seat or the kernel gets no room: then
+    /// both are as they were, and the entry is dropped.
     pub fn enter<R: Wait>(
         &self,
         rt: &R,
@@ -203,7 +203,10 @@ impl<G: Ledger, L: Lines> Machine<G, L> {
     ) -> Result<Answered, Turned>
         ensures { seat.new ≡ noted seat.old thread entry result }
     {
-        self.kernel.lock(rt).enter(alloc, seat, thread, entry)
+        let Ok(prepared) = seat.prepare(alloc, entry) else {
+            return Err(Turned::OutOfMemory);
+        };
+        self.kernel.lock(rt).enter(alloc, seat, thread, prepared)
     }
 
     /// Compares what the seats were told with the book, as settle_seats does, and hands the kernel back where all agree. No

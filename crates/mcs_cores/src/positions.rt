@@ -4,7 +4,7 @@ use crate::users::Users;
 use mcs_kernel::Kernel;
 use mcs_queues::Lines;
 use mcs_seats::{Answered, CoreSeat, Turned};
-use mcs_types::{Answer, CoreId, Entry, Kind, OBJECTS, ObjId, OutOfMemory, Status, ThreadSet};
+use mcs_types::{Answer, CoreId, Kind, OBJECTS, ObjId, OutOfMemory, Status, ThreadSet};
 use std::alloc::Global;
 use std::sync::Wait;
 use std::sync::ledger::Ledger;
@@ -31,7 +31,6 @@ pub(crate) struct Positions {
 #[derive(Drop)]
 pub(crate) struct Turn {
     pub(crate) thread: ObjId,
-    pub(crate) entry: Entry,
     user: usize,
     number: usize,
     moves: u64,
@@ -131,10 +130,11 @@ impl Positions {
         let position = self.users.get(user)?;
         let number = position.due(kernel, thread);
         let list = users.lists().get(user)?;
-        let entry = list.entries.get(number)?;
+        if list.entries.len() <= number {
+            return None;
+        }
         Some(Turn {
             thread,
-            entry: entry.copy(),
             user,
             number,
             moves: position.moves,
@@ -148,12 +148,12 @@ impl Positions {
         rt: &R,
         alloc: Global,
         machine: &Machine<G, L>,
+        users: &Users,
         seat: &mut CoreSeat<G>,
         turn: Turn,
     ) -> Option<Result<Answered, Turned>> {
         let Turn {
             thread,
-            entry,
             user,
             number,
             moves,
@@ -162,6 +162,9 @@ impl Positions {
         if position.moves != moves {
             return None;
         }
+        let Ok(entry) = users.lists().get(user)?.entries.get(number)?.copy(alloc) else {
+            return Some(Err(Turned::OutOfMemory));
+        };
         let result = machine.enter(rt, alloc, seat, thread, entry);
         if let Ok(answered) = &result {
             position.move_past(number, &answered.answer);

@@ -104,7 +104,7 @@ impl<G: Ledger, L: Lines, T: Gate> RunContext<'_, G, L, T> {
             .shared
             .positions
             .lock(rt)
-            .enter(rt, self.alloc, self.machine, seat, turn);
+            .enter(rt, self.alloc, self.machine, self.users, seat, turn);
         match entered {
             None => Ok(()),
             Some(Err(turned)) => ends_run(turned),

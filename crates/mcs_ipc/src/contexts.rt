@@ -1,82 +1,130 @@
 //! BindCtx and UnbindCtx.
 ghost use Rattle.std.specs.Prelude.{◌≡◌};
+ghost use Rattle.mcs_types.specs.declared.entry.Entry.{Entry};
 ghost use Rattle.mcs_types.specs.declared.id.Kind.{Kind};
+ghost use Rattle.mcs_book.specs.Binding.{is_loose};
 ghost use Rattle.mcs_book.specs.Sound.{IsThere};
 ghost use Rattle.mcs_state.specs.Now.{so_far};
-ghost use Rattle.mcs_state.specs.Doing.{Does, Fits};
+ghost use Rattle.mcs_state.specs.Doing.{ActsAwake, FitsAwake, Does, Fits};
 ghost use Rattle.mcs_state.specs.Entering.{IsEntering};
-ghost use Rattle.mcs_ipc.specs.Holding.{given, taken, hold_entry, holdable};
+ghost use Rattle.mcs_ipc.specs.Holding.{given, bindable, unbindable, unbinds};
 
-use mcs_state::{Change, State, change_awake, find_object};
+use mcs_cancel::unbind;
+use mcs_state::{Change, State, change_awake, find_object, wake};
 use mcs_types::{Answer, CoreId, Kind, ObjId, Refusal};
 use mcs_waiting::Waiting;
 
-/// What a bind changes: the context is held by nobody and has no chain, and the thread holds none.
-fn give<W: Waiting>(state: &State<W>, context: ObjId, holder: ObjId) -> Result<Change, Refusal>
-    ensures { result ≡ given (so_far state.now) context holder }
+/// Whether nobody holds a context, it is homed nowhere, and no reply object stands in its chain.
+fn is_loose<W: Waiting>(state: &State<W>, context: ObjId) -> bool
+    ensures { result ≡ is_loose (so_far state.now) context }
 {
-    if state.holder(context).is_some()
-        || state.top_of(context).is_some()
-        || state.context(holder).is_some()
-    {
-        return Err(Refusal::AlreadyBound);
-    }
-    let thread = Some(holder);
-    Ok(Change::Holds { context, thread })
+    state.holder(context).is_none()
+        && state.home_of(context).is_none()
+        && state.top_of(context).is_none()
 }
 
-/// What an unbind changes: somebody holds the context.
-fn take_away<W: Waiting>(state: &State<W>, context: ObjId) -> Result<Change, Refusal>
-    ensures { result ≡ taken (so_far state.now) context }
+/// What a bind changes: a loose context is given to a thread that holds none, or homed at a notification at which none is.
+fn give<W: Waiting>(state: &State<W>, context: ObjId, object: ObjId) -> Result<Change, Refusal>
+    ensures { result ≡ given object.kind (so_far state.now) context object }
 {
-    match state.holder(context) {
-        None => Err(Refusal::NotBound),
-        Some(_) => Ok(Change::Holds {
-            context,
-            thread: None,
-        }),
+    match object.kind {
+        Kind::Thread => {
+            if !(is_loose(state, context) && state.context(object).is_none()) {
+                return Err(Refusal::AlreadyBound);
+            }
+            let thread = Some(object);
+            Ok(Change::Holds { context, thread })
+        }
+        Kind::Notification => {
+            if !(is_loose(state, context) && state.homed_at(object).is_none()) {
+                return Err(Refusal::AlreadyBound);
+            }
+            let notification = Some(object);
+            Ok(Change::Homes {
+                context,
+                notification,
+            })
+        }
+        Kind::CNode | Kind::Endpoint | Kind::Reply | Kind::Context => Err(Refusal::WrongKind),
     }
 }
 
-/// What a bind to a holder changes, or an unbind, where no holder is named.
+/// What a bind changes.
 fn find_change<W: Waiting>(
     state: &State<W>,
     thread: ObjId,
     context: u64,
-    holder: Option<u64>,
+    object: u64,
 ) -> Result<Change, Refusal>
     requires { IsThere (so_far state.now) Kind.Thread thread }
-    ensures { result ≡ holdable (so_far state.now) thread context holder }
+    ensures { result ≡ bindable (so_far state.now) thread context object }
 {
     let context = find_object(state, thread, Kind::Context, context)?;
-    match holder {
-        None => take_away(state, context),
-        Some(holder) => give(
-            state,
-            context,
-            find_object(state, thread, Kind::Thread, holder)?,
-        ),
-    }
+    let cap = state.capability(thread, object)?;
+    give(state, context, cap.obj)
 }
 
-/// BindCtx where a holder is named: that thread holds the context from now on. UnbindCtx where none is: nobody holds it. The
-/// refusals are 1 to 3 of the lookups, the context's first, and 4 for a capability of another kind; then, of BindCtx, 9 where
-/// the context is held, a reply object stands in its chain (own), or the thread holds one, and of UnbindCtx 10 where nobody
-/// holds it. They change nothing (manual: Threads and Execution; own).
-pub fn hold_context<W: Waiting>(
+/// BindCtx: a thread holds the context from now on, or it is homed at a notification (own). The refusals are 1 to 3 of the lookups,
+/// the context's first, and 4 for a capability of another kind; then 9 where the context is held, homed, or a reply object stands
+/// in its chain (own), and where the thread holds one or another context is homed at the notification. They change nothing
+/// (manual: Threads and Execution).
+pub fn bind_context<W: Waiting>(
     state: &mut State<W>,
     core: CoreId,
     thread: ObjId,
     context: u64,
-    holder: Option<u64>,
+    object: u64,
 ) -> Answer
     requires entering { IsEntering (so_far state.old) thread }
-    requires room { Fits state.old core thread (hold_entry context holder) }
-    ensures { Does state.old core thread (hold_entry context holder) result state.new }
+    requires room { Fits state.old core thread (Entry.BindCtx context object) }
+    ensures { Does state.old core thread (Entry.BindCtx context object) result state.new }
 {
     state.is_sound();
-    match find_change(state, thread, context, holder) {
+    match find_change(state, thread, context, object) {
         Err(refusal) => Answer::Refused(refusal),
         Ok(change) => change_awake(state, thread, change),
+    }
+}
+
+/// The context that an unbind names: somebody holds it, or it is homed.
+fn find_bound<W: Waiting>(state: &State<W>, thread: ObjId, context: u64) -> Result<ObjId, Refusal>
+    requires { IsThere (so_far state.now) Kind.Thread thread }
+    ensures { result ≡ unbindable (so_far state.now) thread context }
+{
+    let context = find_object(state, thread, Kind::Context, context)?;
+    if state.holder(context).is_some() || state.home_of(context).is_some() {
+        Ok(context)
+    } else {
+        Err(Refusal::NotBound)
+    }
+}
+
+/// Wakes the thread that enters, and takes a context from its home and its holder.
+fn unbind_awake<W: Waiting>(state: &mut State<W>, thread: ObjId, context: ObjId) -> Answer
+    requires entering { IsEntering (so_far state.old) thread }
+    requires room { FitsAwake thread (unbinds context) state.old }
+    ensures { ActsAwake thread (unbinds context) state.old result state.new }
+{
+    wake(state, thread);
+    unbind(state, context);
+    Answer::Done
+}
+
+/// UnbindCtx: nobody holds the context, and it is homed nowhere any more. The refusals are 1 to 3 of the lookup, 4 for a capability
+/// of another kind, and 10 where nobody holds it and it is homed nowhere; they change nothing (manual: Threads and Execution; own).
+pub fn unbind_context<W: Waiting>(
+    state: &mut State<W>,
+    core: CoreId,
+    thread: ObjId,
+    context: u64,
+) -> Answer
+    requires entering { IsEntering (so_far state.old) thread }
+    requires room { Fits state.old core thread (Entry.UnbindCtx context) }
+    ensures { Does state.old core thread (Entry.UnbindCtx context) result state.new }
+{
+    state.is_sound();
+    match find_bound(state, thread, context) {
+        Err(refusal) => Answer::Refused(refusal),
+        Ok(context) => unbind_awake(state, thread, context),
     }
 }

@@ -10,6 +10,6 @@ mod replying;
 mod sending;
 mod taking;
 
-pub use contexts::hold_context;
+pub use contexts::{bind_context, unbind_context};
 pub use receiving::{receive, reply_receive};
 pub use sending::{call, send};

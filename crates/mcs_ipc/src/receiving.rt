@@ -17,7 +17,7 @@ use crate::taking::{Delivery, take};
 use mcs_cancel::cancel;
 use mcs_notify::take_bound;
 use mcs_state::{State, wake};
-use mcs_types::{Answer, CoreId, Message, Mode, ObjId, Queue};
+use mcs_types::{Answer, Copies, CoreId, Mode, ObjId, Queue};
 use mcs_waiting::Waiting;
 
 /// Cancels whoever uses a reply object, the caller that it owes or the receiver that stands with it: it becomes inactive
@@ -77,14 +77,13 @@ fn take_first<W: Waiting>(
             None => stand(state, thread, at, blocks),
             Some(letter) => {
                 let badge = letter.badge;
-                let message = letter.message.copy();
                 let delivery = Delivery {
                     number: letter.number,
                     sender,
                     endpoint: at.endpoint,
                     mode: letter.mode,
                 };
-                take(state, delivery, thread, at.reply);
+                let message = take(state, delivery, thread, at.reply);
                 Answer::Got { badge, message }
             }
         },
@@ -185,7 +184,7 @@ pub fn reply_receive<W: Waiting>(
     thread: ObjId,
     address: u64,
     reply: u64,
-    message: Message,
+    message: Copies,
 ) -> Answer
     requires entering { IsEntering (so_far state.old) thread }
     requires stand { OpenStand (so_far state.old) }

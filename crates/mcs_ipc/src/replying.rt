@@ -5,12 +5,12 @@ ghost use Rattle.mcs_state.specs.Doing.{Makes, HasRoomFor};
 
 use mcs_cancel::give_back;
 use mcs_state::State;
-use mcs_types::{Message, Mode, ObjId};
+use mcs_types::{Copies, Mode, ObjId};
 use mcs_waiting::Waiting;
 
 /// Answers the caller that a reply object owes, if it owes one: the caller runs again. A reply object that tops a chain of
 /// calls returns the context of that chain (manual: Message Passing; own).
-pub fn pay<W: Waiting>(state: &mut State<W>, reply: ObjId, message: Message)
+pub fn pay<W: Waiting>(state: &mut State<W>, reply: ObjId, message: Copies)
     requires { HasRoomFor (paid reply message) state.old }
     ensures { Makes (paid reply message) state.old state.new }
 {

@@ -18,7 +18,7 @@ use crate::replying::pay;
 use crate::taking::{Delivery, hand};
 use mcs_notify::signal;
 use mcs_state::{State, wake};
-use mcs_types::{Answer, BOOK_LINES, Cap, CoreId, Message, ObjId, Queue, SendMode};
+use mcs_types::{Answer, BOOK_LINES, Cap, Copies, CoreId, ObjId, Queue, SendMode};
 use mcs_waiting::Waiting;
 
 /// How a call over a capability is sent: without Grant and GrantReply it cannot be answered (manual: Message Passing).
@@ -48,7 +48,7 @@ fn send_alone<W: Waiting>(
     thread: ObjId,
     cap: Cap,
     mode: SendMode,
-    message: Message,
+    message: Copies,
 ) -> Answer
     requires sending { IsSending (so_far state.old) thread cap.obj }
     requires few { length state.old.book.lines < BOOK_LINES }
@@ -67,7 +67,7 @@ fn send_to<W: Waiting>(
     thread: ObjId,
     cap: Cap,
     mode: SendMode,
-    message: Message,
+    message: Copies,
     receiver: ObjId,
     blocks: bool,
 ) -> Answer
@@ -97,7 +97,7 @@ fn send_over<W: Waiting>(
     thread: ObjId,
     cap: Cap,
     mode: SendMode,
-    message: Message,
+    message: Copies,
     blocks: bool,
 ) -> Answer
     requires sending { IsSending (so_far state.old) thread cap.obj }
@@ -113,7 +113,7 @@ fn send_over<W: Waiting>(
 }
 
 /// Pays a reply object: whom it owes is answered, if it owes anybody.
-fn send_reply<W: Waiting>(state: &mut State<W>, reply: ObjId, message: Message) -> Answer
+fn send_reply<W: Waiting>(state: &mut State<W>, reply: ObjId, message: Copies) -> Answer
     requires { FitsAct (pay_act reply message) state.old }
     ensures { Acts (pay_act reply message) state.old result state.new }
 {
@@ -143,7 +143,7 @@ pub fn send<W: Waiting>(
     core: CoreId,
     thread: ObjId,
     address: u64,
-    message: Message,
+    message: Copies,
     blocks: bool,
 ) -> Answer
     requires entering { IsEntering (so_far state.old) thread }
@@ -179,7 +179,7 @@ pub fn call<W: Waiting>(
     core: CoreId,
     thread: ObjId,
     address: u64,
-    message: Message,
+    message: Copies,
 ) -> Answer
     requires entering { IsEntering (so_far state.old) thread }
     requires stand { OpenStand (so_far state.old) }

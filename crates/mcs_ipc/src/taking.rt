@@ -1,5 +1,5 @@
 //! Messages that are taken, and callers that come to be owed an answer.
-ghost use Rattle.std.specs.Prelude.{◌≡◌, true, false, Some};
+ghost use Rattle.std.specs.Prelude.{◌≡◌, true, false, IfSome, Some};
 ghost use Rattle.mcs_types.specs.declared.id.Kind.{Kind};
 ghost use Rattle.mcs_types.specs.declared.record.Queue.{Queue};
 ghost use Rattle.mcs_book.specs.Messages.{open_of};
@@ -12,7 +12,7 @@ ghost use Rattle.mcs_ipc.specs.Ready.{IsReady, IsSettling, IsCalling};
 ghost use Rattle.mcs_ipc.specs.Rows.{lent, resumes, handed_to, taken_by};
 
 use mcs_state::State;
-use mcs_types::{Mode, ObjId, Queue, SendMode};
+use mcs_types::{Message, Mode, ObjId, Queue, SendMode};
 use mcs_waiting::Waiting;
 
 /// A message that is taken: its number, its sender, the endpoint, and how it was sent.
@@ -99,18 +99,20 @@ pub fn hand<W: Waiting>(state: &mut State<W>, delivery: Delivery, receiver: ObjI
     state.turns(receiver, Mode::Running);
 }
 
-/// Takes the open message of the first sender for a thread that receives with a reply object, or without one.
+/// Takes the open message of the first sender for a thread that receives with a reply object, or without one. The answer is an
+/// equal message.
 pub fn take<W: Waiting>(
     state: &mut State<W>,
     delivery: Delivery,
     thread: ObjId,
     reply: Option<ObjId>,
-)
+) -> Message
     requires ready { IsReady (so_far state.old) thread delivery.endpoint reply }
     requires first { first_in (so_far state.old) (Queue.Senders delivery.endpoint) ≡ Some delivery.sender }
     requires open { IsNumberOf delivery.number (open_of (so_far state.old) delivery.sender) }
     requires room { HasRoomFor (taken_by delivery thread reply) state.old }
-    ensures { Makes (taken_by delivery thread reply) state.old state.new }
+    ensures taken { Makes (taken_by delivery thread reply) state.old state.new }
+    ensures message { IfSome (open_of (so_far state.old) delivery.sender) (λ l. result ≡ l.message) }
 {
     let Delivery {
         number,
@@ -119,7 +121,8 @@ pub fn take<W: Waiting>(
         mode,
     } = delivery;
     state.is_sound();
-    state.took(number, sender, thread);
+    let message = state.took(number, sender, thread);
     state.parts(sender, Queue::Senders(endpoint));
     settle(state, mode, sender, thread, reply, true);
+    message
 }

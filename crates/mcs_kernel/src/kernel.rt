@@ -18,11 +18,13 @@ use crate::fault::EnterFault;
 use mcs_book::Book;
 use mcs_cancel::{cancel_badged, resume, set_priority, suspend};
 use mcs_caps::{copy_cap, delete_cap, make, mint_cap, move_cap};
-use mcs_ipc::{call, hold_context, receive, reply_receive, send};
+use mcs_ipc::{bind_context, call, receive, reply_receive, send, unbind_context};
 use mcs_notify::{bind, signal_at, unbind};
 use mcs_queues::Lines;
 use mcs_state::State;
-use mcs_types::{Answer, BOOK_LINES, CORES, CoreId, Entry, Kind, ObjId, OutOfMemory, Status, Step};
+use mcs_types::{
+    Answer, BOOK_LINES, CORES, Copies, CoreId, Entry, Kind, ObjId, OutOfMemory, Status, Step,
+};
 use mcs_waiting::{ObjectQueues, Waiting};
 use std::alloc::Global;
 use std::marker::Model;
@@ -44,8 +46,15 @@ impl<L: Lines> Model for Kernel<L> {
     ghost invariant = { λ k. IsResting k.state };
 }
 
-/// Does an entry of a thread that may enter.
-fn operate<W: Waiting>(state: &mut State<W>, core: CoreId, thread: ObjId, entry: &Entry) -> Answer
+/// Does an entry of a thread that may enter. The copies of its message are made first; OutOfMemory where one is refused, and then
+/// nothing has changed.
+fn operate<W: Waiting>(
+    alloc: Global,
+    state: &mut State<W>,
+    core: CoreId,
+    thread: ObjId,
+    entry: &Entry,
+) -> Result<Answer, OutOfMemory>
     requires core { core.0 < CORES }
     requires entering { IsEntering (so_far state.old) thread }
     requires stand { OpenStand (so_far state.old) }
@@ -53,12 +62,22 @@ fn operate<W: Waiting>(state: &mut State<W>, core: CoreId, thread: ObjId, entry:
     requires serials { HasSerials (so_far state.old) }
     requires few { length state.old.book.lines < BOOK_LINES }
     requires room { Fits state.old core thread entry.now }
-    ensures { Does state.old core thread entry.now result state.new }
+    ensures done { IfOk result (λ a. Does state.old core thread entry.now a state.new) }
+    ensures err { OnErr result (state.new ≡ state.old) }
 {
-    match entry {
-        Entry::Send { cap, message } => send(state, core, thread, *cap, message.copy(), true),
-        Entry::NbSend { cap, message } => send(state, core, thread, *cap, message.copy(), false),
-        Entry::Call { cap, message } => call(state, core, thread, *cap, message.copy()),
+    Ok(match entry {
+        Entry::Send { cap, message } => {
+            let copies = Copies::new(alloc, message)?;
+            send(state, core, thread, *cap, copies, true)
+        }
+        Entry::NbSend { cap, message } => {
+            let copies = Copies::new(alloc, message)?;
+            send(state, core, thread, *cap, copies, false)
+        }
+        Entry::Call { cap, message } => {
+            let copies = Copies::new(alloc, message)?;
+            call(state, core, thread, *cap, copies)
+        }
         Entry::Recv { cap, reply } => receive(state, core, thread, *cap, Some(*reply), true),
         Entry::NbRecv { cap, reply } => receive(state, core, thread, *cap, Some(*reply), false),
         Entry::Wait { cap } => receive(state, core, thread, *cap, None, true),
@@ -67,7 +86,10 @@ fn operate<W: Waiting>(state: &mut State<W>, core: CoreId, thread: ObjId, entry:
             cap,
             reply,
             message,
-        } => reply_receive(state, core, thread, *cap, *reply, message.copy()),
+        } => {
+            let copies = Copies::new(alloc, message)?;
+            reply_receive(state, core, thread, *cap, *reply, copies)
+        }
         Entry::Signal { cap } => signal_at(state, core, thread, *cap),
         Entry::SetPriority {
             thread: holder,
@@ -84,8 +106,8 @@ fn operate<W: Waiting>(state: &mut State<W>, core: CoreId, thread: ObjId, entry:
         Entry::BindCtx {
             context,
             thread: holder,
-        } => hold_context(state, core, thread, *context, Some(*holder)),
-        Entry::UnbindCtx { context } => hold_context(state, core, thread, *context, None),
+        } => bind_context(state, core, thread, *context, *holder),
+        Entry::UnbindCtx { context } => unbind_context(state, core, thread, *context),
         Entry::CancelBadged { endpoint } => cancel_badged(state, core, thread, *endpoint),
         Entry::CopyCap {
             source,
@@ -104,7 +126,7 @@ fn operate<W: Waiting>(state: &mut State<W>, core: CoreId, thread: ObjId, entry:
         Entry::MakeNotification { place } => make(state, core, thread, Kind::Notification, *place),
         Entry::MakeReply { place } => make(state, core, thread, Kind::Reply, *place),
         Entry::MakeContext { place } => make(state, core, thread, Kind::Context, *place),
-    }
+    })
 }
 
 impl<L: Lines> Kernel<L> {
@@ -165,7 +187,7 @@ impl<L: Lines> Kernel<L> {
     }
 
     /// Does a step that is let in: its line is added. OutOfMemory where the room for it is refused.
-    fn serve(&mut self, step: &Step) -> Result<Answer, OutOfMemory>
+    fn serve(&mut self, alloc: Global, step: &Step) -> Result<Answer, OutOfMemory>
         requires let_in { fault_of self.old step.now.core step.now.thread ≡ None }
         ensures line { OnOk result (self.new ≡ entered self.old step.now) }
         ensures answer { IfOk result (λ a.
@@ -175,7 +197,7 @@ impl<L: Lines> Kernel<L> {
         self.state.reserve()?;
         step.entry.is_in_range();
         self.state.is_sound();
-        let answer = operate(&mut self.state, step.core, step.thread, &step.entry);
+        let answer = operate(alloc, &mut self.state, step.core, step.thread, &step.entry)?;
         self.state.is_sound();
         self.state.close(step, &answer);
         Ok(answer)
@@ -184,7 +206,7 @@ impl<L: Lines> Kernel<L> {
     /// Lets in the entry of a step, and adds its line to the book, also where the answer is a refusal; or turns it away for
     /// the first of EnterFault's reasons, and then nothing has changed. OutOfMemory comes only where the others do not.
     /// The thread need not be the one of greatest priority.
-    pub fn admit(&mut self, step: &Step) -> Result<Answer, EnterFault>
+    pub fn admit(&mut self, alloc: Global, step: &Step) -> Result<Answer, EnterFault>
         ensures turned { IfSome (fault_of self.old step.now.core step.now.thread)
             (λ f. result ≡ Err f) }
         ensures let_in { OnOk result (fault_of self.old step.now.core step.now.thread ≡ None) }
@@ -207,7 +229,7 @@ impl<L: Lines> Kernel<L> {
     {
         let result = match self.fault(step.core, step.thread) {
             Some(fault) => Err(fault),
-            None => match self.serve(step) {
+            None => match self.serve(alloc, step) {
                 Ok(answer) => Ok(answer),
                 Err(OutOfMemory) => Err(EnterFault::OutOfMemory),
             },
@@ -219,7 +241,7 @@ impl<L: Lines> Kernel<L> {
     /// Lets in an entry of a thread on a core, or turns it away, as `admit` does.
     pub fn enter(
         &mut self,
-        _alloc: Global,
+        alloc: Global,
         core: CoreId,
         thread: ObjId,
         entry: Entry,
@@ -246,6 +268,6 @@ impl<L: Lines> Kernel<L> {
             thread,
             entry,
         };
-        self.admit(&step)
+        self.admit(alloc, &step)
     }
 }

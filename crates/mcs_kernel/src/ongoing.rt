@@ -42,7 +42,7 @@ impl<L: Lines> Replay<L> {
     /// the step is counted, up to usize::MAX. BookFull comes exactly at a step that would be let in and for which the book is
     /// full, and OutOfMemory where the room for its line is refused, each with the number of the step, from 1. After a fault
     /// nothing has changed, and the same step may be given again.
-    pub fn advance(&mut self, step: &Step) -> Result<Option<Answer>, ReplayFault>
+    pub fn advance(&mut self, alloc: Global, step: &Step) -> Result<Option<Answer>, ReplayFault>
         ensures room { OnOk result
             (is_book_full (fault_of self.old.book step.now.core step.now.thread) ≡ false) }
         ensures answer { IfOk result (λ a. a ≡ answer_to self.old.book step.now) }
@@ -62,7 +62,7 @@ impl<L: Lines> Replay<L> {
         ensures none_beside { AfterEachLine NoneWaitBeside self.new.book }
     {
         let number = self.taken.saturating_add(1);
-        let answer = match self.kernel.admit(step) {
+        let answer = match self.kernel.admit(alloc, step) {
             Ok(answer) => Some(answer),
             Err(EnterFault::NotRunning) => None,
             Err(EnterFault::NoContext) => None,
@@ -75,7 +75,7 @@ impl<L: Lines> Replay<L> {
     }
 
     /// Takes the next step, as `advance` does.
-    pub fn step(&mut self, _alloc: Global, step: Step) -> Result<Option<Answer>, ReplayFault>
+    pub fn step(&mut self, alloc: Global, step: Step) -> Result<Option<Answer>, ReplayFault>
         ensures room { OnOk result
             (is_book_full (fault_of self.old.book step.core step.thread) ≡ false) }
         ensures answer { IfOk result (λ a. a ≡ answer_to self.old.book step) }
@@ -94,7 +94,7 @@ impl<L: Lines> Replay<L> {
         ensures answered_whole { EachLine AnswersWhole self.new.book }
         ensures none_beside { AfterEachLine NoneWaitBeside self.new.book }
     {
-        self.advance(&step)
+        self.advance(alloc, &step)
     }
 
     /// The kernel after the steps so far.

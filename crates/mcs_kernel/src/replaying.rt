@@ -35,7 +35,7 @@ pub fn replay<L: Lines>(alloc: Global, boot: Boot, steps: &[Step]) -> Result<Ker
         Err(OutOfMemory) => return Err(ReplayFault::OutOfMemory { step: 0 }),
     };
     for step in steps {
-        match run.advance(step) {
+        match run.advance(alloc, step) {
             Ok(_) => {}
             Err(fault) => return Err(fault),
         }

@@ -14,14 +14,14 @@ pub fn thread(serial: u32) -> ObjId {
     object(Kind::Thread, serial)
 }
 
-pub fn message(label: u64, words: &[u64]) -> Result<Message, Fail> {
-    Ok(Message::new(label, words).ok_or("a message of this kind")?)
+pub fn message(alloc: Global, label: u64, words: &[u64]) -> Result<Message, Fail> {
+    Ok(Message::new(alloc, label, words)?.ok_or("a message of this kind")?)
 }
 
-pub fn send(cap: u64, label: u64) -> Result<Entry, Fail> {
+pub fn send(alloc: Global, cap: u64, label: u64) -> Result<Entry, Fail> {
     Ok(Entry::Send {
         cap,
-        message: message(label, &[])?,
+        message: message(alloc, label, &[])?,
     })
 }
 

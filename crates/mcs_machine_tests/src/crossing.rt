@@ -71,7 +71,7 @@ fn crossed_after<R: Threads + Wait + Sync>(
     let mut users = Users::new(alloc);
     users.add(thread(1), Entry::Signal { cap: 1 })?;
     for entry in entries {
-        users.add(thread(2), entry.copy())?;
+        users.add(thread(2), entry.copy(alloc)?)?;
     }
     let gate = Crossing::new(answers);
     let ran = run_users(rt, alloc, boot, &users, &gate)?;
@@ -95,7 +95,7 @@ fn crossed<R: Threads + Wait + Sync>(
 fn done(alloc: Global, entries: &[Entry]) -> Result<Vec<(u8, u32, Entry, Answer)>, Fail> {
     let mut lines = Vec::new(alloc);
     for entry in entries {
-        lines.push((1, 2, entry.copy(), Answer::Done))?;
+        lines.push((1, 2, entry.copy(alloc)?, Answer::Done))?;
     }
     Ok(lines)
 }
@@ -134,7 +134,7 @@ fn a_suspended_thread_is_turned_away(rt: HostRuntime) -> Result<(), Fail> {
     let ran = crossed(&rt, rt.alloc(), &two_cores(rt.alloc())?, &entries)?;
     assert!(rt; is_away(&ran.away, 2, EnterFault::NotRunning));
     let lines = done(rt.alloc(), &entries)?;
-    assert!(rt; has_lines(ran.settled.book(), &lines));
+    assert!(rt; has_lines(rt.alloc(), ran.settled.book(), &lines)?);
     Ok(())
 }
 
@@ -144,7 +144,7 @@ fn a_deleted_thread_is_turned_away(rt: HostRuntime) -> Result<(), Fail> {
     let ran = crossed(&rt, rt.alloc(), &with_free_context(rt.alloc())?, &entries)?;
     assert!(rt; is_away(&ran.away, 2, EnterFault::NotRunning));
     let lines = done(rt.alloc(), &entries)?;
-    assert!(rt; has_lines(ran.settled.book(), &lines));
+    assert!(rt; has_lines(rt.alloc(), ran.settled.book(), &lines)?);
     Ok(())
 }
 
@@ -154,7 +154,7 @@ fn a_thread_without_context_is_turned_away(rt: HostRuntime) -> Result<(), Fail> 
     let ran = crossed(&rt, rt.alloc(), &with_free_context(rt.alloc())?, &entries)?;
     assert!(rt; is_away(&ran.away, 2, EnterFault::NoContext));
     let lines = done(rt.alloc(), &entries)?;
-    assert!(rt; has_lines(ran.settled.book(), &lines));
+    assert!(rt; has_lines(rt.alloc(), ran.settled.book(), &lines)?);
     Ok(())
 }
 
@@ -169,7 +169,7 @@ fn a_lower_priority_keeps_the_pick(rt: HostRuntime) -> Result<(), Fail> {
     assert!(rt; ran.away.is_empty());
     let mut lines = done(rt.alloc(), &entries)?;
     lines.push(refused(0))?;
-    assert!(rt; has_lines(ran.settled.book(), &lines));
+    assert!(rt; has_lines(rt.alloc(), ran.settled.book(), &lines)?);
     Ok(())
 }
 
@@ -181,7 +181,7 @@ fn a_thread_that_changed_its_core_gives_its_entry_once(rt: HostRuntime) -> Resul
     assert!(rt; ran.away.is_empty() || is_away(&ran.away, 3, EnterFault::WrongCore));
     let mut lines = done(rt.alloc(), &entries)?;
     lines.push(refused(1))?;
-    assert!(rt; has_lines(ran.settled.book(), &lines));
+    assert!(rt; has_lines(rt.alloc(), ran.settled.book(), &lines)?);
     Ok(())
 }
 
@@ -192,7 +192,7 @@ fn a_moved_position_is_not_entered(rt: HostRuntime) -> Result<(), Fail> {
     let back = rebind(4, 2);
     let mut entries = Vec::new(rt.alloc());
     for entry in away.iter().chain(back.iter()) {
-        entries.push(entry.copy())?;
+        entries.push(entry.copy(rt.alloc())?)?;
     }
     let ran = crossed_after(
         &rt,
@@ -207,6 +207,6 @@ fn a_moved_position_is_not_entered(rt: HostRuntime) -> Result<(), Fail> {
     for line in done(rt.alloc(), &back)? {
         lines.push(line)?;
     }
-    assert!(rt; has_lines(ran.settled.book(), &lines));
+    assert!(rt; has_lines(rt.alloc(), ran.settled.book(), &lines)?);
     Ok(())
 }

@@ -49,7 +49,7 @@ impl Gate for Holding {
 fn four_senders(alloc: Global) -> Result<Users, Fail> {
     let mut users = Users::new(alloc);
     for serial in 1..5u32 {
-        users.add(thread(serial), send(1, u64::from(serial))?)?;
+        users.add(thread(serial), send(alloc, 1, u64::from(serial))?)?;
     }
     for _ in 0..4u32 {
         users.add(thread(5), Entry::NbRecv { cap: 2, reply: 8 })?;
@@ -62,7 +62,7 @@ fn is_replayed(alloc: Global, boot: Boot, book: &Book) -> Result<bool, Fail> {
     let mut steps: Vec<Step> = Vec::new(alloc);
     for i in 1..book.lines() {
         let line = book.line(i).ok_or("a line of the book")?;
-        steps.push(line.step())?;
+        steps.push(line.step(alloc)?)?;
     }
     let kernel = replay::<LinkedLines>(alloc, boot, &steps)?;
     if kernel.book().lines() != book.lines() {
@@ -71,14 +71,15 @@ fn is_replayed(alloc: Global, boot: Boot, book: &Book) -> Result<bool, Fail> {
     for i in 1..book.lines() {
         let line = book.line(i).ok_or("a line of the book")?;
         let again = kernel.book().line(i).ok_or("a line of the replay")?;
-        let step = line.step();
+        let step = line.step(alloc)?;
         if !is_line(
+            alloc,
             &again,
             step.core.0,
             step.thread.serial,
             &step.entry,
-            &line.answer(),
-        ) || again.record_count() != line.record_count()
+            &line.answer(alloc)?,
+        )? || again.record_count() != line.record_count()
         {
             return Ok(false);
         }

@@ -7,7 +7,7 @@ use mcs_cores::{CoreSeat, Gate, Machine, Outcome, SeatsFault, Settled, Users};
 use mcs_kernel::{Boot, EnterFault, Kernel};
 use mcs_queues::LinkedLines;
 use mcs_seats::{is_same_answer, is_same_entry};
-use mcs_types::{Answer, CORES, CoreId, Entry, ObjId};
+use mcs_types::{Answer, CORES, CoreId, Entry, ObjId, OutOfMemory};
 use std::alloc::Global;
 use std::marker::Brand;
 use std::sync::Wait;
@@ -94,24 +94,37 @@ pub fn run_users<R: Threads + Wait + Sync, T: Gate>(
 }
 
 /// Whether a line is of this core, thread and entry, and was answered so.
-pub fn is_line(line: &Line<'_>, core: u8, serial: u32, entry: &Entry, answer: &Answer) -> bool {
-    let step = line.step();
-    step.core == CoreId(core)
-        && step.thread == thread(serial)
-        && is_same_entry(&step.entry, entry)
-        && is_same_answer(&line.answer(), answer)
+pub fn is_line(
+    alloc: Global,
+    line: &Line<'_>,
+    core: u8,
+    serial: u32,
+    entry: &Entry,
+    answer: &Answer,
+) -> Result<bool, OutOfMemory> {
+    let step = line.step(alloc)?;
+    Ok(
+        step.core == CoreId(core)
+            && step.thread == thread(serial)
+            && is_same_entry(&step.entry, entry)
+            && is_same_answer(&line.answer(alloc)?, answer),
+    )
 }
 
 /// Whether these are the lines after the boot: core, thread, entry and answer of each.
-pub fn has_lines(book: &Book, lines: &[(u8, u32, Entry, Answer)]) -> bool {
+pub fn has_lines(
+    alloc: Global,
+    book: &Book,
+    lines: &[(u8, u32, Entry, Answer)],
+) -> Result<bool, OutOfMemory> {
     if book.lines() != lines.len() + 1 {
-        return false;
+        return Ok(false);
     }
     for (i, (core, serial, entry, answer)) in lines.iter().enumerate() {
         match book.line(i + 1) {
-            Some(line) if is_line(&line, *core, *serial, entry, answer) => {}
-            _ => return false,
+            Some(line) if is_line(alloc, &line, *core, *serial, entry, answer)? => {}
+            _ => return Ok(false),
         }
     }
-    true
+    Ok(true)
 }

@@ -1,4 +1,6 @@
 //! Scripts of users.
+ghost use Rattle.std.specs.Prelude.{◌<◌, length};
+
 use mcs_sim::{Open, SimFault, Sink, Source, run_text, simulate};
 use mcs_text::LineFault;
 use std::alloc::{AllocGlobal, Global};
@@ -157,6 +159,54 @@ fn a_run_on_two_cores_is_replayed(rt: HostRuntime) -> Result<(), Fail> {
             .split(|b| *b == b'\n')
             .filter(|l| l.starts_with(b"= "));
         assert_eq!(rt; entries.count(), 7);
+        let again = replayed(rt.alloc(), &written)?;
+        assert_eq!(rt; again.as_slice(), written.as_slice());
+    }
+    Ok(())
+}
+
+/// Two clients of the first core call with nine words, and a server of the second answers with seven.
+const LONG_CALLS: &str = "\
+cores 2
+cnode 5
+endpoint
+reply
+context 0
+context 0
+context 1
+thread 10 255 c1 59 0 run s1
+thread 10 255 c1 59 0 run s2
+thread 20 255 c1 59 0 run s3
+slot c1 1 e1 wg 7
+slot c1 2 e1 r 0
+slot c1 3 r1
+user t1 call 1 101 1 2 3 4 5 6 7 8 9
+user t1 call 1 102 1 2 3 4 5 6 7 8 9
+user t2 call 1 103 1 2 3 4 5 6 7 8 9
+user t3 recv 2 3
+user t3 replyrecv 2 3 201 11 12 13 14 15 16 17
+user t3 replyrecv 2 3 202 11 12 13 14 15 16 17
+user t3 replyrecv 2 3 203 11 12 13 14 15 16 17
+";
+
+/// How often these words stand in a text.
+fn occurrences(text: &[u8], words: &[u8]) -> usize
+    requires { 0 < length words.now }
+{
+    let parts = text.windows(words.len());
+    parts.filter(|part| *part == words).count()
+}
+
+#[test]
+fn long_messages_cross_the_cores(rt: HostRuntime) -> Result<(), Fail> {
+    for _ in 0..20 {
+        let (result, written) = run_users(&rt, LONG_CALLS.as_bytes(), Some(2));
+        assert_eq!(rt; result, Ok(()));
+        // each call as its step and its record, and as an answer where the server asked after it
+        let calls = occurrences(&written, b" 1 2 3 4 5 6 7 8 9");
+        assert!(rt; calls >= 6 && calls <= 9);
+        // each answer as its step and its record
+        assert_eq!(rt; occurrences(&written, b" 11 12 13 14 15 16 17"), 6);
         let again = replayed(rt.alloc(), &written)?;
         assert_eq!(rt; again.as_slice(), written.as_slice());
     }

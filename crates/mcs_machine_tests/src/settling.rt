@@ -15,14 +15,14 @@ use std::sync::ledger::{Blank, Ledger};
 use std::test::Fail;
 
 /// A send and its receive.
-fn exchange() -> Result<[(u8, u32, Entry, Answer); 2], Fail> {
+fn exchange(alloc: Global) -> Result<[(u8, u32, Entry, Answer); 2], Fail> {
     let sends = Entry::Send {
         cap: 1,
-        message: message(7, &[5, 6])?,
+        message: message(alloc, 7, &[5, 6])?,
     };
     let got = Answer::Got {
         badge: Badge(9),
-        message: message(7, &[5, 6])?,
+        message: message(alloc, 7, &[5, 6])?,
     };
     Ok([
         (0, 1, sends, Answer::Waits),
@@ -37,8 +37,8 @@ fn enter_exchange<G: Ledger, R: Wait>(
     machine: &Machine<G, LinkedLines>,
     seat: &mut CoreSeat<G>,
 ) -> Result<(), Fail> {
-    for (i, (_, serial, entry, answer)) in exchange()?.iter().enumerate() {
-        match machine.enter(rt, alloc, seat, thread(*serial), entry.copy()) {
+    for (i, (_, serial, entry, answer)) in exchange(alloc)?.iter().enumerate() {
+        match machine.enter(rt, alloc, seat, thread(*serial), entry.copy(alloc)?) {
             Ok(told) if told.line == i + 1 && is_same_answer(&told.answer, answer) => {}
             _ => return Err(Fail::from("the entry is let in as its line")),
         }
@@ -89,7 +89,7 @@ fn settles(rt: HostRuntime) -> Result<(), Fail> {
     let Ok(settled) = finished(&rt, rt.alloc(), &one_core(rt.alloc())?, false)? else {
         return Err(Fail::from("the machine settles"));
     };
-    assert!(rt; has_lines(settled.book(), &exchange()?));
+    assert!(rt; has_lines(rt.alloc(), settled.book(), &exchange(rt.alloc())?)?);
     match settled.kernel().mail(thread(2)) {
         Some(Mail::Message { badge, message }) => {
             assert_eq!(rt; *badge, Badge(9));

@@ -1,4 +1,5 @@
--- What a contract sees of `Notifications`: the pending word of each notification that is there, and the thread bound to it.
+-- What a contract sees of `Notifications`: the pending word of each notification that is there, the thread bound to it, and the
+-- context that is homed at it.
 use Rattle.std.specs.Prelude.{◌≡◌, ℕ, Bool, Option, Some, is_some, option_and_then}
 use Rattle.mcs_types.specs.declared.id.ObjId.{ObjId}
 use Rattle.mcs_types.specs.declared.id.Kind.TheVariants.{Notification}
@@ -35,6 +36,10 @@ word_in v n = option_and_then (λ r. r.word) (value_at v.rows n)
 abbrev pub thread_in : Signals → ObjId → Option ObjId
 thread_in v n = option_and_then (λ r. r.thread) (value_at v.rows n)
 
+-- the context that is homed at a notification
+abbrev pub homed_in : Signals → ObjId → Option ObjId
+homed_in v n = option_and_then (λ r. r.homed) (value_at v.rows n)
+
 -- this is the pending word of n now, and the others have those that they had
 abbrev pub SetsWord : Signals → Signals → ObjId → Option ℕ → Type 0
 SetsWord old new n word = ChangesAt (word_in old) (word_in new) n word
@@ -46,6 +51,10 @@ GainsBadge old new n badge = SetsWord old new n (Some (with_badge badge (word_in
 -- n is bound to this thread now, or to none, and the others as they were
 abbrev pub SetsThread : Signals → Signals → ObjId → Option ObjId → Type 0
 SetsThread old new n thread = ChangesAt (thread_in old) (thread_in new) n thread
+
+-- this context is homed at n now, or none is, and the others as they were
+abbrev pub SetsHomed : Signals → Signals → ObjId → Option ObjId → Type 0
+SetsHomed old new n context = ChangesAt (homed_in old) (homed_in new) n context
 
 -- what holds of all notifications
 pub record AreSignals (v : Signals) : Type 0 where

@@ -6,18 +6,19 @@ ghost use Rattle.mcs_types.specs.Ids.{ChangesAt};
 ghost use Rattle.mcs_types.specs.Limits.{object_limit};
 ghost use Rattle.mcs_types.specs.Words.{with_badge};
 ghost use Rattle.mcs_objects.specs.Store.{value_at, empty_shape, one_more, IsOneFewer};
-ghost use Rattle.mcs_notifications.specs.Signals.{counts, no_room, next_notification, is_there, word_in, thread_in, SetsWord, GainsBadge, SetsThread};
+ghost use Rattle.mcs_notifications.specs.Signals.{counts, no_room, next_notification, is_there, word_in, thread_in, homed_in, SetsWord, GainsBadge, SetsThread, SetsHomed};
 
 use mcs_objects::Store;
 use mcs_types::{Badge, Kind, OBJECTS, ObjId, OutOfMemory};
 use std::alloc::Global;
 use std::marker::Model;
 
-/// A notification: its pending word, and the thread bound to it (manual: Notifications).
+/// A notification: its pending word, the thread bound to it (manual: Notifications), and the context that is homed at it (own).
 #[derive(Clone, Copy)]
 pub struct NotificationRow {
     word: Option<u64>,
     thread: Option<ObjId>,
+    homed: Option<ObjId>,
 }
 
 /// Up to 256 notifications, which come and go under serials that count from 1: the pending word of each, and the thread bound to
@@ -61,6 +62,7 @@ impl Notifications {
         ensures there { IfOk result (λ v. (n : ObjId) → is_there v n ≡ false) }
         ensures words { IfOk result (λ v. (n : ObjId) → word_in v n ≡ None) }
         ensures threads { IfOk result (λ v. (n : ObjId) → thread_in v n ≡ None) }
+        ensures homed { IfOk result (λ v. (n : ObjId) → homed_in v n ≡ None) }
     {
         Ok(Notifications {
             rows: Store::with_room(alloc, Kind::Notification, OBJECTS)?,
@@ -77,12 +79,14 @@ impl Notifications {
         ensures words { (n : ObjId) → word_in self.new n ≡ word_in self.old n }
         ensures unbound { thread_in self.new result ≡ None }
         ensures threads { (n : ObjId) → thread_in self.new n ≡ thread_in self.old n }
+        ensures homed { (n : ObjId) → homed_in self.new n ≡ homed_in self.old n }
     {
         // A law for the proof: what is there was given, so the next serial is new.
         self.rows.are_apart();
         self.rows.add(NotificationRow {
             word: None,
             thread: None,
+            homed: None,
         })
     }
 
@@ -91,10 +95,12 @@ impl Notifications {
     pub fn close(&mut self, notification: ObjId)
         requires there { is_there self.old notification ≡ true }
         requires unbound { thread_in self.old notification ≡ None }
+        requires homeless { homed_in self.old notification ≡ None }
         ensures counts { IsOneFewer (counts self.old) (counts self.new) }
         ensures there { ChangesAt (is_there self.old) (is_there self.new) notification false }
         ensures words { SetsWord self.old self.new notification None }
         ensures threads { (n : ObjId) → thread_in self.new n ≡ thread_in self.old n }
+        ensures homed { (n : ObjId) → homed_in self.new n ≡ homed_in self.old n }
     {
         self.rows.remove(notification);
     }
@@ -139,6 +145,7 @@ impl Notifications {
         ensures there { (n : ObjId) → is_there self.new n ≡ is_there self.old n }
         ensures words { GainsBadge self.old self.new notification badge.0 }
         ensures threads { (n : ObjId) → thread_in self.new n ≡ thread_in self.old n }
+        ensures homed { (n : ObjId) → homed_in self.new n ≡ homed_in self.old n }
     {
         let row = self.row(notification);
         let word = Some(with_badge(badge, row.word));
@@ -153,6 +160,7 @@ impl Notifications {
         ensures there { (n : ObjId) → is_there self.new n ≡ is_there self.old n }
         ensures words { SetsWord self.old self.new notification None }
         ensures threads { (n : ObjId) → thread_in self.new n ≡ thread_in self.old n }
+        ensures homed { (n : ObjId) → homed_in self.new n ≡ homed_in self.old n }
     {
         let row = *self.rows.get(notification)?;
         let word = None;
@@ -175,9 +183,31 @@ impl Notifications {
         ensures there { (n : ObjId) → is_there self.new n ≡ is_there self.old n }
         ensures words { (n : ObjId) → word_in self.new n ≡ word_in self.old n }
         ensures threads { SetsThread self.old self.new notification thread }
+        ensures homed { (n : ObjId) → homed_in self.new n ≡ homed_in self.old n }
     {
         let row = self.row(notification);
         self.rows
             .set(notification, NotificationRow { thread, ..row });
+    }
+
+    /// The context that is homed at a notification, or None where none is, and where it is not there (own).
+    pub fn homed(&self, notification: ObjId) -> Option<ObjId>
+        ensures { result ≡ homed_in self.now notification }
+    {
+        self.rows.get(notification)?.homed
+    }
+
+    /// This context is homed at a notification that is there, or none is (own).
+    pub fn set_homed(&mut self, notification: ObjId, homed: Option<ObjId>)
+        requires { is_there self.old notification ≡ true }
+        ensures counts { counts self.new ≡ counts self.old }
+        ensures there { (n : ObjId) → is_there self.new n ≡ is_there self.old n }
+        ensures words { (n : ObjId) → word_in self.new n ≡ word_in self.old n }
+        ensures threads { (n : ObjId) → thread_in self.new n ≡ thread_in self.old n }
+        ensures homed { SetsHomed self.old self.new notification homed }
+    {
+        let row = self.row(notification);
+        self.rows
+            .set(notification, NotificationRow { homed, ..row });
     }
 }

@@ -5,7 +5,7 @@ use Rattle.std.proofs.lemmas.List.{take-append-le, drop-append-le, get_or_append
 use Rattle.mcs_types.specs.declared.record.Rec.{Rec}
 use Rattle.mcs_packing.specs.declared.arena.Arena.{Arena}
 use Rattle.mcs_packing.specs.declared.packed.Packed.{Packed}
-use Rattle.mcs_packing.specs.declared.packed.Packed.TheVariants.{Made, MadeOn, Closed, Emptied, Filled, FilledBadged, FilledGuarded, Prio, Turns, Joins, JoinsWith, Parts, Sent, Took, Dropped, Owes, OwesWith, Paid, Void, Held, Unheld, Raised, Heard, Tied, Untied, Wide}
+use Rattle.mcs_packing.specs.declared.packed.Packed.TheVariants.{Made, MadeOn, Closed, Emptied, Filled, FilledBadged, FilledGuarded, Prio, Turns, Joins, JoinsWith, Parts, Sent, Took, Dropped, Owes, OwesWith, Paid, Void, Held, Unheld, Raised, Heard, Tied, Untied, Homed, Unhomed, Wide}
 use Rattle.mcs_packing.specs.Packing.{word_at, content_at, record_of, records_of, IsMessageAt, Fits, AllFit, GrowsBy, Grew, no_record}
 
 -- a word
@@ -54,6 +54,8 @@ record_of-grows (Raised _ _) ws more rs others h = refl
 record_of-grows (Heard t n at) ws more rs others h = rw (word_at-grows ws more at h) refl
 record_of-grows (Tied _ _) ws more rs others h = refl
 record_of-grows (Untied _) ws more rs others h = refl
+record_of-grows (Homed _ _) ws more rs others h = refl
+record_of-grows (Unhomed _) ws more rs others h = refl
 record_of-grows (Wide at) ws more rs others h = get_or_append_left rs others no_record at h
 
 pub Fits-grows : (p : Packed) (ws more : List ℕ) (rs others : List Rec) → Fits p ws rs → Fits p (ws ++ more) (rs ++ others)
@@ -82,6 +84,8 @@ Fits-grows (Raised _ _) ws more rs others h = h
 Fits-grows (Heard t n at) ws more rs others h = omega (arith, h, length-append ws more)
 Fits-grows (Tied _ _) ws more rs others h = h
 Fits-grows (Untied _) ws more rs others h = h
+Fits-grows (Homed _ _) ws more rs others h = h
+Fits-grows (Unhomed _) ws more rs others h = h
 Fits-grows (Wide at) ws more rs others h = omega (arith, h, length-append rs others)
 
 -- many records

@@ -1,6 +1,6 @@
 -- Groups of records.
 use Rattle.mcs_types.specs.declared.record.Rec.{Rec}
-use Rattle.mcs_types.specs.declared.record.Rec.TheVariants.{Made, Closed, Holds, Raised, Tied, Heard, Prio, Turns, Joins, Parts, Took, Dropped, Sent, Owes, Paid, Void}
+use Rattle.mcs_types.specs.declared.record.Rec.TheVariants.{Made, Closed, Holds, Raised, Tied, Heard, Prio, Turns, Joins, Parts, Took, Dropped, Sent, Owes, Paid, Void, Homed}
 
 -- what became of an object
 abbrev pub IsOfObjects : Rec → Type 0
@@ -10,6 +10,7 @@ IsOfObjects (Holds _ _) = Unit {0}
 IsOfObjects (Raised _ _) = Unit {0}
 IsOfObjects (Tied _ _) = Unit {0}
 IsOfObjects (Heard _ _ _) = Unit {0}
+IsOfObjects (Homed _ _) = Unit {0}
 IsOfObjects _ = ⊥
 
 -- what became of a thread

@@ -14,7 +14,7 @@ use Rattle.mcs_packing.specs.declared.arena.Arena.{Arena}
 use Rattle.mcs_packing.specs.declared.packed.Side.{Side}
 use Rattle.mcs_packing.specs.declared.packed.Side.TheVariants.{Senders, Receivers, Waiters}
 use Rattle.mcs_packing.specs.declared.packed.Packed.{Packed}
-use Rattle.mcs_packing.specs.declared.packed.Packed.TheVariants.{Made, MadeOn, Closed, Emptied, Filled, FilledBadged, FilledGuarded, Prio, Turns, Joins, JoinsWith, Parts, Sent, Took, Dropped, Owes, OwesWith, Paid, Void, Held, Unheld, Raised, Heard, Tied, Untied, Wide}
+use Rattle.mcs_packing.specs.declared.packed.Packed.TheVariants.{Made, MadeOn, Closed, Emptied, Filled, FilledBadged, FilledGuarded, Prio, Turns, Joins, JoinsWith, Parts, Sent, Took, Dropped, Owes, OwesWith, Paid, Void, Held, Unheld, Raised, Heard, Tied, Untied, Homed, Unhomed, Wide}
 
 -- an object of a kind
 abbrev pub object : Kind → ℕ → ObjId
@@ -81,6 +81,8 @@ record_of (Raised n b) ws rs = rec.Raised (object Notification n) b
 record_of (Heard t n at) ws rs = rec.Heard (object Thread t) (object Notification n) (word_at ws at)
 record_of (Tied t n) ws rs = rec.Tied (object Thread t) (Some (object Notification n))
 record_of (Untied t) ws rs = rec.Tied (object Thread t) None
+record_of (Homed s n) ws rs = rec.Homed (object Context s) (Some (object Notification n))
+record_of (Unhomed s) ws rs = rec.Homed (object Context s) None
 record_of (Wide at) ws rs = slice_index_or rs at no_record
 
 -- what was made and what ended
@@ -121,6 +123,8 @@ IsOfBond (Unheld _) = Unit {0}
 IsOfBond (Raised _ _) = Unit {0}
 IsOfBond (Tied _ _) = Unit {0}
 IsOfBond (Untied _) = Unit {0}
+IsOfBond (Homed _ _) = Unit {0}
+IsOfBond (Unhomed _) = Unit {0}
 IsOfBond _ = ⊥
 
 -- what keeps one word
@@ -140,7 +144,7 @@ IsOfMessage _ = ⊥
 pub record IsMessageAt (ws : List ℕ) (at len : ℕ) : Type 0 where
   pub ends : at + len + 1 < length ws
   pub label : word_at ws at < 2 ^ 52
-  pub few : len ≤ 4
+  pub few : len ≤ 120
 
 -- what a packed record names is there
 abbrev pub Fits : Packed → List ℕ → List Rec → Type 0
@@ -174,18 +178,30 @@ abbrev pub AllFit : List Packed → List ℕ → List Rec → Type 0
 AllFit [] ws rs = Unit {0}
 AllFit (p ∷ ps) ws rs = Fits p ws rs × AllFit ps ws rs
 
--- there is room for what so many records and heads keep in the arena
+-- there is room for what so many records keep in the arena, and for a head: a record keeps six words, and long messages of records
+-- may use up the spare words besides; an entry keeps 122 words, and so does an answer
 pub record HasRoom (a : Arena) (n : ℕ) : Type 0 where
-  pub words : vec_len a.words + 6 * n ≤ vec_capacity a.words
-  pub named : vec_len a.words + 6 * n ≤ 2 ^ 32
+  pub words : vec_len a.words + (6 * n + (a.spare + 244)) ≤ vec_capacity a.words
+  pub named : vec_len a.words + (6 * n + (a.spare + 244)) ≤ 2 ^ 32
   pub wide : vec_len a.wide + n ≤ vec_capacity a.wide
   pub named_wide : vec_len a.wide + n ≤ 2 ^ 32
 
--- an arena after one record or head more
+-- there is room for so many messages of any length
+pub record HasMessageRoom (a : Arena) (n : ℕ) : Type 0 where
+  pub words : vec_len a.words + 122 * n ≤ vec_capacity a.words
+  pub named : vec_len a.words + 122 * n ≤ 2 ^ 32
+
+-- an arena after one record more
 pub record Grew (a b : Arena) : Type 0 where
   pub words : GrowsBy a.words.items b.words.items
   pub wide : GrowsBy a.wide.items b.wide.items
   pub room : (n : ℕ) → HasRoom a (n + 1) → HasRoom b n
+
+-- an arena after one entry or answer more
+pub record GrewHead (a b : Arena) : Type 0 where
+  pub words : GrowsBy a.words.items b.words.items
+  pub wide : GrowsBy a.wide.items b.wide.items
+  pub room : (n : ℕ) → HasMessageRoom a (n + 1) → HasMessageRoom b n
 
 -- an answer stands for this record over an arena, if there is one
 abbrev pub MayStandFor : Option Packed → Arena → Rec → Type 0

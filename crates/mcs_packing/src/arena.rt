@@ -1,17 +1,20 @@
 //! The words of messages, each once, and the records that fit no packed form.
-ghost use Rattle.std.specs.Prelude.{◌≡◌, ◌<◌, ◌≤◌, ◌+◌, [], ◌∷◌, ◌++◌, IsTrue, length, vec_len, vec_capacity};
-ghost use Rattle.mcs_packing.specs.Packing.{FitsIn, Grew, HasBadgeAt, HasRoom, HoldsAt, IsMessageAt, content_at, record_in, word_at};
+ghost use Rattle.std.specs.Prelude.{◌≡◌, ◌<◌, ◌≤◌, ◌+◌, ◌^◌, [], ◌∷◌, ◌++◌, IsTrue, IfOk, IfSome, IfNone, length, vec_len, vec_capacity};
+ghost use Rattle.mcs_packing.specs.Packing.{FitsIn, Grew, GrewHead, GrowsBy, HasBadgeAt, HasMessageRoom, HasRoom, HoldsAt, IsMessageAt, content_at, record_in, word_at};
 
-use crate::copying::copy_of;
 use crate::packed::Packed;
-use mcs_types::{Badge, Message, Rec};
+use mcs_types::{Badge, INLINE_WORDS, Message, OutOfMemory, Rec};
+use std::alloc::Global;
+use std::mem;
 
 /// The words that packed records, entries and answers name by their places, and the records that fit no packed form. A
-/// message stands as its label, its words and a badge. Both lists only grow.
+/// message stands as its label, its words and a badge. Both lists only grow. `spare` is how many words the long messages of
+/// records may still take beyond six each.
 #[derive(Drop)]
 pub struct Arena {
     pub words: Vec<u64>,
     pub wide: Vec<Rec>,
+    pub spare: usize,
 }
 
 /// How many words a message has.
@@ -22,15 +25,15 @@ pub fn length_of(message: &Message) -> u8
     message.words().len() as u8
 }
 
-/// The message of this many words at a place.
-pub fn message_at(words: &[u64], at: u32, len: u8) -> Message
+/// The message of this many words at a place. Four words take no memory.
+pub fn message_at(alloc: Global, words: &[u64], at: u32, len: u8) -> Result<Message, OutOfMemory>
     requires { IsMessageAt words.now at len }
-    ensures { result ≡ content_at words.now at len }
+    ensures { IfOk result (λ m. m ≡ content_at words.now at len) }
 {
     let start = at as usize + 1;
     let end = start + len as usize;
-    match Message::new(words[at as usize], &words[start..end]) {
-        Some(message) => message,
+    match Message::new(alloc, words[at as usize], &words[start..end])? {
+        Some(message) => Ok(message),
         None => unreachable!(),
     }
 }
@@ -79,87 +82,124 @@ fn push_words(words: &mut Vec<u64>, more: &[u64])
     }
 }
 
+/// Keeps a message and a badge, for which there is room, and answers where.
+fn keep_words(words: &mut Vec<u64>, message: &Message, badge: Badge) -> u32
+    requires room { vec_len words.old + length message.now.words + 2 ≤ vec_capacity words.old }
+    requires named { vec_len words.old < 2 ^ 32 }
+    ensures value { HoldsAt words.new.items result message.now }
+    ensures badge { HasBadgeAt words.new.items result message.now badge.0 }
+    ensures fits { IsMessageAt words.new.items result (length message.now.words) }
+    ensures grew { GrowsBy words.old.items words.new.items }
+    ensures len { vec_len words.new ≡ vec_len words.old + length message.now.words + 2 }
+    ensures capacity { vec_capacity words.old ≤ vec_capacity words.new }
+{
+    message.is_in_range();
+    let at = words.len() as u32;
+    push_word(words, message.label());
+    push_words(words, message.words());
+    push_word(words, badge.0);
+    at
+}
+
+/// Keeps a word, for which there is room, and answers where.
+fn keep_one(words: &mut Vec<u64>, word: u64) -> u32
+    requires room { vec_len words.old < vec_capacity words.old }
+    requires named { vec_len words.old < 2 ^ 32 }
+    ensures value { word_at words.new.items result ≡ word }
+    ensures there { result < length words.new.items }
+    ensures grew { GrowsBy words.old.items words.new.items }
+    ensures len { vec_len words.new ≡ vec_len words.old + 1 }
+    ensures capacity { vec_capacity words.old ≤ vec_capacity words.new }
+{
+    let at = words.len() as u32;
+    push_word(words, word);
+    at
+}
+
 impl Arena {
-    /// Keeps a message and a badge, and answers where.
-    pub(crate) fn keep(&mut self, message: &Message, badge: Badge) -> u32
+    /// Keeps the message of a record and a badge, and answers where. None, and nothing changes, where the message is long and
+    /// the spare words are used up.
+    pub(crate) fn keep(&mut self, message: &Message, badge: Badge) -> Option<u32>
         requires { HasRoom self.old 1 }
-        ensures value { HoldsAt self.new.words.items result message.now }
-        ensures badge { HasBadgeAt self.new.words.items result message.now badge.0 }
-        ensures fits { IsMessageAt self.new.words.items result (length message.now.words) }
+        ensures value { IfSome result (λ at. HoldsAt self.new.words.items at message.now) }
+        ensures badge { IfSome result (λ at. HasBadgeAt self.new.words.items at message.now badge.0) }
+        ensures fits { IfSome result (λ at. IsMessageAt self.new.words.items at (length message.now.words)) }
         ensures grew { Grew self.old self.new }
+        ensures none { IfNone result (self.new ≡ self.old) }
     {
-        message.is_in_range();
-        let at = self.words.len() as u32;
-        push_word(&mut self.words, message.label());
-        push_words(&mut self.words, message.words());
-        push_word(&mut self.words, badge.0);
-        at
+        let more = message.words().len().saturating_sub(INLINE_WORDS);
+        if self.spare < more {
+            return None;
+        }
+        self.spare -= more;
+        Some(keep_words(&mut self.words, message, badge))
     }
 
-    /// Keeps a message and a badge, and answers where: at this place, if they stand there already.
+    /// Keeps the message of an answer and a badge, and answers where: at this place, if they stand there already.
     pub(crate) fn share(&mut self, message: &Message, badge: Badge, place: u32) -> u32
-        requires { HasRoom self.old 1 }
+        requires { HasMessageRoom self.old 1 }
         ensures value { HoldsAt self.new.words.items result message.now }
         ensures badge { HasBadgeAt self.new.words.items result message.now badge.0 }
         ensures fits { IsMessageAt self.new.words.items result (length message.now.words) }
-        ensures grew { Grew self.old self.new }
+        ensures grew { GrewHead self.old self.new }
     {
         if is_at(&self.words, place, message) && is_badge_at(&self.words, place, message, badge) {
             place
         } else {
-            self.keep(message, badge)
+            message.is_in_range();
+            keep_words(&mut self.words, message, badge)
         }
     }
 
-    /// Keeps a message, and answers where: at this place, if it stands there already.
+    /// Keeps the message of an entry, and answers where: at this place, if it stands there already.
     pub(crate) fn share_plain(&mut self, message: &Message, place: u32) -> u32
-        requires { HasRoom self.old 1 }
+        requires { HasMessageRoom self.old 1 }
         ensures value { HoldsAt self.new.words.items result message.now }
         ensures fits { IsMessageAt self.new.words.items result (length message.now.words) }
-        ensures grew { Grew self.old self.new }
+        ensures grew { GrewHead self.old self.new }
     {
         if is_at(&self.words, place, message) {
             place
         } else {
-            self.keep(message, Badge(0))
+            message.is_in_range();
+            keep_words(&mut self.words, message, Badge(0))
         }
     }
 
-    /// Keeps a word, and answers where.
+    /// Keeps the word of a record, and answers where.
     pub(crate) fn keep_word(&mut self, word: u64) -> u32
         requires { HasRoom self.old 1 }
         ensures value { word_at self.new.words.items result ≡ word }
         ensures there { result < length self.new.words.items }
         ensures grew { Grew self.old self.new }
     {
-        let at = self.words.len() as u32;
-        push_word(&mut self.words, word);
-        at
+        keep_one(&mut self.words, word)
     }
 
-    /// Keeps a word, and answers where: at this place, if it stands there already.
+    /// Keeps the word of an entry or an answer, and answers where: at this place, if it stands there already.
     pub(crate) fn share_word(&mut self, word: u64, place: u32) -> u32
-        requires { HasRoom self.old 1 }
+        requires { HasMessageRoom self.old 1 }
         ensures value { word_at self.new.words.items result ≡ word }
         ensures there { result < length self.new.words.items }
-        ensures grew { Grew self.old self.new }
+        ensures grew { GrewHead self.old self.new }
     {
         if (place as usize) < self.words.len() && self.words[place as usize] == word {
             place
         } else {
-            self.keep_word(word)
+            keep_one(&mut self.words, word)
         }
     }
 
-    /// Keeps a record as it is.
-    pub(crate) fn keep_wide(&mut self, fact: &Rec) -> Packed
+    /// Keeps a record as it is: it is moved, and what stands in its place means nothing.
+    pub(crate) fn keep_wide(&mut self, fact: &mut Rec) -> Packed
         requires { HasRoom self.old 1 }
-        ensures value { record_in result self.new ≡ fact.now }
+        ensures value { record_in result self.new ≡ fact.old }
         ensures fits { FitsIn result self.new }
         ensures grew { Grew self.old self.new }
     {
         let at = self.wide.len() as u32;
-        match self.wide.push(copy_of(fact)) {
+        let kept = mem::replace(fact, Rec::Dropped { message: 0 });
+        match self.wide.push(kept) {
             Ok(()) => {}
             Err(_) => unreachable!(),
         }

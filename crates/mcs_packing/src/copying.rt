@@ -1,8 +1,9 @@
 //! Copies of records.
-ghost use Rattle.std.specs.Prelude.{◌≡◌};
+ghost use Rattle.std.specs.Prelude.{◌≡◌, IfOk};
 ghost use Rattle.mcs_packing.specs.Copies.{IsOfDebts, IsOfObjects, IsOfThreads};
 
-use mcs_types::Rec;
+use mcs_types::{OutOfMemory, Rec};
+use std::alloc::Global;
 
 /// A copy of what became of an object.
 fn copy_of_objects(fact: &Rec) -> Rec
@@ -41,6 +42,13 @@ fn copy_of_objects(fact: &Rec) -> Rec
             thread: *thread,
             notification: *notification,
             word: *word,
+        },
+        Rec::Homed {
+            context,
+            notification,
+        } => Rec::Homed {
+            context: *context,
+            notification: *notification,
         },
         _ => unreachable!(),
     }
@@ -83,11 +91,11 @@ fn copy_of_threads(fact: &Rec) -> Rec
 }
 
 /// A copy of what was sent, owed and paid.
-fn copy_of_debts(fact: &Rec) -> Rec
+fn copy_of_debts(alloc: Global, fact: &Rec) -> Result<Rec, OutOfMemory>
     requires { IsOfDebts fact.now }
-    ensures { result ≡ fact.now }
+    ensures { IfOk result (λ r. r ≡ fact.now) }
 {
-    match fact {
+    Ok(match fact {
         Rec::Sent {
             sender,
             endpoint,
@@ -99,7 +107,7 @@ fn copy_of_debts(fact: &Rec) -> Rec
             endpoint: *endpoint,
             mode: *mode,
             badge: *badge,
-            message: message.copy(),
+            message: message.copy(alloc)?,
         },
         Rec::Owes {
             reply,
@@ -117,7 +125,7 @@ fn copy_of_debts(fact: &Rec) -> Rec
         } => Rec::Paid {
             reply: *reply,
             caller: *caller,
-            message: message.copy(),
+            message: message.copy(alloc)?,
         },
         Rec::Void {
             reply,
@@ -129,20 +137,21 @@ fn copy_of_debts(fact: &Rec) -> Rec
             ending: *ending,
         },
         _ => unreachable!(),
-    }
+    })
 }
 
 /// An equal record.
-pub fn copy_of(fact: &Rec) -> Rec
-    ensures { result ≡ fact.now }
+pub fn copy_of(alloc: Global, fact: &Rec) -> Result<Rec, OutOfMemory>
+    ensures { IfOk result (λ r. r ≡ fact.now) }
 {
-    match fact {
+    Ok(match fact {
         Rec::Made { .. }
         | Rec::Closed { .. }
         | Rec::Holds { .. }
         | Rec::Raised { .. }
         | Rec::Tied { .. }
-        | Rec::Heard { .. } => copy_of_objects(fact),
+        | Rec::Heard { .. }
+        | Rec::Homed { .. } => copy_of_objects(fact),
         Rec::Prio { .. }
         | Rec::Turns { .. }
         | Rec::Joins { .. }
@@ -155,7 +164,7 @@ pub fn copy_of(fact: &Rec) -> Rec
             cap: *cap,
         },
         Rec::Sent { .. } | Rec::Owes { .. } | Rec::Paid { .. } | Rec::Void { .. } => {
-            copy_of_debts(fact)
+            copy_of_debts(alloc, fact)?
         }
-    }
+    })
 }

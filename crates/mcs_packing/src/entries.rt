@@ -1,11 +1,12 @@
 //! Entries in 24 bytes each, their messages and badges among the words.
-ghost use Rattle.std.specs.Prelude.{◌≡◌};
-ghost use Rattle.mcs_packing.specs.Packing.{Grew, HasRoom};
+ghost use Rattle.std.specs.Prelude.{◌≡◌, IfOk};
+ghost use Rattle.mcs_packing.specs.Packing.{GrewHead, HasMessageRoom};
 ghost use Rattle.mcs_packing.specs.declared.entries.PackedEntry.TheVariants.{AtPlace};
 ghost use Rattle.mcs_packing.specs.Entries.{EntryFits, sending, over_pair, over_address, over_place, place_of, entry_of};
 
 use crate::arena::{Arena, length_of, message_at};
-use mcs_types::{Badge, Entry, Message, Place, Prio, Rights};
+use mcs_types::{Badge, Entry, Message, OutOfMemory, Place, Prio, Rights};
+use std::alloc::Global;
 
 /// The entries that send a message over one capability.
 #[derive(Clone, Copy)]
@@ -118,10 +119,10 @@ impl Arena {
         message: &Message,
         place: u32,
     ) -> PackedEntry
-        requires { HasRoom self.old 1 }
+        requires { HasMessageRoom self.old 1 }
         ensures value { entry_of result self.new.words.items ≡ sending form cap message.now }
         ensures fits { EntryFits result self.new.words.items }
-        ensures grew { Grew self.old self.new }
+        ensures grew { GrewHead self.old self.new }
     {
         PackedEntry::Sends {
             form,
@@ -134,10 +135,10 @@ impl Arena {
     /// Packs an entry, for which there is room. Its message or its badge may stand at a place already. What was packed before
     /// stands for what it stood for.
     pub fn pack_entry(&mut self, entry: &Entry, place: u32) -> PackedEntry
-        requires { HasRoom self.old 1 }
+        requires { HasMessageRoom self.old 1 }
         ensures value { entry_of result self.new.words.items ≡ entry.now }
         ensures fits { EntryFits result self.new.words.items }
-        ensures grew { Grew self.old self.new }
+        ensures grew { GrewHead self.old self.new }
     {
         match entry {
             Entry::Send { cap, message } => self.pack_sending(Sending::Send, *cap, message, place),
@@ -289,14 +290,14 @@ fn unpack_at(form: OverPlace, place: Place) -> Entry
     }
 }
 
-/// The entry that a packed one stands for.
-pub fn unpack_entry(entry: &PackedEntry, words: &[u64]) -> Entry
+/// The entry that a packed one stands for. A message of four words takes no memory.
+pub fn unpack_entry(alloc: Global, entry: &PackedEntry, words: &[u64]) -> Result<Entry, OutOfMemory>
     requires { EntryFits entry.now words.now }
-    ensures { result ≡ entry_of entry.now words.now }
+    ensures { IfOk result (λ e. e ≡ entry_of entry.now words.now) }
 {
-    match entry {
+    Ok(match entry {
         PackedEntry::Sends { form, len, at, cap } => {
-            unpack_sending(*form, *cap, message_at(words, *at, *len))
+            unpack_sending(*form, *cap, message_at(alloc, words, *at, *len)?)
         }
         PackedEntry::ReplyRecv {
             len,
@@ -306,7 +307,7 @@ pub fn unpack_entry(entry: &PackedEntry, words: &[u64]) -> Entry
         } => Entry::ReplyRecv {
             cap: *cap,
             reply: *reply,
-            message: message_at(words, *at, *len),
+            message: message_at(alloc, words, *at, *len)?,
         },
         PackedEntry::Pair(form, first, second) => unpack_pair(*form, *first, *second),
         PackedEntry::Address(form, address) => unpack_address(*form, *address),
@@ -353,5 +354,5 @@ pub fn unpack_entry(entry: &PackedEntry, words: &[u64]) -> Entry
             source: place_of(*source, *source_depth),
             dest: place_of(*dest, *dest_depth),
         },
-    }
+    })
 }

@@ -1,11 +1,12 @@
 //! Heads of lines, in 48 bytes each.
-ghost use Rattle.std.specs.Prelude.{◌≡◌};
-ghost use Rattle.mcs_packing.specs.Packing.{Grew, HasRoom};
+ghost use Rattle.std.specs.Prelude.{◌≡◌, IfOk};
+ghost use Rattle.mcs_packing.specs.Packing.{GrewHead, HasMessageRoom};
 ghost use Rattle.mcs_packing.specs.Heads.{AnswerFits, answer_of};
 
 use crate::arena::{Arena, length_of, message_at};
 use crate::entries::PackedEntry;
-use mcs_types::{Answer, Badge, CoreId, Kind, Refusal};
+use mcs_types::{Answer, Badge, CoreId, Kind, OutOfMemory, Refusal};
+use std::alloc::Global;
 
 /// An answer, packed: `at` is a place among the words, of a message with so many words or of a word.
 #[derive(Clone, Copy)]
@@ -36,10 +37,10 @@ impl Arena {
     /// Packs an answer, for which there is room. Its message or its word may stand at a place already. What was packed before
     /// stands for what it stood for.
     pub fn pack_answer(&mut self, answer: &Answer, place: u32) -> PackedAnswer
-        requires { HasRoom self.old 1 }
+        requires { HasMessageRoom self.old 1 }
         ensures value { answer_of result self.new.words.items ≡ answer.now }
         ensures fits { AnswerFits result self.new.words.items }
-        ensures grew { Grew self.old self.new }
+        ensures grew { GrewHead self.old self.new }
     {
         match answer {
             Answer::Done => PackedAnswer::Done,
@@ -57,16 +58,20 @@ impl Arena {
     }
 }
 
-/// The answer that a packed one stands for.
-pub fn unpack_answer(answer: &PackedAnswer, words: &[u64]) -> Answer
+/// The answer that a packed one stands for. A message of four words takes no memory.
+pub fn unpack_answer(
+    alloc: Global,
+    answer: &PackedAnswer,
+    words: &[u64],
+) -> Result<Answer, OutOfMemory>
     requires { AnswerFits answer.now words.now }
-    ensures { result ≡ answer_of answer.now words.now }
+    ensures { IfOk result (λ a. a ≡ answer_of answer.now words.now) }
 {
-    match answer {
+    Ok(match answer {
         PackedAnswer::Done => Answer::Done,
         PackedAnswer::Got { len, at } => Answer::Got {
             badge: Badge(words[*at as usize + 1 + *len as usize]),
-            message: message_at(words, *at, *len),
+            message: message_at(alloc, words, *at, *len)?,
         },
         PackedAnswer::Heard { at } => Answer::Heard {
             word: words[*at as usize],
@@ -74,5 +79,5 @@ pub fn unpack_answer(answer: &PackedAnswer, words: &[u64]) -> Answer
         PackedAnswer::Empty => Answer::Empty,
         PackedAnswer::Waits => Answer::Waits,
         PackedAnswer::Refused(refusal) => Answer::Refused(*refusal),
-    }
+    })
 }

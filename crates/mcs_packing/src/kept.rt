@@ -1,12 +1,13 @@
 //! What a book keeps, read where it stands: nothing is unpacked before it is asked for.
-ghost use Rattle.std.specs.Prelude.{◌≡◌};
+ghost use Rattle.std.specs.Prelude.{◌≡◌, IfOk};
 ghost use Rattle.mcs_packing.specs.Kept.{is_sent};
 
 use crate::entries::{PackedEntry, unpack_entry};
 use crate::heads::{PackedAnswer, unpack_answer};
 use crate::packed::Packed;
 use crate::unpacking::unpack;
-use mcs_types::{Answer, CoreId, Kind, ObjId, Rec, Step};
+use mcs_types::{Answer, CoreId, Kind, ObjId, OutOfMemory, Rec, Step};
+use std::alloc::Global;
 use std::marker::Model;
 
 /// A record where it is kept. Clauses see the record.
@@ -30,10 +31,10 @@ impl<'a> Model for KeptRecord<'a> {
 
 impl<'a> KeptRecord<'a> {
     /// The record.
-    pub fn unpack(&self) -> Rec
-        ensures { result ≡ self.now }
+    pub fn unpack(&self, alloc: Global) -> Result<Rec, OutOfMemory>
+        ensures { IfOk result (λ r. r ≡ self.now) }
     {
-        unpack(self.packed, self.words, self.wide)
+        unpack(alloc, self.packed, self.words, self.wide)
     }
 
     /// Whether it is that of a message that was sent.
@@ -75,17 +76,17 @@ impl<'a> Model for KeptStep<'a> {
 
 impl<'a> KeptStep<'a> {
     /// The step.
-    pub fn unpack(&self) -> Step
-        ensures { result ≡ self.now }
+    pub fn unpack(&self, alloc: Global) -> Result<Step, OutOfMemory>
+        ensures { IfOk result (λ s. s ≡ self.now) }
     {
-        Step {
+        Ok(Step {
             core: self.core,
             thread: ObjId {
                 kind: self.kind,
                 serial: self.serial,
             },
-            entry: unpack_entry(self.entry, self.words),
-        }
+            entry: unpack_entry(alloc, self.entry, self.words)?,
+        })
     }
 }
 
@@ -109,9 +110,9 @@ impl<'a> Model for KeptAnswer<'a> {
 
 impl<'a> KeptAnswer<'a> {
     /// The answer.
-    pub fn unpack(&self) -> Answer
-        ensures { result ≡ self.now }
+    pub fn unpack(&self, alloc: Global) -> Result<Answer, OutOfMemory>
+        ensures { IfOk result (λ a. a ≡ self.now) }
     {
-        unpack_answer(self.answer, self.words)
+        unpack_answer(alloc, self.answer, self.words)
     }
 }

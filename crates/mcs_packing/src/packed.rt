@@ -150,6 +150,14 @@ pub enum Packed {
     Untied {
         thread: u32,
     },
+    Homed {
+        context: u32,
+        notification: u32,
+    },
+    /// A context is homed at no notification now.
+    Unhomed {
+        context: u32,
+    },
     /// One that none of these fits, at a place among the wide ones.
     Wide {
         at: u32,
@@ -330,6 +338,20 @@ fn pack_tied(thread: &ObjId, notification: &Option<ObjId>) -> Option<Packed>
     })
 }
 
+/// Packs at which notification a context is homed.
+fn pack_homed(context: &ObjId, notification: &Option<ObjId>) -> Option<Packed>
+    ensures { IsPlain result (Rec.Homed context.now notification.now) }
+{
+    let context = serial_of(context, Kind::Context)?;
+    Some(match notification {
+        None => Packed::Unhomed { context },
+        Some(notification) => Packed::Homed {
+            context,
+            notification: serial_of(notification, Kind::Notification)?,
+        },
+    })
+}
+
 /// Packs who holds a context, is bound to a notification, and what was signalled.
 fn pack_bond(fact: &Rec) -> Option<Packed>
     ensures { IsPlain result fact.now }
@@ -347,6 +369,10 @@ fn pack_bond(fact: &Rec) -> Option<Packed>
             thread,
             notification,
         } => pack_tied(thread, notification),
+        Rec::Homed {
+            context,
+            notification,
+        } => pack_homed(context, notification),
         _ => None,
     }
 }
@@ -387,7 +413,9 @@ fn pack_small(fact: &Rec) -> Option<Packed>
         Rec::Took { .. } | Rec::Dropped { .. } | Rec::Owes { .. } | Rec::Void { .. } => {
             pack_debt(fact)
         }
-        Rec::Holds { .. } | Rec::Raised { .. } | Rec::Tied { .. } => pack_bond(fact),
+        Rec::Holds { .. } | Rec::Raised { .. } | Rec::Tied { .. } | Rec::Homed { .. } => {
+            pack_bond(fact)
+        }
         _ => None,
     }
 }
@@ -408,7 +436,7 @@ impl Arena {
         let sender = serial_of(sender, Kind::Thread)?;
         let endpoint = serial_of(endpoint, Kind::Endpoint)?;
         let len = length_of(message);
-        let at = self.keep(message, badge);
+        let at = self.keep(message, badge)?;
         Some(Packed::Sent {
             mode,
             len,
@@ -426,7 +454,7 @@ impl Arena {
         let reply = serial_of(reply, Kind::Reply)?;
         let caller = serial_of(caller, Kind::Thread)?;
         let len = length_of(message);
-        let at = self.keep(message, Badge(0));
+        let at = self.keep(message, Badge(0))?;
         Some(Packed::Paid {
             len,
             reply,
@@ -514,10 +542,11 @@ impl Arena {
         }
     }
 
-    /// Packs a record, for which there is room. What was packed before stands for what it stood for.
-    pub fn pack(&mut self, fact: &Rec) -> Packed
+    /// Packs a record, for which there is room; it may be moved, and what stands in its place then means nothing. What was packed
+    /// before stands for what it stood for.
+    pub fn pack(&mut self, fact: &mut Rec) -> Packed
         requires { HasRoom self.old 1 }
-        ensures value { record_in result self.new ≡ fact.now }
+        ensures value { record_in result self.new ≡ fact.old }
         ensures fits { FitsIn result self.new }
         ensures grew { Grew self.old self.new }
     {

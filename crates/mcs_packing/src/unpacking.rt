@@ -1,11 +1,12 @@
 //! What packed records stand for.
-ghost use Rattle.std.specs.Prelude.{◌≡◌};
+ghost use Rattle.std.specs.Prelude.{◌≡◌, IfOk};
 ghost use Rattle.mcs_packing.specs.Packing.{Fits, IsOfBond, IsOfDebt, IsOfMessage, IsOfObject, IsOfSlot, IsOfThread, IsOfWord, guarded_cap, queue_on, object, plain_cap, record_of};
 
 use crate::arena::message_at;
 use crate::copying::copy_of;
 use crate::packed::{Packed, Side};
-use mcs_types::{Badge, Cap, Form, Guard, Kind, ObjId, Queue, Rec, Rights};
+use mcs_types::{Badge, Cap, Form, Guard, Kind, ObjId, OutOfMemory, Queue, Rec, Rights};
+use std::alloc::Global;
 
 /// The object of a kind with this serial.
 pub fn id_of(kind: Kind, serial: u32) -> ObjId
@@ -231,6 +232,17 @@ fn unpack_bond(packed: &Packed, words: &[u64], wide: &[Rec]) -> Rec
             thread: id_of(Kind::Thread, *thread),
             notification: None,
         },
+        Packed::Homed {
+            context,
+            notification,
+        } => Rec::Homed {
+            context: id_of(Kind::Context, *context),
+            notification: Some(id_of(Kind::Notification, *notification)),
+        },
+        Packed::Unhomed { context } => Rec::Homed {
+            context: id_of(Kind::Context, *context),
+            notification: None,
+        },
         _ => unreachable!(),
     }
 }
@@ -274,12 +286,17 @@ fn unpack_word(packed: &Packed, words: &[u64], wide: &[Rec]) -> Rec
 }
 
 /// What was sent and paid.
-fn unpack_message(packed: &Packed, words: &[u64], wide: &[Rec]) -> Rec
+fn unpack_message(
+    alloc: Global,
+    packed: &Packed,
+    words: &[u64],
+    wide: &[Rec],
+) -> Result<Rec, OutOfMemory>
     requires of { IsOfMessage packed.now }
     requires fits { Fits packed.now words.now wide.now }
-    ensures { result ≡ record_of packed.now words.now wide.now }
+    ensures { IfOk result (λ r. r ≡ record_of packed.now words.now wide.now) }
 {
-    match packed {
+    Ok(match packed {
         Packed::Sent {
             mode,
             len,
@@ -291,7 +308,7 @@ fn unpack_message(packed: &Packed, words: &[u64], wide: &[Rec]) -> Rec
             endpoint: id_of(Kind::Endpoint, *endpoint),
             mode: *mode,
             badge: Badge(words[*at as usize + 1 + *len as usize]),
-            message: message_at(words, *at, *len),
+            message: message_at(alloc, words, *at, *len)?,
         },
         Packed::Paid {
             len,
@@ -301,18 +318,23 @@ fn unpack_message(packed: &Packed, words: &[u64], wide: &[Rec]) -> Rec
         } => Rec::Paid {
             reply: id_of(Kind::Reply, *reply),
             caller: id_of(Kind::Thread, *caller),
-            message: message_at(words, *at, *len),
+            message: message_at(alloc, words, *at, *len)?,
         },
         _ => unreachable!(),
-    }
+    })
 }
 
-/// The record that a packed one stands for.
-pub fn unpack(packed: &Packed, words: &[u64], wide: &[Rec]) -> Rec
+/// The record that a packed one stands for. A message of four words takes no memory.
+pub fn unpack(
+    alloc: Global,
+    packed: &Packed,
+    words: &[u64],
+    wide: &[Rec],
+) -> Result<Rec, OutOfMemory>
     requires { Fits packed.now words.now wide.now }
-    ensures { result ≡ record_of packed.now words.now wide.now }
+    ensures { IfOk result (λ r. r ≡ record_of packed.now words.now wide.now) }
 {
-    match packed {
+    Ok(match packed {
         Packed::Made { .. } | Packed::MadeOn { .. } | Packed::Closed { .. } => {
             unpack_object(packed, words, wide)
         }
@@ -331,11 +353,13 @@ pub fn unpack(packed: &Packed, words: &[u64], wide: &[Rec]) -> Rec
         | Packed::Unheld { .. }
         | Packed::Raised { .. }
         | Packed::Tied { .. }
-        | Packed::Untied { .. } => unpack_bond(packed, words, wide),
+        | Packed::Untied { .. }
+        | Packed::Homed { .. }
+        | Packed::Unhomed { .. } => unpack_bond(packed, words, wide),
         Packed::FilledBadged { .. } | Packed::FilledGuarded { .. } | Packed::Heard { .. } => {
             unpack_word(packed, words, wide)
         }
-        Packed::Sent { .. } | Packed::Paid { .. } => unpack_message(packed, words, wide),
-        Packed::Wide { at } => copy_of(&wide[*at as usize]),
-    }
+        Packed::Sent { .. } | Packed::Paid { .. } => unpack_message(alloc, packed, words, wide)?,
+        Packed::Wide { at } => copy_of(alloc, &wide[*at as usize])?,
+    })
 }

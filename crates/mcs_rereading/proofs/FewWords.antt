@@ -1,6 +1,7 @@
--- Each message of a legal book has few words: in a record, and in an answer.
-use Rattle.std.specs.Prelude.{ℕ, ◌≤◌, Bool, true, false, cond, ◌≡◌, List, [], ◌∷◌, Option, Some, None, Ok, Err, refl, length, find}
+-- Each message of a legal book has few words, each of 64 bits: in a record, and in an answer.
+use Rattle.std.specs.Prelude.{ℕ, Bool, true, false, cond, ◌≡◌, List, [], ◌∷◌, Option, Some, None, Ok, Err, refl, find}
 use Rattle.std.proofs.Common.{subst}
+use Rattle.mcs_types.specs.Ranges.{IsMessage}
 use Rattle.mcs_types.specs.Views.{Content}
 use Rattle.mcs_types.specs.declared.id.ObjId.{ObjId}
 use Rattle.mcs_types.specs.declared.id.CoreId.{CoreId}
@@ -29,6 +30,7 @@ use Rattle.mcs_book.specs.Sending.{sends_to, sends, queues, send_by, send_over}
 use Rattle.mcs_book.specs.Taking.{taken}
 use Rattle.mcs_book.specs.Receiving.{joins_or, hear, take_open, open_of_any, pending_of_any, receive_message, receive_on, free, wait_on, receive_by, receive_over, reply_receive, pay_any}
 use Rattle.mcs_book.specs.Placing.{delete, make}
+use Rattle.mcs_book.specs.Binding.{bind_by}
 use Rattle.mcs_book.specs.Table.{row, wakes, outcome_of, does}
 use Rattle.mcs_book.specs.Each.{Each}
 use Rattle.mcs_book.proofs.Books.Checking.{OnPassed, passed-ok, passed-err, passed-after, passed-bind, passed-next}
@@ -36,27 +38,27 @@ use Rattle.mcs_book.proofs.SoundLogs.Keeping.{onto-append}
 
 -- ---- records
 
--- the message of a record has at most four words
+-- the message of a record is in its ranges: it has at most so many words as a message may have, each of 64 bits
 abbrev pub HasFewWords : Log → Rec → Type 0
-HasFewWords R (rec.Sent x e mode badge message) = length message.words ≤ 4
-HasFewWords R (rec.Paid r x message) = length message.words ≤ 4
+HasFewWords R (rec.Sent x e mode badge message) = IsMessage message
+HasFewWords R (rec.Paid r x message) = IsMessage message
 HasFewWords R _ = Unit {0}
 
 -- so has a message that is found among those sent
-found-few : (p : Letter → Bool) (R : Log) (s : Letter) → Each HasFewWords R → find p (letters R) ≡ Some s → length s.message.words ≤ 4
+found-few : (p : Letter → Bool) (R : Log) (s : Letter) → Each HasFewWords R → find p (letters R) ≡ Some s → IsMessage s.message
 found-few p [] s few h = absurd cc
 found-few p (rec.Sent x e mode badge message ∷ R) s few h = go (p new) h (found-few p R s few.1)
   where
     new : Letter
     new = record { number = next_message R; sender = x; endpoint = e; mode = mode; badge = badge; message = message }
 
-    go : (b : Bool) → cond b (Some new) (find p (letters R)) ≡ Some s → (find p (letters R) ≡ Some s → length s.message.words ≤ 4) → length s.message.words ≤ 4
-    go true is later = let it : new ≡ s = cc in subst (λ (l : Letter). length l.message.words ≤ 4) it few.0
+    go : (b : Bool) → cond b (Some new) (find p (letters R)) ≡ Some s → (find p (letters R) ≡ Some s → IsMessage s.message) → IsMessage s.message
+    go true is later = let it : new ≡ s = cc in subst (λ (l : Letter). IsMessage l.message) it few.0
     go false is later = later is
 found-few p (_ ∷ R) s few h = found-few p R s few.1 h
 
 -- so has an open message of somebody
-open-few : (R : Log) (x : Option ObjId) (s : Letter) → Each HasFewWords R → open_of_any R x ≡ Some s → length s.message.words ≤ 4
+open-few : (R : Log) (x : Option ObjId) (s : Letter) → Each HasFewWords R → open_of_any R x ≡ Some s → IsMessage s.message
 unfolding open_of
 open-few R None s few h = absurd cc
 open-few R (Some x) s few h = found-few _ R s few h
@@ -68,9 +70,9 @@ each-before P R (r ∷ made) h = (each-before P (r ∷ R) made h).1
 
 -- ---- answers
 
--- the message of an answer has at most four words
+-- so is the message of an answer
 abbrev pub FewAnswer : Answer → Type 0
-FewAnswer (ans.Got b m) = length m.words ≤ 4
+FewAnswer (ans.Got b m) = IsMessage m
 FewAnswer _ = Unit {0}
 
 -- an act answers few words after a log, where all messages have few
@@ -191,6 +193,16 @@ few-make : (R : Log) (t : ObjId) (kd : Kind) (rights : ℕ) (f : Form) (place : 
 unfolding make
 few-make R t kd rights f place = passed-bind _ _ _ (λ at. passed-next _ _ _ (passed-next _ _ _ (few-done _)))
 
+-- a context is bound
+few-bind_by : (kd : Kind) (R : Log) (s o : ObjId) → OnPassed FewAct (bind_by kd R s o)
+unfolding bind_by
+few-bind_by kind.Thread R s o = passed-next _ _ _ (few-done _)
+few-bind_by kind.Notification R s o = passed-next _ _ _ (few-done _)
+few-bind_by kind.CNode R s o = passed-err _ _
+few-bind_by kind.Endpoint R s o = passed-err _ _
+few-bind_by kind.Reply R s o = passed-err _ _
+few-bind_by kind.Context R s o = passed-err _ _
+
 -- what a row of the table does
 few-row : (R : Log) (core : CoreId) (t : ObjId) (e : Entry) → OnPassed FewAct (row R core t e)
 unfolding row
@@ -208,7 +220,7 @@ few-row R core t (Suspend x) = passed-bind _ _ _ (λ thread. few-done _)
 few-row R core t (Resume x) = passed-bind _ _ _ (λ thread. few-done _)
 few-row R core t (BindNtfn x n) = passed-bind _ _ _ (λ thread. passed-bind _ _ _ (λ cap. passed-next _ _ _ (passed-next _ _ _ (few-done _))))
 few-row R core t (UnbindNtfn x) = passed-bind _ _ _ (λ thread. passed-next _ _ _ (few-done _))
-few-row R core t (BindCtx s x) = passed-bind _ _ _ (λ context. passed-bind _ _ _ (λ thread. passed-next _ _ _ (few-done _)))
+few-row R core t (BindCtx s x) = passed-bind _ _ _ (λ context. passed-bind _ _ _ (λ target. few-bind_by target.obj.kind R context.obj target.obj))
 few-row R core t (UnbindCtx s) = passed-bind _ _ _ (λ context. passed-next _ _ _ (few-done _))
 few-row R core t (CancelBadged a) = passed-bind _ _ _ (λ cap. passed-next _ _ _ (few-done _))
 few-row R core t (CopyCap source dest rights) = passed-bind _ _ _ (λ at. few-done _)

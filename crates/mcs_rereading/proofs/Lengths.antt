@@ -1,10 +1,15 @@
 -- How many bytes the words of a line have.
-use Rattle.std.proofs.Common.{◌≡◌, ℕ, zero, suc, ◌+◌, ◌*◌, ◌/◌, ◌%◌, ◌≤◌, Bool, true, false, if◌then◌else◌, eqb, leb, List, [], ◌∷◌, ◌++◌, Option, Some, None, length, refl, ap, ◌∙◌, length-append, arith, decimal}
+use Rattle.std.proofs.Common.{◌≡◌, ℕ, zero, suc, ◌+◌, ◌*◌, ◌/◌, ◌%◌, ◌≤◌, Bool, true, false, if◌then◌else◌, eqb, leb, List, [], ◌∷◌, ◌++◌, Option, Some, None, length, refl, subst, ap, ◌∙◌, length-append, arith, decimal}
 use Rattle.std.specs.Prelude.{bit_and, map}
-use Rattle.std.specs.List.{flat_map}
+use Rattle.std.specs.List.{flat_map, AllByRecursion}
 use Rattle.std.specs.Fmt.{digits, digits_onto, digit_glyph}
 use Rattle.std.proofs.lemmas.Bool.{leb-true}
+use Rattle.std.proofs.lemmas.Fmt.{length-decimal-le}
+use Rattle.std.proofs.lemmas.List.{append-nil}
 use Rattle.std.proofs.lemmas.List.Concat.{flat_map-cons}
+use Rattle.std.proofs.lemmas.List.Elements.{recursion_from_All}
+use Rattle.mcs_types.specs.Ranges.{IsWord, IsMessage}
+use Rattle.mcs_types.specs.Views.{Content}
 use Rattle.mcs_types.specs.declared.id.ObjId.{ObjId}
 use Rattle.mcs_types.specs.declared.id.Kind.{Kind}
 use Rattle.mcs_types.specs.declared.id.Kind.TheVariants as kind
@@ -17,7 +22,7 @@ use Rattle.mcs_text.specs.declared.token.Token.{Token}
 use Rattle.mcs_text.specs.declared.token.Token.TheVariants as tok
 use Rattle.mcs_text.specs.Keys.{key_text}
 use Rattle.mcs_text.specs.Spelling.{name_text, maybe_text, letter_if, rights_text, then_text, cap_rest, cap_text, held_text, queue_name, queue_end, token_text}
-use Rattle.mcs_text.specs.Table.{Form, form_line, form_words}
+use Rattle.mcs_text.specs.Table.{Form, form_line}
 
 -- ---- words
 
@@ -35,6 +40,10 @@ length-digits_onto (suc k) n acc = go (eqb (n / 10) 0) (length-digits_onto k (n 
 length-decimal : (n : ℕ) → length (decimal n) ≤ 64
 unfolding digits
 length-decimal n = omega (arith, length-digits_onto 64 n [])
+
+-- one of 64 bits by at most 20
+length-word : (n : ℕ) → IsWord n → length (decimal n) ≤ 20
+length-word n word = length-decimal-le 20 n (omega arith) (omega (arith, word)) word
 
 -- a letter and a number
 length-name : (o : ObjId) → length (name_text o) ≤ 65
@@ -138,28 +147,53 @@ length-token (tok.Line q) = omega (arith, length-append (name_text (queue_name q
 
 -- ---- lines
 
--- numbers with a space before each
-length-numbers : (ns : List ℕ) → length (flat_map then_text (map decimal ns)) ≤ 201 * length ns
-length-numbers [] = omega arith
-length-numbers (n ∷ ns) =
-    let split : length (flat_map then_text (map decimal (n ∷ ns))) ≡ suc (length (decimal n)) + length (flat_map then_text (map decimal ns)) =
-    ap length (flat_map-cons then_text (decimal n) (map decimal ns)) ∙ length-append (then_text (decimal n)) (flat_map then_text (map decimal ns)) in
-    omega (arith, split, length-decimal n, length-numbers ns)
+-- the words of a message with a space before each: at most 20 digits and the space for each
+length-message : (ms : List ℕ) → AllByRecursion IsWord ms → length (flat_map then_text (map decimal ms)) ≤ 21 * length ms
+length-message [] hs = omega arith
+length-message (m ∷ ms) hs =
+    let split : length (flat_map then_text (map decimal (m ∷ ms))) ≡ suc (length (decimal m)) + length (flat_map then_text (map decimal ms)) =
+    ap length (flat_map-cons then_text (decimal m) (map decimal ms)) ∙ length-append (then_text (decimal m)) (flat_map then_text (map decimal ms)) in
+    omega (arith, split, length-word m hs.0, length-message ms hs.1)
 
--- words with a space before each
-length-words : (ts : List Token) (ns : List ℕ) → length (flat_map then_text (map token_text ts ++ map decimal ns)) ≤ 201 * (length ts + length ns)
-length-words [] ns = omega (arith, length-numbers ns)
-length-words (t ∷ ts) ns =
-    let rest : List (List ℕ) = map token_text ts ++ map decimal ns in
+-- numbers of any size before them
+length-numbers : (ns ms : List ℕ) → AllByRecursion IsWord ms → length (flat_map then_text (map decimal (ns ++ ms))) ≤ 201 * length ns + 21 * length ms
+length-numbers [] ms hs = omega (arith, length-message ms hs)
+length-numbers (n ∷ ns) ms hs =
+    let split : length (flat_map then_text (map decimal (n ∷ ns ++ ms))) ≡ suc (length (decimal n)) + length (flat_map then_text (map decimal (ns ++ ms))) =
+    ap length (flat_map-cons then_text (decimal n) (map decimal (ns ++ ms))) ∙ length-append (then_text (decimal n)) (flat_map then_text (map decimal (ns ++ ms))) in
+    omega (arith, split, length-decimal n, length-numbers ns ms hs)
+
+-- other words before these
+length-words : (ts : List Token) (ns ms : List ℕ) → AllByRecursion IsWord ms
+    → length (flat_map then_text (map token_text ts ++ map decimal (ns ++ ms))) ≤ 201 * (length ts + length ns) + 21 * length ms
+length-words [] ns ms hs = omega (arith, length-numbers ns ms hs)
+length-words (t ∷ ts) ns ms hs =
+    let rest : List (List ℕ) = map token_text ts ++ map decimal (ns ++ ms) in
     let split : length (flat_map then_text (token_text t ∷ rest)) ≡ suc (length (token_text t)) + length (flat_map then_text rest) =
     ap length (flat_map-cons then_text (token_text t) rest) ∙ length-append (then_text (token_text t)) (flat_map then_text rest) in
-    omega (arith, split, length-token t, length-words ts ns)
+    omega (arith, split, length-token t, length-words ts ns ms hs)
 
--- a form of few words
+-- a form whose line is short
 unfoldable pub IsSmall : Form → Type 0
-IsSmall f = length f.others + length f.numbers ≤ 14
+IsSmall f = length (form_line f) ≤ 4096
+
+-- the line of a form with the words of a message behind few other words
+small-message : (first : Token) (ts : List Token) (ns ms : List ℕ) → AllByRecursion IsWord ms → 201 * (length ts + length ns) + 21 * length ms ≤ 3896
+    → IsSmall (record { first = first; others = ts; numbers = ns ++ ms })
+unfolding IsSmall
+small-message first ts ns ms words few =
+    omega (arith, length-append (token_text first) (flat_map then_text (map token_text ts ++ map decimal (ns ++ ms))), length-token first, length-words ts ns ms words, few)
+
+-- so is one with a message, and at most six others behind the first
+pub small-with : (first : Token) (ts : List Token) (ns : List ℕ) (m : Content) → IsMessage m → length ts + length ns ≤ 6
+    → IsSmall (record { first = first; others = ts; numbers = ns ++ m.words })
+small-with first ts ns m is few = small-message first ts ns m.words (recursion_from_All IsWord m.words is.words) (omega (arith, few, is.few))
+
+-- so is one of few words and no message
+pub small-few : (f : Form) → length f.others + length f.numbers ≤ 14 → IsSmall f
+small-few f few = subst (λ (ns : List ℕ). IsSmall (record { first = f.first; others = f.others; numbers = ns })) (append-nil f.numbers) (small-message f.first f.others f.numbers [] tt (omega (arith, few)))
 
 -- its line is no longer than a line of a script may be
 pub length-line : (f : Form) → IsSmall f → length (form_line f) ≤ 4096
 unfolding IsSmall
-length-line f few = omega (arith, length-append (token_text f.first) (flat_map then_text (form_words f)), length-token f.first, length-words f.others f.numbers, few)
+length-line f small = small

@@ -51,7 +51,7 @@ pub read_line-spelled : (s : Script Step) (n : ℕ) (line : List ℕ) → n ≤ 
 unfolding read_line
 read_line-spelled s n line few short spelled = rw (le-ltb 2000000 n few, le-ltb 4096 (length line) short, spelled) refl
 
--- forms of few words
+-- forms of short lines
 unfoldable pub AreSmall : List Form → Type 0
 AreSmall [] = Unit {0}
 AreSmall (f ∷ fs) = IsSmall f × AreSmall fs

@@ -1,5 +1,5 @@
--- Each line of a legal book has forms of few words.
-use Rattle.std.specs.Prelude.{ℕ, ◌≤◌, ◌≡◌, List, [], ◌∷◌, Option, Some, None, length}
+-- Each line of a legal book has forms whose lines are short.
+use Rattle.std.specs.Prelude.{ℕ, ◌+◌, ◌≤◌, ◌≡◌, List, [], ◌∷◌, Option, Some, None, length}
 use Rattle.std.proofs.Common.{sym, subst, arith}
 use Rattle.mcs_types.specs.Views.{Content}
 use Rattle.mcs_types.specs.declared.id.ObjId.{ObjId}
@@ -16,7 +16,7 @@ use Rattle.mcs_types.specs.declared.entry.Answer.{Answer}
 use Rattle.mcs_types.specs.declared.entry.Answer.TheVariants as ans
 use Rattle.mcs_book.specs.Logs.{Log, onto}
 use Rattle.mcs_book.specs.Boots.{boot_line, boot_log}
-use Rattle.mcs_types.specs.Ranges.{InRange}
+use Rattle.mcs_types.specs.Ranges.{IsMessage, InRange}
 use Rattle.mcs_book.specs.Table.{does}
 use Rattle.mcs_book.specs.History.{Line, Book, IsLegal, Follows, AreLegal, past}
 use Rattle.mcs_book.specs.Each.{Each, EachOf, EachLineAfter}
@@ -26,26 +26,26 @@ use Rattle.mcs_book.proofs.SoundLogs.SoundBooks.{legal-sound}
 use Rattle.mcs_book.proofs.WholeMessages.Lines.{legal-whole, sound-answers_whole}
 use Rattle.mcs_text.specs.Table.{entry_form, answer_form, rec_form, joins_form}
 use Rattle.mcs_sim.specs.Trace.{sent_with}
-use Rattle.mcs_rereading.proofs.Lengths.{IsSmall}
+use Rattle.mcs_rereading.proofs.Lengths.{IsSmall, small-few, small-with}
 use Rattle.mcs_rereading.proofs.Lines.{record_forms, line_forms}
 use Rattle.mcs_rereading.proofs.Scripts.{AreSmall}
 use Rattle.mcs_rereading.proofs.FewWords.{HasFewWords, FewAnswer, few-does}
 
--- the message that an entry carries has at most four words
-carried-few : (e : Entry) (m : Content) → InRange e → carried e ≡ Some m → length m.words ≤ 4
-carried-few (Send a message) m h is = let it : message ≡ m = cc in subst (λ (c : Content). length c.words ≤ 4) it h.1.few
-carried-few (NbSend a message) m h is = let it : message ≡ m = cc in subst (λ (c : Content). length c.words ≤ 4) it h.1.few
-carried-few (Call a message) m h is = let it : message ≡ m = cc in subst (λ (c : Content). length c.words ≤ 4) it h.1.few
-carried-few (ReplyRecv a r message) m h is = let it : message ≡ m = cc in subst (λ (c : Content). length c.words ≤ 4) it h.2.few
+-- the message that an entry carries is in its ranges
+carried-few : (e : Entry) (m : Content) → InRange e → carried e ≡ Some m → IsMessage m
+carried-few (Send a message) m h is = let it : message ≡ m = cc in subst IsMessage it h.1
+carried-few (NbSend a message) m h is = let it : message ≡ m = cc in subst IsMessage it h.1
+carried-few (Call a message) m h is = let it : message ≡ m = cc in subst IsMessage it h.1
+carried-few (ReplyRecv a r message) m h is = let it : message ≡ m = cc in subst IsMessage it h.2
 carried-few _ m h is = absurd cc
 
--- so has that of a record
+-- so is that of a record
 few-record : (R after S : Log) (l : Line) (r : Rec) → InRange l.step.entry → IsSentWhole R l S r → IsPaidWhole after l S r → HasFewWords S r
 few-record R after S l (rec.Sent x e mode badge message) range sent paid = carried-few l.step.entry message range sent.1
 few-record R after S l (rec.Paid r x message) range sent paid = carried-few l.step.entry message range paid.0
 few-record R after S l _ range sent paid = tt
 
--- so have those of the records of a line
+-- so are those of the records of a line
 few-records : (R after S : Log) (l : Line) (rs : List Rec) → InRange l.step.entry → EachOf (IsSentWhole R l) S rs → EachOf (IsPaidWhole after l) S rs → EachOf HasFewWords S rs
 few-records R after S l [] range sent paid = tt
 few-records R after S l (r ∷ rs) range sent paid = (few-record R after S l r range sent.0 paid.0, few-records R after (r ∷ S) l rs range sent.1 paid.1)
@@ -83,18 +83,16 @@ few-past B (l ∷ ls) boot few = each-onto HasFewWords (past B ls) l.records (fe
 
 -- a thread that joins a line
 small-joins : (t : ObjId) (q : Queue) (r : Option ObjId) → IsSmall (joins_form t q r)
-unfolding IsSmall
-small-joins t (Senders e) r = omega arith
-small-joins t (Receivers e) r = omega arith
-small-joins t (Waiters n) r = omega arith
+small-joins t (Senders e) r = small-few _ (omega arith)
+small-joins t (Receivers e) r = small-few _ (omega arith)
+small-joins t (Waiters n) r = small-few _ (omega arith)
 
 -- the form of a record of few words
 small-record : (R : Log) (n : ℕ) (r : Rec) → HasFewWords R r → IsSmall (rec_form n r)
-unfolding IsSmall
 small-record R n (rec.Joins t q r) h = small-joins t q r
-small-record R n (rec.Sent x e mode badge message) h = omega (arith, h)
-small-record R n (rec.Paid r x message) h = omega (arith, h)
-small-record R n _ h = omega arith
+small-record R n (rec.Sent x e mode badge message) h = small-with _ _ (badge.0 ∷ message.label ∷ []) message h (omega arith)
+small-record R n (rec.Paid r x message) h = small-with _ _ (message.label ∷ []) message h (omega arith)
+small-record R n _ h = small-few _ (omega arith)
 
 -- the forms of such records
 small-records : (R : Log) (n : ℕ) (rs : List Rec) → EachOf HasFewWords R rs → AreSmall (record_forms n rs)
@@ -104,18 +102,16 @@ small-records R n (r ∷ rs) h = (small-record R n r h.0, small-records (r ∷ R
 
 -- the form of an answer of few words
 small-answer : (a : Answer) → FewAnswer a → IsSmall (answer_form a)
-unfolding IsSmall
-small-answer (ans.Got b m) h = omega (arith, h)
-small-answer _ h = omega arith
+small-answer (ans.Got b m) h = small-with _ _ (b.0 ∷ m.label ∷ []) m h (omega arith)
+small-answer _ h = small-few _ (omega arith)
 
 -- the form of a step
 small-entry : (s : Step) (e : Entry) → InRange e → IsSmall (entry_form s e)
-unfolding IsSmall
-small-entry s (Send a message) h = omega (arith, h.1.few)
-small-entry s (NbSend a message) h = omega (arith, h.1.few)
-small-entry s (Call a message) h = omega (arith, h.1.few)
-small-entry s (ReplyRecv a r message) h = omega (arith, h.2.few)
-small-entry s _ h = omega arith
+small-entry s (Send a message) h = small-with _ _ (a ∷ message.label ∷ []) message h.1 (omega arith)
+small-entry s (NbSend a message) h = small-with _ _ (a ∷ message.label ∷ []) message h.1 (omega arith)
+small-entry s (Call a message) h = small-with _ _ (a ∷ message.label ∷ []) message h.1 (omega arith)
+small-entry s (ReplyRecv a r message) h = small-with _ _ (a ∷ r ∷ message.label ∷ []) message h.2 (omega arith)
+small-entry s _ h = small-few _ (omega arith)
 
 -- the forms of a line that follows a log of few words
 small-line : (R : Log) (l : Line) → Follows R l → Each HasFewWords R → EachOf HasFewWords R l.records → (n : ℕ) → AreSmall (line_forms n l)

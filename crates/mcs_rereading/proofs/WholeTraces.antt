@@ -13,7 +13,7 @@ use Rattle.mcs_text.specs.Reading.{lines_of, words_of}
 use Rattle.mcs_sim.specs.Trace.{sent_with, sent_after, sent_in, trace}
 use Rattle.mcs_sim.specs.Script.{Script, of_steps, no_script, spelled, read_line, script_from, script_of, steps}
 use Rattle.mcs_rereading.proofs.TextBytes.{boot_line-first, answer_line-first}
-use Rattle.mcs_rereading.proofs.Lengths.{IsSmall, length-line}
+use Rattle.mcs_rereading.proofs.Lengths.{IsSmall, length-line, small-few}
 use Rattle.mcs_rereading.proofs.Lines.{record_forms, line_forms, lines_forms, trace_forms, lines_of-trace}
 use Rattle.mcs_rereading.proofs.Scripts.{Takes, takes-none, takes-one, takes-then, takes-records, read_line-skipped, read_line-spelled, so_far, AreSmall, IsStepAgain, read_line-step}
 
@@ -32,11 +32,14 @@ unfoldable pub AreBootAgain : ℕ → List BootLine → Type 0
 AreBootAgain cores [] = Unit {0}
 AreBootAgain cores (line ∷ lines) = IsBootAgain cores lines line × AreBootAgain cores lines
 
--- the forms of the boot have few words
+-- a form of the boot has few words
+few-boot : (line : BootLine) → length (boot_form line).others + length (boot_form line).numbers ≤ 14
+few-boot boot.Endpoint = omega arith
+few-boot _ = omega arith
+
+-- so its line is short
 small-boot : (line : BootLine) → IsSmall (boot_form line)
-unfolding IsSmall
-small-boot boot.Endpoint = omega arith
-small-boot _ = omega arith
+small-boot line = small-few (boot_form line) (few-boot line)
 
 -- one more at the end
 reverse-more : {A : Type 0} (x : A) (xs : List A) → reverse (x ∷ xs) ≡ reverse xs ++ x ∷ []
@@ -124,10 +127,9 @@ pub record IsAgain (b : Book) : Type 0 where
   pub boot : AreBootAgain b.boot.cores b.boot.lines
   pub lines : AreLinesAgain b.boot b.lines
 
--- the form of the number of cores has few words
+-- the line of the number of cores is short
 small-cores : (n : ℕ) → IsSmall (cores_form n)
-unfolding IsSmall
-small-cores n = omega arith
+small-cores n = small-few (cores_form n) (omega arith)
 
 -- the trace of such a book, read again, gives its boot and its steps
 pub trace-again : (b : Book) → IsAgain b → length (lines_of (trace b)) ≤ 2000000 → steps (trace b) ≡ (record { boot = Some b.boot; items = steps_of b }, None)

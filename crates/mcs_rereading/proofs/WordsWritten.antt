@@ -183,13 +183,13 @@ kept-behind front (w ∷ ws) ms h =
 
     go : Behind → (o : Option ℕ) → number w ≡ Ok o → kept_after (push_kept (Some front) o) ws ≡ Ok (Some ms) → (tail : List ℕ) × (ms ≡ front ++ tail) × (w ∷ ws ≡ map decimal tail)
     go later None e k = absurd (kept-none ws ms k)
-    go later (Some m) e k = more later m e (nat_lt (length front) 4) k
+    go later (Some m) e k = more later m e (nat_lt (length front) 120) k
 
 content-parts : (label : Option ℕ) (kept : Option (List ℕ)) (m : Content) → content label kept ≡ Ok m → (label ≡ Some m.label) × (kept ≡ Some m.words)
 unfolding content
 content-parts None kept m h = absurd (cc)
 content-parts (Some l) None m h = absurd (cc)
-content-parts (Some l) (Some words) m h = go (nat_lt l 4503599627370496 && nat_le (length words) 4) h
+content-parts (Some l) (Some words) m h = go (nat_lt l 4503599627370496 && nat_le (length words) 120) h
   where
     go : (b : Bool) → Path (Result Content LineFault) (cond b (Ok (record { label = l; words = words })) (Err Number)) (Ok m) → Path (Option ℕ) (Some l) (Some m.label) × Path (Option (List ℕ)) (Some words) (Some m.words)
     go true k =

@@ -1,12 +1,14 @@
-//! The first example as calls of the kernel.
+//! The first example, and a long call with its answer, as calls of the kernel.
 
 use mcs_book::Book;
 use mcs_kernel::{Boot, EnterFault, Kernel};
 use mcs_queues::LinkedLines;
 use mcs_sim::{SimFault, Sink, trace};
 use mcs_types::{
-    Badge, BootFault, BootLine, Cap, CoreId, Entry, Guard, Kind, Message, ObjId, Prio, Rights,
+    Badge, BootFault, BootLine, Cap, CoreId, Entry, Guard, Kind, MESSAGE_WORDS, Mail, Message,
+    ObjId, OutOfMemory, Prio, Rights, Status,
 };
+use std::alloc::Global;
 
 /// The objects that are made first.
 const OBJECTS: [BootLine; 11] = [
@@ -65,6 +67,12 @@ impl From<EnterFault> for Failed {
     }
 }
 
+impl From<OutOfMemory> for Failed {
+    fn from(_fault: OutOfMemory) -> Failed {
+        Failed
+    }
+}
+
 impl From<SimFault> for Failed {
     fn from(_fault: SimFault) -> Failed {
         Failed
@@ -110,10 +118,10 @@ fn add(boot: &mut Boot, line: &BootLine) -> Result<(), Failed> {
 }
 
 /// The boot of the example.
-fn booted(rt: &HostRuntime) -> Result<Boot, Failed> {
-    let mut boot = match Boot::new(rt.alloc(), 1) {
+pub fn booted(alloc: Global) -> Result<Boot, Failed> {
+    let mut boot = match Boot::new(alloc, 1) {
         Ok(boot) => boot,
-        Err(_) => Boot::new(rt.alloc(), 1)?,
+        Err(_) => Boot::new(alloc, 1)?,
     };
     for line in &OBJECTS {
         add(&mut boot, line)?;
@@ -128,36 +136,82 @@ fn booted(rt: &HostRuntime) -> Result<Boot, Failed> {
     Ok(boot)
 }
 
-/// Sends from the first thread, once more where memory was refused; a refusal adds no line.
-fn send(rt: &HostRuntime, kernel: &mut Kernel<LinkedLines>) -> Result<(), Failed> {
-    let message = Message::new(7, &[5, 6]).ok_or(Failed)?;
-    let sender = object(Kind::Thread, 1);
-    let before = kernel.book().lines();
-    let entry = Entry::Send {
-        cap: 1,
-        message: message.copy(),
+/// A message of so many words, 5 and 6 first, asked for once more where memory was refused.
+fn message(alloc: Global, label: u64, count: usize) -> Result<Message, Failed> {
+    let mut words = [0; MESSAGE_WORDS];
+    for (i, word) in words.iter_mut().enumerate() {
+        *word = (i as u64).wrapping_add(5);
+    }
+    let words = words.get(..count).ok_or(Failed)?;
+    let made = match Message::new(alloc, label, words) {
+        Ok(made) => made,
+        Err(OutOfMemory) => Message::new(alloc, label, words)?,
     };
-    match kernel.enter(rt.alloc(), CoreId(0), sender, entry) {
-        Ok(_) => Ok(()),
-        Err(EnterFault::OutOfMemory) if kernel.book().lines() == before => {
-            let entry = Entry::Send { cap: 1, message };
-            kernel.enter(rt.alloc(), CoreId(0), sender, entry)?;
-            Ok(())
-        }
-        Err(_) => Err(Failed),
+    made.ok_or(Failed)
+}
+
+/// An equal entry, asked for once more where memory was refused.
+pub fn copy(alloc: Global, entry: &Entry) -> Result<Entry, Failed> {
+    match entry.copy(alloc) {
+        Ok(entry) => Ok(entry),
+        Err(OutOfMemory) => Ok(entry.copy(alloc)?),
     }
 }
 
-/// Receives in the second thread, once more where memory was refused; a refusal adds no line.
-fn receive(rt: &HostRuntime, kernel: &mut Kernel<LinkedLines>) -> Result<(), Failed> {
-    let receiver = object(Kind::Thread, 2);
-    let before = kernel.book().lines();
-    let entry = Entry::Recv { cap: 2, reply: 8 };
-    match kernel.enter(rt.alloc(), CoreId(0), receiver, entry) {
+/// What the threads of the example enter: the first message is received, and then a call of 120 words, which is answered with 60
+/// by a reply and receive.
+pub fn entries(alloc: Global) -> Result<[(ObjId, Entry); 5], Failed> {
+    let (first, second) = (object(Kind::Thread, 1), object(Kind::Thread, 2));
+    let (cap, reply) = (2, 8);
+    let sends = Entry::Send {
+        cap: 1,
+        message: message(alloc, 7, 2)?,
+    };
+    let calls = Entry::Call {
+        cap,
+        message: message(alloc, 8, MESSAGE_WORDS)?,
+    };
+    let replies = Entry::ReplyRecv {
+        cap,
+        reply,
+        message: message(alloc, 9, MESSAGE_WORDS / 2)?,
+    };
+    Ok([
+        (first, sends),
+        (second, Entry::Recv { cap, reply }),
+        (first, calls),
+        (second, Entry::Recv { cap, reply }),
+        (second, replies),
+    ])
+}
+
+/// What a kernel tells of a thread: what it does, and the label and the number of words of its mail.
+fn told(kernel: &Kernel<LinkedLines>, thread: ObjId) -> (Option<Status>, Option<(u64, usize)>) {
+    let mail = match kernel.mail(thread) {
+        Some(Mail::Message { message, .. }) => Some((message.label(), message.words().len())),
+        _ => None,
+    };
+    (kernel.status(thread), mail)
+}
+
+/// What a kernel tells: how many lines its book has, and of the two threads.
+fn seen(kernel: &Kernel<LinkedLines>) -> (usize, [(Option<Status>, Option<(u64, usize)>); 2]) {
+    let threads = [1, 2].map(|serial| told(kernel, object(Kind::Thread, serial)));
+    (kernel.book().lines(), threads)
+}
+
+/// Enters, once more where memory was refused; a refusal changes nothing.
+fn enter(
+    alloc: Global,
+    kernel: &mut Kernel<LinkedLines>,
+    thread: ObjId,
+    entry: &Entry,
+) -> Result<(), Failed> {
+    let before = seen(kernel);
+    match kernel.enter(alloc, CoreId(0), thread, copy(alloc, entry)?) {
         Ok(_) => Ok(()),
-        Err(EnterFault::OutOfMemory) if kernel.book().lines() == before => {
-            let entry = Entry::Recv { cap: 2, reply: 8 };
-            kernel.enter(rt.alloc(), CoreId(0), receiver, entry)?;
+        Err(EnterFault::OutOfMemory) if seen(kernel) == before => {
+            kernel.enter(alloc, CoreId(0), thread, copy(alloc, entry)?)?;
             Ok(())
         }
         Err(_) => Err(Failed),
@@ -165,23 +219,24 @@ fn receive(rt: &HostRuntime, kernel: &mut Kernel<LinkedLines>) -> Result<(), Fai
 }
 
 /// The trace of a book as a text, written once more where memory was refused.
-fn text_of(rt: &HostRuntime, book: &Book) -> Result<Vec<u8>, Failed> {
-    let mut text = Vec::new(rt.alloc());
-    if trace(book, &mut Sink::new(rt.alloc(), &mut text)).is_err() {
+pub fn text_of(alloc: Global, book: &Book) -> Result<Vec<u8>, Failed> {
+    let mut text = Vec::new(alloc);
+    if trace(book, &mut Sink::new(alloc, &mut text)).is_err() {
         text.clear();
-        trace(book, &mut Sink::new(rt.alloc(), &mut text))?;
+        trace(book, &mut Sink::new(alloc, &mut text))?;
     }
     Ok(text)
 }
 
 /// The trace of the example by calls of the kernel.
-pub fn trace_of_calls(rt: &HostRuntime) -> Result<Vec<u8>, Failed> {
-    let boot = booted(rt)?;
-    let mut kernel = match Kernel::new(rt.alloc(), &boot) {
+pub fn trace_of_calls(alloc: Global) -> Result<Vec<u8>, Failed> {
+    let boot = booted(alloc)?;
+    let mut kernel = match Kernel::new(alloc, &boot) {
         Ok(kernel) => kernel,
-        Err(_) => Kernel::new(rt.alloc(), &boot).map_err(|_| Failed)?,
+        Err(_) => Kernel::new(alloc, &boot).map_err(|_| Failed)?,
     };
-    send(rt, &mut kernel)?;
-    receive(rt, &mut kernel)?;
-    text_of(rt, kernel.book())
+    for (thread, entry) in &entries(alloc)? {
+        enter(alloc, &mut kernel, *thread, entry)?;
+    }
+    text_of(alloc, kernel.book())
 }

@@ -50,15 +50,19 @@ fn feed(alloc: Global, run: &mut ReplayRun, script: &[u8], piece: usize) -> Resu
     run.end(alloc)
 }
 
-/// What a script gives that is fed in pieces of so many bytes, with the trace of the book at its end.
-fn fed(alloc: Global, script: &[u8], piece: usize) -> Result<Told, OutOfMemory> {
+/// What a script gives that is fed in pieces of so many bytes: how it ended, and the trace of the book at its end.
+fn fed(
+    alloc: Global,
+    script: &[u8],
+    piece: usize,
+) -> Result<(Vec<u8>, Result<(), SimFault>), OutOfMemory> {
     let mut run = ReplayRun::new(alloc)?;
     let result = feed(alloc, &mut run, script, piece);
     let mut text = Vec::new(alloc);
     if let Some(book) = run.book() {
         trace(book, &mut Sink::new(alloc, &mut text)).map_err(|_| OutOfMemory)?;
     }
-    given(text, result)
+    Ok((text, result))
 }
 
 /// What it gives as a whole, asked once more where memory was refused.
@@ -69,12 +73,16 @@ fn replayed_again(alloc: Global, script: &[u8]) -> Result<Told, OutOfMemory> {
     }
 }
 
-/// What it gives in pieces, asked once more where memory was refused.
-fn fed_again(alloc: Global, script: &[u8], piece: usize) -> Result<Told, OutOfMemory> {
-    match fed(alloc, script, piece) {
-        Ok(told) => Ok(told),
-        Err(OutOfMemory) => fed(alloc, script, piece),
-    }
+/// Whether it gives this in pieces, asked once more where memory was refused: then the book has a beginning of it.
+fn is_fed(alloc: Global, script: &[u8], piece: usize, whole: &Told) -> Result<bool, OutOfMemory> {
+    let (text, ended) = match fed(alloc, script, piece) {
+        Ok((text, Err(SimFault::OutOfMemory))) if !whole.trace.starts_with(&text) => {
+            return Ok(false);
+        }
+        Ok((text, ended)) if ended != Err(SimFault::OutOfMemory) => (text, ended),
+        _ => fed(alloc, script, piece)?,
+    };
+    Ok(given(text, ended)?.is_same(whole))
 }
 
 /// What a script gives, and what is wrong with it, if anything is: in pieces of a byte, of seven bytes or of all it gives something
@@ -82,7 +90,7 @@ fn fed_again(alloc: Global, script: &[u8], piece: usize) -> Result<Told, OutOfMe
 pub fn given_by(alloc: Global, script: &[u8]) -> Result<(Told, Option<&'static str>), OutOfMemory> {
     let whole = replayed_again(alloc, script)?;
     for piece in [1, 7, usize::MAX] {
-        if !fed_again(alloc, script, piece)?.is_same(&whole) {
+        if !is_fed(alloc, script, piece, &whole)? {
             return Ok((whole, Some("in pieces it gives something else")));
         }
     }

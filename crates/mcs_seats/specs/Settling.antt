@@ -4,6 +4,7 @@ use Rattle.std.specs.List.{list_any}
 use Rattle.mcs_types.specs.declared.id.CoreId.{CoreId}
 use Rattle.mcs_types.specs.declared.id.ObjId.{ObjId}
 use Rattle.mcs_types.specs.declared.entry.Entry.{Entry}
+use Rattle.mcs_types.specs.declared.entry.Step.{Step}
 use Rattle.mcs_types.specs.declared.entry.Answer.{Answer}
 use Rattle.mcs_book.specs.Boots.{Boot}
 use Rattle.mcs_book.specs.History.{Book, Line, IsLegal}
@@ -27,9 +28,13 @@ pub record Note : Type 0 where
 abbrev pub told_note : Call → Answered → Note
 told_note x a = record { line = a.line; thread = x.thread; entry = x.entry; answer = a.answer }
 
+-- what it is told of a line of this number, step and answer
+abbrev pub noted_line : ℕ → Step → Answer → Note
+noted_line n s a = record { line = n; thread = s.thread; entry = s.entry; answer = a }
+
 -- what it is told of the line of this number
 abbrev pub note_of : ℕ → Line → Note
-note_of n l = record { line = n; thread = l.step.thread; entry = l.step.entry; answer = l.answer }
+note_of n l = noted_line n l.step l.answer
 
 -- the same, where the line is its own
 abbrev pub own_note : CoreId → ℕ → Line → List Note

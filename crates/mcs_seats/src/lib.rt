@@ -3,6 +3,7 @@
 
 mod call;
 mod laws;
+mod prepared;
 mod retrace;
 mod same;
 mod seat;
@@ -10,6 +11,7 @@ mod settle;
 
 pub use call::{Answered, Call, Outcome, Turned};
 pub use laws::told_lines;
+pub use prepared::Prepared;
 pub use same::{is_same_answer, is_same_entry};
 pub use seat::CoreSeat;
 pub use settle::{FinishFault, Settled, settle_seats};

@@ -1,7 +1,7 @@
 //! Whether the calls of a core agree with a book, line by line (own).
 ghost use Rattle.std.specs.Prelude.{◌≡◌, ◌≤◌, ◌+◌, IfOk, IfSome, IfNone, IsTrue, ◌↔◌, OnOk, length, Some};
 ghost use Rattle.mcs_book.specs.History.{line_of_number};
-ghost use Rattle.mcs_seats.specs.Settling.{notes_of, note_of, told_note, AreRight, IsTornAt};
+ghost use Rattle.mcs_seats.specs.Settling.{notes_of, note_of, noted_line, told_note, AreRight, IsTornAt};
 ghost use Rattle.mcs_seats.specs.Trails.{IsKernelBook, PassesForeign, IsNextLine, IsFollowed};
 
 use crate::call::{Answered, Call, Outcome};
@@ -9,7 +9,7 @@ use crate::same::{is_same_answer, is_same_entry, is_same_fault};
 use mcs_book::{Book, Line};
 use mcs_kernel::{Boot, EnterFault, Kernel};
 use mcs_queues::Lines;
-use mcs_types::{CoreId, OutOfMemory};
+use mcs_types::{Answer, CoreId, OutOfMemory, Step};
 use std::alloc::Global;
 use std::marker::Model;
 
@@ -34,15 +34,29 @@ impl<'a, L: Lines> Model for Retrace<'a, L> {
         × StandsAt r.book.now.book r.replay r.at };
 }
 
-/// Whether a call was told this line.
-fn is_told(line: &Line<'_>, number: usize, call: &Call, told: &Answered) -> bool
-    ensures { IsTrue result ↔ (note_of number line.now ≡ told_note call.now told.now) }
+/// Whether a call was told a line of this number, step and answer.
+fn is_noted(number: usize, step: &Step, answer: &Answer, call: &Call, told: &Answered) -> bool
+    ensures { IsTrue result ↔ (noted_line number step.now answer.now ≡ told_note call.now told.now) }
 {
-    let step = line.step();
     told.line == number
         && step.thread == call.thread
         && is_same_entry(&step.entry, &call.entry)
-        && is_same_answer(&line.answer(), &told.answer)
+        && is_same_answer(answer, &told.answer)
+}
+
+/// Whether a call was told this line.
+fn is_told(
+    alloc: Global,
+    line: &Line<'_>,
+    number: usize,
+    call: &Call,
+    told: &Answered,
+) -> Result<bool, OutOfMemory>
+    ensures { IfOk result (λ b. IsTrue b ↔ (note_of number line.now ≡ told_note call.now told.now)) }
+{
+    let step = line.step(alloc)?;
+    let answer = line.answer(alloc)?;
+    Ok(is_noted(number, &step, &answer, call, told))
 }
 
 impl<'a, L: Lines> Retrace<'a, L> {
@@ -70,7 +84,7 @@ impl<'a, L: Lines> Retrace<'a, L> {
         requires { line_of_number self.old.book self.old.at ≡ Some line.now }
         ensures { OnOk result (self.new ≡ record self.old { at = self.old.at + 1 }) }
     {
-        let step = line.step();
+        let step = line.step(alloc)?;
         match self.replay.enter(alloc, step.core, step.thread, step.entry) {
             Ok(_) => {
                 self.at += 1;
@@ -91,7 +105,7 @@ impl<'a, L: Lines> Retrace<'a, L> {
             match self.book.line(at) {
                 None => unreachable!(),
                 Some(line) => {
-                    if line.step().core == self.core {
+                    if line.kept_step().core == self.core {
                         return Ok(());
                     }
                     self.make_line(alloc, &line)?;
@@ -120,11 +134,14 @@ impl<'a, L: Lines> Retrace<'a, L> {
         ensures { IfOk result (IsFollowed self.old call.now (Outcome.Told told.now) self.new) }
     {
         match self.next_line(alloc)? {
-            Some(line) if is_told(&line, self.at, call, told) => {
+            Some(line) => {
+                if !is_told(alloc, &line, self.at, call, told)? {
+                    return Ok(false);
+                }
                 self.make_line(alloc, &line)?;
                 Ok(true)
             }
-            _ => Ok(false),
+            None => Ok(false),
         }
     }
 

@@ -1,10 +1,11 @@
 //! The seat of a core: its calls, and its share of the ledger of lines (own).
-ghost use Rattle.std.specs.Prelude.{◌≡◌, ◌<◌, ◌+◌, ◌++◌, ◌∷◌, [], reverse, vec_len, vec_capacity, is_ok, if◌then◌else◌};
+ghost use Rattle.std.specs.Prelude.{◌≡◌, ◌<◌, ◌+◌, ◌++◌, ◌∷◌, [], reverse, vec_len, vec_capacity, is_ok, if◌then◌else◌, IfOk};
 
 use crate::call::{Answered, Call, Outcome, Turned};
+use crate::prepared::{Prepared, copy_answer};
 use mcs_kernel::{EnterFault, Kernel};
 use mcs_queues::Lines;
-use mcs_types::{CoreId, Entry, ObjId};
+use mcs_types::{CoreId, Entry, ObjId, OutOfMemory};
 use std::alloc::Global;
 use std::marker::Model;
 use std::sync::ledger::{Book, Ledger, Share};
@@ -76,30 +77,41 @@ impl<G: Ledger> CoreSeat<G> {
         self.calls.as_slice()
     }
 
+    /// Makes what a call of the seat needs before the kernel's lock is taken: room for the call, a copy of the entry, and for an
+    /// entry that receives room for a copy of its answer. OutOfMemory where one of them is refused.
+    pub fn prepare(&mut self, alloc: Global, entry: Entry) -> Result<Prepared, OutOfMemory>
+        ensures same { self.new ≡ self.old }
+        ensures entry { IfOk result (λ p. p ≡ entry) }
+    {
+        self.calls.reserve(1)?;
+        Prepared::new(alloc, entry)
+    }
+
     /// Lets in an entry of a thread on the seat's core, or turns it away, as Kernel::enter does; the seat keeps the entry
-    /// and what became of it. OutOfMemory where the seat or the kernel gets no room: then seat and kernel are as they were.
+    /// and what became of it. OutOfMemory where the seat has no room for the call, which `prepare` makes, or the kernel gets
+    /// none: then seat and kernel are as they were.
     pub fn enter<L: Lines>(
         &mut self,
         alloc: Global,
         kernel: &mut Kernel<L>,
         book: &mut Book<G>,
         thread: ObjId,
-        entry: Entry,
+        prepared: Prepared,
     ) -> Result<Answered, Turned>
-        ensures entered { Enters self.old self.new kernel.old kernel.new thread entry result }
+        ensures entered { Enters self.old self.new kernel.old kernel.new thread prepared result }
         ensures total { book.new.total ≡ book.old.total + (if is_ok result then 1 else 0) }
     {
-        if self.calls.reserve(1).is_err() {
+        if self.calls.len() >= self.calls.capacity() {
             return Err(Turned::OutOfMemory);
         }
+        let Prepared { entry, kept, room } = prepared;
         let lines = kernel.book().lines();
-        let kept = entry.copy();
         match kernel.enter(alloc, self.core, thread, entry) {
             Ok(answer) => {
                 book.add(&mut self.share, 1);
                 let told = Outcome::Told(Answered {
                     line: lines,
-                    answer: answer.copy(),
+                    answer: copy_answer(alloc, &answer, room),
                 });
                 keep(&mut self.calls, thread, kept, told);
                 Ok(Answered {

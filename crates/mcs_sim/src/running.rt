@@ -44,7 +44,11 @@ fn read_users<R: Read>(
     if let Some((line, why)) = fault {
         return Err(SimFault::Script { line, why });
     }
-    let Script { boot, items } = script;
+    let Script {
+        boot,
+        items,
+        room: _,
+    } = script;
     match boot {
         Some(boot) => Ok((boot, items)),
         None => unreachable!(),

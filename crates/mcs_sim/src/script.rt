@@ -1,5 +1,5 @@
 //! What a script says.
-ghost use Rattle.std.specs.Prelude.{◌≡◌, ◌≤◌, ℕ, List, Result, Ok, Err, Some, IfOk, OnOk, OnErr};
+ghost use Rattle.std.specs.Prelude.{◌≡◌, ◌≤◌, ℕ, List, Result, Ok, Err, Some, IsSome, IfOk, OnOk, OnErr};
 ghost use Rattle.mcs_book.specs.Boots.{boot_log, is_object};
 ghost use Rattle.mcs_text.specs.Reading.{Gives, words_of, step_of, user_of};
 ghost use Rattle.mcs_text.specs.BootLines.{raw_line};
@@ -12,7 +12,7 @@ use mcs_text::{
     find_boot_key, read_boot_line, read_step, read_user,
 };
 use mcs_types::{
-    Badge, BootFault, BootLine, CORES, Cap, CoreId, Guard, Kind, ObjId, OutOfMemory, Prio,
+    Badge, BootFault, BootLine, CORES, Cap, CoreId, Guard, Kind, ObjId, OutOfMemory, Prio, Room,
     SCRIPT_LINE_BYTES, SCRIPT_LINES, Step,
 };
 use std::alloc::Global;
@@ -20,6 +20,7 @@ use std::marker::Model;
 
 /// What a line behind the boot of a script says.
 pub trait Item: Sized + Drop {
+    ghost use Rattle.std.specs.Prelude.{IsSome};
     ghost use Rattle.mcs_text.specs.declared.fault.LineFault.{LineFault};
 
     /// The item that a line spells, where so many cores and threads are there.
@@ -27,23 +28,42 @@ pub trait Item: Sized + Drop {
 
     /// The item that a line spells, where so many cores and threads are there. Fault Form where it spells none; Number where a
     /// number is out of its range; NoObject where the thread is not there.
-    fn read(cores: u8, threads: u32, line: &[u8]) -> Result<Self, LineFault>
+    fn read(
+        alloc: Global,
+        cores: u8,
+        threads: u32,
+        line: &[u8],
+        room: &mut Option<Room>,
+    ) -> Result<Self, LineFault>
+        requires { IsSome room.old }
         ensures { Gives (λ x. x) result (item cores threads line.now) };
 }
 
 impl Item for Step {
     ghost item = { step_of };
 
-    fn read(cores: u8, threads: u32, line: &[u8]) -> Result<Step, LineFault> {
-        read_step(cores, threads, line)
+    fn read(
+        alloc: Global,
+        cores: u8,
+        threads: u32,
+        line: &[u8],
+        room: &mut Option<Room>,
+    ) -> Result<Step, LineFault> {
+        read_step(alloc, cores, threads, line, room)
     }
 }
 
 impl Item for UserEntry {
     ghost item = { λ cores threads line. user_of threads line };
 
-    fn read(_cores: u8, threads: u32, line: &[u8]) -> Result<UserEntry, LineFault> {
-        read_user(threads, line)
+    fn read(
+        alloc: Global,
+        _cores: u8,
+        threads: u32,
+        line: &[u8],
+        room: &mut Option<Room>,
+    ) -> Result<UserEntry, LineFault> {
+        read_user(alloc, threads, line, room)
     }
 }
 
@@ -52,6 +72,17 @@ impl Item for UserEntry {
 pub struct Script<T> {
     pub boot: Option<Boot>,
     pub items: Vec<T>,
+    pub room: Option<Room>,
+}
+
+/// Makes room for the words of any message, where there is none. OutOfMemory where it is refused.
+pub fn make_ready(alloc: Global, room: &mut Option<Room>) -> Result<(), OutOfMemory>
+    ensures ready { OnOk result (IsSome room.new) }
+{
+    if room.is_none() {
+        *room = Some(Room::new(alloc)?);
+    }
+    Ok(())
 }
 
 impl<T> Model for Script<T> {
@@ -277,12 +308,21 @@ fn read_next_boot(boot: &mut Boot, key: Key, words: &mut Words<'_>) -> Result<()
 
 /// Adds the item that a line spells.
 #[tactic(auto, unfolding(crate::specs::Script::next_items))]
-fn read_next_item<T: Item>(boot: &Boot, items: &mut Vec<T>, line: &[u8]) -> Result<(), ReadFault>
+fn read_next_item<T: Item>(
+    alloc: Global,
+    boot: &Boot,
+    items: &mut Vec<T>,
+    line: &[u8],
+    room: &mut Option<Room>,
+) -> Result<(), ReadFault>
     ensures reads { Reads (λ u. items.new.items) result
         (next_items T.item boot.now items.old.items line.now) }
     ensures unchanged { OnErr result (items.new.items ≡ items.old.items) }
 {
-    let item = T::read(boot.cores(), boot.made(Kind::Thread), line)?;
+    if make_ready(alloc, room).is_err() {
+        return Err(ReadFault::OutOfMemory);
+    }
+    let item = T::read(alloc, boot.cores(), boot.made(Kind::Thread), line, room)?;
     match items.push(item) {
         Ok(()) => Ok(()),
         Err(_) => Err(ReadFault::OutOfMemory),
@@ -292,9 +332,11 @@ fn read_next_item<T: Item>(boot: &Boot, items: &mut Vec<T>, line: &[u8]) -> Resu
 /// Takes a line after the first: one of the boot, or an item.
 #[tactic(auto, unfolding(crate::specs::Script::later_line))]
 fn read_later_line<T: Item>(
+    alloc: Global,
     boot: &mut Boot,
     items: &mut Vec<T>,
     line: &[u8],
+    room: &mut Option<Room>,
     key: Option<Key>,
     words: &mut Words<'_>,
 ) -> Result<(), ReadFault>
@@ -306,7 +348,7 @@ fn read_later_line<T: Item>(
     match key {
         Some(_) if !items.is_empty() => Err(ReadFault::Line(LineFault::LateBoot)),
         Some(key) => read_next_boot(boot, key, words),
-        None => read_next_item(boot, items, line),
+        None => read_next_item(alloc, boot, items, line, room),
     }
 }
 
@@ -320,6 +362,7 @@ impl<T: Item> Script<T> {
         Script {
             boot: None,
             items: Vec::new(alloc),
+            room: None,
         }
     }
 
@@ -359,7 +402,15 @@ impl<T: Item> Script<T> {
                 self.boot = Some(first_boot(alloc, asked, key, &mut words)?);
                 Ok(())
             }
-            Some(boot) => read_later_line(boot, &mut self.items, line, key, &mut words),
+            Some(boot) => read_later_line(
+                alloc,
+                boot,
+                &mut self.items,
+                line,
+                &mut self.room,
+                key,
+                &mut words,
+            ),
         }
     }
 }

@@ -1,25 +1,27 @@
 //! What stands between two lines of a script of steps: the boot so far, and from its end on the replay of the steps.
-ghost use Rattle.std.specs.Prelude.{◌≡◌, ◌≤◌, ◌∷◌, IfOk, OnOk, OnErr, [], Err, None, option_to_list};
+ghost use Rattle.std.specs.Prelude.{◌≡◌, ◌≤◌, ◌∷◌, IfOk, OnOk, OnErr, IsSome, [], Err, None, option_to_list};
 ghost use Rattle.mcs_text.specs.Reading.{Gives};
 ghost use Rattle.mcs_sim.specs.Script.{threads_of, read_line, of_steps};
 ghost use Rattle.mcs_sim.specs.Going.{ComesOf, begun_by, stepped, step_line, book_after, read_at, opened, after_line, after_end, book_lent, IsFairBook};
 
 use crate::fault::SimFault;
-use crate::script::{ReadFault, Script, says_something};
+use crate::script::{ReadFault, Script, make_ready, says_something};
 use mcs_book::Book;
 use mcs_kernel::{Boot, Replay, ReplayFault};
 use mcs_queues::LinkedLines;
 use mcs_text::{LineFault, first_boot_key, read_step};
-use mcs_types::{Kind, OutOfMemory, SCRIPT_LINES, Step};
+use mcs_types::{Kind, OutOfMemory, Room, SCRIPT_LINES, Step};
 use std::alloc::Global;
 use std::marker::Model;
 
-/// The replay of the steps behind a boot, which has so many cores and threads.
+/// The replay of the steps behind a boot, which has so many cores and threads, and room for the words of the next step where it
+/// was made and not used yet.
 #[derive(Drop)]
 struct Steps {
     cores: u8,
     threads: u32,
     replay: Replay<LinkedLines>,
+    room: Option<Room>,
 }
 
 impl Model for Steps {
@@ -47,16 +49,17 @@ impl Steps {
             cores,
             threads,
             replay,
+            room: None,
         })
     }
 
     /// Takes a step.
     #[tactic(auto, unfolding(crate::specs::Going::stepped))]
-    fn take(&mut self, step: &Step) -> Result<(), SimFault>
+    fn take(&mut self, alloc: Global, step: &Step) -> Result<(), SimFault>
         ensures takes { ComesOf (λ u. self.new) result (stepped self.old step.now) }
         ensures unchanged { OnErr result (self.new ≡ self.old) }
     {
-        match self.replay.advance(step) {
+        match self.replay.advance(alloc, step) {
             Ok(_) => Ok(()),
             Err(ReplayFault::BookFull { step: _ }) => Err(SimFault::BookFull),
             Err(ReplayFault::OutOfMemory { step: _ }) => Err(SimFault::OutOfMemory),
@@ -70,40 +73,58 @@ impl Steps {
         let Ok(mut steps) = Steps::new(alloc, boot) else {
             return Err(SimFault::OutOfMemory);
         };
-        steps.take(&step)?;
+        steps.take(alloc, &step)?;
         Ok(steps)
     }
 
     /// Takes the line of this number.
     #[tactic(auto, unfolding(crate::specs::Going::book_after))]
-    fn take_line(&mut self, number: u64, line: &[u8]) -> Result<(), SimFault>
+    fn take_line(&mut self, alloc: Global, number: u64, line: &[u8]) -> Result<(), SimFault>
         ensures takes { ComesOf (λ u. self.new) result (book_after self.old number line.now) }
         ensures unchanged { OnErr result (self.new ≡ self.old) }
         ensures numbered { OnOk result (number ≤ SCRIPT_LINES) }
     {
-        match self.read(number, line) {
+        if make_ready(alloc, &mut self.room).is_err() {
+            return Err(SimFault::OutOfMemory);
+        }
+        match read_step_line(
+            alloc,
+            self.cores,
+            self.threads,
+            number,
+            line,
+            &mut self.room,
+        ) {
             Ok(None) => Ok(()),
-            Ok(Some(step)) => self.take(&step),
+            Ok(Some(step)) => self.take(alloc, &step),
             Err(why) => Err(SimFault::Script { line: number, why }),
         }
     }
+}
 
-    /// The step that a line of this number says, if it is not skipped.
-    #[tactic(auto, unfolding(crate::specs::Going::step_line))]
-    fn read(&self, number: u64, line: &[u8]) -> Result<Option<Step>, LineFault>
-        ensures reads { Gives (λ s. s) result
-            (step_line self.now.boot.cores (threads_of self.now.boot) number line.now) }
-        ensures numbered { OnOk result (number ≤ SCRIPT_LINES) }
-    {
-        if !says_something(number, line)? {
-            return Ok(None);
-        }
-        if first_boot_key(line).is_some() {
-            return Err(LineFault::LateBoot);
-        }
-        let step = read_step(self.cores, self.threads, line)?;
-        Ok(Some(step))
+/// The step that a line of this number says behind a boot with so many cores and threads, if it is not skipped. The room is used
+/// up by a message of more than four words.
+#[tactic(auto, unfolding(crate::specs::Going::step_line))]
+fn read_step_line(
+    alloc: Global,
+    cores: u8,
+    threads: u32,
+    number: u64,
+    line: &[u8],
+    room: &mut Option<Room>,
+) -> Result<Option<Step>, LineFault>
+    requires { IsSome room.old }
+    ensures reads { Gives (λ s. s) result (step_line cores threads number line.now) }
+    ensures numbered { OnOk result (number ≤ SCRIPT_LINES) }
+{
+    if !says_something(number, line)? {
+        return Ok(None);
     }
+    if first_boot_key(line).is_some() {
+        return Err(LineFault::LateBoot);
+    }
+    let step = read_step(alloc, cores, threads, line, room)?;
+    Ok(Some(step))
 }
 
 /// Reads a line of this number while the boot goes on, and answers the step that it says, with which the boot ends.
@@ -230,7 +251,7 @@ impl Standing {
         ensures numbered { OnOk result (number ≤ SCRIPT_LINES) }
     {
         match &mut self.steps {
-            Some(steps) => steps.take_line(number, line),
+            Some(steps) => steps.take_line(alloc, number, line),
             None => self.open(alloc, number, line),
         }
     }

@@ -10,6 +10,8 @@ mod feeding;
 #[cfg(test)]
 mod limits;
 #[cfg(test)]
+mod messages;
+#[cfg(test)]
 mod runs;
 #[cfg(test)]
 mod streams;

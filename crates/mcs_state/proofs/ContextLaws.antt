@@ -1,5 +1,5 @@
 -- The contexts follow a record.
-use Rattle.std.specs.Prelude.{◌≡◌, ◌≢◌, ◌&&◌, ◌||◌, not, Bool, true, false, cond, ◌∷◌, Option, Some, None, IsSome, unwrap_or, option_and_then}
+use Rattle.std.specs.Prelude.{◌≡◌, ◌≢◌, ◌&&◌, ◌||◌, not, Bool, true, false, cond, ◌∷◌, Option, Some, None, IsSome, is_some, is_none, unwrap_or, option_and_then}
 use Rattle.std.specs.Option.{IfSome}
 use Rattle.std.proofs.Common.{refl, ap, sym, ◌∙◌}
 use Rattle.mcs_types.specs.declared.id.ObjId.{ObjId}
@@ -14,15 +14,15 @@ use Rattle.mcs_types.specs.Ids.{same, same_kind, value_after}
 use Rattle.mcs_types.proofs.Ids.{same-equal}
 use Rattle.mcs_book.specs.Logs.{Log, given}
 use Rattle.mcs_book.specs.Objects.{form_of, was_made, was_closed}
-use Rattle.mcs_book.specs.Contexts.{holder_of, context_of}
+use Rattle.mcs_book.specs.Contexts.{holder_of, context_of, home_of}
 use Rattle.mcs_book.specs.Sound.{Sound, Allowed, IsThere, IsFormOf}
 use Rattle.mcs_book.proofs.Objects.MadeLaws.{alive-made}
 use Rattle.mcs_book.proofs.Threads.HoldingLaws.{context_of-holder, holder-context_of}
-use Rattle.mcs_book.proofs.SoundLogs.KeptLaws.{held-there}
+use Rattle.mcs_book.proofs.SoundLogs.KeptLaws.{held-there, home-there}
 use Rattle.mcs_objects.specs.Store.{Shape, one_more}
-use Rattle.mcs_contexts.specs.Holding.{Holding, counts, core_in, holder_in, context_in, IsOneToOne}
+use Rattle.mcs_contexts.specs.Holding.{Holding, counts, core_in, holder_in, home_in, context_in, IsOneToOne}
 use Rattle.mcs_state.specs.Tables.{core_kept, core_said, ContextsAgree}
-use Rattle.mcs_state.specs.Following.{ContextsFollow, ContextsFollowClosed, AddsContext, ClosesContext, GivesContext}
+use Rattle.mcs_state.specs.Following.{ContextsFollow, ContextsFollowClosed, AddsContext, ClosesContext, GivesContext, HomesContext}
 use Rattle.mcs_state.proofs.CountLaws.{never-made, shape-made, shape-beside, shape-closed, shape-unclosed}
 use Rattle.mcs_state.proofs.ThereLaws.{said-closed, released}
 use Rattle.mcs_state.proofs.Saying.{formless, form-fits, unclosed}
@@ -66,6 +66,7 @@ beside R v w o f sound ok is none a = rw is (record {
   shape = a.shape ∙ shape-beside R o f kind.Context sound ok (no-context o.kind f ok.1 none);
   cores = λ s. absent s (same s o) refl ∙ core-made R o s f sound (never-made R o f sound ok);
   holders = a.holders;
+  homes = a.homes;
 })
   where
     absent : (s : ObjId) (b : Bool) → same s o ≡ b → core_in v s ≡ cond b (core_kept f) (core_said R s)
@@ -78,6 +79,7 @@ added R v w o core sound ok h a = record {
   shape = h.counts ∙ ap one_more a.shape ∙ shape-made R o (form.OnCore core) kind.Context sound ok (of-context o.kind core ok.1);
   cores = λ s. h.cores s ∙ ap (λ c. cond (same s o) (Some core) c) (a.cores s) ∙ core-made R o s (form.OnCore core) sound (never-made R o (form.OnCore core) sound ok);
   holders = λ s. h.holders s ∙ a.holders s;
+  homes = λ s. h.homes s ∙ a.homes s;
 }
 
 -- a context was closed
@@ -86,6 +88,7 @@ closed R v w o sound ok is h a = record {
   shape = shape-closed R o kind.Context (counts v) (counts w) sound ok (ap (λ k. same_kind k kind.Context) is) h.counts a.shape;
   cores = λ s. h.cores s ∙ ap (λ c. value_after s o None c) (a.cores s) ∙ said-closed R o s _;
   holders = λ s. h.holders s ∙ a.holders s;
+  homes = λ s. h.homes s ∙ a.homes s;
 }
 
 -- what is no context has no core
@@ -98,6 +101,7 @@ unclosed-context R v w o sound ok other is a = rw is (record {
   shape = a.shape ∙ shape-unclosed R o kind.Context sound ok other;
   cores = λ s. absent s (same s o) refl ∙ said-closed R o s _;
   holders = a.holders;
+  homes = a.homes;
 })
   where
     absent : (s : ObjId) (b : Bool) → same s o ≡ b → core_in v s ≡ cond b None (core_said R s)
@@ -117,9 +121,17 @@ ended R v w o sound ok h a = go o.kind refl h
 
 -- a context was given or taken
 given-to : (R : Log) (v w : Holding) (o : ObjId) (t : Option ObjId) → GivesContext o t v w → ContextsAgree v R → ContextsAgree w (rec.Holds o t ∷ R)
-given-to R v w o t h a = record { shape = h.counts ∙ a.shape; cores = λ s. h.cores s ∙ a.cores s; holders = λ s. h.holders s ∙ go s (same s o) (a.holders s) }
+given-to R v w o t h a = record { shape = h.counts ∙ a.shape; cores = λ s. h.cores s ∙ a.cores s; holders = λ s. h.holders s ∙ go s (same s o) (a.holders s); homes = λ s. h.homes s ∙ a.homes s }
   where
     go : (s : ObjId) (b : Bool) → holder_in v s ≡ holder_of R s → cond b t (holder_in v s) ≡ unwrap_or (given b t) (holder_of R s)
+    go s true h = refl
+    go s false h = h
+
+-- a context was homed, or is homed nowhere any more
+homed-to : (R : Log) (v w : Holding) (o : ObjId) (n : Option ObjId) → HomesContext o n v w → ContextsAgree v R → ContextsAgree w (rec.Homed o n ∷ R)
+homed-to R v w o n h a = record { shape = h.counts ∙ a.shape; cores = λ s. h.cores s ∙ a.cores s; holders = λ s. h.holders s ∙ a.holders s; homes = λ s. h.homes s ∙ go s (same s o) (a.homes s) }
+  where
+    go : (s : ObjId) (b : Bool) → home_in v s ≡ home_of R s → cond b n (home_in v s) ≡ unwrap_or (given b n) (home_of R s)
     go s true h = refl
     go s false h = h
 
@@ -131,7 +143,8 @@ contexts-follow (rec.Made o (form.Slots radix)) R v w sound ok h a = beside R v 
 contexts-follow (rec.Made o (form.Runner maximum root)) R v w sound ok h a = beside R v w o (form.Runner maximum root) sound ok h refl a
 contexts-follow (rec.Closed o) R v w sound ok h a = ended R v w o sound ok h a
 contexts-follow (rec.Holds s t) R v w sound ok h a = given-to R v w s t h a
-contexts-follow _ R v w sound ok h a = rw h (record { shape = a.shape; cores = a.cores; holders = a.holders })
+contexts-follow (rec.Homed s n) R v w sound ok h a = homed-to R v w s n h a
+contexts-follow _ R v w sound ok h a = rw h (record { shape = a.shape; cores = a.cores; holders = a.holders; homes = a.homes })
 
 -- a context that is there is in the table
 core-form : (k : Kind) (f : Form) → k ≡ kind.Context → IsFormOf k f → IsSome (core_kept f)
@@ -197,4 +210,21 @@ pub closing-context : (R : Log) (v : Holding) (s : ObjId) → Sound R → s.kind
 closing-context R v s sound is ok a = rw (a.cores s) (core-there R s sound (is, ok.0))
 
 pub closing-unheld : (R : Log) (v : Holding) (s : ObjId) → s.kind ≡ kind.Context → Allowed R (rec.Closed s) → ContextsAgree v R → holder_in v s ≡ None
-closing-unheld R v s is ok a = a.holders s ∙ released R s kind.Context is ok
+closing-unheld R v s is ok a = a.holders s ∙ (released R s kind.Context is ok).0
+
+pub closing-homeless : (R : Log) (v : Holding) (s : ObjId) → s.kind ≡ kind.Context → Allowed R (rec.Closed s) → ContextsAgree v R → home_in v s ≡ None
+closing-homeless R v s is ok a = a.homes s ∙ (released R s kind.Context is ok).1
+
+-- what is homed, or was, is in the table
+pub homed-made : (R : Log) (v : Holding) (s : ObjId) (n : Option ObjId) → Sound R → ContextsAgree v R → Allowed R (rec.Homed s n) → IsSome (core_in v s)
+homed-made R v s (Some n) sound a ok = rw (a.cores s) (core-there R s sound ok.0)
+homed-made R v s None sound a ok = rw (a.cores s) (go (home_of R s) refl ok)
+  where
+    go : (o : Option ObjId) → home_of R s ≡ o → IsSome o → IsSome (core_said R s)
+    go None e h = absurd cc
+    go (Some n) e h = core-there R s sound (home-there R s n sound e).0
+
+-- who is homed anew was homed nowhere, and who loses a home had one
+pub homed-changes : (R : Log) (v : Holding) (s : ObjId) (n : Option ObjId) → ContextsAgree v R → Allowed R (rec.Homed s n) → is_some (home_in v s) ≡ is_none n
+homed-changes R v s (Some n) a ok = rw (a.homes s, ok.2) refl
+homed-changes R v s None a ok = rw (a.homes s) ok

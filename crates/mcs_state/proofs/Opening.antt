@@ -14,14 +14,15 @@ use Rattle.mcs_book.specs.Logs.{Log, counted, onto}
 use Rattle.mcs_book.specs.Messages.{is_sent}
 use Rattle.mcs_book.specs.Boots.{boot_line, boot_log}
 use Rattle.mcs_book.specs.History.{Line, past, Book, log_of}
+use Rattle.mcs_book.specs.Contexts.{homed_at}
 use Rattle.mcs_book.specs.Notifications.{tied_to}
 use Rattle.mcs_book.specs.Replies.{receiver_with}
 use Rattle.mcs_book.specs.Standing.{mail_of}
 use Rattle.mcs_places.specs.Places.{kept_at}
 use Rattle.mcs_objects.specs.Store.{empty_shape}
 use Rattle.mcs_replies.specs.Owing.{counts as reply_counts, is_there as has_reply, receiver_in, owed_in, chain_in}
-use Rattle.mcs_notifications.specs.Signals.{counts as notification_counts, is_there as has_notification, word_in, thread_in}
-use Rattle.mcs_contexts.specs.Holding.{counts, core_in, holder_in}
+use Rattle.mcs_notifications.specs.Signals.{counts as notification_counts, is_there as has_notification, word_in, thread_in, homed_in}
+use Rattle.mcs_contexts.specs.Holding.{counts, core_in, holder_in, home_in}
 use Rattle.mcs_slots.specs.Numbers.{number_of}
 use Rattle.mcs_slots.specs.Pages.{page_of, page_radix, page_slot, radix_of, slot_at}
 use Rattle.mcs_threads.specs.Tables.{made, row_of, mail_of as mail_in}
@@ -67,6 +68,10 @@ nobody-bound : (n : ObjId) → tied_to [] n ≡ None
 unfolding tied_to
 nobody-bound n = refl
 
+nobody-homed : (n : ObjId) → homed_at [] n ≡ None
+unfolding homed_at
+nobody-homed n = refl
+
 -- the tables of a state in which nothing is made
 pub record AreBlank (T : Tables) : Type 0 where
   pub threads : made T.threads ≡ 0
@@ -77,6 +82,7 @@ pub record AreBlank (T : Tables) : Type 0 where
   pub contexts : counts T.contexts ≡ record { kind = kind.Context; room = ROOM; given = 0; there = 0 }
   pub cores : (s : ObjId) → core_in T.contexts s ≡ None
   pub holders : (s : ObjId) → holder_in T.contexts s ≡ None
+  pub homes : (s : ObjId) → home_in T.contexts s ≡ None
   pub line : (q : Queue) → T.queues.line q ≡ []
   pub queue : (t : ObjId) → T.queues.queue t ≡ None
   pub has : (q : Queue) → T.queues.has q ≡ false
@@ -91,6 +97,7 @@ pub record AreBlank (T : Tables) : Type 0 where
   pub has_notification : (n : ObjId) → has_notification T.notifications n ≡ false
   pub words : (n : ObjId) → word_in T.notifications n ≡ None
   pub bound : (n : ObjId) → thread_in T.notifications n ≡ None
+  pub homed : (n : ObjId) → homed_in T.notifications n ≡ None
   pub slots : T.slots ≡ []
   pub sent : T.sent ≡ 0
 
@@ -100,10 +107,10 @@ blank-kept T R none b = rw none (record {
   sound = tt;
   threads = record { made = b.threads; rows = b.rows; mails = λ t. b.mails t ∙ sym (mails-none t) };
   letters = record { places = b.places; letters = b.letters };
-  contexts = record { shape = b.contexts; cores = b.cores; holders = b.holders };
+  contexts = record { shape = b.contexts; cores = b.cores; holders = b.holders; homes = b.homes };
   queues = record { made = λ k own. b.made k; there = λ k own. b.there k; line = b.line; queue = b.queue; has = λ q. b.has q ∙ sym (none-there (queue_kind q) (queue_object q)) };
   replies = record { counts = b.replies; there = λ r. b.has_reply r ∙ sym (none-there kind.Reply r); receivers = λ r. b.receivers r ∙ sym (nobody-receives r); owed = b.owed; chains = b.chains };
-  notifications = record { counts = b.notifications; there = λ n. b.has_notification n ∙ sym (none-there kind.Notification n); words = λ n. b.words n ∙ sym (word-none n); threads = λ n. b.bound n ∙ sym (nobody-bound n) };
+  notifications = record { counts = b.notifications; there = λ n. b.has_notification n ∙ sym (none-there kind.Notification n); words = λ n. b.words n ∙ sym (word-none n); threads = λ n. b.bound n ∙ sym (nobody-bound n); homed = λ n. b.homed n ∙ sym (nobody-homed n) };
   slots = rw b.slots (record { made = refl; radices = none-radix; slots = none-slot; counts = λ o. refl });
   sent = record { all = b.sent; few = let zero_sent = b.sent in omega (arith, zero_sent) };
 })

@@ -348,6 +348,7 @@ threads-follow (rec.Heard u n word) R T T' sound ok h a = record {
   mails = mails-heard R T T' u n word ok.0.1 h a;
 }
 threads-follow (rec.Tied u n) R T T' sound ok h a = record { made = h.count ∙ a.made; rows = tied R T T' u n h a; mails = mails-quiet R T T' (rec.Tied u n) (λ t. refl) h.mails a }
+threads-follow (rec.Homed s n) R T T' sound ok h a = kept R T T' (rec.Homed s n) h (λ x. refl) (λ x. unturned (rec.Homed s n) R x _ (owing-kept (rec.Homed s n) R x refl) refl) refl a
 
 -- a thread that is there is in the table
 pub thread-there : (R : Log) (T : Table) (t : ObjId) → Sound R → ThreadsAgree T R → IsThere R kind.Thread t → IsSome (row_of T t)

@@ -4,11 +4,12 @@ use Rattle.mcs_types.specs.declared.record.Rec.TheVariants as rec
 use Rattle.mcs_types.specs.declared.entry.Answer.TheVariants.{Done}
 use Rattle.mcs_book.specs.Pieces.{Act, say, answers}
 use Rattle.mcs_state.specs.declared.changing.Change.{Change}
-use Rattle.mcs_state.specs.declared.changing.Change.TheVariants.{Holds, Ties, Sets}
+use Rattle.mcs_state.specs.declared.changing.Change.TheVariants.{Holds, Homes, Ties, Sets}
 
 -- the record of a change
 abbrev pub record_of : Change → Rec
 record_of (Holds s holder) = rec.Holds s holder
+record_of (Homes s home) = rec.Homed s home
 record_of (Ties x notification) = rec.Tied x notification
 record_of (Sets x p) = rec.Prio x p
 

@@ -21,15 +21,16 @@ use Rattle.mcs_types.specs.Words.{with_badge}
 use Rattle.mcs_book.specs.Logs.{Log}
 use Rattle.mcs_book.specs.Growing.{without, shifted, growing_open}
 use Rattle.mcs_book.specs.Messages.{next_message, letter}
+use Rattle.mcs_book.specs.Contexts.{home_of}
 use Rattle.mcs_book.specs.Notifications.{bound_of}
 use Rattle.mcs_book.specs.Queues.{reply_with}
 use Rattle.mcs_book.specs.Standing.{letter_mail}
 use Rattle.mcs_book.specs.Threads.{prio_of}
 use Rattle.mcs_places.specs.Places.{kept_at}
 use Rattle.mcs_objects.specs.Store.{one_more, IsOneFewer}
-use Rattle.mcs_contexts.specs.Holding.{Holding, core_in, holder_in, counts}
+use Rattle.mcs_contexts.specs.Holding.{Holding, core_in, holder_in, home_in, counts}
 use Rattle.mcs_replies.specs.Owing.{Owing, counts as reply_counts, is_there as has_reply, receiver_in, owed_in, chain_in, SetsOwed, LiesOnTop, EndsDebt}
-use Rattle.mcs_notifications.specs.Signals.{Signals, counts as notification_counts, is_there as has_notification, word_in, thread_in, SetsWord, SetsThread}
+use Rattle.mcs_notifications.specs.Signals.{Signals, counts as notification_counts, is_there as has_notification, word_in, thread_in, homed_in, SetsWord, SetsThread, SetsHomed}
 use Rattle.mcs_slots.specs.Filling.{filled}
 use Rattle.mcs_slots.specs.Pages.{Page, ArePages, empty_page}
 use Rattle.mcs_threads.specs.declared.row.Block.TheVariants.{Queued, OnReply}
@@ -88,6 +89,7 @@ ThreadsFollow R (rec.Holds s t) old new = new ≡ old
 ThreadsFollow R (rec.Raised n badge) old new = new ≡ old
 ThreadsFollow R (rec.Heard t n word) old new = Mails t (Word word) old new
 ThreadsFollow R (rec.Tied t n) old new = ChangesRow (with_notification n) old new t
+ThreadsFollow R (rec.Homed s n) old new = new ≡ old
 
 -- the open message of a thread is this one from now on, or none
 pub record KeepsLetter (x : ObjId) (s : Option Letter) (old new : List (Option Letter)) : Type 0 where
@@ -110,18 +112,28 @@ pub record AddsContext (s : ObjId) (core : CoreId) (old new : Holding) : Type 0 
   pub counts : counts new ≡ one_more (counts old)
   pub cores : (x : ObjId) → core_in new x ≡ value_after x s (Some core) (core_in old x)
   pub holders : (x : ObjId) → holder_in new x ≡ holder_in old x
+  pub homes : (x : ObjId) → home_in new x ≡ home_in old x
 
 -- a context is held by this thread now, or by nobody
 pub record GivesContext (s : ObjId) (t : Option ObjId) (old new : Holding) : Type 0 where
   pub counts : counts new ≡ counts old
   pub cores : (x : ObjId) → core_in new x ≡ core_in old x
   pub holders : (x : ObjId) → holder_in new x ≡ value_after x s t (holder_in old x)
+  pub homes : (x : ObjId) → home_in new x ≡ home_in old x
+
+-- a context is homed at this notification now, or nowhere
+pub record HomesContext (s : ObjId) (n : Option ObjId) (old new : Holding) : Type 0 where
+  pub counts : counts new ≡ counts old
+  pub cores : (x : ObjId) → core_in new x ≡ core_in old x
+  pub holders : (x : ObjId) → holder_in new x ≡ holder_in old x
+  pub homes : (x : ObjId) → home_in new x ≡ value_after x s n (home_in old x)
 
 -- a context was closed
 pub record ClosesContext (s : ObjId) (old new : Holding) : Type 0 where
   pub counts : IsOneFewer (counts old) (counts new)
   pub cores : ChangesAt (core_in old) (core_in new) s None
   pub holders : (x : ObjId) → holder_in new x ≡ holder_in old x
+  pub homes : (x : ObjId) → home_in new x ≡ home_in old x
 
 -- how the contexts follow the end of an object
 abbrev pub ContextsFollowClosed : Kind → ObjId → Holding → Holding → Type 0
@@ -133,6 +145,7 @@ abbrev pub ContextsFollow : Rec → Holding → Holding → Type 0
 ContextsFollow (rec.Made o (form.OnCore core)) old new = AddsContext o core old new
 ContextsFollow (rec.Closed o) old new = ContextsFollowClosed o.kind o old new
 ContextsFollow (rec.Holds s t) old new = GivesContext s t old new
+ContextsFollow (rec.Homed s n) old new = HomesContext s n old new
 ContextsFollow _ old new = new ≡ old
 
 -- an endpoint or a notification was made
@@ -288,18 +301,34 @@ pub record AddsNotification (n : ObjId) (old new : Signals) : Type 0 where
   pub there : ChangesAt (has_notification old) (has_notification new) n true
   pub words : (x : ObjId) → word_in new x ≡ word_in old x
   pub threads : (x : ObjId) → thread_in new x ≡ thread_in old x
+  pub homed : (x : ObjId) → homed_in new x ≡ homed_in old x
 
 -- this is the pending word of a notification from now on, or none is
 pub record KeepsWord (n : ObjId) (word : Option ℕ) (old new : Signals) : Type 0 where
   pub objects : SameNotifications old new
   pub words : SetsWord old new n word
   pub threads : (x : ObjId) → thread_in new x ≡ thread_in old x
+  pub homed : (x : ObjId) → homed_in new x ≡ homed_in old x
 
 -- a notification is bound to this thread from now on, or to none
 pub record KeepsBound (n : ObjId) (t : Option ObjId) (old new : Signals) : Type 0 where
   pub objects : SameNotifications old new
   pub words : (x : ObjId) → word_in new x ≡ word_in old x
   pub threads : SetsThread old new n t
+  pub homed : (x : ObjId) → homed_in new x ≡ homed_in old x
+
+-- this context is homed at a notification from now on, or none is
+pub record KeepsHomed (n : ObjId) (s : Option ObjId) (old new : Signals) : Type 0 where
+  pub objects : SameNotifications old new
+  pub words : (x : ObjId) → word_in new x ≡ word_in old x
+  pub threads : (x : ObjId) → thread_in new x ≡ thread_in old x
+  pub homed : SetsHomed old new n s
+
+-- a context is homed at this notification from now on; or, where it is none, nothing is homed where it was
+abbrev pub Rehomes : ObjId → Option ObjId → Option ObjId → Signals → Signals → Type 0
+Rehomes s from (Some n) old new = KeepsHomed n (Some s) old new
+Rehomes s (Some n) None old new = KeepsHomed n None old new
+Rehomes s None None old new = new ≡ old
 
 -- a thread is bound to this notification from now on; or, where it is none, the one to which the thread was bound is free
 abbrev pub Rebinds : ObjId → Option ObjId → Option ObjId → Signals → Signals → Type 0
@@ -318,6 +347,7 @@ pub record ClosesNotification (n : ObjId) (old new : Signals) : Type 0 where
   pub there : ChangesAt (has_notification old) (has_notification new) n false
   pub words : SetsWord old new n None
   pub threads : (x : ObjId) → thread_in new x ≡ thread_in old x
+  pub homed : (x : ObjId) → homed_in new x ≡ homed_in old x
 
 -- how the notifications follow the end of an object
 abbrev pub NotificationsFollowClosed : Kind → ObjId → Signals → Signals → Type 0
@@ -331,6 +361,7 @@ NotificationsFollow R (rec.Closed o) old new = NotificationsFollowClosed o.kind 
 NotificationsFollow R (rec.Raised n badge) old new = KeepsWord n (Some (with_badge badge.0 (word_in old n))) old new
 NotificationsFollow R (rec.Heard t n word) old new = KeepsWord n None old new
 NotificationsFollow R (rec.Tied t n) old new = Rebinds t (bound_of R t) n old new
+NotificationsFollow R (rec.Homed s n) old new = Rehomes s (home_of R s) n old new
 NotificationsFollow R _ old new = new ≡ old
 
 -- how the pages follow a record

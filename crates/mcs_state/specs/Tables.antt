@@ -17,16 +17,16 @@ use Rattle.mcs_book.specs.Lookup.{radix_kept}
 use Rattle.mcs_book.specs.Queues.{queue_of}
 use Rattle.mcs_book.specs.Standing.{mail_of}
 use Rattle.mcs_book.specs.Messages.{next_message, is_sent}
-use Rattle.mcs_book.specs.Contexts.{holder_of}
+use Rattle.mcs_book.specs.Contexts.{holder_of, home_of, homed_at}
 use Rattle.mcs_book.specs.Notifications.{tied_to}
 use Rattle.mcs_book.specs.Replies.{receiver_with, owed_by}
 use Rattle.mcs_book.specs.Growing.{Waiter, growing_queue, growing_open, growing_chain, growing_word}
 use Rattle.mcs_book.specs.Sound.{Sound}
 use Rattle.mcs_places.specs.Places.{kept_at}
 use Rattle.mcs_objects.specs.Store.{Shape}
-use Rattle.mcs_contexts.specs.Holding.{Holding, counts, core_in, holder_in}
+use Rattle.mcs_contexts.specs.Holding.{Holding, counts, core_in, holder_in, home_in}
 use Rattle.mcs_replies.specs.Owing.{Owing, counts as reply_counts, is_there as has_reply, receiver_in, owed_in, chain_in}
-use Rattle.mcs_notifications.specs.Signals.{Signals, counts as notification_counts, is_there as has_notification, word_in, thread_in}
+use Rattle.mcs_notifications.specs.Signals.{Signals, counts as notification_counts, is_there as has_notification, word_in, thread_in, homed_in}
 use Rattle.mcs_slots.specs.Pages.{Page, radix_of, slot_at, held}
 use Rattle.mcs_threads.specs.Tables.{Table, made, row_of, mail_of as mail_in}
 use Rattle.mcs_waiting.specs.Queues.{queue_object, queue_kind, has_queues}
@@ -84,11 +84,12 @@ core_kept _ = None
 abbrev pub core_said : Log → ObjId → Option CoreId
 core_said R s = cond (is_alive R s) (option_and_then core_kept (form_of R s)) None
 
--- the contexts, their cores and their holders
+-- the contexts, their cores, their holders and their homes
 pub record ContextsAgree (v : Holding) (R : Log) : Type 0 where
   pub shape : counts v ≡ shape_said kind.Context R
   pub cores : (s : ObjId) → core_in v s ≡ core_said R s
   pub holders : (s : ObjId) → holder_in v s ≡ holder_of R s
+  pub homes : (s : ObjId) → home_in v s ≡ home_of R s
 
 -- whether an object of this kind is there
 abbrev pub is_there : Log → Kind → ObjId → Bool
@@ -114,12 +115,13 @@ pub record RepliesAgree (v : Owing) (R : Log) : Type 0 where
 abbrev pub word_said : Log → ObjId → Option ℕ
 word_said R n = cond (is_there R kind.Notification n) (growing_word R n) None
 
--- the notifications, their pending words, and the thread bound to each
+-- the notifications, their pending words, the thread bound to each, and the context that is homed at each
 pub record NotificationsAgree (v : Signals) (R : Log) : Type 0 where
   pub counts : notification_counts v ≡ shape_said kind.Notification R
   pub there : (n : ObjId) → has_notification v n ≡ is_there R kind.Notification n
   pub words : (n : ObjId) → word_in v n ≡ word_said R n
   pub threads : (n : ObjId) → thread_in v n ≡ tied_to R n
+  pub homed : (n : ObjId) → homed_in v n ≡ homed_at R n
 
 -- the pages of the CNodes: as many as were made, with their radices, what their slots hold, and how many hold a capability to
 -- an object

@@ -12,12 +12,17 @@ use crate::waking::wake;
 use mcs_types::{Answer, ObjId, Prio};
 use mcs_waiting::Waiting;
 
-/// One thing that an entry changes: who holds a context, which notification is bound to a thread, or a thread's priority.
+/// One thing that an entry changes: who holds a context, where it is homed, which notification is bound to a thread, or a thread's
+/// priority.
 #[derive(Clone, Copy)]
 pub enum Change {
     Holds {
         context: ObjId,
         thread: Option<ObjId>,
+    },
+    Homes {
+        context: ObjId,
+        notification: Option<ObjId>,
     },
     Ties {
         thread: ObjId,
@@ -37,6 +42,10 @@ fn make_change<W: Waiting>(state: &mut State<W>, change: Change)
 {
     match change {
         Change::Holds { context, thread } => state.holds(context, thread),
+        Change::Homes {
+            context,
+            notification,
+        } => state.homes(context, notification),
         Change::Ties {
             thread,
             notification,

@@ -22,8 +22,8 @@ pub fn give(contexts: &mut Contexts, context: ObjId, thread: Option<ObjId>)
     match (contexts.holder(context), thread) {
         (None, None) => {}
         (None, Some(to)) => {
-            let is_bound = contexts.bind(context, to).is_ok();
-            prove!(is_bound);
+            let wakes = contexts.wake(context, to);
+            prove!(wakes);
         }
         (Some(_), None) => {
             let is_free = contexts.unbind(context).is_ok();

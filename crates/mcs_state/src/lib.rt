@@ -4,6 +4,7 @@
 mod changing;
 mod checks;
 mod giving;
+mod letters;
 mod state;
 mod waking;
 

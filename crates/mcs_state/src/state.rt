@@ -1,12 +1,11 @@
 //! The tables, and a primitive for each kind of record.
-ghost use Rattle.std.specs.Prelude.{◌≡◌, ◌<◌, ◌≤◌, ◌∷◌, ◌++◌, [], IfOk, OnOk, length, vec_len, vec_capacity, reverse};
+ghost use Rattle.std.specs.Prelude.{◌≡◌, ◌<◌, ◌≤◌, ◌∷◌, ◌++◌, [], IfOk, IfSome, OnOk, length, vec_len, vec_capacity, reverse};
 ghost use Rattle.mcs_types.specs.declared.record.Rec.{Rec};
 ghost use Rattle.mcs_book.specs.Logs.{onto};
 ghost use Rattle.mcs_book.specs.Boots.{boot_line};
 ghost use Rattle.mcs_book.specs.History.{log_of, with_boot_line, with_line};
 ghost use Rattle.mcs_book.specs.Messages.{open_of};
 ghost use Rattle.mcs_book.specs.Sound.{Allowed};
-ghost use Rattle.mcs_book.specs.Standing.{letter_mail};
 ghost use Rattle.mcs_state.specs.Now.{so_far, adds, IsNumberOf};
 ghost use Rattle.mcs_state.specs.Tables.{HAND};
 
@@ -18,6 +17,7 @@ mod queries;
 mod replying;
 
 use crate::giving::{attend, attended, give};
+use crate::letters::{OpenLetter, opened};
 use mcs_book::Book;
 use mcs_contexts::Contexts;
 use mcs_notifications::Notifications;
@@ -26,7 +26,7 @@ use mcs_replies::Replies;
 use mcs_slots::{SlotId, Slots};
 use mcs_threads::{Block, Threads};
 use mcs_types::{
-    Answer, BOOK_LINES, Badge, BootLine, Cap, Kind, LINE_RECORDS, Letter, Mail, Message, Mode,
+    Answer, BOOK_LINES, Badge, BootLine, Cap, Copies, Kind, LINE_RECORDS, Letter, Message, Mode,
     OBJECTS, ObjId, OutOfMemory, Prio, Queue, Rec, SendMode, Step, cap_again,
 };
 use mcs_waiting::Waiting;
@@ -38,7 +38,7 @@ pub struct State<W: Waiting> {
     book: Book,
     hand: Vec<Rec>,
     threads: Threads,
-    letters: Vec<Option<Letter>>,
+    letters: Vec<Option<OpenLetter>>,
     contexts: Contexts,
     queues: W,
     replies: Replies,
@@ -97,16 +97,6 @@ fn note(hand: &mut Vec<Rec>, rec: Rec)
     ensures capacity { vec_capacity hand.old ≤ vec_capacity hand.new }
 {
     hand.push_reserved(rec);
-}
-
-/// The mail that a letter is to its receiver.
-fn mail_of(letter: Letter) -> Mail
-    ensures { result ≡ letter_mail letter }
-{
-    Mail::Message {
-        badge: letter.badge,
-        message: letter.message,
-    }
 }
 
 impl<W: Waiting> State<W> {
@@ -253,7 +243,7 @@ impl<W: Waiting> State<W> {
         endpoint: ObjId,
         mode: SendMode,
         badge: Badge,
-        message: Message,
+        message: Copies,
     )
         requires allowed { Allowed (so_far self.old) (Rec.Sent sender endpoint mode badge message) }
         requires few { length self.old.book.lines < BOOK_LINES }
@@ -261,13 +251,21 @@ impl<W: Waiting> State<W> {
         ensures { self.new ≡ adds (Rec.Sent sender endpoint mode badge message) self.old }
     {
         self.threads.are_few();
-        let letter = Letter {
-            number: self.sent,
-            sender,
-            endpoint,
-            mode,
-            badge,
-            message: message.copy(),
+        let Copies {
+            record,
+            mail,
+            answer,
+        } = message;
+        let letter = OpenLetter {
+            letter: Letter {
+                number: self.sent,
+                sender,
+                endpoint,
+                mode,
+                badge,
+                message: mail,
+            },
+            answer,
         };
         note(
             &mut self.hand,
@@ -276,19 +274,21 @@ impl<W: Waiting> State<W> {
                 endpoint,
                 mode,
                 badge,
-                message,
+                message: record,
             },
         );
         self.sent += 1;
         keep(Kind::Thread, &mut self.letters, sender, Some(letter));
     }
 
-    /// The open message of a sender, which has this number, is received: it moves to the mail of its receiver.
-    pub fn took(&mut self, number: u32, sender: ObjId, receiver: ObjId)
+    /// The open message of a sender, which has this number, is received: it moves to the mail of its receiver. The answer is an
+    /// equal message.
+    pub fn took(&mut self, number: u32, sender: ObjId, receiver: ObjId) -> Message
         requires allowed { Allowed (so_far self.old) (Rec.Took number receiver) }
         requires open { IsNumberOf number (open_of (so_far self.old) sender) }
         requires room { length self.old.hand < HAND }
-        ensures { self.new ≡ adds (Rec.Took number receiver) self.old }
+        ensures took { self.new ≡ adds (Rec.Took number receiver) self.old }
+        ensures message { IfSome (open_of (so_far self.old) sender) (λ l. result ≡ l.message) }
     {
         self.threads.are_few();
         note(
@@ -301,7 +301,9 @@ impl<W: Waiting> State<W> {
         match take(Kind::Thread, &mut self.letters, sender) {
             None => unreachable!(),
             Some(letter) => {
-                self.threads.set_mail(receiver, mail_of(letter));
+                let (mail, answer) = opened(letter);
+                self.threads.set_mail(receiver, mail);
+                answer
             }
         }
     }

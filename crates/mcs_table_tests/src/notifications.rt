@@ -46,9 +46,25 @@ fn set_bound(
     true
 }
 
-/// Closes a notification that is bound to nobody. Whether it was one.
+/// Homes a context at a notification, or none. Whether the notification is there.
+fn set_homed(
+    notifications: &mut Notifications,
+    notification: ObjId,
+    context: Option<ObjId>,
+) -> bool {
+    if !notifications.is_there(notification) {
+        return false;
+    }
+    notifications.set_homed(notification, context);
+    true
+}
+
+/// Closes a notification that is bound to nobody and home to no context. Whether it was one.
 fn close(notifications: &mut Notifications, notification: ObjId) -> bool {
-    if !notifications.is_there(notification) || notifications.bound(notification).is_some() {
+    if !notifications.is_there(notification)
+        || notifications.bound(notification).is_some()
+        || notifications.homed(notification).is_some()
+    {
         return false;
     }
     notifications.close(notification);
@@ -93,4 +109,31 @@ fn notifications_are_bound_and_closed(rt: HostRuntime) {
     assert_eq!(rt; notifications.word(notification(2)), None);
     assert_eq!(rt; add(&mut notifications), Some(notification(3)));
     assert_eq!(rt; notifications.rows().given(), 3);
+}
+
+#[test]
+fn notifications_are_homes(rt: HostRuntime) {
+    let made = Notifications::new(rt.alloc());
+    assert!(rt; made.is_ok());
+    let Ok(mut notifications) = made else {
+        return;
+    };
+    let context = ObjId {
+        kind: Kind::Context,
+        serial: 9,
+    };
+    assert!(rt; !set_homed(&mut notifications, notification(1), Some(context)));
+    assert_eq!(rt; add(&mut notifications), Some(notification(1)));
+    assert_eq!(rt; add(&mut notifications), Some(notification(2)));
+    assert!(rt; set_homed(&mut notifications, notification(1), Some(context)));
+    assert_eq!(rt; notifications.homed(notification(1)), Some(context));
+    assert_eq!(rt; notifications.homed(notification(2)), None);
+    assert!(rt; raise(&mut notifications, notification(1), 4));
+    assert!(rt; set_bound(&mut notifications, notification(1), Some(thread(7))));
+    assert_eq!(rt; notifications.homed(notification(1)), Some(context));
+    assert!(rt; set_bound(&mut notifications, notification(1), None));
+    assert!(rt; !close(&mut notifications, notification(1)));
+    assert!(rt; set_homed(&mut notifications, notification(1), None));
+    assert!(rt; close(&mut notifications, notification(1)));
+    assert_eq!(rt; notifications.homed(notification(1)), None);
 }

@@ -100,8 +100,11 @@ fn threads_are_blocked_and_unblocked(rt: HostRuntime) {
 fn threads_keep_their_mail_and_are_closed(rt: HostRuntime) {
     let made = Threads::new(rt.alloc());
     assert!(rt; made.is_ok());
-    let (Ok(mut threads), Some(root), Some(message)) = (made, root(), Message::new(7, &[5, 6]))
-    else {
+    let (Ok(mut threads), Some(root), Ok(Some(message))) = (
+        made,
+        root(),
+        Message::new(rt.alloc(), 7, &[5, 6]),
+    ) else {
         return;
     };
     let a = threads.add(Prio(9), root.again());
@@ -253,9 +256,12 @@ fn add_context(contexts: &mut Contexts, core: CoreId) -> Option<ObjId> {
     Some(contexts.add(core))
 }
 
-/// Closes a context that nobody holds. Whether it was one.
+/// Closes a context that nobody holds and that is homed nowhere. Whether it was one.
 fn close_context(contexts: &mut Contexts, context: ObjId) -> bool {
-    if contexts.core(context).is_none() || contexts.holder(context).is_some() {
+    if contexts.core(context).is_none()
+        || contexts.holder(context).is_some()
+        || contexts.home_of(context).is_some()
+    {
         return false;
     }
     contexts.close(context);
@@ -293,4 +299,38 @@ fn contexts_are_bound_lent_and_closed(rt: HostRuntime) {
     assert!(rt; close_context(&mut contexts, a));
     assert_eq!(rt; contexts.core(a), None);
     assert_eq!(rt; contexts.rows().given(), 1);
+}
+
+#[test]
+fn contexts_are_homed_and_wake(rt: HostRuntime) {
+    let made = Contexts::new(rt.alloc());
+    assert!(rt; made.is_ok());
+    let Ok(mut contexts) = made else {
+        return;
+    };
+    let (t, u) = (object(Kind::Thread, 1), object(Kind::Thread, 2));
+    let (n, m) = (object(Kind::Notification, 1), object(Kind::Notification, 2));
+    let (a, b) = (object(Kind::Context, 1), object(Kind::Context, 2));
+    assert_eq!(rt; contexts.home(a, n), Err(Refusal::Missing));
+    assert_eq!(rt; add_context(&mut contexts, CoreId(0)), Some(a));
+    assert_eq!(rt; add_context(&mut contexts, CoreId(0)), Some(b));
+    assert_eq!(rt; contexts.unhome(a), Err(Refusal::NotBound));
+    assert_eq!(rt; contexts.home(a, n), Ok(()));
+    assert_eq!(rt; contexts.home(a, m), Err(Refusal::AlreadyBound));
+    assert_eq!(rt; contexts.home_of(a), Some(n));
+    assert_eq!(rt; contexts.home_of(b), None);
+    assert_eq!(rt; contexts.bind(a, t), Err(Refusal::AlreadyBound));
+    assert!(rt; contexts.wake(a, t));
+    assert_eq!(rt; contexts.holder(a), Some(t));
+    assert_eq!(rt; contexts.home_of(a), Some(n));
+    assert!(rt; !contexts.wake(a, u));
+    assert!(rt; !contexts.wake(b, t));
+    assert!(rt; !contexts.wake(b, object(Kind::Thread, 257)));
+    assert!(rt; contexts.wake(b, u));
+    assert_eq!(rt; contexts.unbind(a), Ok(()));
+    assert!(rt; !close_context(&mut contexts, a));
+    assert_eq!(rt; contexts.unhome(a), Ok(()));
+    assert_eq!(rt; contexts.home_of(a), None);
+    assert!(rt; close_context(&mut contexts, a));
+    assert!(rt; !contexts.wake(a, t));
 }

@@ -2,12 +2,21 @@
 use mcs_book::{Book, Line};
 use mcs_text::{Sink, put_answer, put_record, put_step};
 use mcs_types::{
-    Answer, Badge, Cap, CoreId, Ending, Entry, Form, Guard, Kind, Message, Mode, ObjId, Place,
-    Prio, Queue, Rec, Refusal, Rights, SendMode, Step,
+    Answer, Badge, Cap, CoreId, Ending, Entry, Form, Guard, Kind, MESSAGE_WORDS, Message, Mode,
+    ObjId, OutOfMemory, Place, Prio, Queue, Rec, Refusal, Rights, SendMode, Step,
 };
 use std::alloc::Global;
 use std::io::Write;
 use std::test::Fail;
+
+/// As many words as a message may have, from the greatest down.
+fn words() -> [u64; MESSAGE_WORDS] {
+    let mut words = [u64::MAX; MESSAGE_WORDS];
+    for (i, word) in words.iter_mut().enumerate() {
+        *word = u64::MAX - i as u64;
+    }
+    words
+}
 
 /// An object of each kind.
 #[derive(Drop)]
@@ -65,8 +74,8 @@ fn cap_to(obj: ObjId, badge: u64, bits: u8, value: u64) -> Result<Option<Cap>, F
 }
 
 /// The greatest label, and so many words as are given.
-fn message(words: &[u64]) -> Result<Message, Fail> {
-    Ok(Message::new((1 << 52) - 1, words).ok_or("message")?)
+fn message(alloc: Global, words: &[u64]) -> Result<Message, Fail> {
+    Ok(Message::new(alloc, (1 << 52) - 1, words)?.ok_or("message")?)
 }
 
 /// What was made and ended.
@@ -106,7 +115,7 @@ fn add_slots(facts: &mut Vec<Rec>, ids: &Ids) -> Result<(), Fail> {
     Ok(())
 }
 
-/// How threads run, hold contexts and are bound.
+/// How threads run, hold contexts and are bound, and where contexts are homed.
 fn add_threads(facts: &mut Vec<Rec>, ids: &Ids) -> Result<(), Fail> {
     let (thread, context) = (ids.thread, ids.context);
     let priority = Prio(255);
@@ -120,6 +129,10 @@ fn add_threads(facts: &mut Vec<Rec>, ids: &Ids) -> Result<(), Fail> {
     for notification in [None, Some(ids.notification)] {
         facts.push(Rec::Tied {
             thread,
+            notification,
+        })?;
+        facts.push(Rec::Homed {
+            context,
             notification,
         })?;
     }
@@ -149,10 +162,10 @@ fn add_queued(facts: &mut Vec<Rec>, ids: &Ids) -> Result<(), Fail> {
 
 /// A message that was sent with this badge.
 fn add_sent(
+    alloc: Global,
     facts: &mut Vec<Rec>,
     ids: &Ids,
-    mode: SendMode,
-    badge: u64,
+    (mode, badge): (SendMode, u64),
     words: &[u64],
 ) -> Result<(), Fail> {
     facts.push(Rec::Sent {
@@ -160,16 +173,19 @@ fn add_sent(
         endpoint: ids.endpoint,
         mode,
         badge: Badge(badge),
-        message: message(words)?,
+        message: message(alloc, words)?,
     })?;
     Ok(())
 }
 
 /// What was sent, taken and dropped.
-fn add_messages(facts: &mut Vec<Rec>, ids: &Ids) -> Result<(), Fail> {
-    add_sent(facts, ids, SendMode::Plain, 0, &[])?;
-    add_sent(facts, ids, SendMode::Call, 9, &[1])?;
-    add_sent(facts, ids, SendMode::Mute, u64::MAX, &[1, 2, 3, u64::MAX])?;
+fn add_messages(alloc: Global, facts: &mut Vec<Rec>, ids: &Ids) -> Result<(), Fail> {
+    add_sent(alloc, facts, ids, (SendMode::Plain, 0), &[])?;
+    add_sent(alloc, facts, ids, (SendMode::Call, 9), &[1])?;
+    add_sent(alloc, facts, ids, (SendMode::Mute, u64::MAX), &words()[..4])?;
+    // the first finds room among the words, the others stand beside the records
+    add_sent(alloc, facts, ids, (SendMode::Call, 9), &words())?;
+    add_sent(alloc, facts, ids, (SendMode::Plain, 0), &words()[..5])?;
     let thread = ids.thread;
     for message in [0, 2, u32::MAX] {
         facts.push(Rec::Took { message, thread })?;
@@ -197,7 +213,7 @@ fn add_words(facts: &mut Vec<Rec>, ids: &Ids) -> Result<(), Fail> {
 }
 
 /// What reply objects owe, and how that ends.
-fn add_debts(facts: &mut Vec<Rec>, ids: &Ids) -> Result<(), Fail> {
+fn add_debts(alloc: Global, facts: &mut Vec<Rec>, ids: &Ids) -> Result<(), Fail> {
     let (reply, caller) = (ids.reply, ids.thread);
     for context in [None, Some(ids.context)] {
         facts.push(Rec::Owes {
@@ -209,7 +225,7 @@ fn add_debts(facts: &mut Vec<Rec>, ids: &Ids) -> Result<(), Fail> {
     facts.push(Rec::Paid {
         reply,
         caller,
-        message: message(&[4, 3, 2, 1])?,
+        message: message(alloc, &words()[..119])?,
     })?;
     for ending in [Ending::Deleted, Ending::Cancelled] {
         facts.push(Rec::Void {
@@ -222,14 +238,14 @@ fn add_debts(facts: &mut Vec<Rec>, ids: &Ids) -> Result<(), Fail> {
 }
 
 /// Adds records of all kinds.
-fn add_records(facts: &mut Vec<Rec>, ids: &Ids) -> Result<(), Fail> {
+fn add_records(alloc: Global, facts: &mut Vec<Rec>, ids: &Ids) -> Result<(), Fail> {
     add_objects(facts, ids)?;
     add_slots(facts, ids)?;
     add_threads(facts, ids)?;
     add_queued(facts, ids)?;
-    add_messages(facts, ids)?;
+    add_messages(alloc, facts, ids)?;
     add_words(facts, ids)?;
-    add_debts(facts, ids)
+    add_debts(alloc, facts, ids)
 }
 
 /// The entries that receive, and a signal.
@@ -269,24 +285,24 @@ fn changes(alloc: Global) -> Result<Vec<Entry>, Fail> {
 }
 
 /// Adds the entries that send messages.
-fn add_sends(entries: &mut Vec<Entry>) -> Result<(), Fail> {
+fn add_sends(alloc: Global, entries: &mut Vec<Entry>) -> Result<(), Fail> {
     let (cap, reply) = (u64::MAX, 1);
     entries.push(Entry::Send {
         cap,
-        message: message(&[])?,
+        message: message(alloc, &[])?,
     })?;
     entries.push(Entry::NbSend {
         cap,
-        message: message(&[1])?,
+        message: message(alloc, &[1])?,
     })?;
     entries.push(Entry::Call {
         cap,
-        message: message(&[1, 2, 3, u64::MAX])?,
+        message: message(alloc, &words())?,
     })?;
     entries.push(Entry::ReplyRecv {
         cap,
         reply,
-        message: message(&[4, 3, 2, 1])?,
+        message: message(alloc, &[4, 3, 2, 1, 0])?,
     })?;
     Ok(())
 }
@@ -328,11 +344,11 @@ fn answers(alloc: Global) -> Result<Vec<Answer>, Fail> {
         Answer::Done,
         Answer::Got {
             badge,
-            message: message(&[1, 2, 3, u64::MAX])?
+            message: message(alloc, &words()[..4])?
         },
         Answer::Got {
             badge: Badge(0),
-            message: message(&[1, 2, 3, u64::MAX])?
+            message: message(alloc, &words())?
         },
         Answer::Heard { word: u64::MAX },
         Answer::Empty,
@@ -350,14 +366,19 @@ fn put<W: Write>(sink: &mut Sink<W>, step: &Step, answer: &Answer, records: &[Re
     }
 }
 
-fn put_line<W: Write>(sink: &mut Sink<W>, line: &Line<'_>) {
-    put_step(sink, &line.step());
-    put_answer(sink, &line.answer());
+fn put_line<W: Write>(
+    alloc: Global,
+    sink: &mut Sink<W>,
+    line: &Line<'_>,
+) -> Result<(), OutOfMemory> {
+    put_step(sink, &line.step(alloc)?);
+    put_answer(sink, &line.answer(alloc)?);
     for i in 0..line.record_count() {
-        if let Some(fact) = line.record(i) {
+        if let Some(fact) = line.record(alloc, i)? {
             put_record(sink, 0, &fact);
         }
     }
+    Ok(())
 }
 
 /// Adds a line for each of the entries, whose answers take turns, and writes what was added.
@@ -365,7 +386,7 @@ fn add_lines<W: Write>(alloc: Global, book: &mut Book, sink: &mut Sink<W>) -> Re
     let answers = answers(alloc)?;
     let mut entries = receives(alloc)?;
     entries.append(&mut changes(alloc)?)?;
-    add_sends(&mut entries)?;
+    add_sends(alloc, &mut entries)?;
     entries.append(&mut placed(alloc)?)?;
     for entry in entries {
         let at = book.lines() % 7;
@@ -375,10 +396,10 @@ fn add_lines<W: Write>(alloc: Global, book: &mut Book, sink: &mut Sink<W>) -> Re
             thread,
             entry,
         };
-        let answer = answers.get(at).ok_or("answer")?.copy();
+        let answer = answers.get(at).ok_or("answer")?.copy(alloc)?;
         let names = if at % 2 == 0 { own_ids() } else { odd_ids() };
         let mut facts = Vec::new(alloc);
-        add_records(&mut facts, &names)?;
+        add_records(alloc, &mut facts, &names)?;
         put(sink, &step, &answer, &facts);
         book.reserve(facts.len())?;
         book.append(&step, &answer, &mut facts);
@@ -394,20 +415,21 @@ fn fill(alloc: Global, book: &mut Book) -> Result<Vec<u8>, Fail> {
     Ok(written)
 }
 
-fn put_lines<W: Write>(sink: &mut Sink<W>, book: &Book) {
+fn put_lines<W: Write>(alloc: Global, sink: &mut Sink<W>, book: &Book) -> Result<(), OutOfMemory> {
     for i in 0..book.lines() {
         if let Some(line) = book.line(i) {
-            put_line(sink, &line);
+            put_line(alloc, sink, &line)?;
         }
     }
     sink.flush();
+    Ok(())
 }
 
 /// The text of all lines of a book.
-fn text_of(alloc: Global, book: &Book) -> Vec<u8> {
+fn text_of(alloc: Global, book: &Book) -> Result<Vec<u8>, OutOfMemory> {
     let mut written = Vec::new(alloc);
-    put_lines(&mut Sink::new(alloc, &mut written), book);
-    written
+    put_lines(alloc, &mut Sink::new(alloc, &mut written), book)?;
+    Ok(written)
 }
 
 #[test]
@@ -416,6 +438,6 @@ fn a_book_gives_back_its_lines(rt: HostRuntime) -> Result<(), Fail> {
     let added = fill(rt.alloc(), &mut book)?;
     assert_eq!(rt; book.lines(), 26);
     assert!(rt; added.len() > 25 * 1_000);
-    assert_eq!(rt; text_of(rt.alloc(), &book), added);
+    assert_eq!(rt; text_of(rt.alloc(), &book)?, added);
     Ok(())
 }

@@ -111,7 +111,7 @@ fn has_mail(
 #[test]
 fn status_and_mail_follow_a_message(rt: HostRuntime) -> Result<(), Fail> {
     let mut kernel = booted(rt.alloc(), five_threads(rt.alloc()))?;
-    let message = Message::new(7, &[5, 6]).ok_or("too many words")?;
+    let message = Message::new(rt.alloc(), 7, &[5, 6])?.ok_or("too many words")?;
     let entry = Entry::Send { cap: 1, message };
     let sent = enter(rt.alloc(), &mut kernel, 0, 1, entry);
     assert!(rt; matches!(sent, Ok(Answer::Waits)));
@@ -166,14 +166,14 @@ fn status_and_mail_follow_a_call(rt: HostRuntime) -> Result<(), Fail> {
     let entry = Entry::Recv { cap: 2, reply: 8 };
     let waits = enter(rt.alloc(), &mut kernel, 0, 2, entry);
     assert!(rt; matches!(waits, Ok(Answer::Waits)));
-    let message = Message::new(7, &[5, 6]).ok_or("too many words")?;
+    let message = Message::new(rt.alloc(), 7, &[5, 6])?.ok_or("too many words")?;
     let entry = Entry::Call { cap: 2, message };
     let called = enter(rt.alloc(), &mut kernel, 0, 1, entry);
     assert!(rt; matches!(called, Ok(Answer::Waits)));
     let owing = object(Kind::Reply, 1);
     assert_eq!(rt; kernel.status(thread(1)), Some(Status::OnReply(owing)));
     assert!(rt; has_mail(&kernel, 2, 0, 7, &[5, 6]));
-    let message = Message::new(8, &[]).ok_or("too many words")?;
+    let message = Message::new(rt.alloc(), 8, &[])?.ok_or("too many words")?;
     let entry = Entry::Send { cap: 8, message };
     let paid = enter(rt.alloc(), &mut kernel, 0, 2, entry);
     assert!(rt; matches!(paid, Ok(Answer::Done)));
@@ -185,7 +185,7 @@ fn status_and_mail_follow_a_call(rt: HostRuntime) -> Result<(), Fail> {
 #[test]
 fn status_follows_a_cancelled_sender(rt: HostRuntime) -> Result<(), Fail> {
     let mut kernel = booted(rt.alloc(), five_threads(rt.alloc()))?;
-    let message = Message::new(7, &[5, 6]).ok_or("too many words")?;
+    let message = Message::new(rt.alloc(), 7, &[5, 6])?.ok_or("too many words")?;
     let entry = Entry::Send { cap: 2, message };
     let waits = enter(rt.alloc(), &mut kernel, 0, 2, entry);
     assert!(rt; matches!(waits, Ok(Answer::Waits)));
@@ -280,7 +280,7 @@ fn who_may_not_enter_is_turned_away(rt: HostRuntime) -> Result<(), Fail> {
 /// A send, a wait of the sender, which is turned away, and a receive.
 fn replayed(alloc: Global) -> Result<Kernel<LinkedLines>, Fail> {
     let boot = five_threads(alloc)?;
-    let message = Message::new(7, &[5, 6]).ok_or("too many words")?;
+    let message = Message::new(alloc, 7, &[5, 6])?.ok_or("too many words")?;
     let core = CoreId(0);
     let steps = [
         Step {

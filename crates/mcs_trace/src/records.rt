@@ -26,7 +26,7 @@ fn name(kind: Kind, serial: u32) -> Token
 pub fn words_at(words: &[u64], at: u32, len: u8) -> &[u64]
     requires { IsMessageAt words.now at len }
     ensures value { result.now ≡ (content_at words.now at len).words }
-    ensures few { length result.now ≤ 4 }
+    ensures few { length result.now ≤ 120 }
 {
     let start = at as usize + 1;
     &words[start..start + len as usize]
@@ -53,11 +53,11 @@ fn write_object(
     wide: &[Rec],
 ) -> usize
     requires of { IsOfObject packed.now }
-    requires room { at + 320 ≤ length out.old }
+    requires room { at + 2756 ≤ length out.old }
     ensures text { Written out.old out.new at result
         (record_text sent (record_of packed.now words.now wide.now)) }
     ensures len { length out.new ≡ length out.old }
-    ensures end { result ≤ at + 320 }
+    ensures end { result ≤ at + 2756 }
 {
     match packed {
         Packed::Made { kind, serial } => write_one(out, at, Key::Made, name(*kind, *serial)),
@@ -79,11 +79,11 @@ fn write_plain_slot(
     wide: &[Rec],
 ) -> usize
     requires of { IsOfSlot packed.now }
-    requires room { at + 320 ≤ length out.old }
+    requires room { at + 2756 ≤ length out.old }
     ensures text { Written out.old out.new at result
         (record_text sent (record_of packed.now words.now wide.now)) }
     ensures len { length out.new ≡ length out.old }
-    ensures end { result ≤ at + 320 }
+    ensures end { result ≤ at + 2756 }
 {
     match packed {
         Packed::Emptied { index, cnode } => write_slot(out, at, *cnode, *index, None),
@@ -112,11 +112,11 @@ fn write_thread(
     wide: &[Rec],
 ) -> usize
     requires of { IsOfThread packed.now }
-    requires room { at + 320 ≤ length out.old }
+    requires room { at + 2756 ≤ length out.old }
     ensures text { Written out.old out.new at result
         (record_text sent (record_of packed.now words.now wide.now)) }
     ensures len { length out.new ≡ length out.old }
-    ensures end { result ≤ at + 320 }
+    ensures end { result ≤ at + 2756 }
 {
     match packed {
         Packed::Prio { priority, thread } => {
@@ -165,11 +165,11 @@ fn write_debt(
     wide: &[Rec],
 ) -> usize
     requires of { IsOfDebt packed.now }
-    requires room { at + 320 ≤ length out.old }
+    requires room { at + 2756 ≤ length out.old }
     ensures text { Written out.old out.new at result
         (record_text sent (record_of packed.now words.now wide.now)) }
     ensures len { length out.new ≡ length out.old }
-    ensures end { result ≤ at + 320 }
+    ensures end { result ≤ at + 2756 }
 {
     match packed {
         Packed::Took { message, thread } => {
@@ -215,11 +215,11 @@ fn write_bond(
     wide: &[Rec],
 ) -> usize
     requires of { IsOfBond packed.now }
-    requires room { at + 320 ≤ length out.old }
+    requires room { at + 2756 ≤ length out.old }
     ensures text { Written out.old out.new at result
         (record_text sent (record_of packed.now words.now wide.now)) }
     ensures len { length out.new ≡ length out.old }
-    ensures end { result ≤ at + 320 }
+    ensures end { result ≤ at + 2756 }
 {
     match packed {
         Packed::Held { context, thread } => {
@@ -254,6 +254,23 @@ fn write_bond(
             let thread = name(Kind::Thread, *thread);
             write_two(out, at, Key::Tied, thread, Token::Maybe(None))
         }
+        Packed::Homed {
+            context,
+            notification,
+        } => {
+            let notification = Token::Maybe(Some(id_of(Kind::Notification, *notification)));
+            write_two(
+                out,
+                at,
+                Key::Homed,
+                name(Kind::Context, *context),
+                notification,
+            )
+        }
+        Packed::Unhomed { context } => {
+            let context = name(Kind::Context, *context);
+            write_two(out, at, Key::Homed, context, Token::Maybe(None))
+        }
         _ => unreachable!(),
     }
 }
@@ -270,11 +287,11 @@ fn write_word(
 ) -> usize
     requires of { IsOfWord packed.now }
     requires fits { Fits packed.now words.now wide.now }
-    requires room { at + 320 ≤ length out.old }
+    requires room { at + 2756 ≤ length out.old }
     ensures text { Written out.old out.new at result
         (record_text sent (record_of packed.now words.now wide.now)) }
     ensures len { length out.new ≡ length out.old }
-    ensures end { result ≤ at + 320 }
+    ensures end { result ≤ at + 2756 }
 {
     match packed {
         Packed::FilledBadged {
@@ -324,11 +341,11 @@ fn write_message(
 ) -> usize
     requires of { IsOfMessage packed.now }
     requires fits { Fits packed.now words.now wide.now }
-    requires room { at + 320 ≤ length out.old }
+    requires room { at + 2756 ≤ length out.old }
     ensures text { Written out.old out.new at result
         (record_text sent (record_of packed.now words.now wide.now)) }
     ensures len { length out.new ≡ length out.old }
-    ensures end { result ≤ at + 320 }
+    ensures end { result ≤ at + 2756 }
 {
     match packed {
         Packed::Sent {
@@ -371,11 +388,11 @@ pub fn write_kept(
     wide: &[Rec],
 ) -> usize
     requires fits { Fits packed.now words.now wide.now }
-    requires room { at + 320 ≤ length out.old }
+    requires room { at + 2756 ≤ length out.old }
     ensures text { Written out.old out.new at result
         (record_text sent (record_of packed.now words.now wide.now)) }
     ensures len { length out.new ≡ length out.old }
-    ensures end { result ≤ at + 320 }
+    ensures end { result ≤ at + 2756 }
 {
     match packed {
         Packed::Made { .. } | Packed::MadeOn { .. } | Packed::Closed { .. } => {
@@ -398,7 +415,9 @@ pub fn write_kept(
         | Packed::Unheld { .. }
         | Packed::Raised { .. }
         | Packed::Tied { .. }
-        | Packed::Untied { .. } => write_bond(out, at, sent, packed, words, wide),
+        | Packed::Untied { .. }
+        | Packed::Homed { .. }
+        | Packed::Unhomed { .. } => write_bond(out, at, sent, packed, words, wide),
         Packed::FilledBadged { .. } | Packed::FilledGuarded { .. } | Packed::Heard { .. } => {
             write_word(out, at, sent, packed, words, wide)
         }
@@ -412,11 +431,11 @@ pub fn write_kept(
 /// The line of an answer where it is kept.
 pub fn write_kept_answer(out: &mut [u8], at: usize, answer: &PackedAnswer, words: &[u64]) -> usize
     requires fits { AnswerFits answer.now words.now }
-    requires room { at + 320 ≤ length out.old }
+    requires room { at + 2756 ≤ length out.old }
     ensures text { Written out.old out.new at result
         (answer_text (answer_of answer.now words.now)) }
     ensures len { length out.new ≡ length out.old }
-    ensures end { result ≤ at + 320 }
+    ensures end { result ≤ at + 2756 }
 {
     match answer {
         PackedAnswer::Done => write_bare(out, at, Key::Done),

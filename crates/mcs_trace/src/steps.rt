@@ -23,12 +23,12 @@ fn write_sending(
     label: u64,
     words: &[u64],
 ) -> usize
-    requires few { length words.now ≤ 4 }
-    requires room { at + 320 ≤ length out.old }
+    requires few { length words.now ≤ 120 }
+    requires room { at + 2756 ≤ length out.old }
     ensures text { Written out.old out.new at result
         (step_text (step_by from (sending form cap (record { label = label; words = words.now })))) }
     ensures len { length out.new ≡ length out.old }
-    ensures end { result ≤ at + 320 }
+    ensures end { result ≤ at + 2756 }
 {
     match form {
         Sending::Send => write_send(out, at, from, Key::Send, cap, label, words),
@@ -47,11 +47,11 @@ fn write_pair(
     first: u64,
     second: u64,
 ) -> usize
-    requires { at + 320 ≤ length out.old }
+    requires { at + 2756 ≤ length out.old }
     ensures text { Written out.old out.new at result
         (step_text (step_by from (over_pair form first second))) }
     ensures len { length out.new ≡ length out.old }
-    ensures end { result ≤ at + 320 }
+    ensures end { result ≤ at + 2756 }
 {
     match form {
         OverPair::Recv => write_addresses(out, at, from, Key::Recv, first, second),
@@ -70,11 +70,11 @@ fn write_over_address(
     form: OverAddress,
     address: u64,
 ) -> usize
-    requires { at + 320 ≤ length out.old }
+    requires { at + 2756 ≤ length out.old }
     ensures text { Written out.old out.new at result
         (step_text (step_by from (over_address form address))) }
     ensures len { length out.new ≡ length out.old }
-    ensures end { result ≤ at + 320 }
+    ensures end { result ≤ at + 2756 }
 {
     match form {
         OverAddress::Wait => write_address(out, at, from, Key::Wait, address),
@@ -90,11 +90,11 @@ fn write_over_address(
 
 /// The line of an entry of one place.
 fn write_at_place(out: &mut [u8], at: usize, from: Entrant, form: OverPlace, place: Place) -> usize
-    requires { at + 320 ≤ length out.old }
+    requires { at + 2756 ≤ length out.old }
     ensures text { Written out.old out.new at result
         (step_text (step_by from (over_place form place))) }
     ensures len { length out.new ≡ length out.old }
-    ensures end { result ≤ at + 320 }
+    ensures end { result ≤ at + 2756 }
 {
     match form {
         OverPlace::DeleteCap => write_delete(out, at, from, place),
@@ -120,11 +120,11 @@ pub fn write_kept_step(
     words: &[u64],
 ) -> usize
     requires fits { EntryFits entry.now words.now }
-    requires room { at + 320 ≤ length out.old }
+    requires room { at + 2756 ≤ length out.old }
     ensures text { Written out.old out.new at result
         (step_text (step_by from (entry_of entry.now words.now))) }
     ensures len { length out.new ≡ length out.old }
-    ensures end { result ≤ at + 320 }
+    ensures end { result ≤ at + 2756 }
 {
     match entry {
         PackedEntry::Sends {

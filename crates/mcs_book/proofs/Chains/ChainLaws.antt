@@ -344,7 +344,7 @@ closed-unheld [] s sound h = absurd cc
 closed-unheld (rec.Closed o ∷ R) s sound h = go (same s o) refl h (closed-unheld R s sound.1)
   where
     released : (k : Kind) → k ≡ kind.Context → IsReleased R k o → holder_of R o ≡ None
-    released k is i = subst (λ (j : Kind). IsReleased R j o) is i
+    released k is i = (subst (λ (j : Kind). IsReleased R j o) is i).0
 
     held : s ≡ o → (h : Option ObjId) → holder_of R s ≡ h → h ≡ None
     held is None e = refl

@@ -17,21 +17,21 @@ use Rattle.mcs_book.specs.Logs.{Log, onto, given}
 use Rattle.mcs_book.specs.Objects.{closes, is_alive}
 use Rattle.mcs_book.specs.Slots.{slot, is_cap_to}
 use Rattle.mcs_book.specs.Queues.{queue_of, reply_with, queued_in}
-use Rattle.mcs_book.specs.Contexts.{holder_of, context_of}
+use Rattle.mcs_book.specs.Contexts.{holder_of, context_of, home_of, homed_at}
 use Rattle.mcs_book.specs.Replies.{owed_by, receiver_with}
 use Rattle.mcs_book.specs.Chains.{topped_by}
 use Rattle.mcs_book.specs.Notifications.{bound_of, tied_to}
 use Rattle.mcs_book.specs.Pieces.{Piece, ◌then◌, say, with_any}
 use Rattle.mcs_book.specs.Taking.{back_to, give_back, pay}
-use Rattle.mcs_book.specs.Cancelling.{cancel, cancel_all, untie, let_go, void_deleted, release, destroy}
-use Rattle.mcs_book.specs.Sound.{IsThere, IsIdle, IsReleased, IsUnattended}
+use Rattle.mcs_book.specs.Cancelling.{cancel, cancel_all, untie, let_go, unhome, unbind, void_deleted, release, destroy}
+use Rattle.mcs_book.specs.Sound.{IsThere, IsIdle, IsReleased, IsUnattended, IsEmptyLine, IsUnbound}
 use Rattle.mcs_book.proofs.Queues.Sorted.{In}
 use Rattle.mcs_book.proofs.Queues.NoneBeside.{left-queue}
 use Rattle.mcs_book.proofs.Threads.HoldingLaws.{holder-one, context_of-holder}
 use Rattle.mcs_book.proofs.Threads.UserLaws.{one_user, receiver_with-named, unattended-none}
 use Rattle.mcs_book.proofs.SoundLogs.Keeping.{then-next}
-use Rattle.mcs_book.proofs.SoundLogs.KeptLaws.{set-split, set-self, set-kept, never-both, same-never, there-next, owed-there, ended-idle, standing-thread, bound-one}
-use Rattle.mcs_book.proofs.Firm.Laws.{Firm, Strict, firm-sound, context-none, tied-bound, tied-none, topped-there}
+use Rattle.mcs_book.proofs.SoundLogs.KeptLaws.{set-split, set-self, set-kept, never-both, same-never, there-next, owed-there, ended-idle, standing-thread, bound-one, home-one}
+use Rattle.mcs_book.proofs.Firm.Laws.{Firm, Strict, firm-sound, context-none, tied-bound, tied-none, homed_at-home, homed_at-none, topped-there}
 use Rattle.mcs_book.proofs.Firm.Cancel.{IsLeft, cancelled, Outlasts, outlasts-cancel, outlasts-cancel_all, all-cancelled, line-emptied, line-in, in-line, in-left, in-right, in-either}
 
 -- a debt of r to x is ended, x goes on in some mode, and the context of the chain that r topped returns to x
@@ -147,9 +147,16 @@ endpoint-done R o firm = record {
     threads_there : (y : ObjId) → In y xs → IsThere R kind.Thread y
     threads_there y i = in-either y (queued_in R (Senders o)) (queued_in R (Receivers o)) (IsThere R kind.Thread y) (λ j. standing-thread R y (Senders o) (firm-sound R firm) (in-line R (Senders o) y j)) (λ j. standing-thread R y (Receivers o) (firm-sound R firm) (in-line R (Receivers o) y j)) i
 
--- a notification's line is emptied, and nobody is bound to it
+-- nobody waits on a notification or is bound to it, and contexts are homed where they were
+record IsUnwatched (R : Log) (o : ObjId) (R' : Log) : Type 0 where
+  firm : Firm R'
+  empty : IsEmptyLine R' (Waiters o)
+  unbound : IsUnbound R' o
+  homes : (s : ObjId) → home_of R' s ≡ home_of R s
+
+-- a notification's line is emptied, nobody is bound to it, and no context is homed at it
 notification-done : (R : Log) (o : ObjId) → Firm R → IsDone kind.Notification o (onto (release R o kind.Notification R) R)
-notification-done R o firm = then-next (IsDone kind.Notification o) (cancel_all xs Restart) (untie (tied_to R o)) R (go (tied_to R o) refl)
+notification-done R o firm = then-next (IsDone kind.Notification o) (cancel_all xs Restart then untie (tied_to R o)) (unhome (homed_at R o)) R (ends (homed_at R o) refl _ (then-next (IsUnwatched R o) (cancel_all xs Restart) (untie (tied_to R o)) R (go (tied_to R o) refl)))
   where
     xs : List ObjId
     xs = queued_in R (Waiters o)
@@ -169,14 +176,28 @@ notification-done R o firm = then-next (IsDone kind.Notification o) (cancel_all 
     binding : (y : ObjId) → bound_of S y ≡ bound_of R y
     binding y = outlasts-cancel_all (λ R'. bound_of R' y ≡ bound_of R y) xs Restart (λ x. record { dropped = λ R m h. h; parts = λ R q h. h; voided = λ R r h. h; turns = λ R h. h }) R refl
 
-    go : (b : Option ObjId) → tied_to R o ≡ b → IsDone kind.Notification o (onto (untie b S) S)
+    homing : (s : ObjId) → home_of S s ≡ home_of R s
+    homing s = outlasts-cancel_all (λ R'. home_of R' s ≡ home_of R s) xs Restart (λ x. record { dropped = λ R m h. h; parts = λ R q h. h; voided = λ R r h. h; turns = λ R h. h }) R refl
+
+    go : (b : Option ObjId) → tied_to R o ≡ b → IsUnwatched R o (onto (untie b S) S)
     go (Some u) is =
         let bound : bound_of S u ≡ Some o = binding u ∙ tied-bound R o u is in
         record {
           firm = ((ap (λ z. is_some z) bound, tt), firm1);
-          released = (empty, λ y b. elim (set-split y u None (bound_of S y) (Some o) b) [ inl (who, none) ↦ absurd cc | inr (other, still) ↦ same-never y u (bound-one S y u o (firm-sound S firm1) still bound) other ]);
+          empty = empty;
+          unbound = λ y b. elim (set-split y u None (bound_of S y) (Some o) b) [ inl (who, none) ↦ absurd cc | inr (other, still) ↦ same-never y u (bound-one S y u o (firm-sound S firm1) still bound) other ];
+          homes = homing;
         }
-    go None is = record { firm = firm1; released = (empty, λ y b. tied-none R o (firm-sound R firm) is y (sym (binding y) ∙ b)) }
+    go None is = record { firm = firm1; empty = empty; unbound = λ y b. tied-none R o (firm-sound R firm) is y (sym (binding y) ∙ b); homes = homing }
+
+    ends : (c : Option ObjId) → homed_at R o ≡ c → (R' : Log) → IsUnwatched R o R' → IsDone kind.Notification o (onto (unhome c R') R')
+    ends (Some s) is R' h =
+        let home : home_of R' s ≡ Some o = h.homes s ∙ homed_at-home R o s is in
+        record {
+          firm = ((ap (λ z. is_some z) home, tt), h.firm);
+          released = (h.empty, h.unbound, λ c k. elim (set-split c s None (home_of R' c) (Some o) k) [ inl (who, none) ↦ absurd cc | inr (other, still) ↦ same-never c s (home-one R' c s o (firm-sound R' h.firm) still home) other ]);
+        }
+    ends None is R' h = record { firm = h.firm; released = (h.empty, h.unbound, λ c k. homed_at-none R o (firm-sound R firm) is c (sym (h.homes c) ∙ k)) }
 
 -- once the thread that receives with r is cancelled, nobody does
 pub unattended-left : (R : Log) (r x e : ObjId) → Firm R → queue_of R x ≡ Some (Receivers e) → reply_with R x ≡ Some r → IsUnattended (onto (cancel x Inactive R) R) r
@@ -207,13 +228,28 @@ reply-done R o firm = then-next (IsDone kind.Reply o) (with_any (receiver_with R
       released = (void-free o S, outlasts-void (λ R. IsUnattended R o) (record { paid = λ R r x message h. h; voided = λ R r x how h. h; turns = λ R x h. h; holds = λ R s x h. h }) o S h.1);
     }
 
--- nobody holds a context any more
+-- a context that is homed nowhere, and held as it was
+record IsUnhomed (R : Log) (o : ObjId) (R' : Log) : Type 0 where
+  firm : Firm R'
+  homeless : home_of R' o ≡ None
+  held : holder_of R' o ≡ holder_of R o
+
+-- a context is homed nowhere, and nobody holds it any more
 context-done : (R : Log) (o : ObjId) → Firm R → IsDone kind.Context o (onto (release R o kind.Context R) R)
-context-done R o firm = go (holder_of R o) refl
+unfolding unbind
+context-done R o firm = then-next (IsDone kind.Context o) (with_any (home_of R o) (λ n. say (rec.Homed o None))) (with_any (holder_of R o) (λ t. say (rec.Holds o None))) R (ends (holder_of R o) refl _ (go (home_of R o) refl))
   where
-    go : (h : Option ObjId) → holder_of R o ≡ h → IsDone kind.Context o (onto (with_any h (λ t. say (rec.Holds o None)) R) R)
-    go (Some t) is = record { firm = ((ap (λ z. is_some z) is, tt), firm); released = set-self o None (holder_of R o) }
-    go None is = record { firm = firm; released = is }
+    go : (h : Option ObjId) → home_of R o ≡ h → IsUnhomed R o (onto (with_any h (λ n. say (rec.Homed o None)) R) R)
+    go (Some n) is = record { firm = ((ap (λ z. is_some z) is, tt), firm); homeless = set-self o None (home_of R o); held = refl }
+    go None is = record { firm = firm; homeless = is; held = refl }
+
+    ends : (h : Option ObjId) → holder_of R o ≡ h → (R' : Log) → IsUnhomed R o R' → IsDone kind.Context o (onto (with_any h (λ t. say (rec.Holds o None)) R') R')
+    ends (Some t) is R' k = record { firm = ((ap (λ z. is_some z) (k.held ∙ is), tt), k.firm); released = (set-self o None (holder_of R' o), k.homeless) }
+    ends None is R' k = record { firm = k.firm; released = (k.held ∙ is, k.homeless) }
+
+-- that keeps a log firm
+pub firm-unbind : (s : ObjId) (R : Log) → Firm R → Firm (onto (unbind s R) R)
+firm-unbind s R firm = (context-done R s firm).firm
 
 -- a thread that is idle and unbound, and holds what it held
 record IsUntied (R : Log) (o : ObjId) (R' : Log) : Type 0 where
@@ -286,12 +322,31 @@ last-ending o = record {
   holds = λ R s x h. record { alive = h.alive; no_cap = h.no_cap };
 }
 
+-- and a context that is homed nowhere and held by nobody any more
+last-unbind : (o d : ObjId) (R : Log) → IsLast o R → IsLast o (onto (unbind d R) R)
+unfolding unbind
+last-unbind o d R h = then-next (IsLast o) (with_any (home_of R d) (λ n. say (rec.Homed d None))) (with_any (holder_of R d) (λ t. say (rec.Holds d None))) R (lets (holder_of R d) _ (homes (home_of R d)))
+  where
+    homes : (u : Option ObjId) → IsLast o (onto (with_any u (λ n. say (rec.Homed d None)) R) R)
+    homes (Some n) = record { alive = h.alive; no_cap = h.no_cap }
+    homes None = h
+
+    lets : (u : Option ObjId) (R' : Log) → IsLast o R' → IsLast o (onto (with_any u (λ t. say (rec.Holds d None)) R') R')
+    lets (Some t) R' k = record { alive = k.alive; no_cap = k.no_cap }
+    lets None R' k = k
+
 -- and what the end of an object does to others
 pub last-release : (R : Log) (o d : ObjId) (k : Kind) → IsLast o R → IsLast o (onto (release R d k R) R)
 last-release R o d kind.CNode h = h
 last-release R o d kind.Endpoint h = outlasts-cancel_all (IsLast o) _ Restart (λ x. last-cancel o x Restart) R h
-last-release R o d kind.Notification h = then-next (IsLast o) (cancel_all _ Restart) (untie (tied_to R d)) R (go (tied_to R d) _ (outlasts-cancel_all (IsLast o) _ Restart (λ x. last-cancel o x Restart) R h))
+last-release R o d kind.Notification h =
+    then-next (IsLast o) (cancel_all (queued_in R (Waiters d)) Restart then untie (tied_to R d)) (unhome (homed_at R d)) R
+    (homes (homed_at R d) _ (then-next (IsLast o) (cancel_all (queued_in R (Waiters d)) Restart) (untie (tied_to R d)) R (go (tied_to R d) _ (outlasts-cancel_all (IsLast o) _ Restart (λ x. last-cancel o x Restart) R h))))
   where
+    homes : (b : Option ObjId) (R' : Log) → IsLast o R' → IsLast o (onto (unhome b R') R')
+    homes (Some s) R' k = record { alive = k.alive; no_cap = k.no_cap }
+    homes None R' k = k
+
     go : (b : Option ObjId) (R' : Log) → IsLast o R' → IsLast o (onto (untie b R') R')
     go (Some u) R' k = record { alive = k.alive; no_cap = k.no_cap }
     go None R' k = k
@@ -300,11 +355,7 @@ last-release R o d kind.Reply h = then-next (IsLast o) (with_any (receiver_with 
     go : (u : Option ObjId) → IsLast o (onto (with_any u (λ x. cancel x Inactive) R) R)
     go (Some x) = outlasts-cancel (IsLast o) x Inactive (last-cancel o x Inactive) R h
     go None = h
-last-release R o d kind.Context h = go (holder_of R d)
-  where
-    go : (u : Option ObjId) → IsLast o (onto (with_any u (λ t. say (rec.Holds d None)) R) R)
-    go (Some t) = record { alive = h.alive; no_cap = h.no_cap }
-    go None = h
+last-release R o d kind.Context h = last-unbind o d R h
 last-release R o d kind.Thread h =
     then-next (IsLast o) (cancel d Inactive then with_any (bound_of R d) (λ n. say (rec.Tied d None))) (let_go (context_of R d)) R
     (lets (context_of R d) _ (then-next (IsLast o) (cancel d Inactive) (with_any (bound_of R d) (λ n. say (rec.Tied d None))) R (ties (bound_of R d) _ (outlasts-cancel (IsLast o) d Inactive (last-cancel o d Inactive) R h))))

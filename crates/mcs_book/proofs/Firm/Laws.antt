@@ -23,13 +23,13 @@ use Rattle.mcs_book.specs.Threads.{threads, root_kept, root_of}
 use Rattle.mcs_types.specs.Chains.{head_of}
 use Rattle.mcs_book.specs.Queues.{queue_of}
 use Rattle.mcs_book.specs.Messages.{next_message, letter, settles, is_open}
-use Rattle.mcs_book.specs.Contexts.{contexts, context_of}
+use Rattle.mcs_book.specs.Contexts.{contexts, context_of, home_of, homed_at}
 use Rattle.mcs_book.specs.Replies.{replies, owed_by, owing}
 use Rattle.mcs_book.specs.Chains.{chain_of, topped_by, kept}
 use Rattle.mcs_book.specs.Notifications.{bound_of, tied_to}
 use Rattle.mcs_book.specs.Each.{Each}
 use Rattle.mcs_book.specs.Fair.{TakesAlive, TakesFirst}
-use Rattle.mcs_book.specs.Sound.{Allowed, Sound, IsThere, IsFormOf, IsOwedNothing, IsEmptyLine, HoldsNone, IsUnbound}
+use Rattle.mcs_book.specs.Sound.{Allowed, Sound, IsThere, IsFormOf, IsOwedNothing, IsEmptyLine, HoldsNone, IsUnbound, IsNoHome}
 use Rattle.mcs_types.proofs.Ids.{same-self, same_kind-equal, parts, both}
 use Rattle.mcs_book.proofs.Objects.Same.{is_just-some}
 use Rattle.mcs_book.proofs.Queues.Sorted.{In}
@@ -37,7 +37,7 @@ use Rattle.mcs_book.proofs.Objects.MadeLaws.{made-in, alive-made}
 use Rattle.mcs_book.proofs.Messages.MessageLaws.{find-passes, letter-below}
 use Rattle.mcs_book.proofs.Queues.NoneBeside.{made-more}
 use Rattle.mcs_book.proofs.Threads.HoldingLaws.{find-alone, holder-context_of}
-use Rattle.mcs_book.proofs.SoundLogs.KeptLaws.{given-split, set-split, never-both, there-next, there-closed, owed-there, owed-one, bound-there}
+use Rattle.mcs_book.proofs.SoundLogs.KeptLaws.{given-split, set-split, never-both, there-next, there-closed, owed-there, owed-one, bound-there, home-there, home-one}
 
 -- what is kept of a record beside what is allowed: of roots, badges, waiters, and of messages that are taken
 abbrev pub Also : Log → Rec → Type 0
@@ -195,6 +195,23 @@ unfolding tied_to
 tied-none R n sound none t b =
     let f : IsThere R kind.Thread t × IsThere R kind.Notification n = bound-there R t n sound b in
     find-misses (λ t. is_just (bound_of R t) n) (threads R) t (made-in R t kind.Thread f.0.0 (alive-made R t f.0.1)) (ap (λ d. is_just d n) b ∙ same-self n) none
+
+-- the context that is found homed is homed
+pub homed_at-home : (R : Log) (n s : ObjId) → homed_at R n ≡ Some s → home_of R s ≡ Some n
+unfolding homed_at
+homed_at-home R n s h = is_just-some (home_of R s) n (find-passes (λ s. is_just (home_of R s) n) (contexts R) s h)
+
+-- the one that is homed at n is found
+pub home-homed_at : (R : Log) (n s : ObjId) → Sound R → home_of R s ≡ Some n → homed_at R n ≡ Some s
+unfolding homed_at
+home-homed_at R n s sound h =
+    let there : IsThere R kind.Context s = (home-there R s n sound h).0 in
+    find-alone (λ s. is_just (home_of R s) n) (contexts R) s (made-in R s kind.Context there.0 (alive-made R s there.1)) (ap (λ o. is_just o n) h ∙ same-self n)
+    (λ z is. home-one R z s n sound (is_just-some (home_of R z) n is) h)
+
+-- none is found homed, so none is
+pub homed_at-none : (R : Log) (n : ObjId) → Sound R → homed_at R n ≡ None → IsNoHome R n
+homed_at-none R n sound none s h = let no : None ≡ Some s = sym none ∙ home-homed_at R n s sound h in absurd cc
 
 -- the context whose chain is topped is there
 pub topped-there : (R : Log) (r s : ObjId) → topped_by R r ≡ Some s → IsThere R kind.Context s

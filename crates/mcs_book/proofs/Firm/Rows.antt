@@ -19,7 +19,7 @@ use Rattle.mcs_book.specs.Logs.{Log, onto}
 use Rattle.mcs_book.specs.Objects.{form_of, next_id}
 use Rattle.mcs_book.specs.Slots.{SlotName, slot, count_of}
 use Rattle.mcs_book.specs.Queues.{queue_of}
-use Rattle.mcs_book.specs.Contexts.{holder_of}
+use Rattle.mcs_book.specs.Contexts.{holder_of, home_of}
 use Rattle.mcs_book.specs.Notifications.{bound_of, tied_to}
 use Rattle.mcs_book.specs.Checks.{Checked}
 use Rattle.mcs_book.specs.Rights.{is_kind}
@@ -52,13 +52,14 @@ pub record Woken (S W : Log) : Type 0 where
   pub counts : (o : ObjId) → count_of W o ≡ count_of S o
   pub stands : (x : ObjId) → queue_of W x ≡ queue_of S x
   pub holders : (s : ObjId) → holder_of W s ≡ holder_of S s
+  pub homes : (s : ObjId) → home_of W s ≡ home_of S s
   pub next : (k : Kind) → next_id W k ≡ next_id S k
 
 -- whether it is woken or not
 pub woken : (S : Log) (t : ObjId) (mode : Mode) → Woken S (onto (wakes mode t S) S)
-woken S t Restart = record { since = record { alive = λ o h. h; bound = λ x. refl }; forms = λ o. refl; slots = λ c i. refl; counts = λ o. refl; stands = λ x. refl; holders = λ s. refl; next = λ k. refl }
-woken S t Running = record { since = record { alive = λ o h. h; bound = λ x. refl }; forms = λ o. refl; slots = λ c i. refl; counts = λ o. refl; stands = λ x. refl; holders = λ s. refl; next = λ k. refl }
-woken S t Inactive = record { since = record { alive = λ o h. h; bound = λ x. refl }; forms = λ o. refl; slots = λ c i. refl; counts = λ o. refl; stands = λ x. refl; holders = λ s. refl; next = λ k. refl }
+woken S t Restart = record { since = record { alive = λ o h. h; bound = λ x. refl }; forms = λ o. refl; slots = λ c i. refl; counts = λ o. refl; stands = λ x. refl; holders = λ s. refl; homes = λ s. refl; next = λ k. refl }
+woken S t Running = record { since = record { alive = λ o h. h; bound = λ x. refl }; forms = λ o. refl; slots = λ c i. refl; counts = λ o. refl; stands = λ x. refl; holders = λ s. refl; homes = λ s. refl; next = λ k. refl }
+woken S t Inactive = record { since = record { alive = λ o h. h; bound = λ x. refl }; forms = λ o. refl; slots = λ c i. refl; counts = λ o. refl; stands = λ x. refl; holders = λ s. refl; homes = λ s. refl; next = λ k. refl }
 
 -- the first capability to an object that is made
 abbrev new_cap : ObjId → ℕ → Cap

@@ -21,15 +21,15 @@ use Rattle.mcs_types.specs.declared.entry.Entry.{Entry}
 use Rattle.mcs_types.specs.declared.entry.Entry.TheVariants.{Send, NbSend, Call, Recv, NbRecv, Wait, NbWait, ReplyRecv, Signal, SetPriority, Suspend, Resume, BindNtfn, UnbindNtfn, BindCtx, UnbindCtx, CancelBadged, CopyCap, MintCap, MoveCap, DeleteCap, MakeEndpoint, MakeNotification, MakeReply, MakeContext}
 use Rattle.mcs_types.specs.Ids.{same_kind}
 use Rattle.mcs_book.specs.Logs.{Log, onto}
-use Rattle.mcs_book.specs.Objects.{was_made, was_closed, form_of}
+use Rattle.mcs_book.specs.Objects.{was_made, was_closed, is_alive, form_of}
 use Rattle.mcs_book.specs.Slots.{SlotName, slot}
 use Rattle.mcs_book.specs.Threads.{mode_of}
 use Rattle.mcs_book.specs.Queues.{queue_of, first_in, queued_in}
 use Rattle.mcs_book.specs.Messages.{open_of}
-use Rattle.mcs_book.specs.Contexts.{holder_of, context_of}
+use Rattle.mcs_book.specs.Contexts.{context_of, homed_at}
 use Rattle.mcs_book.specs.Replies.{owing}
 use Rattle.mcs_book.specs.Notifications.{bound_of, tied_to}
-use Rattle.mcs_book.specs.Chains.{chain_of}
+use Rattle.mcs_book.specs.Binding.{is_loose, bind_by}
 use Rattle.mcs_book.specs.Standing.{status_of, is_ready, status_by, is_on_core, may_enter}
 use Rattle.mcs_book.specs.Checks.{Checked, ◌>>=◌}
 use Rattle.mcs_book.specs.Rights.{call_mode}
@@ -38,7 +38,7 @@ use Rattle.mcs_book.specs.Pieces.{Piece, nothing, Act}
 use Rattle.mcs_book.specs.Cancelling.{cancel, cancel_all}
 use Rattle.mcs_book.specs.Sending.{letter_over, queues, send_over}
 use Rattle.mcs_book.specs.Receiving.{reply_at}
-use Rattle.mcs_book.specs.Placing.{source_and_dest, fills, is_last_cnode, is_empty, has_badge, senders_with}
+use Rattle.mcs_book.specs.Placing.{source_and_dest, fills, is_last_cnode, has_badge, senders_with}
 use Rattle.mcs_book.specs.Table.{row, wakes, outcome_of, does}
 use Rattle.mcs_types.specs.Ranges.{InRange}
 use Rattle.mcs_book.specs.Sound.{IsThere, IsIdle}
@@ -46,12 +46,13 @@ use Rattle.mcs_types.proofs.Ids.{parts}
 use Rattle.mcs_book.proofs.Queues.Sorted.{filter-in}
 use Rattle.mcs_book.proofs.Objects.MadeLaws.{alive-made}
 use Rattle.mcs_book.proofs.Queues.QueueLaws.{first-none}
-use Rattle.mcs_book.proofs.Books.Checking.{OnPassed, passed-ok, passed-after, passed-bind, passed-next}
+use Rattle.mcs_book.proofs.Books.Checking.{OnPassed, passed-ok, passed-err, passed-after, passed-bind, passed-next}
 use Rattle.mcs_book.proofs.SoundLogs.Keeping.{then-next}
 use Rattle.mcs_book.proofs.Threads.EntersLaws.{IsEntering, enters-ready}
 use Rattle.mcs_book.proofs.Messages.SendersOpen.{Idle, idle-steps, Rests}
 use Rattle.mcs_book.proofs.SoundLogs.KeptLaws.{set-self, standing-thread}
-use Rattle.mcs_book.proofs.Firm.Laws.{Firm, firm-sound, core-small, tied-none, none-is, context-none, owing-none}
+use Rattle.mcs_book.proofs.Firm.Laws.{Firm, firm-sound, core-small, tied-none, none-is, context-none, owing-none, homed_at-none}
+use Rattle.mcs_book.proofs.Firm.Ends.{firm-unbind}
 use Rattle.mcs_book.proofs.Firm.Cancel.{cancelled, all-cancelled, in-line}
 use Rattle.mcs_book.proofs.Firm.Taking.{firm-signal}
 use Rattle.mcs_book.proofs.Firm.Lookup.{passed-need, IsSlotOf, IsHeld, IsHeldOf, capability-held, of_kind-held, slot_named-slot}
@@ -90,10 +91,28 @@ module _ (t : ObjId) (S : Log) (firm : Firm S) where
       )
 
   -- a context is given to a thread
-  firm-gives : (s x : ObjId) → IsThere S kind.Context s → IsThere S kind.Thread x → (is_none (holder_of S s) && is_empty (chain_of S s) && is_none (context_of S x)) ≡ true → (W : Log) → Woken S W → Acting t W → Firm (rec.Holds s (Some x) ∷ W)
+  firm-gives : (s x : ObjId) → IsThere S kind.Context s → IsThere S kind.Thread x → (is_loose S s && is_none (context_of S x)) ≡ true → (W : Log) → Woken S W → Acting t W → Firm (rec.Holds s (Some x) ∷ W)
   firm-gives s x there thread ok W w h =
       let (rest, none) = parts _ _ ok in
       (((woken-there t S firm W kind.Context s w there, woken-there t S firm W kind.Thread x w thread, λ c k. context-none S x (firm-sound S firm) (none-is _ none) c (sym (w.holders c) ∙ k)), tt), h.firm)
+
+  -- a context is homed at a notification
+  firm-homes : (s n : ObjId) → IsThere S kind.Context s → IsThere S kind.Notification n → (is_loose S s && is_none (homed_at S n)) ≡ true → (W : Log) → Woken S W → Acting t W → Firm (rec.Homed s (Some n) ∷ W)
+  firm-homes s n there ntfn ok W w h =
+      let (loose, none) = parts _ _ ok in
+      let (unheld, unlent) = parts _ _ loose in
+      let (held, homeless) = parts _ _ unheld in
+      (((woken-there t S firm W kind.Context s w there, woken-there t S firm W kind.Notification n w ntfn, w.homes s ∙ none-is _ homeless, λ c k. homed_at-none S n (firm-sound S firm) (none-is _ none) c (sym (w.homes c) ∙ k)), tt), h.firm)
+
+  -- a context is bound, by the kind of what it is bound to
+  firm-bind_by : (k : Kind) (s o : ObjId) → IsThere S kind.Context s → o.kind ≡ k → is_alive S o ≡ true → OnPassed Keeps (bind_by k S s o)
+  unfolding bind_by
+  firm-bind_by kind.Thread s o there e alive = passed-need Keeps _ _ _ (λ ok. passed-ok Keeps _ (firm-gives s o there (e, alive) ok))
+  firm-bind_by kind.Notification s o there e alive = passed-need Keeps _ _ _ (λ ok. passed-ok Keeps _ (firm-homes s o there (e, alive) ok))
+  firm-bind_by kind.CNode s o there e alive = passed-err _ _
+  firm-bind_by kind.Endpoint s o there e alive = passed-err _ _
+  firm-bind_by kind.Reply s o there e alive = passed-err _ _
+  firm-bind_by kind.Context s o there e alive = passed-err _ _
 
   -- the senders of a badge are cancelled
   firm-badged : (e : ObjId) (badge : ℕ) (W : Log) → Woken S W → Acting t W → Firm (onto (cancel_all (senders_with S e badge) Restart W) W)
@@ -121,8 +140,8 @@ module _ (t : ObjId) (S : Log) (firm : Firm S) where
       firm-if (is_ready (status_of S thread.obj)) nothing (cancel thread.obj Restart) W h.firm ((cancelled thread.obj Restart W (woken-there t S firm W kind.Thread thread.obj w held.there) h.firm).firm)))
   firm-row core (BindNtfn x n) range small = with-kind kind.Thread x _ (λ thread held. with-kind kind.Notification n _ (λ cap ntfn. passed-next _ _ _ (passed-need Keeps _ _ _ (λ ok. passed-ok Keeps _ (firm-ties thread.obj cap.obj held.there ntfn.there ok)))))
   firm-row core (UnbindNtfn x) range small = with-kind kind.Thread x _ (λ thread held. passed-need Keeps _ _ _ (λ ok. passed-ok Keeps _ (λ W w h. ((ap (λ o. is_some o) (w.since.bound thread.obj) ∙ ok, tt), h.firm))))
-  firm-row core (BindCtx s x) range small = with-kind kind.Context s _ (λ context held. with-kind kind.Thread x _ (λ thread held'. passed-need Keeps _ _ _ (λ ok. passed-ok Keeps _ (firm-gives context.obj thread.obj held.there held'.there ok))))
-  firm-row core (UnbindCtx s) range small = with-kind kind.Context s _ (λ context held. passed-need Keeps _ _ _ (λ ok. passed-ok Keeps _ (λ W w h. ((ap (λ o. is_some o) (w.holders context.obj) ∙ ok, tt), h.firm))))
+  firm-row core (BindCtx s x) range small = with-kind kind.Context s _ (λ context held. with-cap x _ (λ target held'. firm-bind_by target.obj.kind context.obj target.obj held.there refl held'.alive))
+  firm-row core (UnbindCtx s) range small = with-kind kind.Context s _ (λ context held. passed-need Keeps _ _ _ (λ ok. passed-ok Keeps _ (λ W w h. firm-unbind context.obj W h.firm)))
   firm-row core (CancelBadged a) range small = with-kind kind.Endpoint a _ (λ cap held. passed-next _ _ _ (passed-ok Keeps _ (λ W w h.
       firm-if (cap.badge.0 == 0) nothing (cancel_all (senders_with S cap.obj cap.badge.0) Restart) W h.firm (firm-badged cap.obj cap.badge.0 W w h))))
   firm-row core (CopyCap source dest rights) range small = passed-after (IsPlaced t S firm) Keeps (source_and_dest S t source dest) _ (firm-placed t S firm source dest) (λ at is. passed-ok Keeps _ (λ W w h.

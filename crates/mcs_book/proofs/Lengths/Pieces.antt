@@ -22,14 +22,14 @@ use Rattle.mcs_book.specs.Threads.{threads}
 use Rattle.mcs_book.specs.Slots.{count_of}
 use Rattle.mcs_book.specs.Messages.{open_of}
 use Rattle.mcs_book.specs.Queues.{queue_of, first_in, reply_with, queued_in}
-use Rattle.mcs_book.specs.Contexts.{context_of, holder_of}
+use Rattle.mcs_book.specs.Contexts.{context_of, holder_of, home_of, homed_at}
 use Rattle.mcs_book.specs.Replies.{owed_by, owing, receiver_with, user_of}
 use Rattle.mcs_book.specs.Chains.{topped_by}
 use Rattle.mcs_book.specs.Notifications.{bound_of, tied_to, pending}
 use Rattle.mcs_book.specs.Pieces.{Piece, ◌then◌, nothing, say, with_any, for_each}
 use Rattle.mcs_book.specs.Taking.{debt, owe, settle, handed, taken, back_to, give_back, pay}
 use Rattle.mcs_book.specs.Signalling.{queue_of_any, hearer, reach, signal}
-use Rattle.mcs_book.specs.Cancelling.{drop_message, leave, cancel, cancel_all, void_deleted, release, destroy}
+use Rattle.mcs_book.specs.Cancelling.{drop_message, leave, cancel, cancel_all, unbind, void_deleted, release, destroy}
 use Rattle.mcs_book.specs.Receiving.{free}
 use Rattle.mcs_book.specs.Placing.{destroy_last}
 use Rattle.mcs_book.specs.Table.{wakes}
@@ -90,6 +90,11 @@ module _ (T : List ObjId) where
   pub few-each : (xs : List ObjId) (p : ObjId → Piece) → ((x : ObjId) → Few 3 (p x)) → Few (3 * length xs) (for_each xs p)
   few-each [] p h = few-nothing
   few-each (x ∷ xs) p h = few-within (3 + 3 * length xs) (3 * suc (length xs)) (p x then for_each xs p) (omega arith) (few-then 3 (3 * length xs) (p x) (for_each xs p) (h x) (few-each xs p h))
+
+  -- a context is homed nowhere and held by nobody
+  pub few-unbind : (s : ObjId) → Few 2 (unbind s)
+  unfolding unbind
+  few-unbind s = record { at = λ S is. (few-then 1 1 _ _ (few-any 1 (home_of S s) _ (λ n. few-say (rec.Homed s None) (λ S. refl))) (few-any 1 (holder_of S s) _ (λ t. few-say (rec.Holds s None) (λ S. refl)))).at S is }
 
   -- a debt, and the context that is brought
   few-owe : (r x p : ObjId) → Few 2 (owe r x p)
@@ -204,10 +209,11 @@ module _ (T : List ObjId) where
   few-release R o Notification is =
       let le : length (queued_in R (Waiters o)) ≤ length (threads R) = line-short R (Waiters o) in
       let e : length (threads R) ≡ length T = ap length is in
-      few-within (3 * length (queued_in R (Waiters o)) + 1) (3 * length T + 6) _ (omega (arith, le, e))
-      (few-then (3 * length (queued_in R (Waiters o))) 1 _ _ (few-cancel_all (queued_in R (Waiters o)) Restart) (few-any 1 (tied_to R o) _ (λ x. few-say (rec.Tied x None) (λ S. refl))))
+      few-within (3 * length (queued_in R (Waiters o)) + 1 + 1) (3 * length T + 6) _ (omega (arith, le, e))
+      (few-then (3 * length (queued_in R (Waiters o)) + 1) 1 _ _ (few-then (3 * length (queued_in R (Waiters o))) 1 _ _ (few-cancel_all (queued_in R (Waiters o)) Restart) (few-any 1 (tied_to R o) _ (λ x. few-say (rec.Tied x None) (λ S. refl))))
+      (few-any 1 (homed_at R o) _ (λ s. few-say (rec.Homed s None) (λ S. refl))))
   few-release R o Reply is = few-within 6 (3 * length T + 6) _ (omega arith) (few-then 3 3 _ _ (few-any 3 (receiver_with R o) _ (λ x. few-cancel x Inactive)) (few-void o))
-  few-release R o Context is = few-within 1 (3 * length T + 6) _ (omega arith) (few-any 1 (holder_of R o) _ (λ t. few-say (rec.Holds o None) (λ S. refl)))
+  few-release R o Context is = few-within 2 (3 * length T + 6) _ (omega arith) (few-unbind o)
   few-release R o Thread is =
       few-within 5 (3 * length T + 6) _ (omega arith)
       (few-then 4 1 _ _ (few-then 3 1 _ _ (few-cancel o Inactive) (few-any 1 (bound_of R o) _ (λ n. few-say (rec.Tied o None) (λ S. refl)))) (few-any 1 (context_of R o) _ (λ s. few-say (rec.Holds s None) (λ S. refl))))

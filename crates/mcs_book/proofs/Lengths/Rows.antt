@@ -51,7 +51,8 @@ use Rattle.mcs_book.specs.History.{Line, Book, past, AreLegal, IsLegal}
 use Rattle.mcs_book.specs.Each.{EachLineAfter, EachLine}
 use Rattle.mcs_book.specs.Limits.{threads_of, most_records, HasAtMost}
 use Rattle.mcs_book.proofs.Lengths.Queues.{badged-short}
-use Rattle.mcs_book.proofs.Lengths.Pieces.{FewRecords, Few, few-append, few-more, few-within, few-nothing, few-say, few-then, few-any, few-if, few-handed, few-taken, few-pay, few-cancel, few-cancel_all, few-free, few-wakes, few-signal, few-destroy_last}
+use Rattle.mcs_book.proofs.Lengths.Pieces.{FewRecords, Few, few-append, few-more, few-within, few-nothing, few-say, few-then, few-any, few-if, few-handed, few-taken, few-pay, few-cancel, few-cancel_all, few-free, few-wakes, few-signal, few-unbind, few-destroy_last}
+use Rattle.mcs_book.specs.Binding.{bind_by}
 
 -- T are the threads that were made
 module _ (T : List ObjId) where
@@ -171,6 +172,16 @@ module _ (T : List ObjId) where
   few-delete at None = act-piece 0 Done nothing (omega arith) (few-nothing T)
   few-delete at (Some held) = act-piece (1 + (3 * length T + 7)) Done _ (omega arith) (few-then T 1 (3 * length T + 7) _ _ (few-say T (rec.Slot at.cnode at.index None) (λ S. refl)) (few-destroy_last T held.obj))
 
+  -- a context is bound, by the kind of what it is bound to
+  few-bind_by : (k : Kind) (R : Log) (s o : ObjId) → OnPassed RowAct (bind_by k R s o)
+  unfolding bind_by
+  few-bind_by Thread R s o = passed-next _ _ _ (act-say (rec.Holds s (Some o)) (λ S. refl))
+  few-bind_by Notification R s o = passed-next _ _ _ (act-say (rec.Homed s (Some o)) (λ S. refl))
+  few-bind_by CNode R s o = passed-err _ _
+  few-bind_by Endpoint R s o = passed-err _ _
+  few-bind_by Reply R s o = passed-err _ _
+  few-bind_by Context R s o = passed-err _ _
+
   -- what each row does, where its checks are passed
   few-row : (R : Log) (core : CoreId) (t : ObjId) (entry : Entry) → threads R ≡ T → OnPassed RowAct (row R core t entry)
   unfolding row send_over reply_receive
@@ -190,8 +201,8 @@ module _ (T : List ObjId) where
   few-row R core t (Resume x) is = passed-bind _ _ _ (λ thread. act-piece 3 Done _ (omega arith) (few-if T 3 _ nothing (cancel thread.obj Restart) (few-within T 0 3 nothing (omega arith) (few-nothing T)) (few-cancel T thread.obj Restart)))
   few-row R core t (BindNtfn x n) is = passed-bind _ _ _ (λ thread. passed-bind _ _ _ (λ held. passed-next _ _ _ (passed-next _ _ _ (act-say (rec.Tied thread.obj (Some held.obj)) (λ S. refl)))))
   few-row R core t (UnbindNtfn x) is = passed-bind _ _ _ (λ thread. passed-next _ _ _ (act-say (rec.Tied thread.obj None) (λ S. refl)))
-  few-row R core t (BindCtx s x) is = passed-bind _ _ _ (λ context. passed-bind _ _ _ (λ thread. passed-next _ _ _ (act-say (rec.Holds context.obj (Some thread.obj)) (λ S. refl))))
-  few-row R core t (UnbindCtx s) is = passed-bind _ _ _ (λ context. passed-next _ _ _ (act-say (rec.Holds context.obj None) (λ S. refl)))
+  few-row R core t (BindCtx s x) is = passed-bind _ _ _ (λ context. passed-bind _ _ _ (λ target. few-bind_by target.obj.kind R context.obj target.obj))
+  few-row R core t (UnbindCtx s) is = passed-bind _ _ _ (λ context. passed-next _ _ _ (act-piece 2 Done _ (omega arith) (few-unbind T context.obj)))
   few-row R core t (CancelBadged a) is =
       passed-bind _ _ _ (λ held. passed-next _ _ _ (
       let xs : List ObjId = senders_with R held.obj held.badge.0 in

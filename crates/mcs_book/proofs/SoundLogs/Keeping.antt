@@ -18,7 +18,7 @@ use Rattle.mcs_book.specs.Logs.{Log, onto}
 use Rattle.mcs_types.specs.declared.record.Letter.{Letter}
 use Rattle.mcs_book.specs.Messages.{open_of}
 use Rattle.mcs_book.specs.Queues.{queue_of, first_in, reply_with}
-use Rattle.mcs_book.specs.Contexts.{context_of, holder_of}
+use Rattle.mcs_book.specs.Contexts.{context_of, holder_of, home_of, homed_at}
 use Rattle.mcs_book.specs.Replies.{owed_by, owing, receiver_with}
 use Rattle.mcs_book.specs.Chains.{topped_by}
 use Rattle.mcs_book.specs.Notifications.{bound_of, tied_to, pending}
@@ -26,7 +26,7 @@ use Rattle.mcs_book.specs.Pieces.{Piece, ◌then◌, nothing, say, with_any, for
 use Rattle.mcs_book.specs.Taking.{debt, owe, settle, handed, taken, back_to, give_back, pay}
 use Rattle.mcs_book.specs.Signalling.{queue_of_any, wake, hearer, reach, signal}
 use Rattle.mcs_book.proofs.Queues.QueueLaws.{first-stands}
-use Rattle.mcs_book.specs.Cancelling.{drop_message, leave, cancel, cancel_all, untie, let_go, void_deleted, release, destroy}
+use Rattle.mcs_book.specs.Cancelling.{drop_message, leave, cancel, cancel_all, untie, let_go, unhome, unbind, void_deleted, release, destroy}
 
 -- whether a record is of no message and no line
 abbrev pub is_aside : Rec → Bool
@@ -212,6 +212,15 @@ module _ (J : Log → Type 0) (steps : Steps J) where
   keeps-untie : (s : Option ObjId) → Keeps J (untie s)
   keeps-untie s = keeps-any J s _ (λ x. keeps-say _ refl)
 
+  -- a context is homed nowhere
+  keeps-unhome : (s : Option ObjId) → Keeps J (unhome s)
+  keeps-unhome s = keeps-any J s _ (λ x. keeps-say _ refl)
+
+  -- it is also held by nobody
+  pub keeps-unbind : (s : ObjId) → Keeps J (unbind s)
+  unfolding unbind
+  keeps-unbind s R = keeps-then J _ _ (keeps-any J (home_of R s) _ (λ n. keeps-say _ refl)) (keeps-any J (holder_of R s) _ (λ t. keeps-say _ refl)) R
+
   -- a deleted reply object owes nobody any more
   keeps-void : (r : ObjId) → Keeps J (void_deleted r)
   unfolding void_deleted
@@ -221,9 +230,9 @@ module _ (J : Log → Type 0) (steps : Steps J) where
   keeps-release : (R : Log) (o : ObjId) (k : Kind) → Keeps J (release R o k)
   keeps-release R o CNode = keeps-nothing J
   keeps-release R o Endpoint = keeps-cancel_all _ Restart
-  keeps-release R o Notification = keeps-then J _ _ (keeps-cancel_all _ Restart) (keeps-untie _)
+  keeps-release R o Notification = keeps-then J _ _ (keeps-then J _ _ (keeps-cancel_all _ Restart) (keeps-untie _)) (keeps-unhome (homed_at R o))
   keeps-release R o Reply = keeps-then J _ _ (keeps-any J (receiver_with R o) _ (λ x. keeps-cancel x Inactive)) (keeps-void o)
-  keeps-release R o Context = keeps-any J (holder_of R o) _ (λ t. keeps-say _ refl)
+  keeps-release R o Context = keeps-unbind o
   keeps-release R o Thread = keeps-then J _ _ (keeps-then J _ _ (keeps-cancel o Inactive) (keeps-any J (bound_of R o) _ (λ n. keeps-say _ refl))) (keeps-let_go _)
 
   -- an object ends

@@ -35,10 +35,11 @@ use Rattle.mcs_book.specs.Taking.{handed}
 use Rattle.mcs_book.specs.Cancelling.{cancel, cancel_all, destroy}
 use Rattle.mcs_book.specs.Sending.{letter_over, sent, sends_to, sends, queues, send_by, send_over}
 use Rattle.mcs_book.specs.Receiving.{joins_or, hear, take_open, open_of_any, receive_message, receive_on, free, wait_on, receive_by, receive_over, reply_receive, pay_any}
+use Rattle.mcs_book.specs.Binding.{bind_by}
 use Rattle.mcs_book.specs.Placing.{senders_with, delete, destroy_last, make}
 use Rattle.mcs_book.specs.Table.{row, wakes, outcome_of, does}
 use Rattle.mcs_book.proofs.Books.Checking.{OnPassed, passed-ok, passed-err, passed-after, passed-bind, passed-next}
-use Rattle.mcs_book.proofs.SoundLogs.Keeping.{sent_record, onto-append, Steps, Keeps, keeps-nothing, then-next, keeps-then, keeps-any, keeps-if, keeps-say, keeps-handed, keeps-taken, keeps-pay, keeps-signal, keeps-cancel, keeps-cancel_all, keeps-destroy}
+use Rattle.mcs_book.proofs.SoundLogs.Keeping.{sent_record, onto-append, Steps, Keeps, keeps-nothing, then-next, keeps-then, keeps-any, keeps-if, keeps-say, keeps-handed, keeps-taken, keeps-pay, keeps-signal, keeps-cancel, keeps-cancel_all, keeps-unbind, keeps-destroy}
 
 -- steps of the entering thread t: those that keep J, and those that end its entry, after which I holds
 pub record Entering (t : ObjId) (J I : Log → Type 0) : Type 0 where
@@ -177,6 +178,16 @@ module _ (t : ObjId) (J I : Log → Type 0) (enters : Entering t J I) where
   keeps-make R k rights form place =
       passed-bind _ _ _ (λ at. passed-next _ _ _ (passed-next _ _ _ (passed-piece _ _ (keeps-then J _ _ (keeps-say J enters.steps _ refl) (keeps-say J enters.steps _ refl)))))
 
+  -- a context is bound, by the kind of what it is bound to
+  keeps-bind_by : (k : Kind) (R : Log) (s o : ObjId) → OnPassed KeepsAct (bind_by k R s o)
+  unfolding bind_by
+  keeps-bind_by Thread R s o = passed-next _ _ _ (passed-piece _ _ (keeps-say J enters.steps _ refl))
+  keeps-bind_by Notification R s o = passed-next _ _ _ (passed-piece _ _ (keeps-say J enters.steps _ refl))
+  keeps-bind_by CNode R s o = passed-err _ _
+  keeps-bind_by Endpoint R s o = passed-err _ _
+  keeps-bind_by Reply R s o = passed-err _ _
+  keeps-bind_by Context R s o = passed-err _ _
+
   -- what each row does, where its checks are passed
   pub keeps-row : (R : Log) (core : CoreId) (entry : Entry) → OnPassed KeepsAct (row R core t entry)
   unfolding row send_over reply_receive
@@ -195,8 +206,8 @@ module _ (t : ObjId) (J I : Log → Type 0) (enters : Entering t J I) where
   keeps-row R core (Resume x) = passed-bind _ _ _ (λ thread. passed-piece _ _ (keeps-if J _ nothing (cancel thread.obj Restart) (keeps-nothing J) (keeps-cancel J enters.steps _ _)))
   keeps-row R core (BindNtfn x n) = passed-bind _ _ _ (λ thread. passed-bind _ _ _ (λ cap. passed-next _ _ _ (passed-next _ _ _ (passed-piece _ _ (keeps-say J enters.steps _ refl)))))
   keeps-row R core (UnbindNtfn x) = passed-bind _ _ _ (λ thread. passed-next _ _ _ (passed-piece _ _ (keeps-say J enters.steps _ refl)))
-  keeps-row R core (BindCtx s x) = passed-bind _ _ _ (λ context. passed-bind _ _ _ (λ thread. passed-next _ _ _ (passed-piece _ _ (keeps-say J enters.steps _ refl))))
-  keeps-row R core (UnbindCtx s) = passed-bind _ _ _ (λ context. passed-next _ _ _ (passed-piece _ _ (keeps-say J enters.steps _ refl)))
+  keeps-row R core (BindCtx s x) = passed-bind _ _ _ (λ context. passed-bind _ _ _ (λ target. keeps-bind_by target.obj.kind R context.obj target.obj))
+  keeps-row R core (UnbindCtx s) = passed-bind _ _ _ (λ context. passed-next _ _ _ (passed-piece _ _ (keeps-unbind J enters.steps _)))
   keeps-row R core (CancelBadged a) = passed-bind _ _ _ (λ cap. passed-next _ _ _ (passed-piece _ _ (keeps-if J _ nothing (cancel_all (senders_with R cap.obj cap.badge.0) Restart) (keeps-nothing J) (keeps-cancel_all J enters.steps _ _))))
   keeps-row R core (CopyCap source dest rights) = passed-bind _ _ _ (λ at. passed-piece _ _ (keeps-say J enters.steps _ refl))
   keeps-row R core (MintCap source dest rights badge) = passed-bind _ _ _ (λ at. passed-next _ _ _ (passed-next _ _ _ (passed-piece _ _ (keeps-say J enters.steps _ refl))))

@@ -15,7 +15,7 @@ use Rattle.mcs_book.specs.Logs.{Log, given}
 use Rattle.mcs_book.specs.Objects.{closes, makes, was_made, was_closed, is_alive}
 use Rattle.mcs_book.specs.Slots.{slot}
 use Rattle.mcs_book.specs.Queues.{queue_of, reply_with}
-use Rattle.mcs_book.specs.Contexts.{holder_of}
+use Rattle.mcs_book.specs.Contexts.{holder_of, home_of}
 use Rattle.mcs_book.specs.Replies.{owed_by}
 use Rattle.mcs_book.specs.Notifications.{bound_of}
 use Rattle.mcs_book.specs.Sound.{Allowed, Sound, IsThere, IsLineThere, IsReleased, IsUnattended, IsIdle}
@@ -196,7 +196,7 @@ held-there (rec.Holds c (Some u) ∷ R) s t sound h = elim (set-split s c (Some 
 ]
 held-there (rec.Closed o ∷ R) s t sound h =
     let f : IsThere R kind.Context s × IsThere R kind.Thread t = held-there R s t sound.1 h in
-    (there-closed R o s kind.Context sound.0 f.0 (λ none. never-both (holder_of R s) t h none), there-closed R o t kind.Thread sound.0 f.1 (λ done. done.1 s h))
+    (there-closed R o s kind.Context sound.0 f.0 (λ none. never-both (holder_of R s) t h none.0), there-closed R o t kind.Thread sound.0 f.1 (λ done. done.1 s h))
 held-there (c ∷ R) s t sound h = let f : IsThere R kind.Context s × IsThere R kind.Thread t = held-there R s t sound.1 h in (there-next R c kind.Context s f.0 refl, there-next R c kind.Thread t f.1 refl)
 
 -- a thread that is bound is there, and so is its notification
@@ -230,6 +230,38 @@ bound-one (rec.Tied v (Some m) ∷ R) t u n sound h k = elim (set-split t v (Som
   ]
 ]
 bound-one (_ ∷ R) t u n sound h k = bound-one R t u n sound.1 h k
+
+-- a context that is homed is there, and so is its home
+pub home-there : (R : Log) (s n : ObjId) → Sound R → home_of R s ≡ Some n → IsThere R kind.Context s × IsThere R kind.Notification n
+home-there [] s n sound h = absurd cc
+home-there (rec.Homed c None ∷ R) s n sound h = elim (set-split s c None (home_of R s) (Some n) h) [ inl (who, is) ↦ absurd cc | inr (other, is) ↦ home-there R s n sound.1 is ]
+home-there (rec.Homed c (Some m) ∷ R) s n sound h = elim (set-split s c (Some m) (home_of R s) (Some n) h) [
+  | inl (who, is) ↦ (let it : m ≡ n = cc in (subst (λ (z : ObjId). IsThere R kind.Context z) (sym who) sound.0.0, subst (λ (z : ObjId). IsThere R kind.Notification z) it sound.0.1))
+  | inr (other, is) ↦ home-there R s n sound.1 is
+]
+home-there (rec.Closed o ∷ R) s n sound h =
+    let f : IsThere R kind.Context s × IsThere R kind.Notification n = home-there R s n sound.1 h in
+    (there-closed R o s kind.Context sound.0 f.0 (λ none. never-both (home_of R s) n h none.1), there-closed R o n kind.Notification sound.0 f.1 (λ free. free.2 s h))
+home-there (c ∷ R) s n sound h = let f : IsThere R kind.Context s × IsThere R kind.Notification n = home-there R s n sound.1 h in (there-next R c kind.Context s f.0 refl, there-next R c kind.Notification n f.1 refl)
+
+-- one context at most is homed at a notification
+pub home-one : (R : Log) (s c n : ObjId) → Sound R → home_of R s ≡ Some n → home_of R c ≡ Some n → s ≡ c
+home-one [] s c n sound h k = absurd cc
+home-one (rec.Homed v None ∷ R) s c n sound h k = elim (set-split s v None (home_of R s) (Some n) h) [
+  | inl (who, is) ↦ absurd cc
+  | inr (other, is) ↦ elim (set-split c v None (home_of R c) (Some n) k) [ inl (who', is') ↦ absurd cc | inr (other', is') ↦ home-one R s c n sound.1 is is' ]
+]
+home-one (rec.Homed v (Some m) ∷ R) s c n sound h k = elim (set-split s v (Some m) (home_of R s) (Some n) h) [
+  | inl (who, is) ↦ elim (set-split c v (Some m) (home_of R c) (Some n) k) [
+    | inl (who', is') ↦ who ∙ sym who'
+    | inr (other', is') ↦ absurd (sound.0.3 c (is' ∙ sym is))
+  ]
+  | inr (other, is) ↦ elim (set-split c v (Some m) (home_of R c) (Some n) k) [
+    | inl (who', is') ↦ absurd (sound.0.3 s (is ∙ sym is'))
+    | inr (other', is') ↦ home-one R s c n sound.1 is is'
+  ]
+]
+home-one (_ ∷ R) s c n sound h k = home-one R s c n sound.1 h k
 
 -- a slot holds a capability to an object that is there
 pub slot-alive : (R : Log) (c : ObjId) (i : ℕ) (cap : Cap) → Sound R → slot R c i ≡ Some cap → is_alive R cap.obj ≡ true

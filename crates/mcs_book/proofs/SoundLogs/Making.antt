@@ -15,14 +15,14 @@ use Rattle.mcs_types.specs.declared.record.Rec.TheVariants as rec
 use Rattle.mcs_book.specs.Logs.{Log, onto}
 use Rattle.mcs_book.specs.Messages.{open_of}
 use Rattle.mcs_book.specs.Queues.{queue_of, first_in}
-use Rattle.mcs_book.specs.Contexts.{context_of, holder_of}
+use Rattle.mcs_book.specs.Contexts.{context_of, holder_of, home_of, homed_at}
 use Rattle.mcs_book.specs.Replies.{owed_by, owing, receiver_with, user_of}
 use Rattle.mcs_book.specs.Chains.{topped_by}
 use Rattle.mcs_book.specs.Notifications.{bound_of, tied_to, pending}
 use Rattle.mcs_book.specs.Pieces.{Piece, ◌then◌, nothing, say, with_any, for_each}
 use Rattle.mcs_book.specs.Taking.{back_to, give_back}
 use Rattle.mcs_book.specs.Signalling.{queue_of_any, hearer, reach, signal}
-use Rattle.mcs_book.specs.Cancelling.{drop_message, leave, cancel, cancel_all, void_deleted, release}
+use Rattle.mcs_book.specs.Cancelling.{drop_message, leave, cancel, cancel_all, unbind, void_deleted, release}
 use Rattle.mcs_book.specs.Receiving.{free}
 use Rattle.mcs_book.specs.Table.{wakes}
 
@@ -134,6 +134,11 @@ plain-back s x = record { passes = λ R. go s (context_of R x) }
     go None o = tt
     go (Some s) (Some s') = tt
 
+-- a context is homed nowhere and held by nobody
+pub plain-unbind : (s : ObjId) → Plain (unbind s)
+unfolding unbind
+plain-unbind s = record { passes = λ R. (makes-then is_plain _ _ (makes-any is_plain (home_of R s) _ (λ n. makes-say is_plain (rec.Homed s None) refl)) (makes-any is_plain (holder_of R s) _ (λ t. makes-say is_plain (rec.Holds s None) refl))).passes R }
+
 -- a test that the records of a cancellation pass
 pub record CancelPasses (q : Rec → Bool) : Type 0 where
   pub drops : (m : ℕ) → q (rec.Dropped m) ≡ true
@@ -223,8 +228,8 @@ plain-void r = record { passes = λ R. (makes-any is_plain (owed_by R r) _ (λ x
 pub plain-release : (R : Log) (o : ObjId) (k : Kind) → Plain (release R o k)
 plain-release R o CNode = makes-nothing is_plain
 plain-release R o Endpoint = plain-cancel_all _ Restart
-plain-release R o Notification = makes-then is_plain _ _ (plain-cancel_all _ Restart) (makes-any is_plain (tied_to R o) _ (λ x. makes-say is_plain _ refl))
+plain-release R o Notification = makes-then is_plain _ _ (makes-then is_plain _ _ (plain-cancel_all _ Restart) (makes-any is_plain (tied_to R o) _ (λ x. makes-say is_plain _ refl))) (makes-any is_plain (homed_at R o) _ (λ s. makes-say is_plain _ refl))
 plain-release R o Reply = makes-then is_plain _ _ (makes-any is_plain (receiver_with R o) _ (λ x. plain-cancel x Inactive)) (plain-void o)
-plain-release R o Context = makes-any is_plain (holder_of R o) _ (λ t. makes-say is_plain _ refl)
+plain-release R o Context = plain-unbind o
 plain-release R o Thread =
     makes-then is_plain _ _ (makes-then is_plain _ _ (plain-cancel o Inactive) (makes-any is_plain (bound_of R o) _ (λ n. makes-say is_plain _ refl))) (makes-any is_plain (context_of R o) _ (λ s. makes-say is_plain _ refl))

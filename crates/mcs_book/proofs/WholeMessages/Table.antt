@@ -5,7 +5,7 @@ use Rattle.mcs_types.specs.Views.{Content}
 use Rattle.mcs_types.specs.declared.id.ObjId.{ObjId}
 use Rattle.mcs_types.specs.declared.id.CoreId.{CoreId}
 use Rattle.mcs_types.specs.declared.id.Kind.{Kind}
-use Rattle.mcs_types.specs.declared.id.Kind.TheVariants.{Endpoint, Notification, Reply, Context}
+use Rattle.mcs_types.specs.declared.id.Kind.TheVariants.{CNode, Thread, Endpoint, Notification, Reply, Context}
 use Rattle.mcs_types.specs.declared.cap.Cap.{Cap}
 use Rattle.mcs_types.specs.declared.cap.Place.{Place}
 use Rattle.mcs_types.specs.declared.record.SendMode.TheVariants as how
@@ -27,7 +27,8 @@ use Rattle.mcs_book.specs.Sending.{send_over}
 use Rattle.mcs_book.specs.Receiving.{reply_receive}
 use Rattle.mcs_book.specs.Table.{row, wakes, outcome_of, does}
 use Rattle.mcs_book.proofs.SoundLogs.Keeping.{onto-append}
-use Rattle.mcs_book.proofs.Books.Checking.{OnPassed, passed-ok, passed-after, passed-bind, passed-next}
+use Rattle.mcs_book.proofs.Books.Checking.{OnPassed, passed-ok, passed-err, passed-after, passed-bind, passed-next}
+use Rattle.mcs_book.specs.Binding.{bind_by}
 use Rattle.mcs_book.specs.Standing.{is_ready, status_of}
 use Rattle.mcs_types.specs.declared.id.Kind.TheVariants as kind
 use Rattle.mcs_book.specs.Objects.{was_made, next_id}
@@ -41,7 +42,7 @@ use Rattle.mcs_types.specs.declared.entry.Refusal.TheVariants.{SlotEmpty, SlotFu
 use Rattle.mcs_types.proofs.Ids.{same-self}
 use Rattle.mcs_book.proofs.SoundLogs.Closing.{destroy_last-whole}
 use Rattle.mcs_book.proofs.Paths.PathLaws.{capability-named}
-use Rattle.mcs_book.proofs.SoundLogs.Making.{is_plain, is_quiet, quiet-piece, makes-say, makes-nothing, makes-if, plain-cancel, plain-cancel_all, quiet-signal, plain-wakes}
+use Rattle.mcs_book.proofs.SoundLogs.Making.{is_plain, is_quiet, quiet-piece, makes-say, makes-nothing, makes-if, plain-cancel, plain-cancel_all, plain-unbind, quiet-signal, plain-wakes}
 use Rattle.mcs_book.proofs.SoundLogs.Safety.{Safe}
 use Rattle.mcs_book.proofs.WholeMessages.Records.{MadeOn, each-append, AreWhole, plain-all, Begins, begins-plains, WholeAct, IsSending, sends-whole, queues-whole}
 use Rattle.mcs_book.proofs.WholeMessages.Rows.{passed-found, of_kind-found, WholeReceive, receive-over, reply-at, no-reply, found-reply, act-receives, act-quiet, act-pay_receive, act-send_by}
@@ -129,6 +130,16 @@ act-delete R s at (Some held) = passed-ok _ _ (record {
 act-say : (R : Log) (s : Step) (r : Rec) → is_quiet r ≡ true → OnPassed (WholeAct R s) (Ok (answers Done (say r)))
 act-say R s r e = act-quiet R s Done (say r) (makes-say is_quiet r e)
 
+-- a context is bound, by the kind of what it is bound to
+act-bind_by : (k : Kind) (R : Log) (s : Step) (c o : ObjId) → OnPassed (WholeAct R s) (bind_by k R c o)
+unfolding bind_by
+act-bind_by Thread R s c o = passed-next _ _ _ (act-say R s (rec.Holds c (Some o)) refl)
+act-bind_by Notification R s c o = passed-next _ _ _ (act-say R s (rec.Homed c (Some o)) refl)
+act-bind_by CNode R s c o = passed-err _ _
+act-bind_by Endpoint R s c o = passed-err _ _
+act-bind_by Reply R s c o = passed-err _ _
+act-bind_by Context R s c o = passed-err _ _
+
 -- what each row does, where its checks are passed
 whole-row : (R : Log) (core : CoreId) (t : ObjId) (entry : Entry) → OnPassed (WholeAct R (step_of core t entry)) (row R core t entry)
 unfolding row send_over reply_receive
@@ -157,8 +168,8 @@ whole-row R core t (Suspend x) = passed-bind _ _ _ (λ thread. act-quiet R _ Don
 whole-row R core t (Resume x) = passed-bind _ _ _ (λ thread. act-quiet R _ Done _ (quiet-piece _ (makes-if is_plain (is_ready (status_of R thread.obj)) nothing (cancel thread.obj Restart) (makes-nothing is_plain) (plain-cancel thread.obj Restart))))
 whole-row R core t (BindNtfn x n) = passed-bind _ _ _ (λ thread. passed-bind _ _ _ (λ held. passed-next _ _ _ (passed-next _ _ _ (act-say R _ (rec.Tied thread.obj (Some held.obj)) refl))))
 whole-row R core t (UnbindNtfn x) = passed-bind _ _ _ (λ thread. passed-next _ _ _ (act-say R _ (rec.Tied thread.obj None) refl))
-whole-row R core t (BindCtx s x) = passed-bind _ _ _ (λ context. passed-bind _ _ _ (λ thread. passed-next _ _ _ (act-say R _ (rec.Holds context.obj (Some thread.obj)) refl)))
-whole-row R core t (UnbindCtx s) = passed-bind _ _ _ (λ context. passed-next _ _ _ (act-say R _ (rec.Holds context.obj None) refl))
+whole-row R core t (BindCtx s x) = passed-bind _ _ _ (λ context. passed-bind _ _ _ (λ target. act-bind_by target.obj.kind R _ context.obj target.obj))
+whole-row R core t (UnbindCtx s) = passed-bind _ _ _ (λ context. passed-next _ _ _ (act-quiet R _ Done _ (quiet-piece _ (plain-unbind context.obj))))
 whole-row R core t (CancelBadged a) =
     passed-bind _ _ _ (λ held. passed-next _ _ _ (act-quiet R _ Done _ (quiet-piece _ (makes-if is_plain _ nothing (cancel_all (senders_with R held.obj held.badge.0) Restart) (makes-nothing is_plain) (plain-cancel_all _ Restart)))))
 whole-row R core t (CopyCap source dest rights) = passed-found _ _ _ (λ at e. act-fill R _ at.dest _ at.cap at.source.cnode at.source.index (source-held R t source dest at e) refl)

@@ -2,7 +2,7 @@
 ghost use Rattle.std.specs.Prelude.{◌≡◌, ◌<◌, true, None, length};
 ghost use Rattle.mcs_types.specs.declared.record.Rec.{Rec};
 ghost use Rattle.mcs_book.specs.Sound.{Allowed};
-ghost use Rattle.mcs_notifications.specs.Signals.{is_there, thread_in};
+ghost use Rattle.mcs_notifications.specs.Signals.{is_there, thread_in, homed_in};
 ghost use Rattle.mcs_state.specs.Following.{ClosesNotification};
 ghost use Rattle.mcs_state.specs.Now.{so_far, adds};
 ghost use Rattle.mcs_state.specs.Tables.{HAND};
@@ -12,10 +12,11 @@ use mcs_notifications::Notifications;
 use mcs_types::{Kind, ObjId, Rec};
 use mcs_waiting::Waiting;
 
-/// A notification that is there ends, to which no thread is bound; its word is gone.
+/// A notification that is there ends, to which no thread is bound and at which no context is homed; its word is gone.
 fn end_notification(notifications: &mut Notifications, notification: ObjId)
     requires there { is_there notifications.old notification ≡ true }
     requires unbound { thread_in notifications.old notification ≡ None }
+    requires homeless { homed_in notifications.old notification ≡ None }
     ensures { ClosesNotification notification notifications.old notifications.new }
 {
     notifications.close(notification);

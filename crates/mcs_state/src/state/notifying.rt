@@ -1,17 +1,20 @@
 //! Signals, who hears them, and the threads that notifications are bound to.
-ghost use Rattle.std.specs.Prelude.{◌≡◌, ◌<◌, true, IfSome, length};
+ghost use Rattle.std.specs.Prelude.{◌≡◌, ◌<◌, true, IfSome, IsSome, is_some, is_none, length};
 ghost use Rattle.mcs_types.specs.declared.id.Kind.{Kind};
 ghost use Rattle.mcs_types.specs.declared.record.Rec.{Rec};
+ghost use Rattle.mcs_book.specs.Contexts.{home_of, homed_at};
+ghost use Rattle.mcs_contexts.specs.Holding.{core_in, home_in};
 ghost use Rattle.mcs_book.specs.Notifications.{bound_of, tied_to, pending};
 ghost use Rattle.mcs_book.specs.Sound.{Allowed, IsThere};
 ghost use Rattle.mcs_notifications.specs.Signals.{is_there};
 ghost use Rattle.mcs_threads.specs.Rows.{with_notification};
 ghost use Rattle.mcs_threads.specs.Tables.{ChangesRow};
-ghost use Rattle.mcs_state.specs.Following.{Rebinds};
+ghost use Rattle.mcs_state.specs.Following.{Rebinds, HomesContext, Rehomes};
 ghost use Rattle.mcs_state.specs.Now.{so_far, adds};
 ghost use Rattle.mcs_state.specs.Tables.{HAND};
 
 use super::{State, note};
+use mcs_contexts::Contexts;
 use mcs_notifications::Notifications;
 use mcs_threads::Threads;
 use mcs_types::{Badge, Mail, ObjId, Rec};
@@ -36,6 +39,33 @@ fn rebind(notifications: &mut Notifications, thread: ObjId, from: Option<ObjId>,
     match (from, to) {
         (_, Some(to)) => notifications.set_bound(to, Some(thread)),
         (Some(from), None) => notifications.set_bound(from, None),
+        (None, None) => {}
+    }
+}
+
+/// A context that is there and homed nowhere is homed at a notification now; or, where none is named, one that is homed nowhere.
+#[inline(always)]
+fn home(contexts: &mut Contexts, context: ObjId, notification: Option<ObjId>)
+    requires made { IsSome (core_in contexts.old context) }
+    requires changes { is_some (home_in contexts.old context) ≡ is_none notification }
+    ensures { HomesContext context notification contexts.old contexts.new }
+{
+    let is_changed = match notification {
+        Some(notification) => contexts.home(context, notification).is_ok(),
+        None => contexts.unhome(context).is_ok(),
+    };
+    prove!(is_changed);
+}
+
+/// A notification that is there is the home of a context now; or, where none is named, the one that was its home is none.
+fn rehome(notifications: &mut Notifications, context: ObjId, from: Option<ObjId>, to: Option<ObjId>)
+    requires from { IfSome from (λ n. is_there notifications.old n ≡ true) }
+    requires to { IfSome to (λ n. is_there notifications.old n ≡ true) }
+    ensures { Rehomes context from to notifications.old notifications.new }
+{
+    match (from, to) {
+        (_, Some(to)) => notifications.set_homed(to, Some(context)),
+        (Some(from), None) => notifications.set_homed(from, None),
         (None, None) => {}
     }
 }
@@ -91,6 +121,38 @@ impl<W: Waiting> State<W> {
         );
         tie(&mut self.threads, thread, notification);
         rebind(&mut self.notifications, thread, bound, notification);
+    }
+
+    /// A context is homed at a notification from now on, or nowhere any more (own).
+    pub fn homes(&mut self, context: ObjId, notification: Option<ObjId>)
+        requires allowed { Allowed (so_far self.old) (Rec.Homed context notification) }
+        requires room { length self.old.hand < HAND }
+        ensures { self.new ≡ adds (Rec.Homed context notification) self.old }
+    {
+        let old = self.home_of(context);
+        note(
+            &mut self.hand,
+            Rec::Homed {
+                context,
+                notification,
+            },
+        );
+        home(&mut self.contexts, context, notification);
+        rehome(&mut self.notifications, context, old, notification);
+    }
+
+    /// The notification at which a context is homed; None where it is homed nowhere (own).
+    pub fn home_of(&self, context: ObjId) -> Option<ObjId>
+        ensures { result ≡ home_of (so_far self.now) context }
+    {
+        self.contexts.home_of(context)
+    }
+
+    /// The context that is homed at a notification; None where none is (own).
+    pub fn homed_at(&self, notification: ObjId) -> Option<ObjId>
+        ensures { result ≡ homed_at (so_far self.now) notification }
+    {
+        self.notifications.homed(notification)
     }
 
     /// The notification that is bound to a thread; None where none is, and for what is no thread (manual: Notifications).

@@ -179,7 +179,10 @@ impl<W: Waiting> State<W> {
     pub fn letter(&self, thread: ObjId) -> Option<&Letter>
         ensures { option_copied result ≡ open_of (so_far self.now) thread }
     {
-        kept_at(Kind::Thread, &self.letters, thread)
+        match kept_at(Kind::Thread, &self.letters, thread) {
+            None => None,
+            Some(open) => Some(open.letter()),
+        }
     }
 
     /// Each record was allowed when it was made, few threads were made, and the hand has at most as

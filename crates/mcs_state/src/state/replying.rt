@@ -13,7 +13,7 @@ ghost use Rattle.mcs_state.specs.Tables.{HAND};
 use super::{State, note};
 use mcs_replies::{Ended, Replies};
 use mcs_threads::{Block, Threads};
-use mcs_types::{Badge, Ending, Mail, Message, ObjId, Rec};
+use mcs_types::{Badge, Copies, Ending, Mail, Message, ObjId, Rec};
 use mcs_waiting::Waiting;
 
 /// A reply object that may owe owes this caller from now on.
@@ -63,22 +63,26 @@ impl<W: Waiting> State<W> {
 
     /// The caller that a reply object owes is answered. The answer is the context whose chain the reply object topped before, if
     /// it topped one (manual: Message Passing; chains are own).
-    pub fn paid(&mut self, reply: ObjId, caller: ObjId, message: Message) -> Option<ObjId>
+    pub fn paid(&mut self, reply: ObjId, caller: ObjId, message: Copies) -> Option<ObjId>
         requires allowed { Allowed (so_far self.old) (Rec.Paid reply caller message) }
         requires room { length self.old.hand < HAND }
         ensures paid { self.new ≡ adds (Rec.Paid reply caller message) self.old }
         ensures topped { result ≡ topped_by (so_far self.old) reply }
     {
-        let answer = message.copy();
+        let Copies {
+            record,
+            mail,
+            answer: _,
+        } = message;
         note(
             &mut self.hand,
             Rec::Paid {
                 reply,
                 caller,
-                message,
+                message: record,
             },
         );
-        answers(&mut self.threads, caller, answer);
+        answers(&mut self.threads, caller, mail);
         topped(self.replies.pay(reply))
     }
 

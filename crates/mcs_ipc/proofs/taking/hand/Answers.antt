@@ -43,12 +43,12 @@ parts-requires-clause-room g c =
     let four : Piece = say (rec.Turns p Running) in
     let is = hand-is (so_far n) d p c.reply_with-reply.result c.reply_with-reply.ensures in
     let room = subst (λ made. Holds made n) is c.requires.room in
-    room-one (rec.Parts p (Receivers d.endpoint)) c.took.new.self (room-between one two three n c.took.new.self c.took.ensures (room-first (one then two then three) four n room))
+    room-one (rec.Parts p (Receivers d.endpoint)) c.took.new.self (room-between one two three n c.took.new.self c.took.ensures.took (room-first (one then two then three) four n room))
 
 pub settle-requires-clause-settling : goal.settle-requires-clause-settling
 settle-requires-clause-settling g c =
     let R : Log = so_far c.args.state.now in
-    rw (c.parts.ensures, c.took.ensures) (hand-settles R c.args.delivery.number c.args.delivery.sender c.args.receiver c.args.delivery.endpoint c.is_sound.ensures.sound c.requires.sender c.requires.idle c.requires.stands c.reply_with-reply.result c.reply_with-reply.ensures)
+    rw (c.parts.ensures, c.took.ensures.took) (hand-settles R c.args.delivery.number c.args.delivery.sender c.args.receiver c.args.delivery.endpoint c.is_sound.ensures.sound c.requires.sender c.requires.idle c.requires.stands c.reply_with-reply.result c.reply_with-reply.ensures)
 
 pub settle-requires-clause-room : goal.settle-requires-clause-room
 settle-requires-clause-room g c =
@@ -61,7 +61,7 @@ settle-requires-clause-room g c =
     let four : Piece = say (rec.Turns p Running) in
     let is = hand-is (so_far n) d p c.reply_with-reply.result c.reply_with-reply.ensures in
     let room = subst (λ made. Holds made n) is c.requires.room in
-    room-between (one then two) three four n c.parts.new.self (makes-then one two n c.took.new.self c.parts.new.self c.took.ensures c.parts.ensures) room
+    room-between (one then two) three four n c.parts.new.self (makes-then one two n c.took.new.self c.parts.new.self c.took.ensures.took c.parts.ensures) room
 
 pub turns-requires-clause-allowed : goal.turns-requires-clause-allowed
 turns-requires-clause-allowed g c =
@@ -69,7 +69,7 @@ turns-requires-clause-allowed g c =
     let settling : Piece = settle c.args.delivery.mode c.args.delivery.sender c.args.receiver c.reply_with-reply.result nothing in
     let so = so_far-made settling c.parts.new.self c.settle.new.state c.settle.ensures in
     let runs = hand-runs R c.args.delivery.number c.args.delivery.sender c.args.receiver c.args.delivery.endpoint c.is_sound.ensures.sound c.requires.sender c.requires.idle c.requires.stands c.args.delivery.mode c.reply_with-reply.result in
-    rw so (rw (c.parts.ensures, c.took.ensures) runs)
+    rw so (rw (c.parts.ensures, c.took.ensures.took) runs)
 
 pub turns-requires-clause-room : goal.turns-requires-clause-room
 turns-requires-clause-room g c =
@@ -83,7 +83,7 @@ turns-requires-clause-room g c =
     let is = hand-is (so_far n) d p c.reply_with-reply.result c.reply_with-reply.ensures in
     let room = subst (λ made. Holds made n) is c.requires.room in
     room-one (rec.Turns p Running) c.settle.new.state (room-next (one then two then three) four n c.settle.new.state
-    (makes-then (one then two) three n c.parts.new.self c.settle.new.state (makes-then one two n c.took.new.self c.parts.new.self c.took.ensures c.parts.ensures) c.settle.ensures) room)
+    (makes-then (one then two) three n c.parts.new.self c.settle.new.state (makes-then one two n c.took.new.self c.parts.new.self c.took.ensures.took c.parts.ensures) c.settle.ensures) room)
 
 pub returns : goal.returns
 returns g c =
@@ -96,5 +96,5 @@ returns g c =
     let four : Piece = say (rec.Turns p Running) in
     let is = hand-is (so_far n) d p c.reply_with-reply.result c.reply_with-reply.ensures in
     let made = makes-then (one then two then three) four n c.settle.new.state c.turns.new.self
-    (makes-then (one then two) three n c.parts.new.self c.settle.new.state (makes-then one two n c.took.new.self c.parts.new.self c.took.ensures c.parts.ensures) c.settle.ensures) c.turns.ensures in
+    (makes-then (one then two) three n c.parts.new.self c.settle.new.state (makes-then one two n c.took.new.self c.parts.new.self c.took.ensures.took c.parts.ensures) c.settle.ensures) c.turns.ensures in
     made ∙ ap (λ (made : List Rec). adds_all made n) (sym is)

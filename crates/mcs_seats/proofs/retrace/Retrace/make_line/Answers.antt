@@ -15,5 +15,5 @@ invariant_of-self g c =
     subst (λ (w : Trail). line_of_number w.book w.at ≡ Some c.args.line.now) (sym c.self.view_is) c.requires in
     let made : IsAgain b r at c.args.line.now =
     stands-again b r at c.args.line.now c.self.invariant.0 c.self.invariant.1 line in
-    let is = subst (λ (s : Step). c.enter.new.self ≡ with_entry r s.core s.thread s.entry) c.step-step.ensures c.in-Ok.ensures.line in
+    let is = subst (λ (s : Step). c.enter.new.self ≡ with_entry r s.core s.thread s.entry) c.in_ok-step.ensures c.in-Ok.ensures.line in
     (c.self.invariant.0, subst (λ (x : Book). StandsAt b x (at + 1)) (sym is) made.stands)

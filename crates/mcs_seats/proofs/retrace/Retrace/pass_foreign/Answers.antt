@@ -18,8 +18,8 @@ loop-at-preserved g c =
     ap (λ (t : Trail). line_of_number t.book at) (sym here) ∙ sym c.line.ensures ∙ c.in-Some.is in
     let other : (l.step.core.0 == w.core.0) ≡ false =
     ap (λ (t : Trail). l.step.core.0 == t.core.0) (sym here)
-    ∙ ap (λ (k : Step). k.core.0 == s.inside.core.0) (sym c.step.ensures)
-    ∙ sym c.eq.ensures ∙ c.if-eq.false in (
+    ∙ ap (λ (k : Step). k.core.0 == s.inside.core.0) (sym c.kept_step.ensures ∙ sym c.eq.view_is)
+    ∙ sym c.eq-in-Some.ensures ∙ c.if-eq.false in (
       c.in_ok-make_line-in-Some.ensures ∙ ap (λ (t : Trail). record t { at = t.at + 1 }) c.loop-at.invariant.0,
       c.loop-at.invariant.1 ∙ notes-foreign w.book w.core at l some line other,
     )

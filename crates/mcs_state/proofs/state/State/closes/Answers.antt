@@ -2,8 +2,8 @@ use Rattle.std.proofs.Common.{refl, ap, arith}
 use Rattle.mcs_types.specs.declared.id.Kind.TheVariants as kind
 use Rattle.mcs_types.specs.declared.record.Rec.TheVariants as rec
 use Rattle.mcs_waiting.specs.Queues.{has_queues}
-use Rattle.mcs_state.proofs.ContextLaws.{closing-context, closing-unheld}
-use Rattle.mcs_state.proofs.NotificationLaws.{closing-notification, closing-unbound}
+use Rattle.mcs_state.proofs.ContextLaws.{closing-context, closing-unheld, closing-homeless}
+use Rattle.mcs_state.proofs.NotificationLaws.{closing-notification, closing-unbound, closing-homeless as closing-unhomed}
 use Rattle.mcs_state.proofs.QueueLaws.{closing-queues, closing-empty}
 use Rattle.mcs_state.proofs.ReplyLaws.{closing-reply, closing-unowing, closing-unattended}
 use Rattle.mcs_state.proofs.ThreadLaws.{thread-there}
@@ -63,6 +63,11 @@ pub end_notification-requires-clause-unbound : goal.end_notification-requires-cl
 end_notification-requires-clause-unbound g c =
     let ok = inside (rec.Closed c.args.object) c.self.view_is c.requires.allowed in
     closing-unbound _ _ c.args.object c.in-Notification.is ok c.self.invariant.1.notifications
+
+pub end_notification-requires-clause-homeless : goal.end_notification-requires-clause-homeless
+end_notification-requires-clause-homeless g c =
+    let ok = inside (rec.Closed c.args.object) c.self.view_is c.requires.allowed in
+    closing-unhomed _ _ c.args.object c.in-Notification.is ok c.self.invariant.1.notifications
 
 pub invariant_of-self-in-Notification : goal.invariant_of-self-in-Notification
 invariant_of-self-in-Notification g c =
@@ -125,6 +130,11 @@ close-requires-in-Context-clause-free g c =
     let ok = inside (rec.Closed c.args.object) c.self.view_is c.requires.allowed in
     closing-unheld _ _ c.args.object c.in-Context.is ok c.self.invariant.1.contexts
 
+pub close-requires-in-Context-clause-homeless : goal.close-requires-in-Context-clause-homeless
+close-requires-in-Context-clause-homeless g c =
+    let ok = inside (rec.Closed c.args.object) c.self.view_is c.requires.allowed in
+    closing-homeless _ _ c.args.object c.in-Context.is ok c.self.invariant.1.contexts
+
 pub invariant_of-self-in-Context : goal.invariant_of-self-in-Context
 invariant_of-self-in-Context g c =
     let ok = inside (rec.Closed c.args.object) c.self.view_is c.requires.allowed in
@@ -135,7 +145,7 @@ invariant_of-self-in-Context g c =
           (follows-closed _ c.args.object kind.Context _ _ c.in-Context.is (record {
             threads = refl;
             letters = refl;
-            contexts = record { counts = close.counts; cores = close.cores; holders = close.holders };
+            contexts = record { counts = close.counts; cores = close.cores; holders = close.holders; homes = close.homes };
             queues = refl;
             replies = record { same = record { objects = record { counts = chain.counts; there = chain.there }; receivers = chain.receivers }; owed = chain.owed; chains = chain.chains };
             notifications = refl;

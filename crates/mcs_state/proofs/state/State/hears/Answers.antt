@@ -18,7 +18,7 @@ invariant_of-self g c =
             contexts = refl;
             queues = refl;
             replies = refl;
-            notifications = record { objects = record { counts = hear.counts; there = hear.there }; words = hear.words; threads = hear.threads };
+            notifications = record { objects = record { counts = hear.counts; there = hear.there }; words = hear.words; threads = hear.threads; homed = hear.homed };
             slots = refl;
             sent = refl;
           }) c.self.invariant.1,

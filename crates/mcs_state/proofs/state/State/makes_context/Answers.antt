@@ -20,5 +20,5 @@ invariant_of-self g c =
     let made = rec.Made (next_id R kind.Context) (form.OnCore c.args.core) in (
       omega (arith, c.self.invariant.0, c.note.ensures.capacity),
       follows made _ _ _ _ _ _ items (inside-room c.self.view_is c.requires.room) (inside-made kind.Context (form.OnCore c.args.core) c.self.view_is c.requires.allowed)
-          (record { threads = refl; letters = refl; contexts = record { counts = c.add-object.ensures.counts; cores = cores; holders = c.add-object.ensures.holders }; queues = refl; replies = refl; notifications = refl; slots = refl; sent = refl }) c.self.invariant.1,
+          (record { threads = refl; letters = refl; contexts = record { counts = c.add-object.ensures.counts; cores = cores; holders = c.add-object.ensures.holders; homes = c.add-object.ensures.homes }; queues = refl; replies = refl; notifications = refl; slots = refl; sent = refl }) c.self.invariant.1,
     )

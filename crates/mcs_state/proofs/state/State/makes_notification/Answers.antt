@@ -30,7 +30,7 @@ invariant_of-self g c =
             contexts = refl;
             queues = record { line = open_queue.line; queue = open_queue.queue; has = has; made = open_queue.given; there = open_queue.there };
             replies = refl;
-            notifications = record { counts = add.counts; there = there; words = add.words; threads = add.threads };
+            notifications = record { counts = add.counts; there = there; words = add.words; threads = add.threads; homed = add.homed };
             slots = refl;
             sent = refl;
           }) c.self.invariant.1,

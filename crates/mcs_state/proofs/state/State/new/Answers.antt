@@ -17,6 +17,7 @@ invariant_of-result g c = (
         contexts = c.in_ok-new-3.ensures.counts;
         cores = c.in_ok-new-3.ensures.cores;
         holders = c.in_ok-new-3.ensures.holders;
+        homes = c.in_ok-new-3.ensures.homes;
         line = c.in_ok-new-6.ensures.line;
         queue = c.in_ok-new-6.ensures.queue;
         has = c.in_ok-new-6.ensures.has;
@@ -31,6 +32,7 @@ invariant_of-result g c = (
         has_notification = c.in_ok-new-5.ensures.there;
         words = c.in_ok-new-5.ensures.words;
         bound = c.in_ok-new-5.ensures.threads;
+        homed = c.in_ok-new-5.ensures.homed;
         slots = c.in_ok-new.ensures;
         sent = refl;
       })),

@@ -16,5 +16,5 @@ invariant_of-self g c =
     let raise = c.raise.ensures in (
       omega (arith, c.self.invariant.0, c.note.ensures.capacity),
       follows (rec.Raised c.args.notification c.args.badge) _ _ _ _ _ _ c.note.ensures.items (inside-room c.self.view_is c.requires.room) (inside (rec.Raised c.args.notification c.args.badge) c.self.view_is c.requires.allowed)
-          (record { threads = refl; letters = refl; contexts = refl; queues = refl; replies = refl; notifications = record { objects = record { counts = raise.counts; there = raise.there }; words = raise.words; threads = raise.threads }; slots = refl; sent = refl }) c.self.invariant.1,
+          (record { threads = refl; letters = refl; contexts = refl; queues = refl; replies = refl; notifications = record { objects = record { counts = raise.counts; there = raise.there }; words = raise.words; threads = raise.threads; homed = raise.homed }; slots = refl; sent = refl }) c.self.invariant.1,
     )

@@ -1,0 +1,26 @@
+use Rattle.std.proofs.Common.{ap, sym, ◌∙◌}
+use Rattle.mcs_types.specs.declared.entry.Entry.TheVariants.{BindCtx}
+use Rattle.mcs_state.specs.Changing.{changes}
+use Rattle.mcs_state.specs.Checks.{act_of}
+use Rattle.mcs_state.specs.Now.{so_far}
+use Rattle.mcs_state.proofs.Doing.{refused, did, room-did}
+use Rattle.mcs_ipc.proofs.Binding.{row-bind, bind-allowed}
+use Rattle.mcs_ipc.proofs.contexts.bind_context.Goals as goal
+
+pub change_awake-requires-clause-allowed : goal.change_awake-requires-clause-allowed
+change_awake-requires-clause-allowed g c = bind-allowed (so_far c.args.state.now) c.args.thread c.args.context c.args.object c.in-Ok.change c.is_sound.ensures.sound (sym c.find_change.ensures ∙ c.in-Ok.is)
+
+pub change_awake-requires-clause-room : goal.change_awake-requires-clause-room
+change_awake-requires-clause-room g c =
+    let row = row-bind (so_far c.args.state.now) c.args.core c.args.thread c.args.context c.args.object ∙ ap (λ m. act_of m changes) (sym c.find_change.ensures ∙ c.in-Ok.is) in
+    room-did c.args.state.now c.args.core c.args.thread (BindCtx c.args.context c.args.object) (changes c.in-Ok.change) row c.requires.room
+
+pub returns-in-Err : goal.returns-in-Err
+returns-in-Err g c =
+    let row = row-bind (so_far c.args.state.now) c.args.core c.args.thread c.args.context c.args.object ∙ ap (λ m. act_of m changes) (sym c.find_change.ensures ∙ c.in-Err.is) in
+    refused c.args.state.now c.args.core c.args.thread (BindCtx c.args.context c.args.object) c.in-Err.refusal row
+
+pub returns-in-Ok : goal.returns-in-Ok
+returns-in-Ok g c =
+    let row = row-bind (so_far c.args.state.now) c.args.core c.args.thread c.args.context c.args.object ∙ ap (λ m. act_of m changes) (sym c.find_change.ensures ∙ c.in-Ok.is) in
+    did c.args.state.now c.change_awake.new.state c.args.core c.args.thread (BindCtx c.args.context c.args.object) (changes c.in-Ok.change) c.change_awake.result row c.change_awake.ensures

@@ -1,0 +1,33 @@
+-- What entries and answers bring.
+use Rattle.std.specs.Prelude.{ℕ, Bool, true, false, List, []}
+use Rattle.mcs_types.specs.declared.entry.Entry.{Entry}
+use Rattle.mcs_types.specs.declared.entry.Entry.TheVariants.{Send, NbSend, Call, Recv, NbRecv, Wait, NbWait, ReplyRecv}
+use Rattle.mcs_types.specs.declared.entry.Answer.{Answer}
+use Rattle.mcs_types.specs.declared.entry.Answer.TheVariants.{Got}
+
+-- the words of the message that an entry brings; none where it brings no message
+abbrev pub entry_words : Entry → List ℕ
+entry_words (Send cap message) = message.words
+entry_words (NbSend cap message) = message.words
+entry_words (Call cap message) = message.words
+entry_words (ReplyRecv cap reply message) = message.words
+entry_words _ = []
+
+-- whether it may be answered with a message
+abbrev pub receives : Entry → Bool
+receives (Recv cap reply) = true
+receives (NbRecv cap reply) = true
+receives (Wait cap) = true
+receives (NbWait cap) = true
+receives (ReplyRecv cap reply message) = true
+receives _ = false
+
+-- the words of the message that an answer brings; none where it brings no message
+abbrev pub answer_words : Answer → List ℕ
+answer_words (Got badge message) = message.words
+answer_words _ = []
+
+-- it brings no message
+abbrev pub IsPlain : Answer → Type 0
+IsPlain (Got badge message) = ⊥
+IsPlain _ = Unit {0}
