@@ -62,11 +62,16 @@ fn settled<G: Ledger, R: Wait>(
     }
 }
 
+/// The same with a ledger of its own.
+fn attempt<R: Wait>(rt: &R, alloc: Global, boot: &Boot) -> Result<Option<Vec<u8>>, Failed> {
+    settled::<Brand, R>(rt, alloc, Blank::new(16), boot)
+}
+
 /// The trace of the entries on a machine, which is made once more where memory was refused.
 pub fn trace_of_machine<R: Wait>(rt: &R, alloc: Global) -> Result<Vec<u8>, Failed> {
     let boot = booted(alloc)?;
-    if let Some(trace) = settled::<Brand, R>(rt, alloc, Blank::new(u64::from(CORES)), &boot)? {
+    if let Some(trace) = attempt(rt, alloc, &boot)? {
         return Ok(trace);
     }
-    settled::<Brand, R>(rt, alloc, Blank::new(u64::from(CORES)), &boot)?.ok_or(Failed)
+    attempt(rt, alloc, &boot)?.ok_or(Failed)
 }

@@ -225,7 +225,7 @@ fn add_debts(alloc: Global, facts: &mut Vec<Rec>, ids: &Ids) -> Result<(), Fail>
     facts.push(Rec::Paid {
         reply,
         caller,
-        message: message(alloc, &words()[..119])?,
+        message: message(alloc, &words())?,
     })?;
     for ending in [Ending::Deleted, Ending::Cancelled] {
         facts.push(Rec::Void {
