@@ -1,4 +1,4 @@
-//! The first example by calls of the kernel, and on a machine, and then the scripts of standard input: what each gives is written,
+//! The first example by calls of the kernel, and then the scripts of standard input: what each gives is written,
 //! and that it gives the same in pieces, and its trace itself, is tested. `#!` begins the name of the script behind its line. A call that memory
 //! was refused to is given once more. A plain run is refused nothing; `tests/each-allocation.sh` has each allocation refused in turn,
 //! and wants the same traces.
@@ -7,17 +7,13 @@
 ghost use Rattle.std.specs.Prelude.{◌≤◌, length};
 
 mod calls;
-mod machine;
 mod scripts;
 
-use calls::{Failed, trace_of_calls};
-use machine::trace_of_machine;
+use calls::trace_of_calls;
 use mcs_sim::{ReadFault, Sink, Source};
 use scripts::given_by;
-use std::alloc::Global;
 use std::io::{self, Input};
 use std::process::ExitCode;
-use std::sync::Wait;
 
 /// With this the name of a script begins, which ends with its line.
 const NAME: &[u8] = b"#!";
@@ -100,17 +96,8 @@ fn write_all(rt: &HostRuntime, text: &[u8]) -> io::Result<()> {
     Ok(())
 }
 
-/// The trace of the calls, where a machine gives the same.
-fn trace_of_entries<R: Wait>(rt: &R, alloc: Global) -> Result<Vec<u8>, Failed> {
-    let trace = trace_of_calls(alloc)?;
-    if trace_of_machine(rt, alloc)? != trace {
-        return Err(Failed);
-    }
-    Ok(trace)
-}
-
 fn main(rt: HostRuntime) -> ExitCode {
-    match trace_of_entries(&rt, rt.alloc()) {
+    match trace_of_calls(rt.alloc()) {
         Ok(text) => Sink::new(rt.alloc(), io::writer(&rt)).put(&text),
         Err(_) => {
             let _ = rt.println("a call failed, or changed something where it failed");
