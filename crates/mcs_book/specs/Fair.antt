@@ -11,7 +11,7 @@ use Rattle.mcs_types.specs.declared.record.Rec.{Rec}
 use Rattle.mcs_types.specs.declared.record.Rec.TheVariants.{Sent, Took, Dropped, Owes, Paid, Void}
 use Rattle.mcs_types.specs.declared.entry.Answer.TheVariants.{Got}
 use Rattle.mcs_types.specs.declared.entry.Entry.{Entry}
-use Rattle.mcs_types.specs.declared.entry.Entry.TheVariants.{Send, NbSend, Call, ReplyRecv}
+use Rattle.mcs_types.specs.declared.entry.Entry.TheVariants.{Send, NbSend, Call, ReplyRecv, NbSendRecv, NbSendWait}
 use Rattle.mcs_book.specs.Logs.{Log, onto}
 use Rattle.mcs_book.specs.Objects.{is_alive}
 use Rattle.mcs_types.specs.Chains.{head_of}
@@ -38,6 +38,8 @@ carried (Send a message) = Some message
 carried (NbSend a message) = Some message
 carried (Call a message) = Some message
 carried (ReplyRecv a r message) = Some message
+carried (NbSendRecv a source r message) = Some message
+carried (NbSendWait a source message) = Some message
 carried _ = None
 
 -- the address over which an entry sends
@@ -45,6 +47,8 @@ abbrev pub address_used : Entry → Option ℕ
 address_used (Send a message) = Some a
 address_used (NbSend a message) = Some a
 address_used (Call a message) = Some a
+address_used (NbSendRecv a source r message) = Some a
+address_used (NbSendWait a source message) = Some a
 address_used _ = None
 
 -- the endpoint and the badge of a message are those of the capability that its sender named

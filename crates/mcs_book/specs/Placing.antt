@@ -1,5 +1,5 @@
 -- Copies, moves, deletions and new objects (manual: Capability Spaces; Make is this profile's).
-use Rattle.std.specs.Prelude.{ℕ, Bool, true, false, cond, ◌&&◌, ◌==◌, nat_lt, is_none, Option, Some, None, Ok, List, [], filter}
+use Rattle.std.specs.Prelude.{ℕ, Bool, false, cond, ◌&&◌, ◌==◌, nat_lt, is_none, Option, Some, None, Ok, List, filter}
 use Rattle.mcs_types.specs.declared.id.ObjId.{ObjId}
 use Rattle.mcs_types.specs.declared.id.Kind.{Kind}
 use Rattle.mcs_types.specs.declared.id.Kind.TheVariants.{CNode}

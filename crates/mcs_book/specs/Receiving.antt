@@ -1,34 +1,49 @@
 -- Receives and waits, after the lookup of their source (manual: Message Passing; Notifications).
-use Rattle.std.specs.Prelude.{ℕ, Bool, true, false, not, ◌&&◌, Option, Some, None, Ok, Err}
+use Rattle.std.specs.Prelude.{ℕ, Bool, true, false, cond, not, ◌&&◌, Option, Some, None, Ok, Err}
 use Rattle.mcs_types.specs.Views.{Content}
 use Rattle.mcs_types.specs.declared.id.ObjId.{ObjId}
 use Rattle.mcs_types.specs.declared.id.Kind.{Kind}
 use Rattle.mcs_types.specs.declared.id.Kind.TheVariants.{Endpoint, Notification, Reply}
 use Rattle.mcs_types.specs.declared.cap.Cap.{Cap}
 use Rattle.mcs_types.specs.declared.record.Mode.TheVariants.{Inactive}
+use Rattle.mcs_types.specs.declared.record.Queue.{Queue}
 use Rattle.mcs_types.specs.declared.record.Queue.TheVariants.{Senders, Receivers, Waiters}
-use Rattle.mcs_types.specs.declared.record.Rec.{Rec}
 use Rattle.mcs_types.specs.declared.record.Rec.TheVariants as rec
 use Rattle.mcs_types.specs.declared.entry.Answer.TheVariants.{Got, Heard, Empty, Waits}
 use Rattle.mcs_types.specs.declared.entry.Refusal.TheVariants.{WrongKind, NoRight, AlreadyBound}
-use Rattle.mcs_types.specs.Ids.{same}
+use Rattle.mcs_types.specs.Ids.{same, is_just}
 use Rattle.mcs_book.specs.Logs.{Log}
 use Rattle.mcs_types.specs.declared.record.Letter.{Letter}
 use Rattle.mcs_book.specs.Messages.{open_of}
 use Rattle.mcs_book.specs.Queues.{first_in}
 use Rattle.mcs_book.specs.Replies.{user_of}
 use Rattle.mcs_book.specs.Notifications.{bound_of, tied_to, pending}
+use Rattle.mcs_book.specs.Contexts.{context_of, home_of}
+use Rattle.mcs_book.specs.Chains.{is_unlent}
 use Rattle.mcs_book.specs.Checks.{Checked, ◌>>=◌, ◌>>◌, Passed, need}
 use Rattle.mcs_book.specs.Rights.{may_read, can_badge}
-use Rattle.mcs_book.specs.Lookup.{of_kind}
-use Rattle.mcs_book.specs.Pieces.{Piece, nothing, say, with_any, Act, answers, before}
+use Rattle.mcs_book.specs.Lookup.{capability, of_kind}
+use Rattle.mcs_book.specs.Pieces.{Piece, ◌then◌, nothing, say, with_any, Act, answers, silently, before}
 use Rattle.mcs_book.specs.Taking.{taken, pay}
-use Rattle.mcs_book.specs.Cancelling.{cancel}
+use Rattle.mcs_book.specs.Cancelling.{cancel, let_go}
+
+-- a context, if it is homed at the notification and has an empty chain
+abbrev pub if_at_home : Log → Option ObjId → Option ObjId → Option ObjId
+if_at_home R (Some n) (Some s) = cond (is_just (home_of R s) n && is_unlent R s) (Some s) None
+if_at_home R _ _ = None
+
+-- t gives up the context that it holds, if that is homed at the notification and has an empty chain
+unfoldable pub go_home : ObjId → Option ObjId → Piece
+go_home t n R = let_go (if_at_home R n (context_of R t)) R
+
+-- t stands in the queue q with the reply object r; n is the notification by which it may wake
+unfoldable pub stand : ObjId → Queue → Option ObjId → Option ObjId → Piece
+stand t q r n = say (rec.Joins t q r) then go_home t n
 
 -- blocks, or is answered at once that nothing is there
-unfoldable pub joins_or : Bool → Rec → Act
-joins_or true joins = answers Waits (say joins)
-joins_or false joins = answers Empty nothing
+unfoldable pub joins_or : Bool → Piece → Act
+joins_or true stands = answers Waits stands
+joins_or false stands = answers Empty nothing
 
 -- a pending word comes before anything else
 unfoldable pub hear : ObjId → Option ObjId → Option ℕ → Act → Act
@@ -54,7 +69,7 @@ pending_of_any R (Some n) = pending R n
 unfoldable pub receive_message : ObjId → ObjId → Option ObjId → Bool → Act
 receive_message t e r blocking R =
     hear t (bound_of R t) (pending_of_any R (bound_of R t))
-    (take_open t r (open_of_any R (first_in R (Senders e))) (joins_or blocking (rec.Joins t (Receivers e) r))) R
+    (take_open t r (open_of_any R (first_in R (Senders e))) (joins_or blocking (stand t (Receivers e) r (bound_of R t)))) R
 
 -- the present user of the reply object r is cancelled
 unfoldable pub free : ObjId → Piece
@@ -66,7 +81,7 @@ receive_on t e r blocking = before (with_any r free) (receive_message t e r bloc
 
 -- t waits on a notification
 unfoldable pub wait_on : ObjId → ObjId → Bool → Act
-wait_on t n blocking R = hear t (Some n) (pending R n) (joins_or blocking (rec.Joins t (Waiters n) None)) R
+wait_on t n blocking R = hear t (Some n) (pending R n) (joins_or blocking (stand t (Waiters n) None (Some n))) R
 
 -- whether somebody else is bound
 abbrev pub bound_elsewhere : Option ObjId → ObjId → Bool
@@ -111,3 +126,11 @@ reply_receive R t cap address message = do
   r ← reply_at R t address
   receive ← receive_over R t cap (Ok r) true
   Ok (before (pay_any r message) receive)
+
+-- sends, and then receives over a second capability: all checks come first, and the receive is what is answered
+unfoldable pub send_receive : Log → ObjId → Checked Act → ℕ → Checked (Option ObjId) → Checked Act
+send_receive R t sending address reply = do
+  send ← sending
+  source ← capability R t address
+  receive ← receive_over R t source reply true
+  Ok (before (silently send) receive)

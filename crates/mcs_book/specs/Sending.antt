@@ -6,7 +6,6 @@ use Rattle.mcs_types.specs.declared.id.Kind.{Kind}
 use Rattle.mcs_types.specs.declared.id.Kind.TheVariants.{Endpoint, Notification, Reply}
 use Rattle.mcs_types.specs.declared.cap.Cap.{Cap}
 use Rattle.mcs_types.specs.declared.record.SendMode.{SendMode}
-use Rattle.mcs_types.specs.declared.record.SendMode.TheVariants as how
 use Rattle.mcs_types.specs.declared.record.Queue.TheVariants.{Senders, Receivers}
 use Rattle.mcs_types.specs.declared.record.Rec.TheVariants.{Sent, Joins}
 use Rattle.mcs_types.specs.declared.entry.Answer.{Answer}
@@ -44,16 +43,16 @@ unfoldable pub queues : (Log → Letter) → Act
 queues letter R = answers Waits (sent (letter R) then say (Joins ((letter R).sender) (Senders ((letter R).endpoint)) None)) R
 
 -- a send over an endpoint, a notification or a reply capability; alone is what it does where nobody receives
-unfoldable pub send_by : Kind → ObjId → Cap → Content → Act → Checked Act
-send_by Endpoint t cap message alone = do
+unfoldable pub send_by : Kind → SendMode → ObjId → Cap → Content → Act → Checked Act
+send_by Endpoint mode t cap message alone = do
   need (may_write cap) NoRight
-  Ok (sends (letter_over t cap how.Plain message) Done alone)
-send_by Notification t cap message alone = do
+  Ok (sends (letter_over t cap mode message) Done alone)
+send_by Notification mode t cap message alone = do
   need (may_write cap) NoRight
   Ok (answers Done (signal cap.obj cap.badge))
-send_by Reply t cap message alone = Ok (answers Done (pay cap.obj message))
-send_by _ t cap message alone = Err WrongKind
+send_by Reply mode t cap message alone = Ok (answers Done (pay cap.obj message))
+send_by _ mode t cap message alone = Err WrongKind
 
 -- a send over a capability
-unfoldable pub send_over : ObjId → Cap → Content → Act → Checked Act
-send_over t cap message alone = send_by cap.obj.kind t cap message alone
+unfoldable pub send_over : SendMode → ObjId → Cap → Content → Act → Checked Act
+send_over mode t cap message alone = send_by cap.obj.kind mode t cap message alone

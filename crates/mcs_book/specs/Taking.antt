@@ -24,12 +24,26 @@ debt r x p _ _ = Owes r x None ∷ []
 unfoldable pub owe : ObjId → ObjId → ObjId → Piece
 owe r x p R = debt r x p (context_of R p) (context_of R x)
 
+-- the context s passes to x, if there is one and x holds none
+abbrev pub back_to : ObjId → Option ObjId → Option ObjId → List Rec
+back_to x (Some s) None = Holds s (Some x) ∷ []
+back_to x _ _ = []
+
+-- the context s passes to x: one whose chain was topped returns, one that is homed is found, and one that is given comes along
+unfoldable pub give_back : Option ObjId → ObjId → Piece
+give_back s x R = back_to x s (context_of R x)
+
+-- the context of x passes to p
+unfoldable pub give : ObjId → ObjId → Piece
+give x p R = give_back (context_of R x) p R
+
 -- what becomes of the sender x when p takes its message with the reply object r; after a plain send it goes on as said
 abbrev pub settle : SendMode → ObjId → ObjId → Option ObjId → Piece → Piece
 settle how.Plain x p r goes_on = goes_on
 settle how.Call x p (Some r) goes_on = owe r x p
 settle how.Call x p None goes_on = say (Turns x Inactive)
 settle how.Mute x p r goes_on = say (Turns x Inactive)
+settle how.Give x p r goes_on = give x p
 
 -- a message that was just sent is taken by p, who stands in its queue for it
 unfoldable pub handed : Letter → ObjId → Piece
@@ -45,15 +59,6 @@ taken s p r =
     say (Took s.number p)
     then say (Parts s.sender (Senders s.endpoint))
     then settle s.mode s.sender p r (say (Turns s.sender Running))
-
--- the context s returns to x, if there is one and x holds none
-abbrev pub back_to : ObjId → Option ObjId → Option ObjId → List Rec
-back_to x (Some s) None = Holds s (Some x) ∷ []
-back_to x _ _ = []
-
--- the context whose chain was topped returns to x
-unfoldable pub give_back : Option ObjId → ObjId → Piece
-give_back s x R = back_to x s (context_of R x)
 
 -- the caller whom r owes is answered
 unfoldable pub pay : ObjId → Content → Piece

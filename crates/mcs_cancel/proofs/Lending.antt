@@ -1,15 +1,12 @@
--- Contexts that return: what is recorded, and what holds of the one that a chain's top returns.
-use Rattle.std.specs.Prelude.{◌≡◌, [], ◌∷◌, Option, Some, None}
+-- The context that a chain's top returns.
+use Rattle.std.specs.Prelude.{◌≡◌, Option, Some, None}
 use Rattle.std.specs.Option.{IfSome}
-use Rattle.std.proofs.Common.{refl, sym}
+use Rattle.std.proofs.Common.{sym}
 use Rattle.mcs_types.specs.declared.id.ObjId.{ObjId}
 use Rattle.mcs_types.specs.declared.id.Kind.TheVariants as kind
-use Rattle.mcs_types.specs.declared.record.Rec.TheVariants as rec
 use Rattle.mcs_book.specs.Logs.{Log}
-use Rattle.mcs_book.specs.Contexts.{context_of}
 use Rattle.mcs_book.specs.Chains.{topped_by}
 use Rattle.mcs_book.specs.Sound.{IsThere}
-use Rattle.mcs_book.specs.Taking.{give_back}
 use Rattle.mcs_book.proofs.Firm.Laws.{topped-there}
 
 -- the context that returns is there
@@ -21,18 +18,3 @@ lent-there R r (Some s) is = topped-there R r s (sym is)
 pub still-there : (R S : Log) (lent : Option ObjId) → ((s : ObjId) → IsThere R kind.Context s → IsThere S kind.Context s) → IfSome lent (λ s. IsThere R kind.Context s) → IfSome lent (λ s. IsThere S kind.Context s)
 still-there R S None f there = tt
 still-there R S (Some s) f there = f s there
-
--- there is none to give back
-pub back-none : (R : Log) (x : ObjId) → give_back None x R ≡ []
-unfolding give_back
-back-none R x = refl
-
--- the thread holds one
-pub back-held : (R : Log) (s x c : ObjId) → context_of R x ≡ Some c → give_back (Some s) x R ≡ []
-unfolding give_back
-back-held R s x c holds = rw holds refl
-
--- it returns
-pub back-gives : (R : Log) (s x : ObjId) → context_of R x ≡ None → give_back (Some s) x R ≡ rec.Holds s (Some x) ∷ []
-unfolding give_back
-back-gives R s x none = rw none refl

@@ -13,8 +13,7 @@ ghost use Rattle.mcs_cancel.specs.Emptying.{restarts_all, KeepsOthers};
 ghost use Rattle.mcs_cancel.specs.Releasing.{IsNoCNode, IsUnnamed, releases, unties, lets_go, frees, clears, unhomes, unholds, dismisses};
 
 use crate::cancelling::cancel;
-use crate::returning::give_back;
-use mcs_state::State;
+use mcs_state::{State, give_back};
 use mcs_types::{Ending, Kind, Mode, ObjId, Queue};
 use mcs_waiting::Waiting;
 

@@ -7,11 +7,9 @@ mod checks;
 mod destroying;
 mod modes;
 mod priority;
-mod returning;
 
 pub use badged::cancel_badged;
 pub use cancelling::cancel;
 pub use destroying::{destroy, unbind};
 pub use modes::{resume, suspend};
 pub use priority::set_priority;
-pub use returning::give_back;

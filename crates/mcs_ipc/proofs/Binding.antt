@@ -1,25 +1,22 @@
 -- The rows of BindCtx and UnbindCtx are what the code does, and what it does is allowed.
 use Rattle.std.specs.Prelude.{ℕ, ◌≡◌, ◌&&◌, ◌||◌, Bool, true, false, cond, List, [], ◌∷◌, Some, is_some, is_none, Ok, Err}
-use Rattle.std.proofs.Common.{refl, ap, sym, ◌∙◌, subst}
+use Rattle.std.proofs.Common.{refl, subst}
 use Rattle.mcs_types.specs.declared.id.ObjId.{ObjId}
 use Rattle.mcs_types.specs.declared.id.CoreId.{CoreId}
 use Rattle.mcs_types.specs.declared.id.Kind.{Kind}
 use Rattle.mcs_types.specs.declared.id.Kind.TheVariants as kind
 use Rattle.mcs_types.specs.declared.cap.Cap.{Cap}
 use Rattle.mcs_types.specs.declared.entry.Entry.TheVariants.{BindCtx, UnbindCtx}
-use Rattle.mcs_types.specs.declared.entry.Answer.TheVariants.{Done}
 use Rattle.mcs_types.specs.declared.entry.Refusal.TheVariants.{AlreadyBound, NotBound}
 use Rattle.mcs_types.specs.Chains.{head_of}
 use Rattle.mcs_types.proofs.Ids.{parts}
 use Rattle.mcs_book.specs.Logs.{Log}
 use Rattle.mcs_book.specs.Binding.{is_loose, bind_by}
-use Rattle.mcs_book.specs.Cancelling.{unbind}
 use Rattle.mcs_book.specs.Chains.{is_empty}
 use Rattle.mcs_book.specs.Checks.{Checked, ◌>>=◌, ◌>>◌, need}
 use Rattle.mcs_book.specs.Contexts.{holder_of, context_of, home_of, homed_at}
 use Rattle.mcs_book.specs.Lookup.{capability}
 use Rattle.mcs_book.specs.Objects.{is_alive}
-use Rattle.mcs_book.specs.Pieces.{answers}
 use Rattle.mcs_book.specs.Sound.{Sound, Allowed, IsThere}
 use Rattle.mcs_book.specs.Table.{row}
 use Rattle.mcs_book.proofs.Firm.Laws.{context-none, homed_at-none, none-is}

@@ -38,7 +38,7 @@ use Rattle.mcs_state.specs.Checks.{kinded}
 use Rattle.mcs_state.specs.Entering.{IsEntering, OpenStand}
 use Rattle.mcs_state.proofs.Named.{kinded-ok, writable-ok, found-alive}
 use Rattle.mcs_state.proofs.Woken.{woken, woken-there, woken-stand}
-use Rattle.mcs_ipc.specs.Ready.{IsSending}
+use Rattle.mcs_ipc.specs.Ready.{IsSending, IsSendingOver}
 use Rattle.mcs_ipc.specs.declared.checks.Target.{Target}
 use Rattle.mcs_ipc.specs.declared.checks.Target.TheVariants as target
 use Rattle.mcs_ipc.specs.Rows.{target_by, target_of, sendable, callable, answer_to, alone_act, send_act, handed_to}
@@ -131,8 +131,13 @@ woken-over R t e enters stand there = record {
 }
 
 -- so it does over what it named
-pub woken-sends : (R : Log) (t : ObjId) (a : ℕ) (c : Cap) → Sound R → IsEntering R t → OpenStand R → sendable R t a ≡ Ok (target.Endpoint c) → IsSending (onto (wakes (mode_of R t) t R) R) t c.obj
-woken-sends R t a c sound enters stand e = woken-over R t c.obj enters stand (target-there R t a (target.Endpoint c) sound e)
+pub woken-sends : (R : Log) (t : ObjId) (a : ℕ) (x : Target) → Sound R → IsEntering R t → OpenStand R → sendable R t a ≡ Ok x → IsSendingOver (onto (wakes (mode_of R t) t R) R) t x
+woken-sends R t a x sound enters stand e = go x (target-there R t a x sound e)
+  where
+    go : (x : Target) → IsTargetThere R x → IsSendingOver (onto (wakes (mode_of R t) t R) R) t x
+    go (target.Endpoint c) there = woken-over R t c.obj enters stand there
+    go (target.Notification c) there = woken-there R t (mode_of R t) kind.Notification c.obj there
+    go (target.Reply r) there = tt
 
 -- and it calls
 pub woken-calls : (R : Log) (t : ObjId) (a : ℕ) (c : Cap) → Sound R → IsEntering R t → OpenStand R → callable R t a ≡ Ok c → IsSending (onto (wakes (mode_of R t) t R) R) t c.obj

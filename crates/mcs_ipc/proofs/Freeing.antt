@@ -18,11 +18,11 @@ use Rattle.mcs_book.specs.Logs.{Log, onto, given}
 use Rattle.mcs_book.specs.Queues.{queue_of, first_in}
 use Rattle.mcs_book.specs.Messages.{letter, open_of}
 use Rattle.mcs_book.specs.Replies.{owed_by, receiver_with, user_of}
-use Rattle.mcs_book.specs.Pieces.{◌then◌, with_any, Act, Outcome, answers}
+use Rattle.mcs_book.specs.Pieces.{Piece, ◌then◌, with_any, Act, Outcome, answers}
 use Rattle.mcs_book.specs.Notifications.{bound_of}
 use Rattle.mcs_book.specs.Taking.{taken}
 use Rattle.mcs_book.specs.Cancelling.{cancel}
-use Rattle.mcs_book.specs.Receiving.{free, hear, take_open, joins_or, open_of_any, pending_of_any, receive_message}
+use Rattle.mcs_book.specs.Receiving.{free, hear, take_open, stand, joins_or, open_of_any, pending_of_any, receive_message}
 use Rattle.mcs_book.specs.Fair.{IsOpenOf}
 use Rattle.mcs_book.specs.Sound.{Sound, IsThere}
 use Rattle.mcs_book.proofs.Firm.Laws.{owed-owing}
@@ -137,7 +137,7 @@ unfolding receive_message hear takes_bound
 receive-hears R b t e r word is = go (bound_of R t) refl is
   where
     rest : Act
-    rest = take_open t r (open_of_any R (first_in R (Senders e))) (joins_or b (rec.Joins t (Receivers e) r))
+    rest = take_open t r (open_of_any R (first_in R (Senders e))) (joins_or b (stand t (Receivers e) r (bound_of R t)))
 
     go : (n : Option ObjId) → bound_of R t ≡ n → pending_of_any R n ≡ Some word
         → hear t (bound_of R t) (pending_of_any R (bound_of R t)) rest R ≡ record { answer = Heard word; records = word_heard t (bound_of R t) (pending_of_any R (bound_of R t)) }
@@ -150,7 +150,7 @@ unfolding receive_message hear take_act
 receive-silent R b t at none = go (bound_of R t) (pending_of_any R (bound_of R t)) none
   where
     rest : Act
-    rest = take_open t at.reply (open_of_any R (first_in R (Senders at.endpoint))) (joins_or b (rec.Joins t (Receivers at.endpoint) at.reply))
+    rest = take_open t at.reply (open_of_any R (first_in R (Senders at.endpoint))) (joins_or b (stand t (Receivers at.endpoint) at.reply (bound_of R t)))
 
     go : (n : Option ObjId) (o : Option ℕ) → o ≡ None → hear t n o rest R ≡ rest R
     go None o is = refl
@@ -170,18 +170,18 @@ pub made-silent : (n m : Now) (t : ObjId) → pending_of_any (so_far n) (bound_o
 made-silent n m t none made = made ∙ ap (λ (more : List Rec). adds_all more n) (bound-silent (so_far n) t none)
 
 -- a taking where nobody sends
-pub take-alone : (R : Log) (b : Bool) (t : ObjId) (at : Receiving) → open_of_any R (first_in R (Senders at.endpoint)) ≡ None → take_act b t at R ≡ stand_act b t at R
+pub take-alone : (R : Log) (b : Bool) (t : ObjId) (at : Receiving) → open_of_any R (first_in R (Senders at.endpoint)) ≡ None → take_act b t at R ≡ stand_act R b t at R
 unfolding take_act take_open
 take-alone R b t at none = rw none refl
 
 -- it waits, or nothing is there
-pub joins-waits : (R : Log) (joins : Rec) → joins_or true joins R ≡ record { answer = Waits; records = joins ∷ [] }
+pub joins-waits : (R : Log) (stands : Piece) → joins_or true stands R ≡ record { answer = Waits; records = stands R }
 unfolding joins_or
-joins-waits R joins = refl
+joins-waits R stands = refl
 
-pub joins-empty : (R : Log) (joins : Rec) → joins_or false joins R ≡ record { answer = Empty; records = [] }
+pub joins-empty : (R : Log) (stands : Piece) → joins_or false stands R ≡ record { answer = Empty; records = [] }
 unfolding joins_or
-joins-empty R joins = refl
+joins-empty R stands = refl
 
 -- a taking where somebody sends
 pub take-takes : (R : Log) (b : Bool) (t : ObjId) (at : Receiving) (x : ObjId) (s : Letter) → OpenStand R → first_in R (Senders at.endpoint) ≡ Some x → open_of R x ≡ Some s

@@ -6,3 +6,4 @@ pub mod Deliveries
 pub mod Paying
 pub mod Freeing
 pub mod Binding
+pub mod Halves

@@ -9,7 +9,7 @@ use Rattle.mcs_types.specs.declared.id.Kind.TheVariants as kind
 use Rattle.mcs_types.specs.declared.cap.Cap.{Cap}
 use Rattle.mcs_types.specs.declared.record.SendMode.{SendMode}
 use Rattle.mcs_types.specs.declared.record.SendMode.TheVariants as how
-use Rattle.mcs_types.specs.declared.entry.Answer.TheVariants.{Waits}
+use Rattle.mcs_types.specs.declared.entry.Answer.TheVariants.{Done, Waits}
 use Rattle.mcs_types.specs.declared.entry.Entry.TheVariants.{Call, ReplyRecv}
 use Rattle.mcs_types.specs.declared.entry.Refusal.TheVariants.{WrongKind, NoRight, AlreadyBound}
 use Rattle.mcs_types.specs.Ids.{same_kind}
@@ -17,23 +17,24 @@ use Rattle.mcs_book.specs.Logs.{Log}
 use Rattle.mcs_book.specs.Checks.{Checked, ◌>>=◌, ◌>>◌, need}
 use Rattle.mcs_book.specs.Rights.{may_write, may_read, may_be_answered, call_mode, can_badge}
 use Rattle.mcs_book.specs.Lookup.{capability}
-use Rattle.mcs_book.specs.Pieces.{with_any, Act, before}
+use Rattle.mcs_book.specs.Pieces.{with_any, Act, silently, before}
 use Rattle.mcs_book.specs.Notifications.{tied_to}
 use Rattle.mcs_book.specs.Sending.{letter_over, sends, queues, send_by, send_over}
-use Rattle.mcs_book.specs.Receiving.{bound_elsewhere, may_wait, receive_by, receive_over, reply_at, receive_on, free, receive_message, wait_on, pay_any, reply_receive}
+use Rattle.mcs_book.specs.Receiving.{bound_elsewhere, may_wait, receive_by, receive_over, reply_at, receive_on, free, receive_message, wait_on, pay_any, reply_receive, send_receive}
 use Rattle.mcs_book.specs.Taking.{pay}
 use Rattle.mcs_book.specs.Table.{row}
 use Rattle.mcs_state.specs.Checks.{kinded, writable, readable, object_found, object_named, act_of}
 use Rattle.mcs_notify.specs.Rows.{signal_act}
 use Rattle.mcs_state.proofs.Named.{bind-ok, bind-err, object-is}
+use Rattle.mcs_ipc.specs.declared.checks.Exchange.{Exchange}
 use Rattle.mcs_ipc.specs.declared.checks.Receiving.{Receiving}
 use Rattle.mcs_ipc.specs.declared.checks.Replying.{Replying}
 use Rattle.mcs_ipc.specs.declared.checks.Source.{Source}
 use Rattle.mcs_ipc.specs.declared.checks.Source.TheVariants as source
 use Rattle.mcs_ipc.specs.declared.checks.Target.{Target}
 use Rattle.mcs_ipc.specs.declared.checks.Target.TheVariants as target
-use Rattle.mcs_ipc.specs.Sources.{reply_found, reply_named, with_reply, waitable, source_by, source_over, receivable, second_found, replying, replying_by, replying_over, answerable}
-use Rattle.mcs_ipc.specs.Rows.{target_by, target_of, sendable, callable, send_entry, receive_entry, alone_act, send_act, pay_act, target_act, receive_act, source_act, reply_receive_act}
+use Rattle.mcs_ipc.specs.Sources.{reply_found, reply_named, with_reply, waitable, source_by, source_over, receivable, second_found, replying, replying_by, replying_over, answerable, exchange_found, exchangeable}
+use Rattle.mcs_ipc.specs.Rows.{target_by, target_of, sendable, callable, answer_to, send_entry, receive_entry, exchange_entry, alone_act, send_act, pay_act, target_act, receive_act, source_act, reply_receive_act, exchange_act}
 
 -- a test, and then an act
 tested : (b : Bool) (x : Target) (f : Target → Act) → (need b NoRight >> Ok (f x)) ≡ act_of (cond b (Ok x) (Err NoRight)) f
@@ -41,28 +42,32 @@ unfolding ◌>>◌ need
 tested true x f = refl
 tested false x f = refl
 
--- a send over a capability of each kind
-sent-over : (k : Kind) (b : Bool) (t : ObjId) (c : Cap) (message : Content) → send_by k t c message (alone_act b how.Plain t c message) ≡ act_of (target_by k c) (target_act b t message)
+-- a send over a capability of each kind, in a mode that is answered at once
+sent-over : (k : Kind) (b : Bool) (mode : SendMode) (t : ObjId) (c : Cap) (message : Content) → answer_to mode ≡ Done → send_by k mode t c message (alone_act b mode t c message) ≡ act_of (target_by k c) (target_act b mode t message)
 unfolding send_by send_act signal_act pay_act ◌>>◌ need
-sent-over kind.Endpoint b t c message = tested (may_write c) (target.Endpoint c) (target_act b t message)
-sent-over kind.Notification b t c message = tested (may_write c) (target.Notification c) (target_act b t message)
-sent-over kind.Reply b t c message = refl
-sent-over kind.CNode b t c message = refl
-sent-over kind.Thread b t c message = refl
-sent-over kind.Context b t c message = refl
+sent-over kind.Endpoint b mode t c message done =
+    ap (λ answer. need (may_write c) NoRight >> Ok (sends (letter_over t c mode message) answer (alone_act b mode t c message))) (sym done)
+    ∙ tested (may_write c) (target.Endpoint c) (target_act b mode t message)
+sent-over kind.Notification b mode t c message done = tested (may_write c) (target.Notification c) (target_act b mode t message)
+sent-over kind.Reply b mode t c message done = refl
+sent-over kind.CNode b mode t c message done = refl
+sent-over kind.Thread b mode t c message done = refl
+sent-over kind.Context b mode t c message done = refl
+
+-- a send over what was found
+sent-found : (b : Bool) (mode : SendMode) (t : ObjId) (message : Content) (m : Checked Cap) → answer_to mode ≡ Done
+    → (m >>= λ c. send_by c.obj.kind mode t c message (alone_act b mode t c message)) ≡ act_of (target_of m) (target_act b mode t message)
+sent-found b mode t message (Err why) done = bind-err why _
+sent-found b mode t message (Ok c) done = bind-ok c _ ∙ sent-over c.obj.kind b mode t c message done
 
 -- the rows of Send and NBSend
-row-send : (R : Log) (core : CoreId) (t : ObjId) (b : Bool) (a : ℕ) (message : Content) → row R core t (send_entry b a message) ≡ act_of (sendable R t a) (target_act b t message)
+row-send : (R : Log) (core : CoreId) (t : ObjId) (b : Bool) (a : ℕ) (message : Content) → row R core t (send_entry b a message) ≡ act_of (sendable R t a) (target_act b how.Plain t message)
 unfolding row send_over
 row-send R core t b a message = go b
   where
-    over : (b : Bool) (m : Checked Cap) → (m >>= λ c. send_by c.obj.kind t c message (alone_act b how.Plain t c message)) ≡ act_of (target_of m) (target_act b t message)
-    over b (Err why) = bind-err why _
-    over b (Ok c) = bind-ok c _ ∙ sent-over c.obj.kind b t c message
-
-    go : (b : Bool) → row R core t (send_entry b a message) ≡ act_of (sendable R t a) (target_act b t message)
-    go true = over true (capability R t a)
-    go false = over false (capability R t a)
+    go : (b : Bool) → row R core t (send_entry b a message) ≡ act_of (sendable R t a) (target_act b how.Plain t message)
+    go true = sent-found true how.Plain t message (capability R t a) refl
+    go false = sent-found false how.Plain t message (capability R t a) refl
 
 -- the act of a call
 abbrev pub calls : ObjId → Content → Cap → Act
@@ -125,10 +130,15 @@ received-over kind.CNode b R t c r = refl
 received-over kind.Thread b R t c r = refl
 received-over kind.Context b R t c r = refl
 
+-- a receive over what was found
+received-found : (R : Log) (t : ObjId) (b : Bool) (r : Option ℕ) (m : Checked Cap) → (m >>= λ c. receive_by c.obj.kind R t c (reply_named R t r) b) ≡ act_of (source_over R t r m) (source_act b t)
+received-found R t b r (Err why) = bind-err why _
+received-found R t b r (Ok c) = bind-ok c _ ∙ received-over c.obj.kind b R t c r
+
 -- the rows of Recv, NBRecv, Wait and NBWait
 pub row-receive : (R : Log) (core : CoreId) (t : ObjId) (b : Bool) (a : ℕ) (r : Option ℕ) → row R core t (receive_entry b a r) ≡ act_of (receivable R t a r) (source_act b t)
 unfolding row receive_over
-row-receive R core t b a r = named b r ∙ go (capability R t a)
+row-receive R core t b a r = named b r ∙ received-found R t b r (capability R t a)
   where
     with_object : (b : Bool) (r : ℕ) → (capability R t a >>= λ c. receive_over R t c (reply_at R t r) b) ≡ (capability R t a >>= λ c. receive_over R t c (reply_found (object_named R t kind.Reply r)) b)
     with_object b r = ap (λ reply. capability R t a >>= λ c. receive_over R t c reply b) (reply-is R t r)
@@ -138,10 +148,6 @@ row-receive R core t b a r = named b r ∙ go (capability R t a)
     named false (Some r) = with_object false r
     named true None = refl
     named false None = refl
-
-    go : (m : Checked Cap) → (m >>= λ c. receive_by c.obj.kind R t c (reply_named R t r) b) ≡ act_of (source_over R t r m) (source_act b t)
-    go (Err why) = bind-err why _
-    go (Ok c) = bind-ok c _ ∙ received-over c.obj.kind b R t c r
 
 -- a reply over a capability of each kind, and a receive
 replied-over : (k : Kind) (R : Log) (t : ObjId) (c : Cap) (m : Checked ObjId) (message : Content)
@@ -189,13 +195,44 @@ row-reply_receive R core t a r message = rw (reply-is R t r) (go (capability R t
     go (Err why) = bind-err why _
     go (Ok c) = bind-ok c _ ∙ replied-over c.obj.kind R t c (object_named R t kind.Reply r) message
 
+-- an act that was found, and then another that what was found makes: both checks come first
+exchanged : (over : Target → Act) (from : Source → Act) (m : Checked Target) (n : Checked Cap) (g : Cap → Checked Act) (k : Checked Source) → (n >>= g) ≡ act_of k from
+    → (act_of m over >>= λ send. n >>= λ c. g c >>= λ receive. Ok (before (silently send) receive)) ≡ act_of (exchange_found m k) (λ at. before (silently (over at.target)) (from at.source))
+unfolding ◌>>=◌
+exchanged over from (Err why) n g k e = refl
+exchanged over from (Ok x) n g k e = both n ∙ ap (λ (v : Checked Act). v >>= λ receive. Ok (before (silently (over x)) receive)) e ∙ last k
+  where
+    both : (n : Checked Cap) → (n >>= λ c. g c >>= λ receive. Ok (before (silently (over x)) receive)) ≡ ((n >>= g) >>= λ receive. Ok (before (silently (over x)) receive))
+    both (Err why) = refl
+    both (Ok c) = refl
+
+    last : (k : Checked Source) → (act_of k from >>= λ receive. Ok (before (silently (over x)) receive)) ≡ act_of (exchange_found (Ok x) k) (λ at. before (silently (over at.target)) (from at.source))
+    last (Err why) = refl
+    last (Ok s) = refl
+
+-- the rows of NBSendRecv and NBSendWait
+row-exchange : (R : Log) (core : CoreId) (t : ObjId) (a s : ℕ) (r : Option ℕ) (message : Content) → row R core t (exchange_entry a s r message) ≡ act_of (exchangeable R t a s r) (exchange_act message t)
+unfolding row send_receive send_over receive_over
+row-exchange R core t a s r message = named r ∙ ap (λ send. over send r) (sent-found false how.Give t message (capability R t a) refl)
+    ∙ exchanged (target_act false how.Give t message) (source_act true t) (sendable R t a) (capability R t s) (λ c. receive_by c.obj.kind R t c (reply_named R t r) true) (receivable R t s r) (received-found R t true r (capability R t s))
+  where
+    over : Checked Act → Option ℕ → Checked Act
+    over send r = send >>= λ act. capability R t s >>= λ c. receive_by c.obj.kind R t c (reply_named R t r) true >>= λ receive. Ok (before (silently act) receive)
+
+    sending : Checked Act
+    sending = capability R t a >>= λ c. send_by c.obj.kind how.Give t c message (alone_act false how.Give t c message)
+
+    named : (r : Option ℕ) → row R core t (exchange_entry a s r message) ≡ over sending r
+    named None = refl
+    named (Some r) = ap (λ reply. sending >>= λ act. capability R t s >>= λ c. receive_by c.obj.kind R t c reply true >>= λ receive. Ok (before (silently act) receive)) (reply-is R t r)
+
 -- the row of an entry whose checks were done
 done : {A : Type 0} (x : Checked Act) (checks m n : Checked A) (f : A → Act) → x ≡ act_of checks f → m ≡ checks → m ≡ n → x ≡ act_of n f
 done x checks m n f row e h = row ∙ ap (λ c. act_of c f) (sym e ∙ h)
 
 -- the row of a send over what was found, or of its refusal
-pub send-row : (R : Log) (core : CoreId) (t : ObjId) (b : Bool) (a : ℕ) (message : Content) (m n : Checked Target) → m ≡ sendable R t a → m ≡ n → row R core t (send_entry b a message) ≡ act_of n (target_act b t message)
-send-row R core t b a message m n e h = done _ _ m n (target_act b t message) (row-send R core t b a message) e h
+pub send-row : (R : Log) (core : CoreId) (t : ObjId) (b : Bool) (a : ℕ) (message : Content) (m n : Checked Target) → m ≡ sendable R t a → m ≡ n → row R core t (send_entry b a message) ≡ act_of n (target_act b how.Plain t message)
+send-row R core t b a message m n e h = done _ _ m n (target_act b how.Plain t message) (row-send R core t b a message) e h
 
 -- of a call
 pub call-row : (R : Log) (core : CoreId) (t : ObjId) (a : ℕ) (message : Content) (m n : Checked Cap) → m ≡ callable R t a → m ≡ n → row R core t (Call a message) ≡ act_of n (calls t message)
@@ -205,9 +242,13 @@ call-row R core t a message m n e h = done _ _ m n (calls t message) (row-call R
 pub receive-row : (R : Log) (core : CoreId) (t : ObjId) (b : Bool) (a : ℕ) (r : Option ℕ) (m n : Checked Source) → m ≡ receivable R t a r → m ≡ n → row R core t (receive_entry b a r) ≡ act_of n (source_act b t)
 receive-row R core t b a r m n e h = done _ _ m n (source_act b t) (row-receive R core t b a r) e h
 
--- and of a reply with a receive
+-- of a reply with a receive
 pub reply_receive-row : (R : Log) (core : CoreId) (t : ObjId) (a r : ℕ) (message : Content) (m n : Checked Replying) → m ≡ answerable R t a r → m ≡ n → row R core t (ReplyRecv a r message) ≡ act_of n (reply_receive_act message t)
 reply_receive-row R core t a r message m n e h = done _ _ m n (reply_receive_act message t) (row-reply_receive R core t a r message) e h
+
+-- and of what sends and then receives
+pub exchange-row : (R : Log) (core : CoreId) (t : ObjId) (a s : ℕ) (r : Option ℕ) (message : Content) (m n : Checked Exchange) → m ≡ exchangeable R t a s r → m ≡ n → row R core t (exchange_entry a s r message) ≡ act_of n (exchange_act message t)
+exchange-row R core t a s r message m n e h = done _ _ m n (exchange_act message t) (row-exchange R core t a s r message) e h
 
 -- a receive is a reply object freed, and then a word heard or a message taken
 pub receive-parts : (b : Bool) (t : ObjId) (at : Receiving) → receive_act b t at ≡ before (with_any at.reply free) (receive_message t at.endpoint at.reply b)

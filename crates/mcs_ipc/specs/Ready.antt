@@ -9,6 +9,8 @@ use Rattle.mcs_notify.specs.Waiting.{NoneElseBound}
 use Rattle.mcs_state.specs.Entering.{IsActing, OpenStand}
 use Rattle.mcs_ipc.specs.declared.checks.Source.{Source}
 use Rattle.mcs_ipc.specs.declared.checks.Source.TheVariants as source
+use Rattle.mcs_ipc.specs.declared.checks.Target.{Target}
+use Rattle.mcs_ipc.specs.declared.checks.Target.TheVariants as target
 
 -- t acts, and the endpoint is there
 pub record IsSending (R : Log) (t e : ObjId) : Type 0 where
@@ -33,6 +35,12 @@ pub record IsWaiting (R : Log) (t n : ObjId) : Type 0 where
 abbrev pub IsReceivingFrom : Log → ObjId → Source → Type 0
 IsReceivingFrom R t (source.Endpoint at) = IsReceiving R t at.endpoint at.reply
 IsReceivingFrom R t (source.Notification n) = IsWaiting R t n
+
+-- t may send over an endpoint, a notification or a reply object
+abbrev pub IsSendingOver : Log → ObjId → Target → Type 0
+IsSendingOver R t (target.Endpoint cap) = IsSending R t cap.obj
+IsSendingOver R t (target.Notification cap) = IsThere R kind.Notification cap.obj
+IsSendingOver R t (target.Reply r) = Unit {0}
 
 -- t receives on an endpoint, and nobody uses the reply object
 pub record IsReady (R : Log) (t e : ObjId) (r : Option ObjId) : Type 0 where

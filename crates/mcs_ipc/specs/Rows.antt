@@ -9,7 +9,7 @@ use Rattle.mcs_types.specs.declared.record.SendMode.{SendMode}
 use Rattle.mcs_types.specs.declared.record.SendMode.TheVariants as how
 use Rattle.mcs_types.specs.declared.entry.Answer.{Answer}
 use Rattle.mcs_types.specs.declared.entry.Entry.{Entry}
-use Rattle.mcs_types.specs.declared.entry.Entry.TheVariants.{Send, NbSend, Recv, NbRecv, Wait, NbWait}
+use Rattle.mcs_types.specs.declared.entry.Entry.TheVariants.{Send, NbSend, Recv, NbRecv, Wait, NbWait, NbSendRecv, NbSendWait}
 use Rattle.mcs_types.specs.declared.entry.Answer.TheVariants.{Done, Waits}
 use Rattle.mcs_types.specs.declared.entry.Refusal.TheVariants.{WrongKind, NoRight}
 use Rattle.mcs_book.specs.Logs.{Log}
@@ -18,15 +18,17 @@ use Rattle.mcs_book.specs.Lookup.{capability}
 use Rattle.mcs_book.specs.Rights.{may_write}
 use Rattle.mcs_types.specs.declared.record.Mode.TheVariants.{Running}
 use Rattle.mcs_types.specs.declared.record.Queue.TheVariants.{Senders, Receivers}
-use Rattle.mcs_types.specs.declared.record.Rec.TheVariants.{Took, Parts, Turns, Joins}
-use Rattle.mcs_book.specs.Pieces.{Piece, Act, ◌then◌, say, nothing, answers, before}
+use Rattle.mcs_types.specs.declared.record.Rec.TheVariants.{Took, Parts, Turns}
+use Rattle.mcs_book.specs.Pieces.{Piece, Act, ◌then◌, say, nothing, answers, silently, before}
 use Rattle.mcs_book.specs.Contexts.{context_of}
+use Rattle.mcs_book.specs.Notifications.{bound_of}
 use Rattle.mcs_book.specs.Queues.{reply_with, first_in}
 use Rattle.mcs_book.specs.Taking.{settle, pay}
 use Rattle.mcs_book.specs.Sending.{letter_over, sends, queues}
-use Rattle.mcs_book.specs.Receiving.{receive_on, take_open, open_of_any, joins_or, wait_on}
+use Rattle.mcs_book.specs.Receiving.{receive_on, take_open, open_of_any, stand, joins_or, wait_on}
 use Rattle.mcs_notify.specs.Rows.{signal_act}
 use Rattle.mcs_state.specs.Checks.{kinded, writable}
+use Rattle.mcs_ipc.specs.declared.checks.Exchange.{Exchange}
 use Rattle.mcs_ipc.specs.declared.checks.Receiving.{Receiving}
 use Rattle.mcs_ipc.specs.declared.checks.Replying.{Replying}
 use Rattle.mcs_ipc.specs.declared.checks.Source.{Source}
@@ -72,6 +74,7 @@ abbrev pub answer_to : SendMode → Answer
 answer_to how.Plain = Done
 answer_to how.Call = Waits
 answer_to how.Mute = Waits
+answer_to how.Give = Done
 
 -- what t does where nobody receives: it waits in the queue, or the message is dropped
 abbrev pub alone_act : Bool → SendMode → ObjId → Cap → Content → Act
@@ -87,18 +90,18 @@ unfoldable pub pay_act : ObjId → Content → Act
 pay_act r message = answers Done (pay r message)
 
 -- t sends over an endpoint, a notification or a reply object
-abbrev pub target_act : Bool → ObjId → Content → Target → Act
-target_act blocks t message (target.Endpoint cap) = send_act blocks how.Plain t cap message
-target_act blocks t message (target.Notification cap) = signal_act cap
-target_act blocks t message (target.Reply r) = pay_act r message
+abbrev pub target_act : Bool → SendMode → ObjId → Content → Target → Act
+target_act blocks mode t message (target.Endpoint cap) = send_act blocks mode t cap message
+target_act blocks mode t message (target.Notification cap) = signal_act cap
+target_act blocks mode t message (target.Reply r) = pay_act r message
 
 -- what t does where nobody sends: it waits among the receivers, or is answered at once
-abbrev pub stand_act : Bool → ObjId → Receiving → Act
-stand_act blocks t at = joins_or blocks (Joins t (Receivers at.endpoint) at.reply)
+abbrev pub stand_act : Log → Bool → ObjId → Receiving → Act
+stand_act R blocks t at = joins_or blocks (stand t (Receivers at.endpoint) at.reply (bound_of R t))
 
 -- t takes the message of the first sender, where no word is pending for it
 unfoldable pub take_act : Bool → ObjId → Receiving → Act
-take_act blocks t at R = take_open t at.reply (open_of_any R (first_in R (Senders at.endpoint))) (stand_act blocks t at) R
+take_act blocks t at R = take_open t at.reply (open_of_any R (first_in R (Senders at.endpoint))) (stand_act R blocks t at) R
 
 -- t receives on an endpoint, with a reply object or without
 abbrev pub receive_act : Bool → ObjId → Receiving → Act
@@ -112,6 +115,15 @@ source_act blocks t (source.Notification n) = wait_on t n blocks
 -- t pays its reply object, and then receives
 abbrev pub reply_receive_act : Content → ObjId → Replying → Act
 reply_receive_act message t at = before (pay at.reply message) (source_act true t at.source)
+
+-- NBSendRecv with a reply object, NBSendWait without one
+abbrev pub exchange_entry : ℕ → ℕ → Option ℕ → Content → Entry
+exchange_entry a s (Some r) message = NbSendRecv a s r message
+exchange_entry a s None message = NbSendWait a s message
+
+-- t sends what does not wait, with its context, and then receives
+abbrev pub exchange_act : Content → ObjId → Exchange → Act
+exchange_act message t at = before (silently (target_act false how.Give t message at.target)) (source_act true t at.source)
 
 -- what a caller lends, of what the receiver and it hold: its own, where the receiver holds none
 abbrev pub lent_of : Option ObjId → Option ObjId → Option ObjId

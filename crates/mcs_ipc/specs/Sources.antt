@@ -12,9 +12,12 @@ use Rattle.mcs_book.specs.Notifications.{tied_to}
 use Rattle.mcs_book.specs.Receiving.{bound_elsewhere}
 use Rattle.mcs_book.specs.Rights.{can_badge}
 use Rattle.mcs_state.specs.Checks.{readable, object_named}
+use Rattle.mcs_ipc.specs.declared.checks.Exchange.{Exchange}
 use Rattle.mcs_ipc.specs.declared.checks.Replying.{Replying}
 use Rattle.mcs_ipc.specs.declared.checks.Source.{Source}
 use Rattle.mcs_ipc.specs.declared.checks.Source.TheVariants as source
+use Rattle.mcs_ipc.specs.declared.checks.Target.{Target}
+use Rattle.mcs_ipc.specs.Rows.{sendable}
 
 -- the reply object that was found
 abbrev pub reply_found : Checked ObjId → Checked (Option ObjId)
@@ -92,3 +95,13 @@ replying_over R t r (Ok cap) = cond (can_badge cap) (replying_by cap.obj.kind R 
 -- what t pays and then receives from, or the first check that fails
 abbrev pub answerable : Log → ObjId → ℕ → ℕ → Checked Replying
 answerable R t a r = replying_over R t r (capability R t a)
+
+-- what one sends over and what one receives from, of which the first is tested first
+abbrev pub exchange_found : Checked Target → Checked Source → Checked Exchange
+exchange_found (Err why) from = Err why
+exchange_found (Ok over) (Err why) = Err why
+exchange_found (Ok over) (Ok from) = Ok (record { target = over; source = from })
+
+-- what t sends over and then receives from, or the first check that fails
+abbrev pub exchangeable : Log → ObjId → ℕ → ℕ → Option ℕ → Checked Exchange
+exchangeable R t a s r = exchange_found (sendable R t a) (receivable R t s r)

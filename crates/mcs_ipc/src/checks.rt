@@ -3,7 +3,7 @@ ghost use Rattle.std.specs.Prelude.{◌≡◌};
 ghost use Rattle.mcs_types.specs.declared.id.Kind.{Kind};
 ghost use Rattle.mcs_book.specs.Sound.{IsThere};
 ghost use Rattle.mcs_state.specs.Now.{so_far};
-ghost use Rattle.mcs_ipc.specs.Sources.{reply_named, endpoint_source, notification_source, receivable, reply_to_pay, answerable};
+ghost use Rattle.mcs_ipc.specs.Sources.{reply_named, endpoint_source, notification_source, receivable, reply_to_pay, answerable, exchangeable};
 ghost use Rattle.mcs_ipc.specs.Rows.{sendable, callable};
 
 use mcs_notify::may_wait;
@@ -38,6 +38,13 @@ pub enum Source {
 #[derive(Clone, Copy)]
 pub struct Replying {
     pub reply: ObjId,
+    pub source: Source,
+}
+
+/// What a thread sends over, and what it then receives from.
+#[derive(Clone, Copy)]
+pub struct Exchange {
+    pub target: Target,
     pub source: Source,
 }
 
@@ -179,4 +186,20 @@ pub fn source_to_reply<W: Waiting>(
         }),
     };
     Ok(Replying { reply, source })
+}
+
+/// What a thread sends over, and what it then receives from.
+pub fn ends_of_exchange<W: Waiting>(
+    state: &State<W>,
+    thread: ObjId,
+    address: u64,
+    source: u64,
+    reply: Option<u64>,
+) -> Result<Exchange, Refusal>
+    requires { IsThere (so_far state.now) Kind.Thread thread }
+    ensures { result ≡ exchangeable (so_far state.now) thread address source reply }
+{
+    let target = target_to_send(state, thread, address)?;
+    let source = source_to_receive(state, thread, source, reply)?;
+    Ok(Exchange { target, source })
 }

@@ -18,9 +18,7 @@ use mcs_waiting::Waiting;
 fn is_loose<W: Waiting>(state: &State<W>, context: ObjId) -> bool
     ensures { result ≡ is_loose (so_far state.now) context }
 {
-    state.holder(context).is_none()
-        && state.home_of(context).is_none()
-        && state.top_of(context).is_none()
+    state.holder(context).is_none() && state.home_of(context).is_none() && state.is_unlent(context)
 }
 
 /// What a bind changes: a loose context is given to a thread that holds none, or homed at a notification at which none is.

@@ -5,11 +5,13 @@
 
 mod checks;
 mod contexts;
+mod exchanging;
 mod receiving;
 mod replying;
 mod sending;
 mod taking;
 
 pub use contexts::{bind_context, unbind_context};
+pub use exchanging::exchange;
 pub use receiving::{receive, reply_receive};
 pub use sending::{call, send};

@@ -46,14 +46,21 @@ fn free_any<W: Waiting>(state: &mut State<W>, reply: Option<ObjId>)
     }
 }
 
-/// Waits among the receivers, where the thread blocks.
+/// Waits among the receivers, where the thread blocks; its context goes home where that is the notification bound to the thread (own).
 fn stand<W: Waiting>(state: &mut State<W>, thread: ObjId, at: Receiving, blocks: bool) -> Answer
     requires ready { IsReady (so_far state.old) thread at.endpoint at.reply }
-    requires room { FitsAct (stand_act blocks thread at) state.old }
-    ensures { Acts (stand_act blocks thread at) state.old result state.new }
+    requires room { FitsAct (stand_act (so_far state.old) blocks thread at) state.old }
+    ensures { Acts (stand_act (so_far state.old) blocks thread at) state.old result state.new }
 {
     if blocks {
-        state.joins(thread, Queue::Receivers(at.endpoint), at.reply);
+        let notification = state.bound_of(thread);
+        mcs_state::stand(
+            state,
+            thread,
+            Queue::Receivers(at.endpoint),
+            at.reply,
+            notification,
+        );
         Answer::Waits
     } else {
         Answer::Empty
@@ -127,7 +134,7 @@ fn receive_on<W: Waiting>(
 }
 
 /// Receives on an endpoint, or waits on a notification.
-fn receive_from<W: Waiting>(
+pub fn receive_from<W: Waiting>(
     state: &mut State<W>,
     thread: ObjId,
     source: Source,

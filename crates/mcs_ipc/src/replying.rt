@@ -3,8 +3,7 @@ ghost use Rattle.mcs_book.specs.Taking.{pay as paid};
 ghost use Rattle.mcs_state.specs.Now.{so_far};
 ghost use Rattle.mcs_state.specs.Doing.{Makes, HasRoomFor};
 
-use mcs_cancel::give_back;
-use mcs_state::State;
+use mcs_state::{State, give_back};
 use mcs_types::{Copies, Mode, ObjId};
 use mcs_waiting::Waiting;
 

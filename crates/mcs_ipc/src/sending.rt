@@ -10,8 +10,8 @@ ghost use Rattle.mcs_state.specs.Now.{so_far};
 ghost use Rattle.mcs_state.specs.Doing.{Acts, FitsAct, Does, Fits};
 ghost use Rattle.mcs_state.specs.Entering.{IsEntering, OpenStand, OnlyBoundWait};
 ghost use Rattle.mcs_notify.specs.Rows.{signal_act};
-ghost use Rattle.mcs_ipc.specs.Ready.{IsSending};
-ghost use Rattle.mcs_ipc.specs.Rows.{answer_to, send_entry, send_act, pay_act};
+ghost use Rattle.mcs_ipc.specs.Ready.{IsSending, IsSendingOver};
+ghost use Rattle.mcs_ipc.specs.Rows.{answer_to, send_entry, send_act, pay_act, target_act};
 
 use crate::checks::{Target, cap_to_call, target_to_send};
 use crate::replying::pay;
@@ -37,7 +37,7 @@ fn answer_to(mode: SendMode) -> Answer
     ensures { result ≡ answer_to mode }
 {
     match mode {
-        SendMode::Plain => Answer::Done,
+        SendMode::Plain | SendMode::Give => Answer::Done,
         SendMode::Call | SendMode::Mute => Answer::Waits,
     }
 }
@@ -132,6 +132,28 @@ fn send_signal<W: Waiting>(state: &mut State<W>, cap: Cap) -> Answer
     Answer::Done
 }
 
+/// Sends over an endpoint, a notification or a reply object.
+pub fn send_target<W: Waiting>(
+    state: &mut State<W>,
+    thread: ObjId,
+    target: Target,
+    mode: SendMode,
+    message: Copies,
+    blocks: bool,
+) -> Answer
+    requires sending { IsSendingOver (so_far state.old) thread target }
+    requires waiting { OnlyBoundWait (so_far state.old) }
+    requires few { length state.old.book.lines < BOOK_LINES }
+    requires room { FitsAct (target_act blocks mode thread message target) state.old }
+    ensures { Acts (target_act blocks mode thread message target) state.old result state.new }
+{
+    match target {
+        Target::Endpoint(cap) => send_over(state, thread, cap, mode, message, blocks),
+        Target::Notification(cap) => send_signal(state, cap),
+        Target::Reply(reply) => send_reply(state, reply, message),
+    }
+}
+
 /// Send where it blocks, and NBSend where not. Over an endpoint the first receiver takes the message; where nobody receives, the
 /// thread waits among the senders if it blocks, and otherwise the message is dropped, with no record and the same answer. Over a
 /// notification the message is left out, and the notification is signalled with the badge of the capability; over a reply
@@ -158,13 +180,7 @@ pub fn send<W: Waiting>(
         Err(refusal) => Answer::Refused(refusal),
         Ok(target) => {
             wake(state, thread);
-            match target {
-                Target::Endpoint(cap) => {
-                    send_over(state, thread, cap, SendMode::Plain, message, blocks)
-                }
-                Target::Notification(cap) => send_signal(state, cap),
-                Target::Reply(reply) => send_reply(state, reply, message),
-            }
+            send_target(state, thread, target, SendMode::Plain, message, blocks)
         }
     }
 }

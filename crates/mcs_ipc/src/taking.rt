@@ -5,13 +5,13 @@ ghost use Rattle.mcs_types.specs.declared.record.Queue.{Queue};
 ghost use Rattle.mcs_book.specs.Messages.{open_of};
 ghost use Rattle.mcs_book.specs.Queues.{queue_of, first_in};
 ghost use Rattle.mcs_book.specs.Sound.{IsThere, IsIdle};
-ghost use Rattle.mcs_book.specs.Taking.{owe as owed_by, settle as settled};
+ghost use Rattle.mcs_book.specs.Taking.{owe as owed_by, give as given_by, settle as settled};
 ghost use Rattle.mcs_state.specs.Now.{so_far, IsNumberOf};
 ghost use Rattle.mcs_state.specs.Doing.{Makes, HasRoomFor};
 ghost use Rattle.mcs_ipc.specs.Ready.{IsReady, IsSettling, IsCalling};
 ghost use Rattle.mcs_ipc.specs.Rows.{lent, resumes, handed_to, taken_by};
 
-use mcs_state::State;
+use mcs_state::{State, give_back};
 use mcs_types::{Message, Mode, ObjId, Queue, SendMode};
 use mcs_waiting::Waiting;
 
@@ -50,8 +50,19 @@ fn owe<W: Waiting>(state: &mut State<W>, reply: ObjId, caller: ObjId, receiver: 
     }
 }
 
+/// The context of a sender passes to the receiver, where that holds none (own).
+fn give<W: Waiting>(state: &mut State<W>, sender: ObjId, receiver: ObjId)
+    requires receiver { IsThere (so_far state.old) Kind.Thread receiver }
+    requires room { HasRoomFor (given_by sender receiver) state.old }
+    ensures { Makes (given_by sender receiver) state.old state.new }
+{
+    let own = state.context(sender);
+    give_back(state, own, receiver);
+}
+
 /// What becomes of the sender of a message that is taken: a caller is owed an answer, or is inactive where nobody can answer
-/// it; after a plain send a sender that stood in a queue runs again (manual: Message Passing; own).
+/// it; after a plain send a sender that stood in a queue runs again; a sender that gives its context parts with it (manual: Message
+/// Passing; own).
 fn settle<W: Waiting>(
     state: &mut State<W>,
     mode: SendMode,
@@ -72,6 +83,7 @@ fn settle<W: Waiting>(
             None => state.turns(sender, Mode::Inactive),
         },
         SendMode::Mute => state.turns(sender, Mode::Inactive),
+        SendMode::Give => give(state, sender, receiver),
     }
 }
 

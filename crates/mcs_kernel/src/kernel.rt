@@ -18,7 +18,7 @@ use crate::fault::EnterFault;
 use mcs_book::Book;
 use mcs_cancel::{cancel_badged, resume, set_priority, suspend};
 use mcs_caps::{copy_cap, delete_cap, make, mint_cap, move_cap};
-use mcs_ipc::{bind_context, call, receive, reply_receive, send, unbind_context};
+use mcs_ipc::{bind_context, call, exchange, receive, reply_receive, send, unbind_context};
 use mcs_notify::{bind, signal_at, unbind};
 use mcs_queues::Lines;
 use mcs_state::State;
@@ -89,6 +89,23 @@ fn operate<W: Waiting>(
         } => {
             let copies = Copies::new(alloc, message)?;
             reply_receive(state, core, thread, *cap, *reply, copies)
+        }
+        Entry::NbSendRecv {
+            cap,
+            source,
+            reply,
+            message,
+        } => {
+            let copies = Copies::new(alloc, message)?;
+            exchange(state, core, thread, *cap, *source, Some(*reply), copies)
+        }
+        Entry::NbSendWait {
+            cap,
+            source,
+            message,
+        } => {
+            let copies = Copies::new(alloc, message)?;
+            exchange(state, core, thread, *cap, *source, None, copies)
         }
         Entry::Signal { cap } => signal_at(state, core, thread, *cap),
         Entry::SetPriority {

@@ -9,7 +9,7 @@ use Rattle.mcs_types.specs.Ids.{same}
 use Rattle.mcs_types.proofs.Ids.{same-equal}
 use Rattle.mcs_book.specs.Logs.{Log}
 use Rattle.mcs_book.specs.Notifications.{bound_of, tied_to, pending}
-use Rattle.mcs_book.specs.Receiving.{bound_elsewhere, pending_of_any, hear, joins_or, wait_on}
+use Rattle.mcs_book.specs.Receiving.{bound_elsewhere, pending_of_any, hear, stand, joins_or, wait_on}
 use Rattle.mcs_book.specs.Sound.{Sound, Allowed}
 use Rattle.mcs_book.proofs.Firm.Laws.{tied-bound, tied-none}
 use Rattle.mcs_book.proofs.SoundLogs.KeptLaws.{bound-there, bound-one}
@@ -21,11 +21,11 @@ unfolding wait_on hear
 wait-hears R b t n word is = rw is refl
 
 -- a wait where none is
-wait-silent : (R : Log) (b : Bool) (t n : ObjId) → pending R n ≡ None → wait_on t n b R ≡ joins_or b (rec.Joins t (Waiters n) None) R
+wait-silent : (R : Log) (b : Bool) (t n : ObjId) → pending R n ≡ None → wait_on t n b R ≡ joins_or b (stand t (Waiters n) None (Some n)) R
 unfolding wait_on hear
 wait-silent R b t n none = rw none refl
 
-pub wait-joins : (R : Log) (t n : ObjId) → pending R n ≡ None → wait_on t n true R ≡ record { answer = Waits; records = rec.Joins t (Waiters n) None ∷ [] }
+pub wait-joins : (R : Log) (t n : ObjId) → pending R n ≡ None → wait_on t n true R ≡ record { answer = Waits; records = stand t (Waiters n) None (Some n) R }
 unfolding joins_or
 wait-joins R t n none = wait-silent R true t n none
 

@@ -4,11 +4,12 @@ use Rattle.std.specs.Option.{option_or}
 use Rattle.mcs_types.specs.declared.id.ObjId.{ObjId}
 use Rattle.mcs_types.specs.declared.record.Queue.{Queue}
 use Rattle.mcs_types.specs.declared.record.Queue.TheVariants.{Receivers, Waiters}
-use Rattle.mcs_types.specs.declared.record.Rec.TheVariants.{Parts}
+use Rattle.mcs_types.specs.declared.record.Mode.TheVariants.{Running}
+use Rattle.mcs_types.specs.declared.record.Rec.TheVariants.{Turns, Parts, Heard}
 use Rattle.mcs_book.specs.Logs.{Log}
 use Rattle.mcs_book.specs.Queues.{queue_of, first_in}
 use Rattle.mcs_book.specs.Notifications.{tied_to, pending}
-use Rattle.mcs_book.specs.Pieces.{Piece, say}
+use Rattle.mcs_book.specs.Pieces.{Piece, ◌then◌, say}
 use Rattle.mcs_book.specs.Signalling.{wake}
 use Rattle.mcs_notify.specs.declared.signalling.Hearer.{Hearer}
 
@@ -46,6 +47,10 @@ reached R n = unless_pending (pending R n) (next_hearer R n)
 abbrev pub left_by : Hearer → Piece
 left_by h = say (Parts h.thread h.queue)
 
--- a hearer takes a word of n, and leaves its queue
+-- a hearer takes a word of n, leaves its queue, and goes on
+unfoldable pub goes_on : ObjId → ℕ → Hearer → Piece
+goes_on n word h = say (Heard h.thread n word) then left_by h then say (Turns h.thread Running)
+
+-- so it does, with the context that is homed at n, where that is spare
 abbrev pub heard_by : ObjId → ℕ → Hearer → Piece
-heard_by n word h R = wake n h.thread h.queue word
+heard_by n word h = wake n h.thread h.queue word

@@ -4,16 +4,17 @@ ghost use Rattle.mcs_types.specs.declared.entry.Entry.{Entry};
 ghost use Rattle.mcs_types.specs.declared.id.Kind.{Kind};
 ghost use Rattle.mcs_book.specs.Notifications.{pending};
 ghost use Rattle.mcs_book.specs.Queues.{queue_of};
-ghost use Rattle.mcs_book.specs.Signalling.{signal as signalled};
+ghost use Rattle.mcs_book.specs.Contexts.{homed_at};
+ghost use Rattle.mcs_book.specs.Signalling.{signal as signalled, if_spare};
 ghost use Rattle.mcs_book.specs.Sound.{IsThere};
 ghost use Rattle.mcs_state.specs.Now.{so_far};
 ghost use Rattle.mcs_state.specs.Doing.{Makes, HasRoomFor, Does, Fits};
 ghost use Rattle.mcs_state.specs.Entering.{IsEntering, OnlyBoundWait};
-ghost use Rattle.mcs_notify.specs.Hearing.{bound_receiver, first_waiter, next_hearer, reached, left_by, heard_by};
+ghost use Rattle.mcs_notify.specs.Hearing.{bound_receiver, first_waiter, next_hearer, reached, left_by, goes_on, heard_by};
 ghost use Rattle.mcs_notify.specs.Rows.{signalable};
 ghost use Rattle.mcs_notify.specs.Waiting.{NoneElseBound};
 
-use mcs_state::{State, of_kind, wake, with_write};
+use mcs_state::{State, give_back, of_kind, wake, with_write};
 use mcs_types::{Answer, Badge, Cap, CoreId, Kind, Mode, ObjId, Queue, Refusal};
 use mcs_waiting::Waiting;
 
@@ -75,7 +76,34 @@ fn leave<W: Waiting>(state: &mut State<W>, hearer: &Hearer)
     state.parts(hearer.thread, hearer.queue);
 }
 
+/// The context that is homed at a notification, where nobody holds it and it came along no call that has not ended (own).
+fn spare_context<W: Waiting>(state: &State<W>, notification: ObjId) -> Option<ObjId>
+    ensures { result ≡ if_spare (so_far state.now) (homed_at (so_far state.now) notification) }
+{
+    let context = state.homed_at(notification)?;
+    if state.holder(context).is_none() && state.is_unlent(context) {
+        Some(context)
+    } else {
+        None
+    }
+}
+
 /// A hearer takes the word, leaves its queue, and runs.
+fn go_on<W: Waiting>(state: &mut State<W>, notification: ObjId, word: u64, hearer: &Hearer)
+    requires stands { queue_of (so_far state.old) hearer.now.thread ≡ Some hearer.now.queue }
+    requires pending { pending (so_far state.old) notification ≡ Some word }
+    requires alone { NoneElseBound (so_far state.old) notification hearer.now.thread }
+    requires room { HasRoomFor (goes_on notification word hearer.now) state.old }
+    ensures { Makes (goes_on notification word hearer.now) state.old state.new }
+{
+    state.is_sound();
+    state.hears(hearer.thread, notification, word);
+    leave(state, hearer);
+    state.turns(hearer.thread, Mode::Running);
+}
+
+/// A hearer takes the word, leaves its queue, and runs. The context that is homed at the notification wakes with it, where nobody holds
+/// that and it came along no call that has not ended, and where the hearer holds none (own).
 fn hear<W: Waiting>(state: &mut State<W>, notification: ObjId, word: u64, hearer: &Hearer)
     requires stands { queue_of (so_far state.old) hearer.now.thread ≡ Some hearer.now.queue }
     requires pending { pending (so_far state.old) notification ≡ Some word }
@@ -84,13 +112,14 @@ fn hear<W: Waiting>(state: &mut State<W>, notification: ObjId, word: u64, hearer
     ensures { Makes (heard_by notification word hearer.now) state.old state.new }
 {
     state.is_sound();
-    state.hears(hearer.thread, notification, word);
-    leave(state, hearer);
-    state.turns(hearer.thread, Mode::Running);
+    let context = spare_context(state, notification);
+    go_on(state, notification, word, hearer);
+    give_back(state, context, hearer.thread);
 }
 
 /// Signals a notification with a badge, whose bits are added to the word. Where no word was pending, somebody hears it: the
-/// bound thread if it receives on an endpoint, else the first waiter. It leaves its queue, and runs (manual: Notifications).
+/// bound thread if it receives on an endpoint, else the first waiter. It leaves its queue, and runs (manual: Notifications), with the
+/// context that is homed at the notification, where that is free (own).
 pub fn signal<W: Waiting>(state: &mut State<W>, notification: ObjId, badge: Badge)
     requires there { IsThere (so_far state.old) Kind.Notification notification }
     requires waiting { OnlyBoundWait (so_far state.old) }

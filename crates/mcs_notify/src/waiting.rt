@@ -9,7 +9,7 @@ ghost use Rattle.mcs_state.specs.Doing.{Makes, HasRoomFor, Acts, FitsAct};
 ghost use Rattle.mcs_state.specs.Entering.{IsActing};
 ghost use Rattle.mcs_notify.specs.Waiting.{NoneElseBound, takes_bound};
 
-use mcs_state::State;
+use mcs_state::{State, stand};
 use mcs_types::{Answer, ObjId, Queue};
 use mcs_waiting::Waiting;
 
@@ -24,7 +24,8 @@ pub fn may_wait<W: Waiting>(state: &State<W>, thread: ObjId, notification: ObjId
 }
 
 /// Takes the pending word of a notification. Where none is pending, the thread waits if it blocks, and otherwise the answer
-/// is Empty. Nobody else is bound to the notification (manual: Notifications).
+/// is Empty. Nobody else is bound to the notification (manual: Notifications). A thread that waits gives up its context where that is homed
+/// at the notification (own).
 pub fn wait<W: Waiting>(
     state: &mut State<W>,
     thread: ObjId,
@@ -43,7 +44,13 @@ pub fn wait<W: Waiting>(
             Answer::Heard { word }
         }
         None if blocks => {
-            state.joins(thread, Queue::Waiters(notification), None);
+            stand(
+                state,
+                thread,
+                Queue::Waiters(notification),
+                None,
+                Some(notification),
+            );
             Answer::Waits
         }
         None => Answer::Empty,

@@ -2,7 +2,7 @@
 use Rattle.std.proofs.Common.{◌≡◌, ℕ, zero, suc, Some, None, slice_get, ◌<◌, ◌+◌, List, [], ◌∷◌, ◌++◌, length, refl, ap, arith, length-append}
 use Rattle.mcs_packing.specs.declared.heads.Head.{Head}
 use Rattle.mcs_packing.specs.declared.entries.PackedEntry.{PackedEntry}
-use Rattle.mcs_packing.specs.declared.entries.PackedEntry.TheVariants.{Sends, ReplyRecv, Pair, Address, AtPlace, SetPriority, CopyCap, MintCap, MoveCap}
+use Rattle.mcs_packing.specs.declared.entries.PackedEntry.TheVariants.{Sends, ReplyRecv, NbSendRecv, NbSendWait, Pair, Address, AtPlace, SetPriority, CopyCap, MintCap, MoveCap}
 use Rattle.mcs_packing.specs.declared.heads.PackedAnswer.{PackedAnswer}
 use Rattle.mcs_packing.specs.declared.heads.PackedAnswer.TheVariants.{Done, Got, Heard, Empty, Waits, Refused}
 use Rattle.mcs_packing.specs.Packing.{GrowsBy}
@@ -14,6 +14,10 @@ use Rattle.mcs_packing.proofs.Packings.{word_at-grows, content_at-grows, IsMessa
 pub entry_of-grows : (e : PackedEntry) (ws more : List ℕ) → EntryFits e ws → entry_of e (ws ++ more) ≡ entry_of e ws
 entry_of-grows (Sends form len at cap) ws more h = rw (content_at-grows ws more at len h) refl
 entry_of-grows (ReplyRecv len at cap reply) ws more h = rw (content_at-grows ws more at len h) refl
+entry_of-grows (NbSendRecv len at cap source) ws more h =
+    let reply : at + 1 + len < length ws = omega (arith, h.ends) in
+    rw (content_at-grows ws more at len h, word_at-grows ws more (at + 1 + len) reply) refl
+entry_of-grows (NbSendWait len at cap source) ws more h = rw (content_at-grows ws more at len h) refl
 entry_of-grows (Pair _ _ _) ws more h = refl
 entry_of-grows (Address _ _) ws more h = refl
 entry_of-grows (AtPlace _ _ _) ws more h = refl
@@ -25,6 +29,8 @@ entry_of-grows (MoveCap _ _ _ _) ws more h = refl
 pub EntryFits-grows : (e : PackedEntry) (ws more : List ℕ) → EntryFits e ws → EntryFits e (ws ++ more)
 EntryFits-grows (Sends form len at cap) ws more h = IsMessageAt-grows ws more at len h
 EntryFits-grows (ReplyRecv len at cap reply) ws more h = IsMessageAt-grows ws more at len h
+EntryFits-grows (NbSendRecv len at cap source) ws more h = IsMessageAt-grows ws more at len h
+EntryFits-grows (NbSendWait len at cap source) ws more h = IsMessageAt-grows ws more at len h
 EntryFits-grows (Pair _ _ _) ws more h = h
 EntryFits-grows (Address _ _) ws more h = h
 EntryFits-grows (AtPlace _ _ _) ws more h = h

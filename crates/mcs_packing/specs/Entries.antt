@@ -1,5 +1,5 @@
 -- What a packed entry stands for, over the words.
-use Rattle.std.specs.Prelude.{ℕ, ◌<◌, List, length}
+use Rattle.std.specs.Prelude.{ℕ, ◌+◌, ◌<◌, List, length}
 use Rattle.mcs_types.specs.Views.{Content}
 use Rattle.mcs_types.specs.declared.cap.Place.{Place}
 use Rattle.mcs_types.specs.declared.entry.Entry.{Entry}
@@ -13,7 +13,7 @@ use Rattle.mcs_packing.specs.declared.entries.OverAddress.TheVariants as one
 use Rattle.mcs_packing.specs.declared.entries.OverPlace.{OverPlace}
 use Rattle.mcs_packing.specs.declared.entries.OverPlace.TheVariants as place
 use Rattle.mcs_packing.specs.declared.entries.PackedEntry.{PackedEntry}
-use Rattle.mcs_packing.specs.declared.entries.PackedEntry.TheVariants.{Sends, ReplyRecv, Pair, Address, AtPlace, SetPriority, CopyCap, MintCap, MoveCap}
+use Rattle.mcs_packing.specs.declared.entries.PackedEntry.TheVariants.{Sends, ReplyRecv, NbSendRecv, NbSendWait, Pair, Address, AtPlace, SetPriority, CopyCap, MintCap, MoveCap}
 use Rattle.mcs_packing.specs.Packing.{word_at, content_at, IsMessageAt}
 
 -- a place of an index and a depth
@@ -56,6 +56,8 @@ over_place place.MakeContext at = entry.MakeContext at
 abbrev pub entry_of : PackedEntry → List ℕ → Entry
 entry_of (Sends form len at cap) ws = sending form cap (content_at ws at len)
 entry_of (ReplyRecv len at cap reply) ws = entry.ReplyRecv cap reply (content_at ws at len)
+entry_of (NbSendRecv len at cap source) ws = entry.NbSendRecv cap source (word_at ws (at + 1 + len)) (content_at ws at len)
+entry_of (NbSendWait len at cap source) ws = entry.NbSendWait cap source (content_at ws at len)
 entry_of (Pair form first second) ws = over_pair form first second
 entry_of (Address form address) ws = over_address form address
 entry_of (AtPlace form depth index) ws = over_place form (place_of index depth)
@@ -68,5 +70,7 @@ entry_of (MoveCap source_depth dest_depth source dest) ws = entry.MoveCap (place
 abbrev pub EntryFits : PackedEntry → List ℕ → Type 0
 EntryFits (Sends form len at cap) ws = IsMessageAt ws at len
 EntryFits (ReplyRecv len at cap reply) ws = IsMessageAt ws at len
+EntryFits (NbSendRecv len at cap source) ws = IsMessageAt ws at len
+EntryFits (NbSendWait len at cap source) ws = IsMessageAt ws at len
 EntryFits (MintCap source_depth dest_depth rights at source dest) ws = at < length ws
 EntryFits _ ws = Unit {0}

@@ -64,6 +64,19 @@ pub enum PackedEntry {
         cap: u64,
         reply: u64,
     },
+    /// The address of the reply object stands behind the message, where a badge does.
+    NbSendRecv {
+        len: u8,
+        at: u32,
+        cap: u64,
+        source: u64,
+    },
+    NbSendWait {
+        len: u8,
+        at: u32,
+        cap: u64,
+        source: u64,
+    },
     Pair(OverPair, u64, u64),
     Address(OverAddress, u64),
     AtPlace(OverPlace, u8, u64),
@@ -158,6 +171,27 @@ impl Arena {
                 at: self.share_plain(message, place),
                 cap: *cap,
                 reply: *reply,
+            },
+            Entry::NbSendRecv {
+                cap,
+                source,
+                reply,
+                message,
+            } => PackedEntry::NbSendRecv {
+                len: length_of(message),
+                at: self.share(message, Badge(*reply), place),
+                cap: *cap,
+                source: *source,
+            },
+            Entry::NbSendWait {
+                cap,
+                source,
+                message,
+            } => PackedEntry::NbSendWait {
+                len: length_of(message),
+                at: self.share_plain(message, place),
+                cap: *cap,
+                source: *source,
             },
             Entry::Recv { cap, reply } => PackedEntry::Pair(OverPair::Recv, *cap, *reply),
             Entry::NbRecv { cap, reply } => PackedEntry::Pair(OverPair::NbRecv, *cap, *reply),
@@ -307,6 +341,27 @@ pub fn unpack_entry(alloc: Global, entry: &PackedEntry, words: &[u64]) -> Result
         } => Entry::ReplyRecv {
             cap: *cap,
             reply: *reply,
+            message: message_at(alloc, words, *at, *len)?,
+        },
+        PackedEntry::NbSendRecv {
+            len,
+            at,
+            cap,
+            source,
+        } => Entry::NbSendRecv {
+            cap: *cap,
+            source: *source,
+            reply: words[*at as usize + 1 + *len as usize],
+            message: message_at(alloc, words, *at, *len)?,
+        },
+        PackedEntry::NbSendWait {
+            len,
+            at,
+            cap,
+            source,
+        } => Entry::NbSendWait {
+            cap: *cap,
+            source: *source,
             message: message_at(alloc, words, *at, *len)?,
         },
         PackedEntry::Pair(form, first, second) => unpack_pair(*form, *first, *second),

@@ -4,7 +4,7 @@ use Rattle.std.specs.List.{list_all, flat_map, AllByRecursion, All}
 use Rattle.mcs_types.specs.Views.{Content}
 use Rattle.mcs_types.specs.declared.cap.Place.{Place}
 use Rattle.mcs_types.specs.declared.entry.Entry.{Entry}
-use Rattle.mcs_types.specs.declared.entry.Entry.TheVariants.{Send, NbSend, Call, Recv, NbRecv, Wait, NbWait, ReplyRecv, Signal, SetPriority, Suspend, Resume, BindNtfn, UnbindNtfn, BindCtx, UnbindCtx, CancelBadged, CopyCap, MintCap, MoveCap, DeleteCap, MakeEndpoint, MakeNotification, MakeReply, MakeContext}
+use Rattle.mcs_types.specs.declared.entry.Entry.TheVariants.{Send, NbSend, Call, Recv, NbRecv, Wait, NbWait, ReplyRecv, Signal, SetPriority, Suspend, Resume, BindNtfn, UnbindNtfn, BindCtx, UnbindCtx, CancelBadged, CopyCap, MintCap, MoveCap, DeleteCap, MakeEndpoint, MakeNotification, MakeReply, MakeContext, NbSendRecv, NbSendWait}
 use Rattle.mcs_types.specs.declared.entry.Step.{Step}
 use Rattle.mcs_types.specs.declared.id.Kind.{Kind}
 use Rattle.mcs_types.specs.declared.id.Kind.TheVariants.{Thread}
@@ -19,7 +19,7 @@ use Rattle.mcs_text.specs.Table.{form_line, step_form, entry_form}
 use Rattle.mcs_text.specs.Reading.{◌>>=◌, number_at, end_at, sent_at, pair_at, address_at, place_at, place_of, copy_at, mint_at, move_at, last_place_at, make_at, entry_at, step_of, words_of, word_limit}
 use Rattle.mcs_types.specs.Ranges.{IsWord, IsMessage, IsPlace, InRange}
 use Rattle.mcs_rereading.specs.LineLaws.{step_with, IsReadAgain}
-use Rattle.mcs_rereading.proofs.RoundTrip.{number-decimal, below-is, rights_again, sent_again, replied_again, pair_again, priority_again, address_again, step_again}
+use Rattle.mcs_rereading.proofs.RoundTrip.{number-decimal, below-is, rights_again, sent_again, replied_again, exchanged_again, pair_again, priority_again, address_again, step_again}
 use Rattle.mcs_rereading.proofs.TextBytes.{is_above, decimal-above}
 use Rattle.mcs_rereading.proofs.FormWords.{token_words, form_rest, form_line-spread, form_line-words, is_plain, rest-plain, NoSpace-above}
 
@@ -50,6 +50,16 @@ message_again key e a m read h = read _ ∙ rw (sent_again a m.label m.words h.0
 replied_entry-again : (a r : ℕ) (m : Content) → IsWord a → IsWord r → IsMessage m → entry_at (key_text k.ReplyRecv ∷ map decimal (a ∷ r ∷ m.label ∷ m.words)) ≡ Ok (ReplyRecv a r m)
 unfolding entry_at entry_key
 replied_entry-again a r m ha hr h = rw (replied_again a r m.label m.words ha hr h.label (by_recursion (λ w. w < 2 ^ 64) m.words h.words) h.few) refl
+
+-- and so is the one that sends and waits
+waited_entry-again : (a f : ℕ) (m : Content) → IsWord a → IsWord f → IsMessage m → entry_at (key_text k.NbSendWait ∷ map decimal (a ∷ f ∷ m.label ∷ m.words)) ≡ Ok (NbSendWait a f m)
+unfolding entry_at entry_key
+waited_entry-again a f m ha hf h = rw (replied_again a f m.label m.words ha hf h.label (by_recursion (λ w. w < 2 ^ 64) m.words h.words) h.few) refl
+
+-- the entry whose key is followed by three addresses and a message
+exchanged_entry-again : (a f r : ℕ) (m : Content) → IsWord a → IsWord f → IsWord r → IsMessage m → entry_at (key_text k.NbSendRecv ∷ map decimal (a ∷ f ∷ r ∷ m.label ∷ m.words)) ≡ Ok (NbSendRecv a f r m)
+unfolding entry_at entry_key
+exchanged_entry-again a f r m ha hf hr h = rw (exchanged_again a f r m.label m.words ha hf hr h.label (by_recursion (λ w. w < 2 ^ 64) m.words h.words) h.few) refl
 
 -- an entry whose key is followed by two addresses
 addresses_again : (key : Key) (e : ℕ → ℕ → Entry) (a b : ℕ) → ((ws : List (List ℕ)) → entry_at (key_text key ∷ ws) ≡ (pair_at ws >>= λ p. Ok (e p.0 p.1))) → IsWord a × IsWord b
@@ -168,6 +178,10 @@ entry_line-again cores threads c s (MakeReply p) h hc fits some hs fits' =
     step_form-again cores threads c s (MakeReply p) k.Make (tok.Key k.Reply ∷ tok.Place p ∷ []) [] hc fits some hs fits' refl refl (make_again k.Reply MakeReply p (λ ws. refl) h)
 entry_line-again cores threads c s (MakeContext p) h hc fits some hs fits' =
     step_form-again cores threads c s (MakeContext p) k.Make (tok.Key k.Context ∷ tok.Place p ∷ []) [] hc fits some hs fits' refl refl (make_again k.Context MakeContext p (λ ws. refl) h)
+entry_line-again cores threads c s (NbSendRecv a f r m) h hc fits some hs fits' =
+    step_form-again cores threads c s (NbSendRecv a f r m) k.NbSendRecv [] (a ∷ f ∷ r ∷ m.label ∷ m.words) hc fits some hs fits' refl refl (exchanged_entry-again a f r m h.0 h.1 h.2 h.3)
+entry_line-again cores threads c s (NbSendWait a f m) h hc fits some hs fits' =
+    step_form-again cores threads c s (NbSendWait a f m) k.NbSendWait [] (a ∷ f ∷ m.label ∷ m.words) hc fits some hs fits' refl refl (waited_entry-again a f m h.0 h.1 h.2)
 
 -- the line of a step is read as that step, where its core and its thread are there
 pub step_word_again : (cores threads : ℕ) (s : Step) → InRange s.entry → s.core.0 < cores → s.core.0 < 2 ^ 64

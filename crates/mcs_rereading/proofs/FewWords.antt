@@ -11,11 +11,12 @@ use Rattle.mcs_types.specs.declared.cap.Cap.{Cap}
 use Rattle.mcs_types.specs.declared.cap.Place.{Place}
 use Rattle.mcs_types.specs.declared.record.Form.{Form}
 use Rattle.mcs_types.specs.declared.record.Letter.{Letter}
+use Rattle.mcs_types.specs.declared.record.SendMode.{SendMode}
 use Rattle.mcs_types.specs.declared.record.Queue.TheVariants.{Senders, Receivers}
 use Rattle.mcs_types.specs.declared.record.Rec.{Rec}
 use Rattle.mcs_types.specs.declared.record.Rec.TheVariants as rec
 use Rattle.mcs_types.specs.declared.entry.Entry.{Entry}
-use Rattle.mcs_types.specs.declared.entry.Entry.TheVariants.{Send, NbSend, Call, Recv, NbRecv, Wait, NbWait, ReplyRecv, Signal, SetPriority, Suspend, Resume, BindNtfn, UnbindNtfn, BindCtx, UnbindCtx, CancelBadged, CopyCap, MintCap, MoveCap, DeleteCap, MakeEndpoint, MakeNotification, MakeReply, MakeContext}
+use Rattle.mcs_types.specs.declared.entry.Entry.TheVariants.{Send, NbSend, Call, Recv, NbRecv, Wait, NbWait, ReplyRecv, Signal, SetPriority, Suspend, Resume, BindNtfn, UnbindNtfn, BindCtx, UnbindCtx, CancelBadged, CopyCap, MintCap, MoveCap, DeleteCap, MakeEndpoint, MakeNotification, MakeReply, MakeContext, NbSendRecv, NbSendWait}
 use Rattle.mcs_types.specs.declared.entry.Answer.{Answer}
 use Rattle.mcs_types.specs.declared.entry.Answer.TheVariants as ans
 use Rattle.mcs_book.specs.Logs.{Log, onto}
@@ -25,10 +26,10 @@ use Rattle.mcs_book.specs.Queues.{first_in}
 use Rattle.mcs_book.specs.Messages.{letters, next_message, open_of}
 use Rattle.mcs_book.specs.Notifications.{bound_of, pending}
 use Rattle.mcs_book.specs.Checks.{Checked}
-use Rattle.mcs_book.specs.Pieces.{Piece, Act, answers, before, with_any}
+use Rattle.mcs_book.specs.Pieces.{Piece, Act, answers, silently, before, with_any}
 use Rattle.mcs_book.specs.Sending.{sends_to, sends, queues, send_by, send_over}
 use Rattle.mcs_book.specs.Taking.{taken}
-use Rattle.mcs_book.specs.Receiving.{joins_or, hear, take_open, open_of_any, pending_of_any, receive_message, receive_on, free, wait_on, receive_by, receive_over, reply_receive, pay_any}
+use Rattle.mcs_book.specs.Receiving.{stand, joins_or, hear, take_open, open_of_any, pending_of_any, receive_message, receive_on, free, wait_on, receive_by, receive_over, reply_receive, send_receive, pay_any}
 use Rattle.mcs_book.specs.Placing.{delete, make}
 use Rattle.mcs_book.specs.Binding.{bind_by}
 use Rattle.mcs_book.specs.Table.{row, wakes, outcome_of, does}
@@ -107,25 +108,25 @@ few-sends letter a alone h k = record { at = λ W. go W (first_in W (Receivers (
     go W None few = k.at W few
 
 -- a send, by the kind of its capability
-few-send_by : (kd : Kind) (t : ObjId) (cap : Cap) (message : Content) (alone : Act) → FewAct alone → OnPassed FewAct (send_by kd t cap message alone)
+few-send_by : (kd : Kind) (mode : SendMode) (t : ObjId) (cap : Cap) (message : Content) (alone : Act) → FewAct alone → OnPassed FewAct (send_by kd mode t cap message alone)
 unfolding send_by
-few-send_by kind.Endpoint t cap message alone h = passed-next _ _ _ (passed-ok _ _ (few-sends _ ans.Done alone tt h))
-few-send_by kind.Notification t cap message alone h = passed-next _ _ _ (passed-ok _ _ (few-answers ans.Done _ tt))
-few-send_by kind.Reply t cap message alone h = passed-ok _ _ (few-answers ans.Done _ tt)
-few-send_by kind.CNode t cap message alone h = passed-err _ _
-few-send_by kind.Thread t cap message alone h = passed-err _ _
-few-send_by kind.Context t cap message alone h = passed-err _ _
+few-send_by kind.Endpoint mode t cap message alone h = passed-next _ _ _ (passed-ok _ _ (few-sends _ ans.Done alone tt h))
+few-send_by kind.Notification mode t cap message alone h = passed-next _ _ _ (passed-ok _ _ (few-answers ans.Done _ tt))
+few-send_by kind.Reply mode t cap message alone h = passed-ok _ _ (few-answers ans.Done _ tt)
+few-send_by kind.CNode mode t cap message alone h = passed-err _ _
+few-send_by kind.Thread mode t cap message alone h = passed-err _ _
+few-send_by kind.Context mode t cap message alone h = passed-err _ _
 
 -- a send over a capability
-few-send_over : (t : ObjId) (cap : Cap) (message : Content) (alone : Act) → FewAct alone → OnPassed FewAct (send_over t cap message alone)
+few-send_over : (mode : SendMode) (t : ObjId) (cap : Cap) (message : Content) (alone : Act) → FewAct alone → OnPassed FewAct (send_over mode t cap message alone)
 unfolding send_over
-few-send_over t cap message alone h = few-send_by cap.obj.kind t cap message alone h
+few-send_over mode t cap message alone h = few-send_by cap.obj.kind mode t cap message alone h
 
 -- one that blocks, or is answered that nothing is there
-few-joins : (blocking : Bool) (r : Rec) (W : Log) → FewAt W (joins_or blocking r)
+few-joins : (blocking : Bool) (stands : Piece) (W : Log) → FewAt W (joins_or blocking stands)
 unfolding joins_or
-few-joins true r W few = tt
-few-joins false r W few = tt
+few-joins true stands W few = tt
+few-joins false stands W few = tt
 
 -- a word is heard, or else
 few-hear : (W : Log) (t : ObjId) (n : Option ObjId) (word : Option ℕ) (otherwise : Act) → FewAt W otherwise → FewAt W (hear t n word otherwise)
@@ -144,7 +145,7 @@ few-take W t r x otherwise None is h few = h few
 few-receive_message : (t e : ObjId) (r : Option ObjId) (blocking : Bool) → FewAct (receive_message t e r blocking)
 unfolding receive_message
 few-receive_message t e r blocking = record {
-  at = λ W. few-hear W t (bound_of W t) (pending_of_any W (bound_of W t)) _ (few-take W t r (first_in W (Senders e)) _ (open_of_any W (first_in W (Senders e))) refl (few-joins blocking (rec.Joins t (Receivers e) r) W));
+  at = λ W. few-hear W t (bound_of W t) (pending_of_any W (bound_of W t)) _ (few-take W t r (first_in W (Senders e)) _ (open_of_any W (first_in W (Senders e))) refl (few-joins blocking (stand t (Receivers e) r (bound_of W t)) W));
 }
 
 -- a receive, after its reply object was freed
@@ -178,6 +179,12 @@ unfolding reply_receive
 few-reply_receive R t cap address message =
     passed-next _ _ _ (passed-next _ _ _ (passed-bind _ _ _ (λ r. passed-after FewAct FewAct _ _ (few-receive_over R t cap (Ok r) true) (λ act h. passed-ok _ _ (few-before (pay_any r message) act h)))))
 
+-- sends, and then receives
+few-send_receive : (R : Log) (t : ObjId) (sending : Checked Act) (address : ℕ) (reply : Checked (Option ObjId)) → OnPassed FewAct (send_receive R t sending address reply)
+unfolding send_receive
+few-send_receive R t sending address reply =
+    passed-bind _ _ _ (λ send. passed-bind _ _ _ (λ source. passed-after FewAct FewAct _ _ (few-receive_over R t source reply true) (λ act h. passed-ok _ _ (few-before (silently send) act h))))
+
 -- an act that is done
 few-done : (p : Piece) → OnPassed FewAct (Ok (answers ans.Done p))
 few-done p = passed-ok FewAct _ (few-answers ans.Done p tt)
@@ -206,8 +213,8 @@ few-bind_by kind.Context R s o = passed-err _ _
 -- what a row of the table does
 few-row : (R : Log) (core : CoreId) (t : ObjId) (e : Entry) → OnPassed FewAct (row R core t e)
 unfolding row
-few-row R core t (Send a message) = passed-bind _ _ _ (λ cap. few-send_over t cap message _ (few-queues _))
-few-row R core t (NbSend a message) = passed-bind _ _ _ (λ cap. few-send_over t cap message _ (few-answers ans.Done _ tt))
+few-row R core t (Send a message) = passed-bind _ _ _ (λ cap. few-send_over _ t cap message _ (few-queues _))
+few-row R core t (NbSend a message) = passed-bind _ _ _ (λ cap. few-send_over _ t cap message _ (few-answers ans.Done _ tt))
 few-row R core t (Call a message) = passed-bind _ _ _ (λ cap. passed-next _ _ _ (passed-ok _ _ (few-sends _ ans.Waits _ tt (few-queues _))))
 few-row R core t (Recv a r) = passed-bind _ _ _ (λ cap. few-receive_over R t cap _ true)
 few-row R core t (NbRecv a r) = passed-bind _ _ _ (λ cap. few-receive_over R t cap _ false)
@@ -231,6 +238,8 @@ few-row R core t (MakeEndpoint place) = few-make R t kind.Endpoint _ _ place
 few-row R core t (MakeNotification place) = few-make R t kind.Notification _ _ place
 few-row R core t (MakeReply place) = few-make R t kind.Reply _ _ place
 few-row R core t (MakeContext place) = few-make R t kind.Context _ _ place
+few-row R core t (NbSendRecv a source r message) = few-send_receive R t _ source _
+few-row R core t (NbSendWait a source message) = few-send_receive R t _ source _
 
 -- an entry answers few words, where all messages have few
 pub few-does : (R : Log) (core : CoreId) (t : ObjId) (e : Entry) → Each HasFewWords (onto ((does R core t e).records) R) → FewAnswer ((does R core t e).answer)

@@ -11,7 +11,7 @@ use Rattle.mcs_types.specs.declared.record.Rec.{Rec}
 use Rattle.mcs_types.specs.declared.record.Rec.TheVariants as rec
 use Rattle.mcs_types.specs.declared.entry.Step.{Step}
 use Rattle.mcs_types.specs.declared.entry.Entry.{Entry}
-use Rattle.mcs_types.specs.declared.entry.Entry.TheVariants.{Send, NbSend, Call, ReplyRecv}
+use Rattle.mcs_types.specs.declared.entry.Entry.TheVariants.{Send, NbSend, Call, ReplyRecv, NbSendRecv, NbSendWait}
 use Rattle.mcs_types.specs.declared.entry.Answer.{Answer}
 use Rattle.mcs_types.specs.declared.entry.Answer.TheVariants as ans
 use Rattle.mcs_book.specs.Logs.{Log, onto}
@@ -37,6 +37,8 @@ carried-few (Send a message) m h is = let it : message ≡ m = cc in subst IsMes
 carried-few (NbSend a message) m h is = let it : message ≡ m = cc in subst IsMessage it h.1
 carried-few (Call a message) m h is = let it : message ≡ m = cc in subst IsMessage it h.1
 carried-few (ReplyRecv a r message) m h is = let it : message ≡ m = cc in subst IsMessage it h.2
+carried-few (NbSendRecv a f r message) m h is = let it : message ≡ m = cc in subst IsMessage it h.3
+carried-few (NbSendWait a f message) m h is = let it : message ≡ m = cc in subst IsMessage it h.2
 carried-few _ m h is = absurd cc
 
 -- so is that of a record
@@ -111,6 +113,8 @@ small-entry s (Send a message) h = small-with _ _ (a ∷ message.label ∷ []) m
 small-entry s (NbSend a message) h = small-with _ _ (a ∷ message.label ∷ []) message h.1 (omega arith)
 small-entry s (Call a message) h = small-with _ _ (a ∷ message.label ∷ []) message h.1 (omega arith)
 small-entry s (ReplyRecv a r message) h = small-with _ _ (a ∷ r ∷ message.label ∷ []) message h.2 (omega arith)
+small-entry s (NbSendRecv a f r message) h = small-with _ _ (a ∷ f ∷ r ∷ message.label ∷ []) message h.3 (omega arith)
+small-entry s (NbSendWait a f message) h = small-with _ _ (a ∷ f ∷ message.label ∷ []) message h.2 (omega arith)
 small-entry s _ h = small-few _ (omega arith)
 
 -- the forms of a line that follows a log of few words

@@ -4,7 +4,7 @@ use Rattle.std.specs.Prelude.{bytes_eq}
 use Rattle.mcs_types.specs.Views.{Content}
 use Rattle.mcs_types.specs.declared.cap.Place.{Place}
 use Rattle.mcs_types.specs.declared.entry.Entry.{Entry}
-use Rattle.mcs_types.specs.declared.entry.Entry.TheVariants.{Send, NbSend, Call, Recv, NbRecv, Wait, NbWait, ReplyRecv, Signal, SetPriority, Suspend, Resume, BindNtfn, UnbindNtfn, BindCtx, UnbindCtx, CancelBadged, DeleteCap, MakeEndpoint, MakeNotification, MakeReply, MakeContext}
+use Rattle.mcs_types.specs.declared.entry.Entry.TheVariants.{Send, NbSend, Call, Recv, NbRecv, Wait, NbWait, ReplyRecv, Signal, SetPriority, Suspend, Resume, BindNtfn, UnbindNtfn, BindCtx, UnbindCtx, CancelBadged, DeleteCap, MakeEndpoint, MakeNotification, MakeReply, MakeContext, NbSendRecv, NbSendWait}
 use Rattle.mcs_types.specs.declared.entry.Step.{Step}
 use Rattle.mcs_types.specs.declared.id.Prio.{Prio}
 use Rattle.mcs_text.specs.declared.fault.LineFault.{LineFault}
@@ -14,7 +14,7 @@ use Rattle.mcs_text.specs.Keys.{key_text, boot_keys, entry_keys, boot_key, entry
 use Rattle.mcs_text.specs.Spelling.{name_text, rights_text}
 use Rattle.mcs_text.specs.RightsReading.{rights_at}
 use Rattle.mcs_text.specs.Table.{entry_form, form_line}
-use Rattle.mcs_text.specs.Reading.{◌>>=◌, words_of, number_at, name_at, end_at, below, made, content, kept_after, sent_at, replied_at, pair_at, priority_at, address_at, place_at, place_of, copy_at, mint_at, move_at, last_place_at, make_of, make_at, entry_of, entry_at, step_of, word_limit}
+use Rattle.mcs_text.specs.Reading.{◌>>=◌, words_of, number_at, name_at, end_at, below, made, content, kept_after, sent_at, replied_at, exchanged_at, pair_at, priority_at, address_at, place_at, place_of, copy_at, mint_at, move_at, last_place_at, make_of, make_at, entry_of, entry_at, step_of, word_limit}
 use Rattle.mcs_book.proofs.Messages.MessageLaws.{find-passes}
 use Rattle.mcs_rereading.specs.LineLaws.{step_with, IsWrittenAgain}
 use Rattle.mcs_rereading.proofs.RoundTrip.{form_text-words}
@@ -62,6 +62,25 @@ replied-written ws r h =
     ∙ ap (λ (l : List (List ℕ)). decimal a.first ∷ l) (number-below word_limit cap.first.1 reply.first b.first reply.is b.is)
     ∙ ap (λ (l : List (List ℕ)). decimal a.first ∷ decimal b.first ∷ l) (message-written reply.first.1 label.first words.first m.first label.is words.is m.is)
     ∙ ap (λ (q : ℕ × ℕ × Content). map decimal (q.0 ∷ q.1 ∷ q.2.label ∷ q.2.words)) same
+
+exchanged-written : (ws : List (List ℕ)) (r : ℕ × ℕ × ℕ × Content) → exchanged_at ws ≡ Ok r → ws ≡ map decimal (r.0 ∷ r.1 ∷ r.2 ∷ r.3.label ∷ r.3.words)
+unfolding exchanged_at
+exchanged-written ws r h =
+    let cap = reads (number_at ws) _ r h in
+    let from = reads (number_at cap.first.1) _ r cap.rest in
+    let reply = reads (number_at from.first.1) _ r from.rest in
+    let label = reads (number_at reply.first.1) _ r reply.rest in
+    let words = reads (kept_after (Some []) label.first.1) _ r label.rest in
+    let a = reads (below word_limit cap.first.0) _ r words.rest in
+    let b = reads (below word_limit from.first.0) _ r a.rest in
+    let c = reads (below word_limit reply.first.0) _ r b.rest in
+    let m = reads (content label.first.0 words.first) _ r c.rest in
+    let same : Path (ℕ × ℕ × ℕ × Content) (a.first, b.first, c.first, m.first) r = ok-same _ _ m.rest in
+    number-below word_limit ws cap.first a.first cap.is a.is
+    ∙ ap (λ (l : List (List ℕ)). decimal a.first ∷ l) (number-below word_limit cap.first.1 from.first b.first from.is b.is)
+    ∙ ap (λ (l : List (List ℕ)). decimal a.first ∷ decimal b.first ∷ l) (number-below word_limit from.first.1 reply.first c.first reply.is c.is)
+    ∙ ap (λ (l : List (List ℕ)). decimal a.first ∷ decimal b.first ∷ decimal c.first ∷ l) (message-written reply.first.1 label.first words.first m.first label.is words.is m.is)
+    ∙ ap (λ (q : ℕ × ℕ × ℕ × Content). map decimal (q.0 ∷ q.1 ∷ q.2 ∷ q.3.label ∷ q.3.words)) same
 
 pair-written : (ws : List (List ℕ)) (r : ℕ × ℕ) → pair_at ws ≡ Ok r → ws ≡ map decimal (r.0 ∷ r.1 ∷ [])
 unfolding pair_at
@@ -240,6 +259,10 @@ entry-written s w ws e (Some k.Move) b r = move-entry s w ws e (entry_key-text w
 entry-written s w ws e (Some k.Delete) b r =
     fields-entry s k.Delete w ws (last_place_at ws) DeleteCap (λ p. place_words p []) e (λ p. refl) (last_place-written ws) (entry_key-text w k.Delete b) r
 entry-written s w ws e (Some k.Make) b r = make-entry s w ws e (entry_key-text w k.Make b) r
+entry-written s w ws e (Some k.NbSendRecv) b r =
+    fields-entry s k.NbSendRecv w ws (exchanged_at ws) (λ x. NbSendRecv x.0 x.1 x.2 x.3) (λ x. map decimal (x.0 ∷ x.1 ∷ x.2 ∷ x.3.label ∷ x.3.words)) e (λ x. refl) (exchanged-written ws) (entry_key-text w k.NbSendRecv b) r
+entry-written s w ws e (Some k.NbSendWait) b r =
+    fields-entry s k.NbSendWait w ws (replied_at ws) (λ x. NbSendWait x.0 x.1 x.2) (λ x. map decimal (x.0 ∷ x.1 ∷ x.2.label ∷ x.2.words)) e (λ x. refl) (replied-written ws) (entry_key-text w k.NbSendWait b) r
 entry-written s w ws e o b r = absurd (cc)
 
 entry_at-written : (s : Step) (ws : List (List ℕ)) (e : Entry) → entry_at ws ≡ Ok e → IsEntry s e ws

@@ -36,3 +36,5 @@ family_of (entry.MakeEndpoint p) = WithPlaces
 family_of (entry.MakeNotification p) = WithPlaces
 family_of (entry.MakeReply p) = WithPlaces
 family_of (entry.MakeContext p) = WithPlaces
+family_of (entry.NbSendRecv a f r m) = WithMessage
+family_of (entry.NbSendWait a f m) = WithMessage

@@ -84,6 +84,32 @@ fn is_same_entry_with_message(one: &Entry, other: &Entry) -> bool
                 message: m,
             },
         ) => *cap == *c && *reply == *r && is_same_message(message, m),
+        (
+            Entry::NbSendRecv {
+                cap,
+                source,
+                reply,
+                message,
+            },
+            Entry::NbSendRecv {
+                cap: c,
+                source: s,
+                reply: r,
+                message: m,
+            },
+        ) => *cap == *c && *source == *s && *reply == *r && is_same_message(message, m),
+        (
+            Entry::NbSendWait {
+                cap,
+                source,
+                message,
+            },
+            Entry::NbSendWait {
+                cap: c,
+                source: s,
+                message: m,
+            },
+        ) => *cap == *c && *source == *s && is_same_message(message, m),
         _ => false,
     }
 }

@@ -17,3 +17,4 @@ pub mod Picking
 pub mod Doing
 pub mod Woken
 pub mod Named
+pub mod Passing

@@ -7,8 +7,8 @@ ghost use Rattle.mcs_packing.specs.Entries.{EntryFits, entry_of, over_address, o
 use crate::records::words_at;
 use mcs_packing::{OverAddress, OverPair, OverPlace, PackedEntry, Sending};
 use mcs_text::{
-    Entrant, Key, write_address, write_addresses, write_copy, write_delete, write_make, write_mint,
-    write_move, write_priority, write_reply_receive, write_send,
+    Entrant, Key, write_address, write_addresses, write_copy, write_delete, write_exchange,
+    write_make, write_mint, write_move, write_priority, write_send, write_send_receive,
 };
 use mcs_types::{Badge, Place};
 
@@ -145,7 +145,28 @@ pub fn write_kept_step(
         } => {
             let label = words[*place as usize];
             let rest = words_at(words, *place, *len);
-            write_reply_receive(out, at, from, *cap, *reply, label, rest)
+            write_send_receive(out, at, from, Key::ReplyRecv, *cap, *reply, label, rest)
+        }
+        PackedEntry::NbSendRecv {
+            len,
+            at: place,
+            cap,
+            source,
+        } => {
+            let label = words[*place as usize];
+            let rest = words_at(words, *place, *len);
+            let reply = words[*place as usize + 1 + *len as usize];
+            write_exchange(out, at, from, *cap, *source, reply, label, rest)
+        }
+        PackedEntry::NbSendWait {
+            len,
+            at: place,
+            cap,
+            source,
+        } => {
+            let label = words[*place as usize];
+            let rest = words_at(words, *place, *len);
+            write_send_receive(out, at, from, Key::NbSendWait, *cap, *source, label, rest)
         }
         PackedEntry::Pair(form, first, second) => {
             write_pair(out, at, from, *form, *first, *second)

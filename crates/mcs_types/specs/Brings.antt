@@ -1,7 +1,7 @@
 -- What entries and answers bring.
 use Rattle.std.specs.Prelude.{ℕ, Bool, true, false, List, []}
 use Rattle.mcs_types.specs.declared.entry.Entry.{Entry}
-use Rattle.mcs_types.specs.declared.entry.Entry.TheVariants.{Send, NbSend, Call, Recv, NbRecv, Wait, NbWait, ReplyRecv}
+use Rattle.mcs_types.specs.declared.entry.Entry.TheVariants.{Send, NbSend, Call, Recv, NbRecv, Wait, NbWait, ReplyRecv, NbSendRecv, NbSendWait}
 use Rattle.mcs_types.specs.declared.entry.Answer.{Answer}
 use Rattle.mcs_types.specs.declared.entry.Answer.TheVariants.{Got}
 
@@ -11,6 +11,8 @@ entry_words (Send cap message) = message.words
 entry_words (NbSend cap message) = message.words
 entry_words (Call cap message) = message.words
 entry_words (ReplyRecv cap reply message) = message.words
+entry_words (NbSendRecv cap source reply message) = message.words
+entry_words (NbSendWait cap source message) = message.words
 entry_words _ = []
 
 -- whether it may be answered with a message
@@ -20,6 +22,8 @@ receives (NbRecv cap reply) = true
 receives (Wait cap) = true
 receives (NbWait cap) = true
 receives (ReplyRecv cap reply message) = true
+receives (NbSendRecv cap source reply message) = true
+receives (NbSendWait cap source message) = true
 receives _ = false
 
 -- the words of the message that an answer brings; none where it brings no message

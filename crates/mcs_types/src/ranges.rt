@@ -55,6 +55,26 @@ impl Entry {
                 let _reply = *reply;
                 message.is_in_range();
             }
+            Entry::NbSendRecv {
+                cap,
+                source,
+                reply,
+                message,
+            } => {
+                let _cap = *cap;
+                let _source = *source;
+                let _reply = *reply;
+                message.is_in_range();
+            }
+            Entry::NbSendWait {
+                cap,
+                source,
+                message,
+            } => {
+                let _cap = *cap;
+                let _source = *source;
+                message.is_in_range();
+            }
             Entry::Wait { cap } | Entry::NbWait { cap } | Entry::Signal { cap } => {
                 let _cap = *cap;
             }

@@ -1,5 +1,5 @@
 -- Which entries are answered without a message.
-use Rattle.std.specs.Prelude.{ℕ, Bool, true, false, ◌≡◌, Option, Some, None, Ok, Err}
+use Rattle.std.specs.Prelude.{ℕ, false, ◌≡◌, Option, Some, None, Ok, Err}
 use Rattle.mcs_types.specs.Views.{Content}
 use Rattle.mcs_types.specs.Brings.{receives, IsPlain}
 use Rattle.mcs_types.specs.declared.id.ObjId.{ObjId}
@@ -10,10 +10,11 @@ use Rattle.mcs_types.specs.declared.cap.Cap.{Cap}
 use Rattle.mcs_types.specs.declared.cap.Place.{Place}
 use Rattle.mcs_types.specs.declared.record.Form.{Form}
 use Rattle.mcs_types.specs.declared.record.Letter.{Letter}
+use Rattle.mcs_types.specs.declared.record.SendMode.{SendMode}
 use Rattle.mcs_types.specs.declared.record.Queue.TheVariants.{Receivers}
 use Rattle.mcs_types.specs.declared.entry.Answer.{Answer}
 use Rattle.mcs_types.specs.declared.entry.Entry.{Entry}
-use Rattle.mcs_types.specs.declared.entry.Entry.TheVariants.{Send, NbSend, Call, Recv, NbRecv, Wait, NbWait, ReplyRecv, Signal, SetPriority, Suspend, Resume, BindNtfn, UnbindNtfn, BindCtx, UnbindCtx, CancelBadged, CopyCap, MintCap, MoveCap, DeleteCap, MakeEndpoint, MakeNotification, MakeReply, MakeContext}
+use Rattle.mcs_types.specs.declared.entry.Entry.TheVariants.{Send, NbSend, Call, Recv, NbRecv, Wait, NbWait, ReplyRecv, Signal, SetPriority, Suspend, Resume, BindNtfn, UnbindNtfn, BindCtx, UnbindCtx, CancelBadged, CopyCap, MintCap, MoveCap, DeleteCap, MakeEndpoint, MakeNotification, MakeReply, MakeContext, NbSendRecv, NbSendWait}
 use Rattle.mcs_book.specs.Logs.{Log}
 use Rattle.mcs_book.specs.Slots.{SlotName}
 use Rattle.mcs_book.specs.Queues.{first_in}
@@ -46,14 +47,14 @@ unfolding queues
 plain-queues letter = λ S. tt
 
 -- a send over a capability of some kind
-plain-send_by : (k : Kind) (t : ObjId) (held : Cap) (message : Content) (alone : Act) → PlainAct alone → OnPassed PlainAct (send_by k t held message alone)
+plain-send_by : (k : Kind) (mode : SendMode) (t : ObjId) (held : Cap) (message : Content) (alone : Act) → PlainAct alone → OnPassed PlainAct (send_by k mode t held message alone)
 unfolding send_by
-plain-send_by Endpoint t held message alone h = passed-next _ _ _ (passed-ok _ _ (plain-sends _ _ alone tt h))
-plain-send_by Notification t held message alone h = passed-next _ _ _ (passed-ok _ _ (λ S. tt))
-plain-send_by Reply t held message alone h = passed-ok _ _ (λ S. tt)
-plain-send_by CNode t held message alone h = passed-err _ _
-plain-send_by Thread t held message alone h = passed-err _ _
-plain-send_by Context t held message alone h = passed-err _ _
+plain-send_by Endpoint mode t held message alone h = passed-next _ _ _ (passed-ok _ _ (plain-sends _ _ alone tt h))
+plain-send_by Notification mode t held message alone h = passed-next _ _ _ (passed-ok _ _ (λ S. tt))
+plain-send_by Reply mode t held message alone h = passed-ok _ _ (λ S. tt)
+plain-send_by CNode mode t held message alone h = passed-err _ _
+plain-send_by Thread mode t held message alone h = passed-err _ _
+plain-send_by Context mode t held message alone h = passed-err _ _
 
 -- a capability is deleted
 plain-delete : (at : SlotName) (held : Option Cap) → PlainAct (delete at held)
@@ -79,8 +80,8 @@ plain-bind_by Context R s o = passed-err _ _
 -- what each row answers, where its checks are passed
 plain-row : (R : Log) (core : CoreId) (t : ObjId) (entry : Entry) → receives entry ≡ false → OnPassed PlainAct (row R core t entry)
 unfolding row send_over
-plain-row R core t (Send a message) is = passed-bind _ _ _ (λ held. plain-send_by held.obj.kind t held message _ (plain-queues _))
-plain-row R core t (NbSend a message) is = passed-bind _ _ _ (λ held. plain-send_by held.obj.kind t held message _ (λ S. tt))
+plain-row R core t (Send a message) is = passed-bind _ _ _ (λ held. plain-send_by held.obj.kind _ t held message _ (plain-queues _))
+plain-row R core t (NbSend a message) is = passed-bind _ _ _ (λ held. plain-send_by held.obj.kind _ t held message _ (λ S. tt))
 plain-row R core t (Call a message) is = passed-bind _ _ _ (λ held. passed-next _ _ _ (passed-ok _ _ (plain-sends _ _ _ tt (plain-queues _))))
 plain-row R core t (Recv a r) is = absurd cc
 plain-row R core t (NbRecv a r) is = absurd cc
@@ -104,6 +105,8 @@ plain-row R core t (MakeEndpoint place) is = plain-make R t Endpoint _ _ place
 plain-row R core t (MakeNotification place) is = plain-make R t Notification _ _ place
 plain-row R core t (MakeReply place) is = plain-make R t Reply _ _ place
 plain-row R core t (MakeContext place) is = plain-make R t Context _ _ place
+plain-row R core t (NbSendRecv a source r message) is = absurd cc
+plain-row R core t (NbSendWait a source message) is = absurd cc
 
 -- the law: who does not receive is answered without a message
 pub does-plain : (R : Log) (core : CoreId) (t : ObjId) (entry : Entry) → receives entry ≡ false → IsPlain ((does R core t entry).answer)

@@ -1,5 +1,5 @@
 -- The entering thread while it acts: it runs and is blocked on nothing, while others are answered and cancelled.
-use Rattle.std.specs.Prelude.{Bool, true, false, ◌≡◌, ◌≢◌, ◌⊎◌, List, [], ◌∷◌, Option, Some, None, refl, unwrap_or}
+use Rattle.std.specs.Prelude.{◌<◌, ◌^◌, Bool, true, false, ◌≡◌, ◌≢◌, ◌⊎◌, List, [], ◌∷◌, Option, Some, None, refl, unwrap_or}
 use Rattle.std.specs.Option.{option_or}
 use Rattle.std.proofs.Common.{sym, ◌∙◌, ap, inl, inr, subst}
 use Rattle.mcs_types.specs.Views.{Content}
@@ -28,11 +28,14 @@ use Rattle.mcs_book.proofs.Queues.QueueLaws.{queued_in-growing, line-sorted, fir
 use Rattle.mcs_book.proofs.Queues.NoneBeside.{left-queue}
 use Rattle.mcs_book.proofs.Threads.UserLaws.{receiver_with-named, unattended-none}
 use Rattle.mcs_book.proofs.Messages.SendersOpen.{Idle, idle-steps}
-use Rattle.mcs_book.proofs.SoundLogs.Keeping.{keeps-cancel, keeps-pay}
+use Rattle.mcs_book.proofs.SoundLogs.Keeping.{keeps-cancel, keeps-pay, keeps-signal}
 use Rattle.mcs_book.proofs.SoundLogs.KeptLaws.{set-split, set-other, set-kept, never-both, standing-thread, owed-there, owed-unattended}
 use Rattle.mcs_book.proofs.Firm.Laws.{Firm, firm-sound}
 use Rattle.mcs_book.proofs.Firm.Cancel.{IsLeft, cancelled, Outlasts, outlasts-cancel, line-in}
 use Rattle.mcs_book.proofs.Firm.Ends.{OutlastsEnding, firm-pay, outlasts-pay, unattended-left}
+use Rattle.mcs_book.proofs.Firm.Taking.{OutlastsSend, outlasts-signal, firm-signal}
+use Rattle.mcs_book.specs.Signalling.{signal}
+use Rattle.mcs_types.specs.declared.id.Badge.{Badge}
 
 -- the first of a queue is the head of its order
 pub first-is : (R : Log) (q : Queue) (x : ObjId) → Sound R → first_in R q ≡ Some x → IsFirst R q x
@@ -57,10 +60,10 @@ unattended-cancel : (d x : ObjId) → Outlasts x Inactive (λ R. IsUnattended R 
 unattended-cancel d x = record { dropped = λ R m h. h; parts = λ R q h y e at with. h y e ((left-queue R x y q (Receivers e) at).1) with; voided = λ R r h. h; turns = λ R h. h }
 
 -- the entering thread t is there, runs, and is blocked on nothing
-record Apart (t : ObjId) (R : Log) : Type 0 where
-  there : IsThere R kind.Thread t
-  idle : IsIdle R t
-  running : mode_of R t ≡ Running
+pub record Apart (t : ObjId) (R : Log) : Type 0 where
+  pub there : IsThere R kind.Thread t
+  pub idle : IsIdle R t
+  pub running : mode_of R t ≡ Running
 
 -- the same in a firm log, where those who stand among senders are those with an open message
 pub record Acting (t : ObjId) (R : Log) : Type 0 where
@@ -93,6 +96,18 @@ since-ending S = record {
   holds = λ R s x h. record { alive = h.alive; bound = h.bound };
 }
 
+-- and a signal, and a message that is handed over
+pub since-send : (S : Log) → OutlastsSend (Since S)
+since-send S = record {
+  raised = λ R n badge h. record { alive = h.alive; bound = h.bound };
+  heard = λ R x n word h. record { alive = h.alive; bound = h.bound };
+  parts = λ R x q h. record { alive = h.alive; bound = h.bound };
+  turns = λ R x h. record { alive = h.alive; bound = h.bound };
+  holds = λ R s x h. record { alive = h.alive; bound = h.bound };
+  sends = λ R s h. record { alive = h.alive; bound = h.bound };
+  took = λ R m p h. record { alive = h.alive; bound = h.bound };
+}
+
 module _ (t : ObjId) where
   -- t is as it was after another is cancelled
   apart-cancel : (x : ObjId) (mode : Mode) → t ≢ x → Outlasts x mode (Apart t)
@@ -112,8 +127,20 @@ module _ (t : ObjId) where
     holds = λ R s x h. record { there = h.there; idle = h.idle; running = h.running };
   }
 
+  -- and after a signal, or a message that is handed over
+  pub apart-send : OutlastsSend (Apart t)
+  apart-send = record {
+    raised = λ R n badge h. record { there = h.there; idle = h.idle; running = h.running };
+    heard = λ R x n word h. record { there = h.there; idle = h.idle; running = h.running };
+    parts = λ R x q h. record { there = h.there; idle = (set-kept (same t x) None (queue_of R t) h.idle.0, h.idle.1); running = h.running };
+    turns = λ R x h. record { there = h.there; idle = h.idle; running = set-kept (same t x) Running (mode_of R t) h.running };
+    holds = λ R s x h. record { there = h.there; idle = h.idle; running = h.running };
+    sends = λ R s h. record { there = h.there; idle = h.idle; running = h.running };
+    took = λ R m p h. record { there = h.there; idle = h.idle; running = h.running };
+  }
+
   -- what is known of t beside the messages
-  apart : (R : Log) → Acting t R → Apart t R
+  pub apart : (R : Log) → Acting t R → Apart t R
   apart R h = record { there = h.there; idle = h.idle; running = h.running }
 
   -- another is cancelled
@@ -127,6 +154,12 @@ module _ (t : ObjId) where
   acting-pay R r message h =
       let a : Apart t (onto (pay r message R) R) = outlasts-pay (Apart t) apart-ending r message R (apart R h) in
       record { firm = firm-pay r message R h.firm; there = a.there; idle = a.idle; running = a.running; calm = keeps-pay (Idle t) (idle-steps t) r message R h.calm }
+
+  -- a notification is signalled
+  pub acting-signal : (R : Log) (n : ObjId) (badge : Badge) → IsThere R kind.Notification n → badge.0 < 2 ^ 64 → Acting t R → Acting t (onto (signal n badge R) R)
+  acting-signal R n badge there small h =
+      let a : Apart t (onto (signal n badge R) R) = outlasts-signal (Apart t) apart-send n badge R (apart R h) in
+      record { firm = firm-signal n badge R there small h.firm; there = a.there; idle = a.idle; running = a.running; calm = keeps-signal (Idle t) (idle-steps t) n badge R h.calm }
 
   -- who uses a reply object is a thread that is there, and another than t
   record IsOther (R : Log) (x : ObjId) : Type 0 where

@@ -23,9 +23,10 @@ use Rattle.mcs_book.specs.Threads.{threads, root_kept, root_of}
 use Rattle.mcs_types.specs.Chains.{head_of}
 use Rattle.mcs_book.specs.Queues.{queue_of}
 use Rattle.mcs_book.specs.Messages.{next_message, letter, settles, is_open}
-use Rattle.mcs_book.specs.Contexts.{contexts, context_of, home_of, homed_at}
+use Rattle.mcs_book.specs.Contexts.{contexts, context_of, holder_of, home_of, homed_at}
 use Rattle.mcs_book.specs.Replies.{replies, owed_by, owing}
-use Rattle.mcs_book.specs.Chains.{chain_of, topped_by, kept}
+use Rattle.mcs_book.specs.Chains.{chain_of, topped_by, kept, is_unlent}
+use Rattle.mcs_book.specs.Signalling.{if_spare, spare_at}
 use Rattle.mcs_book.specs.Notifications.{bound_of, tied_to}
 use Rattle.mcs_book.specs.Each.{Each}
 use Rattle.mcs_book.specs.Fair.{TakesAlive, TakesFirst}
@@ -212,6 +213,19 @@ home-homed_at R n s sound h =
 -- none is found homed, so none is
 pub homed_at-none : (R : Log) (n : ObjId) → Sound R → homed_at R n ≡ None → IsNoHome R n
 homed_at-none R n sound none s h = let no : None ≡ Some s = sym none ∙ home-homed_at R n s sound h in absurd cc
+
+-- the context that a signal may lend is there
+pub spare-there : (R : Log) (n s : ObjId) → Sound R → spare_at R n ≡ Some s → IsThere R kind.Context s
+unfolding spare_at
+spare-there R n s sound h = go (homed_at R n) refl h
+  where
+    spare : (c : ObjId) (b : Bool) → homed_at R n ≡ Some c → cond b (Some c) None ≡ Some s → IsThere R kind.Context s
+    spare c true is k = let it : c ≡ s = cc in subst (λ (z : ObjId). IsThere R kind.Context z) it ((home-there R c n sound (homed_at-home R n c is)).0)
+    spare c false is k = absurd cc
+
+    go : (o : Option ObjId) → homed_at R n ≡ o → if_spare R o ≡ Some s → IsThere R kind.Context s
+    go None is k = absurd cc
+    go (Some c) is k = spare c (is_none (holder_of R c) && is_unlent R c) is k
 
 -- the context whose chain is topped is there
 pub topped-there : (R : Log) (r s : ObjId) → topped_by R r ≡ Some s → IsThere R kind.Context s

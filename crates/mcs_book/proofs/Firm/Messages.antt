@@ -1,5 +1,5 @@
 -- Sending, receiving and waiting keep a log firm.
-use Rattle.std.specs.Prelude.{ℕ, Bool, true, false, cond, ◌==◌, ◌≡◌, ◌≢◌, ◌∷◌, Option, Some, None, refl}
+use Rattle.std.specs.Prelude.{ℕ, Bool, true, false, cond, ◌&&◌, ◌==◌, ◌≡◌, ◌≢◌, ◌∷◌, Option, Some, None, refl, is_some}
 use Rattle.std.specs.Option.{IfSome}
 use Rattle.std.proofs.Common.{sym, ◌∙◌, ap, inl, inr, subst}
 use Rattle.std.proofs.lemmas.Bool.{eq-eqb}
@@ -9,31 +9,37 @@ use Rattle.mcs_types.specs.declared.id.Kind.TheVariants as kind
 use Rattle.mcs_types.specs.declared.cap.Cap.{Cap}
 use Rattle.mcs_types.specs.declared.entry.Answer.{Answer}
 use Rattle.mcs_types.specs.declared.record.Letter.{Letter}
+use Rattle.mcs_types.specs.declared.record.Queue.{Queue}
 use Rattle.mcs_types.specs.declared.record.Queue.TheVariants.{Senders, Receivers, Waiters}
-use Rattle.mcs_types.specs.declared.record.Rec.{Rec}
 use Rattle.mcs_types.specs.declared.record.Rec.TheVariants as rec
 use Rattle.mcs_types.specs.declared.record.SendMode.{SendMode}
+use Rattle.mcs_types.specs.declared.record.SendMode.TheVariants as how
 use Rattle.mcs_book.specs.Logs.{Log, onto}
 use Rattle.mcs_book.specs.Objects.{is_alive}
+use Rattle.mcs_types.specs.Ids.{is_just}
+use Rattle.mcs_book.specs.Contexts.{context_of, home_of}
+use Rattle.mcs_book.specs.Chains.{is_unlent}
+use Rattle.mcs_book.specs.Cancelling.{let_go}
+use Rattle.mcs_book.proofs.Threads.HoldingLaws.{context_of-holder}
 use Rattle.mcs_book.specs.Queues.{queue_of, first_in}
 use Rattle.mcs_book.specs.Messages.{next_message, letter, open_of}
 use Rattle.mcs_book.specs.Notifications.{bound_of, pending}
-use Rattle.mcs_book.specs.Pieces.{Piece, say, with_any, Act, before}
+use Rattle.mcs_book.specs.Pieces.{Piece, ◌then◌, nothing, say, with_any, Act, answers, before}
 use Rattle.mcs_book.specs.Taking.{handed}
 use Rattle.mcs_book.specs.Sending.{letter_over, sent, sends_to, sends, queues}
-use Rattle.mcs_book.specs.Receiving.{joins_or, hear, take_open, open_of_any, pending_of_any, receive_message, receive_on, free, wait_on}
+use Rattle.mcs_book.specs.Receiving.{if_at_home, go_home, stand, joins_or, hear, take_open, open_of_any, pending_of_any, receive_message, receive_on, free, wait_on}
 use Rattle.mcs_book.specs.Fair.{IsFirst, IsFirstOfOne}
 use Rattle.mcs_book.specs.Sound.{IsThere, IsFreeReply}
 use Rattle.mcs_types.proofs.Ids.{same-equal}
 use Rattle.mcs_book.proofs.Queues.QueueLaws.{first-stands}
 use Rattle.mcs_book.proofs.Messages.MessageLaws.{open_of-open, open_of-letter, sent-open_at}
 use Rattle.mcs_book.proofs.Messages.OpenLaws.{sound-ends}
-use Rattle.mcs_book.proofs.Messages.SendersOpen.{idle-none, open_of-is}
-use Rattle.mcs_book.proofs.SoundLogs.Keeping.{onto-append, sent_record, then-next}
+use Rattle.mcs_book.proofs.Messages.SendersOpen.{Idle, idle-none, idle-steps, idle-hands, open_of-is}
+use Rattle.mcs_book.proofs.SoundLogs.Keeping.{onto-append, sent_record, then-next, keeps-handed}
 use Rattle.mcs_book.proofs.SoundLogs.KeptLaws.{bound-one}
 use Rattle.mcs_book.proofs.Firm.Laws.{Firm, Strict, firm-sound}
-use Rattle.mcs_book.proofs.Firm.Taking.{firm-handed, firm-taken}
-use Rattle.mcs_book.proofs.Firm.Acts.{first-is, Acting, Since, IsFreed, freed}
+use Rattle.mcs_book.proofs.Firm.Taking.{firm-handed, firm-taken, outlasts-handed}
+use Rattle.mcs_book.proofs.Firm.Acts.{first-is, Apart, apart, apart-send, Acting, Since, since-send, IsFreed, freed}
 
 -- what holds of the value, if there is one
 for-some : {A : Type 0} (P : A → Type 0) (o : Option A) → ((x : A) → o ≡ Some x → P x) → IfSome o P
@@ -56,11 +62,11 @@ sent-letter R s number = here (next_message R == s.number) (eq-eqb (next_message
     here true e = ap (λ z. Some z) it
     here false e = absurd cc
 
--- t joins a queue, or does not block
-firm-joins_or : (b : Bool) (r : Rec) (R : Log) → Strict R r → Firm R → Firm (onto ((joins_or b r R).records) R)
+-- somebody stands in a queue, or does not block
+firm-joins_or : (b : Bool) (p : Piece) (R : Log) → Firm (onto (p R) R) → Firm R → Firm (onto ((joins_or b p R).records) R)
 unfolding joins_or
-firm-joins_or true r R strict firm = (strict, firm)
-firm-joins_or false r R strict firm = firm
+firm-joins_or true p R stands firm = stands
+firm-joins_or false p R stands firm = firm
 
 -- the reply object that is named, if there is one, is there and free
 abbrev pub IsFreeAny : Log → Option ObjId → Type 0
@@ -74,18 +80,39 @@ module _ (t : ObjId) where
   firm-hear R None word otherwise is alone h on = on
   firm-hear R (Some n) None otherwise is alone h on = on
 
+  -- t joins a queue, and may give up its context
+  firm-stand : (q : Queue) (r n : Option ObjId) (R : Log) → Strict R (rec.Joins t q r) → Firm R → Firm (onto (stand t q r n R) R)
+  unfolding stand go_home
+  firm-stand q r n R strict firm = then-next Firm (say (rec.Joins t q r)) (go_home t n) R (go n (context_of S t) refl)
+    where
+      S : Log
+      S = rec.Joins t q r ∷ R
+
+      firm1 : Firm S
+      firm1 = (strict, firm)
+
+      gives : (c : ObjId) (b : Bool) → context_of S t ≡ Some c → Firm (onto (let_go (cond b (Some c) None) S) S)
+      gives c true is = ((ap (λ o. is_some o) (context_of-holder S t c is), tt), firm1)
+      gives c false is = firm1
+
+      go : (n o : Option ObjId) → context_of S t ≡ o → Firm (onto (let_go (if_at_home S n o) S) S)
+      go (Some m) (Some c) is = gives c (is_just (home_of S c) m && is_unlent S c) is
+      go (Some m) None is = firm1
+      go None o is = firm1
+
   -- t joins the receivers, or does not block
-  firm-receives : (R : Log) (e : ObjId) (r : Option ObjId) (blocking : Bool) → IsThere R kind.Endpoint e → IsFreeAny R r → Acting t R → Firm (onto ((joins_or blocking (rec.Joins t (Receivers e) r) R).records) R)
-  firm-receives R e r blocking there unused h = firm-joins_or blocking (rec.Joins t (Receivers e) r) R ((h.there, h.idle, h.running, there, for-some (λ d. IsThere R kind.Reply d × IsFreeReply R d) r unused), tt) h.firm
+  firm-receives : (R : Log) (e : ObjId) (r : Option ObjId) (blocking : Bool) → IsThere R kind.Endpoint e → IsFreeAny R r → Acting t R → Firm (onto ((joins_or blocking (stand t (Receivers e) r (bound_of R t)) R).records) R)
+  firm-receives R e r blocking there unused h =
+      firm-joins_or blocking (stand t (Receivers e) r (bound_of R t)) R (firm-stand (Receivers e) r (bound_of R t) R ((h.there, h.idle, h.running, there, for-some (λ d. IsThere R kind.Reply d × IsFreeReply R d) r unused), tt) h.firm) h.firm
 
   -- the open message of the first sender, if there is one
   firm-take_open : (R : Log) (e : ObjId) (r : Option ObjId) (blocking : Bool) (x : Option ObjId) → first_in R (Senders e) ≡ x → IsThere R kind.Endpoint e → IsFreeAny R r → Acting t R
-      → Firm (onto ((take_open t r (open_of_any R x) (joins_or blocking (rec.Joins t (Receivers e) r)) R).records) R)
+      → Firm (onto ((take_open t r (open_of_any R x) (joins_or blocking (stand t (Receivers e) r (bound_of R t))) R).records) R)
   unfolding take_open
   firm-take_open R e r blocking None first there unused h = firm-receives R e r blocking there unused h
   firm-take_open R e r blocking (Some x) first there unused h = go (open_of R x) refl
     where
-      go : (o : Option Letter) → open_of R x ≡ o → Firm (onto ((take_open t r o (joins_or blocking (rec.Joins t (Receivers e) r)) R).records) R)
+      go : (o : Option Letter) → open_of R x ≡ o → Firm (onto ((take_open t r o (joins_or blocking (stand t (Receivers e) r (bound_of R t))) R).records) R)
       go None is = firm-receives R e r blocking there unused h
       go (Some s) is =
           let who : s.sender ≡ x = same-equal s.sender x ((open_of-open R x s is).0) in
@@ -121,7 +148,7 @@ module _ (t : ObjId) where
   unfolding wait_on
   firm-wait_on S n blocking there alone R since h =
       firm-hear R (Some n) (pending R n) _ refl (λ m u is bound. let it : n ≡ m = cc in mine u (bound ∙ ap (λ z. Some z) (sym it))) h
-      (firm-joins_or blocking (rec.Joins t (Waiters n) None) R ((h.there, h.idle, h.running, (there.0, since.alive n there.1), tt), mine) h.firm)
+      (firm-joins_or blocking (stand t (Waiters n) None (Some n)) R (firm-stand (Waiters n) None (Some n) R ((h.there, h.idle, h.running, (there.0, since.alive n there.1), tt), mine) h.firm) h.firm)
     where
       mine : (u : ObjId) → bound_of R u ≡ Some n → u ≡ t
       mine u bound = alone u (sym (since.bound u) ∙ bound)
@@ -158,3 +185,40 @@ module _ (t : ObjId) where
           then-next Firm (sent s) (handed s p) R (firm-handed After s p (sent-open_at R s refl (sound-ends R (firm-sound R h.firm)))
           (λ l k. subst (λ (z : Letter). is_alive R z.endpoint ≡ true) (one l k) there.1) (λ l k. subst (λ (z : Letter). IsFirstOfOne After z p) (one l k) (inr (ahead, aside)))
           ahead.0 h.there h.idle (firm-sent R cap mode message there h))
+
+  -- t acts as before once a message was handed over with its context, or where nobody receives
+  pub acting-sends : (R : Log) (cap : Cap) (message : Content) (answer nobody : Answer) → IsThere R kind.Endpoint cap.obj → Acting t R
+      → let act : Act = sends (letter_over t cap how.Give message) answer (answers nobody nothing) in Acting t (onto ((act R).records) R)
+  unfolding sends sends_to
+  acting-sends R cap message answer nobody there h = go (first_in R (Receivers cap.obj)) refl (firm-sends R cap how.Give message answer (answers nobody nothing) there h h.firm)
+    where
+      s : Letter
+      s = letter_over t cap how.Give message R
+
+      alone : Act
+      alone = answers nobody nothing
+
+      go : (o : Option ObjId) → first_in R (Receivers cap.obj) ≡ o → Firm (onto ((sends_to s answer alone o R).records) R) → Acting t (onto ((sends_to s answer alone o R).records) R)
+      go None first firm = h
+      go (Some p) first firm =
+          let a : Apart t (onto ((sent s then handed s p) R) R) = then-next (Apart t) (sent s) (handed s p) R (outlasts-handed (Apart t) (apart-send t) s p (sent_record s ∷ R) refl ((apart-send t).sends R s (apart t R h))) in
+          record {
+            firm = firm;
+            there = a.there;
+            idle = a.idle;
+            running = a.running;
+            calm = then-next (Idle t) (sent s) (handed s p) R (keeps-handed (Idle t) (idle-steps t) (sent_record s ∷ R) s p (idle-hands t R s p refl refl first h.calm));
+          }
+
+  -- who is there stays there, and the bindings stay
+  pub since-sends : (S R : Log) (cap : Cap) (message : Content) (answer nobody : Answer) → Since S R
+      → let act : Act = sends (letter_over t cap how.Give message) answer (answers nobody nothing) in Since S (onto ((act R).records) R)
+  unfolding sends sends_to
+  since-sends S R cap message answer nobody h = go (first_in R (Receivers cap.obj))
+    where
+      s : Letter
+      s = letter_over t cap how.Give message R
+
+      go : (o : Option ObjId) → Since S (onto ((sends_to s answer (answers nobody nothing) o R).records) R)
+      go None = h
+      go (Some p) = then-next (Since S) (sent s) (handed s p) R (outlasts-handed (Since S) (since-send S) s p (sent_record s ∷ R) refl ((since-send S).sends R s h))

@@ -1,5 +1,5 @@
 -- Each row of the table keeps a log firm.
-use Rattle.std.specs.Prelude.{ℕ, ◌<◌, ◌^◌, Bool, true, false, cond, not, ◌&&◌, ◌==◌, ◌≡◌, ◌≢◌, ◌∷◌, Option, Some, None, Ok, is_none, refl}
+use Rattle.std.specs.Prelude.{ℕ, ◌<◌, ◌^◌, Bool, true, false, cond, not, ◌&&◌, ◌==◌, ◌≡◌, ◌≢◌, ◌∷◌, Option, Some, None, Ok, refl}
 use Rattle.std.proofs.Common.{sym, ◌∙◌, ap, arith, subst}
 use Rattle.std.proofs.lemmas.Bool.{eq-eqb, eqb-true}
 use Rattle.mcs_types.specs.Views.{Content}
@@ -23,12 +23,12 @@ use Rattle.mcs_book.specs.Contexts.{holder_of, home_of}
 use Rattle.mcs_book.specs.Notifications.{bound_of, tied_to}
 use Rattle.mcs_book.specs.Checks.{Checked}
 use Rattle.mcs_book.specs.Rights.{is_kind}
-use Rattle.mcs_book.specs.Lookup.{radix_kept, slot_named, of_kind}
-use Rattle.mcs_book.specs.Pieces.{◌then◌, nothing, say, Act, before}
+use Rattle.mcs_book.specs.Lookup.{radix_kept, capability, slot_named, of_kind}
+use Rattle.mcs_book.specs.Pieces.{◌then◌, nothing, say, Act, answers, silently, before}
 use Rattle.mcs_book.specs.Taking.{pay}
 use Rattle.mcs_book.specs.Cancelling.{destroy}
 use Rattle.mcs_book.specs.Sending.{send_by}
-use Rattle.mcs_book.specs.Receiving.{receive_by, receive_over, reply_at, reply_receive, may_wait, bound_elsewhere, pay_any}
+use Rattle.mcs_book.specs.Receiving.{receive_by, receive_over, reply_at, reply_receive, may_wait, bound_elsewhere, pay_any, send_receive}
 use Rattle.mcs_book.specs.Placing.{Places, source_and_dest, fills, is_last_cnode, destroy_last, delete, make}
 use Rattle.mcs_book.specs.Table.{wakes}
 use Rattle.mcs_book.specs.Sound.{IsThere, IsFormOf}
@@ -36,13 +36,13 @@ use Rattle.mcs_types.proofs.Ids.{same-equal}
 use Rattle.mcs_book.proofs.Books.Checking.{OnPassed, passed-ok, passed-err, passed-after, passed-next}
 use Rattle.mcs_book.proofs.SoundLogs.Keeping.{then-next}
 use Rattle.mcs_book.proofs.SoundLogs.KeptLaws.{set-other, there-next, bound-one, slot-alive}
-use Rattle.mcs_book.proofs.Firm.Laws.{Firm, Strict, Also, firm-sound, tied-bound, tied-none, none-is}
+use Rattle.mcs_book.proofs.Firm.Laws.{Firm, Strict, Also, firm-sound, tied-bound, tied-none}
 use Rattle.mcs_book.proofs.Objects.CountLaws.{count-none, last-one, made-there}
 use Rattle.mcs_book.proofs.Firm.Ends.{firm-pay, outlasts-pay, firm-destroy}
-use Rattle.mcs_book.proofs.Firm.Taking.{firm-signal}
-use Rattle.mcs_book.proofs.Firm.Lookup.{passed-map, passed-need, passed-needed, IsSlotOf, IsHeld, IsHeldOf, slot-held, of_kind-held, slot_named-slot}
-use Rattle.mcs_book.proofs.Firm.Acts.{Acting, Since, since-ending, acting-pay}
-use Rattle.mcs_book.proofs.Firm.Messages.{firm-before, firm-receive_on, firm-wait_on, firm-sends}
+use Rattle.mcs_book.proofs.Firm.Taking.{firm-signal, outlasts-signal}
+use Rattle.mcs_book.proofs.Firm.Lookup.{passed-map, passed-need, passed-needed, IsSlotOf, IsHeld, IsHeldOf, slot-held, capability-held, of_kind-held, slot_named-slot}
+use Rattle.mcs_book.proofs.Firm.Acts.{Acting, Since, since-ending, since-send, acting-pay, acting-signal}
+use Rattle.mcs_book.proofs.Firm.Messages.{firm-before, firm-receive_on, firm-wait_on, firm-sends, acting-sends, since-sends}
 
 -- the log after the entering thread was woken is, but for its mode, the one on which its entry was checked
 pub record Woken (S W : Log) : Type 0 where
@@ -95,7 +95,7 @@ module _ (t : ObjId) (S : Log) (firm : Firm S) where
   woken-held W cap w h = record { alive = w.since.alive cap.obj h.alive; small = h.small }
 
   -- a send, by the kind of its capability
-  pub firm-send_by : (k : Kind) (cap : Cap) (message : Content) (alone : Act) → cap.obj.kind ≡ k → IsHeld S cap → (IsThere S kind.Endpoint cap.obj → KeepsFirm alone) → OnPassed KeepsFirm (send_by k t cap message alone)
+  pub firm-send_by : (k : Kind) (cap : Cap) (message : Content) (alone : Act) → cap.obj.kind ≡ k → IsHeld S cap → (IsThere S kind.Endpoint cap.obj → KeepsFirm alone) → OnPassed KeepsFirm (send_by k how.Plain t cap message alone)
   unfolding send_by
   firm-send_by kind.Endpoint cap message alone e held on = passed-next _ _ _ (passed-ok _ _ (λ W w h. firm-sends t W cap how.Plain message Done alone (woken-there W kind.Endpoint cap.obj w (e, held.alive)) h (on (e, held.alive) W w h)))
   firm-send_by kind.Notification cap message alone e held on = passed-next _ _ _ (passed-ok _ _ (λ W w h. firm-signal cap.obj cap.badge W (woken-there W kind.Notification cap.obj w (e, held.alive)) held.small h.firm))
@@ -103,6 +103,20 @@ module _ (t : ObjId) (S : Log) (firm : Firm S) where
   firm-send_by kind.CNode cap message alone e held on = passed-err _ _
   firm-send_by kind.Thread cap message alone e held on = passed-err _ _
   firm-send_by kind.Context cap message alone e held on = passed-err _ _
+
+  -- an act after which t still acts
+  abbrev pub KeepsActing : Act → Type 0
+  KeepsActing act = (W : Log) → Woken S W → Acting t W → Acting t (onto ((act W).records) W) × Since S (onto ((act W).records) W)
+
+  -- a send with the sender's context, by the kind of its capability
+  pub acting-send_by : (k : Kind) (cap : Cap) (message : Content) → cap.obj.kind ≡ k → IsHeld S cap → OnPassed KeepsActing (send_by k how.Give t cap message (answers Done nothing))
+  unfolding send_by
+  acting-send_by kind.Endpoint cap message e held = passed-next _ _ _ (passed-ok KeepsActing _ (λ W w h. (acting-sends t W cap message Done Done (woken-there W kind.Endpoint cap.obj w (e, held.alive)) h, since-sends t S W cap message Done Done w.since)))
+  acting-send_by kind.Notification cap message e held = passed-next _ _ _ (passed-ok KeepsActing _ (λ W w h. (acting-signal t W cap.obj cap.badge (woken-there W kind.Notification cap.obj w (e, held.alive)) held.small h, outlasts-signal (Since S) (since-send S) cap.obj cap.badge W w.since)))
+  acting-send_by kind.Reply cap message e held = passed-ok KeepsActing _ (λ W w h. (acting-pay t W cap.obj message h, outlasts-pay (Since S) (since-ending S) cap.obj message W w.since))
+  acting-send_by kind.CNode cap message e held = passed-err _ _
+  acting-send_by kind.Thread cap message e held = passed-err _ _
+  acting-send_by kind.Context cap message e held = passed-err _ _
 
   -- who is bound to a notification for which t may wait is t
   alone-bound : (n : ObjId) → not (bound_elsewhere (tied_to S n) t) ≡ true → (u : ObjId) → bound_of S u ≡ Some n → u ≡ t
@@ -157,6 +171,14 @@ module _ (t : ObjId) (S : Log) (firm : Firm S) where
       paid : (r : Option ObjId) (act : Act) → KeepsLater act → KeepsFirm (before (pay_any r message) act)
       paid None act k W w h = firm-before (pay_any None message) act W (k W w.since h)
       paid (Some d) act k W w h = firm-before (pay_any (Some d) message) act W (k (onto (pay d message W) W) (outlasts-pay (Since S) (since-ending S) d message W w.since) (acting-pay t W d message h))
+
+  -- sends, and then receives
+  pub firm-send_receive : (sending : Checked Act) (address : ℕ) (reply : Checked (Option ObjId)) → OnPassed KeepsActing sending → OnPassed IsKnown reply → OnPassed KeepsFirm (send_receive S t sending address reply)
+  unfolding send_receive
+  firm-send_receive sending address reply sends known = passed-after KeepsActing KeepsFirm sending _ sends (λ send k.
+      passed-after (IsHeld S) KeepsFirm (capability S t address) _ (capability-held S t address firm) (λ source held.
+      passed-after KeepsLater KeepsFirm (receive_over S t source reply true) _ (firm-receive_over source reply true held known) (λ act later. passed-ok KeepsFirm _ (λ W w h.
+      let (acts, since) = k W w h in firm-before (silently send) act W (later (onto ((send W).records) W) since acts)))))
 
   -- what a copy or a move names
   pub record IsPlaced (at : Places) : Type 0 where

@@ -18,7 +18,7 @@ use Rattle.mcs_types.specs.declared.record.Status.TheVariants as status
 use Rattle.mcs_types.specs.declared.record.Rec.TheVariants as rec
 use Rattle.mcs_types.specs.declared.entry.Answer.TheVariants.{Waits}
 use Rattle.mcs_types.specs.declared.entry.Entry.{Entry}
-use Rattle.mcs_types.specs.declared.entry.Entry.TheVariants.{Send, NbSend, Call, Recv, NbRecv, Wait, NbWait, ReplyRecv, Signal, SetPriority, Suspend, Resume, BindNtfn, UnbindNtfn, BindCtx, UnbindCtx, CancelBadged, CopyCap, MintCap, MoveCap, DeleteCap, MakeEndpoint, MakeNotification, MakeReply, MakeContext}
+use Rattle.mcs_types.specs.declared.entry.Entry.TheVariants.{Send, NbSend, Call, Recv, NbRecv, Wait, NbWait, ReplyRecv, Signal, SetPriority, Suspend, Resume, BindNtfn, UnbindNtfn, BindCtx, UnbindCtx, CancelBadged, CopyCap, MintCap, MoveCap, DeleteCap, MakeEndpoint, MakeNotification, MakeReply, MakeContext, NbSendRecv, NbSendWait}
 use Rattle.mcs_types.specs.Ids.{same_kind}
 use Rattle.mcs_book.specs.Logs.{Log, onto}
 use Rattle.mcs_book.specs.Objects.{was_made, was_closed, is_alive, form_of}
@@ -58,7 +58,7 @@ use Rattle.mcs_book.proofs.Firm.Taking.{firm-signal}
 use Rattle.mcs_book.proofs.Firm.Lookup.{passed-need, IsSlotOf, IsHeld, IsHeldOf, capability-held, of_kind-held, slot_named-slot}
 use Rattle.mcs_book.proofs.Firm.Acts.{Acting}
 use Rattle.mcs_book.proofs.Firm.Messages.{firm-before, firm-queues, firm-sends}
-use Rattle.mcs_book.proofs.Firm.Rows.{Woken, woken, slot-emptied, slot-filled, KeepsFirm, woken-there, woken-slot, woken-held, firm-send_by, none-known, reply-known, firm-receive, firm-reply_receive, IsPlaced, firm-placed, firm-delete, firm-make}
+use Rattle.mcs_book.proofs.Firm.Rows.{Woken, woken, slot-emptied, slot-filled, KeepsFirm, KeepsActing, acting-send_by, firm-send_receive, woken-there, woken-slot, woken-held, firm-send_by, none-known, reply-known, firm-receive, firm-reply_receive, IsPlaced, firm-placed, firm-delete, firm-make}
 
 -- one of two pieces
 firm-if : (b : Bool) (p q : Piece) (R : Log) → Firm (onto (p R) R) → Firm (onto (q R) R) → Firm (onto (cond b p q R) R)
@@ -157,6 +157,8 @@ module _ (t : ObjId) (S : Log) (firm : Firm S) where
   firm-row core (MakeNotification place) range small = firm-make t S firm kind.Notification 15 form.Plain place (λ e. absurd cc) tt (λ R o. tt)
   firm-row core (MakeReply place) range small = firm-make t S firm kind.Reply 0 form.Plain place (λ e. absurd cc) tt (λ R o. tt)
   firm-row core (MakeContext place) range small = firm-make t S firm kind.Context 0 (form.OnCore core) place (λ e. absurd cc) small (λ R o. tt)
+  firm-row core (NbSendRecv a source r message) range small = firm-send_receive t S firm _ source _ (passed-after (IsHeld S) (KeepsActing t S firm) (capability S t a) _ (capability-held S t a firm) (λ cap held. acting-send_by t S firm cap.obj.kind cap message refl held)) (reply-known t S firm r)
+  firm-row core (NbSendWait a source message) range small = firm-send_receive t S firm _ source _ (passed-after (IsHeld S) (KeepsActing t S firm) (capability S t a) _ (capability-held S t a firm) (λ cap held. acting-send_by t S firm cap.obj.kind cap message refl held)) (none-known t S firm)
 
 -- who may enter is not inactive
 enters-active : (R : Log) (core : CoreId) (t : ObjId) → may_enter R core t ≡ true → mode_of R t ≢ Inactive

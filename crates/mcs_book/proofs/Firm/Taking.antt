@@ -20,8 +20,8 @@ use Rattle.mcs_book.specs.Replies.{owed_by}
 use Rattle.mcs_book.specs.Notifications.{bound_of, tied_to, pending}
 use Rattle.mcs_book.specs.Growing.{growing_word}
 use Rattle.mcs_book.specs.Pieces.{Piece, ◌then◌, nothing, say}
-use Rattle.mcs_book.specs.Taking.{debt, owe, settle, handed, taken}
-use Rattle.mcs_book.specs.Signalling.{queue_of_any, wake, hearer, reach, signal}
+use Rattle.mcs_book.specs.Taking.{debt, owe, back_to, give_back, give, settle, handed, taken}
+use Rattle.mcs_book.specs.Signalling.{queue_of_any, spare_at, wake, hearer, reach, signal}
 use Rattle.mcs_book.specs.Fair.{TakesAlive, TakesFirst}
 use Rattle.mcs_book.specs.Sound.{IsThere, IsIdle, IsFreeReply}
 use Rattle.mcs_types.proofs.Ids.{same-self}
@@ -30,17 +30,35 @@ use Rattle.mcs_book.proofs.Queues.QueueLaws.{first-stands}
 use Rattle.mcs_book.proofs.Queues.NoneBeside.{left-queue}
 use Rattle.mcs_book.proofs.Threads.HoldingLaws.{context_of-holder}
 use Rattle.mcs_book.proofs.Threads.UserLaws.{one_user}
-use Rattle.mcs_book.proofs.SoundLogs.Keeping.{then-next}
+use Rattle.mcs_book.proofs.SoundLogs.Keeping.{sent_record, then-next}
 use Rattle.mcs_book.proofs.SoundLogs.KeptLaws.{set-split, set-other, standing-thread, reply-there, held-there, bound-one}
-use Rattle.mcs_book.proofs.Firm.Laws.{Firm, firm-sound, context-none, tied-bound, waiter-bound}
+use Rattle.mcs_book.proofs.Firm.Laws.{Firm, firm-sound, context-none, tied-bound, waiter-bound, spare-there}
 use Rattle.mcs_book.proofs.Firm.Cancel.{parted-idle}
 
+-- a context that is there, if there is one, passes to a thread
+firm-back : (s : Option ObjId) (x : ObjId) (R : Log) → ((c : ObjId) → s ≡ Some c → IsThere R kind.Context c) → IsThere R kind.Thread x → Firm R → Firm (onto (give_back s x R) R)
+unfolding give_back
+firm-back s x R there thread firm = go s there (context_of R x) refl
+  where
+    go : (s : Option ObjId) → ((c : ObjId) → s ≡ Some c → IsThere R kind.Context c) → (o : Option ObjId) → context_of R x ≡ o → Firm (onto (back_to x s o) R)
+    go (Some c) f None none = (((f c refl, thread, context-none R x (firm-sound R firm) none), tt), firm)
+    go (Some c) f (Some d) is = firm
+    go None f o is = firm
+
+-- the context of x passes to p
+firm-give : (x p : ObjId) (R : Log) → IsThere R kind.Thread p → Firm R → Firm (onto (give x p R) R)
+unfolding give
+firm-give x p R taker firm = firm-back (context_of R x) p R (λ c is. (held-there R c x (firm-sound R firm) (context_of-holder R x c is)).0) taker firm
+
 -- x hears the word that is pending, leaves its queue, and goes on
-firm-wake : (R : Log) (n x : ObjId) (q : Queue) (word : ℕ) → queue_of R x ≡ Some q → pending R n ≡ Some word → ((u : ObjId) → bound_of R u ≡ Some n → u ≡ x) → Firm R → Firm (onto (wake n x q word) R)
+firm-wake : (R : Log) (n x : ObjId) (q : Queue) (word : ℕ) → queue_of R x ≡ Some q → pending R n ≡ Some word → ((u : ObjId) → bound_of R u ≡ Some n → u ≡ x) → Firm R → Firm (onto (wake n x q word R) R)
+unfolding wake ◌then◌
 firm-wake R n x q word at waits alone firm =
     let there : IsThere R kind.Thread x = standing-thread R x q (firm-sound R firm) at in
     let heard : Firm (rec.Heard x n word ∷ R) = (((there, waits, alone), tt), firm) in
-    (((there, parted-idle (rec.Heard x n word ∷ R) x q (firm-sound (rec.Heard x n word ∷ R) heard) at), tt), ((at, tt), heard))
+    let woken : Log = rec.Turns x Running ∷ rec.Parts x q ∷ rec.Heard x n word ∷ R in
+    let firm3 : Firm woken = (((there, parted-idle (rec.Heard x n word ∷ R) x q (firm-sound (rec.Heard x n word ∷ R) heard) at), tt), ((at, tt), heard)) in
+    firm-back (spare_at R n) x woken (λ c is. spare-there R n c (firm-sound R firm) is) there firm3
 
 -- the word is the badge, where none was pending
 pub raised-word : (R : Log) (n : ObjId) (badge : Badge) → pending R n ≡ None → pending (rec.Raised n badge ∷ R) n ≡ Some badge.0
@@ -51,7 +69,7 @@ raised-word R n badge none =
 -- a signal
 pub firm-signal : (n : ObjId) (badge : Badge) (R : Log) → IsThere R kind.Notification n → badge.0 < 2 ^ 64 → Firm R → Firm (onto (signal n badge R) R)
 unfolding signal
-firm-signal n badge R there small firm = go (pending R n) refl
+firm-signal n badge R there small firm = then-next Firm (say (rec.Raised n badge)) (reach R n badge.0 (pending R n)) R (go (pending R n) refl)
   where
     S : Log
     S = rec.Raised n badge ∷ R
@@ -59,13 +77,13 @@ firm-signal n badge R there small firm = go (pending R n) refl
     raised : Firm S
     raised = (((there, small), tt), firm)
 
-    hears : (b : Option ObjId) → tied_to R n ≡ b → (q : Option Queue) → queue_of_any R b ≡ q → (w : Option ObjId) → ((x : ObjId) → w ≡ Some x → queue_of R x ≡ Some (Waiters n)) → pending R n ≡ None → Firm (onto (hearer n b q w badge.0) S)
+    hears : (b : Option ObjId) → tied_to R n ≡ b → (q : Option Queue) → queue_of_any R b ≡ q → (w : Option ObjId) → ((x : ObjId) → w ≡ Some x → queue_of R x ≡ Some (Waiters n)) → pending R n ≡ None → Firm (onto (hearer n b q w badge.0 S) S)
     hears b tied q at w waits none = at_place b tied q at w waits
       where
-        waiter : (x : ObjId) → queue_of R x ≡ Some (Waiters n) → Firm (onto (wake n x (Waiters n) badge.0) S)
+        waiter : (x : ObjId) → queue_of R x ≡ Some (Waiters n) → Firm (onto (wake n x (Waiters n) badge.0 S) S)
         waiter x stands = firm-wake S n x (Waiters n) badge.0 stands (raised-word R n badge none) (λ u bound. waiter-bound R x n u firm stands bound) raised
 
-        at_place : (b : Option ObjId) → tied_to R n ≡ b → (q : Option Queue) → queue_of_any R b ≡ q → (w : Option ObjId) → ((x : ObjId) → w ≡ Some x → queue_of R x ≡ Some (Waiters n)) → Firm (onto (hearer n b q w badge.0) S)
+        at_place : (b : Option ObjId) → tied_to R n ≡ b → (q : Option Queue) → queue_of_any R b ≡ q → (w : Option ObjId) → ((x : ObjId) → w ≡ Some x → queue_of R x ≡ Some (Waiters n)) → Firm (onto (hearer n b q w badge.0 S) S)
         at_place (Some x) tied (Some (Receivers e)) at w waits = firm-wake S n x (Receivers e) badge.0 at (raised-word R n badge none) (λ u bound. bound-one R u x n (firm-sound R firm) bound (tied-bound R n x tied)) raised
         at_place None tied q at (Some x) waits = waiter x (waits x refl)
         at_place None tied q at None waits = raised
@@ -76,7 +94,7 @@ firm-signal n badge R there small firm = go (pending R n) refl
         at_place (Some y) tied (Some (Waiters e)) at (Some x) waits = waiter x (waits x refl)
         at_place (Some y) tied (Some (Waiters e)) at None waits = raised
 
-    go : (o : Option ℕ) → pending R n ≡ o → Firm (onto (reach R n badge.0 o) S)
+    go : (o : Option ℕ) → pending R n ≡ o → Firm (onto (reach R n badge.0 o S) S)
     go (Some old) is = raised
     go None is = hears (tied_to R n) refl (queue_of_any R (tied_to R n)) refl (first_in R (Waiters n)) (λ x first. first-stands R (Waiters n) x first) is
 
@@ -103,6 +121,7 @@ firm-settle how.Plain x p r goes_on R caller idle taker free on firm = on
 firm-settle how.Call x p (Some r) goes_on R caller idle taker free on firm = let f = free r refl in firm-owe r x p R f.0 f.1 caller idle taker firm
 firm-settle how.Call x p None goes_on R caller idle taker free on firm = (((caller, idle), tt), firm)
 firm-settle how.Mute x p r goes_on R caller idle taker free on firm = (((caller, idle), tt), firm)
+firm-settle how.Give x p r goes_on R caller idle taker free on firm = firm-give x p R taker firm
 
 -- p is idle, and there
 pub record IsReady (p : ObjId) (R : Log) : Type 0 where
@@ -111,8 +130,14 @@ pub record IsReady (p : ObjId) (R : Log) : Type 0 where
 
 -- it stays so while it takes the message of another
 pub settle-ready : (mode : SendMode) (x p : ObjId) (r : Option ObjId) (R : Log) → x ≢ p → IsReady p R → IsReady p (onto (settle mode x p r nothing R) R)
-unfolding owe
+unfolding owe give give_back
 settle-ready how.Plain x p r R ne h = h
+settle-ready how.Give x p r R ne h = go (context_of R x) (context_of R p)
+  where
+    go : (c d : Option ObjId) → IsReady p (onto (back_to p c d) R)
+    go (Some s) None = record { there = h.there; idle = h.idle }
+    go (Some s) (Some d) = h
+    go None d = h
 settle-ready how.Call x p None R ne h = record { there = h.there; idle = h.idle }
 settle-ready how.Mute x p r R ne h = record { there = h.there; idle = h.idle }
 settle-ready how.Call x p (Some r) R ne h = go (context_of R p) (context_of R x)
@@ -216,3 +241,65 @@ firm-taken R s t r unsettled alive first at taker free firm = then-next Firm (to
     settled = firm-settle s.mode s.sender t r (say (rec.Turns s.sender Running)) U there idle taker
         (λ d is. let f : IsThere R kind.Reply d × IsFreeReply R d = free d is in (f.0, (f.1.0, λ y e at' with'. f.1.1 y e ((left-queue R s.sender y (Senders s.endpoint) (Receivers e) at').1) with')))
         (((there, idle), tt), firm2) firm2
+
+-- what the records of a signal leave as it is, and those of a message that is sent with its sender's context and handed over
+pub record OutlastsSend (F : Log → Type 0) : Type 0 where
+  pub raised : (R : Log) (n : ObjId) (badge : Badge) → F R → F (rec.Raised n badge ∷ R)
+  pub heard : (R : Log) (x n : ObjId) (word : ℕ) → F R → F (rec.Heard x n word ∷ R)
+  pub parts : (R : Log) (x : ObjId) (q : Queue) → F R → F (rec.Parts x q ∷ R)
+  pub turns : (R : Log) (x : ObjId) → F R → F (rec.Turns x Running ∷ R)
+  pub holds : (R : Log) (s x : ObjId) → F R → F (rec.Holds s (Some x) ∷ R)
+  pub sends : (R : Log) (s : Letter) → F R → F (sent_record s ∷ R)
+  pub took : (R : Log) (m : ℕ) (p : ObjId) → F R → F (rec.Took m p ∷ R)
+
+-- what outlasts them
+module _ (F : Log → Type 0) (f : OutlastsSend F) where
+  -- a context passes to x
+  outlasts-back : (s : Option ObjId) (x : ObjId) (R : Log) → F R → F (onto (give_back s x R) R)
+  unfolding give_back
+  outlasts-back s x R h = go s (context_of R x)
+    where
+      go : (s o : Option ObjId) → F (onto (back_to x s o) R)
+      go (Some c) None = f.holds R c x h
+      go (Some c) (Some d) = h
+      go None o = h
+
+  -- x wakes
+  outlasts-wake : (n x : ObjId) (q : Queue) (word : ℕ) (R : Log) → F R → F (onto (wake n x q word R) R)
+  unfolding wake ◌then◌
+  outlasts-wake n x q word R h = outlasts-back (spare_at R n) x (rec.Turns x Running ∷ rec.Parts x q ∷ rec.Heard x n word ∷ R) (f.turns _ x (f.parts _ x q (f.heard R x n word h)))
+
+  -- a word reaches somebody
+  outlasts-hearer : (n : ObjId) (b : Option ObjId) (q : Option Queue) (w : Option ObjId) (word : ℕ) (R : Log) → F R → F (onto (hearer n b q w word R) R)
+  outlasts-hearer n (Some x) (Some (Receivers e)) w word R h = outlasts-wake n x (Receivers e) word R h
+  outlasts-hearer n None q (Some x) word R h = outlasts-wake n x (Waiters n) word R h
+  outlasts-hearer n None q None word R h = h
+  outlasts-hearer n (Some y) None (Some x) word R h = outlasts-wake n x (Waiters n) word R h
+  outlasts-hearer n (Some y) None None word R h = h
+  outlasts-hearer n (Some y) (Some (Senders e)) (Some x) word R h = outlasts-wake n x (Waiters n) word R h
+  outlasts-hearer n (Some y) (Some (Senders e)) None word R h = h
+  outlasts-hearer n (Some y) (Some (Waiters e)) (Some x) word R h = outlasts-wake n x (Waiters n) word R h
+  outlasts-hearer n (Some y) (Some (Waiters e)) None word R h = h
+
+  -- a signal
+  pub outlasts-signal : (n : ObjId) (badge : Badge) (R : Log) → F R → F (onto (signal n badge R) R)
+  unfolding signal
+  outlasts-signal n badge R h = then-next F (say (rec.Raised n badge)) (reach R n badge.0 (pending R n)) R (go (pending R n))
+    where
+      go : (o : Option ℕ) → F (onto (reach R n badge.0 o (rec.Raised n badge ∷ R)) (rec.Raised n badge ∷ R))
+      go (Some old) = f.raised R n badge h
+      go None = outlasts-hearer n (tied_to R n) (queue_of_any R (tied_to R n)) (first_in R (Waiters n)) badge.0 (rec.Raised n badge ∷ R) (f.raised R n badge h)
+
+  -- a message is handed over with its sender's context
+  pub outlasts-handed : (s : Letter) (p : ObjId) (R : Log) → s.mode ≡ how.Give → F R → F (onto (handed s p R) R)
+  unfolding handed ◌then◌ give
+  outlasts-handed s p R gives h =
+      let U : Log = rec.Parts p (Receivers s.endpoint) ∷ rec.Took s.number p ∷ R in
+      then-next F (say (rec.Took s.number p) then say (rec.Parts p (Receivers s.endpoint)) then settle s.mode s.sender p (reply_with R p) nothing) (say (rec.Turns p Running)) R
+      (f.turns _ p (then-next F (say (rec.Took s.number p) then say (rec.Parts p (Receivers s.endpoint))) (settle s.mode s.sender p (reply_with R p) nothing) R (go U s.mode gives (f.parts _ p (Receivers s.endpoint) (f.took R s.number p h)))))
+    where
+      go : (U : Log) (mode : SendMode) → mode ≡ how.Give → F U → F (onto (settle mode s.sender p (reply_with R p) nothing U) U)
+      go U how.Give is k = outlasts-back (context_of U s.sender) p U k
+      go U how.Plain is k = absurd cc
+      go U how.Call is k = absurd cc
+      go U how.Mute is k = absurd cc

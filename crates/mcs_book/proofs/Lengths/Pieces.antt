@@ -27,9 +27,9 @@ use Rattle.mcs_book.specs.Replies.{owed_by, owing, receiver_with, user_of}
 use Rattle.mcs_book.specs.Chains.{topped_by}
 use Rattle.mcs_book.specs.Notifications.{bound_of, tied_to, pending}
 use Rattle.mcs_book.specs.Pieces.{Piece, ◌then◌, nothing, say, with_any, for_each}
-use Rattle.mcs_book.specs.Taking.{debt, owe, settle, handed, taken, back_to, give_back, pay}
-use Rattle.mcs_book.specs.Signalling.{queue_of_any, hearer, reach, signal}
-use Rattle.mcs_book.specs.Cancelling.{drop_message, leave, cancel, cancel_all, unbind, void_deleted, release, destroy}
+use Rattle.mcs_book.specs.Taking.{debt, owe, back_to, give_back, give, settle, handed, taken, pay}
+use Rattle.mcs_book.specs.Signalling.{queue_of_any, spare_at, wake, hearer, reach, signal}
+use Rattle.mcs_book.specs.Cancelling.{drop_message, leave, cancel, cancel_all, let_go, unbind, void_deleted, release, destroy}
 use Rattle.mcs_book.specs.Receiving.{free}
 use Rattle.mcs_book.specs.Placing.{destroy_last}
 use Rattle.mcs_book.specs.Table.{wakes}
@@ -91,11 +91,6 @@ module _ (T : List ObjId) where
   few-each [] p h = few-nothing
   few-each (x ∷ xs) p h = few-within (3 + 3 * length xs) (3 * suc (length xs)) (p x then for_each xs p) (omega arith) (few-then 3 (3 * length xs) (p x) (for_each xs p) (h x) (few-each xs p h))
 
-  -- a context is homed nowhere and held by nobody
-  pub few-unbind : (s : ObjId) → Few 2 (unbind s)
-  unfolding unbind
-  few-unbind s = record { at = λ S is. (few-then 1 1 _ _ (few-any 1 (home_of S s) _ (λ n. few-say (rec.Homed s None) (λ S. refl))) (few-any 1 (holder_of S s) _ (λ t. few-say (rec.Holds s None) (λ S. refl)))).at S is }
-
   -- a debt, and the context that is brought
   few-owe : (r x p : ObjId) → Few 2 (owe r x p)
   unfolding owe
@@ -107,11 +102,36 @@ module _ (T : List ObjId) where
       go S is (Some s) None = record { few = omega arith; threads_same = is }
       go S is (Some s) (Some s') = record { few = omega arith; threads_same = is }
 
+  -- a context passes to x
+  few-back : (s : Option ObjId) (x : ObjId) → Few 1 (give_back s x)
+  unfolding give_back
+  few-back s x = record { at = λ S is. go S is s (context_of S x) }
+    where
+      go : (S : Log) → threads S ≡ T → (o o' : Option ObjId) → FewRecords 1 S (back_to x o o')
+      go S is (Some s) None = record { few = omega arith; threads_same = is }
+      go S is None o = record { few = omega arith; threads_same = is }
+      go S is (Some s) (Some s') = record { few = omega arith; threads_same = is }
+
+  -- the context of x passes to p
+  few-give : (x p : ObjId) → Few 1 (give x p)
+  unfolding give
+  few-give x p = record { at = λ S is. (few-back (context_of S x) p).at S is }
+
+  -- a context is let go
+  pub few-let_go : (s : Option ObjId) → Few 1 (let_go s)
+  few-let_go s = few-any 1 s _ (λ c. few-say (rec.Holds c None) (λ S. refl))
+
+  -- a context is homed nowhere and held by nobody
+  pub few-unbind : (s : ObjId) → Few 2 (unbind s)
+  unfolding unbind
+  few-unbind s = record { at = λ S is. (few-then 1 1 _ _ (few-any 1 (home_of S s) _ (λ n. few-say (rec.Homed s None) (λ S. refl))) (few-any 1 (holder_of S s) _ (λ t. few-say (rec.Holds s None) (λ S. refl)))).at S is }
+
   -- what becomes of a sender
   few-settle : (mode : SendMode) (x p : ObjId) (r : Option ObjId) (goes_on : Piece) → Few 1 goes_on → Few 2 (settle mode x p r goes_on)
   few-settle how.Plain x p r goes_on h = few-within 1 2 goes_on (omega arith) h
   few-settle how.Call x p (Some r) goes_on h = few-owe r x p
   few-settle how.Call x p None goes_on h = few-within 1 2 (say (rec.Turns x Inactive)) (omega arith) (few-say (rec.Turns x Inactive) (λ S. refl))
+  few-settle how.Give x p r goes_on h = few-within 1 2 (give x p) (omega arith) (few-give x p)
   few-settle how.Mute x p r goes_on h = few-within 1 2 (say (rec.Turns x Inactive)) (omega arith) (few-say (rec.Turns x Inactive) (λ S. refl))
 
   -- a message just sent is handed over
@@ -127,16 +147,6 @@ module _ (T : List ObjId) where
   unfolding taken
   few-taken s p r = few-then 2 2 _ _ (few-then 1 1 _ _ (few-say (rec.Took s.number p) (λ S. refl)) (few-say (rec.Parts s.sender (Senders s.endpoint)) (λ S. refl)))
       (few-settle s.mode s.sender p r (say (rec.Turns s.sender Running)) (few-say (rec.Turns s.sender Running) (λ S. refl)))
-
-  -- a context returns
-  few-back : (s : Option ObjId) (x : ObjId) → Few 1 (give_back s x)
-  unfolding give_back
-  few-back s x = record { at = λ S is. go S is s (context_of S x) }
-    where
-      go : (S : Log) → threads S ≡ T → (o o' : Option ObjId) → FewRecords 1 S (back_to x o o')
-      go S is (Some s) None = record { few = omega arith; threads_same = is }
-      go S is None o = record { few = omega arith; threads_same = is }
-      go S is (Some s) (Some s') = record { few = omega arith; threads_same = is }
 
   -- a caller is answered
   pub few-pay : (r : ObjId) (message : Content) → Few 3 (pay r message)
@@ -174,25 +184,35 @@ module _ (T : List ObjId) where
   few-wakes Running t = few-within 0 1 nothing (omega arith) few-nothing
   few-wakes Inactive t = few-within 0 1 nothing (omega arith) few-nothing
 
-  -- a signal
-  pub few-signal : (n : ObjId) (badge : Badge) → Few 4 (signal n badge)
-  unfolding signal
-  few-signal n badge = record { at = λ S is. let h : FewRecords 3 (rec.Raised n badge ∷ S) (reach S n badge.0 (pending S n)) = go S is (pending S n) in let le : length (reach S n badge.0 (pending S n)) ≤ 3 = h.few in record { few = omega (arith, le); threads_same = h.threads_same } }
-    where
-      heard : (S : Log) → threads S ≡ T → (o : Option ObjId) (q : Option Queue) (w : Option ObjId) → FewRecords 3 (rec.Raised n badge ∷ S) (hearer n o q w badge.0)
-      heard S is (Some x) (Some (Receivers e)) w = record { few = omega arith; threads_same = is }
-      heard S is None q (Some x) = record { few = omega arith; threads_same = is }
-      heard S is None q None = record { few = omega arith; threads_same = is }
-      heard S is (Some y) None (Some x) = record { few = omega arith; threads_same = is }
-      heard S is (Some y) None None = record { few = omega arith; threads_same = is }
-      heard S is (Some y) (Some (Senders e)) (Some x) = record { few = omega arith; threads_same = is }
-      heard S is (Some y) (Some (Senders e)) None = record { few = omega arith; threads_same = is }
-      heard S is (Some y) (Some (Waiters e)) (Some x) = record { few = omega arith; threads_same = is }
-      heard S is (Some y) (Some (Waiters e)) None = record { few = omega arith; threads_same = is }
+  -- who hears a word wakes
+  few-wake : (n x : ObjId) (q : Queue) (word : ℕ) → Few 4 (wake n x q word)
+  unfolding wake
+  few-wake n x q word = record {
+    at = λ S is. (few-then 3 1 _ _ (few-then 2 1 _ _ (few-then 1 1 _ _ (few-say (rec.Heard x n word) (λ S. refl)) (few-say (rec.Parts x q) (λ S. refl))) (few-say (rec.Turns x Running) (λ S. refl))) (few-back (spare_at S n) x)).at S is;
+  }
 
-      go : (S : Log) → threads S ≡ T → (o : Option ℕ) → FewRecords 3 (rec.Raised n badge ∷ S) (reach S n badge.0 o)
-      go S is (Some old) = record { few = omega arith; threads_same = is }
-      go S is None = heard S is (tied_to S n) (queue_of_any S (tied_to S n)) (first_in S (Waiters n))
+  -- a signal
+  pub few-signal : (n : ObjId) (badge : Badge) → Few 5 (signal n badge)
+  unfolding signal
+  few-signal n badge = record { at = λ S is. (few-then 1 4 (say (rec.Raised n badge)) (reach S n badge.0 (pending S n)) (few-say (rec.Raised n badge) (λ S. refl)) (go S (pending S n))).at S is }
+    where
+      none : Few 4 nothing
+      none = few-within 0 4 nothing (omega arith) few-nothing
+
+      heard : (o : Option ObjId) (q : Option Queue) (w : Option ObjId) → Few 4 (hearer n o q w badge.0)
+      heard (Some x) (Some (Receivers e)) w = few-wake n x (Receivers e) badge.0
+      heard None q (Some x) = few-wake n x (Waiters n) badge.0
+      heard None q None = none
+      heard (Some y) None (Some x) = few-wake n x (Waiters n) badge.0
+      heard (Some y) None None = none
+      heard (Some y) (Some (Senders e)) (Some x) = few-wake n x (Waiters n) badge.0
+      heard (Some y) (Some (Senders e)) None = none
+      heard (Some y) (Some (Waiters e)) (Some x) = few-wake n x (Waiters n) badge.0
+      heard (Some y) (Some (Waiters e)) None = none
+
+      go : (S : Log) (o : Option ℕ) → Few 4 (reach S n badge.0 o)
+      go S (Some old) = none
+      go S None = heard (tied_to S n) (queue_of_any S (tied_to S n)) (first_in S (Waiters n))
 
   -- a deleted reply object owes nobody any more
   few-void : (r : ObjId) → Few 3 (void_deleted r)

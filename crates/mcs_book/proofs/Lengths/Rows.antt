@@ -19,7 +19,7 @@ use Rattle.mcs_book.specs.Queues.{first_in}
 use Rattle.mcs_book.specs.Checks.{Checked}
 use Rattle.mcs_book.specs.Pieces.{Piece, ◌then◌, say, with_any, Act, answers, before}
 use Rattle.mcs_book.specs.Taking.{handed}
-use Rattle.mcs_book.specs.Receiving.{joins_or, hear, take_open, receive_message, receive_on, free, wait_on, receive_by, receive_over, pay_any}
+use Rattle.mcs_book.specs.Receiving.{if_at_home, go_home, stand, send_receive, joins_or, hear, take_open, receive_message, receive_on, free, wait_on, receive_by, receive_over, pay_any}
 use Rattle.std.specs.Prelude.{ℕ, true, false, ◌≡◌, List, ◌∷◌, Option, Some, None, Ok, Err, refl}
 use Rattle.mcs_types.specs.declared.id.CoreId.{CoreId}
 use Rattle.mcs_types.specs.declared.id.Kind.TheVariants.{Endpoint, Notification, Reply, Context}
@@ -29,12 +29,12 @@ use Rattle.mcs_types.specs.declared.record.Form.{Form}
 use Rattle.mcs_types.specs.declared.record.Form.TheVariants as form
 use Rattle.mcs_types.specs.declared.entry.Answer.TheVariants.{Done, Waits}
 use Rattle.mcs_types.specs.declared.entry.Entry.{Entry}
-use Rattle.mcs_types.specs.declared.entry.Entry.TheVariants.{Send, NbSend, Call, Recv, NbRecv, Wait, NbWait, ReplyRecv, Signal, SetPriority, Suspend, Resume, BindNtfn, UnbindNtfn, BindCtx, UnbindCtx, CancelBadged, CopyCap, MintCap, MoveCap, DeleteCap, MakeEndpoint, MakeNotification, MakeReply, MakeContext}
+use Rattle.mcs_types.specs.declared.entry.Entry.TheVariants.{Send, NbSend, Call, Recv, NbRecv, Wait, NbWait, ReplyRecv, Signal, SetPriority, Suspend, Resume, BindNtfn, UnbindNtfn, BindCtx, UnbindCtx, CancelBadged, CopyCap, MintCap, MoveCap, DeleteCap, MakeEndpoint, MakeNotification, MakeReply, MakeContext, NbSendRecv, NbSendWait}
 use Rattle.mcs_book.specs.Slots.{SlotName}
 use Rattle.mcs_book.specs.Threads.{mode_of}
 use Rattle.mcs_book.specs.Checks.{Checked}
 use Rattle.mcs_book.specs.Rights.{call_mode}
-use Rattle.mcs_book.specs.Pieces.{◌then◌, nothing, say, Act, answers, before}
+use Rattle.mcs_book.specs.Pieces.{◌then◌, nothing, say, Act, answers, silently, before}
 use Rattle.mcs_book.specs.Cancelling.{cancel, cancel_all}
 use Rattle.mcs_book.specs.Receiving.{reply_receive}
 use Rattle.mcs_book.specs.Placing.{senders_with, delete, make}
@@ -51,8 +51,10 @@ use Rattle.mcs_book.specs.History.{Line, Book, past, AreLegal, IsLegal}
 use Rattle.mcs_book.specs.Each.{EachLineAfter, EachLine}
 use Rattle.mcs_book.specs.Limits.{threads_of, most_records, HasAtMost}
 use Rattle.mcs_book.proofs.Lengths.Queues.{badged-short}
-use Rattle.mcs_book.proofs.Lengths.Pieces.{FewRecords, Few, few-append, few-more, few-within, few-nothing, few-say, few-then, few-any, few-if, few-handed, few-taken, few-pay, few-cancel, few-cancel_all, few-free, few-wakes, few-signal, few-unbind, few-destroy_last}
+use Rattle.mcs_book.proofs.Lengths.Pieces.{FewRecords, Few, few-append, few-more, few-within, few-nothing, few-say, few-then, few-any, few-if, few-handed, few-taken, few-pay, few-cancel, few-cancel_all, few-free, few-wakes, few-signal, few-let_go, few-unbind, few-destroy_last}
 use Rattle.mcs_book.specs.Binding.{bind_by}
+use Rattle.mcs_book.specs.Contexts.{context_of}
+use Rattle.mcs_book.specs.Notifications.{bound_of}
 
 -- T are the threads that were made
 module _ (T : List ObjId) where
@@ -62,7 +64,7 @@ module _ (T : List ObjId) where
 
   -- an act of a row
   abbrev RowAct : Act → Type 0
-  RowAct = FewAct (3 * length T + 11)
+  RowAct = FewAct (3 * length T + 13)
 
   -- a piece, and then an act
   few-before : (m n : ℕ) (p : Piece) (act : Act) → Few T m p → FewAct n act → FewAct (m + n) (before p act)
@@ -74,8 +76,12 @@ module _ (T : List ObjId) where
   act-within m n act le h = record { at = λ S is. few-more T m n S ((act S).records) le (h.at S is) }
 
   -- an act that only makes a piece
-  act-piece : (n : ℕ) (a : Answer) (p : Piece) → n ≤ 3 * length T + 11 → Few T n p → OnPassed RowAct (Ok (answers a p))
-  act-piece n a p le h = passed-ok _ _ (record { at = λ S is. few-more T n (3 * length T + 11) S (p S) le (h.at S is) })
+  act-piece : (n : ℕ) (a : Answer) (p : Piece) → n ≤ 3 * length T + 13 → Few T n p → OnPassed RowAct (Ok (answers a p))
+  act-piece n a p le h = passed-ok _ _ (record { at = λ S is. few-more T n (3 * length T + 13) S (p S) le (h.at S is) })
+
+  -- the same of fewer
+  few-answers : (m n : ℕ) (a : Answer) (p : Piece) → m ≤ n → Few T m p → FewAct n (answers a p)
+  few-answers m n a p le h = record { at = λ S is. few-more T m n S (p S) le (h.at S is) }
 
   -- one record
   act-say : (r : Rec) → ((S : Log) → threads (r ∷ S) ≡ threads S) → OnPassed RowAct (Ok (answers Done (say r)))
@@ -96,20 +102,25 @@ module _ (T : List ObjId) where
       go S is (Some p) = (few-then T 1 5 (sent (letter_over t held mode message S)) (handed (letter_over t held mode message S) p) (few-say T _ (λ R. refl)) (few-handed T (letter_over t held mode message S) p)).at S is
 
   -- a send, by the kind of its capability
-  few-send_by : (k : Kind) (t : ObjId) (held : Cap) (message : Content) (alone : Act) → FewAct 2 alone → OnPassed RowAct (send_by k t held message alone)
+  few-send_by : (k : Kind) (mode : SendMode) (t : ObjId) (held : Cap) (message : Content) (alone : Act) → FewAct 2 alone → OnPassed (FewAct 6) (send_by k mode t held message alone)
   unfolding send_by
-  few-send_by Endpoint t held message alone h = passed-next _ _ _ (passed-ok _ _ (act-within 6 (3 * length T + 11) _ (omega arith) (few-sends t held how.Plain message Done alone h)))
-  few-send_by Notification t held message alone h = passed-next _ _ _ (act-piece 4 Done _ (omega arith) (few-signal T held.obj held.badge))
-  few-send_by Reply t held message alone h = act-piece 3 Done _ (omega arith) (few-pay T held.obj message)
-  few-send_by CNode t held message alone h = passed-err _ _
-  few-send_by Thread t held message alone h = passed-err _ _
-  few-send_by Context t held message alone h = passed-err _ _
+  few-send_by Endpoint mode t held message alone h = passed-next _ _ _ (passed-ok _ _ (few-sends t held mode message Done alone h))
+  few-send_by Notification mode t held message alone h = passed-next _ _ _ (passed-ok _ _ (few-answers 5 6 Done _ (omega arith) (few-signal T held.obj held.badge)))
+  few-send_by Reply mode t held message alone h = passed-ok _ _ (few-answers 3 6 Done _ (omega arith) (few-pay T held.obj message))
+  few-send_by CNode mode t held message alone h = passed-err _ _
+  few-send_by Thread mode t held message alone h = passed-err _ _
+  few-send_by Context mode t held message alone h = passed-err _ _
+
+  -- t may give up its context
+  few-go_home : (t : ObjId) (n : Option ObjId) → Few T 1 (go_home t n)
+  unfolding go_home
+  few-go_home t n = record { at = λ S is. (few-let_go T (if_at_home S n (context_of S t))).at S is }
 
   -- t joins a queue, or is answered at once
-  few-joins : (b : Bool) (t : ObjId) (q : Queue) (r : Option ObjId) (S : Log) → threads S ≡ T → FewRecords T 4 S ((joins_or b (rec.Joins t q r) S).records)
-  unfolding joins_or
-  few-joins true t q r S is = record { few = omega arith; threads_same = is }
-  few-joins false t q r S is = record { few = omega arith; threads_same = is }
+  few-joins : (b : Bool) (t : ObjId) (q : Queue) (r n : Option ObjId) (S : Log) → threads S ≡ T → FewRecords T 4 S ((joins_or b (stand t q r n) S).records)
+  unfolding joins_or stand
+  few-joins true t q r n S is = few-more T 2 4 S ((say (rec.Joins t q r) then go_home t n) S) (omega arith) ((few-then T 1 1 (say (rec.Joins t q r)) (go_home t n) (few-say T (rec.Joins t q r) (λ S. refl)) (few-go_home t n)).at S is)
+  few-joins false t q r n S is = record { few = omega arith; threads_same = is }
 
   -- a pending word comes first
   few-hear : (t : ObjId) (n : Option ObjId) (word : Option ℕ) (otherwise : Act) (S : Log) → threads S ≡ T → FewRecords T 4 S ((otherwise S).records) → FewRecords T 4 S ((hear t n word otherwise S).records)
@@ -127,7 +138,7 @@ module _ (T : List ObjId) where
   -- a receive
   few-receive_message : (t e : ObjId) (r : Option ObjId) (blocking : Bool) → FewAct 4 (receive_message t e r blocking)
   unfolding receive_message
-  few-receive_message t e r blocking = record { at = λ S is. few-hear t _ _ _ S is (few-take_open t r _ _ S is (few-joins blocking t (Receivers e) r S is)) }
+  few-receive_message t e r blocking = record { at = λ S is. few-hear t _ _ _ S is (few-take_open t r _ _ S is (few-joins blocking t (Receivers e) r (bound_of S t) S is)) }
 
   -- a receive with a reply object
   few-receive_on : (t e : ObjId) (r : Option ObjId) (blocking : Bool) → FewAct 7 (receive_on t e r blocking)
@@ -137,7 +148,7 @@ module _ (T : List ObjId) where
   -- a wait
   few-wait_on : (t n : ObjId) (blocking : Bool) → FewAct 4 (wait_on t n blocking)
   unfolding wait_on
-  few-wait_on t n blocking = record { at = λ S is. few-hear t _ _ _ S is (few-joins blocking t (Waiters n) None S is) }
+  few-wait_on t n blocking = record { at = λ S is. few-hear t _ _ _ S is (few-joins blocking t (Waiters n) None (Some n) S is) }
 
   -- a receive, by the kind of its source
   few-receive_by : (k : Kind) (R : Log) (t : ObjId) (held : Cap) (reply : Checked (Option ObjId)) (blocking : Bool) → OnPassed (FewAct 7) (receive_by k R t held reply blocking)
@@ -157,8 +168,30 @@ module _ (T : List ObjId) where
   -- a receive is a row's act
   row-receive : (m : Checked Act) → OnPassed (FewAct 7) m → OnPassed RowAct m
   unfolding OnPassed
-  row-receive (Ok act) h = act-within 7 (3 * length T + 11) act (omega arith) h
+  row-receive (Ok act) h = act-within 7 (3 * length T + 13) act (omega arith) h
   row-receive (Err refusal) h = tt
+
+  -- so is a send
+  row-send : (m : Checked Act) → OnPassed (FewAct 6) m → OnPassed RowAct m
+  unfolding OnPassed
+  row-send (Ok act) h = act-within 6 (3 * length T + 13) act (omega arith) h
+  row-send (Err refusal) h = tt
+
+  -- sends, and then receives
+  few-send_receive : (R : Log) (t : ObjId) (sending : Checked Act) (address : ℕ) (reply : Checked (Option ObjId)) → OnPassed (FewAct 6) sending → OnPassed RowAct (send_receive R t sending address reply)
+  unfolding send_receive
+  few-send_receive R t sending address reply h = passed-after (FewAct 6) RowAct sending _ h (λ send k. passed-bind _ _ _ (λ source.
+      passed-after (FewAct 7) RowAct _ _ (few-receive_over R t source reply true) (λ act later. passed-ok RowAct _ (act-within 13 (3 * length T + 13) _ (omega arith) (few-before 6 7 (silently send) act (record { at = λ S is. k.at S is }) later)))))
+
+  -- a context is bound, by the kind of what it is bound to
+  few-bind_by : (k : Kind) (R : Log) (s o : ObjId) → OnPassed RowAct (bind_by k R s o)
+  unfolding bind_by
+  few-bind_by Thread R s o = passed-next _ _ _ (act-say (rec.Holds s (Some o)) (λ S. refl))
+  few-bind_by Notification R s o = passed-next _ _ _ (act-say (rec.Homed s (Some o)) (λ S. refl))
+  few-bind_by CNode R s o = passed-err _ _
+  few-bind_by Endpoint R s o = passed-err _ _
+  few-bind_by Reply R s o = passed-err _ _
+  few-bind_by Context R s o = passed-err _ _
 
   -- an object of another kind than a thread is made
   few-make : (R : Log) (t : ObjId) (k : Kind) (rights : ℕ) (form : Form) (place : Place) → ((S : Log) → threads (rec.Made (next_id R k) form ∷ S) ≡ threads S) → OnPassed RowAct (make R t k rights form place)
@@ -172,30 +205,24 @@ module _ (T : List ObjId) where
   few-delete at None = act-piece 0 Done nothing (omega arith) (few-nothing T)
   few-delete at (Some held) = act-piece (1 + (3 * length T + 7)) Done _ (omega arith) (few-then T 1 (3 * length T + 7) _ _ (few-say T (rec.Slot at.cnode at.index None) (λ S. refl)) (few-destroy_last T held.obj))
 
-  -- a context is bound, by the kind of what it is bound to
-  few-bind_by : (k : Kind) (R : Log) (s o : ObjId) → OnPassed RowAct (bind_by k R s o)
-  unfolding bind_by
-  few-bind_by Thread R s o = passed-next _ _ _ (act-say (rec.Holds s (Some o)) (λ S. refl))
-  few-bind_by Notification R s o = passed-next _ _ _ (act-say (rec.Homed s (Some o)) (λ S. refl))
-  few-bind_by CNode R s o = passed-err _ _
-  few-bind_by Endpoint R s o = passed-err _ _
-  few-bind_by Reply R s o = passed-err _ _
-  few-bind_by Context R s o = passed-err _ _
+  -- nothing is done where nobody receives
+  few-alone : FewAct 2 (answers Done nothing)
+  few-alone = record { at = λ S same. record { few = omega arith; threads_same = same } }
 
   -- what each row does, where its checks are passed
   few-row : (R : Log) (core : CoreId) (t : ObjId) (entry : Entry) → threads R ≡ T → OnPassed RowAct (row R core t entry)
   unfolding row send_over reply_receive
-  few-row R core t (Send a message) is = passed-bind _ _ _ (λ held. few-send_by held.obj.kind t held message _ (few-queues t held how.Plain message))
-  few-row R core t (NbSend a message) is = passed-bind _ _ _ (λ held. few-send_by held.obj.kind t held message _ (record { at = λ S same. record { few = omega arith; threads_same = same } }))
-  few-row R core t (Call a message) is = passed-bind _ _ _ (λ held. passed-next _ _ _ (passed-ok _ _ (act-within 6 (3 * length T + 11) _ (omega arith) (few-sends t held (call_mode held) message Waits _ (few-queues t held (call_mode held) message)))))
+  few-row R core t (Send a message) is = passed-bind _ _ _ (λ held. row-send _ (few-send_by held.obj.kind how.Plain t held message _ (few-queues t held how.Plain message)))
+  few-row R core t (NbSend a message) is = passed-bind _ _ _ (λ held. row-send _ (few-send_by held.obj.kind how.Plain t held message _ few-alone))
+  few-row R core t (Call a message) is = passed-bind _ _ _ (λ held. passed-next _ _ _ (passed-ok _ _ (act-within 6 (3 * length T + 13) _ (omega arith) (few-sends t held (call_mode held) message Waits _ (few-queues t held (call_mode held) message)))))
   few-row R core t (Recv a r) is = passed-bind _ _ _ (λ held. row-receive _ (few-receive_over R t held _ true))
   few-row R core t (NbRecv a r) is = passed-bind _ _ _ (λ held. row-receive _ (few-receive_over R t held _ false))
   few-row R core t (Wait a) is = passed-bind _ _ _ (λ held. row-receive _ (few-receive_over R t held _ true))
   few-row R core t (NbWait a) is = passed-bind _ _ _ (λ held. row-receive _ (few-receive_over R t held _ false))
   few-row R core t (ReplyRecv a r message) is =
       passed-bind _ _ _ (λ held. passed-next _ _ _ (passed-next _ _ _ (passed-bind _ _ _ (λ o.
-      passed-after (FewAct 7) _ _ _ (few-receive_over R t held (Ok o) true) (λ act k. passed-ok _ _ (act-within 10 (3 * length T + 11) _ (omega arith) (few-before 3 7 (pay_any o message) act (few-any T 3 o _ (λ r. few-pay T r message)) k)))))))
-  few-row R core t (Signal a) is = passed-bind _ _ _ (λ held. passed-next _ _ _ (act-piece 4 Done _ (omega arith) (few-signal T held.obj held.badge)))
+      passed-after (FewAct 7) _ _ _ (few-receive_over R t held (Ok o) true) (λ act k. passed-ok _ _ (act-within 10 (3 * length T + 13) _ (omega arith) (few-before 3 7 (pay_any o message) act (few-any T 3 o _ (λ r. few-pay T r message)) k)))))))
+  few-row R core t (Signal a) is = passed-bind _ _ _ (λ held. passed-next _ _ _ (act-piece 5 Done _ (omega arith) (few-signal T held.obj held.badge)))
   few-row R core t (SetPriority x authority p) is = passed-bind _ _ _ (λ thread. passed-bind _ _ _ (λ giver. passed-next _ _ _ (act-say (rec.Prio thread.obj p) (λ S. refl))))
   few-row R core t (Suspend x) is = passed-bind _ _ _ (λ thread. act-piece 3 Done _ (omega arith) (few-cancel T thread.obj Inactive))
   few-row R core t (Resume x) is = passed-bind _ _ _ (λ thread. act-piece 3 Done _ (omega arith) (few-if T 3 _ nothing (cancel thread.obj Restart) (few-within T 0 3 nothing (omega arith) (few-nothing T)) (few-cancel T thread.obj Restart)))
@@ -203,6 +230,8 @@ module _ (T : List ObjId) where
   few-row R core t (UnbindNtfn x) is = passed-bind _ _ _ (λ thread. passed-next _ _ _ (act-say (rec.Tied thread.obj None) (λ S. refl)))
   few-row R core t (BindCtx s x) is = passed-bind _ _ _ (λ context. passed-bind _ _ _ (λ target. few-bind_by target.obj.kind R context.obj target.obj))
   few-row R core t (UnbindCtx s) is = passed-bind _ _ _ (λ context. passed-next _ _ _ (act-piece 2 Done _ (omega arith) (few-unbind T context.obj)))
+  few-row R core t (NbSendRecv a source r message) is = few-send_receive R t _ source _ (passed-bind _ _ _ (λ held. few-send_by held.obj.kind how.Give t held message _ few-alone))
+  few-row R core t (NbSendWait a source message) is = few-send_receive R t _ source _ (passed-bind _ _ _ (λ held. few-send_by held.obj.kind how.Give t held message _ few-alone))
   few-row R core t (CancelBadged a) is =
       passed-bind _ _ _ (λ held. passed-next _ _ _ (
       let xs : List ObjId = senders_with R held.obj held.badge.0 in
@@ -224,7 +253,7 @@ module _ (T : List ObjId) where
   few-does R core t entry is = go (row R core t entry) (few-row R core t entry is)
     where
       go : (m : Checked Act) → OnPassed RowAct m → FewRecords T (4 * length T + 32) R ((outcome_of R t m).records)
-      go (Ok act) k = (act-within (1 + (3 * length T + 11)) (4 * length T + 32) _ (omega arith) (few-before 1 (3 * length T + 11) (wakes (mode_of R t) t) act (few-wakes T (mode_of R t) t) k)).at R is
+      go (Ok act) k = (act-within (1 + (3 * length T + 13)) (4 * length T + 32) _ (omega arith) (few-before 1 (3 * length T + 13) (wakes (mode_of R t) t) act (few-wakes T (mode_of R t) t) k)).at R is
       go (Err refusal) k = record { few = omega arith; threads_same = is }
 
 -- the law: an entry makes no more records than its bound

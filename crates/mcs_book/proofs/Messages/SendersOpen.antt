@@ -37,7 +37,7 @@ pub record Opened (R : Log) : Type 0 where
   pub one : (x e e' : ObjId) (m n : ℕ) → IsOpenOf R x e m → IsOpenOf R x e' n → m ≡ n
 
 -- a message that is open after a record which sends none was open before, and the record does not settle it
-open-back : (R : Log) (r : Rec) (x e : ObjId) (m : ℕ) → letters (r ∷ R) ≡ letters R → IsOpenOf (r ∷ R) x e m → (settles m r ≡ false) × IsOpenOf R x e m
+pub open-back : (R : Log) (r : Rec) (x e : ObjId) (m : ℕ) → letters (r ∷ R) ≡ letters R → IsOpenOf (r ∷ R) x e m → (settles m r ≡ false) × IsOpenOf R x e m
 open-back R r x e m same_letters h =
     let same_letter : letter (r ∷ R) m ≡ letter R m = ap (λ ls. find (λ s. s.number == m) ls) same_letters in
     let p : (is_some (letter (r ∷ R) m) ≡ true) × (not (settles m r || list_any (settles m) R) ≡ true) = parts _ _ h.is_open in
@@ -49,7 +49,7 @@ open-back R r x e m same_letters h =
     neither false b k = (refl, k)
 
 -- a message that is open after one is sent is that one, or was open before
-open-sent_back : (R : Log) (s : Letter) (x e : ObjId) (m : ℕ) → IsOpenOf (sent_record s ∷ R) x e m → ((m ≡ next_message R) × (x ≡ s.sender) × (e ≡ s.endpoint)) ⊎ IsOpenOf R x e m
+pub open-sent_back : (R : Log) (s : Letter) (x e : ObjId) (m : ℕ) → IsOpenOf (sent_record s ∷ R) x e m → ((m ≡ next_message R) × (x ≡ s.sender) × (e ≡ s.endpoint)) ⊎ IsOpenOf R x e m
 open-sent_back R s x e m h = go (next_message R == m) refl h.is_letter p.0
   where
     new : Letter
@@ -162,7 +162,7 @@ module _ (t : ObjId) where
   }
 
   -- a message is handed to p, who stood among the receivers
-  idle-hands : (R : Log) (s : Letter) (p : ObjId) → s.number ≡ next_message R → s.sender ≡ t → first_in R (Receivers s.endpoint) ≡ Some p → Idle t R → Idle t (rec.Parts p (Receivers s.endpoint) ∷ rec.Took s.number p ∷ sent_record s ∷ R)
+  pub idle-hands : (R : Log) (s : Letter) (p : ObjId) → s.number ≡ next_message R → s.sender ≡ t → first_in R (Receivers s.endpoint) ≡ Some p → Idle t R → Idle t (rec.Parts p (Receivers s.endpoint) ∷ rec.Took s.number p ∷ sent_record s ∷ R)
   idle-hands R s p number sender first h = record {
     beside = (beside-entering t).hands R s p number sender first h.beside;
     opened = opened-parts (rec.Took s.number p ∷ sent_record s ∷ R) p (Receivers s.endpoint) (λ e m o. other-none R p (Some (Receivers s.endpoint)) h.opened (first-stands R (Receivers s.endpoint) p first) (λ e' k. absurd cc) e m (back p e m o))
@@ -213,6 +213,7 @@ module _ (t : ObjId) where
     sends_alone = idle-alone;
     receives = λ R e r none h. idle-joins R (Receivers e) r ((beside-entering t).receives R e r none h.beside) h;
     waits = λ R n h. idle-joins R (Waiters n) None ((beside-entering t).waits R n h.beside) h;
+    gives_up = λ R s h. record { beside = (beside-entering t).gives_up R s h.beside; opened = opened-still R (rec.Holds s None) refl (λ y. refl) h.opened };
   }
 
 -- what holds between lines

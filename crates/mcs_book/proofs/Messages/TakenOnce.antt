@@ -42,6 +42,7 @@ ends-entering t = record {
   sends_alone = λ R s number sender none h. (tt, (tt, h));
   receives = λ R e r none h. (tt, h);
   waits = λ R n h. (tt, h);
+  gives_up = λ R s h. (tt, h);
 }
 
 -- each entry keeps it

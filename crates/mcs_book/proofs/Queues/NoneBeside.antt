@@ -269,6 +269,7 @@ module _ (t : ObjId) where
     sends_alone = beside-alone;
     receives = beside-receives;
     waits = λ R n h. beside-joins R (Waiters n) None h (λ e is. absurd cc) (λ e is. absurd cc);
+    gives_up = λ R s h. beside-aside R (rec.Holds s None) refl h;
   }
 
   -- each entry of t keeps it

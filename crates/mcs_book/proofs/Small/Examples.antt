@@ -286,6 +286,33 @@ pub last_cnode : outcomes ((book_of nested_cnodes (by 1 (do_.DeleteCap (at_depth
 unfolding computing
 last_cnode = refl
 
+-- a context that is homed at a notification goes to its hearer, who gives it up as it waits again: a plain message wakes without it
+pub homed_context : outcomes_of (by 2 (do_.BindNtfn 12 4) ∷ by 2 (do_.Recv 2 8) ∷ by 5 (do_.UnbindCtx 22) ∷ by 5 (do_.BindCtx 22 4) ∷ by 1 (do_.Signal 7) ∷ by 2 (do_.Recv 2 8)
+    ∷ by 5 (do_.BindCtx 22 12) ∷ by 1 (do_.Send 1 (message 1)) ∷ by 2 (do_.Recv 2 8) ∷ by 5 (do_.UnbindCtx 22) ∷ []) ≡
+    line Done (rec.Tied (t 2) (Some (n 1)) ∷ [])
+    ∷ a_receiver 2 1 1
+    ∷ line Done (rec.Holds (s 2) None ∷ [])
+    ∷ line Done (rec.Homed (s 2) (Some (n 1)) ∷ [])
+    ∷ line Done (rec.Raised (n 1) (badge 4) ∷ rec.Heard (t 2) (n 1) 4 ∷ rec.Parts (t 2) (Receivers (e 1)) ∷ rec.Turns (t 2) Running ∷ rec.Holds (s 2) (Some (t 2)) ∷ [])
+    ∷ line Waits (rec.Joins (t 2) (Receivers (e 1)) (Some (r 1)) ∷ rec.Holds (s 2) None ∷ [])
+    ∷ refused refusal.AlreadyBound
+    ∷ line Done (rec.Sent (t 1) (e 1) how.Plain (badge 9) (message 1) ∷ rec.Took 0 (t 2) ∷ rec.Parts (t 2) (Receivers (e 1)) ∷ rec.Turns (t 2) Running ∷ [])
+    ∷ line Done (rec.Homed (s 2) None ∷ [])
+    ∷ []
+unfolding computing
+homed_context = refl
+
+-- a message is sent with its sender's context, who then receives: all checks come first
+pub given_context : outcomes_of (by 2 (do_.Recv 2 8) ∷ by 5 (do_.UnbindCtx 22) ∷ by 1 (do_.NbSendRecv 2 1 9 (message 1)) ∷ by 1 (do_.NbSendRecv 2 3 9 (text 6 (1 ∷ []))) ∷ by 2 (do_.NbSendWait 3 2 (message 8)) ∷ []) ≡
+    a_receiver 2 1 1
+    ∷ line Done (rec.Holds (s 2) None ∷ [])
+    ∷ refused refusal.NoRight
+    ∷ line Waits (rec.Sent (t 1) (e 1) how.Give (badge 0) (text 6 (1 ∷ [])) ∷ rec.Took 0 (t 2) ∷ rec.Parts (t 2) (Receivers (e 1)) ∷ rec.Holds (s 1) (Some (t 2)) ∷ rec.Turns (t 2) Running ∷ rec.Joins (t 1) (Receivers (e 2)) (Some (r 2)) ∷ [])
+    ∷ line Waits (rec.Sent (t 2) (e 2) how.Give (badge 0) (message 8) ∷ rec.Took 1 (t 1) ∷ rec.Parts (t 1) (Receivers (e 2)) ∷ rec.Holds (s 1) (Some (t 1)) ∷ rec.Turns (t 1) Running ∷ rec.Joins (t 2) (Receivers (e 1)) None ∷ [])
+    ∷ []
+unfolding computing
+given_context = refl
+
 -- nothing is wrong with the boots
 pub five_threads_faultless : IsFaultless five_threads
 unfolding computing

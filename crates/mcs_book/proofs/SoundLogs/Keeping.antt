@@ -23,8 +23,8 @@ use Rattle.mcs_book.specs.Replies.{owed_by, owing, receiver_with}
 use Rattle.mcs_book.specs.Chains.{topped_by}
 use Rattle.mcs_book.specs.Notifications.{bound_of, tied_to, pending}
 use Rattle.mcs_book.specs.Pieces.{Piece, ◌then◌, nothing, say, with_any, for_each}
-use Rattle.mcs_book.specs.Taking.{debt, owe, settle, handed, taken, back_to, give_back, pay}
-use Rattle.mcs_book.specs.Signalling.{queue_of_any, wake, hearer, reach, signal}
+use Rattle.mcs_book.specs.Taking.{debt, owe, back_to, give_back, give, settle, handed, taken, pay}
+use Rattle.mcs_book.specs.Signalling.{queue_of_any, spare_at, wake, hearer, reach, signal}
 use Rattle.mcs_book.proofs.Queues.QueueLaws.{first-stands}
 use Rattle.mcs_book.specs.Cancelling.{drop_message, leave, cancel, cancel_all, untie, let_go, unhome, unbind, void_deleted, release, destroy}
 
@@ -110,14 +110,7 @@ module _ (J : Log → Type 0) (steps : Steps J) where
       go (Some s) None = steps.aside R _ refl h
       go (Some s) (Some s') = steps.aside R _ refl h
 
-  -- what becomes of a sender
-  keeps-settle : (mode : SendMode) (x p : ObjId) (r : Option ObjId) (goes_on : Piece) → Keeps J goes_on → Keeps J (settle mode x p r goes_on)
-  keeps-settle how.Plain x p r goes_on h = h
-  keeps-settle how.Call x p (Some r) goes_on h = keeps-owe r x p
-  keeps-settle how.Call x p None goes_on h = keeps-say _ refl
-  keeps-settle how.Mute x p r goes_on h = keeps-say _ refl
-
-  -- a context returns
+  -- a context passes to x
   keeps-back : (s : Option ObjId) (x : ObjId) → Keeps J (give_back s x)
   unfolding give_back
   keeps-back s x R h = go s (context_of R x)
@@ -126,6 +119,19 @@ module _ (J : Log → Type 0) (steps : Steps J) where
       go (Some s) None = steps.aside R _ refl h
       go None o = h
       go (Some s) (Some s') = h
+
+  -- the context of x passes to p
+  keeps-give : (x p : ObjId) → Keeps J (give x p)
+  unfolding give
+  keeps-give x p R h = keeps-back (context_of R x) p R h
+
+  -- what becomes of a sender
+  keeps-settle : (mode : SendMode) (x p : ObjId) (r : Option ObjId) (goes_on : Piece) → Keeps J goes_on → Keeps J (settle mode x p r goes_on)
+  keeps-settle how.Plain x p r goes_on h = h
+  keeps-settle how.Call x p (Some r) goes_on h = keeps-owe r x p
+  keeps-settle how.Call x p None goes_on h = keeps-say _ refl
+  keeps-settle how.Mute x p r goes_on h = keeps-say _ refl
+  keeps-settle how.Give x p r goes_on h = keeps-give x p
 
   -- a caller is answered
   pub keeps-pay : (r : ObjId) (message : Content) → Keeps J (pay r message)
@@ -166,18 +172,19 @@ module _ (J : Log → Type 0) (steps : Steps J) where
       then-at J _ _ R (then-next J (say (rec.Took s.number t)) (say (rec.Parts s.sender (Senders s.endpoint))) R h) (keeps-settle s.mode s.sender t r _ (keeps-say _ refl))
 
   -- x hears a word, and leaves its queue
-  keeps-wake : (R : Log) (n x : ObjId) (q : Queue) (word : ℕ) → J (rec.Parts x q ∷ rec.Heard x n word ∷ R) → J (onto (wake n x q word) R)
-  keeps-wake R n x q word h = steps.aside _ _ refl h
+  keeps-wake : (R : Log) (n x : ObjId) (q : Queue) (word : ℕ) → J (rec.Parts x q ∷ rec.Heard x n word ∷ R) → J (onto (wake n x q word R) R)
+  unfolding wake
+  keeps-wake R n x q word h = then-at J _ _ R (then-at J _ _ R (then-next J (say (rec.Heard x n word)) (say (rec.Parts x q)) R h) (keeps-say _ refl)) (keeps-back (spare_at R n) x)
 
   -- who hears a word stands where it is said to stand
   keeps-hearer : (R : Log) (n : ObjId) (bound : Option ObjId) (q : Option Queue) (waiter : Option ObjId) (word : ℕ)
-      → queue_of_any R bound ≡ q → ((x : ObjId) → waiter ≡ Some x → queue_of R x ≡ Some (Waiters n)) → J R → J (onto (hearer n bound q waiter word) R)
+      → queue_of_any R bound ≡ q → ((x : ObjId) → waiter ≡ Some x → queue_of R x ≡ Some (Waiters n)) → J R → J (onto (hearer n bound q waiter word R) R)
   keeps-hearer R n bound q waiter word at waits h = go bound q waiter at waits
     where
-      waiter_wakes : (x : ObjId) → queue_of R x ≡ Some (Waiters n) → J (onto (wake n x (Waiters n) word) R)
+      waiter_wakes : (x : ObjId) → queue_of R x ≡ Some (Waiters n) → J (onto (wake n x (Waiters n) word R) R)
       waiter_wakes x stands = keeps-wake R n x (Waiters n) word (steps.leaves_waiter _ n x stands (steps.aside R (rec.Heard x n word) refl h))
 
-      go : (o : Option ObjId) (q : Option Queue) (w : Option ObjId) → queue_of_any R o ≡ q → ((x : ObjId) → w ≡ Some x → queue_of R x ≡ Some (Waiters n)) → J (onto (hearer n o q w word) R)
+      go : (o : Option ObjId) (q : Option Queue) (w : Option ObjId) → queue_of_any R o ≡ q → ((x : ObjId) → w ≡ Some x → queue_of R x ≡ Some (Waiters n)) → J (onto (hearer n o q w word R) R)
       go (Some x) (Some (Receivers e)) w stands f = keeps-wake R n x (Receivers e) word (steps.leaves_receiver _ e x stands (steps.aside R (rec.Heard x n word) refl h))
       go None q (Some x) stands f = waiter_wakes x (f x refl)
       go None q None stands f = h
@@ -191,7 +198,7 @@ module _ (J : Log → Type 0) (steps : Steps J) where
   -- a signal
   pub keeps-signal : (n : ObjId) (badge : Badge) → Keeps J (signal n badge)
   unfolding signal
-  keeps-signal n badge R h = go (pending R n)
+  keeps-signal n badge R h = then-next J (say (rec.Raised n badge)) (reach R n badge.0 (pending R n)) R (go (pending R n))
     where
       raised : J (rec.Raised n badge ∷ R)
       raised = steps.aside R (rec.Raised n badge) refl h
@@ -200,7 +207,7 @@ module _ (J : Log → Type 0) (steps : Steps J) where
       standing None = refl
       standing (Some x) = refl
 
-      go : (o : Option ℕ) → J (onto (reach R n badge.0 o) (rec.Raised n badge ∷ R))
+      go : (o : Option ℕ) → J (onto (reach R n badge.0 o (rec.Raised n badge ∷ R)) (rec.Raised n badge ∷ R))
       go (Some old) = raised
       go None = keeps-hearer (rec.Raised n badge ∷ R) n (tied_to R n) _ (first_in R (Waiters n)) badge.0 (standing (tied_to R n)) (λ x first. first-stands R (Waiters n) x first) raised
 

@@ -14,13 +14,13 @@ use Rattle.mcs_types.specs.declared.record.SendMode.{SendMode}
 use Rattle.mcs_types.specs.declared.record.SendMode.TheVariants as how
 use Rattle.mcs_types.specs.declared.record.Mode.{Mode}
 use Rattle.mcs_types.specs.declared.record.Mode.TheVariants.{Running, Restart, Inactive}
+use Rattle.mcs_types.specs.declared.record.Queue.{Queue}
 use Rattle.mcs_types.specs.declared.record.Queue.TheVariants.{Senders, Receivers, Waiters}
-use Rattle.mcs_types.specs.declared.record.Rec.{Rec}
 use Rattle.mcs_types.specs.declared.record.Rec.TheVariants as rec
 use Rattle.mcs_types.specs.declared.entry.Answer.{Answer}
 use Rattle.mcs_types.specs.declared.entry.Answer.TheVariants.{Done, Waits}
 use Rattle.mcs_types.specs.declared.entry.Entry.{Entry}
-use Rattle.mcs_types.specs.declared.entry.Entry.TheVariants.{Send, NbSend, Call, Recv, NbRecv, Wait, NbWait, ReplyRecv, Signal, SetPriority, Suspend, Resume, BindNtfn, UnbindNtfn, BindCtx, UnbindCtx, CancelBadged, CopyCap, MintCap, MoveCap, DeleteCap, MakeEndpoint, MakeNotification, MakeReply, MakeContext}
+use Rattle.mcs_types.specs.declared.entry.Entry.TheVariants.{Send, NbSend, Call, Recv, NbRecv, Wait, NbWait, ReplyRecv, Signal, SetPriority, Suspend, Resume, BindNtfn, UnbindNtfn, BindCtx, UnbindCtx, CancelBadged, CopyCap, MintCap, MoveCap, DeleteCap, MakeEndpoint, MakeNotification, MakeReply, MakeContext, NbSendRecv, NbSendWait}
 use Rattle.mcs_book.specs.Logs.{Log, onto}
 use Rattle.mcs_book.specs.Slots.{SlotName}
 use Rattle.mcs_types.specs.declared.record.Letter.{Letter}
@@ -30,12 +30,14 @@ use Rattle.mcs_book.specs.Threads.{mode_of}
 use Rattle.mcs_book.specs.Replies.{user_of}
 use Rattle.mcs_book.specs.Checks.{Checked}
 use Rattle.mcs_book.specs.Rights.{call_mode}
-use Rattle.mcs_book.specs.Pieces.{Piece, ◌then◌, nothing, say, with_any, Act, answers, before}
+use Rattle.mcs_book.specs.Pieces.{Piece, ◌then◌, nothing, say, with_any, Act, answers, silently, before}
 use Rattle.mcs_book.specs.Taking.{handed}
-use Rattle.mcs_book.specs.Cancelling.{cancel, cancel_all, destroy}
+use Rattle.mcs_book.specs.Cancelling.{cancel, cancel_all, let_go, destroy}
 use Rattle.mcs_book.specs.Sending.{letter_over, sent, sends_to, sends, queues, send_by, send_over}
-use Rattle.mcs_book.specs.Receiving.{joins_or, hear, take_open, open_of_any, receive_message, receive_on, free, wait_on, receive_by, receive_over, reply_receive, pay_any}
+use Rattle.mcs_book.specs.Receiving.{if_at_home, go_home, stand, joins_or, hear, take_open, open_of_any, receive_message, receive_on, free, wait_on, receive_by, receive_over, reply_receive, pay_any, send_receive}
 use Rattle.mcs_book.specs.Binding.{bind_by}
+use Rattle.mcs_book.specs.Contexts.{context_of}
+use Rattle.mcs_book.specs.Notifications.{bound_of}
 use Rattle.mcs_book.specs.Placing.{senders_with, delete, destroy_last, make}
 use Rattle.mcs_book.specs.Table.{row, wakes, outcome_of, does}
 use Rattle.mcs_book.proofs.Books.Checking.{OnPassed, passed-ok, passed-err, passed-after, passed-bind, passed-next}
@@ -50,6 +52,7 @@ pub record Entering (t : ObjId) (J I : Log → Type 0) : Type 0 where
   pub sends_alone : (R : Log) (s : Letter) → s.number ≡ next_message R → s.sender ≡ t → first_in R (Receivers s.endpoint) ≡ None → J R → I (rec.Joins s.sender (Senders s.endpoint) None ∷ sent_record s ∷ R)
   pub receives : (R : Log) (e : ObjId) (r : Option ObjId) → open_of_any R (first_in R (Senders e)) ≡ None → J R → I (rec.Joins t (Receivers e) r ∷ R)
   pub waits : (R : Log) (n : ObjId) → J R → I (rec.Joins t (Waiters n) None ∷ R)
+  pub gives_up : (R : Log) (s : ObjId) → I R → I (rec.Holds s None ∷ R)
 
 -- what the entries of t keep
 module _ (t : ObjId) (J I : Log → Type 0) (enters : Entering t J I) where
@@ -70,43 +73,56 @@ module _ (t : ObjId) (J I : Log → Type 0) (enters : Entering t J I) where
   passed-piece : (a : Answer) (p : Piece) → Keeps J p → OnPassed KeepsAct (Ok (answers a p))
   passed-piece a p k = passed-ok _ _ (ends-piece p k)
 
-  -- an act where nobody receives on e
-  abbrev KeepsAlone : ObjId → Act → Type 0
-  KeepsAlone e act = (R : Log) → first_in R (Receivers e) ≡ None → J R → I (onto ((act R).records) R)
+  -- an act after which K holds
+  abbrev LeadsTo : (Log → Type 0) → Act → Type 0
+  LeadsTo K act = (R : Log) → J R → K (onto ((act R).records) R)
+
+  -- the same where nobody receives on e
+  abbrev AloneTo : (Log → Type 0) → ObjId → Act → Type 0
+  AloneTo K e act = (R : Log) → first_in R (Receivers e) ≡ None → J R → K (onto ((act R).records) R)
 
   -- a message is sent, and its sender stands in its queue
-  keeps-queues : (cap : Cap) (mode : SendMode) (message : Content) → KeepsAlone cap.obj (queues (letter_over t cap mode message))
+  keeps-queues : (cap : Cap) (mode : SendMode) (message : Content) → AloneTo I cap.obj (queues (letter_over t cap mode message))
   unfolding queues
   keeps-queues cap mode message R none h =
       then-next I (sent (letter_over t cap mode message R)) (say (rec.Joins t (Senders cap.obj) None)) R (enters.sends_alone R (letter_over t cap mode message R) refl refl none h)
 
   -- a message is sent
-  keeps-sends : (cap : Cap) (mode : SendMode) (message : Content) (answer : Answer) (alone : Act) → KeepsAlone cap.obj alone → KeepsAct (sends (letter_over t cap mode message) answer alone)
+  keeps-sends : (K : Log → Type 0) → ((R : Log) → J R → K R) → (cap : Cap) (mode : SendMode) (message : Content) (answer : Answer) (alone : Act) → AloneTo K cap.obj alone → LeadsTo K (sends (letter_over t cap mode message) answer alone)
   unfolding sends sends_to
-  keeps-sends cap mode message answer alone ha R h = go (first_in R (Receivers cap.obj)) refl
+  keeps-sends K leads cap mode message answer alone ha R h = go (first_in R (Receivers cap.obj)) refl
     where
       s : Letter
       s = letter_over t cap mode message R
 
-      go : (o : Option ObjId) → first_in R (Receivers cap.obj) ≡ o → I (onto ((sends_to s answer alone o R).records) R)
+      go : (o : Option ObjId) → first_in R (Receivers cap.obj) ≡ o → K (onto ((sends_to s answer alone o R).records) R)
       go None is = ha R is h
-      go (Some p) is = enters.ends _ (then-next J (sent s) (handed s p) R (keeps-handed J enters.steps (sent_record s ∷ R) s p (enters.hands R s p refl refl is h)))
+      go (Some p) is = leads _ (then-next J (sent s) (handed s p) R (keeps-handed J enters.steps (sent_record s ∷ R) s p (enters.hands R s p refl refl is h)))
 
   -- a send, by the kind of its capability
-  keeps-send_by : (k : Kind) (cap : Cap) (message : Content) (alone : Act) → KeepsAlone cap.obj alone → OnPassed KeepsAct (send_by k t cap message alone)
+  keeps-send_by : (K : Log → Type 0) → ((R : Log) → J R → K R) → (k : Kind) (mode : SendMode) (cap : Cap) (message : Content) (alone : Act) → AloneTo K cap.obj alone → OnPassed (LeadsTo K) (send_by k mode t cap message alone)
   unfolding send_by
-  keeps-send_by Endpoint cap message alone h = passed-next _ _ _ (passed-ok _ _ (keeps-sends cap how.Plain message Done alone h))
-  keeps-send_by Notification cap message alone h = passed-next _ _ _ (passed-piece _ _ (keeps-signal J enters.steps _ _))
-  keeps-send_by Reply cap message alone h = passed-piece _ _ (keeps-pay J enters.steps _ _)
-  keeps-send_by CNode cap message alone h = passed-err _ _
-  keeps-send_by Thread cap message alone h = passed-err _ _
-  keeps-send_by Context cap message alone h = passed-err _ _
+  keeps-send_by K leads Endpoint mode cap message alone h = passed-next _ _ _ (passed-ok _ _ (keeps-sends K leads cap mode message Done alone h))
+  keeps-send_by K leads Notification mode cap message alone h = passed-next _ _ _ (passed-ok _ _ (λ R j. leads _ (keeps-signal J enters.steps _ _ R j)))
+  keeps-send_by K leads Reply mode cap message alone h = passed-ok _ _ (λ R j. leads _ (keeps-pay J enters.steps _ _ R j))
+  keeps-send_by K leads CNode mode cap message alone h = passed-err _ _
+  keeps-send_by K leads Thread mode cap message alone h = passed-err _ _
+  keeps-send_by K leads Context mode cap message alone h = passed-err _ _
 
-  -- t joins a queue, or does not block
-  keeps-joins_or : (b : Bool) (r : Rec) (R : Log) → I (r ∷ R) → J R → I (onto ((joins_or b r R).records) R)
+  -- t stands in a queue, and may give up its context
+  keeps-stand : (q : Queue) (r n : Option ObjId) (R : Log) → I (rec.Joins t q r ∷ R) → I (onto (stand t q r n R) R)
+  unfolding stand go_home
+  keeps-stand q r n R joined = then-next I (say (rec.Joins t q r)) (go_home t n) R (go (if_at_home (rec.Joins t q r ∷ R) n (context_of (rec.Joins t q r ∷ R) t)))
+    where
+      go : (o : Option ObjId) → I (onto (let_go o (rec.Joins t q r ∷ R)) (rec.Joins t q r ∷ R))
+      go None = joined
+      go (Some s) = enters.gives_up (rec.Joins t q r ∷ R) s joined
+
+  -- t stands in a queue, or does not block
+  keeps-joins_or : (b : Bool) (p : Piece) (R : Log) → I (onto (p R) R) → J R → I (onto ((joins_or b p R).records) R)
   unfolding joins_or
-  keeps-joins_or true r R joined h = joined
-  keeps-joins_or false r R joined h = enters.ends R h
+  keeps-joins_or true p R joined h = joined
+  keeps-joins_or false p R joined h = enters.ends R h
 
   -- a pending word comes first
   keeps-hear : (n : Option ObjId) (word : Option ℕ) (otherwise : Act) (R : Log) → J R → I (onto ((otherwise R).records) R) → I (onto ((hear t n word otherwise R).records) R)
@@ -117,13 +133,13 @@ module _ (t : ObjId) (J I : Log → Type 0) (enters : Entering t J I) where
 
   -- the open message of the first sender, if there is one
   keeps-take_open : (R : Log) (e : ObjId) (r : Option ObjId) (blocking : Bool) (x : Option ObjId) → first_in R (Senders e) ≡ x → J R
-      → I (onto ((take_open t r (open_of_any R x) (joins_or blocking (rec.Joins t (Receivers e) r)) R).records) R)
+      → I (onto ((take_open t r (open_of_any R x) (joins_or blocking (stand t (Receivers e) r (bound_of R t))) R).records) R)
   unfolding take_open
-  keeps-take_open R e r blocking None first h = keeps-joins_or blocking _ R (enters.receives R e r (ap (λ x. open_of_any R x) first) h) h
+  keeps-take_open R e r blocking None first h = keeps-joins_or blocking _ R (keeps-stand (Receivers e) r (bound_of R t) R (enters.receives R e r (ap (λ x. open_of_any R x) first) h)) h
   keeps-take_open R e r blocking (Some x) first h = go (open_of R x) refl
     where
-      go : (o : Option Letter) → open_of R x ≡ o → I (onto ((take_open t r o (joins_or blocking (rec.Joins t (Receivers e) r)) R).records) R)
-      go None is = keeps-joins_or blocking _ R (enters.receives R e r (rw first is) h) h
+      go : (o : Option Letter) → open_of R x ≡ o → I (onto ((take_open t r o (joins_or blocking (stand t (Receivers e) r (bound_of R t))) R).records) R)
+      go None is = keeps-joins_or blocking _ R (keeps-stand (Receivers e) r (bound_of R t) R (enters.receives R e r (rw first is) h)) h
       go (Some s) is = enters.ends _ (keeps-taken J enters.steps R s t r (enters.takes R e x s first is h))
 
   -- a receive
@@ -144,7 +160,7 @@ module _ (t : ObjId) (J I : Log → Type 0) (enters : Entering t J I) where
   -- a wait
   keeps-wait_on : (n : ObjId) (blocking : Bool) → KeepsAct (wait_on t n blocking)
   unfolding wait_on
-  keeps-wait_on n blocking R h = keeps-hear _ _ _ R h (keeps-joins_or blocking _ R (enters.waits R n h) h)
+  keeps-wait_on n blocking R h = keeps-hear _ _ _ R h (keeps-joins_or blocking _ R (keeps-stand (Waiters n) None (Some n) R (enters.waits R n h)) h)
 
   -- a receive, by the kind of its source
   keeps-receive_by : (k : Kind) (R : Log) (cap : Cap) (reply : Checked (Option ObjId)) (blocking : Bool) → OnPassed KeepsAct (receive_by k R t cap reply blocking)
@@ -188,12 +204,18 @@ module _ (t : ObjId) (J I : Log → Type 0) (enters : Entering t J I) where
   keeps-bind_by Reply R s o = passed-err _ _
   keeps-bind_by Context R s o = passed-err _ _
 
+  -- sends, and then receives
+  keeps-send_receive : (R : Log) (sending : Checked Act) (address : ℕ) (reply : Checked (Option ObjId)) → OnPassed (LeadsTo J) sending → OnPassed KeepsAct (send_receive R t sending address reply)
+  unfolding send_receive
+  keeps-send_receive R sending address reply h = passed-after (LeadsTo J) KeepsAct sending _ h (λ send k. passed-bind _ _ _ (λ source.
+      passed-after KeepsAct _ _ _ (keeps-receive_over R source reply true) (λ act k'. passed-ok _ _ (keeps-before (silently send) act k k'))))
+
   -- what each row does, where its checks are passed
   pub keeps-row : (R : Log) (core : CoreId) (entry : Entry) → OnPassed KeepsAct (row R core t entry)
   unfolding row send_over reply_receive
-  keeps-row R core (Send a message) = passed-bind _ _ _ (λ cap. keeps-send_by cap.obj.kind cap message _ (keeps-queues cap how.Plain message))
-  keeps-row R core (NbSend a message) = passed-bind _ _ _ (λ cap. keeps-send_by cap.obj.kind cap message _ (λ R none h. enters.ends R h))
-  keeps-row R core (Call a message) = passed-bind _ _ _ (λ cap. passed-next _ _ _ (passed-ok _ _ (keeps-sends cap (call_mode cap) message Waits _ (keeps-queues cap (call_mode cap) message))))
+  keeps-row R core (Send a message) = passed-bind _ _ _ (λ cap. keeps-send_by I enters.ends cap.obj.kind how.Plain cap message _ (keeps-queues cap how.Plain message))
+  keeps-row R core (NbSend a message) = passed-bind _ _ _ (λ cap. keeps-send_by I enters.ends cap.obj.kind how.Plain cap message _ (λ R none h. enters.ends R h))
+  keeps-row R core (Call a message) = passed-bind _ _ _ (λ cap. passed-next _ _ _ (passed-ok _ _ (keeps-sends I enters.ends cap (call_mode cap) message Waits _ (keeps-queues cap (call_mode cap) message))))
   keeps-row R core (Recv a r) = passed-bind _ _ _ (λ cap. keeps-receive_over R cap _ true)
   keeps-row R core (NbRecv a r) = passed-bind _ _ _ (λ cap. keeps-receive_over R cap _ false)
   keeps-row R core (Wait a) = passed-bind _ _ _ (λ cap. keeps-receive_over R cap _ true)
@@ -217,6 +239,8 @@ module _ (t : ObjId) (J I : Log → Type 0) (enters : Entering t J I) where
   keeps-row R core (MakeNotification place) = keeps-make R Notification 15 form.Plain place
   keeps-row R core (MakeReply place) = keeps-make R Reply 0 form.Plain place
   keeps-row R core (MakeContext place) = keeps-make R Context 0 (form.OnCore core) place
+  keeps-row R core (NbSendRecv a source r message) = keeps-send_receive R _ source _ (passed-bind _ _ _ (λ cap. keeps-send_by J (λ R h. h) cap.obj.kind how.Give cap message _ (λ R none h. h)))
+  keeps-row R core (NbSendWait a source message) = keeps-send_receive R _ source _ (passed-bind _ _ _ (λ cap. keeps-send_by J (λ R h. h) cap.obj.kind how.Give cap message _ (λ R none h. h)))
 
   -- a thread becomes Running with its entry
   keeps-wakes : (mode : Mode) → Keeps J (wakes mode t)

@@ -20,9 +20,9 @@ use Rattle.mcs_book.specs.Replies.{owed_by, owing, receiver_with, user_of}
 use Rattle.mcs_book.specs.Chains.{topped_by}
 use Rattle.mcs_book.specs.Notifications.{bound_of, tied_to, pending}
 use Rattle.mcs_book.specs.Pieces.{Piece, ◌then◌, nothing, say, with_any, for_each}
-use Rattle.mcs_book.specs.Taking.{back_to, give_back}
-use Rattle.mcs_book.specs.Signalling.{queue_of_any, hearer, reach, signal}
-use Rattle.mcs_book.specs.Cancelling.{drop_message, leave, cancel, cancel_all, unbind, void_deleted, release}
+use Rattle.mcs_book.specs.Taking.{back_to, give_back, give}
+use Rattle.mcs_book.specs.Signalling.{queue_of_any, spare_at, wake, hearer, reach, signal}
+use Rattle.mcs_book.specs.Cancelling.{drop_message, leave, cancel, cancel_all, let_go, unbind, void_deleted, release}
 use Rattle.mcs_book.specs.Receiving.{free}
 use Rattle.mcs_book.specs.Table.{wakes}
 
@@ -134,6 +134,15 @@ plain-back s x = record { passes = λ R. go s (context_of R x) }
     go None o = tt
     go (Some s) (Some s') = tt
 
+-- the context of x passes to p
+pub plain-give : (x p : ObjId) → Plain (give x p)
+unfolding give
+plain-give x p = record { passes = λ R. (plain-back (context_of R x) p).passes R }
+
+-- a context is let go
+pub plain-let_go : (s : Option ObjId) → Plain (let_go s)
+plain-let_go s = makes-any is_plain s _ (λ c. makes-say is_plain _ refl)
+
 -- a context is homed nowhere and held by nobody
 pub plain-unbind : (s : ObjId) → Plain (unbind s)
 unfolding unbind
@@ -199,24 +208,29 @@ plain-wakes Restart t = makes-say is_plain _ refl
 plain-wakes Running t = makes-nothing is_plain
 plain-wakes Inactive t = makes-nothing is_plain
 
+-- who hears a word wakes
+quiet-wake : (n x : ObjId) (q : Queue) (word : ℕ) → Quiet (wake n x q word)
+unfolding wake
+quiet-wake n x q word = record { passes = λ R. (makes-then is_quiet _ _ (makes-then is_quiet _ _ (makes-then is_quiet _ _ (makes-say is_quiet (rec.Heard x n word) refl) (makes-say is_quiet (rec.Parts x q) refl)) (makes-say is_quiet (rec.Turns x Running) refl)) (quiet-piece _ (plain-back (spare_at R n) x))).passes R }
+
 -- a signal is quiet
 pub quiet-signal : (n : ObjId) (badge : Badge) → Quiet (signal n badge)
 unfolding signal
-quiet-signal n badge = record { passes = λ R. (refl, go R (pending R n)) }
+quiet-signal n badge = record { passes = λ R. (makes-then is_quiet (say (rec.Raised n badge)) (reach R n badge.0 (pending R n)) (makes-say is_quiet (rec.Raised n badge) refl) (go R (pending R n))).passes R }
   where
-    heard : (o : Option ObjId) (q : Option Queue) (w : Option ObjId) → Passes is_quiet (hearer n o q w badge.0)
-    heard (Some x) (Some (Receivers e)) w = (refl, (refl, (refl, tt)))
-    heard None q (Some x) = (refl, (refl, (refl, tt)))
-    heard None q None = tt
-    heard (Some y) None (Some x) = (refl, (refl, (refl, tt)))
-    heard (Some y) None None = tt
-    heard (Some y) (Some (Senders e)) (Some x) = (refl, (refl, (refl, tt)))
-    heard (Some y) (Some (Senders e)) None = tt
-    heard (Some y) (Some (Waiters e)) (Some x) = (refl, (refl, (refl, tt)))
-    heard (Some y) (Some (Waiters e)) None = tt
+    heard : (o : Option ObjId) (q : Option Queue) (w : Option ObjId) → Quiet (hearer n o q w badge.0)
+    heard (Some x) (Some (Receivers e)) w = quiet-wake n x (Receivers e) badge.0
+    heard None q (Some x) = quiet-wake n x (Waiters n) badge.0
+    heard None q None = makes-nothing is_quiet
+    heard (Some y) None (Some x) = quiet-wake n x (Waiters n) badge.0
+    heard (Some y) None None = makes-nothing is_quiet
+    heard (Some y) (Some (Senders e)) (Some x) = quiet-wake n x (Waiters n) badge.0
+    heard (Some y) (Some (Senders e)) None = makes-nothing is_quiet
+    heard (Some y) (Some (Waiters e)) (Some x) = quiet-wake n x (Waiters n) badge.0
+    heard (Some y) (Some (Waiters e)) None = makes-nothing is_quiet
 
-    go : (R : Log) (o : Option ℕ) → Passes is_quiet (reach R n badge.0 o)
-    go R (Some old) = tt
+    go : (R : Log) (o : Option ℕ) → Quiet (reach R n badge.0 o)
+    go R (Some old) = makes-nothing is_quiet
     go R None = heard (tied_to R n) (queue_of_any R (tied_to R n)) (first_in R (Waiters n))
 
 -- a deleted reply object owes nobody any more

@@ -28,20 +28,21 @@ use Rattle.mcs_book.proofs.Threads.HoldingLaws.{context_of-holder}
 use Rattle.mcs_book.specs.Messages.{open_of}
 use Rattle.mcs_book.specs.Queues.{queue_of, first_in, reply_with}
 use Rattle.mcs_book.specs.Replies.{owed_by}
-use Rattle.mcs_book.specs.Pieces.{Piece, ◌then◌, nothing, say, Act}
-use Rattle.mcs_book.specs.Taking.{debt, owe, settle, handed, taken}
+use Rattle.mcs_book.specs.Pieces.{Piece, ◌then◌, nothing, say, Act, answers}
+use Rattle.mcs_book.specs.Taking.{debt, owe, back_to, give_back, give, settle, handed, taken}
 use Rattle.mcs_book.specs.Sending.{letter_over, sends_to, sends, queues}
+use Rattle.mcs_book.specs.Standing.{mail_of}
 use Rattle.mcs_book.specs.Paths.{IsNamed}
 use Rattle.mcs_book.specs.History.{Line}
 use Rattle.mcs_book.specs.Each.{Each, EachOf}
 use Rattle.mcs_book.specs.Fair.{carried, address_used, IsSentWhole, IsTakenWhole, IsPaidWhole, GivesBack}
-use Rattle.mcs_book.proofs.SoundLogs.Keeping.{sent_record}
+use Rattle.mcs_book.proofs.SoundLogs.Keeping.{onto-append, sent_record}
 use Rattle.mcs_book.proofs.Queues.QueueLaws.{first-stands}
 use Rattle.mcs_book.proofs.Messages.MessageLaws.{open_of-open, open_of-letter}
 use Rattle.mcs_book.proofs.Queues.NoneBeside.{made-more}
 use Rattle.mcs_types.proofs.Ids.{same-equal, same-other}
 use Rattle.mcs_book.proofs.SoundLogs.Safety.{IsReplyMade, Safe, plain-safe, none-plain, parted-none, paid-owed, owed-plain, IsStanding, safe-standing, safe-named}
-use Rattle.mcs_book.proofs.SoundLogs.Making.{Passes, passes-map, passes-append, is_plain, is_quiet, plain-quiet, Plain, makes-say, makes-nothing}
+use Rattle.mcs_book.proofs.SoundLogs.Making.{Passes, passes-map, passes-append, is_plain, is_quiet, plain-quiet, Plain, makes-say, makes-nothing, plain-give}
 use Rattle.mcs_book.proofs.Messages.MailLaws.{plain-lasting, alive-last, is_still, plain-still, other-still, mail-still, mail-took}
 
 -- what holds of each record of two lists holds of each of both together
@@ -106,7 +107,7 @@ pub record Begins (R : Log) (t : ObjId) (S : Log) : Type 0 where
   pub held : (c : ObjId) (i : ℕ) (k : Cap) → slot R c i ≡ Some k → was_made S k.obj ≡ true
 
 -- so it is after a plain record
-begins-plain : (R : Log) (t : ObjId) (S : Log) (r : Rec) → is_plain r ≡ true → Begins R t S → Begins R t (r ∷ S)
+pub begins-plain : (R : Log) (t : ObjId) (S : Log) (r : Rec) → is_plain r ≡ true → Begins R t S → Begins R t (r ∷ S)
 begins-plain R t S r e b = record {
   thread = b.thread;
   alive = alive-last S t r (plain-lasting r e) ∙ b.alive;
@@ -177,6 +178,7 @@ settle-rest S how.Call x p (Some o) goes_on h = go (context_of S p) (context_of 
     go (Some k) None = record { whole = λ q R after s a. ((tt, tt, tt, q o None refl, tt, λ sound. tt), tt); still = λ y. (refl, tt) }
     go (Some k) (Some k') = record { whole = λ q R after s a. ((tt, tt, tt, q o None refl, tt, λ sound. tt), tt); still = λ y. (refl, tt) }
 settle-rest S how.Call x p None goes_on h = rest-plain (MayOwe S None x) S (rec.Turns x Inactive ∷ []) (refl, tt)
+settle-rest S how.Give x p r goes_on h = rest-plain (MayOwe S r x) S (give x p S) ((plain-give x p).passes S)
 settle-rest S how.Mute x p r goes_on h = rest-plain (MayOwe S r x) S (rec.Turns x Inactive ∷ []) (refl, tt)
 
 -- the log when a message was taken, and who stood in line has left it
@@ -209,13 +211,16 @@ taken-shape S l p r =
           (settle-rest S' l.mode l.sender p r goes_on (makes-say is_plain (rec.Turns l.sender Running) refl)),
     )
 
--- a message that is handed over is taken by another thread, and reaches it
-handed-whole : (R : Log) (s : Step) (a : Answer) (S : Log) (l : Letter) (p : ObjId) → is_alive S p ≡ true → p ≢ s.thread → MayOwe (left_log S l p p (Receivers l.endpoint)) (reply_with S p) l.sender → AreWhole R (onto (handed l p S) S) s a S (handed l p S)
-handed-whole R s a S l p alive other owes =
+-- a message that is handed over is taken by another thread, and reaches it, where nothing more does
+handed-whole : (R after : Log) (s : Step) (a : Answer) (S : Log) (l : Letter) (p : ObjId) (more : List Rec) → is_alive S p ≡ true → p ≢ s.thread → MayOwe (left_log S l p p (Receivers l.endpoint)) (reply_with S p) l.sender
+    → Passes (is_still p) more → after ≡ onto more (onto (handed l p S) S) → AreWhole R after s a S (handed l p S)
+handed-whole R after s a S l p more alive other owes still e =
     let (rest, is, h) = handed-shape S l p in
-    subst (λ made. AreWhole R (onto made S) s a S made) (sym is) (
-      (tt, λ k at. (λ e. absurd (other e), λ ne. mail-still (rec.Took l.number p ∷ S) p rest (h.still p) ∙ mail-took S l.number p k alive at), tt, tt, tt, λ sound. tt),
-      h.whole owes R (onto rest (rec.Took l.number p ∷ S)) s a,
+    let ended : after ≡ onto (rest ++ more) (rec.Took l.number p ∷ S) = e ∙ ap (λ made. onto more (onto made S)) is ∙ sym (onto-append rest more (rec.Took l.number p ∷ S)) in
+    let all_still : Passes (is_still p) (rest ++ more) = passes-append (is_still p) rest more (h.still p) still in
+    subst (λ made. AreWhole R after s a S made) (sym is) (
+      (tt, λ k at. (λ e. absurd (other e), λ ne. ap (λ z. mail_of z p) ended ∙ mail-still (rec.Took l.number p ∷ S) p (rest ++ more) all_still ∙ mail-took S l.number p k alive at), tt, tt, tt, λ sound. tt),
+      h.whole owes R after s a,
     )
 
 -- a message is sent, and taken by the first receiver or left to what is done alone
@@ -232,7 +237,55 @@ sends-whole R s cap mode message a alone h ha = record { whole = λ S b. go S b 
         let there : IsStanding S p = safe-standing S p (Receivers cap.obj) b.safe at in
         let owes : MayOwe (left_log (sent_record l ∷ S) l p p (Receivers cap.obj)) (reply_with S p) s.thread
         = λ o c named. (safe-named S p o b.safe named, b.thread, b.alive, none-plain (rec.Took l.number p ∷ sent_record l ∷ S) s.thread (rec.Parts p (Receivers cap.obj)) refl b.stands_none, b.owed_nothing) in
-        (sent-whole R (onto (handed l p (sent_record l ∷ S)) (sent_record l ∷ S)) s a S cap mode message h, handed-whole R s a (sent_record l ∷ S) l p there.alive (begins-other R s.thread S p (Receivers cap.obj) b at) owes)
+        (sent-whole R (onto (handed l p (sent_record l ∷ S)) (sent_record l ∷ S)) s a S cap mode message h, handed-whole R (onto (handed l p (sent_record l ∷ S)) (sent_record l ∷ S)) s a (sent_record l ∷ S) l p [] there.alive (begins-other R s.thread S p (Receivers cap.obj) b at) owes tt refl)
+
+-- a message is sent with its sender's context before more is done, which reaches nobody but the sender
+pub sends-first : (R after : Log) (s : Step) (cap : Cap) (message : Content) (done nobody a : Answer) (S : Log) (more : List Rec) → IsSending R s cap message → Begins R s.thread S → ((x : ObjId) → x ≢ s.thread → Passes (is_still x) more)
+    → let made : List Rec = (sends (letter_over s.thread cap how.Give message) done (answers nobody nothing) S).records in after ≡ onto more (onto made S) → AreWhole R after s a S made
+unfolding sends sends_to ◌then◌
+sends-first R after s cap message done nobody a S more h b still e = go (first_in S (Receivers cap.obj)) refl e
+  where
+    l : Letter
+    l = letter_over s.thread cap how.Give message S
+
+    go : (o : Option ObjId) → first_in S (Receivers cap.obj) ≡ o → let made : List Rec = (sends_to l done (answers nobody nothing) o S).records in after ≡ onto more (onto made S) → AreWhole R after s a S made
+    go None is e = tt
+    go (Some p) is e =
+        let at : queue_of S p ≡ Some (Receivers cap.obj) = first-stands S (Receivers cap.obj) p is in
+        let there : IsStanding S p = safe-standing S p (Receivers cap.obj) b.safe at in
+        let other : p ≢ s.thread = begins-other R s.thread S p (Receivers cap.obj) b at in
+        let owes : MayOwe (left_log (sent_record l ∷ S) l p p (Receivers cap.obj)) (reply_with S p) s.thread
+        = λ o c named. (safe-named S p o b.safe named, b.thread, b.alive, none-plain (rec.Took l.number p ∷ sent_record l ∷ S) s.thread (rec.Parts p (Receivers cap.obj)) refl b.stands_none, b.owed_nothing) in
+        (sent-whole R after s a S cap how.Give message h, handed-whole R after s a (sent_record l ∷ S) l p more there.alive other owes (still p other) e)
+
+-- what is handed over with its sender's context: the message is taken, and the rest is plain
+given-shape : (S : Log) (l : Letter) (p : ObjId) → l.mode ≡ how.Give → (rest : List Rec) × (handed l p S ≡ rec.Took l.number p ∷ rest) × Passes is_plain rest
+unfolding handed ◌then◌
+given-shape S l p gives =
+    let S' : Log = left_log S l p p (Receivers l.endpoint) in
+    let made : List Rec = settle l.mode l.sender p (reply_with S p) nothing S' in
+    (rec.Parts p (Receivers l.endpoint) ∷ (made ++ rec.Turns p Running ∷ []), refl, (refl, passes-append is_plain made (rec.Turns p Running ∷ []) (go S' l.mode gives) (refl, tt)))
+  where
+    go : (S' : Log) (mode : SendMode) → mode ≡ how.Give → Passes is_plain (settle mode l.sender p (reply_with S p) nothing S')
+    go S' how.Give is = (plain-give l.sender p).passes S'
+    go S' how.Plain is = absurd cc
+    go S' how.Call is = absurd cc
+    go S' how.Mute is = absurd cc
+
+-- what began goes on after it
+pub begins-sends : (R : Log) (t : ObjId) (cap : Cap) (message : Content) (done nobody : Answer) (S : Log) → Begins R t S → Begins R t (onto ((sends (letter_over t cap how.Give message) done (answers nobody nothing) S).records) S)
+unfolding sends sends_to ◌then◌
+begins-sends R t cap message done nobody S b = go (first_in S (Receivers cap.obj))
+  where
+    l : Letter
+    l = letter_over t cap how.Give message S
+
+    go : (o : Option ObjId) → Begins R t (onto ((sends_to l done (answers nobody nothing) o S).records) S)
+    go None = b
+    go (Some p) =
+        let (rest, shape, plain) = given-shape (sent_record l ∷ S) l p refl in
+        let b1 : Begins R t (rec.Took l.number p ∷ sent_record l ∷ S) = record { thread = b.thread; alive = b.alive; stands_none = b.stands_none; owed_nothing = b.owed_nothing; safe = (tt, (tt, b.safe)); held = b.held } in
+        subst (λ made. Begins R t (onto made (sent_record l ∷ S))) (sym shape) (begins-plains R t (rec.Took l.number p ∷ sent_record l ∷ S) rest plain b1)
 
 -- a message is sent, and its sender stands in its queue
 pub queues-whole : (R : Log) (s : Step) (cap : Cap) (mode : SendMode) (message : Content) → IsSending R s cap message → WholeAct R s (queues (letter_over s.thread cap mode message))
@@ -263,21 +316,27 @@ taken-still S t x l r ne =
     subst (λ made. Passes (is_still x) made) (sym shape) (other-still x t ne, h.still x)
 
 -- a holder of a context that another context does not change
-other-held : (S : Log) (c k y p : ObjId) → c ≢ k → holder_of S c ≡ Some y → holder_of (rec.Holds k (Some p) ∷ S) c ≡ Some y
+pub other-held : (S : Log) (c k y : ObjId) (p : Option ObjId) → c ≢ k → holder_of S c ≡ Some y → holder_of (rec.Holds k p ∷ S) c ≡ Some y
 other-held S c k y p ne h = go (same c k) (same-other c k ne)
   where
-    go : (b : Bool) → b ≡ false → unwrap_or (given b (Some p)) (holder_of S c) ≡ Some y
+    go : (b : Bool) → b ≡ false → unwrap_or (given b p) (holder_of S c) ≡ Some y
     go true e = absurd cc
     go false e = h
 
 -- a context that comes along with a debt is the caller's
 settle-holders : (S : Log) (mode : SendMode) (x p : ObjId) (r : Option ObjId) (goes_on : Piece) (c y : ObjId) → y ≢ x → holder_of S c ≡ Some y → holder_of (onto (goes_on S) S) c ≡ Some y → holder_of (onto (settle mode x p r goes_on S) S) c ≡ Some y
-unfolding owe
+unfolding owe give give_back
 settle-holders S how.Plain x p r goes_on c y ne h k = k
+settle-holders S how.Give x p r goes_on c y ne h k = go (context_of S x) (context_of S p) refl
+  where
+    go : (a b : Option ObjId) → context_of S x ≡ a → holder_of (onto (back_to p a b) S) c ≡ Some y
+    go (Some d) None is = other-held S c d y (Some p) (λ e. let who : Some y ≡ Some x = sym h ∙ ap (λ z. holder_of S z) e ∙ context_of-holder S x d is in ne cc) h
+    go (Some d) (Some d') is = h
+    go None b is = h
 settle-holders S how.Call x p (Some o) goes_on c y ne h k = go (context_of S p) (context_of S x) refl
   where
     go : (a b : Option ObjId) → context_of S x ≡ b → holder_of (onto (debt o x p a b) S) c ≡ Some y
-    go None (Some d) is = other-held (rec.Owes o x (Some d) ∷ S) c d y p (λ e. let who : Some y ≡ Some x = sym h ∙ ap (λ z. holder_of S z) e ∙ context_of-holder S x d is in ne cc) h
+    go None (Some d) is = other-held (rec.Owes o x (Some d) ∷ S) c d y (Some p) (λ e. let who : Some y ≡ Some x = sym h ∙ ap (λ z. holder_of S z) e ∙ context_of-holder S x d is in ne cc) h
     go None None is = h
     go (Some d) None is = h
     go (Some d) (Some d') is = h

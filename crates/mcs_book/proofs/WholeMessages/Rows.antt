@@ -1,5 +1,5 @@
 -- What each row of the table sends, takes and answers is whole.
-use Rattle.std.specs.Prelude.{ℕ, Bool, true, false, ◌≡◌, ◌≢◌, List, [], ◌∷◌, ◌++◌, Option, Some, None, Ok, Err, refl, unwrap_or}
+use Rattle.std.specs.Prelude.{ℕ, Bool, true, false, cond, ◌&&◌, ◌≡◌, ◌≢◌, List, [], ◌∷◌, ◌++◌, Option, Some, None, Ok, Err, refl, unwrap_or}
 use Rattle.std.proofs.Common.{sym, ◌∙◌, ap, subst}
 use Rattle.mcs_types.specs.Views.{Content}
 use Rattle.mcs_types.specs.declared.id.ObjId.{ObjId}
@@ -14,24 +14,29 @@ use Rattle.mcs_types.specs.declared.record.Letter.{Letter}
 use Rattle.mcs_types.specs.declared.record.Rec.{Rec}
 use Rattle.mcs_types.specs.declared.record.Rec.TheVariants as rec
 use Rattle.mcs_types.specs.declared.entry.Answer.{Answer}
-use Rattle.mcs_types.specs.declared.entry.Answer.TheVariants.{Done}
+use Rattle.mcs_types.specs.declared.entry.Answer.TheVariants.{Done, Waits}
 use Rattle.mcs_types.specs.declared.entry.Refusal.TheVariants.{WrongKind}
 use Rattle.mcs_types.specs.declared.entry.Step.{Step}
-use Rattle.mcs_types.specs.Ids.{same}
+use Rattle.mcs_types.specs.Ids.{same, is_just}
 use Rattle.mcs_book.specs.Logs.{Log, onto, given}
 use Rattle.mcs_book.specs.Messages.{open_of}
 use Rattle.mcs_book.specs.Queues.{queue_of, first_in}
 use Rattle.mcs_book.specs.Replies.{owed_by}
 use Rattle.mcs_book.specs.Chains.{topped_by}
-use Rattle.mcs_book.specs.Contexts.{holder_of, context_of}
+use Rattle.mcs_book.specs.Contexts.{holder_of, context_of, home_of}
+use Rattle.mcs_book.specs.Chains.{is_unlent}
+use Rattle.mcs_book.specs.Notifications.{bound_of}
+use Rattle.mcs_book.specs.Signalling.{signal}
+use Rattle.mcs_book.specs.Cancelling.{let_go}
+use Rattle.mcs_book.proofs.Threads.HoldingLaws.{context_of-holder}
 use Rattle.mcs_book.specs.Standing.{mail_of}
 use Rattle.mcs_book.specs.Checks.{Checked, ◌>>=◌, ◌>>◌, need}
 use Rattle.mcs_book.specs.Rights.{is_kind}
 use Rattle.mcs_book.specs.Lookup.{capability, of_kind}
-use Rattle.mcs_book.specs.Pieces.{Piece, ◌then◌, say, with_any, Outcome, Act, answers, before}
+use Rattle.mcs_book.specs.Pieces.{Piece, ◌then◌, nothing, say, with_any, Outcome, Act, answers, silently, before}
 use Rattle.mcs_book.specs.Taking.{back_to, give_back, pay}
 use Rattle.mcs_book.specs.Sending.{send_by}
-use Rattle.mcs_book.specs.Receiving.{joins_or, hear, take_open, open_of_any, receive_message, receive_on, free, wait_on, receive_by, receive_over, reply_at, pay_any}
+use Rattle.mcs_book.specs.Receiving.{if_at_home, go_home, stand, send_receive, joins_or, hear, take_open, open_of_any, receive_message, receive_on, free, wait_on, receive_by, receive_over, reply_at, pay_any}
 use Rattle.mcs_book.specs.Slots.{slot}
 use Rattle.mcs_book.specs.Objects.{was_made}
 use Rattle.mcs_book.specs.Paths.{IsNamed}
@@ -43,10 +48,10 @@ use Rattle.mcs_book.proofs.Chains.GivingBack.{top-brought, top-found}
 use Rattle.mcs_book.specs.Sound.{Sound}
 use Rattle.mcs_book.specs.Fair.{carried, GivesBack}
 use Rattle.mcs_book.proofs.SoundLogs.Keeping.{onto-append}
-use Rattle.mcs_book.proofs.Books.Checking.{OnPassed, passed-ok, passed-err, passed-next}
-use Rattle.mcs_book.proofs.SoundLogs.Making.{Makes, is_unheld, unheld-free, Passes, passes-map, passes-append, is_plain, Plain, Quiet, makes-any, plain-back, plain-free, quiet-signal}
+use Rattle.mcs_book.proofs.Books.Checking.{OnPassed, passed-ok, passed-err, passed-after, passed-bind, passed-next}
+use Rattle.mcs_book.proofs.SoundLogs.Making.{Makes, is_unheld, unheld-free, Passes, passes-map, passes-append, is_plain, Plain, Quiet, makes-any, plain-back, plain-free, plain-let_go, is_quiet, quiet-signal}
 use Rattle.mcs_book.proofs.Messages.MailLaws.{is_still, plain-still, other-still, mail-still, mail-paid}
-use Rattle.mcs_book.proofs.WholeMessages.Records.{each-append, AreWhole, quiet-all, plain-all, Begins, begins-plains, begins-paid, begins-owed, WholeAct, IsSending, sends-whole, taken-whole, taken-still, taken-holders}
+use Rattle.mcs_book.proofs.WholeMessages.Records.{each-append, AreWhole, quiet-all, plain-all, Begins, begins-plain, begins-plains, begins-paid, begins-owed, WholeAct, IsSending, sends-whole, sends-first, begins-sends, other-held, taken-whole, taken-still, taken-holders}
 
 -- after a check that gives a value, which is known
 pub passed-found : {A B : Type 0} (P : B → Type 0) (m : Checked A) (f : A → Checked B) → ((x : A) → m ≡ Ok x → OnPassed P (f x)) → OnPassed P (m >>= f)
@@ -113,10 +118,10 @@ pay-none_stands R t S r message x b owed =
     go None is = is
     go (Some q) is = absurd ((safe-standing S x q b.safe is).owed_nothing r owed)
 
--- what comes after an answer: it reaches nobody but the entering thread, and who stands in no queue keeps its context
+-- what comes after an answer: it reaches nobody but the entering thread, and any other who stands in no queue keeps its context
 pub record Follows (t : ObjId) (S : Log) (more : List Rec) : Type 0 where
   pub still : (x : ObjId) → x ≢ t → Passes (is_still x) more
-  pub holders : (c y : ObjId) → holder_of S c ≡ Some y → queue_of S y ≡ None → holder_of (onto more S) c ≡ Some y
+  pub holders : (c y : ObjId) → y ≢ t → holder_of S c ≡ Some y → queue_of S y ≡ None → holder_of (onto more S) c ≡ Some y
 
 -- an answer is whole, where nothing more reaches its caller; and the context that it brought returns
 pay-whole : (R after : Log) (s : Step) (a : Answer) (S : Log) (r : ObjId) (message : Content) (more : List Rec) → carried s.entry ≡ Some message → Begins R s.thread S
@@ -126,7 +131,7 @@ pay-whole R after s a S r message more carries b f is = go (owed_by S r) refl
     back : (x : ObjId) → owed_by S r ≡ Some x → Sound S → GivesBack after S (rec.Paid r x message)
     back x owed sound c top none = (
       top-brought S c r sound top,
-      ap (λ z. holder_of z c) is ∙ f.holders c x (pay-holder S r message x c owed (top-found S c r sound top) none) (pay-none_stands R s.thread S r message x b owed),
+      ap (λ z. holder_of z c) is ∙ f.holders c x (begins-owed R s.thread S r x b owed) (pay-holder S r message x c owed (top-found S c r sound top) none) (pay-none_stands R s.thread S r message x b owed),
     )
 
     go : (o : Option ObjId) → owed_by S r ≡ o → AreWhole R after s a S (pay r message S)
@@ -166,19 +171,42 @@ pub record WholeReceived (R : Log) (s : Step) (S : Log) (o : Outcome) : Type 0 w
 pub record WholeReceive (R : Log) (s : Step) (act : Act) : Type 0 where
   pub at : (S : Log) → WholeReceived R s S (act S)
 
+-- a thread that may give up its context takes none from others
+home-holders : (t : ObjId) (n : Option ObjId) (S : Log) (c y : ObjId) → y ≢ t → holder_of S c ≡ Some y → holder_of (onto (go_home t n S) S) c ≡ Some y
+unfolding go_home
+home-holders t n S c y ne h = go n (context_of S t) refl
+  where
+    gone : (d : ObjId) (b : Bool) → context_of S t ≡ Some d → holder_of (onto (let_go (cond b (Some d) None) S) S) c ≡ Some y
+    gone d true is = other-held S c d y None (λ e. let who : Some y ≡ Some t = sym h ∙ ap (λ z. holder_of S z) e ∙ context_of-holder S t d is in ne cc) h
+    gone d false is = h
+
+    go : (n o : Option ObjId) → context_of S t ≡ o → holder_of (onto (let_go (if_at_home S n o) S) S) c ≡ Some y
+    go (Some m) (Some d) is = gone d (is_just (home_of S d) m && is_unlent S d) is
+    go (Some m) None is = h
+    go None o is = h
+
+-- the records by which it does so are plain
+plain-go_home : (t : ObjId) (n : Option ObjId) → Plain (go_home t n)
+unfolding go_home
+plain-go_home t n = record { passes = λ S. (plain-let_go (if_at_home S n (context_of S t))).passes S }
+
 -- the thread joins a queue, or is answered at once
-received-joins : (R : Log) (s : Step) (S : Log) (blocking : Bool) (q : Queue) (r : Option ObjId) → HoldsReply R r → WholeReceived R s S (joins_or blocking (rec.Joins s.thread q r) S)
-unfolding joins_or
-received-joins R s S true q r h = record {
-  whole = λ b. ((tt, tt, tt, (b.thread, b.alive, b.owed_nothing, held-made R s.thread S r b h), tt, λ sound. tt), tt);
-  follows = record { still = λ x ne. (refl, tt); holders = λ c y held none. held };
-}
-received-joins R s S false q r h = record { whole = λ b. tt; follows = record { still = λ x ne. tt; holders = λ c y held none. held } }
+received-joins : (R : Log) (s : Step) (S : Log) (blocking : Bool) (q : Queue) (r n : Option ObjId) → HoldsReply R r → WholeReceived R s S (joins_or blocking (stand s.thread q r n) S)
+unfolding joins_or stand ◌then◌
+received-joins R s S true q r n h =
+    let S' : Log = rec.Joins s.thread q r ∷ S in
+    let made : List Rec = go_home s.thread n S' in
+    let plain : Passes is_plain made = (plain-go_home s.thread n).passes S' in
+    record {
+      whole = λ b. ((tt, tt, tt, (b.thread, b.alive, b.owed_nothing, held-made R s.thread S r b h), tt, λ sound. tt), plain-all R (onto made S') s Waits S' made plain);
+      follows = record { still = λ x ne. (refl, passes-map is_plain (is_still x) (plain-still x) made plain); holders = λ c y ne held none. home-holders s.thread n S' c y ne held };
+    }
+received-joins R s S false q r n h = record { whole = λ b. tt; follows = record { still = λ x ne. tt; holders = λ c y ne held none. held } }
 
 -- a pending word comes first
 received-hear : (R : Log) (s : Step) (S : Log) (n : Option ObjId) (word : Option ℕ) (otherwise : Act) → WholeReceived R s S (otherwise S) → WholeReceived R s S (hear s.thread n word otherwise S)
 unfolding hear
-received-hear R s S (Some n) (Some word) otherwise h = record { whole = λ b. ((tt, tt, tt, tt, tt, λ sound. tt), tt); follows = record { still = λ x ne. (other-still x s.thread ne, tt); holders = λ c y held none. held } }
+received-hear R s S (Some n) (Some word) otherwise h = record { whole = λ b. ((tt, tt, tt, tt, tt, λ sound. tt), tt); follows = record { still = λ x ne. (other-still x s.thread ne, tt); holders = λ c y ne held none. held } }
 received-hear R s S None word otherwise h = h
 received-hear R s S (Some n) None otherwise h = h
 
@@ -190,7 +218,7 @@ received-open R s S e r (Some x) otherwise replies first h = go (open_of S x) re
   where
     go : (o : Option Letter) → open_of S x ≡ o → WholeReceived R s S (take_open s.thread r o otherwise S)
     go None is = h
-    go (Some l) is = record { whole = λ b. taken-whole R s S x (Senders e) l r b (first-stands S (Senders e) x first) (held-made R s.thread S r b replies) is; follows = record { still = λ y ne. taken-still S s.thread y l r ne; holders = λ c y held none. taken-holders S s.thread x (Senders e) l r c y (first-stands S (Senders e) x first) is held none } }
+    go (Some l) is = record { whole = λ b. taken-whole R s S x (Senders e) l r b (first-stands S (Senders e) x first) (held-made R s.thread S r b replies) is; follows = record { still = λ y ne. taken-still S s.thread y l r ne; holders = λ c y ne held none. taken-holders S s.thread x (Senders e) l r c y (first-stands S (Senders e) x first) is held none } }
 
 -- no holder changes by records that give and take no context
 unheld-holders : (S : Log) (c : ObjId) (made : List Rec) → Passes is_unheld made → holder_of (onto made S) c ≡ holder_of S c
@@ -214,7 +242,7 @@ receive-before R s p act hp hu ha = record {
             (each-append _ S made o.records (plain-all R (onto o.records (onto made S)) s o.answer S made (hp.passes S)) (h.whole (begins-plains R s.thread S made (hp.passes S) b)));
         follows = record {
           still = λ x ne. passes-append (is_still x) made o.records (passes-map is_plain (is_still x) (plain-still x) made (hp.passes S)) (h.follows.still x ne);
-          holders = λ c y held none. ap (λ z. holder_of z c) (onto-append made o.records S) ∙ h.follows.holders c y (unheld-holders S c made (hu.passes S) ∙ held) (none-plains S y made (hp.passes S) none);
+          holders = λ c y ne held none. ap (λ z. holder_of z c) (onto-append made o.records S) ∙ h.follows.holders c y ne (unheld-holders S c made (hu.passes S) ∙ held) (none-plains S y made (hp.passes S) none);
         };
       };
 }
@@ -222,7 +250,7 @@ receive-before R s p act hp hu ha = record {
 -- a receive
 receive-message : (R : Log) (s : Step) (e : ObjId) (r : Option ObjId) (blocking : Bool) → HoldsReply R r → WholeReceive R s (receive_message s.thread e r blocking)
 unfolding receive_message
-receive-message R s e r blocking h = record { at = λ S. received-hear R s S _ _ _ (received-open R s S e r (first_in S (Senders e)) _ h refl (received-joins R s S blocking (Receivers e) r h)) }
+receive-message R s e r blocking h = record { at = λ S. received-hear R s S _ _ _ (received-open R s S e r (first_in S (Senders e)) _ h refl (received-joins R s S blocking (Receivers e) r (bound_of S s.thread) h)) }
 
 -- a receive with a reply object
 receive-on : (R : Log) (s : Step) (e : ObjId) (r : Option ObjId) (blocking : Bool) → HoldsReply R r → WholeReceive R s (receive_on s.thread e r blocking)
@@ -236,7 +264,7 @@ holds-none R o is = absurd cc
 -- a wait
 wait-on : (R : Log) (s : Step) (n : ObjId) (blocking : Bool) → WholeReceive R s (wait_on s.thread n blocking)
 unfolding wait_on
-wait-on R s n blocking = record { at = λ S. received-hear R s S _ _ _ (received-joins R s S blocking (Waiters n) None (holds-none R)) }
+wait-on R s n blocking = record { at = λ S. received-hear R s S _ _ _ (received-joins R s S blocking (Waiters n) None (Some n) (holds-none R)) }
 
 -- a reply object that is looked up is held by a slot
 abbrev pub FindsReply : Log → Checked (Option ObjId) → Type 0
@@ -299,7 +327,7 @@ act-quiet R s a p h = passed-ok _ _ (record { whole = λ S b. quiet-all R (onto 
 
 -- an answer is paid
 act-pay : (R : Log) (s : Step) (a : Answer) (r : ObjId) (message : Content) → carried s.entry ≡ Some message → WholeAct R s (answers a (pay r message))
-act-pay R s a r message carries = record { whole = λ S b. pay-whole R (onto (pay r message S) S) s a S r message [] carries b (record { still = λ x ne. tt; holders = λ c y held none. held }) refl }
+act-pay R s a r message carries = record { whole = λ S b. pay-whole R (onto (pay r message S) S) s a S r message [] carries b (record { still = λ x ne. tt; holders = λ c y ne held none. held }) refl }
 
 -- an answer is paid, and then its payer receives
 pub act-pay_receive : (R : Log) (s : Step) (r : Option ObjId) (message : Content) (act : Act) → carried s.entry ≡ Some message → WholeReceive R s act → WholeAct R s (before (pay_any r message) act)
@@ -315,7 +343,7 @@ act-pay_receive R s (Some r) message act carries h = record {
 }
 
 -- a send, by the kind of its capability
-pub act-send_by : (k : Kind) (R : Log) (s : Step) (held : Cap) (message : Content) (alone : Act) → IsSending R s held message → WholeAct R s alone → OnPassed (WholeAct R s) (send_by k s.thread held message alone)
+pub act-send_by : (k : Kind) (R : Log) (s : Step) (held : Cap) (message : Content) (alone : Act) → IsSending R s held message → WholeAct R s alone → OnPassed (WholeAct R s) (send_by k how.Plain s.thread held message alone)
 unfolding send_by
 act-send_by Endpoint R s held message alone h ha = passed-next _ _ _ (passed-ok _ _ (sends-whole R s held how.Plain message Done alone h ha))
 act-send_by Notification R s held message alone h ha = passed-next _ _ _ (act-quiet R s Done _ (quiet-signal held.obj held.badge))
@@ -323,3 +351,64 @@ act-send_by Reply R s held message alone h ha = passed-ok _ _ (act-pay R s Done 
 act-send_by CNode R s held message alone h ha = passed-err _ _
 act-send_by Thread R s held message alone h ha = passed-err _ _
 act-send_by Context R s held message alone h ha = passed-err _ _
+
+-- what began goes on after a quiet record
+begins-quiet : (R : Log) (t : ObjId) (S : Log) (r : Rec) → is_quiet r ≡ true → Begins R t S → Begins R t (r ∷ S)
+begins-quiet R t S (rec.Heard x n word) e b = record { thread = b.thread; alive = b.alive; stands_none = b.stands_none; owed_nothing = b.owed_nothing; safe = (tt, b.safe); held = b.held }
+begins-quiet R t S (rec.Sent x d mode badge message) e b = absurd cc
+begins-quiet R t S (rec.Took m p) e b = absurd cc
+begins-quiet R t S (rec.Paid r x message) e b = absurd cc
+begins-quiet R t S (rec.Joins x q reply) e b = absurd cc
+begins-quiet R t S (rec.Owes r x c) e b = absurd cc
+begins-quiet R t S (rec.Slot c i held) e b = absurd cc
+begins-quiet R t S (rec.Made o form) e b = absurd cc
+begins-quiet R t S (rec.Closed o) e b = absurd cc
+begins-quiet R t S r e b = begins-plain R t S r refl b
+
+-- and after several
+begins-quiets : (R : Log) (t : ObjId) (S : Log) (made : List Rec) → Passes is_quiet made → Begins R t S → Begins R t (onto made S)
+begins-quiets R t S [] h b = b
+begins-quiets R t S (r ∷ made) h b = begins-quiets R t (r ∷ S) made h.1 (begins-quiet R t S r h.0 b)
+
+-- what is sent before a receive: it is whole where what comes after it reaches nobody else, and the entering thread goes on
+pub record WholeFirst (R : Log) (s : Step) (p : Piece) : Type 0 where
+  pub whole : (S after : Log) (a : Answer) (more : List Rec) → Begins R s.thread S → Follows s.thread (onto (p S) S) more → after ≡ onto more (onto (p S) S) → AreWhole R after s a S (p S)
+  pub begins : (S : Log) → Begins R s.thread S → Begins R s.thread (onto (p S) S)
+
+-- a send with the sender's context, by the kind of its capability
+pub first-send_by : (k : Kind) (R : Log) (s : Step) (held : Cap) (message : Content) → IsSending R s held message → OnPassed (λ send. WholeFirst R s (silently send)) (send_by k how.Give s.thread held message (answers Done nothing))
+unfolding send_by
+first-send_by Endpoint R s held message h = passed-next _ _ _ (passed-ok (λ send. WholeFirst R s (silently send)) _ (record {
+  whole = λ S after a more b f is. sends-first R after s held message Done Done a S more h b f.still is;
+  begins = λ S b. begins-sends R s.thread held message Done Done S b;
+}))
+first-send_by Notification R s held message h = passed-next _ _ _ (passed-ok (λ send. WholeFirst R s (silently send)) _ (record {
+  whole = λ S after a more b f is. quiet-all R after s a S (signal held.obj held.badge S) ((quiet-signal held.obj held.badge).passes S);
+  begins = λ S b. begins-quiets R s.thread S (signal held.obj held.badge S) ((quiet-signal held.obj held.badge).passes S) b;
+}))
+first-send_by Reply R s held message h = passed-ok (λ send. WholeFirst R s (silently send)) _ (record {
+  whole = λ S after a more b f is. pay-whole R after s a S held.obj message more h.carries b f is;
+  begins = λ S b. begins-pay R s.thread S held.obj message b;
+})
+first-send_by CNode R s held message h = passed-err _ _
+first-send_by Thread R s held message h = passed-err _ _
+first-send_by Context R s held message h = passed-err _ _
+
+-- a piece that is sent, and then a receive
+act-first_receive : (R : Log) (s : Step) (p : Piece) (act : Act) → WholeFirst R s p → WholeReceive R s act → WholeAct R s (before p act)
+unfolding before
+act-first_receive R s p act f h = record {
+  whole = λ S b.
+      let made : List Rec = p S in
+      let o : Outcome = act (onto made S) in
+      let k : WholeReceived R s (onto made S) o = h.at (onto made S) in
+      each-append _ S made o.records (f.whole S (onto (made ++ o.records) S) o.answer o.records b k.follows (onto-append made o.records S))
+      (subst (λ after. AreWhole R after s o.answer (onto made S) o.records) (sym (onto-append made o.records S)) (k.whole (f.begins S b)));
+}
+
+-- sends, and then receives
+pub act-send_receive : (R : Log) (s : Step) (sending : Checked Act) (address : ℕ) (reply : Checked (Option ObjId)) → OnPassed (λ send. WholeFirst R s (silently send)) sending → FindsReply R reply
+    → OnPassed (WholeAct R s) (send_receive R s.thread sending address reply)
+unfolding send_receive
+act-send_receive R s sending address reply sends finds = passed-after (λ send. WholeFirst R s (silently send)) (WholeAct R s) sending _ sends (λ send f. passed-bind _ _ _ (λ source.
+    passed-after (WholeReceive R s) (WholeAct R s) _ _ (receive-over R s source reply true finds) (λ act k. passed-ok (WholeAct R s) _ (act-first_receive R s (silently send) act f k))))

@@ -18,7 +18,7 @@ use Rattle.mcs_types.specs.declared.record.Rec.TheVariants as rec
 use Rattle.mcs_types.specs.declared.entry.Answer.TheVariants.{Done, Waits}
 use Rattle.mcs_types.specs.declared.entry.Step.{Step}
 use Rattle.mcs_types.specs.declared.entry.Entry.{Entry}
-use Rattle.mcs_types.specs.declared.entry.Entry.TheVariants.{Send, NbSend, Call, Recv, NbRecv, Wait, NbWait, ReplyRecv, Signal, SetPriority, Suspend, Resume, BindNtfn, UnbindNtfn, BindCtx, UnbindCtx, CancelBadged, CopyCap, MintCap, MoveCap, DeleteCap, MakeEndpoint, MakeNotification, MakeReply, MakeContext}
+use Rattle.mcs_types.specs.declared.entry.Entry.TheVariants.{Send, NbSend, Call, Recv, NbRecv, Wait, NbWait, ReplyRecv, Signal, SetPriority, Suspend, Resume, BindNtfn, UnbindNtfn, BindCtx, UnbindCtx, CancelBadged, CopyCap, MintCap, MoveCap, DeleteCap, MakeEndpoint, MakeNotification, MakeReply, MakeContext, NbSendRecv, NbSendWait}
 use Rattle.mcs_book.specs.Logs.{Log, onto}
 use Rattle.mcs_book.specs.Rights.{call_mode}
 use Rattle.mcs_book.specs.Lookup.{capability, of_kind}
@@ -45,7 +45,7 @@ use Rattle.mcs_book.proofs.Paths.PathLaws.{capability-named}
 use Rattle.mcs_book.proofs.SoundLogs.Making.{is_plain, is_quiet, quiet-piece, makes-say, makes-nothing, makes-if, plain-cancel, plain-cancel_all, plain-unbind, quiet-signal, plain-wakes}
 use Rattle.mcs_book.proofs.SoundLogs.Safety.{Safe}
 use Rattle.mcs_book.proofs.WholeMessages.Records.{MadeOn, each-append, AreWhole, plain-all, Begins, begins-plains, WholeAct, IsSending, sends-whole, queues-whole}
-use Rattle.mcs_book.proofs.WholeMessages.Rows.{passed-found, of_kind-found, WholeReceive, receive-over, reply-at, no-reply, found-reply, act-receives, act-quiet, act-pay_receive, act-send_by}
+use Rattle.mcs_book.proofs.WholeMessages.Rows.{passed-found, of_kind-found, WholeReceive, receive-over, reply-at, no-reply, found-reply, act-receives, act-quiet, act-pay_receive, act-send_by, first-send_by, act-send_receive}
 
 -- the step of an entry
 abbrev pub step_of : CoreId → ObjId → Entry → Step
@@ -58,6 +58,14 @@ is-send R core t a held message e = record { carries = refl; address = a; used =
 -- the same of a send that does not block
 is-nb_send : (R : Log) (core : CoreId) (t : ObjId) (a : ℕ) (held : Cap) (message : Content) → capability R t a ≡ Ok held → IsSending R (step_of core t (NbSend a message)) held message
 is-nb_send R core t a held message e = record { carries = refl; address = a; used = refl; named = capability-named R t a held e }
+
+-- the same of a send before a receive
+is-first_send : (R : Log) (core : CoreId) (t : ObjId) (a source r : ℕ) (held : Cap) (message : Content) → capability R t a ≡ Ok held → IsSending R (step_of core t (NbSendRecv a source r message)) held message
+is-first_send R core t a source r held message e = record { carries = refl; address = a; used = refl; named = capability-named R t a held e }
+
+-- and before a wait
+is-wait_send : (R : Log) (core : CoreId) (t : ObjId) (a source : ℕ) (held : Cap) (message : Content) → capability R t a ≡ Ok held → IsSending R (step_of core t (NbSendWait a source message)) held message
+is-wait_send R core t a source held message e = record { carries = refl; address = a; used = refl; named = capability-named R t a held e }
 
 -- the same of a call
 is-call : (R : Log) (core : CoreId) (t : ObjId) (a : ℕ) (held : Cap) (message : Content) → of_kind R t Endpoint a ≡ Ok held → IsSending R (step_of core t (Call a message)) held message
@@ -170,6 +178,12 @@ whole-row R core t (BindNtfn x n) = passed-bind _ _ _ (λ thread. passed-bind _ 
 whole-row R core t (UnbindNtfn x) = passed-bind _ _ _ (λ thread. passed-next _ _ _ (act-say R _ (rec.Tied thread.obj None) refl))
 whole-row R core t (BindCtx s x) = passed-bind _ _ _ (λ context. passed-bind _ _ _ (λ target. act-bind_by target.obj.kind R _ context.obj target.obj))
 whole-row R core t (UnbindCtx s) = passed-bind _ _ _ (λ context. passed-next _ _ _ (act-quiet R _ Done _ (quiet-piece _ (plain-unbind context.obj))))
+whole-row R core t (NbSendRecv a source r message) =
+    let s : Step = step_of core t (NbSendRecv a source r message) in
+    act-send_receive R s _ source _ (passed-found _ _ _ (λ held e. first-send_by held.obj.kind R s held message (is-first_send R core t a source r held message e))) (reply-at R t r)
+whole-row R core t (NbSendWait a source message) =
+    let s : Step = step_of core t (NbSendWait a source message) in
+    act-send_receive R s _ source _ (passed-found _ _ _ (λ held e. first-send_by held.obj.kind R s held message (is-wait_send R core t a source held message e))) (no-reply R)
 whole-row R core t (CancelBadged a) =
     passed-bind _ _ _ (λ held. passed-next _ _ _ (act-quiet R _ Done _ (quiet-piece _ (makes-if is_plain _ nothing (cancel_all (senders_with R held.obj held.badge.0) Restart) (makes-nothing is_plain) (plain-cancel_all _ Restart)))))
 whole-row R core t (CopyCap source dest rights) = passed-found _ _ _ (λ at e. act-fill R _ at.dest _ at.cap at.source.cnode at.source.index (source-held R t source dest at e) refl)

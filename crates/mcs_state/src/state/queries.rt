@@ -10,7 +10,7 @@ ghost use Rattle.mcs_book.specs.Queues.{queue_of, reply_with, first_in};
 ghost use Rattle.mcs_book.specs.Messages.{next_message, open_of};
 ghost use Rattle.mcs_book.specs.Contexts.{holder_of, context_of};
 ghost use Rattle.mcs_types.specs.Chains.{head_of};
-ghost use Rattle.mcs_book.specs.Chains.{chain_of};
+ghost use Rattle.mcs_book.specs.Chains.{chain_of, is_unlent};
 ghost use Rattle.mcs_book.specs.Replies.{receiver_with, owed_by, user_of};
 ghost use Rattle.mcs_book.specs.Standing.{status_of, mail_of, is_on_core};
 ghost use Rattle.mcs_book.specs.Lookup.{radix_kept, capability, slot_named};
@@ -281,6 +281,13 @@ impl<W: Waiting> State<W> {
         ensures { result ≡ head_of (chain_of (so_far self.now) context) }
     {
         self.replies.top_of(context)
+    }
+
+    /// Whether a context came along no call that has not ended (own).
+    pub fn is_unlent(&self, context: ObjId) -> bool
+        ensures { result ≡ is_unlent (so_far self.now) context }
+    {
+        self.top_of(context).is_none()
     }
 
     /// The capability that a thread that is there names by an address: Missing where there is none, GuardMismatch and

@@ -21,18 +21,17 @@ returns-in-Some g c =
     let is = wait-hears (so_far c.args.state.now) c.args.blocks c.args.thread c.args.notification c.in-Some.word (sym c.pending.ensures ∙ c.in-Some.is) in
     subst (λ (o : Outcome). Gives o c.args.state.now (Heard c.in-Some.word) c.hears.new.self) (sym is) (record { records = c.hears.ensures; answer = refl })
 
-pub joins-requires-clause-room : goal.joins-requires-clause-room
-joins-requires-clause-room g c =
+pub stand-requires-clause-room : goal.stand-requires-clause-room
+stand-requires-clause-room g c =
     let R = so_far c.args.state.now in
     let is = ap (λ b. wait_on c.args.thread c.args.notification b R) c.if-blocks.true ∙ wait-joins R c.args.thread c.args.notification (sym c.pending.ensures ∙ c.in-None.is) in
-    let room = subst (λ (o : Outcome). Holds o.records c.args.state.now) is c.requires.room in
-    omega (arith, room)
+    subst (λ (o : Outcome). Holds o.records c.args.state.now) is c.requires.room
 
 pub returns-in-None : goal.returns-in-None
 returns-in-None g c =
     let R = so_far c.args.state.now in
     let is = ap (λ b. wait_on c.args.thread c.args.notification b R) c.if-blocks.true ∙ wait-joins R c.args.thread c.args.notification (sym c.pending.ensures ∙ c.in-None.is) in
-    subst (λ (o : Outcome). Gives o c.args.state.now Waits c.joins.new.self) (sym is) (record { records = c.joins.ensures; answer = refl })
+    subst (λ (o : Outcome). Gives o c.args.state.now Waits c.stand.new.state) (sym is) (record { records = c.stand.ensures; answer = refl })
 
 pub returns-in-None-2 : goal.returns-in-None-2
 returns-in-None-2 g c =

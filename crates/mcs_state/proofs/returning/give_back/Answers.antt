@@ -5,8 +5,8 @@ use Rattle.mcs_book.proofs.Firm.Laws.{context-none}
 use Rattle.mcs_book.proofs.Threads.UserLaws.{if_some}
 use Rattle.mcs_state.specs.Now.{so_far, adds_all}
 use Rattle.mcs_state.specs.Doing.{Holds}
-use Rattle.mcs_cancel.proofs.Lending.{back-none, back-held, back-gives}
-use Rattle.mcs_cancel.proofs.returning.give_back.Goals as goal
+use Rattle.mcs_state.proofs.Passing.{back-none, back-held, back-gives}
+use Rattle.mcs_state.proofs.returning.give_back.Goals as goal
 
 pub holds-requires-clause-allowed : goal.holds-requires-clause-allowed
 holds-requires-clause-allowed g c =

@@ -1,0 +1,63 @@
+//! NBSendRecv and NBSendWait.
+ghost use Rattle.std.specs.Prelude.{◌<◌, length};
+ghost use Rattle.mcs_state.specs.Now.{so_far};
+ghost use Rattle.mcs_state.specs.Doing.{Acts, FitsAct, Does, Fits};
+ghost use Rattle.mcs_state.specs.Entering.{IsEntering, OpenStand, OnlyBoundWait};
+ghost use Rattle.mcs_ipc.specs.Ready.{IsSendingOver, IsReceivingFrom};
+ghost use Rattle.mcs_ipc.specs.Rows.{exchange_entry, exchange_act};
+
+use crate::checks::{Exchange, ends_of_exchange};
+use crate::receiving::receive_from;
+use crate::sending::send_target;
+use mcs_state::{State, wake};
+use mcs_types::{Answer, BOOK_LINES, Copies, CoreId, ObjId, SendMode};
+use mcs_waiting::Waiting;
+
+/// Sends what does not wait, with the thread's context, and then receives.
+fn send_and_receive<W: Waiting>(
+    state: &mut State<W>,
+    thread: ObjId,
+    at: Exchange,
+    message: Copies,
+) -> Answer
+    requires sending { IsSendingOver (so_far state.old) thread at.target }
+    requires receiving { IsReceivingFrom (so_far state.old) thread at.source }
+    requires waiting { OnlyBoundWait (so_far state.old) }
+    requires few { length state.old.book.lines < BOOK_LINES }
+    requires room { FitsAct (exchange_act message thread at) state.old }
+    ensures { Acts (exchange_act message thread at) state.old result state.new }
+{
+    state.is_sound();
+    send_target(state, thread, at.target, SendMode::Give, message, false);
+    receive_from(state, thread, at.source, true)
+}
+
+/// NBSendRecv where a reply object is named, and NBSendWait where not: the thread sends as by NBSend, and then receives as by Recv or
+/// Wait over a second capability, which is what is answered. Where a receiver that holds no context takes the message, the thread's
+/// context goes along, and nobody owes anything for it. All tests come first, those of the send before those of the receive: the refusals
+/// are those of NBSend and of Recv, and change nothing (own).
+pub fn exchange<W: Waiting>(
+    state: &mut State<W>,
+    core: CoreId,
+    thread: ObjId,
+    address: u64,
+    source: u64,
+    reply: Option<u64>,
+    message: Copies,
+) -> Answer
+    requires entering { IsEntering (so_far state.old) thread }
+    requires stand { OpenStand (so_far state.old) }
+    requires waiting { OnlyBoundWait (so_far state.old) }
+    requires few { length state.old.book.lines < BOOK_LINES }
+    requires room { Fits state.old core thread (exchange_entry address source reply message) }
+    ensures { Does state.old core thread (exchange_entry address source reply message) result state.new }
+{
+    state.is_sound();
+    match ends_of_exchange(state, thread, address, source, reply) {
+        Err(refusal) => Answer::Refused(refusal), // Nothing is sent yet.
+        Ok(at) => {
+            wake(state, thread);
+            send_and_receive(state, thread, at, message)
+        }
+    }
+}
