@@ -14,4 +14,5 @@ mod taking;
 pub use contexts::{bind_context, unbind_context};
 pub use exchanging::exchange;
 pub use receiving::{receive, reply_receive};
+pub use replying::pay;
 pub use sending::{call, send};

@@ -80,11 +80,11 @@ unfolding book_of
 book-begun boot b ss is = ap (λ x. fold with_step x ss) is
 
 -- the first step with a full book comes after those that were taken before
-pub full-later : (n : ℕ) (b : Book) (ss : List Step) → IfSome (full_after n b ss) (λ m. n + 1 ≤ m)
+pub full-later : (n : ℕ) (b : Book) (ss : List Step) → IfSome (full_after n b ss) (λ m. n < m)
 full-later n b [] = tt
 full-later n b (s ∷ ss) = go (is_book_full (fault_of b s.core s.thread)) (full_after (n + 1) (with_step b s) ss) (full-later (n + 1) (with_step b s) ss)
   where
-    go : (v : Bool) (o : Option ℕ) → IfSome o (λ m. n + 1 + 1 ≤ m) → IfSome (cond v (Some (n + 1)) o) (λ m. n + 1 ≤ m)
+    go : (v : Bool) (o : Option ℕ) → IfSome o (λ m. n + 1 < m) → IfSome (cond v (Some (n + 1)) o) (λ m. n < m)
     go true o h = omega arith
     go false None h = tt
     go false (Some m) h = omega (arith, h)
@@ -99,4 +99,7 @@ pub ends-at-next : (n : ℕ) (b : Book) (s : Step) (ss : List Step) (count : ℕ
 ends-at-next n b s ss count (ended.BookFull m) ends few =
     ap (λ v. cond v (Some (n + 1)) (full_after (n + 1) (with_step b s) ss)) ends.1 ∙ ap (λ k. Some k) (sym ends.0)
 ends-at-next n b s ss count (ended.OutOfMemory m) ends few =
-    (omega (arith, ends.0, few), subst (λ k. IfSome (full_after n b (s ∷ ss)) (λ j. k ≤ j)) (sym ends.0) (full-later n b (s ∷ ss)))
+    (omega (arith, ends.0, few), subst (λ k. IfSome (full_after n b (s ∷ ss)) (λ j. k < j)) (sym ends.0) later)
+  where
+    later : IfSome (full_after n b (s ∷ ss)) (λ j. n + 1 < j)
+    later = subst (λ v. IfSome (cond v (Some (n + 1)) (full_after (n + 1) (with_step b s) ss)) (λ j. n + 1 < j)) (sym ends.1) (full-later (n + 1) (with_step b s) ss)

@@ -1,5 +1,5 @@
 -- Runs of steps: where the book is full for one that would be let in.
-use Rattle.std.specs.Prelude.{ℕ, ◌≡◌, ◌≤◌, ◌+◌, ◌-◌, ◌^◌, min, Bool, true, false, cond, Option, Some, None, List, [], ◌∷◌}
+use Rattle.std.specs.Prelude.{ℕ, ◌≡◌, ◌<◌, ◌≤◌, ◌+◌, ◌-◌, ◌^◌, min, Bool, true, false, cond, Option, Some, None, List, [], ◌∷◌}
 use Rattle.std.specs.Option.{IfSome}
 use Rattle.mcs_types.specs.declared.entry.Step.{Step}
 use Rattle.mcs_types.specs.declared.entry.Answer.{Answer}
@@ -49,10 +49,10 @@ abbrev pub full_in : Boot → List Step → Option ℕ
 full_in boot ss = full_after 0 (record { boot = boot; lines = [] }) ss
 
 -- a fault of a replay of so many steps, whose first step with a full book has this number: BookFull comes at that step alone,
--- and OutOfMemory at one of the steps before or at it, or at the boot, which has the number 0
+-- and OutOfMemory at one of the steps before it, or at the boot, which has the number 0
 abbrev pub EndsAt : ℕ → Option ℕ → ReplayFault → Type 0
 EndsAt count full (ended.BookFull n) = full ≡ Some n
-EndsAt count full (ended.OutOfMemory n) = (n ≤ count) × IfSome full (λ m. n ≤ m)
+EndsAt count full (ended.OutOfMemory n) = (n ≤ count) × IfSome full (λ m. n < m)
 
 -- a fault of the step with this number: BookFull where the book is full for it, else OutOfMemory
 abbrev pub StepEnds : ℕ → Bool → ReplayFault → Type 0

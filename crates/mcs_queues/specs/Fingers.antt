@@ -17,10 +17,22 @@ finger rows q b = slice_index_or (slice_index_or rows q no_fingers).threads b No
 abbrev pub Points : List Row → List Row → ℕ → ℕ → Option ThreadNo → Type 0
 Points old new q b o = (k c : ℕ) → finger new k c ≡ cond ((k == q) && (c == b)) o (finger old k c)
 
--- the finger of line q for band b does not point at thread t any more, and none points where it did not
+-- no finger points where it did not
+abbrev pub NoneMoves : List Row → List Row → Type 0
+NoneMoves old new = (k c : ℕ) (u : ThreadNo) → finger new k c ≡ Some u → finger old k c ≡ Some u
+
+-- the finger of line q for band b does not point at thread t any more, none points where it did not, and every other is as it was
 pub record IsReleased (old new : List Row) (q b : ℕ) (t : ThreadNo) : Type 0 where
   pub left : finger new q b ≢ Some t
-  pub same : (k c : ℕ) (u : ThreadNo) → finger new k c ≡ Some u → finger old k c ≡ Some u
+  pub same : NoneMoves old new
+  pub others : Points old new q b (finger new q b)
+
+-- at most one finger is another, and that points nowhere any more
+pub record AtMostOneGoes (old new : List Row) : Type 0 where
+  pub line : ℕ
+  pub band : ℕ
+  pub others : Points old new line band (finger new line band)
+  pub none : NoneMoves old new
 
 -- a thread is the finger of a band below that of a priority
 abbrev pub IsLower : List Row → ℕ → ℕ → ThreadNo → Type 0

@@ -5,7 +5,7 @@ ghost use Rattle.mcs_queues.specs.Changes.{waiter, may_join, JoinsLine, JoinsPla
 ghost use Rattle.mcs_queues.specs.Numbers.{thread_number, line_number};
 ghost use Rattle.mcs_queues.specs.Links.{Ranged, relinked, rooms_of, spelled, stands_at, link_changes};
 ghost use Rattle.mcs_queues.specs.Linked.{Linked, Between, Walked};
-ghost use Rattle.mcs_queues.specs.Fingers.{Pointed};
+ghost use Rattle.mcs_queues.specs.Fingers.{Pointed, AtMostOneGoes};
 
 use crate::fingers::Fingers;
 use crate::lines::{LineNo, Lines, ThreadNo};
@@ -115,6 +115,7 @@ fn leave(slots: &mut Slots, fingers: &mut Fingers, t: ThreadNo) -> Option<LineNo
     ensures threads { length slots.new.threads ≡ length slots.old.threads }
     ensures lines { length slots.new.lines ≡ length slots.old.lines }
     ensures changes { link_changes slots.old slots.new ≤ 4 }
+    ensures finger { AtMostOneGoes fingers.old fingers.new }
 {
     if slots.threads() <= t.0 as usize {
         return None;
@@ -339,7 +340,7 @@ impl Lines for LinkedLines {
         next_in(&self.slots, t)
     }
 
-    /// As the trait's. At most four links differ after it (own).
+    /// As the trait's. At most four links differ after it, and at most one finger, which then points nowhere (own).
     fn part(&mut self, t: ThreadNo) -> Option<LineNo>
         ensures answer { line_number result ≡ stands_at self.old t.0 }
         ensures line { (k : ℕ) → spelled self.new k ≡ without t.0 (spelled self.old k) }
