@@ -59,7 +59,8 @@ fn leave_reply<W: Waiting>(state: &mut State<W>, thread: ObjId)
     match reply_awaited(state.status(thread)) {
         None => {}
         Some(reply) => {
-            state.voids(reply, thread, Ending::Cancelled);
+            // The context whose chain it topped stays with its holder.
+            let _topped = state.voids(reply, thread, Ending::Cancelled);
         }
     }
 }

@@ -1,8 +1,10 @@
 //! Messages that are open.
-ghost use Rattle.std.specs.Prelude.{◌≡◌};
+ghost use Rattle.std.specs.Prelude.{◌≡◌, IsSome, Some};
 ghost use Rattle.mcs_book.specs.Standing.{letter_mail};
+ghost use Rattle.mcs_threads.specs.Tables.{made, row_of, SameRows, SetsMail};
 
-use mcs_types::{Letter, Mail, Message};
+use mcs_threads::Threads;
+use mcs_types::{Letter, Mail, Message, ObjId};
 use std::marker::Model;
 
 /// An open message, with an equal one for the answer to who receives it. Clauses see the letter.
@@ -32,15 +34,20 @@ impl OpenLetter {
     }
 }
 
-/// The mail that a letter is to its receiver, and the message for the answer.
-pub fn opened(letter: OpenLetter) -> (Mail, Message)
-    ensures mail { result.0 ≡ letter_mail letter }
-    ensures answer { result.1 ≡ letter.message }
+/// A letter becomes the mail of its receiver, where that is a thread that is there. The answer is an equal message.
+#[inline(always)]
+pub fn deliver(threads: &mut Threads, receiver: ObjId, letter: OpenLetter) -> Message
+    ensures mails { IsSome (row_of threads.old receiver)
+        → SetsMail threads.old threads.new receiver (Some (letter_mail letter)) }
+    ensures rows { SameRows threads.old threads.new }
+    ensures made { made threads.new ≡ made threads.old }
+    ensures answer { result ≡ letter.message }
 {
     let OpenLetter { letter, answer } = letter;
     let mail = Mail::Message {
         badge: letter.badge,
         message: letter.message,
     };
-    (mail, answer)
+    threads.set_mail(receiver, mail);
+    answer
 }

@@ -17,7 +17,7 @@ mod queries;
 mod replying;
 
 use crate::giving::{attend, attended, give};
-use crate::letters::{OpenLetter, opened};
+use crate::letters::{OpenLetter, deliver};
 use mcs_book::Book;
 use mcs_contexts::Contexts;
 use mcs_notifications::Notifications;
@@ -300,11 +300,7 @@ impl<W: Waiting> State<W> {
         );
         match take(Kind::Thread, &mut self.letters, sender) {
             None => unreachable!(),
-            Some(letter) => {
-                let (mail, answer) = opened(letter);
-                self.threads.set_mail(receiver, mail);
-                answer
-            }
+            Some(letter) => deliver(&mut self.threads, receiver, letter),
         }
     }
 
