@@ -8,13 +8,13 @@ use Rattle.mcs_state.specs.Now.{so_far}
 use Rattle.mcs_cancel.proofs.Leaving.{owing-awaited}
 use Rattle.mcs_cancel.proofs.cancelling.leave_reply.Goals as goal
 
-pub voids-_topped-requires-clause-allowed : goal.voids-_topped-requires-clause-allowed
-voids-_topped-requires-clause-allowed g c =
+pub voids-topped-requires-clause-allowed : goal.voids-topped-requires-clause-allowed
+voids-topped-requires-clause-allowed g c =
     let is = owing-awaited (so_far c.args.state.now) c.args.thread c.status.result c.reply_awaited.result c.requires.there c.requires.stands c.status.ensures c.reply_awaited.ensures ∙ c.in-Some.is in
     owing-owed (so_far c.args.state.now) c.args.thread c.in-Some.reply is
 
-pub voids-_topped-requires-clause-room : goal.voids-_topped-requires-clause-room
-voids-_topped-requires-clause-room g c =
+pub voids-topped-requires-clause-room : goal.voids-topped-requires-clause-room
+voids-topped-requires-clause-room g c =
     let is = owing-awaited (so_far c.args.state.now) c.args.thread c.status.result c.reply_awaited.result c.requires.there c.requires.stands c.status.ensures c.reply_awaited.ensures ∙ c.in-Some.is in
     let room = subst (λ o. HasRoomFor (with_any o (λ r. say (rec.Void r c.args.thread Cancelled))) c.args.state.now) is c.requires.room in
     omega (arith, room)
@@ -27,4 +27,4 @@ returns-in-None g c =
 pub returns-in-Some : goal.returns-in-Some
 returns-in-Some g c =
     let is = owing-awaited (so_far c.args.state.now) c.args.thread c.status.result c.reply_awaited.result c.requires.there c.requires.stands c.status.ensures c.reply_awaited.ensures ∙ c.in-Some.is in
-    rw is c.voids-_topped.ensures.void
+    rw is c.voids-topped.ensures.void
