@@ -1,5 +1,5 @@
 -- What a step that is taken or turned away does to the book, and a run of steps cut at one of them.
-use Rattle.std.specs.Prelude.{ℕ, ◌≡◌, ◌≢◌, ◌<◌, ◌≤◌, ◌+◌, ◌^◌, ◌&&◌, Bool, true, false, cond, List, [], ◌∷◌, fold, Option, Some, None, Result, Err, option_and_then}
+use Rattle.std.specs.Prelude.{ℕ, ◌≡◌, ◌≢◌, ◌<◌, ◌+◌, ◌^◌, ◌&&◌, Bool, true, false, cond, List, [], ◌∷◌, fold, Option, Some, None, Result, Err, option_and_then}
 use Rattle.std.specs.Option.{IfSome, IfNone}
 use Rattle.std.specs.Result.{IfErr}
 use Rattle.std.proofs.Common.{refl, ap, sym, ◌∙◌, subst, arith}

@@ -1,9 +1,9 @@
-use Rattle.std.proofs.Common.{◌+◌, ◌∷◌, ◌∙◌, length, List, drop, sym, ap, subst, arith}
+use Rattle.std.proofs.Common.{◌+◌, ◌∷◌, [], ◌∙◌, length, List, drop, sym, ap, subst, arith}
 use Rattle.std.proofs.lemmas.List.{drop_more}
 use Rattle.mcs_types.specs.declared.entry.Step.{Step}
 use Rattle.mcs_kernel.specs.Runs.{Run, is_book_full, full_after, EndsAt, StepEnds}
 use Rattle.mcs_kernel.specs.Faults.{fault_of}
-use Rattle.mcs_kernel.proofs.Stepping.{book-begun, counts-on, ends-at-next}
+use Rattle.mcs_kernel.proofs.Stepping.{book-begun, counts-on, full-later, ends-at-next}
 use Rattle.mcs_kernel.proofs.replaying.replay.Goals as goal
 
 pub loop-step-init : goal.loop-step-init
@@ -26,3 +26,6 @@ returns-in-Err-advance-clause-full g c =
     let at = ends-at-next c.loop-step.run.taken c.loop-step.run.book s rest count c.in-Err-advance.fault ends (omega (arith, i.0, c.loop-step-test.true)) in
     subst (λ o. EndsAt count o c.in-Err-advance.fault) i.2
     (subst (λ ss. EndsAt count (full_after c.loop-step.run.taken c.loop-step.run.book ss) c.in-Err-advance.fault) (sym next) at)
+
+pub returns-in-Err-clause-full : goal.returns-in-Err-clause-full
+returns-in-Err-clause-full g c = (omega arith, full-later 0 (record { boot = c.args.boot; lines = [] }) c.args.steps.now)
