@@ -39,6 +39,7 @@ pub fn message_at(alloc: Global, words: &[u64], at: u32, len: u8) -> Result<Mess
 }
 
 /// Whether this message stands at a place.
+#[inline(always)]
 fn is_at(words: &[u64], at: u32, message: &Message) -> bool
     ensures there { IsTrue result → IsMessageAt words.now at (length message.now.words) }
     ensures value { IsTrue result → HoldsAt words.now at message.now }
