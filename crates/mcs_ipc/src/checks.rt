@@ -132,6 +132,7 @@ fn notification_source<W: Waiting>(
 }
 
 /// What a thread receives from. A reply object is looked up for an endpoint alone.
+#[inline(always)]
 pub fn source_to_receive<W: Waiting>(
     state: &State<W>,
     thread: ObjId,

@@ -133,6 +133,7 @@ fn send_signal<W: Waiting>(state: &mut State<W>, cap: Cap) -> Answer
 }
 
 /// Sends over an endpoint, a notification or a reply object.
+#[inline(always)]
 pub fn send_target<W: Waiting>(
     state: &mut State<W>,
     thread: ObjId,

@@ -237,6 +237,7 @@ impl<W: Waiting> State<W> {
     }
 
     /// A thread sends a message on an endpoint.
+    #[inline(always)]
     pub fn sends(
         &mut self,
         sender: ObjId,
@@ -283,6 +284,7 @@ impl<W: Waiting> State<W> {
 
     /// The open message of a sender, which has this number, is received: it moves to the mail of its receiver. The answer is an
     /// equal message.
+    #[inline(always)]
     pub fn took(&mut self, number: u32, sender: ObjId, receiver: ObjId) -> Message
         requires allowed { Allowed (so_far self.old) (Rec.Took number receiver) }
         requires open { IsNumberOf number (open_of (so_far self.old) sender) }
