@@ -1,0 +1,12 @@
+use Rattle.mcs_cores.proofs.Audit.{reason, settled-counted}
+use Rattle.mcs_cores.proofs.machine.Machine.finish.Goals as goal
+
+pub returns-clause-fault : goal.returns-clause-fault
+returns-clause-fault g c =
+    reason c.into_locked.result c.args.boot.now c.args.seats.items c.settle.ensures.legal c.settle.ensures.counted c.settle.result
+    c.settle.ensures.fault
+
+pub returns-clause-counted : goal.returns-clause-counted
+returns-clause-counted g c =
+    settled-counted c.into_locked.result c.args.seats.items c.settle.ensures.counted c.settle.result c.settle.ensures.same
+    c.settle.ensures.seats
