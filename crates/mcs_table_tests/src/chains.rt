@@ -21,13 +21,6 @@ impl Debt {
     }
 }
 
-/// What the links are compared with: the debts of 256 reply objects in the order in which they came.
-#[derive(Drop)]
-struct Plain {
-    replies: Vec<ObjId>,
-    debts: Vec<Debt>,
-}
-
 fn object(kind: Kind, serial: u32) -> ObjId {
     ObjId { kind, serial }
 }
@@ -49,25 +42,32 @@ fn next_number(n: u64) -> u64 {
         .wrapping_add(1_442_695_040_888_963_407)
 }
 
-/// Takes those of the oldest debts that are in the chain of a context out of it.
-fn unlink(debts: &mut Vec<Debt>, context: ObjId, oldest: usize) {
-    for at in 0..oldest {
-        if let Some(debt) = debts.get_mut(at) {
-            if debt.is_with(context) {
-                debt.context = None;
-            }
-        }
-    }
+/// A call on reply objects, which are named by their numbers in a list, or by none where they are not there.
+#[derive(Clone, Copy)]
+enum Call {
+    Owe(Debt),
+    Pay(ObjId),
+    Void(ObjId, Ending),
+    /// The chain of a context is emptied.
+    Drop(ObjId),
+    /// A new reply object comes in the place of one that owes nobody.
+    Renew(usize),
 }
 
-/// Whether no debt from a place on is in the chain of a context.
-fn is_top(debts: &[Debt], context: ObjId, from: usize) -> bool {
-    for at in from..debts.len() {
-        if debts[at].is_with(context) {
-            return false;
+/// What the links are compared with: the debts of 256 reply objects in the order in which they came.
+#[derive(Drop)]
+struct Plain {
+    replies: Vec<ObjId>,
+    debts: Vec<Debt>,
+}
+
+/// Takes those of the oldest debts that are in the chain of a context out of it.
+fn unlink(debts: &mut [Debt], context: ObjId) {
+    for debt in debts.iter_mut() {
+        if debt.is_with(context) {
+            debt.context = None;
         }
     }
-    true
 }
 
 impl Plain {
@@ -101,18 +101,25 @@ impl Plain {
 
     /// The reply object on top of the chain of a context.
     fn top_of(&self, context: ObjId) -> Option<ObjId> {
-        for debt in self.debts.iter().rev() {
-            if debt.is_with(context) {
-                return Some(debt.reply);
-            }
-        }
-        None
+        let debt = self.debts.iter().rev().find(|debt| debt.is_with(context))?;
+        Some(debt.reply)
     }
 
     /// Adds a debt, unless its reply object owes already or is not there.
     fn owe(&mut self, debt: Debt) -> bool {
         let is_there = self.replies.iter().any(|reply| reply.is_same(debt.reply));
         is_there && !self.owes(debt.reply) && self.debts.push(debt).is_ok()
+    }
+
+    /// What a debt leaves that was in the chain of this context, of which so many debts are older.
+    fn leave(&mut self, context: ObjId, older: usize, how: Ending) -> Option<ObjId> {
+        let middle = older.min(self.debts.len());
+        let (below, above) = self.debts.split_at_mut(middle);
+        let is_top = !above.iter().any(|debt| debt.is_with(context));
+        if how == Ending::Cancelled || !is_top {
+            unlink(below, context);
+        }
+        is_top.then_some(context)
     }
 
     /// Ends the debt of a reply object, if there is one.
@@ -122,36 +129,46 @@ impl Plain {
             .iter()
             .position(|debt| debt.reply.is_same(reply))?;
         let debt = self.debts.remove(at);
-        let mut topped = None;
-        if let Some(context) = debt.context {
-            if is_top(&self.debts, context, at) {
-                topped = Some(context);
-            }
-            if how == Ending::Cancelled || topped.is_none() {
-                unlink(&mut self.debts, context, at);
-            }
-        }
+        let topped = match debt.context {
+            Some(context) => self.leave(context, at, how),
+            None => None,
+        };
         Some(Ended {
             caller: debt.caller,
             topped,
         })
     }
 
-    /// A new reply object in the place of one that owes nobody.
-    fn renew(&mut self, number: usize, replies: &mut Replies) {
-        let reply = self.reply(number);
-        if !replies.is_there(reply)
-            || replies.receiver(reply).is_some()
-            || replies.owed(reply).is_some()
-        {
-            return;
-        }
-        replies.close(reply);
-        if replies.rows().is_full() {
-            return;
-        }
+    /// Gives a number another reply object.
+    fn put(&mut self, number: usize, reply: ObjId) {
         if let Some(place) = self.replies.get_mut(number) {
-            *place = replies.add();
+            *place = reply;
+        }
+    }
+
+    /// The call that a number stands for. One chain in a thousand calls grows long, and in the next thousand there are many. One
+    /// ending in four is of any reply object, the others are at the top.
+    fn call(&self, call: u32, n: u64) -> Call {
+        let many = if call / 1_000 % 2 == 0 { 1 } else { 256 };
+        let context = context((n >> 36) as u32 % many);
+        let number = (n >> 20) as usize % 256;
+        let is_any = (n >> 44) % 4 == 0;
+        let ending = if is_any {
+            self.reply(number)
+        } else {
+            self.top_of(context).unwrap_or(self.reply(256))
+        };
+        match (n >> 56) % 16 {
+            0..=9 => Call::Owe(Debt {
+                reply: self.reply(number),
+                caller: object(Kind::Thread, call),
+                context: ((n >> 48) % 16 != 0).then_some(context),
+            }),
+            10..=13 => Call::Pay(ending),
+            14 if is_any => Call::Void(ending, Ending::Cancelled),
+            14 => Call::Void(ending, Ending::Deleted),
+            _ if (n >> 44) % 16 == 0 => Call::Drop(context),
+            _ => Call::Renew(number),
         }
     }
 
@@ -167,45 +184,45 @@ impl Plain {
     }
 }
 
-/// Whether the links and the list give the same answer to a call that a number stands for. One chain in a thousand calls grows
-/// long, and in the next thousand there are many. One ending in four is of any reply object, the others are at the top.
-fn give_same_answer(replies: &mut Replies, plain: &mut Plain, call: u32, n: u64) -> bool {
-    let many = if call / 1_000 % 2 == 0 { 1 } else { 256 };
-    let context = context((n >> 36) as u32 % many);
-    let number = (n >> 20) as usize % 256;
-    let is_any = (n >> 44) % 4 == 0;
-    let reply = if is_any {
-        plain.reply(number)
-    } else {
-        plain.top_of(context).unwrap_or(plain.reply(256))
-    };
-    match (n >> 56) % 16 {
-        0..=9 => {
-            let debt = Debt {
-                reply: plain.reply(number),
-                caller: object(Kind::Thread, call),
-                context: if (n >> 48) % 16 == 0 {
-                    None
-                } else {
-                    Some(context)
-                },
-            };
-            replies.owe(debt.reply, debt.caller, debt.context) == plain.owe(debt)
-        }
-        10..=13 => replies.pay(reply) == plain.end(reply, Ending::Deleted),
-        14 if is_any => {
-            replies.void(reply, Ending::Cancelled) == plain.end(reply, Ending::Cancelled)
-        }
-        14 => replies.void(reply, Ending::Deleted) == plain.end(reply, Ending::Deleted),
-        _ if (n >> 44) % 16 == 0 => {
-            replies.drop_chain(context);
-            let all = plain.debts.len();
-            unlink(&mut plain.debts, context, all);
-            true
-        }
-        _ => {
-            plain.renew(number, replies);
-            replies.owed(reply).is_some() == plain.owes(reply)
+/// A new reply object in the place of one that owes nobody, where there is room.
+fn renewed(replies: &mut Replies, reply: ObjId) -> Option<ObjId> {
+    if replies.receiver(reply).is_some() || replies.owed(reply).is_some() {
+        return None;
+    }
+    if !replies.is_there(reply) {
+        return None;
+    }
+    replies.close(reply);
+    if replies.rows().is_full() {
+        return None;
+    }
+    Some(replies.add())
+}
+
+/// A new reply object comes in the place of one. Whether the links and the list say the same of what it owes.
+fn renew(replies: &mut Replies, plain: &mut Plain, number: usize) -> bool {
+    if let Some(reply) = renewed(replies, plain.reply(number)) {
+        plain.put(number, reply);
+    }
+    let reply = plain.reply(number);
+    replies.owed(reply).is_some() == plain.owes(reply)
+}
+
+impl Call {
+    /// Whether the links and the list give it the same answer.
+    fn is_same(self, replies: &mut Replies, plain: &mut Plain) -> bool {
+        match self {
+            Call::Owe(debt) => {
+                replies.owe(debt.reply, debt.caller, debt.context) == plain.owe(debt)
+            }
+            Call::Pay(reply) => replies.pay(reply) == plain.end(reply, Ending::Deleted),
+            Call::Void(reply, how) => replies.void(reply, how) == plain.end(reply, how),
+            Call::Drop(context) => {
+                replies.drop_chain(context);
+                unlink(&mut plain.debts, context);
+                true
+            }
+            Call::Renew(number) => renew(replies, plain, number),
         }
     }
 }
@@ -218,8 +235,8 @@ fn links_and_a_list_agree(rt: HostRuntime) -> Result<(), Fail> {
     for call in 0..CALLS {
         n = next_number(n);
         assert!(rt;
-            give_same_answer(&mut replies, &mut plain, call, n),
-            "the answer of call {call}"
+            plain.call(call, n).is_same(&mut replies, &mut plain),
+            "call {call}"
         );
         for number in 0..256 {
             assert!(rt;

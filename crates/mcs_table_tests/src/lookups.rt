@@ -61,7 +61,7 @@ fn capabilities_are_found(rt: HostRuntime) -> Result<(), Fail> {
         (0b0011_01_101, Err(Refusal::Missing)),
     ];
     for (address, want) in found {
-        assert_eq!(rt; lookup(&slots, &root.again(), address), want);
+        assert!(rt; lookup(&slots, &root.again(), address) == want, "{address}");
     }
     Ok(())
 }
@@ -77,37 +77,32 @@ fn slots_are_found(rt: HostRuntime) -> Result<(), Fail> {
     ];
     for (index, depth, want) in found {
         let place = Place { index, depth };
-        assert_eq!(rt; lookup_slot(&slots, &root.again(), place), want);
+        assert!(rt;
+            lookup_slot(&slots, &root.again(), place) == want,
+            "{index} of {depth} bits"
+        );
     }
     Ok(())
 }
 
 #[test]
-fn any_root_may_be_given(rt: HostRuntime) {
-    let made = Slots::new(rt.alloc(), &[4]);
-    assert!(rt; made.is_ok());
-    let (Ok(slots), Some(none)) = (made, Rights::new(0)) else {
-        return;
-    };
-    // of a guard's value its low bits count, here 10
-    let wide = Guard {
-        bits: 2,
-        value: 0b11_10,
-    };
-    let place = Place {
-        index: 0b10_0111,
-        depth: 6,
-    };
-    assert_eq!(rt;
-        lookup_slot(&slots, &root(1, none, wide), place),
-        Ok(slot(1, 7))
-    );
-    // a CNode that is not there has a radix of 0, and no slot
-    let guard = Guard { bits: 1, value: 1 };
-    let end = Place { index: 1, depth: 1 };
-    assert_eq!(rt;
-        lookup_slot(&slots, &root(9, none, guard), end),
-        Ok(slot(9, 0))
-    );
+fn any_root_may_be_given(rt: HostRuntime) -> Result<(), Fail> {
+    let slots = Slots::new(rt.alloc(), &[4])?;
+    let none = Rights::new(0).ok_or("no right")?;
+    let found = [
+        // of a guard's value its low bits count, here 10
+        (1, (2, 0b11_10), (0b10_0111, 6), slot(1, 7)),
+        // a CNode that is not there has a radix of 0, and no slot
+        (9, (1, 1), (1, 1), slot(9, 0)),
+    ];
+    for (cnode, (bits, value), (index, depth), want) in found {
+        let root = root(cnode, none, Guard { bits, value });
+        let place = Place { index, depth };
+        assert!(rt;
+            lookup_slot(&slots, &root, place) == Ok(want),
+            "in CNode {cnode}"
+        );
+    }
     assert!(rt; !slots.has_slot(slot(9, 0)));
+    Ok(())
 }

@@ -1,139 +1,140 @@
 //! The table of notifications.
 use mcs_notifications::Notifications;
 use mcs_types::{Badge, Kind, ObjId};
+use std::test::Fail;
+
+fn object(kind: Kind, serial: u32) -> ObjId {
+    ObjId { kind, serial }
+}
 
 fn notification(serial: u32) -> ObjId {
-    ObjId {
-        kind: Kind::Notification,
-        serial,
-    }
+    object(Kind::Notification, serial)
 }
 
-fn thread(serial: u32) -> ObjId {
-    ObjId {
-        kind: Kind::Thread,
-        serial,
-    }
+/// An object of a kind, or none.
+fn named(kind: Kind, serial: Option<u32>) -> Option<ObjId> {
+    Some(object(kind, serial?))
 }
 
-/// Adds a notification where there is room.
-fn add(notifications: &mut Notifications) -> Option<ObjId> {
-    if notifications.rows().is_full() {
-        return None;
-    }
-    Some(notifications.add())
-}
-
-/// Signals a notification. Whether it is there.
-fn raise(notifications: &mut Notifications, notification: ObjId, badge: u64) -> bool {
-    if !notifications.is_there(notification) {
-        return false;
-    }
-    notifications.raise(notification, Badge(badge));
-    true
-}
-
-/// Binds a notification to a thread, or to none. Whether it is there.
-fn set_bound(
-    notifications: &mut Notifications,
-    notification: ObjId,
-    thread: Option<ObjId>,
-) -> bool {
-    if !notifications.is_there(notification) {
-        return false;
-    }
-    notifications.set_bound(notification, thread);
-    true
-}
-
-/// Homes a context at a notification, or none. Whether the notification is there.
-fn set_homed(
-    notifications: &mut Notifications,
-    notification: ObjId,
-    context: Option<ObjId>,
-) -> bool {
-    if !notifications.is_there(notification) {
-        return false;
-    }
-    notifications.set_homed(notification, context);
-    true
+/// A call on notifications. Objects are named by their serials: notifications first, then threads and contexts.
+#[derive(Clone, Copy)]
+enum Call {
+    /// One is made, of this serial.
+    Add(u32),
+    Raise(u32, u64),
+    /// The word is taken, if there is one.
+    Hear(u32, Option<u64>),
+    Bind(u32, Option<u32>),
+    Home(u32, Option<u32>),
+    /// One is closed that is bound to nobody and home to no context.
+    Close(u32),
 }
 
 /// Closes a notification that is bound to nobody and home to no context. Whether it was one.
-fn close(notifications: &mut Notifications, notification: ObjId) -> bool {
-    if !notifications.is_there(notification)
-        || notifications.bound(notification).is_some()
-        || notifications.homed(notification).is_some()
-    {
+fn close(notifications: &mut Notifications, id: ObjId) -> bool {
+    if notifications.bound(id).is_some() || notifications.homed(id).is_some() {
         return false;
     }
-    notifications.close(notification);
+    if !notifications.is_there(id) {
+        return false;
+    }
+    notifications.close(id);
     true
 }
 
-#[test]
-fn badges_are_joined_and_heard_once(rt: HostRuntime) {
-    let made = Notifications::new(rt.alloc());
-    assert!(rt; made.is_ok());
-    let Ok(mut notifications) = made else {
-        return;
-    };
-    assert_eq!(rt; add(&mut notifications), Some(notification(1)));
-    assert_eq!(rt; notifications.word(notification(1)), None);
-    assert!(rt; raise(&mut notifications, notification(1), 0));
-    assert_eq!(rt; notifications.word(notification(1)), Some(0));
-    assert!(rt; raise(&mut notifications, notification(1), 5));
-    assert!(rt; raise(&mut notifications, notification(1), 6));
-    assert_eq!(rt; notifications.hear(notification(1)), Some(7));
-    assert_eq!(rt; notifications.hear(notification(1)), None);
-    assert!(rt; !raise(&mut notifications, notification(2), 1));
-    assert_eq!(rt; notifications.hear(notification(2)), None);
+/// Changes a notification that is there. Whether it is.
+fn change(notifications: &mut Notifications, id: ObjId, call: Call) -> bool {
+    if !notifications.is_there(id) {
+        return false;
+    }
+    match call {
+        Call::Raise(_, badge) => notifications.raise(id, Badge(badge)),
+        Call::Bind(_, thread) => notifications.set_bound(id, named(Kind::Thread, thread)),
+        Call::Home(_, context) => notifications.set_homed(id, named(Kind::Context, context)),
+        Call::Add(_) | Call::Hear(..) | Call::Close(_) => return false,
+    }
+    true
 }
 
-#[test]
-fn notifications_are_bound_and_closed(rt: HostRuntime) {
-    let made = Notifications::new(rt.alloc());
-    assert!(rt; made.is_ok());
-    let Ok(mut notifications) = made else {
-        return;
-    };
-    assert_eq!(rt; add(&mut notifications), Some(notification(1)));
-    assert_eq!(rt; add(&mut notifications), Some(notification(2)));
-    assert!(rt; set_bound(&mut notifications, notification(2), Some(thread(7))));
-    assert_eq!(rt; notifications.bound(notification(2)), Some(thread(7)));
-    assert_eq!(rt; notifications.bound(notification(1)), None);
-    assert!(rt; !close(&mut notifications, notification(2)));
-    assert!(rt; set_bound(&mut notifications, notification(2), None));
-    assert!(rt; raise(&mut notifications, notification(2), 3));
-    assert!(rt; close(&mut notifications, notification(2)));
-    assert_eq!(rt; notifications.word(notification(2)), None);
-    assert_eq!(rt; add(&mut notifications), Some(notification(3)));
-    assert_eq!(rt; notifications.rows().given(), 3);
+impl Call {
+    /// Whether the call is done, and as it says.
+    fn is_done(self, notifications: &mut Notifications) -> bool {
+        match self {
+            Call::Add(serial) => {
+                !notifications.rows().is_full() && notifications.add() == notification(serial)
+            }
+            Call::Hear(serial, word) => notifications.hear(notification(serial)) == word,
+            Call::Close(serial) => close(notifications, notification(serial)),
+            Call::Raise(serial, _) | Call::Bind(serial, _) | Call::Home(serial, _) => {
+                change(notifications, notification(serial), self)
+            }
+        }
+    }
 }
 
+/// The word of a notification, the thread to which it is bound, and the context to which it is home.
+type Kept = (Option<u64>, Option<u32>, Option<u32>);
+
+/// What is kept of one that nobody uses, or that is not there.
+const IDLE: Kept = (None, None, None);
+
+fn is_kept(notifications: &Notifications, serial: u32, (word, thread, context): Kept) -> bool {
+    let id = notification(serial);
+    notifications.word(id) == word
+        && notifications.bound(id) == named(Kind::Thread, thread)
+        && notifications.homed(id) == named(Kind::Context, context)
+}
+
+/// Calls, whether they are done, and what is then kept of the first two notifications.
+const CALLS: [(Call, bool, Kept, Kept); 23] = [
+    (Call::Home(1, Some(9)), false, IDLE, IDLE),
+    (Call::Add(1), true, IDLE, IDLE),
+    // Badges are joined and heard once.
+    (Call::Raise(1, 0), true, (Some(0), None, None), IDLE),
+    (Call::Raise(1, 5), true, (Some(5), None, None), IDLE),
+    (Call::Raise(1, 6), true, (Some(7), None, None), IDLE),
+    (Call::Hear(1, Some(7)), true, IDLE, IDLE),
+    (Call::Hear(1, None), true, IDLE, IDLE),
+    (Call::Raise(2, 1), false, IDLE, IDLE),
+    (Call::Hear(2, None), true, IDLE, IDLE),
+    (Call::Add(2), true, IDLE, IDLE),
+    (Call::Home(1, Some(9)), true, (None, None, Some(9)), IDLE),
+    (Call::Raise(1, 4), true, (Some(4), None, Some(9)), IDLE),
+    (
+        Call::Bind(1, Some(7)),
+        true,
+        (Some(4), Some(7), Some(9)),
+        IDLE,
+    ),
+    (Call::Bind(1, None), true, (Some(4), None, Some(9)), IDLE),
+    (Call::Close(1), false, (Some(4), None, Some(9)), IDLE),
+    (Call::Home(1, None), true, (Some(4), None, None), IDLE),
+    (Call::Close(1), true, IDLE, IDLE),
+    (Call::Bind(2, Some(7)), true, IDLE, (None, Some(7), None)),
+    (Call::Close(2), false, IDLE, (None, Some(7), None)),
+    (Call::Bind(2, None), true, IDLE, IDLE),
+    (Call::Raise(2, 3), true, IDLE, (Some(3), None, None)),
+    (Call::Close(2), true, IDLE, IDLE),
+    (Call::Add(3), true, IDLE, IDLE),
+];
+
 #[test]
-fn notifications_are_homes(rt: HostRuntime) {
-    let made = Notifications::new(rt.alloc());
-    assert!(rt; made.is_ok());
-    let Ok(mut notifications) = made else {
-        return;
-    };
-    let context = ObjId {
-        kind: Kind::Context,
-        serial: 9,
-    };
-    assert!(rt; !set_homed(&mut notifications, notification(1), Some(context)));
-    assert_eq!(rt; add(&mut notifications), Some(notification(1)));
-    assert_eq!(rt; add(&mut notifications), Some(notification(2)));
-    assert!(rt; set_homed(&mut notifications, notification(1), Some(context)));
-    assert_eq!(rt; notifications.homed(notification(1)), Some(context));
-    assert_eq!(rt; notifications.homed(notification(2)), None);
-    assert!(rt; raise(&mut notifications, notification(1), 4));
-    assert!(rt; set_bound(&mut notifications, notification(1), Some(thread(7))));
-    assert_eq!(rt; notifications.homed(notification(1)), Some(context));
-    assert!(rt; set_bound(&mut notifications, notification(1), None));
-    assert!(rt; !close(&mut notifications, notification(1)));
-    assert!(rt; set_homed(&mut notifications, notification(1), None));
-    assert!(rt; close(&mut notifications, notification(1)));
-    assert_eq!(rt; notifications.homed(notification(1)), None);
+fn calls_on_notifications_answer(rt: HostRuntime) -> Result<(), Fail> {
+    let mut notifications = Notifications::new(rt.alloc())?;
+    for (i, (call, is_done, first, second)) in CALLS.into_iter().enumerate() {
+        assert!(rt;
+            call.is_done(&mut notifications) == is_done,
+            "the answer of call {i}"
+        );
+        assert!(rt;
+            is_kept(&notifications, 1, first),
+            "the first after call {i}"
+        );
+        assert!(rt;
+            is_kept(&notifications, 2, second),
+            "the second after call {i}"
+        );
+    }
+    assert!(rt; notifications.rows().given() == 3);
+    Ok(())
 }

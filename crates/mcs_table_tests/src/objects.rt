@@ -2,6 +2,7 @@
 use mcs_objects::Store;
 use mcs_types::{Kind, ObjId, OutOfMemory};
 use std::alloc::Global;
+use std::test::Fail;
 
 fn endpoint(serial: u32) -> ObjId {
     ObjId {
@@ -21,45 +22,96 @@ fn two(alloc: Global) -> Result<Store<u64>, OutOfMemory> {
     Ok(store)
 }
 
-#[test]
-fn objects_are_found(rt: HostRuntime) {
-    let made = two(rt.alloc());
-    assert!(rt; made.is_ok());
-    let Ok(mut store) = made else {
-        return;
-    };
-    store.are_apart();
-    let (a, b) = (endpoint(1), endpoint(2));
-    assert_eq!(rt; store.get(a).copied(), Some(10));
-    assert_eq!(rt; store.place(a), Some(0));
-    assert_eq!(rt; store.place(b), Some(1));
-    if let Some(value) = store.get_mut(b) {
-        *value = 21;
+/// A call on a store; objects are named by their serials.
+#[derive(Clone, Copy)]
+enum Call {
+    /// A value is made an object of this serial, or handed back.
+    Make(u64, Option<u32>),
+    Write(u32, u64),
+    Remove(u32, Option<u64>),
+}
+
+fn make(store: &mut Store<u64>, value: u64, made: Option<u32>) -> bool {
+    match (store.make(value), made) {
+        (Ok(id), Some(serial)) => id == endpoint(serial),
+        (Err(full), None) => full.value == value,
+        _ => false,
     }
-    assert_eq!(rt; store.get(b).copied(), Some(21));
+}
+
+fn write(store: &mut Store<u64>, serial: u32, value: u64) -> bool {
+    match store.get_mut(endpoint(serial)) {
+        Some(kept) => {
+            *kept = value;
+            true
+        }
+        None => false,
+    }
+}
+
+impl Call {
+    /// Whether the call answers as it says.
+    fn answers(self, store: &mut Store<u64>) -> bool {
+        match self {
+            Call::Make(value, made) => make(store, value, made),
+            Call::Write(serial, value) => write(store, serial, value),
+            Call::Remove(serial, value) => store.remove(endpoint(serial)) == value,
+        }
+    }
+}
+
+/// The value and the place of an object.
+fn kept(store: &Store<u64>, serial: u32) -> Option<(u64, u16)> {
+    Some((
+        *store.get(endpoint(serial))?,
+        store.place(endpoint(serial))?,
+    ))
+}
+
+/// Calls on the full store, the values and places of the first three objects after each, how many were made and are there.
+const CALLS: [(Call, [Option<(u64, u16)>; 3], (u32, usize)); 5] = [
+    (
+        Call::Write(2, 21),
+        [Some((10, 0)), Some((21, 1)), None],
+        (2, 2),
+    ),
+    (
+        Call::Make(30, None),
+        [Some((10, 0)), Some((21, 1)), None],
+        (2, 2),
+    ),
+    (
+        Call::Remove(1, Some(10)),
+        [None, Some((21, 1)), None],
+        (2, 1),
+    ),
+    (Call::Remove(1, None), [None, Some((21, 1)), None], (2, 1)),
+    // The place comes again and the serial does not.
+    (
+        Call::Make(30, Some(3)),
+        [None, Some((21, 1)), Some((30, 0))],
+        (3, 2),
+    ),
+];
+
+#[test]
+fn objects_are_made_found_and_removed(rt: HostRuntime) -> Result<(), Fail> {
+    let mut store = two(rt.alloc())?;
+    store.are_apart();
+    assert!(rt; store.is_full());
+    for (i, (call, objects, counts)) in CALLS.into_iter().enumerate() {
+        assert!(rt; call.answers(&mut store), "the answer of call {i}");
+        let told = [1, 2, 3].map(|serial| kept(&store, serial));
+        assert!(rt; told == objects, "the objects after call {i}");
+        assert!(rt;
+            (store.given(), store.len()) == counts,
+            "the counts after call {i}"
+        );
+    }
     let foreign = ObjId {
         kind: Kind::Thread,
         serial: 2,
     };
-    assert_eq!(rt; store.get(foreign).copied(), None);
-}
-
-#[test]
-fn a_place_comes_again_and_a_serial_does_not(rt: HostRuntime) {
-    let made = two(rt.alloc());
-    assert!(rt; made.is_ok());
-    let Ok(mut store) = made else {
-        return;
-    };
-    let (a, b, c) = (endpoint(1), endpoint(2), endpoint(3));
-    assert!(rt; store.is_full());
-    assert!(rt; store.make(30).is_err_and(|full| full.value == 30));
-    assert_eq!(rt; store.remove(a), Some(10));
-    assert_eq!(rt; store.remove(a), None);
-    assert_eq!(rt; store.given(), 2);
-    assert_eq!(rt; store.len(), 1);
-    assert!(rt; store.make(30).is_ok_and(|id| id == c));
-    assert_eq!(rt; store.get(a).copied(), None);
-    assert_eq!(rt; store.place(c), Some(0));
-    assert_eq!(rt; store.place(b), Some(1));
+    assert!(rt; store.get(foreign).is_none());
+    Ok(())
 }

@@ -5,6 +5,7 @@ use mcs_queues::{LineNo, Lines, LinkedLines, PlainLines, Steps, ThreadNo};
 use mcs_types::Prio;
 use std::marker::Brand;
 use std::sync::ledger::{Blank, Ledger};
+use std::test::Fail;
 
 /// How many calls both bodies are given.
 const CALLS: u32 = 10_000;
@@ -18,6 +19,45 @@ const LINES: u16 = 768;
 fn next_number(n: u64) -> u64 {
     n.wrapping_mul(6_364_136_223_846_793_005)
         .wrapping_add(1_442_695_040_888_963_407)
+}
+
+/// A call on lines.
+#[derive(Clone, Copy)]
+enum Call {
+    Join(ThreadNo, LineNo, Prio),
+    Part(ThreadNo),
+    Shift(ThreadNo, Prio),
+    WhereIs(ThreadNo),
+}
+
+impl Call {
+    /// The call that a number stands for. Three of four calls name one of three lines, so that lines are long.
+    fn numbered(n: u64) -> Call {
+        let t = ThreadNo(((n >> 20) % (THREADS as u64 + 2)) as u16);
+        let lines = if (n >> 60) % 4 == 0 {
+            LINES as u64 + 2
+        } else {
+            3
+        };
+        let q = LineNo(((n >> 36) % lines) as u16);
+        let p = Prio(((n >> 50) % 6) as u8);
+        match (n >> 56) % 8 {
+            0..=3 => Call::Join(t, q, p),
+            4 | 5 => Call::Part(t),
+            6 => Call::Shift(t, p),
+            _ => Call::WhereIs(t),
+        }
+    }
+
+    /// Whether it changed something, and the line that is answered.
+    fn on<L: Lines>(self, lines: &mut L) -> (bool, Option<LineNo>) {
+        match self {
+            Call::Join(t, q, p) => (lines.join(t, q, p), None),
+            Call::Part(t) => (true, lines.part(t)),
+            Call::Shift(t, p) => (lines.shift(t, p), None),
+            Call::WhereIs(t) => (false, lines.where_is(t)),
+        }
+    }
 }
 
 /// Whether a line has the same threads in the same order.
@@ -47,71 +87,91 @@ fn have_same_threads<A: Lines, B: Lines>(a: &A, b: &B) -> bool {
     true
 }
 
-/// Whether both give the same answer to a call that a number stands for. Three of four calls name one of three lines, so that
-/// lines are long.
-fn give_same_answer<A: Lines, B: Lines>(a: &mut A, b: &mut B, n: u64) -> bool {
-    let t = ThreadNo(((n >> 20) % (THREADS as u64 + 2)) as u16);
-    let lines = if (n >> 60) % 4 == 0 {
-        LINES as u64 + 2
-    } else {
-        3
-    };
-    let q = LineNo(((n >> 36) % lines) as u16);
-    let p = Prio(((n >> 50) % 6) as u8);
-    match (n >> 56) % 8 {
-        0..=3 => a.join(t, q, p) == b.join(t, q, p),
-        4 | 5 => a.part(t) == b.part(t),
-        6 => a.shift(t, p) == b.shift(t, p),
-        _ => a.where_is(t) == b.where_is(t),
-    }
+/// Whether both give the same answer to a call, and then have the same lines.
+fn agree<A: Lines, B: Lines>(a: &mut A, b: &mut B, call: Call) -> bool {
+    call.on(a) == call.on(b) && have_same_threads(a, b)
 }
 
 #[test]
-fn both_bodies_agree(rt: HostRuntime) {
-    let plain = PlainLines::new(rt.alloc(), THREADS, LINES);
-    let linked = LinkedLines::new(rt.alloc(), THREADS, LINES);
-    assert!(rt; plain.is_ok());
-    assert!(rt; linked.is_ok());
-    let (Ok(mut plain), Ok(mut linked)) = (plain, linked) else {
-        return;
-    };
+fn both_bodies_agree(rt: HostRuntime) -> Result<(), Fail> {
+    let mut plain = PlainLines::new(rt.alloc(), THREADS, LINES)?;
+    let mut linked = LinkedLines::new(rt.alloc(), THREADS, LINES)?;
     let mut n = 1;
     for call in 0..CALLS {
         n = next_number(n);
         assert!(rt;
-            give_same_answer(&mut plain, &mut linked, n),
-            "the answer of call {call}"
-        );
-        assert!(rt;
-            have_same_threads(&plain, &linked),
-            "the lines after call {call}"
+            agree(&mut plain, &mut linked, Call::numbered(n)),
+            "call {call}"
         );
     }
+    Ok(())
+}
+
+const A: ThreadNo = ThreadNo(0);
+
+const B: ThreadNo = ThreadNo(1);
+
+const C: ThreadNo = ThreadNo(2);
+
+const Q: LineNo = LineNo(1);
+
+/// Calls on lines for three threads, their answers, and who then stands in the second line.
+const ANSWERS: [(Call, (bool, Option<LineNo>), [Option<ThreadNo>; 3]); 8] = [
+    (
+        Call::Join(A, Q, Prio(5)),
+        (true, None),
+        [Some(A), None, None],
+    ),
+    (
+        Call::Join(B, Q, Prio(9)),
+        (true, None),
+        [Some(B), Some(A), None],
+    ),
+    (
+        Call::Join(C, Q, Prio(5)),
+        (true, None),
+        [Some(B), Some(A), Some(C)],
+    ),
+    // It stands in a line.
+    (
+        Call::Join(C, LineNo(0), Prio(5)),
+        (false, None),
+        [Some(B), Some(A), Some(C)],
+    ),
+    (
+        Call::Shift(A, Prio(5)),
+        (true, None),
+        [Some(B), Some(C), Some(A)],
+    ),
+    (Call::Part(B), (true, Some(Q)), [Some(C), Some(A), None]),
+    (Call::WhereIs(B), (false, None), [Some(C), Some(A), None]),
+    (Call::WhereIs(A), (false, Some(Q)), [Some(C), Some(A), None]),
+];
+
+/// The first three threads of a line.
+fn first_three<L: Lines>(lines: &L, line: LineNo) -> [Option<ThreadNo>; 3] {
+    let mut threads = [lines.first(line), None, None];
+    if let Some(first) = threads[0] {
+        threads[1] = lines.next(first);
+    }
+    if let Some(second) = threads[1] {
+        threads[2] = lines.next(second);
+    }
+    threads
 }
 
 #[test]
-fn plain_lines_answer(rt: HostRuntime) {
-    let made = PlainLines::new(rt.alloc(), 3, 2);
-    assert!(rt; made.is_ok());
-    let Ok(mut lines) = made else {
-        return;
-    };
-    let (a, b, c) = (ThreadNo(0), ThreadNo(1), ThreadNo(2));
-    let q = LineNo(1);
-    assert!(rt; lines.join(a, q, Prio(5)));
-    assert!(rt; lines.join(b, q, Prio(9)));
-    assert!(rt; lines.join(c, q, Prio(5)));
-    assert!(rt; !lines.join(c, LineNo(0), Prio(5)), "it stands in a line");
-    assert_eq!(rt; lines.first(q), Some(b));
-    assert_eq!(rt; lines.next(b), Some(a));
-    assert_eq!(rt; lines.next(a), Some(c));
-    assert_eq!(rt; lines.next(c), None);
-    assert!(rt; lines.shift(a, Prio(5)));
-    assert_eq!(rt; lines.next(b), Some(c));
-    assert_eq!(rt; lines.part(b), Some(q));
-    assert_eq!(rt; lines.first(q), Some(c));
-    assert_eq!(rt; lines.where_is(b), None);
-    assert_eq!(rt; lines.where_is(a), Some(q));
+fn plain_lines_answer(rt: HostRuntime) -> Result<(), Fail> {
+    let mut lines = PlainLines::new(rt.alloc(), 3, 2)?;
+    for (i, (call, answer, threads)) in ANSWERS.into_iter().enumerate() {
+        assert!(rt; call.on(&mut lines) == answer, "the answer of call {i}");
+        assert!(rt;
+            first_three(&lines, Q) == threads,
+            "the line after call {i}"
+        );
+    }
+    assert!(rt; lines.next(A).is_none(), "it is the last");
+    Ok(())
 }
 
 /// Whether two threads join a line, and the first goes behind the second, with visits that are counted.
@@ -121,20 +181,15 @@ fn move_counted<G: Ledger>(lines: &mut LinkedLines, blank: Blank) -> bool
     requires some { 0 < blank.parts }
 {
     let mut steps = Steps::<G>::new(blank);
-    let (a, b) = (ThreadNo(0), ThreadNo(1));
-    let q = LineNo(1);
-    lines.join_counted(a, q, Prio(9), &mut steps)
-        && lines.join_counted(b, q, Prio(5), &mut steps)
-        && lines.shift_counted(a, Prio(5), &mut steps)
-        && lines.next(b) == Some(a)
+    lines.join_counted(A, Q, Prio(9), &mut steps)
+        && lines.join_counted(B, Q, Prio(5), &mut steps)
+        && lines.shift_counted(A, Prio(5), &mut steps)
+        && lines.next(B) == Some(A)
 }
 
 #[test]
-fn visits_are_counted(rt: HostRuntime) {
-    let made = LinkedLines::new(rt.alloc(), 2, 2);
-    assert!(rt; made.is_ok());
-    let Ok(mut lines) = made else {
-        return;
-    };
+fn visits_are_counted(rt: HostRuntime) -> Result<(), Fail> {
+    let mut lines = LinkedLines::new(rt.alloc(), 2, 2)?;
     assert!(rt; move_counted::<Brand>(&mut lines, Blank::new(1)));
+    Ok(())
 }

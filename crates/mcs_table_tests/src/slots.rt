@@ -1,6 +1,7 @@
 //! Slots of CNodes.
 use mcs_slots::{SlotId, Slots};
 use mcs_types::{Badge, Cap, Guard, Kind, ObjId, Refusal, Rights};
+use std::test::Fail;
 
 fn object(kind: Kind, serial: u32) -> ObjId {
     ObjId { kind, serial }
@@ -13,116 +14,324 @@ fn slot(cnode: u32, index: u8) -> SlotId {
     }
 }
 
-fn cap_to(obj: ObjId, rights: Rights, badge: u64) -> Cap {
-    Cap {
+/// The object, the bits of the rights and the badge of a capability.
+type Held = (ObjId, u8, u64);
+
+fn cap_to((obj, bits, badge): Held) -> Option<Cap> {
+    Some(Cap {
         obj,
-        rights,
+        rights: Rights::new(bits)?,
         badge: Badge(badge),
         guard: Guard { bits: 0, value: 0 },
+    })
+}
+
+/// The last slot of the first CNode, which has 8, and both of the second.
+const A: SlotId = SlotId {
+    cnode: ObjId {
+        kind: Kind::CNode,
+        serial: 1,
+    },
+    index: 7,
+};
+
+const B: SlotId = SlotId {
+    cnode: ObjId {
+        kind: Kind::CNode,
+        serial: 2,
+    },
+    index: 0,
+};
+
+const C: SlotId = SlotId {
+    cnode: ObjId {
+        kind: Kind::CNode,
+        serial: 2,
+    },
+    index: 1,
+};
+
+const FIRST: ObjId = ObjId {
+    kind: Kind::Endpoint,
+    serial: 1,
+};
+
+/// An endpoint whose capabilities are counted beside those of the first.
+const SECOND: ObjId = ObjId {
+    kind: Kind::Endpoint,
+    serial: 8193,
+};
+
+const REPLY: ObjId = ObjId {
+    kind: Kind::Reply,
+    serial: 1,
+};
+
+/// A change of slots; rights are their bits.
+#[derive(Clone, Copy)]
+enum Call {
+    Put(SlotId, Held),
+    Empty(SlotId),
+    Take(SlotId, Held),
+    Copy(SlotId, SlotId, u8),
+    Mint(SlotId, SlotId, u8, u64),
+    Move(SlotId, SlotId),
+}
+
+/// Puts a capability into a slot that is there.
+fn put(slots: &mut Slots, at: SlotId, held: Held) -> Option<Result<(), Refusal>> {
+    let cap = cap_to(held)?;
+    if !slots.has_slot(at) {
+        return None;
+    }
+    slots.put(at, cap);
+    Some(Ok(()))
+}
+
+/// Empties a slot that is there.
+fn empty(slots: &mut Slots, at: SlotId) -> Option<Result<(), Refusal>> {
+    if !slots.has_slot(at) {
+        return None;
+    }
+    slots.set(at, None);
+    Some(Ok(()))
+}
+
+/// Takes this capability out of a slot that is there.
+fn take(slots: &mut Slots, at: SlotId, held: Held) -> Option<Result<(), Refusal>> {
+    if !slots.has_slot(at) || slots.take(at) != cap_to(held) {
+        return None;
+    }
+    Some(Ok(()))
+}
+
+/// Copies between slots that are there, and mints where a badge is given.
+fn copy(
+    slots: &mut Slots,
+    (source, dest): (SlotId, SlotId),
+    bits: u8,
+    badge: Option<u64>,
+) -> Option<Result<(), Refusal>> {
+    let mask = Rights::new(bits)?;
+    if !slots.has_slot(source) || !slots.has_slot(dest) {
+        return None;
+    }
+    Some(match badge {
+        None => slots.copy(source, dest, mask),
+        Some(badge) => slots.mint(source, dest, mask, Badge(badge)),
+    })
+}
+
+/// Moves between slots that are there.
+fn move_cap(slots: &mut Slots, source: SlotId, dest: SlotId) -> Option<Result<(), Refusal>> {
+    if !slots.has_slot(source) || !slots.has_slot(dest) {
+        return None;
+    }
+    Some(slots.move_cap(source, dest))
+}
+
+impl Call {
+    /// What the call answers; None where a slot is not there.
+    fn on(self, slots: &mut Slots) -> Option<Result<(), Refusal>> {
+        match self {
+            Call::Put(at, held) => put(slots, at, held),
+            Call::Empty(at) => empty(slots, at),
+            Call::Take(at, held) => take(slots, at, held),
+            Call::Copy(source, dest, bits) => copy(slots, (source, dest), bits, None),
+            Call::Mint(source, dest, bits, badge) => {
+                copy(slots, (source, dest), bits, Some(badge))
+            }
+            Call::Move(source, dest) => move_cap(slots, source, dest),
+        }
     }
 }
 
+/// Whether a slot holds this capability without a guard, or none.
+fn holds(slots: &Slots, at: SlotId, held: Option<Held>) -> bool {
+    match (slots.get(at), held) {
+        (Some(cap), Some(held)) => cap_to(held) == Some(cap),
+        (None, None) => true,
+        _ => false,
+    }
+}
+
+const DONE: Result<(), Refusal> = Ok(());
+
+/// Calls, their answers, what then the three slots hold, and how many capabilities to the two endpoints there are.
+const CALLS: [(Call, Result<(), Refusal>, [Option<Held>; 3], [u32; 2]); 21] = [
+    (
+        Call::Copy(A, B, 2),
+        Err(Refusal::SlotEmpty),
+        [None, None, None],
+        [0, 0],
+    ),
+    (
+        Call::Put(A, (FIRST, 15, 0)),
+        DONE,
+        [Some((FIRST, 15, 0)), None, None],
+        [1, 0],
+    ),
+    (
+        Call::Copy(A, B, 2),
+        DONE,
+        [Some((FIRST, 15, 0)), Some((FIRST, 2, 0)), None],
+        [2, 0],
+    ),
+    (
+        Call::Mint(A, B, 2, 5),
+        Err(Refusal::SlotFull),
+        [Some((FIRST, 15, 0)), Some((FIRST, 2, 0)), None],
+        [2, 0],
+    ),
+    (
+        Call::Mint(A, C, 2, 5),
+        DONE,
+        [
+            Some((FIRST, 15, 0)),
+            Some((FIRST, 2, 0)),
+            Some((FIRST, 2, 5)),
+        ],
+        [3, 0],
+    ),
+    (
+        Call::Take(B, (FIRST, 2, 0)),
+        DONE,
+        [Some((FIRST, 15, 0)), None, Some((FIRST, 2, 5))],
+        [2, 0],
+    ),
+    (
+        Call::Mint(C, B, 15, 6),
+        Err(Refusal::BadgeNotAllowed),
+        [Some((FIRST, 15, 0)), None, Some((FIRST, 2, 5))],
+        [2, 0],
+    ),
+    (
+        Call::Move(A, B),
+        DONE,
+        [None, Some((FIRST, 15, 0)), Some((FIRST, 2, 5))],
+        [2, 0],
+    ),
+    (
+        Call::Empty(B),
+        DONE,
+        [None, None, Some((FIRST, 2, 5))],
+        [1, 0],
+    ),
+    (Call::Empty(C), DONE, [None, None, None], [0, 0]),
+    // A capability of another kind is not minted.
+    (
+        Call::Put(A, (REPLY, 0, 0)),
+        DONE,
+        [Some((REPLY, 0, 0)), None, None],
+        [0, 0],
+    ),
+    (
+        Call::Mint(A, B, 0, 1),
+        Err(Refusal::WrongKind),
+        [Some((REPLY, 0, 0)), None, None],
+        [0, 0],
+    ),
+    // The endpoints share a tally.
+    (
+        Call::Put(A, (FIRST, 15, 0)),
+        DONE,
+        [Some((FIRST, 15, 0)), None, None],
+        [1, 0],
+    ),
+    (
+        Call::Put(B, (SECOND, 15, 0)),
+        DONE,
+        [Some((FIRST, 15, 0)), Some((SECOND, 15, 0)), None],
+        [1, 1],
+    ),
+    (
+        Call::Copy(B, C, 15),
+        DONE,
+        [
+            Some((FIRST, 15, 0)),
+            Some((SECOND, 15, 0)),
+            Some((SECOND, 15, 0)),
+        ],
+        [1, 2],
+    ),
+    (
+        Call::Empty(A),
+        DONE,
+        [None, Some((SECOND, 15, 0)), Some((SECOND, 15, 0))],
+        [0, 2],
+    ),
+    (
+        Call::Empty(B),
+        DONE,
+        [None, None, Some((SECOND, 15, 0))],
+        [0, 1],
+    ),
+    (
+        Call::Put(C, (FIRST, 15, 0)),
+        DONE,
+        [None, None, Some((FIRST, 15, 0))],
+        [1, 0],
+    ),
+    (
+        Call::Put(A, (SECOND, 15, 7)),
+        DONE,
+        [Some((SECOND, 15, 7)), None, Some((FIRST, 15, 0))],
+        [1, 1],
+    ),
+    (
+        Call::Empty(C),
+        DONE,
+        [Some((SECOND, 15, 7)), None, None],
+        [0, 1],
+    ),
+    (Call::Empty(A), DONE, [None, None, None], [0, 0]),
+];
+
+/// Whether the three slots hold these, and there are so many capabilities to the two endpoints.
+fn are_as(slots: &Slots, [a, b, c]: [Option<Held>; 3], counts: [u32; 2]) -> bool {
+    holds(slots, A, a)
+        && holds(slots, B, b)
+        && holds(slots, C, c)
+        && [slots.count_of(FIRST), slots.count_of(SECOND)] == counts
+}
+
 #[test]
-fn cnodes_have_their_radices(rt: HostRuntime) {
-    let made = Slots::new(rt.alloc(), &[3, 1]);
-    assert!(rt; made.is_ok());
-    let Ok(slots) = made else {
-        return;
-    };
+fn calls_on_slots_answer(rt: HostRuntime) -> Result<(), Fail> {
+    let mut slots = Slots::new(rt.alloc(), &[3, 1])?;
+    for (i, (call, answer, held, counts)) in CALLS.into_iter().enumerate() {
+        assert!(rt;
+            call.on(&mut slots) == Some(answer),
+            "the answer of call {i}"
+        );
+        assert!(rt; are_as(&slots, held, counts), "the slots after call {i}");
+    }
+    Ok(())
+}
+
+/// Slots, and whether they are there in two CNodes of 8 and of 2.
+const SLOTS: [(u32, u8, bool); 7] = [
+    (1, 0, true),
+    (1, 7, true),
+    (1, 8, false),
+    (2, 1, true),
+    (2, 2, false),
+    (3, 0, false),
+    (0, 0, false),
+];
+
+#[test]
+fn cnodes_have_their_slots(rt: HostRuntime) -> Result<(), Fail> {
+    let slots = Slots::new(rt.alloc(), &[3, 1])?;
     slots.are_pages();
-    assert_eq!(rt; slots.radix(object(Kind::CNode, 1)), Some(3));
-    assert_eq!(rt; slots.radix(object(Kind::CNode, 2)), Some(1));
-    assert_eq!(rt; slots.radix(object(Kind::CNode, 3)), None);
-    assert_eq!(rt; slots.radix(object(Kind::CNode, 0)), None);
-    assert_eq!(rt; slots.radix(object(Kind::Thread, 1)), None);
-    assert!(rt; slots.has_slot(slot(2, 1)));
-    assert!(rt; !slots.has_slot(slot(2, 2)));
-    assert!(rt; slots.get(slot(2, 2)).is_none());
-}
-
-#[test]
-fn capabilities_are_copied_minted_and_moved(rt: HostRuntime) {
-    let made = Slots::new(rt.alloc(), &[3, 1]);
-    assert!(rt; made.is_ok());
-    let (Ok(mut slots), Some(all), Some(read)) = (made, Rights::new(15), Rights::new(2)) else {
-        return;
-    };
-    let (a, b, c) = (slot(1, 7), slot(2, 0), slot(2, 1));
-    let endpoint = object(Kind::Endpoint, 1);
-    let full = cap_to(endpoint, all, 0);
-    assert!(rt; slots.has_slot(a) && slots.has_slot(b));
-    assert_eq!(rt; slots.copy(a, b, read), Err(Refusal::SlotEmpty));
-    assert!(rt; slots.has_slot(a));
-    slots.put(a, full);
-    assert!(rt; slots.has_slot(a) && slots.has_slot(b));
-    assert_eq!(rt; slots.copy(a, b, read), Ok(()));
-    assert_eq!(rt; slots.get(b), Some(cap_to(endpoint, read, 0)));
-    assert!(rt; slots.has_slot(a) && slots.has_slot(b));
-    assert_eq!(rt; slots.mint(a, b, read, Badge(5)), Err(Refusal::SlotFull));
-    assert!(rt; slots.has_slot(a) && slots.has_slot(c));
-    assert_eq!(rt; slots.mint(a, c, read, Badge(5)), Ok(()));
-    assert_eq!(rt; slots.get(c), Some(cap_to(endpoint, read, 5)));
-    assert_eq!(rt; slots.count_of(endpoint), 3);
-    assert!(rt; slots.has_slot(b));
-    assert_eq!(rt; slots.take(b), Some(cap_to(endpoint, read, 0)));
-    assert!(rt; slots.has_slot(b) && slots.has_slot(c));
-    assert_eq!(rt;
-        slots.mint(c, b, all, Badge(6)),
-        Err(Refusal::BadgeNotAllowed)
-    );
-    assert!(rt; slots.has_slot(a) && slots.has_slot(b));
-    assert_eq!(rt; slots.move_cap(a, b), Ok(()));
-    assert_eq!(rt; slots.get(a), None);
-    assert_eq!(rt; slots.get(b), Some(full));
-    assert_eq!(rt; slots.count_of(endpoint), 2);
-}
-
-#[test]
-fn other_capabilities_are_not_minted(rt: HostRuntime) {
-    let made = Slots::new(rt.alloc(), &[1]);
-    assert!(rt; made.is_ok());
-    let (Ok(mut slots), Some(none)) = (made, Rights::new(0)) else {
-        return;
-    };
-    let (a, b) = (slot(1, 0), slot(1, 1));
-    assert!(rt; slots.has_slot(a));
-    slots.put(a, cap_to(object(Kind::Reply, 1), none, 0));
-    assert!(rt; slots.has_slot(a) && slots.has_slot(b));
-    assert_eq!(rt; slots.mint(a, b, none, Badge(1)), Err(Refusal::WrongKind));
-    assert_eq!(rt; slots.get(b), None);
-}
-
-#[test]
-fn objects_that_share_a_tally_are_counted(rt: HostRuntime) {
-    let made = Slots::new(rt.alloc(), &[2]);
-    assert!(rt; made.is_ok());
-    let (Ok(mut slots), Some(all)) = (made, Rights::new(15)) else {
-        return;
-    };
-    let (a, b, c) = (slot(1, 0), slot(1, 1), slot(1, 2));
-    let (first, second) = (object(Kind::Endpoint, 1), object(Kind::Endpoint, 8193));
-    assert!(rt; slots.has_slot(a));
-    slots.put(a, cap_to(first, all, 0));
-    assert!(rt; slots.has_slot(b));
-    slots.put(b, cap_to(second, all, 0));
-    assert!(rt; slots.has_slot(b) && slots.has_slot(c));
-    assert_eq!(rt; slots.copy(b, c, all), Ok(()));
-    assert_eq!(rt; slots.count_of(first), 1);
-    assert_eq!(rt; slots.count_of(second), 2);
-    assert!(rt; slots.has_slot(a));
-    slots.set(a, None);
-    assert_eq!(rt; slots.count_of(first), 0);
-    assert_eq!(rt; slots.count_of(second), 2);
-    assert!(rt; slots.has_slot(b));
-    slots.set(b, None);
-    assert!(rt; slots.has_slot(c));
-    slots.put(c, cap_to(first, all, 0));
-    assert!(rt; slots.has_slot(a));
-    slots.put(a, cap_to(second, all, 7));
-    assert_eq!(rt; slots.count_of(first), 1);
-    assert_eq!(rt; slots.count_of(second), 1);
-    assert!(rt; slots.has_slot(c));
-    slots.set(c, None);
-    assert_eq!(rt; slots.count_of(first), 0);
-    assert_eq!(rt; slots.count_of(second), 1);
+    let radices = [1, 2, 3, 0].map(|serial| slots.radix(object(Kind::CNode, serial)));
+    assert!(rt; radices == [Some(3), Some(1), None, None]);
+    assert!(rt; slots.radix(object(Kind::Thread, 1)).is_none());
+    for (cnode, index, is_there) in SLOTS {
+        assert!(rt;
+            slots.has_slot(slot(cnode, index)) == is_there,
+            "slot {index} of {cnode}"
+        );
+        assert!(rt; slots.get(slot(cnode, index)).is_none());
+    }
+    Ok(())
 }

@@ -3,160 +3,13 @@ use mcs_contexts::Contexts;
 use mcs_replies::{Ended, Replies};
 use mcs_threads::{Block, Threads};
 use mcs_types::{
-    Badge, Cap, CoreId, Ending, Guard, Kind, Mail, Message, Mode, ObjId, OutOfMemory, Prio, Queue,
-    Refusal, Rights, Status,
+    Badge, Cap, CoreId, Ending, Guard, Kind, Mail, Message, Mode, ObjId, Prio, Queue, Refusal,
+    Rights, Status,
 };
-use std::alloc::Global;
+use std::test::Fail;
 
 fn object(kind: Kind, serial: u32) -> ObjId {
     ObjId { kind, serial }
-}
-
-/// A capability to the first CNode, with no guard.
-fn root() -> Option<Cap> {
-    Some(Cap {
-        obj: object(Kind::CNode, 1),
-        rights: Rights::new(0)?,
-        badge: Badge(0),
-        guard: Guard { bits: 0, value: 0 },
-    })
-}
-
-#[test]
-fn rows_of_threads_are_changed(rt: HostRuntime) {
-    let made = Threads::new(rt.alloc());
-    assert!(rt; made.is_ok());
-    let (Ok(mut threads), Some(root)) = (made, root()) else {
-        return;
-    };
-    let a = threads.add(Prio(9), root.again());
-    let b = threads.add(Prio(7), root.again());
-    assert_eq!(rt; a, object(Kind::Thread, 1));
-    assert_eq!(rt; b, object(Kind::Thread, 2));
-    assert_eq!(rt; threads.made(), 2);
-    threads.are_few();
-    assert_eq!(rt; threads.get(a).map(|row| row.maximum), Some(Prio(9)));
-    assert_eq!(rt; threads.get(a).map(|row| row.root.again()), Some(root));
-    assert_eq!(rt; threads.get(a).map(|row| row.priority), Some(Prio(0)));
-    assert_eq!(rt;
-        threads.get(a).map(|row| row.status()),
-        Some(Status::Inactive)
-    );
-    assert_eq!(rt; threads.set_prio(a, Prio(5)), Some(()));
-    assert_eq!(rt; threads.get(a).map(|row| row.priority), Some(Prio(5)));
-    assert_eq!(rt; threads.get(b).map(|row| row.priority), Some(Prio(0)));
-    assert_eq!(rt; threads.set_mode(a, Mode::Running), Some(()));
-    assert_eq!(rt;
-        threads.get(a).map(|row| row.status()),
-        Some(Status::Running)
-    );
-    let notification = object(Kind::Notification, 1);
-    assert_eq!(rt; threads.tie(a, notification), Some(()));
-    let tied = threads.get(a).and_then(|row| row.notification);
-    assert_eq!(rt; tied, Some(notification));
-    assert_eq!(rt; threads.untie(a), Some(()));
-    assert!(rt; threads.get(a).is_some_and(|row| row.notification.is_none()));
-    assert_eq!(rt;
-        threads.set_mode(object(Kind::Thread, 3), Mode::Running),
-        None
-    );
-    assert_eq!(rt; threads.set_prio(object(Kind::Reply, 1), Prio(1)), None);
-}
-
-#[test]
-fn threads_are_blocked_and_unblocked(rt: HostRuntime) {
-    let made = Threads::new(rt.alloc());
-    assert!(rt; made.is_ok());
-    let (Ok(mut threads), Some(root)) = (made, root()) else {
-        return;
-    };
-    let a = threads.add(Prio(9), root);
-    let own = object(Kind::Reply, 4);
-    let queue = Queue::Receivers(object(Kind::Endpoint, 3));
-    let reply = Some(own);
-    assert_eq!(rt; threads.block(a, Block::Queued { queue, reply }), Some(()));
-    assert_eq!(rt;
-        threads.get(a).map(|row| row.status()),
-        Some(Status::Queued(queue))
-    );
-    assert_eq!(rt; threads.get(a).and_then(|row| row.queue()), Some(queue));
-    let other = object(Kind::Reply, 5);
-    assert!(rt; threads.get(a).is_some_and(|row| row.receives_with(own)));
-    assert!(rt; threads.get(a).is_some_and(|row| !row.receives_with(other)));
-    assert_eq!(rt; threads.block(a, Block::OnReply { reply: own }), Some(()));
-    assert_eq!(rt;
-        threads.get(a).map(|row| row.status()),
-        Some(Status::OnReply(own))
-    );
-    assert_eq!(rt; threads.get(a).and_then(|row| row.queue()), None);
-    assert_eq!(rt; threads.unblock(a), Some(()));
-    assert_eq!(rt;
-        threads.get(a).map(|row| row.status()),
-        Some(Status::Inactive)
-    );
-}
-
-#[test]
-fn threads_keep_their_mail_and_are_closed(rt: HostRuntime) {
-    let made = Threads::new(rt.alloc());
-    assert!(rt; made.is_ok());
-    let (Ok(mut threads), Some(root), Ok(Some(message))) = (
-        made,
-        root(),
-        Message::new(rt.alloc(), 7, &[5, 6]),
-    ) else {
-        return;
-    };
-    let a = threads.add(Prio(9), root.again());
-    assert!(rt; threads.mail(a).is_none());
-    let badge = Badge(3);
-    assert_eq!(rt;
-        threads.set_mail(a, Mail::Message { badge, message }),
-        Some(())
-    );
-    let label = match threads.mail(a) {
-        Some(Mail::Message { message, .. }) => Some(message.label()),
-        _ => None,
-    };
-    assert_eq!(rt; label, Some(7));
-    assert_eq!(rt; threads.close(a), Some(()));
-    assert!(rt; threads.get(a).is_none());
-    assert!(rt; threads.mail(a).is_none());
-    assert_eq!(rt; threads.close(a), None);
-    assert_eq!(rt; threads.made(), 1);
-    assert_eq!(rt; threads.add(Prio(1), root), object(Kind::Thread, 2));
-}
-
-/// Adds a reply object where there is room.
-fn add(replies: &mut Replies) -> Option<ObjId> {
-    if replies.rows().is_full() {
-        return None;
-    }
-    Some(replies.add())
-}
-
-/// Has a receiver stand with a reply object, or none, where the reply object is there.
-fn stand(replies: &mut Replies, reply: ObjId, receiver: Option<ObjId>) {
-    if replies.is_there(reply) {
-        replies.set_receiver(reply, receiver);
-    }
-}
-
-/// Closes a reply object that nobody uses. Whether it was one.
-fn close(replies: &mut Replies, reply: ObjId) -> bool {
-    if !replies.is_there(reply)
-        || replies.receiver(reply).is_some()
-        || replies.owed(reply).is_some()
-    {
-        return false;
-    }
-    replies.close(reply);
-    true
-}
-
-/// Whether these stand in the chain of a context, from the top.
-fn is_chain(replies: &Replies, context: ObjId, chain: &[ObjId]) -> bool {
-    replies.chain_of(context).eq(chain.iter().copied())
 }
 
 fn thread(serial: u32) -> ObjId {
@@ -171,166 +24,687 @@ fn reply(serial: u32) -> ObjId {
     object(Kind::Reply, serial)
 }
 
-/// Three reply objects: each of the first two owes a thread of its own serial, on the chain of the first context.
-fn two_calls(alloc: Global) -> Result<Replies, OutOfMemory> {
-    let mut replies = Replies::new(alloc)?;
-    for _ in 0..3 {
-        add(&mut replies);
-    }
-    for serial in [1, 2] {
-        replies.owe(reply(serial), thread(serial), Some(context(1)));
-    }
-    Ok(replies)
+fn notification(serial: u32) -> ObjId {
+    object(Kind::Notification, serial)
 }
 
-fn ended(caller: u32, topped: Option<ObjId>) -> Option<Ended> {
-    Some(Ended {
-        caller: thread(caller),
-        topped,
+/// An object of a kind, or none.
+fn named(kind: Kind, serial: Option<u32>) -> Option<ObjId> {
+    Some(object(kind, serial?))
+}
+
+/// A capability to the first CNode, with no guard.
+fn root() -> Option<Cap> {
+    Some(Cap {
+        obj: object(Kind::CNode, 1),
+        rights: Rights::new(0)?,
+        badge: Badge(0),
+        guard: Guard { bits: 0, value: 0 },
     })
 }
 
-#[test]
-fn a_debt_below_the_top_leaves_with_those_below(rt: HostRuntime) {
-    let made = two_calls(rt.alloc());
-    assert!(rt; made.is_ok());
-    let Ok(mut replies) = made else {
-        return;
-    };
-    let s = context(1);
-    assert!(rt; replies.owe(reply(3), thread(3), Some(s)));
-    assert!(rt; is_chain(&replies, s, &[reply(3), reply(2), reply(1)]));
-    assert_eq!(rt; replies.top_of(s), Some(reply(3)));
-    assert!(rt; !replies.owe(reply(2), thread(3), Some(context(2))));
-    assert_eq!(rt; replies.pay(reply(2)), ended(2, None));
-    assert_eq!(rt; replies.pay(reply(2)), None);
-    assert!(rt; is_chain(&replies, s, &[reply(3)]));
-    assert_eq!(rt; replies.owed(reply(1)), Some(thread(1)));
+/// A change of a thread that is named by its serial.
+#[derive(Clone, Copy)]
+enum ThreadCall {
+    Mode(Mode),
+    Prio(u8),
+    Block(Block),
+    Unblock,
+    Tie(u32),
+    Untie,
+    Close,
 }
 
-#[test]
-fn a_debt_on_top_is_taken_off_or_cancelled(rt: HostRuntime) {
-    let made = two_calls(rt.alloc());
-    assert!(rt; made.is_ok());
-    let Ok(mut replies) = made else {
-        return;
-    };
-    let s = context(1);
-    assert_eq!(rt; replies.pay(reply(2)), ended(2, Some(s)));
-    assert!(rt; is_chain(&replies, s, &[reply(1)]));
-    assert!(rt; replies.owe(reply(2), thread(2), Some(s)));
-    assert_eq!(rt;
-        replies.void(reply(2), Ending::Cancelled),
-        ended(2, Some(s))
-    );
-    assert!(rt; is_chain(&replies, s, &[]));
-    assert_eq!(rt; replies.owed(reply(1)), Some(thread(1)));
+impl ThreadCall {
+    /// Whether the thread is there, and so is changed.
+    fn is_done(self, threads: &mut Threads, id: ObjId) -> bool {
+        let done = match self {
+            ThreadCall::Mode(mode) => threads.set_mode(id, mode),
+            ThreadCall::Prio(priority) => threads.set_prio(id, Prio(priority)),
+            ThreadCall::Block(block) => threads.block(id, block),
+            ThreadCall::Unblock => threads.unblock(id),
+            ThreadCall::Tie(serial) => threads.tie(id, notification(serial)),
+            ThreadCall::Untie => threads.untie(id),
+            ThreadCall::Close => threads.close(id),
+        };
+        done.is_some()
+    }
 }
 
-#[test]
-fn reply_objects_are_made_and_closed(rt: HostRuntime) {
-    let made = two_calls(rt.alloc());
-    assert!(rt; made.is_ok());
-    let Ok(mut replies) = made else {
-        return;
-    };
-    assert_eq!(rt; replies.rows().given(), 3);
-    replies.drop_chain(context(1));
-    assert!(rt; is_chain(&replies, context(1), &[]));
-    replies.are_chained();
-    stand(&mut replies, reply(2), Some(thread(4)));
-    assert_eq!(rt; replies.receiver(reply(2)), Some(thread(4)));
-    assert_eq!(rt; replies.void(reply(2), Ending::Deleted), ended(2, None));
-    assert!(rt; !close(&mut replies, reply(2)));
-    stand(&mut replies, reply(2), None);
-    assert!(rt; close(&mut replies, reply(2)));
-    assert!(rt; !replies.is_there(reply(2)));
-    assert_eq!(rt; add(&mut replies), Some(reply(4)));
+/// What is kept of a thread: its priority, what it does, and the notification that is bound to it.
+type ThreadRow = Option<(u8, Status, Option<u32>)>;
+
+const NEW: ThreadRow = Some((0, Status::Inactive, None));
+
+fn is_row(threads: &Threads, serial: u32, want: ThreadRow) -> bool {
+    match (threads.get(thread(serial)), want) {
+        (Some(row), Some((priority, status, bound))) => {
+            row.priority == Prio(priority)
+                && row.status() == status
+                && row.notification == named(Kind::Notification, bound)
+        }
+        (None, None) => true,
+        _ => false,
+    }
 }
 
-/// Adds a context where there is room.
-fn add_context(contexts: &mut Contexts, core: CoreId) -> Option<ObjId> {
-    if contexts.rows().is_full() {
+const RECEIVERS: Queue = Queue::Receivers(ObjId {
+    kind: Kind::Endpoint,
+    serial: 3,
+});
+
+const OWN: ObjId = ObjId {
+    kind: Kind::Reply,
+    serial: 4,
+};
+
+const RECEIVES: Block = Block::Queued {
+    queue: RECEIVERS,
+    reply: Some(OWN),
+};
+
+const CALLS: Block = Block::OnReply { reply: OWN };
+
+/// Changes of threads, whether they are done, and what is then kept of the first two.
+const THREAD_CALLS: [(u32, ThreadCall, bool, ThreadRow, ThreadRow); 13] = [
+    (
+        1,
+        ThreadCall::Prio(5),
+        true,
+        Some((5, Status::Inactive, None)),
+        NEW,
+    ),
+    (
+        1,
+        ThreadCall::Mode(Mode::Running),
+        true,
+        Some((5, Status::Running, None)),
+        NEW,
+    ),
+    (
+        1,
+        ThreadCall::Tie(1),
+        true,
+        Some((5, Status::Running, Some(1))),
+        NEW,
+    ),
+    (
+        1,
+        ThreadCall::Untie,
+        true,
+        Some((5, Status::Running, None)),
+        NEW,
+    ),
+    (
+        3,
+        ThreadCall::Mode(Mode::Running),
+        false,
+        Some((5, Status::Running, None)),
+        NEW,
+    ),
+    (
+        3,
+        ThreadCall::Prio(1),
+        false,
+        Some((5, Status::Running, None)),
+        NEW,
+    ),
+    (
+        2,
+        ThreadCall::Block(RECEIVES),
+        true,
+        Some((5, Status::Running, None)),
+        Some((0, Status::Queued(RECEIVERS), None)),
+    ),
+    (
+        2,
+        ThreadCall::Block(CALLS),
+        true,
+        Some((5, Status::Running, None)),
+        Some((0, Status::OnReply(OWN), None)),
+    ),
+    (
+        2,
+        ThreadCall::Unblock,
+        true,
+        Some((5, Status::Running, None)),
+        NEW,
+    ),
+    (
+        2,
+        ThreadCall::Mode(Mode::Restart),
+        true,
+        Some((5, Status::Running, None)),
+        Some((0, Status::Restart, None)),
+    ),
+    (
+        1,
+        ThreadCall::Close,
+        true,
+        None,
+        Some((0, Status::Restart, None)),
+    ),
+    (
+        1,
+        ThreadCall::Close,
+        false,
+        None,
+        Some((0, Status::Restart, None)),
+    ),
+    (
+        1,
+        ThreadCall::Untie,
+        false,
+        None,
+        Some((0, Status::Restart, None)),
+    ),
+];
+
+/// Adds a thread where there is room.
+fn add_thread(threads: &mut Threads, maximum: u8, root: &Cap) -> Option<ObjId> {
+    if threads.made() >= 256 {
         return None;
     }
-    Some(contexts.add(core))
+    Some(threads.add(Prio(maximum), root.again()))
 }
 
-/// Closes a context that nobody holds and that is homed nowhere. Whether it was one.
-fn close_context(contexts: &mut Contexts, context: ObjId) -> bool {
-    if contexts.core(context).is_none()
-        || contexts.holder(context).is_some()
-        || contexts.home_of(context).is_some()
-    {
+/// Whether a thread keeps this maximum and this root.
+fn keeps(threads: &Threads, id: ObjId, maximum: u8, root: &Cap) -> bool {
+    match threads.get(id) {
+        Some(row) => row.maximum == Prio(maximum) && row.root == *root,
+        None => false,
+    }
+}
+
+#[test]
+fn rows_of_threads_are_changed(rt: HostRuntime) -> Result<(), Fail> {
+    let mut threads = Threads::new(rt.alloc())?;
+    let root = root().ok_or("no right")?;
+    for (maximum, serial) in [(9, 1), (7, 2)] {
+        assert!(rt; add_thread(&mut threads, maximum, &root) == Some(thread(serial)));
+        assert!(rt; keeps(&threads, thread(serial), maximum, &root));
+    }
+    threads.are_few();
+    for (i, (serial, call, is_done, first, second)) in THREAD_CALLS.into_iter().enumerate() {
+        assert!(rt;
+            call.is_done(&mut threads, thread(serial)) == is_done,
+            "call {i}"
+        );
+        assert!(rt; is_row(&threads, 1, first), "the first after call {i}");
+        assert!(rt; is_row(&threads, 2, second), "the second after call {i}");
+    }
+    assert!(rt;
+        threads.set_prio(reply(2), Prio(1)).is_none(),
+        "it is no thread"
+    );
+    assert!(rt; threads.made() == 2);
+    assert!(rt; add_thread(&mut threads, 1, &root) == Some(thread(3)));
+    Ok(())
+}
+
+/// What blocks a thread, the queue in which it then stands, and whether it receives with its own reply object and with another.
+const BLOCKS: [(Block, Option<Queue>, [bool; 2]); 2] = [
+    (RECEIVES, Some(RECEIVERS), [true, false]),
+    (CALLS, None, [false, false]),
+];
+
+#[test]
+fn blocked_threads_stand_in_their_queues(rt: HostRuntime) -> Result<(), Fail> {
+    let mut threads = Threads::new(rt.alloc())?;
+    let a = add_thread(&mut threads, 9, &root().ok_or("no right")?).ok_or("no room")?;
+    for (block, queue, receives) in BLOCKS {
+        threads.block(a, block).ok_or("no such thread")?;
+        let row = threads.get(a).ok_or("no such thread")?;
+        assert!(rt; row.queue() == queue);
+        assert!(rt; [OWN, reply(5)].map(|reply| row.receives_with(reply)) == receives);
+    }
+    Ok(())
+}
+
+#[test]
+fn threads_keep_their_mail(rt: HostRuntime) -> Result<(), Fail> {
+    let mut threads = Threads::new(rt.alloc())?;
+    let a = add_thread(&mut threads, 9, &root().ok_or("no right")?).ok_or("no room")?;
+    assert!(rt; threads.mail(a).is_none());
+    let message = Message::new(rt.alloc(), 7, &[5, 6])?.ok_or("too many words")?;
+    let badge = Badge(3);
+    assert!(rt;
+        threads
+            .set_mail(a, Mail::Message { badge, message })
+            .is_some()
+    );
+    let label = match threads.mail(a) {
+        Some(Mail::Message { message, .. }) => Some(message.label()),
+        _ => None,
+    };
+    assert!(rt; label == Some(7));
+    assert!(rt; threads.close(a).is_some());
+    assert!(rt; threads.mail(a).is_none());
+    Ok(())
+}
+
+/// A call on reply objects. Objects are named by their serials: reply objects first, then threads and contexts.
+#[derive(Clone, Copy)]
+enum ReplyCall {
+    /// One is made, of this serial.
+    Add(u32),
+    Owe(u32, u32, u32),
+    /// The debt of a caller is ended, and it topped the chain of a context.
+    Pay(u32, u32, Option<u32>),
+    Void(u32, Ending, u32, Option<u32>),
+    /// A receiver stands with one, or none.
+    Stand(u32, Option<u32>),
+    /// The chain of a context is emptied.
+    Drop(u32),
+    Close(u32),
+}
+
+fn ended(caller: u32, topped: Option<u32>) -> Option<Ended> {
+    Some(Ended {
+        caller: thread(caller),
+        topped: named(Kind::Context, topped),
+    })
+}
+
+/// Has a receiver stand with a reply object, or none. Whether it is there.
+fn stand(replies: &mut Replies, id: ObjId, receiver: Option<u32>) -> bool {
+    if !replies.is_there(id) {
         return false;
     }
-    contexts.close(context);
+    replies.set_receiver(id, named(Kind::Thread, receiver));
+    replies.receiver(id) == named(Kind::Thread, receiver)
+}
+
+/// Closes a reply object that nobody uses. Whether it was one.
+fn close(replies: &mut Replies, id: ObjId) -> bool {
+    if replies.receiver(id).is_some() || replies.owed(id).is_some() {
+        return false;
+    }
+    if !replies.is_there(id) {
+        return false;
+    }
+    replies.close(id);
     true
 }
 
-#[test]
-fn contexts_are_bound_lent_and_closed(rt: HostRuntime) {
-    let made = Contexts::new(rt.alloc());
-    assert!(rt; made.is_ok());
-    let Ok(mut contexts) = made else {
-        return;
-    };
-    let (t, u) = (object(Kind::Thread, 1), object(Kind::Thread, 256));
-    let beyond = object(Kind::Thread, 257);
-    let a = object(Kind::Context, 1);
-    assert_eq!(rt; add_context(&mut contexts, CoreId(3)), Some(a));
-    assert_eq!(rt; contexts.rows().given(), 1);
-    assert_eq!(rt; contexts.core(a), Some(CoreId(3)));
-    let unmade = object(Kind::Context, 2);
-    assert_eq!(rt; contexts.bind(unmade, t), Err(Refusal::Missing));
-    assert_eq!(rt; contexts.bind(a, beyond), Err(Refusal::Range));
-    assert_eq!(rt; contexts.bind(a, t), Ok(()));
-    assert_eq!(rt; contexts.bind(a, u), Err(Refusal::AlreadyBound));
-    assert_eq!(rt; contexts.of(t), Some(a));
-    assert!(rt; !contexts.lend(t, beyond));
-    assert!(rt; contexts.lend(t, u));
-    assert_eq!(rt; contexts.of(t), None);
-    assert_eq!(rt; contexts.holder(a), Some(u));
-    assert!(rt; !contexts.lend(t, u));
-    contexts.is_one_to_one();
-    assert!(rt; !close_context(&mut contexts, a));
-    assert_eq!(rt; contexts.unbind(a), Ok(()));
-    assert_eq!(rt; contexts.unbind(a), Err(Refusal::NotBound));
-    assert!(rt; close_context(&mut contexts, a));
-    assert_eq!(rt; contexts.core(a), None);
-    assert_eq!(rt; contexts.rows().given(), 1);
+impl ReplyCall {
+    /// Whether the call is done, and as it says.
+    fn is_done(self, replies: &mut Replies) -> bool {
+        match self {
+            ReplyCall::Add(serial) => {
+                !replies.rows().is_full() && replies.add() == reply(serial)
+            }
+            ReplyCall::Owe(serial, caller, lender) => {
+                replies.owe(reply(serial), thread(caller), Some(context(lender)))
+            }
+            ReplyCall::Pay(serial, caller, topped) => {
+                replies.pay(reply(serial)) == ended(caller, topped)
+            }
+            ReplyCall::Void(serial, how, caller, topped) => {
+                replies.void(reply(serial), how) == ended(caller, topped)
+            }
+            ReplyCall::Stand(serial, receiver) => stand(replies, reply(serial), receiver),
+            ReplyCall::Drop(serial) => {
+                replies.drop_chain(context(serial));
+                true
+            }
+            ReplyCall::Close(serial) => close(replies, reply(serial)),
+        }
+    }
 }
 
+/// Whether these stand in the chain of the first context, from the top, and these are whom the first three reply objects owe.
+fn is_chain(replies: &Replies, chain: &[u32], owed: [Option<u32>; 3]) -> bool {
+    let chained = chain.iter().map(|serial| reply(*serial));
+    let first = chain.first().copied();
+    replies.chain_of(context(1)).eq(chained)
+        && replies.top_of(context(1)) == named(Kind::Reply, first)
+        && [1, 2, 3].map(|serial| replies.owed(reply(serial)))
+            == owed.map(|caller| named(Kind::Thread, caller))
+}
+
+/// Calls, whether they are done, the chain of the first context after each, and whom the first three reply objects owe then.
+const REPLY_CALLS: [(ReplyCall, bool, &[u32], [Option<u32>; 3]); 22] = [
+    (ReplyCall::Add(1), true, &[], [None, None, None]),
+    (ReplyCall::Add(2), true, &[], [None, None, None]),
+    (ReplyCall::Add(3), true, &[], [None, None, None]),
+    (ReplyCall::Owe(1, 1, 1), true, &[1], [Some(1), None, None]),
+    (
+        ReplyCall::Owe(2, 2, 1),
+        true,
+        &[2, 1],
+        [Some(1), Some(2), None],
+    ),
+    // One on top is taken off.
+    (
+        ReplyCall::Pay(2, 2, Some(1)),
+        true,
+        &[1],
+        [Some(1), None, None],
+    ),
+    (
+        ReplyCall::Owe(2, 2, 1),
+        true,
+        &[2, 1],
+        [Some(1), Some(2), None],
+    ),
+    (
+        ReplyCall::Void(2, Ending::Cancelled, 2, Some(1)),
+        true,
+        &[],
+        [Some(1), None, None],
+    ),
+    (ReplyCall::Pay(1, 1, None), true, &[], [None, None, None]),
+    // One below the top leaves with those below.
+    (ReplyCall::Owe(1, 1, 1), true, &[1], [Some(1), None, None]),
+    (
+        ReplyCall::Owe(2, 2, 1),
+        true,
+        &[2, 1],
+        [Some(1), Some(2), None],
+    ),
+    (
+        ReplyCall::Owe(3, 3, 1),
+        true,
+        &[3, 2, 1],
+        [Some(1), Some(2), Some(3)],
+    ),
+    (
+        ReplyCall::Owe(2, 3, 2),
+        false,
+        &[3, 2, 1],
+        [Some(1), Some(2), Some(3)],
+    ),
+    (
+        ReplyCall::Pay(2, 2, None),
+        true,
+        &[3],
+        [Some(1), None, Some(3)],
+    ),
+    (
+        ReplyCall::Pay(2, 2, None),
+        false,
+        &[3],
+        [Some(1), None, Some(3)],
+    ),
+    (
+        ReplyCall::Owe(2, 2, 1),
+        true,
+        &[2, 3],
+        [Some(1), Some(2), Some(3)],
+    ),
+    (ReplyCall::Drop(1), true, &[], [Some(1), Some(2), Some(3)]),
+    (
+        ReplyCall::Stand(2, Some(4)),
+        true,
+        &[],
+        [Some(1), Some(2), Some(3)],
+    ),
+    (
+        ReplyCall::Void(2, Ending::Deleted, 2, None),
+        true,
+        &[],
+        [Some(1), None, Some(3)],
+    ),
+    (ReplyCall::Close(2), false, &[], [Some(1), None, Some(3)]),
+    (
+        ReplyCall::Stand(2, None),
+        true,
+        &[],
+        [Some(1), None, Some(3)],
+    ),
+    (ReplyCall::Close(2), true, &[], [Some(1), None, Some(3)]),
+];
+
 #[test]
-fn contexts_are_homed_and_wake(rt: HostRuntime) {
-    let made = Contexts::new(rt.alloc());
-    assert!(rt; made.is_ok());
-    let Ok(mut contexts) = made else {
-        return;
+fn calls_on_reply_objects_answer(rt: HostRuntime) -> Result<(), Fail> {
+    let mut replies = Replies::new(rt.alloc())?;
+    for (i, (call, is_done, chain, owed)) in REPLY_CALLS.into_iter().enumerate() {
+        assert!(rt;
+            call.is_done(&mut replies) == is_done,
+            "the answer of call {i}"
+        );
+        assert!(rt; is_chain(&replies, chain, owed), "the chain after call {i}");
+    }
+    replies.are_chained();
+    assert!(rt; replies.rows().given() == 3);
+    assert!(rt; !replies.is_there(reply(2)));
+    assert!(rt; ReplyCall::Add(4).is_done(&mut replies));
+    Ok(())
+}
+
+/// A call on contexts. Objects are named by their serials: contexts first, then threads or notifications.
+#[derive(Clone, Copy)]
+enum ContextCall {
+    /// One of this core is made, of this serial.
+    Add(u8, u32),
+    Bind(u32, u32),
+    Unbind(u32),
+    Home(u32, u32),
+    Unhome(u32),
+    Wake(u32, u32),
+    /// The context of a thread is lent to another.
+    Lend(u32, u32),
+    Close(u32),
+}
+
+/// Adds a context where there is room. Whether its serial is this.
+fn add_context(contexts: &mut Contexts, core: u8, serial: u32) -> bool {
+    !contexts.rows().is_full() && contexts.add(CoreId(core)) == context(serial)
+}
+
+/// Closes a context that nobody holds and that is homed nowhere. Whether it was one.
+fn close_context(contexts: &mut Contexts, id: ObjId) -> bool {
+    if contexts.holder(id).is_some() || contexts.home_of(id).is_some() {
+        return false;
+    }
+    if contexts.core(id).is_none() {
+        return false;
+    }
+    contexts.close(id);
+    true
+}
+
+/// What is done, or is not, though nothing refuses it.
+fn told(is_done: bool) -> Result<bool, Refusal> {
+    Ok(is_done)
+}
+
+/// What is done, where nothing refuses it.
+fn done(answer: Result<(), Refusal>) -> Result<bool, Refusal> {
+    match answer {
+        Ok(()) => Ok(true),
+        Err(refusal) => Err(refusal),
+    }
+}
+
+impl ContextCall {
+    /// Whether the call is done, or what refuses it.
+    fn on(self, contexts: &mut Contexts) -> Result<bool, Refusal> {
+        match self {
+            ContextCall::Add(core, serial) => told(add_context(contexts, core, serial)),
+            ContextCall::Bind(s, t) => done(contexts.bind(context(s), thread(t))),
+            ContextCall::Unbind(s) => done(contexts.unbind(context(s))),
+            ContextCall::Home(s, n) => done(contexts.home(context(s), notification(n))),
+            ContextCall::Unhome(s) => done(contexts.unhome(context(s))),
+            ContextCall::Wake(s, t) => told(contexts.wake(context(s), thread(t))),
+            ContextCall::Lend(from, to) => told(contexts.lend(thread(from), thread(to))),
+            ContextCall::Close(s) => told(close_context(contexts, context(s))),
+        }
+    }
+}
+
+/// What is kept of a context: its core, its holder and its home.
+type ContextRow = Option<(u8, Option<u32>, Option<u32>)>;
+
+/// Whether this is kept of a context, and of its holder.
+fn is_context(contexts: &Contexts, serial: u32, want: ContextRow) -> bool {
+    let id = context(serial);
+    let Some((core, holder, home)) = want else {
+        return contexts.core(id).is_none();
     };
-    let (t, u) = (object(Kind::Thread, 1), object(Kind::Thread, 2));
-    let (n, m) = (object(Kind::Notification, 1), object(Kind::Notification, 2));
-    let (a, b) = (object(Kind::Context, 1), object(Kind::Context, 2));
-    assert_eq!(rt; contexts.home(a, n), Err(Refusal::Missing));
-    assert_eq!(rt; add_context(&mut contexts, CoreId(0)), Some(a));
-    assert_eq!(rt; add_context(&mut contexts, CoreId(0)), Some(b));
-    assert_eq!(rt; contexts.unhome(a), Err(Refusal::NotBound));
-    assert_eq!(rt; contexts.home(a, n), Ok(()));
-    assert_eq!(rt; contexts.home(a, m), Err(Refusal::AlreadyBound));
-    assert_eq!(rt; contexts.home_of(a), Some(n));
-    assert_eq!(rt; contexts.home_of(b), None);
-    assert_eq!(rt; contexts.bind(a, t), Err(Refusal::AlreadyBound));
-    assert!(rt; contexts.wake(a, t));
-    assert_eq!(rt; contexts.holder(a), Some(t));
-    assert_eq!(rt; contexts.home_of(a), Some(n));
-    assert!(rt; !contexts.wake(a, u));
-    assert!(rt; !contexts.wake(b, t));
-    assert!(rt; !contexts.wake(b, object(Kind::Thread, 257)));
-    assert!(rt; contexts.wake(b, u));
-    assert_eq!(rt; contexts.unbind(a), Ok(()));
-    assert!(rt; !close_context(&mut contexts, a));
-    assert_eq!(rt; contexts.unhome(a), Ok(()));
-    assert_eq!(rt; contexts.home_of(a), None);
-    assert!(rt; close_context(&mut contexts, a));
-    assert!(rt; !contexts.wake(a, t));
+    let holder = named(Kind::Thread, holder);
+    contexts.core(id) == Some(CoreId(core))
+        && contexts.holder(id) == holder
+        && holder.is_none_or(|thread| contexts.of(thread) == Some(id))
+        && contexts.home_of(id) == named(Kind::Notification, home)
+}
+
+/// A context of the core 3, and one of the core 0, that nobody holds.
+const FREE: ContextRow = Some((3, None, None));
+
+const OTHER: ContextRow = Some((0, None, None));
+
+/// Calls, their answers, and what is then kept of the first two contexts.
+const CONTEXT_CALLS: [(ContextCall, Result<bool, Refusal>, ContextRow, ContextRow); 32] = [
+    (ContextCall::Home(1, 1), Err(Refusal::Missing), None, None),
+    (ContextCall::Wake(1, 1), Ok(false), None, None),
+    (ContextCall::Add(3, 1), Ok(true), FREE, None),
+    (ContextCall::Bind(2, 1), Err(Refusal::Missing), FREE, None),
+    (ContextCall::Bind(1, 257), Err(Refusal::Range), FREE, None),
+    (
+        ContextCall::Bind(1, 1),
+        Ok(true),
+        Some((3, Some(1), None)),
+        None,
+    ),
+    (
+        ContextCall::Bind(1, 256),
+        Err(Refusal::AlreadyBound),
+        Some((3, Some(1), None)),
+        None,
+    ),
+    (
+        ContextCall::Lend(1, 257),
+        Ok(false),
+        Some((3, Some(1), None)),
+        None,
+    ),
+    (
+        ContextCall::Lend(1, 256),
+        Ok(true),
+        Some((3, Some(256), None)),
+        None,
+    ),
+    (
+        ContextCall::Lend(1, 256),
+        Ok(false),
+        Some((3, Some(256), None)),
+        None,
+    ),
+    (
+        ContextCall::Close(1),
+        Ok(false),
+        Some((3, Some(256), None)),
+        None,
+    ),
+    (ContextCall::Unbind(1), Ok(true), FREE, None),
+    (ContextCall::Unbind(1), Err(Refusal::NotBound), FREE, None),
+    (ContextCall::Add(0, 2), Ok(true), FREE, OTHER),
+    (ContextCall::Unhome(1), Err(Refusal::NotBound), FREE, OTHER),
+    (
+        ContextCall::Home(1, 1),
+        Ok(true),
+        Some((3, None, Some(1))),
+        OTHER,
+    ),
+    (
+        ContextCall::Home(1, 2),
+        Err(Refusal::AlreadyBound),
+        Some((3, None, Some(1))),
+        OTHER,
+    ),
+    (
+        ContextCall::Bind(1, 1),
+        Err(Refusal::AlreadyBound),
+        Some((3, None, Some(1))),
+        OTHER,
+    ),
+    (
+        ContextCall::Wake(1, 1),
+        Ok(true),
+        Some((3, Some(1), Some(1))),
+        OTHER,
+    ),
+    // It is held, its holder holds one, and there is no such thread.
+    (
+        ContextCall::Wake(1, 2),
+        Ok(false),
+        Some((3, Some(1), Some(1))),
+        OTHER,
+    ),
+    (
+        ContextCall::Wake(2, 1),
+        Ok(false),
+        Some((3, Some(1), Some(1))),
+        OTHER,
+    ),
+    (
+        ContextCall::Wake(2, 257),
+        Ok(false),
+        Some((3, Some(1), Some(1))),
+        OTHER,
+    ),
+    (
+        ContextCall::Wake(2, 2),
+        Ok(true),
+        Some((3, Some(1), Some(1))),
+        Some((0, Some(2), None)),
+    ),
+    (
+        ContextCall::Unbind(1),
+        Ok(true),
+        Some((3, None, Some(1))),
+        Some((0, Some(2), None)),
+    ),
+    (
+        ContextCall::Close(1),
+        Ok(false),
+        Some((3, None, Some(1))),
+        Some((0, Some(2), None)),
+    ),
+    (
+        ContextCall::Unhome(1),
+        Ok(true),
+        FREE,
+        Some((0, Some(2), None)),
+    ),
+    (
+        ContextCall::Close(1),
+        Ok(true),
+        None,
+        Some((0, Some(2), None)),
+    ),
+    (
+        ContextCall::Wake(1, 1),
+        Ok(false),
+        None,
+        Some((0, Some(2), None)),
+    ),
+    (
+        ContextCall::Close(1),
+        Ok(false),
+        None,
+        Some((0, Some(2), None)),
+    ),
+    (ContextCall::Unbind(2), Ok(true), None, OTHER),
+    (ContextCall::Close(2), Ok(true), None, None),
+    (ContextCall::Unbind(2), Err(Refusal::NotBound), None, None),
+];
+
+#[test]
+fn calls_on_contexts_answer(rt: HostRuntime) -> Result<(), Fail> {
+    let mut contexts = Contexts::new(rt.alloc())?;
+    for (i, (call, answer, first, second)) in CONTEXT_CALLS.into_iter().enumerate() {
+        assert!(rt; call.on(&mut contexts) == answer, "the answer of call {i}");
+        assert!(rt; is_context(&contexts, 1, first), "the first after call {i}");
+        assert!(rt;
+            is_context(&contexts, 2, second),
+            "the second after call {i}"
+        );
+    }
+    contexts.is_one_to_one();
+    assert!(rt; contexts.of(thread(1)).is_none());
+    assert!(rt; contexts.rows().given() == 2);
+    Ok(())
 }
