@@ -3,6 +3,7 @@ use mcs_kernel::{Boot, Kernel};
 use mcs_queues::LinkedLines;
 use mcs_types::{Badge, BootFault, BootLine, Cap, CoreId, Guard, Kind, ObjId, Prio, Rights};
 use std::alloc::Global;
+use std::test::Fail;
 
 const CNODE: ObjId = ObjId {
     kind: Kind::CNode,
@@ -57,78 +58,92 @@ fn booted(alloc: Global) -> Result<Boot, BootFault> {
 }
 
 #[test]
-fn lines_are_taken(rt: HostRuntime) {
-    let Ok(boot) = booted(rt.alloc()) else {
-        assert!(rt; false, "there is memory");
-        return;
-    };
-    assert_eq!(rt; boot.lines().len(), 5);
-    assert_eq!(rt; boot.radix(CNODE), Some(8));
-    let Ok(kernel) = Kernel::<LinkedLines>::new(rt.alloc(), &boot) else {
-        assert!(rt; false, "there is memory");
-        return;
-    };
-    assert_eq!(rt; kernel.fault(CoreId(0), object(Kind::Thread, 1)), None);
-    assert_eq!(rt; kernel.book().lines(), 1);
+fn lines_are_taken(rt: HostRuntime) -> Result<(), Fail> {
+    let boot = booted(rt.alloc())?;
+    assert!(rt; boot.lines().len() == 5);
+    assert!(rt; boot.radix(CNODE) == Some(8));
+    let kernel = Kernel::<LinkedLines>::new(rt.alloc(), &boot)?;
+    assert!(rt; kernel.fault(CoreId(0), object(Kind::Thread, 1)).is_none());
+    assert!(rt; kernel.book().lines() == 1);
+    Ok(())
+}
+
+/// Adds a line so many times, each of which gives the same answer.
+fn add_all(boot: &mut Boot, line: &BootLine, count: u32, answer: Result<(), BootFault>) -> bool {
+    for _ in 0..count {
+        if boot.add(*line) != answer {
+            return false;
+        }
+    }
+    true
 }
 
 #[test]
-fn faults_are_told(rt: HostRuntime) {
-    let Ok(mut boot) = booted(rt.alloc()) else {
-        assert!(rt; false, "there is memory");
-        return;
-    };
-    assert_eq!(rt;
-        boot.add(BootLine::CNode { radix: 9 }),
-        Err(BootFault::Number)
-    );
-    assert_eq!(rt;
-        boot.add(thread(object(Kind::CNode, 65), None)),
-        Err(BootFault::NoObject)
-    );
-    for _ in 0..63u32 {
-        assert_eq!(rt; boot.add(BootLine::CNode { radix: 1 }), Ok(()));
+fn faults_are_told(rt: HostRuntime) -> Result<(), Fail> {
+    let mut boot = booted(rt.alloc())?;
+    let lines = [
+        (BootLine::CNode { radix: 9 }, 1, Err(BootFault::Number)),
+        (
+            thread(object(Kind::CNode, 65), None),
+            1,
+            Err(BootFault::NoObject),
+        ),
+        (BootLine::CNode { radix: 1 }, 63, Ok(())),
+        (BootLine::CNode { radix: 1 }, 1, Err(BootFault::Limit)),
+        (slot(CNODE), 1, Err(BootFault::Taken)),
+        // one endpoint is there
+        (BootLine::Endpoint, 255, Ok(())),
+        (BootLine::Endpoint, 1, Err(BootFault::Limit)),
+    ];
+    for (i, (line, count, answer)) in lines.iter().enumerate() {
+        assert!(rt; add_all(&mut boot, line, *count, *answer), "line {i}");
     }
-    assert_eq!(rt;
-        boot.add(BootLine::CNode { radix: 1 }),
-        Err(BootFault::Limit)
-    );
-    assert_eq!(rt; boot.add(slot(CNODE)), Err(BootFault::Taken));
+    Ok(())
 }
 
-/// Binds a notification to a thread.
-fn tie(boot: &mut Boot, thread: u32, notification: u32) -> Result<(), BootFault> {
-    boot.add(BootLine::Tie {
+/// A line that binds a notification to a thread.
+fn tie(thread: u32, notification: u32) -> BootLine {
+    BootLine::Tie {
         thread: object(Kind::Thread, thread),
         notification: object(Kind::Notification, notification),
-    })
+    }
 }
 
 #[test]
-fn notifications_are_bound_once(rt: HostRuntime) {
-    let Ok(mut boot) = booted(rt.alloc()) else {
-        assert!(rt; false, "there is memory");
-        return;
-    };
-    assert_eq!(rt; tie(&mut boot, 1, 1), Err(BootFault::NoObject));
-    assert_eq!(rt; boot.add(BootLine::Notification), Ok(()));
-    assert_eq!(rt; boot.add(BootLine::Notification), Ok(()));
-    assert_eq!(rt; boot.add(thread(CNODE, None)), Ok(()));
-    assert_eq!(rt; tie(&mut boot, 3, 1), Err(BootFault::NoObject));
-    assert_eq!(rt; tie(&mut boot, 1, 1), Ok(()));
-    assert_eq!(rt; tie(&mut boot, 1, 2), Err(BootFault::Taken));
-    assert_eq!(rt; tie(&mut boot, 2, 1), Err(BootFault::Taken));
-    assert_eq!(rt; tie(&mut boot, 2, 2), Ok(()));
-    let Ok(kernel) = Kernel::<LinkedLines>::new(rt.alloc(), &boot) else {
-        assert!(rt; false, "there is memory");
-        return;
-    };
-    assert_eq!(rt; kernel.book().boot().len(), boot.lines().len());
+fn notifications_are_bound_once(rt: HostRuntime) -> Result<(), Fail> {
+    let mut boot = booted(rt.alloc())?;
+    let lines = [
+        (tie(1, 1), Err(BootFault::NoObject)),
+        (BootLine::Notification, Ok(())),
+        (BootLine::Notification, Ok(())),
+        (thread(CNODE, None), Ok(())),
+        (tie(3, 1), Err(BootFault::NoObject)),
+        (tie(1, 1), Ok(())),
+        (tie(1, 2), Err(BootFault::Taken)),
+        (tie(2, 1), Err(BootFault::Taken)),
+        (tie(2, 2), Ok(())),
+    ];
+    for (i, (line, answer)) in lines.into_iter().enumerate() {
+        assert!(rt; boot.add(line) == answer, "line {i}");
+    }
+    let kernel = Kernel::<LinkedLines>::new(rt.alloc(), &boot)?;
+    assert!(rt; kernel.book().boot().len() == boot.lines().len());
+    Ok(())
+}
+
+/// The cores of a boot that is asked for so many.
+fn cores(alloc: Global, count: u8) -> Result<u8, BootFault> {
+    Ok(Boot::new(alloc, count)?.cores())
 }
 
 #[test]
 fn cores_are_limited(rt: HostRuntime) {
-    assert_eq!(rt; Boot::new(rt.alloc(), 0).err(), Some(BootFault::Number));
-    assert_eq!(rt; Boot::new(rt.alloc(), 16).map(|boot| boot.cores()), Ok(16));
-    assert_eq!(rt; Boot::new(rt.alloc(), 17).err(), Some(BootFault::Number));
+    let answers = [
+        (0, Err(BootFault::Number)),
+        (16, Ok(16)),
+        (17, Err(BootFault::Number)),
+    ];
+    for (count, answer) in answers {
+        assert!(rt; cores(rt.alloc(), count) == answer, "{count} cores");
+    }
 }

@@ -1,6 +1,5 @@
 //! What a kernel tells of its threads.
-
-use mcs_kernel::{Boot, EnterFault, Kernel, replay};
+use mcs_kernel::{Boot, EnterFault, Kernel, ReplayFault, replay};
 use mcs_queues::LinkedLines;
 use mcs_types::{
     Answer, Badge, BootFault, BootLine, Cap, CoreId, Entry, Guard, Kind, Mail, Message, ObjId,
@@ -17,6 +16,21 @@ fn thread(serial: u32) -> ObjId {
     object(Kind::Thread, serial)
 }
 
+const ENDPOINT: ObjId = ObjId {
+    kind: Kind::Endpoint,
+    serial: 1,
+};
+
+const NOTIFICATION: ObjId = ObjId {
+    kind: Kind::Notification,
+    serial: 1,
+};
+
+const REPLY: ObjId = ObjId {
+    kind: Kind::Reply,
+    serial: 1,
+};
+
 /// A slot with an unguarded capability.
 fn slot(index: u8, obj: ObjId, bits: u8, badge: u64) -> Option<BootLine> {
     let cap = Cap {
@@ -32,184 +46,45 @@ fn slot(index: u8, obj: ObjId, bits: u8, badge: u64) -> Option<BootLine> {
     })
 }
 
+/// A thread with this context.
+fn runner(priority: u8, runs: bool, context: Option<u32>) -> BootLine {
+    BootLine::Thread {
+        priority: Prio(priority),
+        maximum: Prio(255),
+        root: object(Kind::CNode, 1),
+        guard: Guard { bits: 59, value: 0 },
+        runs,
+        context: context.map(|serial| object(Kind::Context, serial)),
+    }
+}
+
 /// A CNode, an endpoint, a reply object, a notification, and five threads with a context each.
 fn five_threads(alloc: Global) -> Result<Boot, BootFault> {
     let mut boot = Boot::new(alloc, 1)?;
-    boot.add(BootLine::CNode { radix: 5 })?;
-    boot.add(BootLine::Endpoint)?;
-    boot.add(BootLine::Reply)?;
-    boot.add(BootLine::Notification)?;
+    let objects = [
+        BootLine::CNode { radix: 5 },
+        BootLine::Endpoint,
+        BootLine::Reply,
+        BootLine::Notification,
+    ];
+    for line in objects {
+        boot.add(line)?;
+    }
     for (serial, priority) in [(1, 10), (2, 20), (3, 10), (4, 20), (5, 30)] {
         boot.add(BootLine::Context { core: CoreId(0) })?;
-        boot.add(BootLine::Thread {
-            priority: Prio(priority),
-            maximum: Prio(255),
-            root: object(Kind::CNode, 1),
-            guard: Guard { bits: 59, value: 0 },
-            runs: true,
-            context: Some(object(Kind::Context, serial)),
-        })?;
+        boot.add(runner(priority, true, Some(serial)))?;
     }
     let slots = [
-        slot(1, object(Kind::Endpoint, 1), 1, 9),
-        slot(2, object(Kind::Endpoint, 1), 15, 0),
-        slot(4, object(Kind::Notification, 1), 3, 5),
-        slot(8, object(Kind::Reply, 1), 0, 0),
+        slot(1, ENDPOINT, 1, 9),
+        slot(2, ENDPOINT, 15, 0),
+        slot(4, NOTIFICATION, 3, 5),
+        slot(8, REPLY, 0, 0),
         slot(12, thread(2), 0, 0),
     ];
     for line in slots.into_iter().flatten() {
         boot.add(line)?;
     }
     Ok(boot)
-}
-
-/// The kernel over a boot.
-fn booted(alloc: Global, boot: Result<Boot, BootFault>) -> Result<Kernel<LinkedLines>, Fail> {
-    Ok(Kernel::new(alloc, &boot?)?)
-}
-
-#[test]
-fn the_first_of_those_that_may_enter_is_picked(rt: HostRuntime) -> Result<(), Fail> {
-    let kernel = booted(rt.alloc(), five_threads(rt.alloc()))?;
-    let mut passed = ThreadSet::new();
-    for want in [5, 2, 4, 1, 3] {
-        assert_eq!(rt; kernel.pick(CoreId(0), &passed), Some(thread(want)));
-        passed.insert(thread(want));
-    }
-    assert!(rt; passed.contains(thread(3)));
-    assert_eq!(rt; kernel.pick(CoreId(0), &passed), None);
-    Ok(())
-}
-
-/// Enters, and tells no more of the kernel than these tests ask for.
-fn enter(
-    alloc: Global,
-    kernel: &mut Kernel<LinkedLines>,
-    core: u8,
-    serial: u32,
-    entry: Entry,
-) -> Result<Answer, EnterFault> {
-    kernel.enter(alloc, CoreId(core), thread(serial), entry)
-}
-
-/// Whether this message is what last reached a thread.
-fn has_mail(
-    kernel: &Kernel<LinkedLines>,
-    serial: u32,
-    from: u64,
-    label: u64,
-    words: &[u64],
-) -> bool {
-    match kernel.mail(thread(serial)) {
-        Some(Mail::Message { badge, message }) => {
-            badge.0 == from && message.label() == label && message.words() == words
-        }
-        _ => false,
-    }
-}
-
-#[test]
-fn status_and_mail_follow_a_message(rt: HostRuntime) -> Result<(), Fail> {
-    let mut kernel = booted(rt.alloc(), five_threads(rt.alloc()))?;
-    let message = Message::new(rt.alloc(), 7, &[5, 6])?.ok_or("too many words")?;
-    let entry = Entry::Send { cap: 1, message };
-    let sent = enter(rt.alloc(), &mut kernel, 0, 1, entry);
-    assert!(rt; matches!(sent, Ok(Answer::Waits)));
-    let senders = Queue::Senders(object(Kind::Endpoint, 1));
-    assert_eq!(rt; kernel.status(thread(1)), Some(Status::Queued(senders)));
-    assert!(rt; kernel.mail(thread(2)).is_none());
-    let entry = Entry::Recv { cap: 2, reply: 8 };
-    let got = enter(rt.alloc(), &mut kernel, 0, 2, entry);
-    assert!(rt; matches!(got, Ok(Answer::Got { .. })));
-    assert_eq!(rt; kernel.status(thread(1)), Some(Status::Running));
-    assert!(rt; has_mail(&kernel, 2, 9, 7, &[5, 6]));
-    Ok(())
-}
-
-#[test]
-fn status_and_mail_follow_a_signal(rt: HostRuntime) -> Result<(), Fail> {
-    let mut kernel = booted(rt.alloc(), five_threads(rt.alloc()))?;
-    let entry = Entry::BindNtfn {
-        thread: 12,
-        notification: 4,
-    };
-    let bound = enter(rt.alloc(), &mut kernel, 0, 2, entry);
-    assert!(rt; matches!(bound, Ok(Answer::Done)));
-    let entry = Entry::Recv { cap: 2, reply: 8 };
-    let waits = enter(rt.alloc(), &mut kernel, 0, 2, entry);
-    assert!(rt; matches!(waits, Ok(Answer::Waits)));
-    let receivers = Queue::Receivers(object(Kind::Endpoint, 1));
-    assert_eq!(rt; kernel.status(thread(2)), Some(Status::Queued(receivers)));
-    let entry = Entry::Signal { cap: 4 };
-    let raised = enter(rt.alloc(), &mut kernel, 0, 1, entry);
-    assert!(rt; matches!(raised, Ok(Answer::Done)));
-    assert_eq!(rt; kernel.status(thread(2)), Some(Status::Running));
-    assert!(rt; matches!(kernel.mail(thread(2)), Some(Mail::Word { word: 5 })));
-    let unbound = enter(
-        rt.alloc(),
-        &mut kernel,
-        0,
-        2,
-        Entry::UnbindNtfn { thread: 12 },
-    );
-    assert!(rt; matches!(unbound, Ok(Answer::Done)));
-    let waits = enter(rt.alloc(), &mut kernel, 0, 2, Entry::Wait { cap: 4 });
-    assert!(rt; matches!(waits, Ok(Answer::Waits)));
-    let waiters = Queue::Waiters(object(Kind::Notification, 1));
-    assert_eq!(rt; kernel.status(thread(2)), Some(Status::Queued(waiters)));
-    Ok(())
-}
-
-#[test]
-fn status_and_mail_follow_a_call(rt: HostRuntime) -> Result<(), Fail> {
-    let mut kernel = booted(rt.alloc(), five_threads(rt.alloc()))?;
-    let entry = Entry::Recv { cap: 2, reply: 8 };
-    let waits = enter(rt.alloc(), &mut kernel, 0, 2, entry);
-    assert!(rt; matches!(waits, Ok(Answer::Waits)));
-    let message = Message::new(rt.alloc(), 7, &[5, 6])?.ok_or("too many words")?;
-    let entry = Entry::Call { cap: 2, message };
-    let called = enter(rt.alloc(), &mut kernel, 0, 1, entry);
-    assert!(rt; matches!(called, Ok(Answer::Waits)));
-    let owing = object(Kind::Reply, 1);
-    assert_eq!(rt; kernel.status(thread(1)), Some(Status::OnReply(owing)));
-    assert!(rt; has_mail(&kernel, 2, 0, 7, &[5, 6]));
-    let message = Message::new(rt.alloc(), 8, &[])?.ok_or("too many words")?;
-    let entry = Entry::Send { cap: 8, message };
-    let paid = enter(rt.alloc(), &mut kernel, 0, 2, entry);
-    assert!(rt; matches!(paid, Ok(Answer::Done)));
-    assert_eq!(rt; kernel.status(thread(1)), Some(Status::Running));
-    assert!(rt; has_mail(&kernel, 1, 0, 8, &[]));
-    Ok(())
-}
-
-#[test]
-fn status_follows_a_cancelled_sender(rt: HostRuntime) -> Result<(), Fail> {
-    let mut kernel = booted(rt.alloc(), five_threads(rt.alloc()))?;
-    let message = Message::new(rt.alloc(), 7, &[5, 6])?.ok_or("too many words")?;
-    let entry = Entry::Send { cap: 2, message };
-    let waits = enter(rt.alloc(), &mut kernel, 0, 2, entry);
-    assert!(rt; matches!(waits, Ok(Answer::Waits)));
-    let done = [
-        Entry::CancelBadged { endpoint: 2 },
-        Entry::SetPriority {
-            thread: 12,
-            authority: 12,
-            priority: Prio(5),
-        },
-    ];
-    for entry in done {
-        let result = enter(rt.alloc(), &mut kernel, 0, 1, entry);
-        assert!(rt; matches!(result, Ok(Answer::Done)));
-    }
-    let senders = Queue::Senders(object(Kind::Endpoint, 1));
-    assert_eq!(rt; kernel.status(thread(2)), Some(Status::Queued(senders)));
-    let suspended = enter(rt.alloc(), &mut kernel, 0, 1, Entry::Suspend { thread: 12 });
-    assert!(rt; matches!(suspended, Ok(Answer::Done)));
-    assert_eq!(rt; kernel.status(thread(2)), Some(Status::Inactive));
-    let resumed = enter(rt.alloc(), &mut kernel, 0, 1, Entry::Resume { thread: 12 });
-    assert!(rt; matches!(resumed, Ok(Answer::Done)));
-    assert_eq!(rt; kernel.status(thread(2)), Some(Status::Restart));
-    Ok(())
 }
 
 /// Two cores, four contexts, and five threads: one without a context, and one that does not run.
@@ -220,93 +95,432 @@ fn two_cores(alloc: Global) -> Result<Boot, BootFault> {
         boot.add(BootLine::Context { core: CoreId(core) })?;
     }
     let threads = [
-        (10, true, Some(1)),
-        (30, true, Some(2)),
-        (20, true, Some(3)),
-        (40, true, None),
-        (50, false, Some(4)),
+        runner(10, true, Some(1)),
+        runner(30, true, Some(2)),
+        runner(20, true, Some(3)),
+        runner(40, true, None),
+        runner(50, false, Some(4)),
     ];
-    for (priority, runs, context) in threads {
-        boot.add(BootLine::Thread {
-            priority: Prio(priority),
-            maximum: Prio(255),
-            root: object(Kind::CNode, 1),
-            guard: Guard { bits: 59, value: 0 },
-            runs,
-            context: context.map(|serial| object(Kind::Context, serial)),
-        })?;
+    for line in threads {
+        boot.add(line)?;
     }
     Ok(boot)
 }
 
-#[test]
-fn each_core_picks_among_its_own(rt: HostRuntime) -> Result<(), Fail> {
-    let kernel = booted(rt.alloc(), two_cores(rt.alloc()))?;
+/// The kernel over a boot.
+fn booted(alloc: Global, boot: Result<Boot, BootFault>) -> Result<Kernel<LinkedLines>, Fail> {
+    Ok(Kernel::new(alloc, &boot?)?)
+}
+
+/// Who is picked on a core while those who were picked before are passed, until nobody is left.
+fn picked(kernel: &Kernel<LinkedLines>, core: u8) -> [Option<ObjId>; 6] {
     let mut passed = ThreadSet::new();
-    assert_eq!(rt; kernel.pick(CoreId(0), &passed), Some(thread(1)));
-    assert_eq!(rt; kernel.pick(CoreId(1), &passed), Some(thread(2)));
-    passed.insert(thread(2));
-    assert_eq!(rt; kernel.pick(CoreId(0), &passed), Some(thread(1)));
-    assert_eq!(rt; kernel.pick(CoreId(1), &passed), Some(thread(3)));
-    passed.insert(thread(3));
-    assert_eq!(rt; kernel.pick(CoreId(1), &passed), None);
-    assert_eq!(rt; kernel.pick(CoreId(2), &ThreadSet::new()), None);
+    let mut all = [None; 6];
+    for place in &mut all {
+        *place = kernel.pick(CoreId(core), &passed);
+        if let Some(thread) = *place {
+            passed.insert(thread);
+        }
+    }
+    all
+}
+
+/// Threads of these serials, or none.
+fn threads(serials: [Option<u32>; 6]) -> [Option<ObjId>; 6] {
+    serials.map(|serial| Some(thread(serial?)))
+}
+
+#[test]
+fn those_that_may_enter_are_picked_in_order(rt: HostRuntime) -> Result<(), Fail> {
+    let kernel = booted(rt.alloc(), five_threads(rt.alloc()))?;
+    let all = [Some(5), Some(2), Some(4), Some(1), Some(3), None];
+    assert!(rt; picked(&kernel, 0) == threads(all));
+    let kernel = booted(rt.alloc(), two_cores(rt.alloc()))?;
+    let of_each = [
+        [Some(1), None, None, None, None, None],
+        [Some(2), Some(3), None, None, None, None],
+        [None; 6],
+    ];
+    for (core, serials) in of_each.into_iter().enumerate() {
+        assert!(rt;
+            picked(&kernel, core as u8) == threads(serials),
+            "core {core}"
+        );
+    }
     Ok(())
 }
+
+/// An entry of these tests; the messages of its sends have a label and words.
+#[derive(Clone, Copy)]
+enum Call {
+    Send(u64, u64, &'static [u64]),
+    Call(u64, u64, &'static [u64]),
+    Recv(u64, u64),
+    Wait(u64),
+    Signal(u64),
+    BindNtfn(u64, u64),
+    UnbindNtfn(u64),
+    CancelBadged(u64),
+    SetPriority(u64, u8),
+    Suspend(u64),
+    Resume(u64),
+}
+
+fn message(alloc: Global, label: u64, words: &[u64]) -> Result<Message, Fail> {
+    Ok(Message::new(alloc, label, words)?.ok_or("too many words")?)
+}
+
+impl Call {
+    fn entry(self, alloc: Global) -> Result<Entry, Fail> {
+        Ok(match self {
+            Call::Send(cap, label, words) => Entry::Send {
+                cap,
+                message: message(alloc, label, words)?,
+            },
+            Call::Call(cap, label, words) => Entry::Call {
+                cap,
+                message: message(alloc, label, words)?,
+            },
+            Call::Recv(cap, reply) => Entry::Recv { cap, reply },
+            Call::Wait(cap) => Entry::Wait { cap },
+            Call::Signal(cap) => Entry::Signal { cap },
+            Call::BindNtfn(thread, notification) => Entry::BindNtfn {
+                thread,
+                notification,
+            },
+            Call::UnbindNtfn(thread) => Entry::UnbindNtfn { thread },
+            Call::CancelBadged(endpoint) => Entry::CancelBadged { endpoint },
+            Call::SetPriority(thread, priority) => Entry::SetPriority {
+                thread,
+                authority: thread,
+                priority: Prio(priority),
+            },
+            Call::Suspend(thread) => Entry::Suspend { thread },
+            Call::Resume(thread) => Entry::Resume { thread },
+        })
+    }
+}
+
+/// What an entry is answered, as far as these tests ask.
+#[derive(Clone, Copy, PartialEq, Eq, Debug)]
+enum Told {
+    Done,
+    Got,
+    Waits,
+    Refused,
+    Other,
+    Away(EnterFault),
+}
+
+fn kind_of(answer: Result<Answer, EnterFault>) -> Told {
+    match answer {
+        Ok(Answer::Done) => Told::Done,
+        Ok(Answer::Got { .. }) => Told::Got,
+        Ok(Answer::Waits) => Told::Waits,
+        Ok(Answer::Refused(_)) => Told::Refused,
+        Ok(Answer::Heard { .. } | Answer::Empty) => Told::Other,
+        Err(fault) => Told::Away(fault),
+    }
+}
+
+/// Enters, and tells no more of the kernel than these tests ask for.
+fn enter(
+    alloc: Global,
+    kernel: &mut Kernel<LinkedLines>,
+    core: u8,
+    serial: u32,
+    call: Call,
+) -> Result<Told, Fail> {
+    let entry = call.entry(alloc)?;
+    Ok(kind_of(kernel.enter(alloc, CoreId(core), thread(serial), entry)))
+}
+
+/// What last reached a thread, if anything did: badge, label and words of a message, or a word.
+#[derive(Clone, Copy)]
+enum Reached {
+    Nothing,
+    Message(u64, u64, &'static [u64]),
+    Word(u64),
+}
+
+fn has_mail(kernel: &Kernel<LinkedLines>, serial: u32, want: Reached) -> bool {
+    match (kernel.mail(thread(serial)), want) {
+        (Some(Mail::Message { badge, message }), Reached::Message(from, label, words)) => {
+            badge.0 == from && message.label() == label && message.words() == words
+        }
+        (Some(Mail::Word { word: told }), Reached::Word(word)) => *told == word,
+        (None, Reached::Nothing) => true,
+        _ => false,
+    }
+}
+
+const SENDS: Status = Status::Queued(Queue::Senders(ENDPOINT));
+
+const RECEIVES: Status = Status::Queued(Queue::Receivers(ENDPOINT));
+
+const WAITS: Status = Status::Queued(Queue::Waiters(NOTIFICATION));
+
+const WORDS: &[u64] = &[5, 6];
+
+/// A thread's entry, its answer, and then what the first two threads do and what last reached them.
+type Row = (u32, Call, Told, [Status; 2], Reached, Reached);
+
+/// Entries from the boot on.
+const COURSES: [&[Row]; 4] = [
+    // a message
+    &[
+        (
+            1,
+            Call::Send(1, 7, WORDS),
+            Told::Waits,
+            [SENDS, Status::Running],
+            Reached::Nothing,
+            Reached::Nothing,
+        ),
+        (
+            2,
+            Call::Recv(2, 8),
+            Told::Got,
+            [Status::Running, Status::Running],
+            Reached::Nothing,
+            Reached::Message(9, 7, WORDS),
+        ),
+    ],
+    // a signal
+    &[
+        (
+            2,
+            Call::BindNtfn(12, 4),
+            Told::Done,
+            [Status::Running, Status::Running],
+            Reached::Nothing,
+            Reached::Nothing,
+        ),
+        (
+            2,
+            Call::Recv(2, 8),
+            Told::Waits,
+            [Status::Running, RECEIVES],
+            Reached::Nothing,
+            Reached::Nothing,
+        ),
+        (
+            1,
+            Call::Signal(4),
+            Told::Done,
+            [Status::Running, Status::Running],
+            Reached::Nothing,
+            Reached::Word(5),
+        ),
+        (
+            2,
+            Call::UnbindNtfn(12),
+            Told::Done,
+            [Status::Running, Status::Running],
+            Reached::Nothing,
+            Reached::Word(5),
+        ),
+        (
+            2,
+            Call::Wait(4),
+            Told::Waits,
+            [Status::Running, WAITS],
+            Reached::Nothing,
+            Reached::Word(5),
+        ),
+    ],
+    // a call
+    &[
+        (
+            2,
+            Call::Recv(2, 8),
+            Told::Waits,
+            [Status::Running, RECEIVES],
+            Reached::Nothing,
+            Reached::Nothing,
+        ),
+        (
+            1,
+            Call::Call(2, 7, WORDS),
+            Told::Waits,
+            [Status::OnReply(REPLY), Status::Running],
+            Reached::Nothing,
+            Reached::Message(0, 7, WORDS),
+        ),
+        (
+            2,
+            Call::Send(8, 8, &[]),
+            Told::Done,
+            [Status::Running, Status::Running],
+            Reached::Message(0, 8, &[]),
+            Reached::Message(0, 7, WORDS),
+        ),
+    ],
+    // a sender that is not cancelled, then is, and restarts
+    &[
+        (
+            2,
+            Call::Send(2, 7, WORDS),
+            Told::Waits,
+            [Status::Running, SENDS],
+            Reached::Nothing,
+            Reached::Nothing,
+        ),
+        (
+            1,
+            Call::CancelBadged(2),
+            Told::Done,
+            [Status::Running, SENDS],
+            Reached::Nothing,
+            Reached::Nothing,
+        ),
+        (
+            1,
+            Call::SetPriority(12, 5),
+            Told::Done,
+            [Status::Running, SENDS],
+            Reached::Nothing,
+            Reached::Nothing,
+        ),
+        (
+            1,
+            Call::Suspend(12),
+            Told::Done,
+            [Status::Running, Status::Inactive],
+            Reached::Nothing,
+            Reached::Nothing,
+        ),
+        (
+            1,
+            Call::Resume(12),
+            Told::Done,
+            [Status::Running, Status::Restart],
+            Reached::Nothing,
+            Reached::Nothing,
+        ),
+    ],
+];
+
+/// Whether the first two threads do this, and this last reached them.
+fn are_told(
+    kernel: &Kernel<LinkedLines>,
+    statuses: [Status; 2],
+    first: Reached,
+    second: Reached,
+) -> bool {
+    [1, 2].map(|serial| kernel.status(thread(serial))) == statuses.map(|status| Some(status))
+        && has_mail(kernel, 1, first)
+        && has_mail(kernel, 2, second)
+}
+
+#[test]
+fn status_and_mail_follow_the_entries(rt: HostRuntime) -> Result<(), Fail> {
+    for (number, course) in COURSES.into_iter().enumerate() {
+        let mut kernel = booted(rt.alloc(), five_threads(rt.alloc()))?;
+        for (serial, call, answer, statuses, first, second) in course {
+            let given = enter(rt.alloc(), &mut kernel, 0, *serial, *call)?;
+            assert!(rt;
+                given == *answer,
+                "the answer of thread {serial} in course {number}"
+            );
+            assert!(rt;
+                are_told(&kernel, *statuses, *first, *second),
+                "after thread {serial} in {number}"
+            );
+        }
+    }
+    Ok(())
+}
+
+/// Threads that enter on a core, and what they are told.
+const ENTERING: [(u8, u32, Told); 6] = [
+    (1, 1, Told::Away(EnterFault::WrongCore)),
+    (0, 2, Told::Away(EnterFault::WrongCore)),
+    (0, 4, Told::Away(EnterFault::NoContext)),
+    (0, 5, Told::Away(EnterFault::NotRunning)),
+    (0, 6, Told::Away(EnterFault::NotRunning)),
+    (1, 2, Told::Refused),
+];
 
 #[test]
 fn who_may_not_enter_is_turned_away(rt: HostRuntime) -> Result<(), Fail> {
     let mut kernel = booted(rt.alloc(), two_cores(rt.alloc()))?;
-    let faults = [
-        (1, 1, EnterFault::WrongCore),
-        (0, 2, EnterFault::WrongCore),
-        (0, 4, EnterFault::NoContext),
-        (0, 5, EnterFault::NotRunning),
-        (0, 6, EnterFault::NotRunning),
-    ];
-    for (core, serial, want) in faults {
-        let entry = Entry::NbWait { cap: 1 };
-        let result = enter(rt.alloc(), &mut kernel, core, serial, entry);
-        assert_eq!(rt; result.err(), Some(want));
+    for (core, serial, want) in ENTERING {
+        assert!(rt; kernel.book().lines() == 1);
+        let given = enter(rt.alloc(), &mut kernel, core, serial, Call::Wait(1))?;
+        assert!(rt; given == want, "thread {serial} on core {core}");
     }
-    assert_eq!(rt; kernel.book().lines(), 1);
-    let entry = Entry::NbWait { cap: 1 };
-    let result = enter(rt.alloc(), &mut kernel, 1, 2, entry);
-    assert!(rt; matches!(result, Ok(Answer::Refused(_))));
-    assert_eq!(rt; kernel.book().lines(), 2);
+    assert!(rt; kernel.book().lines() == 2);
     Ok(())
 }
 
-/// A send, a wait of the sender, which is turned away, and a receive.
-fn replayed(alloc: Global) -> Result<Kernel<LinkedLines>, Fail> {
-    let boot = five_threads(alloc)?;
-    let message = Message::new(alloc, 7, &[5, 6])?.ok_or("too many words")?;
-    let core = CoreId(0);
-    let steps = [
-        Step {
-            core,
-            thread: thread(1),
-            entry: Entry::Send { cap: 1, message },
-        },
-        Step {
-            core,
-            thread: thread(1),
-            entry: Entry::Wait { cap: 2 },
-        },
-        Step {
-            core,
-            thread: thread(2),
-            entry: Entry::Recv { cap: 2, reply: 8 },
-        },
-    ];
-    Ok(replay(alloc, boot, &steps)?)
+/// A step of the only core.
+fn step(alloc: Global, serial: u32, call: Call) -> Result<Step, Fail> {
+    Ok(Step {
+        core: CoreId(0),
+        thread: thread(serial),
+        entry: call.entry(alloc)?,
+    })
 }
 
 #[test]
 fn steps_are_replayed(rt: HostRuntime) -> Result<(), Fail> {
-    let kernel = replayed(rt.alloc())?;
-    assert_eq!(rt; kernel.book().lines(), 3, "the second step is turned away");
-    assert_eq!(rt; kernel.status(thread(1)), Some(Status::Running));
-    assert!(rt; has_mail(&kernel, 2, 9, 7, &[5, 6]));
+    let mut steps = Vec::new(rt.alloc());
+    let calls = [
+        (1, Call::Send(1, 7, WORDS)),
+        (1, Call::Wait(2)),
+        (2, Call::Recv(2, 8)),
+    ];
+    for (serial, call) in calls {
+        steps.push(step(rt.alloc(), serial, call)?)?;
+    }
+    let kernel: Kernel<LinkedLines> = replay(rt.alloc(), five_threads(rt.alloc())?, &steps)?;
+    assert!(rt;
+        kernel.book().lines() == 3,
+        "the second step is turned away"
+    );
+    assert!(rt; kernel.status(thread(1)) == Some(Status::Running));
+    assert!(rt; has_mail(&kernel, 2, Reached::Message(9, 7, WORDS)));
+    Ok(())
+}
+
+/// So many lines a book has at most, that of the boot among them.
+const LINES: usize = 1_000_000;
+
+/// A receive that is refused: there is no right to read.
+const REFUSED: Call = Call::Recv(1, 8);
+
+/// A kernel whose book is full.
+fn full(alloc: Global) -> Result<Kernel<LinkedLines>, Fail> {
+    let mut kernel = booted(alloc, five_threads(alloc))?;
+    for _ in 1..LINES {
+        if enter(alloc, &mut kernel, 0, 1, REFUSED)? != Told::Refused {
+            return Err(Fail::from("the receive is refused"));
+        }
+    }
+    Ok(kernel)
+}
+
+#[test]
+fn a_full_book_takes_no_line(rt: HostRuntime) -> Result<(), Fail> {
+    let mut kernel = full(rt.alloc())?;
+    // why a thread may not enter is told before that
+    for (serial, fault) in [(1, EnterFault::BookFull), (6, EnterFault::NotRunning)] {
+        let given = enter(rt.alloc(), &mut kernel, 0, serial, REFUSED)?;
+        assert!(rt; given == Told::Away(fault), "thread {serial}");
+        assert!(rt; kernel.book().lines() == LINES);
+    }
+    Ok(())
+}
+
+#[test]
+fn a_replay_tells_the_step_for_which_the_book_is_full(rt: HostRuntime) -> Result<(), Fail> {
+    let mut steps = Vec::with_capacity(rt.alloc(), LINES)?;
+    for _ in 0..LINES {
+        steps.push(step(rt.alloc(), 1, REFUSED)?)?;
+    }
+    let boot = five_threads(rt.alloc())?;
+    let ended = replay::<LinkedLines>(rt.alloc(), boot, &steps).err();
+    assert!(rt; ended == Some(ReplayFault::BookFull { step: LINES }));
     Ok(())
 }
