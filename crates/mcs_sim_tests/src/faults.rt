@@ -18,36 +18,40 @@ const LINE_FAULTS: [(LineFault, u8, &str); 9] = [
     (LineFault::ManyLines, 9, "mcssim: line 1: fault 9"),
 ];
 
+/// Other faults, their statuses and their texts.
+const FAULTS: [(SimFault, u8, &str); 7] = [
+    (SimFault::Argument, 1, "mcssim: an argument is not UTF-8"),
+    (
+        SimFault::Script {
+            line: 2_000_001,
+            why: LineFault::ManyLines,
+        },
+        2,
+        "mcssim: line 2000001: fault 9",
+    ),
+    (SimFault::Read, 3, "mcssim: read fault"),
+    (SimFault::Write, 4, "mcssim: write fault"),
+    (SimFault::BookFull, 5, "mcssim: book full"),
+    (SimFault::OutOfMemory, 6, "mcssim: out of memory"),
+    (SimFault::Failed, 7, "mcssim: run failed"),
+];
+
 #[test]
 fn faults_of_lines_are_told_by_their_numbers(rt: HostRuntime) -> Result<(), Fail> {
     for (why, number, text) in LINE_FAULTS {
-        assert_eq!(rt; why.number(), number);
+        assert!(rt; why.number() == number, "{text}");
         let fault = SimFault::Script { line: 1, why };
-        assert_eq!(rt; fault.to_string(rt.alloc())?.as_str(), text);
-        assert_eq!(rt; fault.status(), 2);
+        assert!(rt; fault.to_string(rt.alloc())?.as_str() == text, "{text}");
+        assert!(rt; fault.status() == 2, "{text}");
     }
-    let fault = SimFault::Script {
-        line: 2_000_001,
-        why: LineFault::ManyLines,
-    };
-    let text = fault.to_string(rt.alloc())?;
-    assert_eq!(rt; text.as_str(), "mcssim: line 2000001: fault 9");
     Ok(())
 }
 
 #[test]
 fn other_faults_have_their_texts(rt: HostRuntime) -> Result<(), Fail> {
-    let faults = [
-        (SimFault::Argument, 1, "mcssim: an argument is not UTF-8"),
-        (SimFault::Read, 3, "mcssim: read fault"),
-        (SimFault::Write, 4, "mcssim: write fault"),
-        (SimFault::BookFull, 5, "mcssim: book full"),
-        (SimFault::OutOfMemory, 6, "mcssim: out of memory"),
-        (SimFault::Failed, 7, "mcssim: run failed"),
-    ];
-    for (fault, status, text) in faults {
-        assert_eq!(rt; fault.status(), status);
-        assert_eq!(rt; fault.to_string(rt.alloc())?.as_str(), text);
+    for (fault, status, text) in FAULTS {
+        assert!(rt; fault.status() == status, "{text}");
+        assert!(rt; fault.to_string(rt.alloc())?.as_str() == text, "{text}");
     }
     Ok(())
 }
@@ -86,11 +90,10 @@ fn an_argument_that_is_no_text_is_a_fault(rt: HostRuntime) -> Result<(), Fail> {
     let words = arguments(&(Given { arguments: &given }, rt.alloc()))
         .ok()
         .ok_or("words")?;
-    assert_eq!(rt; words.len(), 2);
-    assert_eq!(rt; words[1].as_str(), "replay");
+    assert!(rt; words.len() == 2 && words[1].as_str() == "replay");
     let given: [&[u8]; 2] = [b"mcssim", b"\xff"];
     let fault = arguments(&(Given { arguments: &given }, rt.alloc())).err();
-    assert_eq!(rt; fault, Some(SimFault::Argument));
+    assert!(rt; fault == Some(SimFault::Argument));
     Ok(())
 }
 
@@ -102,24 +105,6 @@ fn answer(alloc: Global, words: &[&str]) -> Result<Option<(u8, String)>, Fail> {
     }
 }
 
-#[test]
-fn the_command_line_asks_for_a_run_or_is_answered(rt: HostRuntime) -> Result<(), Fail> {
-    assert!(rt; answer(rt.alloc(), &["mcssim", "replay"])?.is_none());
-    let (status, text) = answer(rt.alloc(), &["mcssim", "--version"])?.ok_or("version")?;
-    assert_eq!(rt; status, 0);
-    assert_eq!(rt; text.as_str(), "mcssim 0.1.0\n");
-    let (status, text) = answer(rt.alloc(), &["mcssim", "--help"])?.ok_or("help")?;
-    assert_eq!(rt; status, 0);
-    assert!(rt; text.as_str().contains("replay"));
-    let (status, _) = answer(rt.alloc(), &["mcssim"])?.ok_or("no command")?;
-    assert_eq!(rt; status, 1);
-    let (status, _) = answer(rt.alloc(), &["mcssim", "again"])?.ok_or("no such command")?;
-    assert_eq!(rt; status, 1);
-    let (status, _) = answer(rt.alloc(), &["mcssim", "replay", "x"])?.ok_or("a word more")?;
-    assert_eq!(rt; status, 1);
-    Ok(())
-}
-
 /// How many cores a run is to have, where the command line asks for a run.
 fn cores(alloc: Global, words: &[&str]) -> Option<Option<u8>> {
     match options(alloc, words) {
@@ -128,50 +113,63 @@ fn cores(alloc: Global, words: &[&str]) -> Option<Option<u8>> {
     }
 }
 
+/// Command lines that ask for a run, and the cores that they say; the first asks for a replay.
+const RUNS: [(&[&str], Option<Option<u8>>); 5] = [
+    (&["mcssim", "replay"], None),
+    (&["mcssim", "run"], Some(None)),
+    (&["mcssim", "run", "--cores", "1"], Some(Some(1))),
+    (&["mcssim", "run", "--cores", "16"], Some(Some(16))),
+    (&["mcssim", "run", "--cores=2"], Some(Some(2))),
+];
+
 #[test]
-fn a_run_has_the_cores_that_are_said(rt: HostRuntime) {
-    let alloc = rt.alloc();
-    assert_eq!(rt; cores(alloc, &["mcssim", "run"]), Some(None));
-    assert_eq!(rt;
-        cores(alloc, &["mcssim", "run", "--cores", "1"]),
-        Some(Some(1))
-    );
-    assert_eq!(rt;
-        cores(alloc, &["mcssim", "run", "--cores", "16"]),
-        Some(Some(16))
-    );
-    assert_eq!(rt;
-        cores(alloc, &["mcssim", "run", "--cores=2"]),
-        Some(Some(2))
-    );
-    assert_eq!(rt; cores(alloc, &["mcssim", "replay"]), None);
+fn a_run_has_the_cores_that_are_said(rt: HostRuntime) -> Result<(), Fail> {
+    for (i, (words, want)) in RUNS.into_iter().enumerate() {
+        assert!(rt; answer(rt.alloc(), words)?.is_none(), "line {i}");
+        assert!(rt; cores(rt.alloc(), words) == want, "line {i}");
+    }
+    Ok(())
 }
 
-/// Lines that are refused, and what is said of them.
-const REFUSED: [(&[&str], &str); 6] = [
-    (&["mcssim", "run", "--cores", "0"], "0 is not in 1..=16"),
-    (&["mcssim", "run", "--cores", "17"], "17 is not in 1..=16"),
+/// Other command lines, the status that they end with, and what is said of them.
+const ANSWERED: [(&[&str], u8, &str); 11] = [
+    (&["mcssim", "--version"], 0, "mcssim 0.1.0\n"),
+    (&["mcssim", "--help"], 0, "replay"),
+    (&["mcssim"], 1, ""),
+    (&["mcssim", "again"], 1, ""),
+    (&["mcssim", "replay", "x"], 1, ""),
+    (&["mcssim", "run", "--cores", "0"], 1, "0 is not in 1..=16"),
+    (
+        &["mcssim", "run", "--cores", "17"],
+        1,
+        "17 is not in 1..=16",
+    ),
     (
         &["mcssim", "run", "--cores", "x"],
+        1,
         "invalid digit found in string",
     ),
     (
         &["mcssim", "run", "--cores"],
+        1,
         "a value is required for '--cores <N>'",
     ),
-    (&["mcssim", "run", "3"], "unexpected argument '3' found"),
+    (&["mcssim", "run", "3"], 1, "unexpected argument '3' found"),
     (
         &["mcssim", "replay", "--cores", "2"],
+        1,
         "unexpected argument '--cores' found",
     ),
 ];
 
 #[test]
-fn other_words_of_a_run_are_refused(rt: HostRuntime) -> Result<(), Fail> {
-    for (words, text) in REFUSED {
-        let (status, told) = answer(rt.alloc(), words)?.ok_or("refused")?;
-        assert_eq!(rt; status, 1);
-        assert!(rt; told.as_str().contains(text));
+fn other_command_lines_are_answered(rt: HostRuntime) -> Result<(), Fail> {
+    for (i, (words, status, text)) in ANSWERED.into_iter().enumerate() {
+        let (told, said) = answer(rt.alloc(), words)?.ok_or("an answer")?;
+        assert!(rt; told == status, "line {i}");
+        assert!(rt; said.as_str().contains(text), "line {i}");
+        // the version is all that is said of it
+        assert!(rt; i != 0 || said.as_str() == text, "line {i}");
     }
     Ok(())
 }

@@ -35,37 +35,44 @@ fn feed(
     Ok((result, taken))
 }
 
+/// The fault of a line to which no form fits.
+fn no_form(line: u64) -> Result<(), SimFault> {
+    let why = LineFault::Form;
+    Err(SimFault::Script { line, why })
+}
+
 #[test]
 fn a_line_that_is_cut_is_told(rt: HostRuntime) -> Result<(), Fail> {
     let script = format!(in rt.alloc(); "{BOOT}0 t1 nbsend 1 7\n0 t1 nbs")?;
     let want = format!(in rt.alloc(); "{BOOT}0 t1 nbsend 1 7\n= done\n")?;
-    let fault = SimFault::Script {
-        line: 38,
-        why: LineFault::Form,
-    };
     for piece in PIECES {
         let (result, told) = feed(rt.alloc(), script.as_bytes(), piece)?;
-        assert_eq!(rt; result, Err(fault));
-        assert_eq!(rt; told.as_slice(), want.as_bytes());
+        assert!(rt;
+            result == no_form(38) && told.as_slice() == want.as_bytes(),
+            "{piece}"
+        );
     }
     let (result, told) = run(rt.alloc(), script.as_bytes())?;
-    assert_eq!(rt; result, Err(fault));
-    assert_eq!(rt; told.as_slice(), want.as_bytes());
+    assert!(rt; result == no_form(38) && told.as_slice() == want.as_bytes());
     Ok(())
 }
+
+/// Pieces of a script, and what each gives.
+const FED: [(&[u8], bool); 3] = [
+    (b"cores 1\nco", true),
+    (b"re 1\n\n", false),
+    (b"endpoint\n", false),
+];
 
 #[test]
 fn a_fault_stays(rt: HostRuntime) -> Result<(), Fail> {
     let mut run = ReplayRun::new(rt.alloc())?;
-    let fault = SimFault::Script {
-        line: 2,
-        why: LineFault::Form,
-    };
-    assert_eq!(rt; run.feed(rt.alloc(), b"cores 1\nco"), Ok(()));
-    assert!(rt; run.book().is_none());
-    assert_eq!(rt; run.feed(rt.alloc(), b"re 1\n\n"), Err(fault));
-    assert_eq!(rt; run.feed(rt.alloc(), b"endpoint\n"), Err(fault));
-    assert_eq!(rt; run.end(rt.alloc()), Err(fault));
+    for (i, (piece, is_read)) in FED.into_iter().enumerate() {
+        let want = if is_read { Ok(()) } else { no_form(2) };
+        assert!(rt; run.feed(rt.alloc(), piece) == want, "piece {i}");
+        assert!(rt; run.book().is_none(), "piece {i}");
+    }
+    assert!(rt; run.end(rt.alloc()) == no_form(2));
     assert!(rt; run.book().is_none());
     Ok(())
 }
@@ -89,9 +96,9 @@ fn an_endless_line_is_too_long(rt: HostRuntime) -> Result<(), Fail> {
         why: LineFault::LongLine,
     };
     for _ in 0..4_096 {
-        assert_eq!(rt; run.feed(rt.alloc(), b"x"), Ok(()));
+        assert!(rt; run.feed(rt.alloc(), b"x") == Ok(()));
     }
-    assert_eq!(rt; run.feed(rt.alloc(), b"x"), Err(fault));
+    assert!(rt; run.feed(rt.alloc(), b"x") == Err(fault));
     let mut output = Output::new(rt.alloc());
     let mut source = Source::new(Endless);
     let result = simulate(
@@ -99,7 +106,7 @@ fn an_endless_line_is_too_long(rt: HostRuntime) -> Result<(), Fail> {
         &mut source,
         &mut Sink::new(rt.alloc(), &mut output),
     );
-    assert_eq!(rt; result, Err(fault));
+    assert!(rt; result == Err(fault));
     assert!(rt; output.taken.is_empty());
     Ok(())
 }

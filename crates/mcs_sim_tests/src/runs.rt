@@ -63,6 +63,60 @@ pub const FIRST_TRACE: &str = "\
 + turns t1 running
 ";
 
+/// Two calls on one context, of which the first is answered before the second; the last step is turned away.
+pub const MIDDLE_STEPS: &str = "\
+0 t2 recv 2 8
+0 t3 recv 3 9
+0 t5 unbind 22
+0 t5 unbind 23
+0 t1 call 2 1
+0 t2 call 3 2
+0 t4 send 8 5
+0 t3 send 9 6
+0 t1 nbrecv 2 8
+";
+
+/// What the trace has for these.
+pub const MIDDLE_TRACE: &str = "\
+0 t2 recv 2 8
+= waits
++ joins t2 e1.recv r1
+0 t3 recv 3 9
+= waits
++ joins t3 e2.recv r2
+0 t5 unbind 22
+= done
++ holds s2 -
+0 t5 unbind 23
+= done
++ holds s3 -
+0 t1 call 2 1
+= waits
++ sent m0 t1 e1 call 0 1
++ took m0 t2
++ parts t2 e1.recv
++ owes r1 t1 s1
++ holds s1 t2
++ turns t2 running
+0 t2 call 3 2
+= waits
++ sent m1 t2 e2 call 0 2
++ took m1 t3
++ parts t3 e2.recv
++ owes r2 t2 s1
++ holds s1 t3
++ turns t3 running
+0 t4 send 8 5
+= done
++ paid r1 t1 5
++ turns t1 running
+0 t3 send 9 6
+= done
++ paid r2 t2 6
++ turns t2 running
++ holds s1 t2
+";
+
 /// What a script gives, and the bytes that it writes.
 pub fn run(alloc: Global, script: &[u8]) -> Result<(Result<(), SimFault>, Vec<u8>), Fail> {
     let mut output = Output::new(alloc);
