@@ -1,139 +1,137 @@
-//! Boots of machines.
+//! Boots of machines, as texts and by calls.
+use mcs_book::Book;
+use mcs_cores::Users;
 use mcs_kernel::Boot;
-use mcs_types::{
-    Badge, BootLine, Cap, CoreId, Entry, Guard, Kind, Message, ObjId, Place, Prio, Rights,
-};
+use mcs_sim::{ReplayRun, Sink, Source, simulate, trace};
+use mcs_types::{Kind, ObjId};
 use std::alloc::Global;
 use std::test::Fail;
 
-pub fn object(kind: Kind, serial: u32) -> ObjId {
-    ObjId { kind, serial }
+/// A CNode, two endpoints, a notification and two reply objects.
+const FIRST_OBJECTS: &str = "\
+cnode 5
+endpoint
+endpoint
+notification
+reply
+reply
+";
+
+/// Five threads with a context each, and capabilities to all.
+const THREADS_AND_SLOTS: &str = "\
+thread 10 255 c1 59 0 run s1
+thread 20 255 c1 59 0 run s2
+thread 10 255 c1 59 0 run s3
+thread 20 255 c1 59 0 run s4
+thread 30 255 c1 59 0 run s5
+slot c1 1 e1 w 9
+slot c1 2 e1 rwgp 0
+slot c1 3 e2 rwgp 0
+slot c1 4 n1 rw 0
+slot c1 5 n1 w 1
+slot c1 6 n1 w 2
+slot c1 7 n1 w 4
+slot c1 8 r1
+slot c1 9 r2
+slot c1 11 t1
+slot c1 12 t2
+slot c1 13 t3
+slot c1 14 t4
+slot c1 15 t5
+slot c1 21 s1
+slot c1 22 s2
+slot c1 23 s3
+slot c1 24 s4
+slot c1 25 s5
+";
+
+/// Five threads on one core.
+pub fn one_core(alloc: Global) -> Result<String, Fail> {
+    let contexts = "context 0\ncontext 0\ncontext 0\ncontext 0\ncontext 0\n";
+    Ok(format!(in alloc; "cores 1\n{FIRST_OBJECTS}{contexts}{THREADS_AND_SLOTS}")?)
 }
 
-pub fn thread(serial: u32) -> ObjId {
-    object(Kind::Thread, serial)
-}
-
-pub fn message(alloc: Global, label: u64, words: &[u64]) -> Result<Message, Fail> {
-    Ok(Message::new(alloc, label, words)?.ok_or("a message of this kind")?)
-}
-
-pub fn send(alloc: Global, cap: u64, label: u64) -> Result<Entry, Fail> {
-    Ok(Entry::Send {
-        cap,
-        message: message(alloc, label, &[])?,
-    })
-}
-
-/// A place of a slot by its whole address.
-pub fn place(index: u64) -> Place {
-    Place { index, depth: 64 }
-}
-
-/// A thread that runs, may give any priority, and has the first CNode of this radix for its root.
-fn runner(priority: u8, radix: u8, context: u32) -> BootLine {
-    BootLine::Thread {
-        priority: Prio(priority),
-        maximum: Prio(255),
-        root: object(Kind::CNode, 1),
-        guard: Guard {
-            bits: 64 - radix.min(8),
-            value: 0,
-        },
-        runs: true,
-        context: Some(object(Kind::Context, context)),
-    }
-}
-
-/// A capability without a guard in a slot of the first CNode.
-fn fill(boot: &mut Boot, index: u8, obj: ObjId, bits: u8, badge: u64) -> Result<(), Fail> {
-    let cap = Cap {
-        obj,
-        rights: Rights::new(bits).ok_or("four bits")?,
-        badge: Badge(badge),
-        guard: Guard { bits: 0, value: 0 },
-    };
-    Ok(boot.add(BootLine::Slot {
-        cnode: object(Kind::CNode, 1),
-        index,
-        cap,
-    })?)
-}
-
-/// Capabilities of objects of a kind, from this slot on.
-fn fill_all(boot: &mut Boot, kind: Kind, first: u8, count: u8) -> Result<(), Fail> {
-    for i in 0..count.min(8) {
-        fill(
-            boot,
-            first.min(32) + i,
-            object(kind, u32::from(i) + 1),
-            0,
-            0,
-        )?;
-    }
-    Ok(())
-}
-
-/// Two endpoints, a notification, two reply objects, and five threads with a context each, which is of this core.
-pub fn five_threads(alloc: Global, cores: u8, contexts: [u8; 5]) -> Result<Boot, Fail> {
-    let mut boot = Boot::new(alloc, cores)?;
-    boot.add(BootLine::CNode { radix: 5 })?;
-    boot.add(BootLine::Endpoint)?;
-    boot.add(BootLine::Endpoint)?;
-    boot.add(BootLine::Notification)?;
-    boot.add(BootLine::Reply)?;
-    boot.add(BootLine::Reply)?;
-    for core in contexts {
-        boot.add(BootLine::Context { core: CoreId(core) })?;
-    }
-    for (priority, context) in [(10, 1), (20, 2), (10, 3), (20, 4), (30, 5)] {
-        boot.add(runner(priority, 5, context))?;
-    }
-    let endpoint = object(Kind::Endpoint, 1);
-    let notification = object(Kind::Notification, 1);
-    fill(&mut boot, 1, endpoint, 1, 9)?;
-    fill(&mut boot, 2, endpoint, 15, 0)?;
-    fill(&mut boot, 3, object(Kind::Endpoint, 2), 15, 0)?;
-    fill(&mut boot, 4, notification, 3, 0)?;
-    fill(&mut boot, 5, notification, 1, 1)?;
-    fill(&mut boot, 6, notification, 1, 2)?;
-    fill(&mut boot, 7, notification, 1, 4)?;
-    fill_all(&mut boot, Kind::Reply, 8, 2)?;
-    fill_all(&mut boot, Kind::Thread, 11, 5)?;
-    fill_all(&mut boot, Kind::Context, 21, 5)?;
-    Ok(boot)
-}
-
-/// The same on one core.
-pub fn one_core(alloc: Global) -> Result<Boot, Fail> {
-    five_threads(alloc, 1, [0, 0, 0, 0, 0])
+/// The same on a core each.
+pub fn five_cores(alloc: Global) -> Result<String, Fail> {
+    let contexts = "context 0\ncontext 1\ncontext 2\ncontext 3\ncontext 4\n";
+    Ok(format!(in alloc; "cores 5\n{FIRST_OBJECTS}{contexts}{THREADS_AND_SLOTS}")?)
 }
 
 /// A thread on each of two cores, and a capability to the first.
-pub fn two_cores(alloc: Global) -> Result<Boot, Fail> {
-    let mut boot = Boot::new(alloc, 2)?;
-    boot.add(BootLine::CNode { radix: 4 })?;
-    boot.add(BootLine::Context { core: CoreId(0) })?;
-    boot.add(BootLine::Context { core: CoreId(1) })?;
-    boot.add(runner(10, 4, 1))?;
-    boot.add(runner(10, 4, 2))?;
-    fill(&mut boot, 1, thread(1), 0, 0)?;
-    Ok(boot)
-}
+pub const TWO_CORES: &str = "\
+cores 2
+cnode 4
+context 0
+context 1
+thread 10 255 c1 60 0 run s1
+thread 10 255 c1 60 0 run s2
+slot c1 1 t1
+";
 
 /// The same, with a free context of the second core, and capabilities to the first context, the second thread and the free
 /// context.
-pub fn with_free_context(alloc: Global) -> Result<Boot, Fail> {
-    let mut boot = Boot::new(alloc, 2)?;
-    boot.add(BootLine::CNode { radix: 4 })?;
-    boot.add(BootLine::Context { core: CoreId(0) })?;
-    boot.add(BootLine::Context { core: CoreId(1) })?;
-    boot.add(BootLine::Context { core: CoreId(1) })?;
-    boot.add(runner(10, 4, 1))?;
-    boot.add(runner(10, 4, 2))?;
-    fill(&mut boot, 1, thread(1), 0, 0)?;
-    fill(&mut boot, 2, object(Kind::Context, 1), 0, 0)?;
-    fill(&mut boot, 3, thread(2), 0, 0)?;
-    fill(&mut boot, 4, object(Kind::Context, 3), 0, 0)?;
+pub const FREE_CONTEXT: &str = "\
+cores 2
+cnode 4
+context 0
+context 1
+context 1
+thread 10 255 c1 60 0 run s1
+thread 10 255 c1 60 0 run s2
+slot c1 1 t1
+slot c1 2 s1
+slot c1 3 t2
+slot c1 4 s3
+";
+
+pub fn thread(serial: u32) -> ObjId {
+    ObjId {
+        kind: Kind::Thread,
+        serial,
+    }
+}
+
+/// The replay of a script without fault.
+pub fn replay_of(alloc: Global, script: &str) -> Result<ReplayRun, Fail> {
+    let mut run = ReplayRun::new(alloc)?;
+    run.feed(alloc, script.as_bytes())?;
+    run.end(alloc)?;
+    Ok(run)
+}
+
+/// The boot of a book.
+pub fn boot_of(alloc: Global, book: &Book) -> Result<Boot, Fail> {
+    let mut boot = Boot::new(alloc, book.cores())?;
+    for line in book.boot() {
+        boot.add(*line)?;
+    }
     Ok(boot)
+}
+
+/// The entries of a book in the lists of their threads.
+pub fn users_of(alloc: Global, book: &Book) -> Result<Users, Fail> {
+    let mut users = Users::new(alloc);
+    for i in 1..book.lines() {
+        let step = book.line(i).ok_or("a line of the book")?.step(alloc)?;
+        users.add(step.thread, step.entry)?;
+    }
+    Ok(users)
+}
+
+/// The trace of a book.
+pub fn trace_of(alloc: Global, book: &Book) -> Result<Vec<u8>, Fail> {
+    let mut written = Vec::new(alloc);
+    trace(book, &mut Sink::new(alloc, &mut written))?;
+    Ok(written)
+}
+
+/// What a replay writes that has to end well.
+pub fn replayed(alloc: Global, script: &[u8]) -> Result<Vec<u8>, Fail> {
+    let mut written = Vec::new(alloc);
+    simulate(
+        alloc,
+        &mut Source::new(script),
+        &mut Sink::new(alloc, &mut written),
+    )?;
+    Ok(written)
 }

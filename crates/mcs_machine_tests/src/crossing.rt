@@ -1,9 +1,9 @@
 //! Two cores of which each has picked before the other enters.
-use crate::boots::{place, thread, two_cores, with_free_context};
-use crate::runs::{Ran, TurnedAway, has_lines, run_users};
-use mcs_cores::{Gate, Users};
-use mcs_kernel::{Boot, EnterFault};
-use mcs_types::{Answer, CoreId, Entry, ObjId, Prio, Refusal};
+use crate::boots::{FREE_CONTEXT, TWO_CORES, replayed, thread, trace_of};
+use crate::runs::{Ran, TurnedAway, run_users};
+use mcs_cores::Gate;
+use mcs_kernel::EnterFault;
+use mcs_types::{CoreId, ObjId};
 use std::alloc::Global;
 use std::hint::spin_loop;
 use std::sync::Wait;
@@ -59,154 +59,153 @@ impl Gate for Crossing {
     }
 }
 
-/// Runs a signal of the first thread, and these entries of the second. Core 0 enters what it picked first after so many
-/// answers of core 1.
-fn crossed_after<R: Threads + Wait + Sync>(
+/// Runs a signal of the first thread, and these steps of the second. Core 0 enters what it picked first after so many answers of
+/// core 1.
+fn crossed<R: Threads + Wait + Sync>(
     rt: &R,
     alloc: Global,
-    boot: &Boot,
-    entries: &[Entry],
+    boot: &str,
+    steps: &str,
     answers: u64,
 ) -> Result<Ran, Fail> {
-    let mut users = Users::new(alloc);
-    users.add(thread(1), Entry::Signal { cap: 1 })?;
-    for entry in entries {
-        users.add(thread(2), entry.copy(alloc)?)?;
-    }
+    let script = format!(in alloc; "{boot}0 t1 signal 1\n{steps}")?;
     let gate = Crossing::new(answers);
-    let ran = run_users(rt, alloc, boot, &users, &gate)?;
+    let ran = run_users(rt, alloc, script.as_str(), &gate)?;
     if gate.late.load(Ordering::SeqCst) != 0 {
         return Err(Fail::from("the cores run side by side"));
     }
     Ok(ran)
 }
 
-/// The same, where the entries of the second thread are answered before the signal is entered.
-fn crossed<R: Threads + Wait + Sync>(
-    rt: &R,
-    alloc: Global,
-    boot: &Boot,
-    entries: &[Entry],
-) -> Result<Ran, Fail> {
-    crossed_after(rt, alloc, boot, entries, entries.len() as u64)
-}
+/// An entry of the first thread on core 0 that was turned away: how many lines the book had then, and why.
+type Away = Option<(usize, EnterFault)>;
 
-/// The lines of entries of the second thread that are done.
-fn done(alloc: Global, entries: &[Entry]) -> Result<Vec<(u8, u32, Entry, Answer)>, Fail> {
-    let mut lines = Vec::new(alloc);
-    for entry in entries {
-        lines.push((1, 2, entry.copy(alloc)?, Answer::Done))?;
+/// Whether that is all that was turned away.
+fn is_away(told: &[TurnedAway], away: &Away) -> bool {
+    match (told, away) {
+        ([], None) => true,
+        ([one], Some((lines, fault))) => {
+            *one == TurnedAway {
+                core: CoreId(0),
+                thread: thread(1),
+                lines: *lines,
+                fault: *fault,
+            }
+        }
+        _ => false,
     }
-    Ok(lines)
 }
 
-/// Whether the entry of the first thread on core 0 alone was turned away, for this fault when the book had so many lines.
-fn is_away(away: &[TurnedAway], lines: usize, fault: EnterFault) -> bool {
-    let turned = TurnedAway {
-        core: CoreId(0),
-        thread: thread(1),
-        lines,
-        fault,
-    };
-    away.len() == 1 && away.first() == Some(&turned)
+/// Whether a run has this trace behind its boot, which gives itself.
+fn has_trace(alloc: Global, ran: &Ran, boot: &str, trace: &str) -> Result<bool, Fail> {
+    let want = format!(in alloc; "{boot}{trace}")?;
+    let written = trace_of(alloc, ran.settled.book())?;
+    let again = replayed(alloc, &written)?;
+    Ok(written.as_slice() == want.as_bytes() && again == written)
 }
 
-/// Takes this context from the first thread, and gives it another.
-fn rebind(context: u64, other: u64) -> [Entry; 2] {
-    [
-        Entry::UnbindCtx { context },
-        Entry::BindCtx {
-            context: other,
-            thread: 1,
-        },
-    ]
-}
-
-/// The line of the first thread's signal on a core: the address is of a thread.
-fn refused(core: u8) -> (u8, u32, Entry, Answer) {
-    let answer = Answer::Refused(Refusal::WrongKind);
-    (core, 1, Entry::Signal { cap: 1 }, answer)
-}
-
+/// A thread is suspended between its pick and its entry.
 #[test]
-fn a_suspended_thread_is_turned_away(rt: HostRuntime) -> Result<(), Fail> {
-    let entries = [Entry::Suspend { thread: 1 }];
-    let ran = crossed(&rt, rt.alloc(), &two_cores(rt.alloc())?, &entries)?;
-    assert!(rt; is_away(&ran.away, 2, EnterFault::NotRunning));
-    let lines = done(rt.alloc(), &entries)?;
-    assert!(rt; has_lines(rt.alloc(), ran.settled.book(), &lines)?);
+fn gate_row_16(rt: HostRuntime) -> Result<(), Fail> {
+    let steps = "1 t2 suspend 1\n";
+    let ran = crossed(&rt, rt.alloc(), TWO_CORES, steps, 1)?;
+    assert!(rt; is_away(&ran.away, &Some((2, EnterFault::NotRunning))));
+    let trace = "1 t2 suspend 1\n= done\n+ turns t1 inactive\n";
+    assert!(rt; has_trace(rt.alloc(), &ran, TWO_CORES, trace)?);
     Ok(())
 }
 
-#[test]
-fn a_deleted_thread_is_turned_away(rt: HostRuntime) -> Result<(), Fail> {
-    let entries = [Entry::DeleteCap { place: place(1) }];
-    let ran = crossed(&rt, rt.alloc(), &with_free_context(rt.alloc())?, &entries)?;
-    assert!(rt; is_away(&ran.away, 2, EnterFault::NotRunning));
-    let lines = done(rt.alloc(), &entries)?;
-    assert!(rt; has_lines(rt.alloc(), ran.settled.book(), &lines)?);
-    Ok(())
-}
-
-#[test]
-fn a_thread_without_context_is_turned_away(rt: HostRuntime) -> Result<(), Fail> {
-    let entries = [Entry::UnbindCtx { context: 2 }];
-    let ran = crossed(&rt, rt.alloc(), &with_free_context(rt.alloc())?, &entries)?;
-    assert!(rt; is_away(&ran.away, 2, EnterFault::NoContext));
-    let lines = done(rt.alloc(), &entries)?;
-    assert!(rt; has_lines(rt.alloc(), ran.settled.book(), &lines)?);
-    Ok(())
-}
-
-#[test]
-fn a_lower_priority_keeps_the_pick(rt: HostRuntime) -> Result<(), Fail> {
-    let entries = [Entry::SetPriority {
-        thread: 1,
-        authority: 3,
-        priority: Prio(5),
-    }];
-    let ran = crossed(&rt, rt.alloc(), &with_free_context(rt.alloc())?, &entries)?;
-    assert!(rt; ran.away.is_empty());
-    let mut lines = done(rt.alloc(), &entries)?;
-    lines.push(refused(0))?;
-    assert!(rt; has_lines(rt.alloc(), ran.settled.book(), &lines)?);
-    Ok(())
-}
-
-/// Another core may give the entry before it is entered, which the position tells, or after it was turned away.
-#[test]
-fn a_thread_that_changed_its_core_gives_its_entry_once(rt: HostRuntime) -> Result<(), Fail> {
-    let entries = rebind(2, 4);
-    let ran = crossed(&rt, rt.alloc(), &with_free_context(rt.alloc())?, &entries)?;
-    assert!(rt; ran.away.is_empty() || is_away(&ran.away, 3, EnterFault::WrongCore));
-    let mut lines = done(rt.alloc(), &entries)?;
-    lines.push(refused(1))?;
-    assert!(rt; has_lines(rt.alloc(), ran.settled.book(), &lines)?);
-    Ok(())
-}
-
-/// The thread comes back to its core, where its only entry was picked before the other core entered it.
-#[test]
-fn a_moved_position_is_not_entered(rt: HostRuntime) -> Result<(), Fail> {
-    let away = rebind(2, 4);
-    let back = rebind(4, 2);
-    let mut entries = Vec::new(rt.alloc());
-    for entry in away.iter().chain(back.iter()) {
-        entries.push(entry.copy(rt.alloc())?)?;
-    }
-    let ran = crossed_after(
-        &rt,
-        rt.alloc(),
-        &with_free_context(rt.alloc())?,
-        &entries,
+/// Steps of the second thread, how many answers of core 1 core 0 waits for, what may become of the signal that core 0 picked,
+/// and the trace behind the boot.
+const CROSSINGS: [(&str, u64, &[Away], &str); 5] = [
+    (
+        "1 t2 delete 1 64\n",
+        1,
+        &[Some((2, EnterFault::NotRunning))],
+        "\
+1 t2 delete 1 64
+= done
++ slot c1 1 -
++ turns t1 inactive
++ holds s1 -
++ closed t1
+",
+    ),
+    (
+        "1 t2 unbind 2\n",
+        1,
+        &[Some((2, EnterFault::NoContext))],
+        "\
+1 t2 unbind 2
+= done
++ holds s1 -
+",
+    ),
+    // A lower priority keeps the pick.
+    (
+        "1 t2 setprio 1 3 5\n",
+        1,
+        &[None],
+        "\
+1 t2 setprio 1 3 5
+= done
++ prio t1 5
+0 t1 signal 1
+= refused 4
+",
+    ),
+    // Core 1 may give the entry before it is entered, which the position tells, or after it was turned away.
+    (
+        "1 t2 unbind 2\n1 t2 bind 4 1\n",
+        2,
+        &[None, Some((3, EnterFault::WrongCore))],
+        "\
+1 t2 unbind 2
+= done
++ holds s1 -
+1 t2 bind 4 1
+= done
++ holds s3 t1
+1 t1 signal 1
+= refused 4
+",
+    ),
+    // The thread comes back to core 0, where its only entry was picked before core 1 entered it.
+    (
+        "1 t2 unbind 2\n1 t2 bind 4 1\n1 t2 unbind 4\n1 t2 bind 2 1\n",
         5,
-    )?;
-    assert!(rt; ran.away.is_empty());
-    let mut lines = done(rt.alloc(), &away)?;
-    lines.push(refused(1))?;
-    for line in done(rt.alloc(), &back)? {
-        lines.push(line)?;
+        &[None],
+        "\
+1 t2 unbind 2
+= done
++ holds s1 -
+1 t2 bind 4 1
+= done
++ holds s3 t1
+1 t1 signal 1
+= refused 4
+1 t2 unbind 4
+= done
++ holds s3 -
+1 t2 bind 2 1
+= done
++ holds s1 t1
+",
+    ),
+];
+
+#[test]
+fn what_was_picked_is_entered_where_it_may(rt: HostRuntime) -> Result<(), Fail> {
+    for (steps, answers, aways, trace) in CROSSINGS {
+        let ran = crossed(&rt, rt.alloc(), FREE_CONTEXT, steps, answers)?;
+        assert!(rt;
+            aways.iter().any(|away| is_away(&ran.away, away)),
+            "{steps}"
+        );
+        assert!(rt;
+            has_trace(rt.alloc(), &ran, FREE_CONTEXT, trace)?,
+            "{steps}"
+        );
     }
-    assert!(rt; has_lines(rt.alloc(), ran.settled.book(), &lines)?);
     Ok(())
 }

@@ -1,12 +1,8 @@
 //! Five cores of which one is held at a pick.
-use crate::boots::{five_threads, send, thread};
-use crate::runs::{is_line, run_users};
-use mcs_book::Book;
-use mcs_cores::{Gate, Users};
-use mcs_kernel::{Boot, replay};
-use mcs_queues::LinkedLines;
-use mcs_types::{CoreId, Entry, ObjId, Step};
-use std::alloc::Global;
+use crate::boots::{five_cores, replayed};
+use mcs_sim::{Gate, SimFault, Sink, Source, run_text};
+use mcs_types::{CoreId, ObjId};
+use std::alloc::AllocGlobal;
 use std::hint::spin_loop;
 use std::sync::Wait;
 use std::sync::atomic::{AtomicU64, Ordering};
@@ -46,73 +42,57 @@ impl Gate for Holding {
 }
 
 /// Four senders, and a receiver that asks four times and does not wait.
-fn four_senders(alloc: Global) -> Result<Users, Fail> {
-    let mut users = Users::new(alloc);
-    for serial in 1..5u32 {
-        users.add(thread(serial), send(alloc, 1, u64::from(serial))?)?;
-    }
-    for _ in 0..4u32 {
-        users.add(thread(5), Entry::NbRecv { cap: 2, reply: 8 })?;
-    }
-    Ok(users)
-}
+const USERS: &str = "\
+user t1 send 1 1
+user t2 send 1 2
+user t3 send 1 3
+user t4 send 1 4
+user t5 nbrecv 2 8
+user t5 nbrecv 2 8
+user t5 nbrecv 2 8
+user t5 nbrecv 2 8
+";
 
-/// Whether a replay of a book's steps has the same lines, with as many records.
-fn is_replayed(alloc: Global, boot: Boot, book: &Book) -> Result<bool, Fail> {
-    let mut steps: Vec<Step> = Vec::new(alloc);
-    for i in 1..book.lines() {
-        let line = book.line(i).ok_or("a line of the book")?;
-        steps.push(line.step(alloc)?)?;
-    }
-    let kernel = replay::<LinkedLines>(alloc, boot, &steps)?;
-    if kernel.book().lines() != book.lines() {
-        return Ok(false);
-    }
-    for i in 1..book.lines() {
-        let line = book.line(i).ok_or("a line of the book")?;
-        let again = kernel.book().line(i).ok_or("a line of the replay")?;
-        let step = line.step(alloc)?;
-        if !is_line(
-            alloc,
-            &again,
-            step.core.0,
-            step.thread.serial,
-            &step.entry,
-            &line.answer(alloc)?,
-        )? || again.record_count() != line.record_count()
-        {
-            return Ok(false);
-        }
-    }
-    Ok(true)
-}
-
-/// Runs the senders and the receiver on a core each, and replays the book.
-fn held<R: Threads + Wait + Sync>(
+/// What a script of users gives where this core is held at this pick.
+fn held<R: AllocGlobal + Threads + Wait + Sync>(
     rt: &R,
-    alloc: Global,
+    script: &[u8],
     core: u8,
     pick: u64,
-) -> Result<(usize, bool), Fail> {
-    let boot = five_threads(alloc, 5, [0, 1, 2, 3, 4])?;
+) -> Result<Vec<u8>, SimFault> {
     let gate = Holding {
         core: CoreId(core),
         pick,
         picks: AtomicU64::new(0),
         answers_of_others: AtomicU64::new(0),
     };
-    let ran = run_users(rt, alloc, &boot, &four_senders(alloc)?, &gate)?;
-    let lines = ran.settled.book().lines();
-    Ok((lines, is_replayed(alloc, boot, ran.settled.book())?))
+    let mut written = Vec::new(rt.alloc());
+    run_text(
+        rt,
+        &mut Source::new(script),
+        &mut Sink::new(rt.alloc(), &mut written),
+        None,
+        &gate,
+    )?;
+    Ok(written)
+}
+
+/// How many entries a trace has.
+fn entries(written: &[u8]) -> usize {
+    let lines = written.split(|byte| *byte == b'\n');
+    lines.filter(|line| line.starts_with(b"= ")).count()
 }
 
 #[test]
 fn held_picks_settle(rt: HostRuntime) -> Result<(), Fail> {
+    let boot = five_cores(rt.alloc())?;
+    let script = format!(in rt.alloc(); "{boot}{USERS}")?;
     for core in 0..5u8 {
         for pick in 1..5u64 {
-            let (lines, replayed) = held(&rt, rt.alloc(), core, pick)?;
-            assert_eq!(rt; lines, 9, "all entries are let in");
-            assert!(rt; replayed, "core {core} at its pick {pick}");
+            let written = held(&rt, script.as_bytes(), core, pick)?;
+            assert!(rt; entries(&written) == 8, "core {core} at its pick {pick}");
+            let again = replayed(rt.alloc(), &written)?;
+            assert!(rt; again == written, "core {core} at its pick {pick}");
         }
     }
     Ok(())

@@ -1,86 +1,107 @@
 //! Users on one core.
-use crate::boots::{message, one_core, send, thread};
-use crate::runs::{has_lines, run_users};
-use mcs_cores::{Open, Users};
-use mcs_types::{Answer, Badge, Entry};
+use crate::boots::{one_core, trace_of};
+use crate::runs::run_users;
+use mcs_cores::Open;
 use std::test::Fail;
 
-#[test]
-fn the_receiver_comes_first(rt: HostRuntime) -> Result<(), Fail> {
-    let receive = Entry::Recv { cap: 2, reply: 8 };
-    let mut users = Users::new(rt.alloc());
-    users.add(thread(1), send(rt.alloc(), 1, 7)?)?;
-    users.add(thread(5), receive.copy(rt.alloc())?)?;
-    let ran = run_users(&rt, rt.alloc(), &one_core(rt.alloc())?, &users, &Open)?;
-    assert!(rt; ran.away.is_empty());
-    let lines = [
-        (0, 5, receive, Answer::Waits),
-        (0, 1, send(rt.alloc(), 1, 7)?, Answer::Done),
-    ];
-    assert!(rt; has_lines(rt.alloc(), ran.settled.book(), &lines)?);
-    Ok(())
-}
+/// The entries of threads, in an order in which each is let in, and the trace that a run of them has behind the boot.
+const COURSES: [(&str, &str); 3] = [
+    // The receiver comes first.
+    (
+        "\
+0 t1 send 1 7
+0 t5 recv 2 8
+",
+        "\
+0 t5 recv 2 8
+= waits
++ joins t5 e1.recv r1
+0 t1 send 1 7
+= done
++ sent m0 t1 e1 send 9 7
++ took m0 t5
++ parts t5 e1.recv
++ turns t5 running
+",
+    ),
+    // A restarted thread gives its entry again.
+    (
+        "\
+0 t2 send 1 7
+0 t1 resume 12
+0 t2 nbsend 1 8
+0 t1 nbrecv 2 8
+",
+        "\
+0 t2 send 1 7
+= waits
++ sent m0 t2 e1 send 9 7
++ joins t2 e1.send
+0 t1 resume 12
+= done
++ dropped m0
++ parts t2 e1.send
++ turns t2 restart
+0 t2 send 1 7
+= waits
++ turns t2 running
++ sent m1 t2 e1 send 9 7
++ joins t2 e1.send
+0 t1 nbrecv 2 8
+= got 9 7
++ took m1 t1
++ parts t2 e1.send
++ turns t2 running
+0 t2 nbsend 1 8
+= done
+",
+    ),
+    // A restarted exchange sends again.
+    (
+        "\
+0 t1 resume 12
+0 t2 nbsendrecv 1 3 9 7
+0 t1 send 3 5
+0 t2 nbsend 1 8
+0 t1 recv 2 8
+",
+        "\
+0 t2 nbsendrecv 1 3 9 7
+= waits
++ joins t2 e2.recv r2
+0 t1 resume 12
+= done
++ parts t2 e2.recv
++ turns t2 restart
+0 t2 nbsendrecv 1 3 9 7
+= waits
++ turns t2 running
++ joins t2 e2.recv r2
+0 t1 send 3 5
+= done
++ sent m0 t1 e2 send 0 5
++ took m0 t2
++ parts t2 e2.recv
++ turns t2 running
+0 t2 nbsend 1 8
+= done
+0 t1 recv 2 8
+= waits
++ joins t1 e1.recv r1
+",
+    ),
+];
 
 #[test]
-fn a_restarted_thread_gives_its_entry_again(rt: HostRuntime) -> Result<(), Fail> {
-    let drops = Entry::NbSend {
-        cap: 1,
-        message: message(rt.alloc(), 8, &[])?,
-    };
-    let resumes = Entry::Resume { thread: 12 };
-    let receives = Entry::NbRecv { cap: 2, reply: 8 };
-    let mut users = Users::new(rt.alloc());
-    users.add(thread(2), send(rt.alloc(), 1, 7)?)?;
-    users.add(thread(2), drops.copy(rt.alloc())?)?;
-    users.add(thread(1), resumes.copy(rt.alloc())?)?;
-    users.add(thread(1), receives.copy(rt.alloc())?)?;
-    let ran = run_users(&rt, rt.alloc(), &one_core(rt.alloc())?, &users, &Open)?;
-    assert!(rt; ran.away.is_empty());
-    let got = Answer::Got {
-        badge: Badge(9),
-        message: message(rt.alloc(), 7, &[])?,
-    };
-    let lines = [
-        (0, 2, send(rt.alloc(), 1, 7)?, Answer::Waits),
-        (0, 1, resumes, Answer::Done),
-        (0, 2, send(rt.alloc(), 1, 7)?, Answer::Waits),
-        (0, 1, receives, got),
-        (0, 2, drops, Answer::Done),
-    ];
-    assert!(rt; has_lines(rt.alloc(), ran.settled.book(), &lines)?);
-    Ok(())
-}
-
-#[test]
-fn a_restarted_exchange_sends_again(rt: HostRuntime) -> Result<(), Fail> {
-    let exchange = Entry::NbSendRecv {
-        cap: 1,
-        source: 3,
-        reply: 9,
-        message: message(rt.alloc(), 7, &[])?,
-    };
-    let drops = Entry::NbSend {
-        cap: 1,
-        message: message(rt.alloc(), 8, &[])?,
-    };
-    let resumes = Entry::Resume { thread: 12 };
-    let receives = Entry::Recv { cap: 2, reply: 8 };
-    let mut users = Users::new(rt.alloc());
-    users.add(thread(2), exchange.copy(rt.alloc())?)?;
-    users.add(thread(2), drops.copy(rt.alloc())?)?;
-    users.add(thread(1), resumes.copy(rt.alloc())?)?;
-    users.add(thread(1), send(rt.alloc(), 3, 5)?)?;
-    users.add(thread(1), receives.copy(rt.alloc())?)?;
-    let ran = run_users(&rt, rt.alloc(), &one_core(rt.alloc())?, &users, &Open)?;
-    assert!(rt; ran.away.is_empty());
-    let lines = [
-        (0, 2, exchange.copy(rt.alloc())?, Answer::Waits),
-        (0, 1, resumes, Answer::Done),
-        (0, 2, exchange, Answer::Waits),
-        (0, 1, send(rt.alloc(), 3, 5)?, Answer::Done),
-        (0, 2, drops, Answer::Done),
-        (0, 1, receives, Answer::Waits),
-    ];
-    assert!(rt; has_lines(rt.alloc(), ran.settled.book(), &lines)?);
+fn users_on_one_core_are_let_in(rt: HostRuntime) -> Result<(), Fail> {
+    let boot = one_core(rt.alloc())?;
+    for (steps, trace) in COURSES {
+        let script = format!(in rt.alloc(); "{boot}{steps}")?;
+        let ran = run_users(&rt, rt.alloc(), script.as_str(), &Open)?;
+        assert!(rt; ran.away.is_empty(), "{steps}");
+        let want = format!(in rt.alloc(); "{boot}{trace}")?;
+        let written = trace_of(rt.alloc(), ran.settled.book())?;
+        assert!(rt; written.as_slice() == want.as_bytes(), "{steps}");
+    }
     Ok(())
 }

@@ -1,13 +1,11 @@
 //! A run from its boot to its settled book.
 ghost use Rattle.std.specs.Prelude.{◌≡◌};
 
-use crate::boots::thread;
-use mcs_book::{Book, Line};
+use crate::boots::{boot_of, replay_of, users_of};
 use mcs_cores::{CoreSeat, Gate, Machine, Outcome, SeatsFault, Settled, Users};
 use mcs_kernel::{Boot, EnterFault, Kernel};
 use mcs_queues::LinkedLines;
-use mcs_seats::{is_same_answer, is_same_entry};
-use mcs_types::{Answer, CORES, CoreId, Entry, ObjId, OutOfMemory};
+use mcs_types::{CORES, CoreId, ObjId};
 use std::alloc::Global;
 use std::marker::Brand;
 use std::sync::Wait;
@@ -82,49 +80,16 @@ fn settle_run<G: Ledger + Send + Sync, R: Threads + Wait + Sync, T: Gate>(
     }
 }
 
-/// Runs the users on a machine, and settles it.
+/// Runs the boot and the entries of a script without fault on a machine, and settles it. The entries are those of a replay, so
+/// each has to be let in by one.
 pub fn run_users<R: Threads + Wait + Sync, T: Gate>(
     rt: &R,
     alloc: Global,
-    boot: &Boot,
-    users: &Users,
+    script: &str,
     gate: &T,
 ) -> Result<Ran, Fail> {
-    settle_run::<Brand, R, T>(rt, alloc, Blank::new(16), boot, users, gate)
-}
-
-/// Whether a line is of this core, thread and entry, and was answered so.
-pub fn is_line(
-    alloc: Global,
-    line: &Line<'_>,
-    core: u8,
-    serial: u32,
-    entry: &Entry,
-    answer: &Answer,
-) -> Result<bool, OutOfMemory> {
-    let step = line.step(alloc)?;
-    Ok(
-        step.core == CoreId(core)
-            && step.thread == thread(serial)
-            && is_same_entry(&step.entry, entry)
-            && is_same_answer(&line.answer(alloc)?, answer),
-    )
-}
-
-/// Whether these are the lines after the boot: core, thread, entry and answer of each.
-pub fn has_lines(
-    alloc: Global,
-    book: &Book,
-    lines: &[(u8, u32, Entry, Answer)],
-) -> Result<bool, OutOfMemory> {
-    if book.lines() != lines.len() + 1 {
-        return Ok(false);
-    }
-    for (i, (core, serial, entry, answer)) in lines.iter().enumerate() {
-        match book.line(i + 1) {
-            Some(line) if is_line(alloc, &line, *core, *serial, entry, answer)? => {}
-            _ => return Ok(false),
-        }
-    }
-    Ok(true)
+    let replay = replay_of(alloc, script)?;
+    let book = replay.book().ok_or("a book")?;
+    let (boot, users) = (boot_of(alloc, book)?, users_of(alloc, book)?);
+    settle_run::<Brand, R, T>(rt, alloc, Blank::new(16), &boot, &users, gate)
 }

@@ -1,9 +1,10 @@
 //! Scripts of users.
 ghost use Rattle.std.specs.Prelude.{◌<◌, length};
 
+use crate::boots::{one_core, replayed};
 use mcs_sim::{Open, SimFault, Sink, Source, run_text, simulate};
 use mcs_text::LineFault;
-use std::alloc::{AllocGlobal, Global};
+use std::alloc::AllocGlobal;
 use std::io::{self, ErrorKind, Read, Write};
 use std::sync::Wait;
 use std::test::Fail;
@@ -123,17 +124,6 @@ fn run_users<R: AllocGlobal + Threads + Wait + Sync>(
     (result, written)
 }
 
-/// What a replay writes that has to end well.
-fn replayed(alloc: Global, script: &[u8]) -> Result<Vec<u8>, Fail> {
-    let mut written = Vec::new(alloc);
-    simulate(
-        alloc,
-        &mut Source::new(script),
-        &mut Sink::new(alloc, &mut written),
-    )?;
-    Ok(written)
-}
-
 #[test]
 fn users_on_one_core_give_their_traces(rt: HostRuntime) -> Result<(), Fail> {
     for (users, trace) in RUNS {
@@ -141,26 +131,43 @@ fn users_on_one_core_give_their_traces(rt: HostRuntime) -> Result<(), Fail> {
         let want = format!(in rt.alloc(); "{BOOT}{trace}")?;
         for cores in [None, Some(1)] {
             let (result, written) = run_users(&rt, script.as_bytes(), cores);
-            assert_eq!(rt; result, Ok(()));
-            assert_eq!(rt; written.as_slice(), want.as_bytes());
+            assert!(rt;
+                result == Ok(()) && written.as_slice() == want.as_bytes(),
+                "{users}"
+            );
         }
         let again = replayed(rt.alloc(), want.as_bytes())?;
-        assert_eq!(rt; again.as_slice(), want.as_bytes());
+        assert!(rt; again.as_slice() == want.as_bytes(), "{users}");
     }
     Ok(())
+}
+
+/// Runs the users of a script on two cores, and gives what is written, which gives itself.
+fn run_on_two_cores<R: AllocGlobal + Threads + Wait + Sync>(
+    rt: &R,
+    script: &str,
+) -> Result<Vec<u8>, Fail> {
+    let (result, written) = run_users(rt, script.as_bytes(), Some(2));
+    result?;
+    if replayed(rt.alloc(), &written)? != written {
+        return Err(Fail::from("the trace gives itself"));
+    }
+    Ok(written)
+}
+
+/// How often these words stand in a text.
+fn occurrences(text: &[u8], words: &[u8]) -> usize
+    requires { 0 < length words.now }
+{
+    let parts = text.windows(words.len());
+    parts.filter(|part| *part == words).count()
 }
 
 #[test]
 fn a_run_on_two_cores_is_replayed(rt: HostRuntime) -> Result<(), Fail> {
     for _ in 0..20 {
-        let (result, written) = run_users(&rt, TWO_CORES.as_bytes(), Some(2));
-        assert_eq!(rt; result, Ok(()));
-        let entries = written
-            .split(|b| *b == b'\n')
-            .filter(|l| l.starts_with(b"= "));
-        assert_eq!(rt; entries.count(), 7);
-        let again = replayed(rt.alloc(), &written)?;
-        assert_eq!(rt; again.as_slice(), written.as_slice());
+        let written = run_on_two_cores(&rt, TWO_CORES)?;
+        assert!(rt; occurrences(&written, b"\n= ") == 7);
     }
     Ok(())
 }
@@ -189,52 +196,58 @@ user t3 replyrecv 2 3 202 11 12 13 14 15 16 17
 user t3 replyrecv 2 3 203 11 12 13 14 15 16 17
 ";
 
-/// How often these words stand in a text.
-fn occurrences(text: &[u8], words: &[u8]) -> usize
-    requires { 0 < length words.now }
-{
-    let parts = text.windows(words.len());
-    parts.filter(|part| *part == words).count()
-}
-
 #[test]
 fn long_messages_cross_the_cores(rt: HostRuntime) -> Result<(), Fail> {
     for _ in 0..20 {
-        let (result, written) = run_users(&rt, LONG_CALLS.as_bytes(), Some(2));
-        assert_eq!(rt; result, Ok(()));
+        let written = run_on_two_cores(&rt, LONG_CALLS)?;
         // each call as its step and its record, and as an answer where the server asked after it
         let calls = occurrences(&written, b" 1 2 3 4 5 6 7 8 9");
         assert!(rt; calls >= 6 && calls <= 9);
         // each answer as its step and its record
-        assert_eq!(rt; occurrences(&written, b" 11 12 13 14 15 16 17"), 6);
-        let again = replayed(rt.alloc(), &written)?;
-        assert_eq!(rt; again.as_slice(), written.as_slice());
+        assert!(rt; occurrences(&written, b" 11 12 13 14 15 16 17") == 6);
     }
     Ok(())
 }
 
+/// Lines behind the boot, and what is wrong with the last.
+const FAULTS: [(&str, LineFault); 8] = [
+    ("0 t1 nbsend 1 7", LineFault::Form),
+    ("user t1", LineFault::Form),
+    ("user t1 nbsend", LineFault::Form),
+    ("user 1 nbsend 1 7", LineFault::Form),
+    ("users t1 nbsend 1 7", LineFault::Form),
+    ("user t1 setprio 11 11 256", LineFault::Number),
+    ("user t3 nbsend 1 7", LineFault::NoObject),
+    ("user t1 nbsend 1 7\nendpoint", LineFault::LateBoot),
+];
+
 #[test]
 fn faulty_lines_of_users_are_told(rt: HostRuntime) -> Result<(), Fail> {
-    let faults = [
-        ("0 t1 nbsend 1 7\n", LineFault::Form),
-        ("user t1\n", LineFault::Form),
-        ("user t1 nbsend\n", LineFault::Form),
-        ("user 1 nbsend 1 7\n", LineFault::Form),
-        ("users t1 nbsend 1 7\n", LineFault::Form),
-        ("user t1 setprio 11 11 256\n", LineFault::Number),
-        ("user t3 nbsend 1 7\n", LineFault::NoObject),
-        ("user t1 nbsend 1 7\nendpoint\n", LineFault::LateBoot),
-    ];
-    for (lines, why) in faults {
-        let script = format!(in rt.alloc(); "{BOOT}{lines}")?;
+    for (lines, why) in FAULTS {
+        let script = format!(in rt.alloc(); "{BOOT}{lines}\n")?;
         let (result, written) = run_users(&rt, script.as_bytes(), None);
         let line = if why == LineFault::LateBoot { 15 } else { 14 };
-        assert_eq!(rt; result, Err(SimFault::Script { line, why }), "{lines}");
-        assert!(rt; written.is_empty());
+        assert!(rt; result == Err(SimFault::Script { line, why }), "{lines}");
+        assert!(rt; written.is_empty(), "{lines}");
     }
     let (result, written) = run_users(&rt, b"", None);
     let why = LineFault::NoCores;
-    assert_eq!(rt; result, Err(SimFault::Script { line: 1, why }));
+    assert!(rt; result == Err(SimFault::Script { line: 1, why }));
+    assert!(rt; written.is_empty());
+    Ok(())
+}
+
+#[test]
+fn a_run_fills_the_book(rt: HostRuntime) -> Result<(), Fail> {
+    let boot = one_core(rt.alloc())?;
+    let mut script = Vec::new(rt.alloc());
+    script.extend_from_slice(boot.as_bytes())?;
+    // one more than the book has room for
+    for _ in 0..1_000_000u32 {
+        script.extend_from_slice(b"user t1 recv 1 8\n")?;
+    }
+    let (result, written) = run_users(&rt, &script, None);
+    assert!(rt; result == Err(SimFault::BookFull));
     assert!(rt; written.is_empty());
     Ok(())
 }
@@ -249,7 +262,7 @@ fn a_users_line_is_no_step(rt: HostRuntime) -> Result<(), Fail> {
         &mut Sink::new(rt.alloc(), &mut written),
     );
     let why = LineFault::Form;
-    assert_eq!(rt; result, Err(SimFault::Script { line: 14, why }));
+    assert!(rt; result == Err(SimFault::Script { line: 14, why }));
     assert!(rt; written.is_empty());
     Ok(())
 }
@@ -260,7 +273,7 @@ fn another_number_of_cores_is_a_fault(rt: HostRuntime) -> Result<(), Fail> {
     for cores in [2, 16] {
         let (result, written) = run_users(&rt, script.as_bytes(), Some(cores));
         let why = LineFault::Number;
-        assert_eq!(rt; result, Err(SimFault::Script { line: 2, why }));
+        assert!(rt; result == Err(SimFault::Script { line: 2, why }));
         assert!(rt; written.is_empty());
     }
     Ok(())
@@ -292,12 +305,10 @@ fn a_failing_read_or_write_is_told(rt: HostRuntime) -> Result<(), Fail> {
     let mut source = Source::new(Failing);
     let mut sink = Sink::new(rt.alloc(), &mut written);
     let result = run_text(&rt, &mut source, &mut sink, None, &Open);
-    assert_eq!(rt; result, Err(SimFault::Read));
-    assert_eq!(rt; source.failed(), 1);
+    assert!(rt; result == Err(SimFault::Read) && source.failed() == 1);
     let mut source = Source::new(TWO_CORES.as_bytes());
     let mut sink = Sink::new(rt.alloc(), Failing);
     let result = run_text(&rt, &mut source, &mut sink, None, &Open);
-    assert_eq!(rt; result, Err(SimFault::Write));
-    assert_eq!(rt; sink.failed(), 1);
+    assert!(rt; result == Err(SimFault::Write) && sink.failed() == 1);
     Ok(())
 }

@@ -1,13 +1,13 @@
 //! Machines whose entries are made by hand.
 ghost use Rattle.std.specs.Prelude.{◌≡◌};
 
-use crate::boots::{message, one_core, thread, two_cores};
-use crate::runs::has_lines;
+use crate::boots::{TWO_CORES, boot_of, one_core, replay_of, thread, trace_of};
+use mcs_book::Book;
 use mcs_cores::{CoreSeat, FinishFault, Machine, Settled};
 use mcs_kernel::{Boot, Kernel};
 use mcs_queues::LinkedLines;
 use mcs_seats::is_same_answer;
-use mcs_types::{Answer, Badge, CORES, Entry, Mail};
+use mcs_types::{Badge, CORES, Mail};
 use std::alloc::Global;
 use std::marker::Brand;
 use std::sync::Wait;
@@ -15,102 +15,135 @@ use std::sync::ledger::{Blank, Ledger};
 use std::test::Fail;
 
 /// A send and its receive.
-fn exchange(alloc: Global) -> Result<[(u8, u32, Entry, Answer); 2], Fail> {
-    let sends = Entry::Send {
-        cap: 1,
-        message: message(alloc, 7, &[5, 6])?,
-    };
-    let got = Answer::Got {
-        badge: Badge(9),
-        message: message(alloc, 7, &[5, 6])?,
-    };
-    Ok([
-        (0, 1, sends, Answer::Waits),
-        (0, 2, Entry::Recv { cap: 2, reply: 8 }, got),
-    ])
+const STEPS: &str = "\
+0 t1 send 1 7 5 6
+0 t2 recv 2 8
+";
+
+const TRACE: &str = "\
+0 t1 send 1 7 5 6
+= waits
++ sent m0 t1 e1 send 9 7 5 6
++ joins t1 e1.send
+0 t2 recv 2 8
+= got 9 7 5 6
++ took m0 t2
++ parts t1 e1.send
++ turns t1 running
+";
+
+/// What becomes of the seats before a machine is finished.
+#[derive(Clone, Copy, PartialEq, Eq)]
+enum Seats {
+    /// They are all handed in.
+    All,
+    /// One is kept back.
+    NotOne,
+    /// They were never given.
+    NeverGiven,
 }
 
-/// Enters them, and compares the answers.
-fn enter_exchange<G: Ledger, R: Wait>(
+/// Enters the steps of a book, and compares the answers.
+fn enter_steps<G: Ledger, R: Wait>(
     rt: &R,
     alloc: Global,
     machine: &Machine<G, LinkedLines>,
     seat: &mut CoreSeat<G>,
+    book: &Book,
 ) -> Result<(), Fail> {
-    for (i, (_, serial, entry, answer)) in exchange(alloc)?.iter().enumerate() {
-        match machine.enter(rt, alloc, seat, thread(*serial), entry.copy(alloc)?) {
-            Ok(told) if told.line == i + 1 && is_same_answer(&told.answer, answer) => {}
+    for i in 1..book.lines() {
+        let line = book.line(i).ok_or("a line of the book")?;
+        let step = line.step(alloc)?;
+        let answer = line.answer(alloc)?;
+        match machine.enter(rt, alloc, seat, step.thread, step.entry) {
+            Ok(told) if told.line == i && is_same_answer(&told.answer, &answer) => {}
             _ => return Err(Fail::from("the entry is let in as its line")),
         }
     }
     Ok(())
 }
 
-/// Enters them on a machine with this ledger, and finishes it.
-fn finish_exchange<G: Ledger, R: Wait>(
+/// Enters the steps of a book on a machine with this ledger, and finishes it with this boot and these seats.
+fn finish_steps<G: Ledger, R: Wait>(
     rt: &R,
     alloc: Global,
     blank: Blank,
-    boot: &Boot,
-    kept_back: bool,
+    book: &Book,
+    end: (&Boot, Seats),
 ) -> Result<Result<Settled<LinkedLines>, FinishFault>, Fail>
     requires name { blank.name ≡ G.name }
     requires parts { blank.parts ≡ G.parts }
     requires sixteen { blank.parts ≡ CORES }
 {
-    let begun = one_core(alloc)?;
+    let (boot, kept) = end;
+    let begun = boot_of(alloc, book)?;
     let kernel: Kernel<LinkedLines> = Kernel::new(alloc, &begun)?;
     let mut machine = Machine::<G, LinkedLines>::new(kernel, blank);
+    if kept == Seats::NeverGiven {
+        return Ok(machine.finish(alloc, boot, Vec::new(alloc)));
+    }
     let Ok(mut seats) = machine.seats(rt, alloc) else {
         return Err(Fail::from("seats are given"));
     };
     match seats.first_mut() {
-        Some(seat) => enter_exchange(rt, alloc, &machine, seat)?,
+        Some(seat) => enter_steps(rt, alloc, &machine, seat, book)?,
         None => return Err(Fail::from("there is a seat")),
     }
-    if kept_back {
+    if kept == Seats::NotOne {
         let _ = seats.pop();
     }
     Ok(machine.finish(alloc, boot, seats))
 }
 
-/// Enters them on a machine of one core, and finishes it with this boot, without the seat where it is kept back.
+/// Enters a send and its receive on a machine of one core, and finishes it with the boot of this script and these seats.
 fn finished<R: Wait>(
     rt: &R,
     alloc: Global,
-    boot: &Boot,
-    kept_back: bool,
+    script: &str,
+    kept: Seats,
 ) -> Result<Result<Settled<LinkedLines>, FinishFault>, Fail> {
-    finish_exchange::<Brand, R>(rt, alloc, Blank::new(16), boot, kept_back)
+    let own = one_core(alloc)?;
+    let replay = replay_of(alloc, format!(in alloc; "{own}{STEPS}")?.as_str())?;
+    let other = replay_of(alloc, script)?;
+    let book = replay.book().ok_or("a book")?;
+    let boot = boot_of(alloc, other.book().ok_or("a book")?)?;
+    finish_steps::<Brand, R>(rt, alloc, Blank::new(16), book, (&boot, kept))
+}
+
+/// Whether this message reached a thread: its badge is 9, its label 7, its words 5 and 6.
+fn is_mail(mail: Option<&Mail>) -> bool {
+    match mail {
+        Some(Mail::Message { badge, message }) => {
+            *badge == Badge(9) && message.label() == 7 && message.words() == [5, 6].as_slice()
+        }
+        _ => false,
+    }
 }
 
 #[test]
 fn settles(rt: HostRuntime) -> Result<(), Fail> {
-    let Ok(settled) = finished(&rt, rt.alloc(), &one_core(rt.alloc())?, false)? else {
+    let own = one_core(rt.alloc())?;
+    let Ok(settled) = finished(&rt, rt.alloc(), own.as_str(), Seats::All)? else {
         return Err(Fail::from("the machine settles"));
     };
-    assert!(rt; has_lines(rt.alloc(), settled.book(), &exchange(rt.alloc())?)?);
-    match settled.kernel().mail(thread(2)) {
-        Some(Mail::Message { badge, message }) => {
-            assert_eq!(rt; *badge, Badge(9));
-            assert_eq!(rt; message.label(), 7);
-            assert!(rt; message.words() == [5, 6].as_slice());
-        }
-        _ => return Err(Fail::from("the message reached the receiver")),
+    let want = format!(in rt.alloc(); "{own}{TRACE}")?;
+    assert!(rt; trace_of(rt.alloc(), settled.book())?.as_slice() == want.as_bytes());
+    assert!(rt; is_mail(settled.kernel().mail(thread(2))));
+    Ok(())
+}
+
+#[test]
+fn others_do_not_settle(rt: HostRuntime) -> Result<(), Fail> {
+    let own = one_core(rt.alloc())?;
+    let faults = [
+        (own.as_str(), Seats::NotOne, FinishFault::MissingSeat),
+        (own.as_str(), Seats::NeverGiven, FinishFault::MissingSeat),
+        (TWO_CORES, Seats::NotOne, FinishFault::MissingSeat),
+        (TWO_CORES, Seats::All, FinishFault::OtherBoot),
+    ];
+    for (i, (script, kept, want)) in faults.into_iter().enumerate() {
+        let ended = finished(&rt, rt.alloc(), script, kept)?.err();
+        assert!(rt; ended == Some(want), "machine {i}");
     }
-    Ok(())
-}
-
-#[test]
-fn a_seat_kept_back_is_missed(rt: HostRuntime) -> Result<(), Fail> {
-    let ended = finished(&rt, rt.alloc(), &one_core(rt.alloc())?, true)?;
-    assert_eq!(rt; ended.err(), Some(FinishFault::MissingSeat));
-    Ok(())
-}
-
-#[test]
-fn another_boot_is_told(rt: HostRuntime) -> Result<(), Fail> {
-    let ended = finished(&rt, rt.alloc(), &two_cores(rt.alloc())?, false)?;
-    assert_eq!(rt; ended.err(), Some(FinishFault::OtherBoot));
     Ok(())
 }
