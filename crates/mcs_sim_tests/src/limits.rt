@@ -22,12 +22,12 @@ fn cut_fault(number: u64, beginning: &str) -> Option<LineFault> {
 
 /// What a script gives that is cut after so many bytes.
 fn cut(script: &str, end: usize) -> Result<(), SimFault> {
-    let mut line = 1;
-    let mut start = 0;
+    let mut line: u64 = 1;
+    let mut start: usize = 0;
     for (i, byte) in script.bytes().enumerate() {
         if i < end && byte == b'\n' {
-            line += 1;
-            start = i + 1;
+            line = line.wrapping_add(1);
+            start = i.wrapping_add(1);
         }
     }
     match cut_fault(line, script.get(start..end).unwrap_or("")) {
