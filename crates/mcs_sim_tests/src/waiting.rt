@@ -74,7 +74,7 @@ impl<'a> Read for Waiting<'a> {
 fn pieces(alloc: Global, piece: usize) -> Result<Vec<u8>, Fail> {
     let mut script = Vec::new(alloc);
     script.extend_from_slice(BOOT.as_bytes())?;
-    while script.len() + STEP.len() < piece {
+    for _ in script.len()..piece.saturating_sub(STEP.len()) {
         script.push(b'\n')?;
     }
     script.extend_from_slice(STEP.as_bytes())?;
@@ -88,11 +88,11 @@ fn pieces(alloc: Global, piece: usize) -> Result<Vec<u8>, Fail> {
 fn each_piece_is_answered_before_the_next_read(rt: HostRuntime) -> Result<(), Fail> {
     for piece in [4_096, 8_192, 16_384, 65_536] {
         let script = pieces(rt.alloc(), piece)?;
-        assert_eq!(rt; script.len(), (ROUNDS + 1) * piece);
+        assert_eq!(rt; script.len(), piece.saturating_mul(ROUNDS + 1));
         let mut waits = vec![in rt.alloc(); 0]?;
         for round in 0..=ROUNDS {
             let steps = 1 + round * (piece / STEP.len());
-            waits.push(BOOT.len() + steps * TOLD.len())?;
+            waits.push(steps.saturating_mul(TOLD.len()).saturating_add(BOOT.len()))?;
         }
         let written = Cell::new(0);
         let answered = Cell::new(0);
