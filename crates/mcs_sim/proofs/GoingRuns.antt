@@ -1,5 +1,5 @@
 -- What is written of a replay that goes on is a beginning of what is written of its text, and all of it in the end.
-use Rattle.std.proofs.Common.{◌≡◌, ℕ, ◌≤◌, ◌⊎◌, inl, inr, Option, Some, None, List, [], ◌∷◌, ◌++◌, refl, sym, ap, subst, ◌∙◌, append_assoc, append-nil, length, arith}
+use Rattle.std.proofs.Common.{◌≡◌, ℕ, ◌+◌, ◌≤◌, ◌⊎◌, inl, inr, Option, Some, None, List, [], ◌∷◌, ◌++◌, refl, sym, ap, subst, ◌∙◌, append_assoc, append-nil, length, arith}
 use Rattle.std.specs.Io.KnownBytes.{Appends, Consumes, IsAtEnd}
 use Rattle.mcs_text.specs.Output.{Moves}
 use Rattle.mcs_sim.proofs.RunLaws.{Consumes-nil, Begins-nil}
@@ -12,7 +12,7 @@ use Rattle.mcs_sim.specs.declared.fault.SimFault.{SimFault}
 use Rattle.mcs_sim.specs.declared.fault.SimFault.TheVariants as fault
 use Rattle.mcs_sim.specs.Script.{Script, steps}
 use Rattle.mcs_sim.specs.Trace.{trace, trace_of}
-use Rattle.mcs_sim.specs.Runs.{script_trace, trace_before, told, written, Begins, IsFull, IsRoomy, IsFairBefore, IsNamed, StopsSoon, ReadsText, Finishes, Ends}
+use Rattle.mcs_sim.specs.Runs.{script_trace, trace_before, told, written, Begins, IsFull, IsFullAt, IsRoomy, IsFairBefore, IsNamed, StopsSoon, ReadsText, Finishes, Ends}
 use Rattle.mcs_sim.specs.Trace.{IsLonger}
 use Rattle.mcs_sim.specs.Going.{Course, Going, ended_by, at_line, no_line, fed, at_end, ended, IsFairBook, TakesEnd, TakesPiece}
 use Rattle.mcs_sim.specs.Outcomes.{standing_of, IsTaken, IsTakenTo, IsTakenToFull, ComesOfScript}
@@ -52,7 +52,7 @@ begins-trans x y z one other = (one.0 ++ other.0, other.1 ∙ ap (λ (t : List �
 full-begins : (t : Script Step) (f : Option (ℕ × LineFault)) (c : Course) → IsTakenToFull t c → IsBeginning (trace_of c.stands.book) (told t f)
 full-begins t f c is =
     subst (λ (k : Option Book). IsBeginning (trace_of k) (told t f)) (sym is.book)
-    (subst (λ (ss : List Step). IsBeginning (trace_of (standing_of t.boot is.before).book) (told (record { boot = t.boot; items = ss }) f)) (sym is.split) (full-told f t.boot is.before is.after))
+    (subst (λ (ss : List Step). IsBeginning (trace_of (standing_of t.boot is.before).book) (told (record { boot = t.boot; items = ss }) f)) (sym is.split) (full-told f t.boot is.before (is.step ∷ is.after)))
 
 outcome-begins : (r : Script Step × Option (ℕ × LineFault)) (c : Course) → ComesOfScript r c → IsBeginning (trace_of c.stands.book) (told r.0 r.1)
 outcome-begins (t, None) c (inl is) = same-begins _ _ (taken-told t c is)
@@ -129,11 +129,15 @@ ends-faulty text line why ends =
     }
 
 -- at a step for which the book is full
+full-at : (n : ℕ) (boot : Option Boot) (ss : List Step) → IsFullAt n boot ss → IsFull boot ss
+full-at n None ss full = full
+full-at n (Some b) ss full = (n, full)
+
 full-of : (r : Script Step × Option (ℕ × LineFault)) (c : Course) → ComesOfScript r c → c.fault ≡ Some fault.BookFull → IsFull r.0.boot r.0.items
 full-of (t, None) c (inl is) ends = absurd (let other : None ≡ Some fault.BookFull = sym is.goes ∙ ends in cc)
-full-of (t, None) c (inr is) ends = is.full
+full-of (t, None) c (inr is) ends = full-at (length is.before + 1) t.boot t.items is.full
 full-of (t, Some (line, why)) c (inl is) ends = absurd (let other : Some (fault.Script line why) ≡ Some fault.BookFull = sym is.ended ∙ ends in cc)
-full-of (t, Some (line, why)) c (inr is) ends = is.full
+full-of (t, Some (line, why)) c (inr is) ends = full-at (length is.before + 1) t.boot t.items is.full
 
 pub ends-full : (text : List ℕ) → (ended (fed (at_line no_line) text)).fault ≡ Some fault.BookFull → IsFull (steps text).0.boot (steps text).0.items
 ends-full text ends = full-of (steps text) (ended (fed (at_line no_line) text)) (fed-as-read text) ends

@@ -17,7 +17,7 @@ use Rattle.mcs_text.specs.Reading.{◌>>=◌, onto_first, lines_of, words_of, st
 use Rattle.mcs_sim.specs.declared.fault.SimFault.{SimFault}
 use Rattle.mcs_sim.specs.declared.fault.SimFault.TheVariants as fault
 use Rattle.mcs_sim.specs.Script.{Script, of_steps, no_script, threads_of, says_something, first_boot, next_boot, next_items, later_line, by_boot, spelled, read_line, ending, script_from, script_of, steps}
-use Rattle.mcs_sim.specs.Runs.{IsFull, IsRoomy}
+use Rattle.mcs_sim.specs.Runs.{IsFullAt, IsRoomy}
 use Rattle.mcs_sim.specs.Going.{Standing, Course, Going, no_line, begun_by, stepped, behind_boot, step_spelled, step_line, read_at, stands, opened, after_boot_line, after_step, book_after, after_line, ended_by, refused_for, past_line, with_line, after_end, boot_ended_after, boot_ended, at_line, with_part, fed, with_last, at_end, ended}
 use Rattle.mcs_sim.specs.Outcomes.{standing_of, IsTakenToFull, ComesOfScript}
 use Rattle.mcs_sim.proofs.ScriptLaws.{script_from-ok, script_from-err}
@@ -132,14 +132,17 @@ roomy-end (x ∷ xs) n k s roomy room = go (is_full_for k x) (roomy-end xs (n + 
     go true next none = absurd cc
     go false next none = next none room
 
-full-end : (ss : List Step) (n : ℕ) (k : Book) (s : Step) → full_after n k ss ≡ None → is_full_for (fold with_step k ss) s ≡ true → (m : ℕ) × (full_after n k (ss ++ s ∷ []) ≡ Some m)
-full-end [] n k s roomy full = (n + 1, rw full refl)
+full-end : (ss : List Step) (n : ℕ) (k : Book) (s : Step) → full_after n k ss ≡ None → is_full_for (fold with_step k ss) s ≡ true → full_after n k (ss ++ s ∷ []) ≡ Some (n + (length ss + 1))
+full-end [] n k s roomy full = rw full refl
 full-end (x ∷ xs) n k s roomy full = go (is_full_for k x) (full-end xs (n + 1) (with_step k x) s) roomy
   where
-    go : (v : Bool) → (full_after (n + 1) (with_step k x) xs ≡ None → is_full_for (fold with_step (with_step k x) xs) s ≡ true → (m : ℕ) × (full_after (n + 1) (with_step k x) (xs ++ s ∷ []) ≡ Some m))
-        → cond v (Some (n + 1)) (full_after (n + 1) (with_step k x) xs) ≡ None → (m : ℕ) × (cond v (Some (n + 1)) (full_after (n + 1) (with_step k x) (xs ++ s ∷ [])) ≡ Some m)
+    count : n + 1 + (length xs + 1) ≡ n + (length (x ∷ xs) + 1)
+    count = omega arith
+
+    go : (v : Bool) → (full_after (n + 1) (with_step k x) xs ≡ None → is_full_for (fold with_step (with_step k x) xs) s ≡ true → full_after (n + 1) (with_step k x) (xs ++ s ∷ []) ≡ Some (n + 1 + (length xs + 1)))
+        → cond v (Some (n + 1)) (full_after (n + 1) (with_step k x) xs) ≡ None → cond v (Some (n + 1)) (full_after (n + 1) (with_step k x) (xs ++ s ∷ [])) ≡ Some (n + (length (x ∷ xs) + 1))
     go true next none = absurd cc
-    go false next none = next none full
+    go false next none = next none full ∙ ap (λ (m : ℕ). Some m) count
 
 full-grows : (ss ts : List Step) (n : ℕ) (k : Book) (m : ℕ) → full_after n k ss ≡ Some m → full_after n k (ss ++ ts) ≡ Some m
 full-grows [] ts n k m full = absurd cc
@@ -169,7 +172,7 @@ pub record IsFullNow (s t : Script Step) (r : Result Standing SimFault) : Type 0
   pub last : Step
   pub before : s.boot ≡ Some by
   pub script : t ≡ record { boot = Some by; items = s.items ++ last ∷ [] }
-  pub full : IsFull (Some by) (s.items ++ last ∷ [])
+  pub full : IsFullAt (length s.items + 1) (Some by) (s.items ++ last ∷ [])
   pub ended : r ≡ Err fault.BookFull
 
 abbrev AfterRead : ℕ → Script Step → Result Standing SimFault → Result (Script Step) LineFault → Type 0
@@ -191,7 +194,9 @@ after-step n b ss y boot none roomy = go (is_full_for (book_of b ss) y) refl
     there (s ∷ ss) = refl
 
     go : (v : Bool) → is_full_for (book_of b ss) y ≡ v → AfterRead n (record { boot = Some b; items = ss }) (stands boot (if v then Err fault.BookFull else Ok (with_step (book_of b ss) y))) (Ok (record { boot = Some b; items = ss ++ y ∷ [] }))
-    go true e = inr (record { by = b; last = y; before = refl; script = refl; full = full-end ss 0 (begun_by b) y roomy e; ended = refl })
+    go true e =
+        let count : 0 + (length ss + 1) ≡ length ss + 1 = omega arith in
+        inr (record { by = b; last = y; before = refl; script = refl; full = full-end ss 0 (begun_by b) y roomy e ∙ ap (λ (n : ℕ). Some n) count; ended = refl })
     go false e =
         let same : Ok (record { boot = None; book = Some (book_of b (ss ++ y ∷ [])) }) ≡ Ok (standing_of (Some b) (ss ++ y ∷ [])) = ap (λ (s : Standing). Ok s) (sym (there ss)) in
         let all : Ok (record { boot = boot; book = Some (with_step (book_of b ss) y) }) ≡ Ok (standing_of (Some b) (ss ++ y ∷ [])) =
@@ -285,9 +290,11 @@ full-stands ls s t n c r full ended book =
     taken : Grown full.by (s.items ++ full.last ∷ []) from.0 → IsTakenToFull from.0 c
     taken g = record {
       before = s.items;
-      after = full.last ∷ g.1.0;
+      step = full.last;
+      after = g.1.0;
       split = g.1.1 ∙ append_assoc s.items (full.last ∷ []) g.1.0;
-      full = subst (λ (o : Option Boot). IsFull o from.0.items) (sym g.0) (subst (λ (ss : List Step). IsFull (Some full.by) ss) (sym g.1.1) (full.full.0, full-grows (s.items ++ full.last ∷ []) g.1.0 0 (begun_by full.by) full.full.0 full.full.1));
+      full = subst (λ (o : Option Boot). IsFullAt (length s.items + 1) o from.0.items) (sym g.0)
+          (subst (λ (ss : List Step). IsFullAt (length s.items + 1) (Some full.by) ss) (sym g.1.1) (full-grows (s.items ++ full.last ∷ []) g.1.0 0 (begun_by full.by) (length s.items + 1) full.full));
       ended = ended;
       book = book ∙ ap (λ (o : Option Boot). (standing_of o s.items).book) (full.before ∙ sym g.0);
     }

@@ -1,12 +1,12 @@
 -- What comes of a script that is taken line by line.
-use Rattle.std.specs.Prelude.{◌≡◌, ◌⊎◌, ℕ, List, [], ◌∷◌, ◌++◌, Option, Some, None}
+use Rattle.std.specs.Prelude.{◌≡◌, ◌⊎◌, ℕ, ◌+◌, List, [], ◌∷◌, ◌++◌, length, Option, Some, None}
 use Rattle.mcs_types.specs.declared.entry.Step.{Step}
 use Rattle.mcs_book.specs.Boots.{Boot}
 use Rattle.mcs_book.specs.History.{book_of}
 use Rattle.mcs_text.specs.declared.fault.LineFault.{LineFault}
 use Rattle.mcs_sim.specs.declared.fault.SimFault.TheVariants as fault
 use Rattle.mcs_sim.specs.Script.{Script}
-use Rattle.mcs_sim.specs.Runs.{IsFull, IsRoomy}
+use Rattle.mcs_sim.specs.Runs.{IsFullAt, IsRoomy}
 use Rattle.mcs_sim.specs.Going.{Standing, Course, not_begun}
 
 -- what stands after the lines of a script
@@ -29,12 +29,13 @@ pub record IsTakenTo (line : ℕ) (why : LineFault) (t : Script Step) (c : Cours
   pub ended : c.fault ≡ Some (fault.Script line why)
   pub book : c.stands.book ≡ (standing_of t.boot t.items).book
 
--- a script was taken to a step for which the book is full
+-- a script was taken to the first step for which the book is full: the book is that of the steps before it
 pub record IsTakenToFull (t : Script Step) (c : Course) : Type 0 where
   pub before : List Step
+  pub step : Step
   pub after : List Step
-  pub split : t.items ≡ before ++ after
-  pub full : IsFull t.boot t.items
+  pub split : t.items ≡ before ++ step ∷ after
+  pub full : IsFullAt (length before + 1) t.boot t.items
   pub ended : c.fault ≡ Some fault.BookFull
   pub book : c.stands.book ≡ (standing_of t.boot before).book
 

@@ -52,6 +52,11 @@ abbrev pub IsFull : Option Boot → List Step → Type 0
 IsFull None ss = ⊥
 IsFull (Some b) ss = (n : ℕ) × (full_after 0 (record { boot = b; lines = [] }) ss ≡ Some n)
 
+-- the first step of this script at which the book is full is that of this number, from 1 on
+abbrev pub IsFullAt : ℕ → Option Boot → List Step → Type 0
+IsFullAt n None ss = ⊥
+IsFullAt n (Some b) ss = full_after 0 (record { boot = b; lines = [] }) ss ≡ Some n
+
 -- the book is full at no step of this script
 abbrev pub IsRoomy : Option Boot → List Step → Type 0
 IsRoomy None ss = Unit {0}
