@@ -271,10 +271,11 @@ ends-write left left' out out' g text piece h rest is goes few read takes moves 
 
 -- a run whose reading failed
 pub ends-read : (left left' out out' : Option (List ℕ)) (g : Going) (text : List ℕ) (rest : List ℕ)
-    → g ≡ fed (at_line no_line) text → g.course.fault ≡ None → Consumes left left' text → Moves out out' (trace_of g.course.stands.book) rest → Ends fault.Read left left' out out'
-ends-read left left' out out' g text rest is goes read moves =
+    → g ≡ fed (at_line no_line) text → g.course.fault ≡ None → Consumes left left' text → Moves out out' (trace_of g.course.stands.book) rest → Appends out out' (trace_of g.course.stands.book) → Ends fault.Read left left' out out'
+ends-read left left' out out' g text rest is goes read moves appends =
     let stops : StopsSoon text = record { before = text; piece = []; split = sym (append-nil text); few = omega arith; goes = ap (λ (g : Going). g.course.fault) (sym is) ∙ goes } in
-    (text, record { read = read; stops = stops }, begins-more out out' (trace_of g.course.stands.book) (written text) rest moves (after-text text g is).begins)
+    let wrote = subst (λ (g : Going). Appends out out' (trace_of g.course.stands.book)) is appends in
+    (text, record { read = read; stops = stops }, wrote, begins-more out out' (trace_of g.course.stands.book) (written text) rest moves (after-text text g is).begins)
 
 -- a run to which no memory was given
 pub ends-early : (left out : Option (List ℕ)) → Ends fault.OutOfMemory left left out out

@@ -1,5 +1,5 @@
 -- A run of a source to a sink, piece by piece.
-use Rattle.std.proofs.Common.{◌≡◌, ℕ, ◌<◌, ◌≤◌, inl, inr, Bool, true, false, Option, Some, None, Ok, Err, IfSome, List, [], ◌∷◌, ◌++◌, length, refl, sym, ap, subst, ◌∙◌, append-nil, arith}
+use Rattle.std.proofs.Common.{◌≡◌, ◌⊎◌, ℕ, ◌<◌, ◌≤◌, inl, inr, Bool, true, false, Option, Some, None, Ok, Err, List, [], ◌∷◌, ◌++◌, length, refl, sym, ap, subst, ◌∙◌, append-nil, arith}
 use Rattle.std.specs.Io.KnownBytes.{Appends, Consumes, IsAtEnd}
 use Rattle.mcs_book.specs.History.{Book}
 use Rattle.mcs_text.specs.declared.sink.Sink.{Sink}
@@ -7,12 +7,14 @@ use Rattle.mcs_text.specs.Output.{Moves, Puts, kept}
 use Rattle.mcs_text.proofs.Outputs.{Puts-then, Puts-text}
 use Rattle.mcs_sim.specs.declared.fault.SimFault.{SimFault}
 use Rattle.mcs_sim.specs.declared.fault.SimFault.TheVariants as fault
-use Rattle.mcs_sim.specs.Trace.{trace_of}
-use Rattle.mcs_sim.specs.Runs.{Ends, TellsMore, answer_with}
+use Rattle.mcs_sim.specs.declared.writing.Told.{Told}
+use Rattle.mcs_sim.specs.Trace.{IsToldBy, trace_of, untold_of}
+use Rattle.mcs_sim.specs.Runs.{Ends, TellsMore, WritesMore, HasFailed, answer_with}
 use Rattle.mcs_sim.specs.Going.{Going, at_line, no_line, fed, IsFairBook, TakesPiece}
 use Rattle.mcs_sim.proofs.GoingLaws.{fed-append}
 use Rattle.mcs_sim.proofs.GoingRuns.{ends-by, ends-write, fault-of-piece}
-use Rattle.mcs_sim.proofs.GoingTakes.{answer-err, answer-ok}
+use Rattle.mcs_sim.proofs.GoingBooks.{told-more}
+use Rattle.mcs_sim.proofs.GoingTakes.{answer-err, answer-ok, piece-longer}
 use Rattle.mcs_sim.proofs.GoingWeights.{weight, IsWithin, HasCome, fed-come}
 
 -- what was put by and by is the trace so far
@@ -28,6 +30,27 @@ pub appends-out : {W : Type 0} (f : W → Option (List ℕ)) (a s t : Sink W) (t
 appends-out f a s t text same none puts whole empty =
     let moves = moves-out f a s t text same none puts in
     subst (Appends (f a.writer) (f t.writer)) (sym (moves.split ∙ ap (λ (l : List ℕ). moves.sent ++ l) ((puts.whole whole).1 ∙ empty) ∙ append-nil moves.sent)) moves.grown
+
+-- what a piece adds to the trace was put
+pub tells-piece : {W : Type 0} (f : W → Option (List ℕ)) (told : Told) (g h : Going) (piece : List ℕ) (i : Going) (s t : Sink W) → g ≡ h → IsToldBy told g.course.stands.book → TakesPiece g piece i
+    → Puts f s t (untold_of told i.course.stands.book) → TellsMore f s t h.course.stands.book i.course.stands.book
+tells-piece f told g h piece i s t same is takes puts =
+    let longer = told-more told g.course.stands.book i.course.stands.book is (piece-longer g piece i takes) in
+    subst (λ (g : Going). TellsMore f s t g.course.stands.book i.course.stands.book) same (untold_of told i.course.stands.book, longer, puts)
+
+-- what a trace has more was written, where nothing is kept back and no call of the writer failed
+pub writes-more : {W : Type 0} (f : W → Option (List ℕ)) (s t : Sink W) (j k : Option Book) → TellsMore f s t j k → kept t ≡ [] → WritesMore f s t j k ⊎ HasFailed s t
+writes-more f s t j k tells none = go t.is_broken refl s.is_broken refl
+  where
+    moves : Moves (f s.writer) (f t.writer) (kept s ++ tells.0) tells.2.rest
+    moves = tells.2.moves
+
+    go : (now : Bool) → t.is_broken ≡ now → (before : Bool) → s.is_broken ≡ before → WritesMore f s t j k ⊎ HasFailed s t
+    go false whole before was =
+        let all : kept s ++ tells.0 ≡ moves.sent = moves.split ∙ ap (λ (l : List ℕ). moves.sent ++ l) ((tells.2.whole whole).1 ∙ none) ∙ append-nil moves.sent in
+        inl (tells.0, tells.1, subst (Appends (f s.writer) (f t.writer)) (sym all) moves.grown)
+    go true broken true was = inr (inl was)
+    go true broken false was = inr (inr (tells.2.rose was broken))
 
 -- ---- answers
 
@@ -58,7 +81,7 @@ piece-nearer g text piece h is live some takes goes =
 -- a piece ended the run
 pub ends-piece : {W : Type 0} (f : W → Option (List ℕ)) (a s t v : Sink W) (left left' : Option (List ℕ)) (g : Going) (text piece : List ℕ) (h : Going) (e : SimFault)
     → s.writer ≡ a.writer → kept s ≡ [] → g ≡ fed (at_line no_line) text → g.course.fault ≡ None → length piece ≤ 4096 → Consumes left left' (text ++ piece) → (piece ≡ [] → IsAtEnd left') → TakesPiece g piece h
-    → Puts f s t (trace_of g.course.stands.book) → TellsMore f t v g.course.stands.book h.course.stands.book → IfSome h.course.fault (λ e. kept v ≡ []) → IsFairBook h.course.stands.book
+    → Puts f s t (trace_of g.course.stands.book) → TellsMore f t v g.course.stands.book h.course.stands.book → kept v ≡ [] → IsFairBook h.course.stands.book
     → Err e ≡ answer_with v.is_broken h.course.fault → Ends e left left' (f a.writer) (f v.writer)
 ends-piece f a s t v left left' g text piece h e same none is goes few read end takes puts more empty fair answer = go v.is_broken refl answer
   where
@@ -72,8 +95,7 @@ ends-piece f a s t v left left' g text piece h e same none is goes few read end 
         (ends-write left left' (f a.writer) (f v.writer) g text piece h all.rest is goes few read takes (moves-out f a s v (trace_of h.course.stands.book) same none all))
     go false is_broken answer =
         let ends = answer-err h.course.fault e answer in
-        let nothing = subst (λ (o : Option SimFault). IfSome o (λ e. kept v ≡ [])) ends empty in
-        ends-by e left left' (f a.writer) (f v.writer) g text piece h all.rest is goes few read end takes (moves-out f a s v (trace_of h.course.stands.book) same none all) (appends-out f a s v (trace_of h.course.stands.book) same none all is_broken nothing) fair ends
+        ends-by e left left' (f a.writer) (f v.writer) g text piece h all.rest is goes few read end takes (moves-out f a s v (trace_of h.course.stands.book) same none all) (appends-out f a s v (trace_of h.course.stands.book) same none all is_broken empty) fair ends
 
 -- a piece answers no read fault, and a write fault only where the sink broke
 pub never-read : (broken : Bool) (g : Going) (text piece : List ℕ) (h : Going) → g ≡ fed (at_line no_line) text → TakesPiece g piece h → Err fault.Read ≡ answer_with broken h.course.fault → ⊥

@@ -10,12 +10,16 @@ use Rattle.mcs_packing.specs.Kept.{is_sent}
 use Rattle.mcs_text.specs.declared.sink.Sink.{Sink}
 use Rattle.mcs_text.specs.Output.{Puts}
 use Rattle.mcs_text.specs.Table.{record_text}
-use Rattle.mcs_text.proofs.Outputs.{Puts-nil}
+use Rattle.mcs_text.proofs.Outputs.{Puts-nil, Puts-then, Puts-text}
 use Rattle.mcs_sim.specs.Trace.{sent_with, sent_after, sent_in, records_trace, line_trace, lines_trace}
 
 -- nothing was put
 pub puts_nothing : {W : Type 0} (f : W → Option (List ℕ)) (s : Sink W) → Puts f s s []
 puts_nothing f s = Puts-nil f s
+
+-- what was put before nothing more was
+pub puts_after : {W : Type 0} (f : W → Option (List ℕ)) (s t v : Sink W) (text : List ℕ) → Puts f s t text → Puts f t v [] → Puts f s v text
+puts_after f s t v text puts sent = Puts-text f s v (text ++ []) text (Puts-then f s t v text [] puts sent) (append-nil text)
 
 -- what stands within a list is there
 pub none-past : {X : Type 0} (xs : List X) (i : ℕ) → None ≡ slice_get xs i → i < length xs → ⊥

@@ -7,7 +7,7 @@ use Rattle.mcs_book.specs.History.{Book, book_of, IsLegal}
 use Rattle.mcs_book.specs.Fair.{IsFair}
 use Rattle.mcs_kernel.specs.Runs.{full_after}
 use Rattle.mcs_text.specs.declared.fault.LineFault.{LineFault}
-use Rattle.mcs_text.specs.Output.{Moves, Puts}
+use Rattle.mcs_text.specs.Output.{Moves, Puts, Rose, kept}
 use Rattle.mcs_text.specs.declared.sink.Sink.{Sink}
 use Rattle.mcs_sim.specs.declared.fault.SimFault.{SimFault}
 use Rattle.mcs_sim.specs.declared.fault.SimFault.TheVariants as fault
@@ -100,6 +100,14 @@ pub record Finishes (left left' out out' : Option (List ℕ)) : Type 0 where
 abbrev pub TellsMore : {W : Type 0} → (W → Option (List ℕ)) → (old new : Sink W) → (before after : Option Book) → Type 0
 TellsMore contents old new before after = (more : List ℕ) × (trace_of after ≡ trace_of before ++ more) × Puts contents old new more
 
+-- what the trace of a book has more than that of one before was written behind what a sink kept back
+abbrev pub WritesMore : {W : Type 0} → (W → Option (List ℕ)) → (old new : Sink W) → (before after : Option Book) → Type 0
+WritesMore contents old new before after = (more : List ℕ) × (trace_of after ≡ trace_of before ++ more) × Appends (contents old.writer) (contents new.writer) (kept old ++ more)
+
+-- a call of the writer of a sink failed for good, now or before
+abbrev pub HasFailed : {W : Type 0} → (old new : Sink W) → Type 0
+HasFailed old new = (old.is_broken ≡ true) ⊎ Rose old.failed new.failed
+
 -- the answer of a run with this fault, if it has one, unless its writing failed
 abbrev pub answer_with : Bool → Option SimFault → Result (Unit {0}) SimFault
 answer_with true f = Err fault.Write
@@ -122,11 +130,16 @@ pub record ReadsText (left left' : Option (List ℕ)) (text : List ℕ) : Type 0
   pub read : Consumes left left' text
   pub stops : StopsSoon text
 
+-- the trace of all lines of this text that have ended was written
+abbrev pub WritesLines : (old new : Option (List ℕ)) (text : List ℕ) → Type 0
+WritesLines old new text = Appends old new (trace_of (fed (at_line no_line) text).course.stands.book)
+
 -- what a run leaves that ended early: it read a text, and left what the text gives before the fault; a line's fault is what is wrong with
--- the text, whatever follows. After a fault of reading or writing, or a refusal of memory, a beginning of what the text gives was written
+-- the text, whatever follows. Where a read fails the trace of all lines before it was written, and that is a beginning of what the text
+-- gives; after a fault of writing, or a refusal of memory, a beginning of that was written
 abbrev pub Ends : SimFault → (left left' out out' : Option (List ℕ)) → Type 0
 Ends (fault.Script line why) left left' out out' = (text : List ℕ) × ReadsText left left' text × IsNamed left' text line why × Leaves (fault.Script line why) out out' text
-Ends fault.Read left left' out out' = (text : List ℕ) × ReadsText left left' text × Begins out out' (written text)
+Ends fault.Read left left' out out' = (text : List ℕ) × ReadsText left left' text × WritesLines out out' text × Begins out out' (written text)
 Ends e left left' out out' = (text : List ℕ) × ReadsText left left' text × Leaves e out out' text
 
 -- a run from a source to a sink was finished

@@ -19,7 +19,7 @@ pub use laws::{fed_as_read, fed_in_pieces, replayed_legal, too_long_stands};
 pub use mcs_cores::{Gate, Open};
 pub use mcs_options::{Options, options};
 pub use mcs_text::Sink;
-pub use replaying::simulate;
+pub use replaying::{TracedRun, simulate};
 pub use running::run_text;
 pub use source::{ReadFault, Source};
 pub use startup::{answer_status, arguments};

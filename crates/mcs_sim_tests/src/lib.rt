@@ -15,3 +15,5 @@ mod messages;
 mod runs;
 #[cfg(test)]
 mod streams;
+#[cfg(test)]
+mod waiting;

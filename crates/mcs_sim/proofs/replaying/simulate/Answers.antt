@@ -4,10 +4,10 @@ use Rattle.std.specs.Io.KnownBytes.{Consumes}
 use Rattle.std.proofs.KnownBytes.{Consumes-trans}
 use Rattle.std.proofs.lemmas.List.{length-take-le}
 use Rattle.mcs_text.specs.Output.{Rose}
-use Rattle.mcs_text.proofs.Outputs.{Puts-then, Puts-nil, Puts-text}
+use Rattle.mcs_text.proofs.Outputs.{Puts-nil, Puts-text}
 use Rattle.mcs_sim.specs.declared.fault.SimFault.{SimFault}
 use Rattle.mcs_sim.specs.declared.fault.SimFault.TheVariants as fault
-use Rattle.mcs_sim.specs.Trace.{trace_of, told_of}
+use Rattle.mcs_sim.specs.Trace.{trace_of}
 use Rattle.mcs_sim.specs.Runs.{Ends}
 use Rattle.mcs_sim.specs.Going.{Going, fed, TakesPiece}
 use Rattle.mcs_sim.proofs.RunLaws.{IfErr-same, Consumes-nil}
@@ -28,8 +28,9 @@ loop-n-init g c =
     record {
       reached = ([], Consumes-nil (g.R.Read.remaining c.args.from.now.reader) [] refl, begun);
       goes = ap (λ (g : Going). g.course.fault) begun;
-      told = record { is = c.nothing-told.ensures ∙ ap (λ (g : Going). told_of g.course.stands.book) (sym begun); fits = omega (arith, ap (λ t. t.sent) c.nothing-told.ensures) };
       puts = Puts-text _ _ _ _ _ (Puts-nil _ _) (ap (λ (g : Going). trace_of g.course.stands.book) (sym begun));
+      empty = c.start.ensures.fresh.0;
+      whole = c.start.ensures.fresh.1;
       count = omega arith;
     }
 
@@ -40,9 +41,11 @@ returns-in_default-read_piece-clause-err g c =
     let left' = g.R.Read.remaining c.read_piece.new.self.reader in
     let read : Consumes left left' i.reached.0 = subst (Consumes left left') (append-nil i.reached.0) (Consumes-trans _ _ _ _ _ i.reached.1 c.in_default-read_piece.ensures.err) in
     let trace = trace_of c.loop-n.run.course.stands.book in
-    let puts = Puts-text _ _ _ _ _ (Puts-then _ _ _ _ _ _ i.puts c.flush.ensures.puts) (append-nil trace) in
-    ends-read left left' (g.W.Write.contents c.args.to.now.writer) (g.W.Write.contents c.flush.new.self.writer) c.loop-n.run i.reached.0 puts.rest i.reached.2 i.goes read
-    (moves-out g.W.Write.contents c.args.to.now c.start.new.self c.flush.new.self trace c.start.ensures.same.0 c.start.ensures.fresh.0 puts)
+    let out = g.W.Write.contents c.args.to.now.writer in
+    let out' = g.W.Write.contents c.loop-n.to.writer in
+    ends-read left left' out out' c.loop-n.run i.reached.0 i.puts.rest i.reached.2 i.goes read
+    (moves-out g.W.Write.contents c.args.to.now c.start.new.self c.loop-n.to trace c.start.ensures.same.0 c.start.ensures.fresh.0 i.puts)
+    (appends-out g.W.Write.contents c.args.to.now c.start.new.self c.loop-n.to trace c.start.ensures.same.0 c.start.ensures.fresh.0 i.puts i.whole i.empty)
 
 pub returns-in_err-take_piece-clause-err : goal.returns-in_err-take_piece-clause-err
 returns-in_err-take_piece-clause-err g c =
@@ -54,25 +57,25 @@ returns-in_err-take_piece-clause-err g c =
     let count : length (take n p) ≡ n = length-take-le n p c.in-Ok-read_piece.ensures.ok in
     let read = Consumes-trans _ _ _ _ _ i.reached.1 c.in-Ok-read_piece.ensures.bytes in
     IfErr-same _ _ _ c.from_residual.ensures.1
-    (ends-piece g.W.Write.contents c.args.to.now c.start.new.self c.loop-n.to c.take_piece.new.to left left' c.loop-n.run i.reached.0 (take n p) c.take_piece.new.run c.in_err-take_piece.field-0.0
+    (ends-piece g.W.Write.contents c.args.to.now c.start.new.self c.loop-n.to c.take_piece.new.to left left' c.loop-n.run i.reached.0 (take n p) c.take_piece.new.self c.in_err-take_piece.field-0.0
     c.start.ensures.same.0 c.start.ensures.fresh.0 i.reached.2 i.goes (omega (arith, count, c.in-Ok-read_piece.ensures.ok, c.read_piece.auto.piece)) read
-    (λ none. c.in-Ok-read_piece.ensures.end (sym count ∙ ap (λ (l : List ℕ). length l) none)) c.take_piece.ensures.takes i.puts c.take_piece.ensures.puts c.take_piece.ensures.ended c.take_piece.ensures.fair
+    (λ none. c.in-Ok-read_piece.ensures.end (sym count ∙ ap (λ (l : List ℕ). length l) none)) c.take_piece.ensures.takes i.puts c.take_piece.ensures.puts c.take_piece.ensures.kept c.take_piece.ensures.fair
     (sym c.in_err-take_piece.was ∙ c.take_piece.ensures.answer))
 
 pub returns-in_err-take_piece-clause-read_failed : goal.returns-in_err-take_piece-clause-read_failed
 returns-in_err-take_piece-clause-read_failed g c = λ is.
     let i = c.loop-n.invariant in
     let same = subst (λ r. IsErrAnd r (λ x. x ≡ c.in_err-take_piece.field-0.0)) is c.from_residual.ensures.1 in
-    absurd (never-read c.take_piece.new.to.is_broken c.loop-n.run i.reached.0 (take c.in-Ok-read_piece.n c.read_piece.new.piece) c.take_piece.new.run i.reached.2 c.take_piece.ensures.takes
+    absurd (never-read c.take_piece.new.to.is_broken c.loop-n.run i.reached.0 (take c.in-Ok-read_piece.n c.read_piece.new.piece) c.take_piece.new.self i.reached.2 c.take_piece.ensures.takes
     (ap (λ (e : SimFault). Err e) same ∙ sym c.in_err-take_piece.was ∙ c.take_piece.ensures.answer))
 
 pub returns-in_err-take_piece-clause-write_failed : goal.returns-in_err-take_piece-clause-write_failed
 returns-in_err-take_piece-clause-write_failed g c = λ is.
     let i = c.loop-n.invariant in
     let same = subst (λ r. IsErrAnd r (λ x. x ≡ c.in_err-take_piece.field-0.0)) is c.from_residual.ensures.1 in
-    let broken = only-broken c.take_piece.new.to.is_broken c.loop-n.run i.reached.0 (take c.in-Ok-read_piece.n c.read_piece.new.piece) c.take_piece.new.run i.reached.2 c.take_piece.ensures.takes
+    let broken = only-broken c.take_piece.new.to.is_broken c.loop-n.run i.reached.0 (take c.in-Ok-read_piece.n c.read_piece.new.piece) c.take_piece.new.self i.reached.2 c.take_piece.ensures.takes
     (ap (λ (e : SimFault). Err e) same ∙ sym c.in_err-take_piece.was ∙ c.take_piece.ensures.answer) in
-    let all = tells-on g.W.Write.contents c.start.new.self c.loop-n.to c.take_piece.new.to c.loop-n.run.course.stands.book c.take_piece.new.run.course.stands.book i.puts c.take_piece.ensures.puts in
+    let all = tells-on g.W.Write.contents c.start.new.self c.loop-n.to c.take_piece.new.to c.loop-n.run.course.stands.book c.take_piece.new.self.course.stands.book i.puts c.take_piece.ensures.puts in
     subst (λ (n : ℕ). Rose n c.take_piece.new.to.failed) c.start.ensures.same.1 (all.rose c.start.ensures.fresh.1 broken)
 
 pub returns-then-n-eq0-clause-ok : goal.returns-then-n-eq0-clause-ok
@@ -84,14 +87,13 @@ returns-then-n-eq0-clause-ok g c =
     let left' = g.R.Read.remaining c.read_piece.new.self.reader in
     let none : n ≡ 0 = c.if-n-eq0.true in
     let nil : take n p ≡ [] = ap (λ (n : ℕ). take n p) none in
-    let takes = subst (λ (l : List ℕ). TakesPiece c.loop-n.run l c.take_piece.new.run) nil c.take_piece.ensures.takes in
+    let takes = subst (λ (l : List ℕ). TakesPiece c.loop-n.run l c.take_piece.new.self) nil c.take_piece.ensures.takes in
     let last : Consumes (g.R.Read.remaining c.loop-n.from.reader) left' [] = subst (Consumes _ _) nil c.in-Ok-read_piece.ensures.bytes in
     let read : Consumes left left' i.reached.0 = subst (Consumes left left') (append-nil i.reached.0) (Consumes-trans _ _ _ _ _ i.reached.1 last) in
-    let well = answer-well c.take_piece.new.to.is_broken c.take_piece.new.run.course.fault c.in_ok-take_piece.field-0 (sym c.in_ok-take_piece.was ∙ c.take_piece.ensures.answer) in
-    let all = tells-on g.W.Write.contents c.start.new.self c.loop-n.to c.take_piece.new.to c.loop-n.run.course.stands.book c.take_piece.new.run.course.stands.book i.puts c.take_piece.ensures.puts in
-    let kept = c.take_piece.ensures.short (omega (arith, ap (λ (l : List ℕ). length l) nil)) in
-    ends-well left left' (g.W.Write.contents c.args.to.now.writer) (g.W.Write.contents c.take_piece.new.to.writer) c.loop-n.run i.reached.0 c.take_piece.new.run i.reached.2 read (c.in-Ok-read_piece.ensures.end none) takes
-    (appends-out g.W.Write.contents c.args.to.now c.start.new.self c.take_piece.new.to (trace_of c.take_piece.new.run.course.stands.book) c.start.ensures.same.0 c.start.ensures.fresh.0 all well.0 kept) c.take_piece.ensures.fair well.1
+    let well = answer-well c.take_piece.new.to.is_broken c.take_piece.new.self.course.fault c.in_ok-take_piece.field-0 (sym c.in_ok-take_piece.was ∙ c.take_piece.ensures.answer) in
+    let all = tells-on g.W.Write.contents c.start.new.self c.loop-n.to c.take_piece.new.to c.loop-n.run.course.stands.book c.take_piece.new.self.course.stands.book i.puts c.take_piece.ensures.puts in
+    ends-well left left' (g.W.Write.contents c.args.to.now.writer) (g.W.Write.contents c.take_piece.new.to.writer) c.loop-n.run i.reached.0 c.take_piece.new.self i.reached.2 read (c.in-Ok-read_piece.ensures.end none) takes
+    (appends-out g.W.Write.contents c.args.to.now c.start.new.self c.take_piece.new.to (trace_of c.take_piece.new.self.course.stands.book) c.start.ensures.same.0 c.start.ensures.fresh.0 all well.0 c.take_piece.ensures.kept) c.take_piece.ensures.fair well.1
 
 pub loop-n-smaller : goal.loop-n-smaller
 loop-n-smaller g c =
@@ -99,8 +101,8 @@ loop-n-smaller g c =
     let n = c.in-Ok-read_piece.n in
     let p = c.read_piece.new.piece in
     let count : length (take n p) ≡ n = length-take-le n p c.in-Ok-read_piece.ensures.ok in
-    let well = answer-well c.take_piece.new.to.is_broken c.take_piece.new.run.course.fault c.in_ok-take_piece.field-0 (sym c.in_ok-take_piece.was ∙ c.take_piece.ensures.answer) in
-    let nearer = piece-nearer c.loop-n.run i.reached.0 (take n p) c.take_piece.new.run i.reached.2 i.goes (omega (arith, count)) c.take_piece.ensures.takes well.1 in
+    let well = answer-well c.take_piece.new.to.is_broken c.take_piece.new.self.course.fault c.in_ok-take_piece.field-0 (sym c.in_ok-take_piece.was ∙ c.take_piece.ensures.answer) in
+    let nearer = piece-nearer c.loop-n.run i.reached.0 (take n p) c.take_piece.new.self i.reached.2 i.goes (omega (arith, count)) c.take_piece.ensures.takes well.1 in
     omega (arith, nearer.0, nearer.1)
 
 pub loop-n-preserved : goal.loop-n-preserved
@@ -109,11 +111,12 @@ loop-n-preserved g c =
     let n = c.in-Ok-read_piece.n in
     let p = c.read_piece.new.piece in
     let count : length (take n p) ≡ n = length-take-le n p c.in-Ok-read_piece.ensures.ok in
-    let well = answer-well c.take_piece.new.to.is_broken c.take_piece.new.run.course.fault c.in_ok-take_piece.field-0 (sym c.in_ok-take_piece.was ∙ c.take_piece.ensures.answer) in
+    let well = answer-well c.take_piece.new.to.is_broken c.take_piece.new.self.course.fault c.in_ok-take_piece.field-0 (sym c.in_ok-take_piece.was ∙ c.take_piece.ensures.answer) in
     record {
-      reached = (i.reached.0 ++ take n p, Consumes-trans _ _ _ _ _ i.reached.1 c.in-Ok-read_piece.ensures.bytes, piece-on c.loop-n.run i.reached.0 (take n p) c.take_piece.new.run i.reached.2 (omega (arith, count)) c.take_piece.ensures.takes well.1);
+      reached = (i.reached.0 ++ take n p, Consumes-trans _ _ _ _ _ i.reached.1 c.in-Ok-read_piece.ensures.bytes, piece-on c.loop-n.run i.reached.0 (take n p) c.take_piece.new.self i.reached.2 (omega (arith, count)) c.take_piece.ensures.takes well.1);
       goes = well.1;
-      told = c.take_piece.ensures.tells;
-      puts = tells-on g.W.Write.contents c.start.new.self c.loop-n.to c.take_piece.new.to c.loop-n.run.course.stands.book c.take_piece.new.run.course.stands.book i.puts c.take_piece.ensures.puts;
+      puts = tells-on g.W.Write.contents c.start.new.self c.loop-n.to c.take_piece.new.to c.loop-n.run.course.stands.book c.take_piece.new.self.course.stands.book i.puts c.take_piece.ensures.puts;
+      empty = c.take_piece.ensures.kept;
+      whole = well.0;
       count = omega (arith, i.count, c.read_piece.ensures.count);
     }

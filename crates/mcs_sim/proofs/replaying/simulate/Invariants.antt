@@ -1,7 +1,7 @@
-use Rattle.std.proofs.Common.{◌≡◌, ◌+◌, ◌-◌, ◌*◌, ◌≤◌, ℕ, List, None, length}
+use Rattle.std.proofs.Common.{◌≡◌, ◌+◌, ◌-◌, ◌*◌, ◌≤◌, ℕ, false, List, [], None, length}
 use Rattle.std.specs.Io.KnownBytes.{Consumes}
-use Rattle.mcs_text.specs.Output.{Puts}
-use Rattle.mcs_sim.specs.Trace.{trace_of, IsToldBy}
+use Rattle.mcs_text.specs.Output.{Puts, kept}
+use Rattle.mcs_sim.specs.Trace.{trace_of}
 use Rattle.mcs_sim.specs.Going.{at_line, no_line, fed}
 use Rattle.mcs_sim.proofs.replaying.simulate.Given as goal
 
@@ -9,8 +9,9 @@ abbrev pub invariant-loop-n : goal.invariant-loop-n
 invariant-loop-n g l = record {
   reached : (text : List ℕ) × Consumes (g.R.Read.remaining l.initial.from.reader) (g.R.Read.remaining l.from.reader) text × (l.run ≡ fed (at_line no_line) text);
   goes : l.run.course.fault ≡ None;
-  told : IsToldBy l.told l.run.course.stands.book;
   puts : Puts g.W.Write.contents l.initial.to l.to (trace_of l.run.course.stands.book);
+  empty : kept l.to ≡ [];
+  whole : l.to.is_broken ≡ false;
   count : l.initial.from.failed ≤ l.from.failed;
 }
 

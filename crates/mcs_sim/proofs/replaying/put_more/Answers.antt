@@ -3,7 +3,7 @@ use Rattle.mcs_book.specs.History.{Book}
 use Rattle.mcs_sim.specs.Trace.{IsToldUpTo}
 use Rattle.mcs_sim.specs.Going.{book_lent}
 use Rattle.mcs_sim.proofs.GoingBooks.{told-of}
-use Rattle.mcs_sim.proofs.replaying.tell.Goals as goal
+use Rattle.mcs_sim.proofs.replaying.put_more.Goals as goal
 
 pub put_untold-requires : goal.put_untold-requires
 put_untold-requires g c =
