@@ -3,6 +3,8 @@ pub mod ScriptLaws
 pub mod InputLaws
 pub mod LongLaws
 pub mod RunLaws
+pub mod LineTexts
+pub mod LineLaws
 pub mod GoingLaws
 pub mod GoingScripts
 pub mod GoingBooks
@@ -12,4 +14,5 @@ pub mod Standings
 pub mod GoingWeights
 pub mod SimulateLaws
 pub mod TraceLaws
+pub mod UserLaws
 pub mod RunningLaws

@@ -4,6 +4,8 @@ pub mod BootLines
 pub mod Script
 pub mod Input
 pub mod Runs
+pub mod Lines
+pub mod Users
 pub mod Running
 pub mod Going
 pub mod Outcomes

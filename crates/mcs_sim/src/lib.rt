@@ -5,12 +5,14 @@ mod course;
 mod fault;
 mod feeding;
 mod laws;
+mod lines;
 mod replaying;
 mod running;
 mod script;
 mod source;
 mod standing;
 mod startup;
+mod users;
 mod writing;
 
 pub use fault::SimFault;

@@ -4,6 +4,7 @@ ghost use Rattle.mcs_text.specs.Reading.{Gives};
 ghost use Rattle.mcs_sim.specs.Script.{threads_of, read_line, of_steps};
 ghost use Rattle.mcs_sim.specs.Going.{ComesOf, begun_by, stepped, step_line, book_after, read_at, opened, after_line, after_end, book_lent, IsFairBook};
 
+use crate::course::Stands;
 use crate::fault::SimFault;
 use crate::script::{ReadFault, Script, make_ready, says_something};
 use mcs_book::Book;
@@ -217,11 +218,33 @@ impl Standing {
             Err(fault) => Err(fault),
         }
     }
+}
 
-    /// Ends the boot at the end of the input, where no step did. Fault Script with NoCores (1) and this number of a line where no
-    /// line said the number of cores.
+impl Stands for Standing {
+    ghost after_line = { after_line };
+
+    ghost after_end = { after_end };
+
+    ghost left = { left_standing };
+
+    ghost left_once = { λ x. refl };
+
+    /// Takes the line of this number. A fault leaves the book as it was.
+    fn take_line(&mut self, alloc: Global, number: u64, line: &[u8]) -> Result<(), SimFault>
+        ensures takes { ComesOf (λ u. self.new) result (after_line self.old number line.now) }
+        ensures unchanged { OnErr result (self.new.book ≡ self.old.book) }
+        ensures numbered { OnOk result (number ≤ SCRIPT_LINES) }
+    {
+        match &mut self.steps {
+            Some(steps) => steps.take_line(alloc, number, line),
+            None => self.open(alloc, number, line),
+        }
+    }
+
+    /// Ends the boot, where no step did. Fault Script with NoCores (1) and this number of a line where no line said the number of
+    /// cores.
     #[tactic(auto, unfolding(crate::specs::Going::after_end))]
-    pub fn end_boot(&mut self, alloc: Global, number: u64) -> Result<(), SimFault>
+    fn end(&mut self, alloc: Global, number: u64) -> Result<(), SimFault>
         ensures ends { ComesOf (λ u. self.new) result (after_end self.old number) }
         ensures memory { result ≡ Err SimFault.OutOfMemory → self.old.book ≡ None }
         ensures unchanged { OnErr result (self.new.book ≡ self.old.book) }
@@ -241,18 +264,6 @@ impl Standing {
                 Ok(())
             }
             Err(OutOfMemory) => Err(SimFault::OutOfMemory),
-        }
-    }
-
-    /// Takes the line of this number. A fault leaves the book as it was.
-    pub fn take_line(&mut self, alloc: Global, number: u64, line: &[u8]) -> Result<(), SimFault>
-        ensures takes { ComesOf (λ u. self.new) result (after_line self.old number line.now) }
-        ensures unchanged { OnErr result (self.new.book ≡ self.old.book) }
-        ensures numbered { OnOk result (number ≤ SCRIPT_LINES) }
-    {
-        match &mut self.steps {
-            Some(steps) => steps.take_line(alloc, number, line),
-            None => self.open(alloc, number, line),
         }
     }
 }
