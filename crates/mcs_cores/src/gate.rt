@@ -7,7 +7,7 @@ pub trait Gate: Sync {
     fn between(&self, core: CoreId, thread: ObjId);
 
     /// An entry of a core was let in as the line of this number.
-    fn answered(&self, core: CoreId, line: usize);
+    fn answered(&self, core: CoreId, line: u64);
 }
 
 /// A gate that lets all pass.
@@ -17,5 +17,5 @@ pub struct Open;
 impl Gate for Open {
     fn between(&self, _core: CoreId, _thread: ObjId) {}
 
-    fn answered(&self, _core: CoreId, _line: usize) {}
+    fn answered(&self, _core: CoreId, _line: u64) {}
 }

@@ -110,7 +110,7 @@ impl<G: Ledger, L: Lines, T: Gate> RunContext<'_, G, L, T> {
             Some(Err(turned)) => ends_run(turned),
             Some(Ok(answered)) => {
                 self.shared.changed.notify_all();
-                self.gate.answered(seat.core(), answered.line);
+                self.gate.answered(seat.core(), answered.line as u64);
                 Ok(())
             }
         }

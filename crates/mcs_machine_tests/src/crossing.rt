@@ -52,7 +52,7 @@ impl Gate for Crossing {
         }
     }
 
-    fn answered(&self, core: CoreId, _line: usize) {
+    fn answered(&self, core: CoreId, _line: u64) {
         if core == CoreId(1) {
             self.answered.fetch_add(1, Ordering::SeqCst);
         }

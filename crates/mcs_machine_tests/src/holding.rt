@@ -38,7 +38,7 @@ impl Gate for Holding {
         }
     }
 
-    fn answered(&self, core: CoreId, _line: usize) {
+    fn answered(&self, core: CoreId, _line: u64) {
         if core != self.core {
             self.answers_of_others.fetch_add(1, Ordering::SeqCst);
         }
