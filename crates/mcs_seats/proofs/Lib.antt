@@ -1,3 +1,4 @@
+pub mod Counting
 pub mod Cutting
 pub mod Notes
 pub mod Told

@@ -1,5 +1,6 @@
 -- What a seat keeps. Calls stand newest first.
 use Rattle.std.specs.Prelude.{ℕ, ◌≡◌, ◌+◌, ◌<◌, List, [], ◌∷◌, length, slice_index_or, Result, Ok, Err, Some, None, OnOk, OnErr, IfOk, IfErr}
+use Rattle.std.specs.List.{sum_by}
 use Rattle.mcs_types.specs.declared.id.CoreId.{CoreId}
 use Rattle.mcs_types.specs.declared.id.ObjId.{ObjId}
 use Rattle.mcs_types.specs.declared.entry.Entry.{Entry}
@@ -27,6 +28,10 @@ lines_told (Away n f) = 0
 abbrev pub told : List Call → ℕ
 told [] = 0
 told (c ∷ cs) = lines_told c.outcome + told cs
+
+-- how many lines these seats were told
+abbrev pub told_by : List Seat → ℕ
+told_by seats = sum_by (λ (s : Seat). told s.calls) seats
 
 -- a seat with one call more
 abbrev pub with_call : Seat → ObjId → Entry → Outcome → Seat

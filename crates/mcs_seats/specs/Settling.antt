@@ -115,6 +115,14 @@ abbrev pub told_of : List Call → List Note
 told_of [] = []
 told_of (x ∷ xs) = notes_told x x.outcome ++ told_of xs
 
+-- the entry and the answer of a note, as those of a line of this core
+abbrev pub entry_told : CoreId → Note → Step × Answer
+entry_told c n = (record { core = c; thread = n.thread; entry = n.entry }, n.answer)
+
+-- the entry and the answer of a line
+abbrev pub entry_of : Line → Step × Answer
+entry_of l = (l.step, l.answer)
+
 -- a seat was told its core's lines and no other, in order, with their numbers and answers, and was turned away rightly
 abbrev pub Agrees : Book → Seat → Type 0
 Agrees b s = AreRight b s.core (notes_of b s.core) 1 (reverse s.calls)

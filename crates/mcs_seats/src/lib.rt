@@ -1,6 +1,7 @@
 //! Seats: what each core of a machine was told, and whether that agrees with a book.
 #![tactic(auto)]
 
+mod audit;
 mod call;
 mod laws;
 mod prepared;
@@ -9,8 +10,9 @@ mod same;
 mod seat;
 mod settle;
 
+pub use audit::audit_seats;
 pub use call::{Answered, Call, Outcome, Turned};
-pub use laws::told_lines;
+pub use laws::{told_lines, told_of_core};
 pub use prepared::Prepared;
 pub use same::{is_same_answer, is_same_entry};
 pub use seat::CoreSeat;

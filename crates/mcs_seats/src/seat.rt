@@ -48,7 +48,7 @@ fn keep(calls: &mut Vec<Call>, thread: ObjId, entry: Entry, outcome: Outcome)
 }
 
 impl<G: Ledger> CoreSeat<G> {
-    ghost use Rattle.mcs_seats.specs.Seats.{Enters};
+    ghost use Rattle.mcs_seats.specs.Seats.{Enters, told};
 
     /// A seat with one part of the ledger.
     pub fn new(alloc: Global, core: CoreId, share: Share<G>) -> CoreSeat<G>
@@ -75,6 +75,19 @@ impl<G: Ledger> CoreSeat<G> {
         ensures { result.now ≡ reverse self.now.calls }
     {
         self.calls.as_slice()
+    }
+
+    /// Its share of the ledger, when the seat is gone.
+    pub(crate) fn into_share(self) -> Share<G>
+        ensures parts { result.parts ≡ 1 }
+        ensures amount { result.amount ≡ told self.calls }
+    {
+        let CoreSeat {
+            core: _,
+            calls: _,
+            share,
+        } = self;
+        share
     }
 
     /// Makes what a call of the seat needs before the kernel's lock is taken: room for the call, a copy of the entry, and for an

@@ -1,0 +1,24 @@
+//! What seats were told in all, by their ledger (own).
+ghost use Rattle.std.specs.Prelude.{◌≡◌, ◌≤◌, ◌+◌, length};
+ghost use Rattle.mcs_seats.specs.Seats.{told_by};
+
+use crate::seat::CoreSeat;
+use std::sync::ledger::{Book, Ledger, Share};
+
+/// Puts the shares of seats to what was kept of their ledger, and audits that: where no part is missing, the seats were told as
+/// many lines as the ledger counts.
+pub fn audit_seats<G: Ledger>(book: &mut Book<G>, kept: Share<G>, seats: Vec<CoreSeat<G>>)
+    requires { kept.amount ≡ 0 }
+    ensures parts { kept.parts + length seats.items ≤ G.parts }
+    ensures whole { kept.parts + length seats.items ≡ G.parts
+        → told_by seats.items ≡ book.old.total }
+{
+    let mut kept = kept;
+    // An empty share first, so that the parts are no more than there are, also without a seat.
+    let mut all = kept.empty();
+    all.merge(kept);
+    for seat in seats {
+        all.merge(seat.into_share());
+    }
+    book.audit(&mut all);
+}
