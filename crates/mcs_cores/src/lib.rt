@@ -11,6 +11,7 @@ pub use gate::{Gate, Open};
 pub use machine::{Machine, SeatsFault};
 pub use mcs_seats::{
     Answered, Call, CoreSeat, FinishFault, Outcome, Settled, Turned, settle_seats, told_lines,
+    told_of_core,
 };
 pub use run::RunFault;
 pub use users::Users;

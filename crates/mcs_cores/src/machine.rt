@@ -1,12 +1,14 @@
 //! The machine: a kernel under a lock, and the seats of its cores (own).
 ghost use Rattle.std.specs.Prelude.{◌≡◌, ◌≤◌, ◌+◌, [], length, IfOk, IfErr, OnErr, OnOk, IsTrue, ◌↔◌, ◌||◌, is_ok, false};
 ghost use Rattle.mcs_book.specs.History.{IsLegal};
-ghost use Rattle.mcs_seats.specs.Seats.{AreNew, Enters, noted};
-ghost use Rattle.mcs_seats.specs.Settling.{AllAgree, HasSeats, HasReason};
+ghost use Rattle.mcs_seats.specs.Seats.{AreNew, Enters, noted, told_by};
+ghost use Rattle.mcs_seats.specs.Settling.{AllAgree, AreCounted, Because, HasSeats, HasReason};
 
 use mcs_kernel::{Boot, Kernel};
 use mcs_queues::Lines;
-use mcs_seats::{Answered, CoreSeat, FinishFault, Prepared, Settled, Turned, settle_seats};
+use mcs_seats::{
+    Answered, CoreSeat, FinishFault, Prepared, Settled, Turned, audit_seats, settle_seats,
+};
 use mcs_types::{CORES, CoreId, Entry, ObjId, OutOfMemory};
 use std::alloc::Global;
 use std::marker::Model;
@@ -74,17 +76,31 @@ impl<G: Ledger, L: Lines> LockedKernel<G, L> {
         Ok(seats)
     }
 
-    /// The kernel, when the lock is gone.
-    fn into_kernel(self) -> Kernel<L>
-        ensures { result ≡ self }
+    /// Compares what the seats were told with the book, and audits the ledger with the shares of all.
+    fn settle(
+        self,
+        alloc: Global,
+        boot: &Boot,
+        seats: Vec<CoreSeat<G>>,
+    ) -> Result<Settled<L>, FinishFault>
+        ensures same { IfOk result (λ s. s ≡ self) }
+        ensures legal { IsLegal self }
+        ensures boot { IfOk result (λ s. s.boot ≡ boot.now) }
+        ensures seats { IfOk result (λ s. HasSeats s seats.items) }
+        ensures agree { IfOk result (λ s. AllAgree s seats.items) }
+        ensures counted { AreCounted self seats.items }
+        ensures fault { IfErr result (Because self boot.now seats.items) }
     {
         let LockedKernel {
             kernel,
-            book: _,
-            rest: _,
+            mut book,
+            rest,
             given: _,
         } = self;
-        kernel
+        kernel.is_fair();
+        let settled = settle_seats(alloc, kernel, boot, &seats);
+        audit_seats(&mut book, rest, seats);
+        settled
     }
 }
 
@@ -180,14 +196,14 @@ impl<G: Ledger, L: Lines> Machine<G, L> {
         self.kernel.lock(rt)
     }
 
-    /// The kernel that lay under the lock.
-    fn into_kernel(self) -> Kernel<L> {
+    /// What lay under the lock.
+    fn into_locked(self) -> LockedKernel<G, L> {
         let Machine {
             kernel,
             cores: _,
             given: _,
         } = self;
-        kernel.into_inner().into_kernel()
+        kernel.into_inner()
     }
 
     /// Lets in an entry of a thread on the seat's core, or turns it away; the seat keeps the entry and what became of it. It
@@ -210,7 +226,8 @@ impl<G: Ledger, L: Lines> Machine<G, L> {
     }
 
     /// Compares what the seats were told with the book, as settle_seats does, and hands the kernel back where all agree. No
-    /// clause can name the book that lay under the lock where it is not handed back: a fault is right for some legal book.
+    /// clause can name the book that lay under the lock where it is not handed back: a fault is right for some legal book. By
+    /// the ledger either book has as many lines after the boot as the seats were told, where no core lacks one.
     pub fn finish(
         self,
         alloc: Global,
@@ -221,10 +238,9 @@ impl<G: Ledger, L: Lines> Machine<G, L> {
         ensures boot { IfOk result (λ s. s.boot ≡ boot.now) }
         ensures seats { IfOk result (λ s. HasSeats s seats.items) }
         ensures agree { IfOk result (λ s. AllAgree s seats.items) }
+        ensures counted { IfOk result (λ s. told_by seats.items ≡ length s.lines) }
         ensures fault { IfErr result (HasReason boot.now seats.items) }
     {
-        let kernel = self.into_kernel();
-        kernel.is_fair();
-        settle_seats(alloc, kernel, boot, &seats)
+        self.into_locked().settle(alloc, boot, seats)
     }
 }

@@ -9,7 +9,7 @@ use Rattle.mcs_types.specs.declared.entry.Answer.{Answer}
 use Rattle.mcs_book.specs.Boots.{Boot}
 use Rattle.mcs_book.specs.History.{Book, Line, IsLegal}
 use Rattle.mcs_kernel.specs.Faults.{fault_of}
-use Rattle.mcs_seats.specs.Seats.{Seat}
+use Rattle.mcs_seats.specs.Seats.{Seat, told_by}
 use Rattle.mcs_seats.specs.declared.call.Outcome.{Outcome}
 use Rattle.mcs_seats.specs.declared.call.Outcome.TheVariants.{Told, Away}
 use Rattle.mcs_seats.specs.declared.call.Answered.{Answered}
@@ -139,6 +139,10 @@ AllAgree b seats = (i : ℕ) (d : Seat) → i < length seats → Agrees b (slice
 abbrev pub HasSeats : Book → List Seat → Type 0
 HasSeats b seats = (c : ℕ) → c < b.boot.cores → list_any (λ s. s.core.0 == c) seats ≡ true
 
+-- where no core lacks a seat, the seats were told as many lines as the book has after the boot
+abbrev pub AreCounted : Book → List Seat → Type 0
+AreCounted b seats = HasSeats b seats → told_by seats ≡ length b.lines
+
 -- a seat of this core whose n-th call does not agree
 pub record HasTorn (b : Book) (seats : List Seat) (c : CoreId) (n : ℕ) : Type 0 where
   pub place : ℕ
@@ -167,8 +171,9 @@ Because b boot seats OtherBoot = HasSeats b seats × (b.boot ≢ boot)
 Because b boot seats (Torn c n) = HasSeats b seats × (b.boot ≡ boot) × HasTorn b seats c n
 Because b boot seats OutOfMemory = Unit {0}
 
--- there is a legal book that these seats do not settle for this reason
+-- there is a legal book of as many lines as these seats were told, which they do not settle for this reason
 pub record HasReason (boot : Boot) (seats : List Seat) (f : FinishFault) : Type 0 where
   pub book : Book
   pub legal : IsLegal book
+  pub counted : AreCounted book seats
   pub because : Because book boot seats f
