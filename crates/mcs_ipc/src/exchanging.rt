@@ -18,7 +18,7 @@ fn send_and_receive<W: Waiting>(
     state: &mut State<W>,
     thread: ObjId,
     at: Exchange,
-    message: Copies,
+    message: Copies<'_>,
 ) -> Answer
     requires sending { IsSendingOver (so_far state.old) thread at.target }
     requires receiving { IsReceivingFrom (so_far state.old) thread at.source }
@@ -43,7 +43,7 @@ pub fn exchange<W: Waiting>(
     address: u64,
     source: u64,
     reply: Option<u64>,
-    message: Copies,
+    message: Copies<'_>,
 ) -> Answer
     requires entering { IsEntering (so_far state.old) thread }
     requires stand { OpenStand (so_far state.old) }

@@ -191,7 +191,7 @@ pub fn reply_receive<W: Waiting>(
     thread: ObjId,
     address: u64,
     reply: u64,
-    message: Copies,
+    message: Copies<'_>,
 ) -> Answer
     requires entering { IsEntering (so_far state.old) thread }
     requires stand { OpenStand (so_far state.old) }

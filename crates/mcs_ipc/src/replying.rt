@@ -9,7 +9,7 @@ use mcs_waiting::Waiting;
 
 /// Answers the caller that a reply object owes, if it owes one: the caller runs again. A reply object that tops a chain of
 /// calls returns the context of that chain (manual: Message Passing; own).
-pub fn pay<W: Waiting>(state: &mut State<W>, reply: ObjId, message: Copies)
+pub fn pay<W: Waiting>(state: &mut State<W>, reply: ObjId, message: Copies<'_>)
     requires { HasRoomFor (paid reply message) state.old }
     ensures { Makes (paid reply message) state.old state.new }
 {

@@ -48,7 +48,7 @@ fn send_alone<W: Waiting>(
     thread: ObjId,
     cap: Cap,
     mode: SendMode,
-    message: Copies,
+    message: Copies<'_>,
 ) -> Answer
     requires sending { IsSending (so_far state.old) thread cap.obj }
     requires few { length state.old.book.lines < BOOK_LINES }
@@ -67,7 +67,7 @@ fn send_to<W: Waiting>(
     thread: ObjId,
     cap: Cap,
     mode: SendMode,
-    message: Copies,
+    message: Copies<'_>,
     receiver: ObjId,
     blocks: bool,
 ) -> Answer
@@ -97,7 +97,7 @@ fn send_over<W: Waiting>(
     thread: ObjId,
     cap: Cap,
     mode: SendMode,
-    message: Copies,
+    message: Copies<'_>,
     blocks: bool,
 ) -> Answer
     requires sending { IsSending (so_far state.old) thread cap.obj }
@@ -113,7 +113,7 @@ fn send_over<W: Waiting>(
 }
 
 /// Pays a reply object: whom it owes is answered, if it owes anybody.
-fn send_reply<W: Waiting>(state: &mut State<W>, reply: ObjId, message: Copies) -> Answer
+fn send_reply<W: Waiting>(state: &mut State<W>, reply: ObjId, message: Copies<'_>) -> Answer
     requires { FitsAct (pay_act reply message) state.old }
     ensures { Acts (pay_act reply message) state.old result state.new }
 {
@@ -139,7 +139,7 @@ pub fn send_target<W: Waiting>(
     thread: ObjId,
     target: Target,
     mode: SendMode,
-    message: Copies,
+    message: Copies<'_>,
     blocks: bool,
 ) -> Answer
     requires sending { IsSendingOver (so_far state.old) thread target }
@@ -166,7 +166,7 @@ pub fn send<W: Waiting>(
     core: CoreId,
     thread: ObjId,
     address: u64,
-    message: Copies,
+    message: Copies<'_>,
     blocks: bool,
 ) -> Answer
     requires entering { IsEntering (so_far state.old) thread }
@@ -196,7 +196,7 @@ pub fn call<W: Waiting>(
     core: CoreId,
     thread: ObjId,
     address: u64,
-    message: Copies,
+    message: Copies<'_>,
 ) -> Answer
     requires entering { IsEntering (so_far state.old) thread }
     requires stand { OpenStand (so_far state.old) }

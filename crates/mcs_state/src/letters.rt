@@ -7,22 +7,22 @@ use mcs_threads::Threads;
 use mcs_types::{Letter, Mail, Message, ObjId};
 use std::marker::Model;
 
-/// An open message, with an equal one for the answer to who receives it. Clauses see the letter.
+/// An open message, with a spare one for the answer to who receives it. Clauses see the letter.
 #[derive(Drop)]
 pub struct OpenLetter {
     pub letter: Letter,
-    pub answer: Message,
+    pub answer: Option<Box<Message>>,
 }
 
 impl Model for OpenLetter {
-    ghost use Rattle.std.specs.Prelude.{◌≡◌};
     ghost use Rattle.mcs_types.specs.declared.record.Letter.{Letter};
+    ghost use Rattle.mcs_types.specs.Messages.{IsSpare};
 
     ghost Value = { Letter };
 
     ghost view = { λ o. o.letter };
 
-    ghost invariant = { λ o. o.answer ≡ o.letter.message };
+    ghost invariant = { λ o. IsSpare o.answer o.letter.message };
 }
 
 impl OpenLetter {
@@ -44,6 +44,7 @@ pub fn deliver(threads: &mut Threads, receiver: ObjId, letter: OpenLetter) -> Me
     ensures answer { result ≡ letter.message }
 {
     let OpenLetter { letter, answer } = letter;
+    let answer = letter.message.spared(answer);
     let mail = Mail::Message {
         badge: letter.badge,
         message: letter.message,

@@ -244,7 +244,7 @@ impl<W: Waiting> State<W> {
         endpoint: ObjId,
         mode: SendMode,
         badge: Badge,
-        message: Copies,
+        message: Copies<'_>,
     )
         requires allowed { Allowed (so_far self.old) (Rec.Sent sender endpoint mode badge message) }
         requires few { length self.old.book.lines < BOOK_LINES }
@@ -253,7 +253,8 @@ impl<W: Waiting> State<W> {
     {
         self.threads.are_few();
         let Copies {
-            record,
+            message,
+            noted,
             mail,
             answer,
         } = message;
@@ -264,7 +265,7 @@ impl<W: Waiting> State<W> {
                 endpoint,
                 mode,
                 badge,
-                message: mail,
+                message: message.spared(mail),
             },
             answer,
         };
@@ -275,7 +276,7 @@ impl<W: Waiting> State<W> {
                 endpoint,
                 mode,
                 badge,
-                message: record,
+                message: message.spared(noted),
             },
         );
         self.sent += 1;

@@ -63,14 +63,15 @@ impl<W: Waiting> State<W> {
 
     /// The caller that a reply object owes is answered. The answer is the context whose chain the reply object topped before, if
     /// it topped one (manual: Message Passing; chains are own).
-    pub fn paid(&mut self, reply: ObjId, caller: ObjId, message: Copies) -> Option<ObjId>
+    pub fn paid(&mut self, reply: ObjId, caller: ObjId, message: Copies<'_>) -> Option<ObjId>
         requires allowed { Allowed (so_far self.old) (Rec.Paid reply caller message) }
         requires room { length self.old.hand < HAND }
         ensures paid { self.new ≡ adds (Rec.Paid reply caller message) self.old }
         ensures topped { result ≡ topped_by (so_far self.old) reply }
     {
         let Copies {
-            record,
+            message,
+            noted,
             mail,
             answer: _,
         } = message;
@@ -79,10 +80,10 @@ impl<W: Waiting> State<W> {
             Rec::Paid {
                 reply,
                 caller,
-                message: record,
+                message: message.spared(noted),
             },
         );
-        answers(&mut self.threads, caller, mail);
+        answers(&mut self.threads, caller, message.spared(mail));
         topped(self.replies.pay(reply))
     }
 
