@@ -1,5 +1,7 @@
 //! The kernel.
 ghost use Rattle.std.specs.Prelude.{◌≡◌, ◌<◌, [], IfOk, OnOk, OnErr, IfSome, IfNone, length, Err, None};
+ghost use Rattle.mcs_types.specs.Brings.{message_of};
+ghost use Rattle.mcs_types.specs.Messages.{IsSpare};
 ghost use Rattle.mcs_book.specs.History.{IsLegal, log_of};
 ghost use Rattle.mcs_book.specs.Each.{EachRecord, EachLine, AfterEachLine};
 ghost use Rattle.mcs_book.specs.Fair.{EndsOpen, IsWholeLine, TakesFirst, TakesInOrder, TakesAlive, SendersAreOpen, AnswersOwed, AnswersWhole, NoneWaitBeside};
@@ -23,7 +25,7 @@ use mcs_notify::{bind, signal_at, unbind};
 use mcs_queues::Lines;
 use mcs_state::State;
 use mcs_types::{
-    Answer, BOOK_LINES, CORES, Copies, CoreId, Entry, Kind, ObjId, OutOfMemory, Status, Step,
+    Answer, BOOK_LINES, CORES, Copied, Copies, CoreId, Entry, Kind, ObjId, OutOfMemory, Status, Step,
 };
 use mcs_waiting::{ObjectQueues, Waiting};
 use std::alloc::Global;
@@ -46,36 +48,36 @@ impl<L: Lines> Model for Kernel<L> {
     ghost invariant = { λ k. IsResting k.state };
 }
 
-/// Does an entry of a thread that may enter. The copies of its message are made first; OutOfMemory where one is refused, and then
-/// nothing has changed.
+/// Does an entry of a thread that may enter. The copies of its message that take memory are made before, so it takes none.
+#[inline(always)]
 fn operate<W: Waiting>(
-    alloc: Global,
     state: &mut State<W>,
     core: CoreId,
     thread: ObjId,
     entry: &Entry,
-) -> Result<Answer, OutOfMemory>
+    long: Option<Box<Copied>>,
+) -> Answer
     requires core { core.0 < CORES }
+    requires copies { IfSome (message_of entry.now) (IsSpare long) }
     requires entering { IsEntering (so_far state.old) thread }
     requires stand { OpenStand (so_far state.old) }
     requires waiting { OnlyBoundWait (so_far state.old) }
     requires serials { HasSerials (so_far state.old) }
     requires few { length state.old.book.lines < BOOK_LINES }
     requires room { Fits state.old core thread entry.now }
-    ensures done { IfOk result (λ a. Does state.old core thread entry.now a state.new) }
-    ensures err { OnErr result (state.new ≡ state.old) }
+    ensures { Does state.old core thread entry.now result state.new }
 {
-    Ok(match entry {
+    match entry {
         Entry::Send { cap, message } => {
-            let copies = Copies::new(alloc, message)?;
+            let copies = Copies { message, long };
             send(state, core, thread, *cap, copies, true)
         }
         Entry::NbSend { cap, message } => {
-            let copies = Copies::new(alloc, message)?;
+            let copies = Copies { message, long };
             send(state, core, thread, *cap, copies, false)
         }
         Entry::Call { cap, message } => {
-            let copies = Copies::new(alloc, message)?;
+            let copies = Copies { message, long };
             call(state, core, thread, *cap, copies)
         }
         Entry::Recv { cap, reply } => receive(state, core, thread, *cap, Some(*reply), true),
@@ -87,7 +89,7 @@ fn operate<W: Waiting>(
             reply,
             message,
         } => {
-            let copies = Copies::new(alloc, message)?;
+            let copies = Copies { message, long };
             reply_receive(state, core, thread, *cap, *reply, copies)
         }
         Entry::NbSendRecv {
@@ -96,7 +98,7 @@ fn operate<W: Waiting>(
             reply,
             message,
         } => {
-            let copies = Copies::new(alloc, message)?;
+            let copies = Copies { message, long };
             exchange(state, core, thread, *cap, *source, Some(*reply), copies)
         }
         Entry::NbSendWait {
@@ -104,7 +106,7 @@ fn operate<W: Waiting>(
             source,
             message,
         } => {
-            let copies = Copies::new(alloc, message)?;
+            let copies = Copies { message, long };
             exchange(state, core, thread, *cap, *source, None, copies)
         }
         Entry::Signal { cap } => signal_at(state, core, thread, *cap),
@@ -143,7 +145,7 @@ fn operate<W: Waiting>(
         Entry::MakeNotification { place } => make(state, core, thread, Kind::Notification, *place),
         Entry::MakeReply { place } => make(state, core, thread, Kind::Reply, *place),
         Entry::MakeContext { place } => make(state, core, thread, Kind::Context, *place),
-    })
+    }
 }
 
 impl<L: Lines> Kernel<L> {
@@ -203,7 +205,8 @@ impl<L: Lines> Kernel<L> {
         }
     }
 
-    /// Does a step that is let in: its line is added. OutOfMemory where the room for it is refused.
+    /// Does a step that is let in: its line is added. OutOfMemory where the room for it, or a copy of its message, is refused; all
+    /// memory is taken before the first change.
     fn serve(&mut self, alloc: Global, step: &Step) -> Result<Answer, OutOfMemory>
         requires let_in { fault_of self.old step.now.core step.now.thread ≡ None }
         ensures line { OnOk result (self.new ≡ entered self.old step.now) }
@@ -212,9 +215,10 @@ impl<L: Lines> Kernel<L> {
         ensures err { OnErr result (self.new ≡ self.old) }
     {
         self.state.reserve()?;
+        let long = step.entry.copied(alloc)?;
         step.entry.is_in_range();
         self.state.is_sound();
-        let answer = operate(alloc, &mut self.state, step.core, step.thread, &step.entry)?;
+        let answer = operate(&mut self.state, step.core, step.thread, &step.entry, long);
         self.state.is_sound();
         self.state.close(step, &answer);
         Ok(answer)

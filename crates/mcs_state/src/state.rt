@@ -26,7 +26,7 @@ use mcs_replies::Replies;
 use mcs_slots::{SlotId, Slots};
 use mcs_threads::{Block, Threads};
 use mcs_types::{
-    Answer, BOOK_LINES, Badge, BootLine, Cap, Copies, Kind, LINE_RECORDS, Letter, Message, Mode,
+    Answer, BOOK_LINES, Badge, BootLine, Cap, Copied, Copies, Kind, LINE_RECORDS, Letter, Message, Mode,
     OBJECTS, ObjId, OutOfMemory, Prio, Queue, Rec, SendMode, Step, cap_again,
 };
 use mcs_waiting::Waiting;
@@ -252,12 +252,11 @@ impl<W: Waiting> State<W> {
         ensures { self.new ≡ adds (Rec.Sent sender endpoint mode badge message) self.old }
     {
         self.threads.are_few();
-        let Copies {
-            message,
+        let Copied {
             noted,
             mail,
             answer,
-        } = message;
+        } = message.made();
         let letter = OpenLetter {
             letter: Letter {
                 number: self.sent,
@@ -265,7 +264,7 @@ impl<W: Waiting> State<W> {
                 endpoint,
                 mode,
                 badge,
-                message: message.spared(mail),
+                message: mail,
             },
             answer,
         };
@@ -276,7 +275,7 @@ impl<W: Waiting> State<W> {
                 endpoint,
                 mode,
                 badge,
-                message: message.spared(noted),
+                message: noted,
             },
         );
         self.sent += 1;

@@ -1,5 +1,6 @@
 -- What entries and answers bring.
-use Rattle.std.specs.Prelude.{ℕ, Bool, true, false, List, []}
+use Rattle.std.specs.Prelude.{ℕ, Bool, true, false, List, [], Option, Some, None}
+use Rattle.mcs_types.specs.Views.{Content}
 use Rattle.mcs_types.specs.declared.entry.Entry.{Entry}
 use Rattle.mcs_types.specs.declared.entry.Entry.TheVariants.{Send, NbSend, Call, Recv, NbRecv, Wait, NbWait, ReplyRecv, NbSendRecv, NbSendWait}
 use Rattle.mcs_types.specs.declared.entry.Answer.{Answer}
@@ -14,6 +15,16 @@ entry_words (ReplyRecv cap reply message) = message.words
 entry_words (NbSendRecv cap source reply message) = message.words
 entry_words (NbSendWait cap source message) = message.words
 entry_words _ = []
+
+-- the message that an entry brings
+abbrev pub message_of : Entry → Option Content
+message_of (Send cap message) = Some message
+message_of (NbSend cap message) = Some message
+message_of (Call cap message) = Some message
+message_of (ReplyRecv cap reply message) = Some message
+message_of (NbSendRecv cap source reply message) = Some message
+message_of (NbSendWait cap source message) = Some message
+message_of _ = None
 
 -- whether it may be answered with a message
 abbrev pub receives : Entry → Bool

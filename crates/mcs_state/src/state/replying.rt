@@ -13,7 +13,7 @@ ghost use Rattle.mcs_state.specs.Tables.{HAND};
 use super::{State, note};
 use mcs_replies::{Ended, Replies};
 use mcs_threads::{Block, Threads};
-use mcs_types::{Badge, Copies, Ending, Mail, Message, ObjId, Rec};
+use mcs_types::{Badge, Copied, Copies, Ending, Mail, Message, ObjId, Rec};
 use mcs_waiting::Waiting;
 
 /// A reply object that may owe owes this caller from now on.
@@ -69,21 +69,20 @@ impl<W: Waiting> State<W> {
         ensures paid { self.new ≡ adds (Rec.Paid reply caller message) self.old }
         ensures topped { result ≡ topped_by (so_far self.old) reply }
     {
-        let Copies {
-            message,
+        let Copied {
             noted,
             mail,
             answer: _,
-        } = message;
+        } = message.made();
         note(
             &mut self.hand,
             Rec::Paid {
                 reply,
                 caller,
-                message: message.spared(noted),
+                message: noted,
             },
         );
-        answers(&mut self.threads, caller, message.spared(mail));
+        answers(&mut self.threads, caller, mail);
         topped(self.replies.pay(reply))
     }
 
