@@ -25,7 +25,7 @@ fn send_and_receive<W: Waiting>(
     requires waiting { OnlyBoundWait (so_far state.old) }
     requires few { length state.old.book.lines < BOOK_LINES }
     requires room { FitsAct (exchange_act message thread at) state.old }
-    ensures { Acts (exchange_act message thread at) state.old result state.new }
+    ensures { Acts (exchange_act message.entry thread at) state.old result state.new }
 {
     state.is_sound();
     send_target(state, thread, at.target, SendMode::Give, message, false);
@@ -50,7 +50,7 @@ pub fn exchange<W: Waiting>(
     requires waiting { OnlyBoundWait (so_far state.old) }
     requires few { length state.old.book.lines < BOOK_LINES }
     requires room { Fits state.old core thread (exchange_entry address source reply message) }
-    ensures { Does state.old core thread (exchange_entry address source reply message) result state.new }
+    ensures { Does state.old core thread (exchange_entry address source reply message.entry) result state.new }
 {
     state.is_sound();
     match ends_of_exchange(state, thread, address, source, reply) {

@@ -11,7 +11,7 @@ use mcs_waiting::Waiting;
 /// calls returns the context of that chain (manual: Message Passing; own).
 pub fn pay<W: Waiting>(state: &mut State<W>, reply: ObjId, message: Copies<'_>)
     requires { HasRoomFor (paid reply message) state.old }
-    ensures { Makes (paid reply message) state.old state.new }
+    ensures { Makes (paid reply message.entry) state.old state.new }
 {
     state.is_sound();
     match state.owed(reply) {

@@ -54,7 +54,7 @@ fn send_alone<W: Waiting>(
     requires few { length state.old.book.lines < BOOK_LINES }
     requires none { first_in (so_far state.old) (Queue.Receivers cap.obj) ≡ None }
     requires room { FitsAct (send_act true mode thread cap message) state.old }
-    ensures { Acts (send_act true mode thread cap message) state.old result state.new }
+    ensures { Acts (send_act true mode thread cap message.entry) state.old result state.new }
 {
     state.sends(thread, cap.obj, mode, cap.badge, message);
     state.joins(thread, Queue::Senders(cap.obj), None);
@@ -75,7 +75,7 @@ fn send_to<W: Waiting>(
     requires few { length state.old.book.lines < BOOK_LINES }
     requires first { first_in (so_far state.old) (Queue.Receivers cap.obj) ≡ Some receiver }
     requires room { FitsAct (send_act blocks mode thread cap message) state.old }
-    ensures { Acts (send_act blocks mode thread cap message) state.old result state.new }
+    ensures { Acts (send_act blocks mode thread cap message.entry) state.old result state.new }
 {
     state.is_sound();
     let number = state.next_message();
@@ -103,7 +103,7 @@ fn send_over<W: Waiting>(
     requires sending { IsSending (so_far state.old) thread cap.obj }
     requires few { length state.old.book.lines < BOOK_LINES }
     requires room { FitsAct (send_act blocks mode thread cap message) state.old }
-    ensures { Acts (send_act blocks mode thread cap message) state.old result state.new }
+    ensures { Acts (send_act blocks mode thread cap message.entry) state.old result state.new }
 {
     match state.first(Queue::Receivers(cap.obj)) {
         Some(receiver) => send_to(state, thread, cap, mode, message, receiver, blocks),
@@ -115,7 +115,7 @@ fn send_over<W: Waiting>(
 /// Pays a reply object: whom it owes is answered, if it owes anybody.
 fn send_reply<W: Waiting>(state: &mut State<W>, reply: ObjId, message: Copies<'_>) -> Answer
     requires { FitsAct (pay_act reply message) state.old }
-    ensures { Acts (pay_act reply message) state.old result state.new }
+    ensures { Acts (pay_act reply message.entry) state.old result state.new }
 {
     pay(state, reply, message);
     Answer::Done
@@ -146,7 +146,7 @@ pub fn send_target<W: Waiting>(
     requires waiting { OnlyBoundWait (so_far state.old) }
     requires few { length state.old.book.lines < BOOK_LINES }
     requires room { FitsAct (target_act blocks mode thread message target) state.old }
-    ensures { Acts (target_act blocks mode thread message target) state.old result state.new }
+    ensures { Acts (target_act blocks mode thread message.entry target) state.old result state.new }
 {
     match target {
         Target::Endpoint(cap) => send_over(state, thread, cap, mode, message, blocks),
@@ -174,7 +174,7 @@ pub fn send<W: Waiting>(
     requires waiting { OnlyBoundWait (so_far state.old) }
     requires few { length state.old.book.lines < BOOK_LINES }
     requires room { Fits state.old core thread (send_entry blocks address message) }
-    ensures { Does state.old core thread (send_entry blocks address message) result state.new }
+    ensures { Does state.old core thread (send_entry blocks address message.entry) result state.new }
 {
     state.is_sound();
     match target_to_send(state, thread, address) {
@@ -202,7 +202,7 @@ pub fn call<W: Waiting>(
     requires stand { OpenStand (so_far state.old) }
     requires few { length state.old.book.lines < BOOK_LINES }
     requires room { Fits state.old core thread (Entry.Call address message) }
-    ensures { Does state.old core thread (Entry.Call address message) result state.new }
+    ensures { Does state.old core thread (Entry.Call address message.entry) result state.new }
 {
     state.is_sound();
     match cap_to_call(state, thread, address) {

@@ -249,7 +249,7 @@ impl<W: Waiting> State<W> {
         requires allowed { Allowed (so_far self.old) (Rec.Sent sender endpoint mode badge message) }
         requires few { length self.old.book.lines < BOOK_LINES }
         requires room { length self.old.hand < HAND }
-        ensures { self.new ≡ adds (Rec.Sent sender endpoint mode badge message) self.old }
+        ensures { self.new ≡ adds (Rec.Sent sender endpoint mode badge message.entry) self.old }
     {
         self.threads.are_few();
         let Copied {

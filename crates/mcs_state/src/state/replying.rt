@@ -66,7 +66,7 @@ impl<W: Waiting> State<W> {
     pub fn paid(&mut self, reply: ObjId, caller: ObjId, message: Copies<'_>) -> Option<ObjId>
         requires allowed { Allowed (so_far self.old) (Rec.Paid reply caller message) }
         requires room { length self.old.hand < HAND }
-        ensures paid { self.new ≡ adds (Rec.Paid reply caller message) self.old }
+        ensures paid { self.new ≡ adds (Rec.Paid reply caller message.entry) self.old }
         ensures topped { result ≡ topped_by (so_far self.old) reply }
     {
         let Copied {
