@@ -3,7 +3,7 @@ use Rattle.std.proofs.Common.{◌≡◌, ℕ, zero, suc, ◌+◌, ◌-◌, ◌*�
 use lib.Ieee.Fits.{and_l, and_r}
 use Rattle.std.specs.Fmt.{decimal}
 use Rattle.itoa.proofs.Decimal.{decimal_four}
-use Rattle.mcs_text.specs.declared.spelling.TheConstants.{PAIRS}
+use Rattle.mcs_trace.specs.declared.numbers.TheConstants.{PAIRS}
 use Rattle.mcs_text.specs.Spelling.{eight}
 
 -- the table has the two digits of each number below p
