@@ -119,6 +119,24 @@ impl Line {
         self.four(n % 10_000);
     }
 
+    /// A number of nine digits or more. It is never a part of `long`, which saves no registers for it so.
+    #[inline(never)]
+    fn huge(&mut self, n: u64)
+        requires large { 100000000 ≤ n }
+        requires room { HasRoom self.old NUMBER }
+        ensures { Adds self.old self.new NUMBER (decimal n) }
+    {
+        if n < 10_000_000_000_000_000 {
+            self.middle(n / 100_000_000);
+            self.eight(n % 100_000_000);
+            return;
+        }
+        let high = n / 100_000_000;
+        self.short(high / 100_000_000);
+        self.eight(high % 100_000_000);
+        self.eight(n % 100_000_000);
+    }
+
     /// A number of 100 or more. It is a function of its own, as most numbers of a trace are smaller.
     fn long(&mut self, n: u64)
         requires { HasRoom self.old NUMBER }
@@ -126,14 +144,8 @@ impl Line {
     {
         if n < 100_000_000 {
             self.middle(n);
-        } else if n < 10_000_000_000_000_000 {
-            self.middle(n / 100_000_000);
-            self.eight(n % 100_000_000);
         } else {
-            let high = n / 100_000_000;
-            self.short(high / 100_000_000);
-            self.eight(high % 100_000_000);
-            self.eight(n % 100_000_000);
+            self.huge(n);
         }
     }
 
