@@ -2,9 +2,9 @@
 use Rattle.std.proofs.Common.{◌≡◌, ◌⊎◌, ℕ, ◌<◌, ◌≤◌, inl, inr, Bool, true, false, Option, Some, None, Ok, Err, List, [], ◌∷◌, ◌++◌, length, refl, sym, ap, subst, ◌∙◌, append-nil, arith}
 use Rattle.std.specs.Io.KnownBytes.{Appends, Consumes, IsAtEnd}
 use Rattle.mcs_book.specs.History.{Book}
-use Rattle.mcs_text.specs.declared.sink.Sink.{Sink}
-use Rattle.mcs_text.specs.Output.{Moves, Puts, kept}
-use Rattle.mcs_text.proofs.Outputs.{Puts-then, Puts-text}
+use Rattle.mcs_trace.specs.declared.sink.Sink.{Sink}
+use Rattle.mcs_trace.specs.Output.{Moves, Puts, kept}
+use Rattle.mcs_trace.proofs.Outputs.{Puts-then, Puts-text}
 use Rattle.mcs_sim.specs.declared.fault.SimFault.{SimFault}
 use Rattle.mcs_sim.specs.declared.fault.SimFault.TheVariants as fault
 use Rattle.mcs_sim.specs.declared.writing.Told.{Told}

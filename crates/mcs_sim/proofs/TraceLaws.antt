@@ -7,10 +7,10 @@ use Rattle.mcs_types.specs.declared.record.Rec.{Rec}
 use Rattle.mcs_types.specs.declared.record.Rec.TheVariants.{Sent}
 use Rattle.mcs_book.specs.History.{Book, Line, line_of_number}
 use Rattle.mcs_packing.specs.Kept.{is_sent}
-use Rattle.mcs_text.specs.declared.sink.Sink.{Sink}
-use Rattle.mcs_text.specs.Output.{Puts}
+use Rattle.mcs_trace.specs.declared.sink.Sink.{Sink}
+use Rattle.mcs_trace.specs.Output.{Puts}
 use Rattle.mcs_text.specs.Table.{record_text}
-use Rattle.mcs_text.proofs.Outputs.{Puts-nil, Puts-then, Puts-text}
+use Rattle.mcs_trace.proofs.Outputs.{Puts-nil, Puts-then, Puts-text}
 use Rattle.mcs_sim.specs.Trace.{sent_with, sent_after, sent_in, records_trace, line_trace, lines_trace}
 
 -- nothing was put

@@ -6,7 +6,7 @@ use Rattle.mcs_book.specs.History.{Book, IsLegal}
 use Rattle.mcs_book.specs.Fair.{IsFair}
 use Rattle.mcs_text.specs.declared.fault.LineFault.{LineFault}
 use Rattle.mcs_text.specs.declared.steps.UserEntry.{UserEntry}
-use Rattle.mcs_text.specs.declared.sink.Sink.{Sink}
+use Rattle.mcs_trace.specs.declared.sink.Sink.{Sink}
 use Rattle.mcs_cores.specs.declared.run.RunFault.{RunFault}
 use Rattle.mcs_cores.specs.declared.run.RunFault.TheVariants as run
 use Rattle.mcs_seats.specs.declared.settle.FinishFault.{FinishFault}

@@ -7,8 +7,8 @@ use Rattle.mcs_book.specs.History.{Book, book_of, IsLegal}
 use Rattle.mcs_book.specs.Fair.{IsFair}
 use Rattle.mcs_kernel.specs.Runs.{full_after}
 use Rattle.mcs_text.specs.declared.fault.LineFault.{LineFault}
-use Rattle.mcs_text.specs.Output.{Moves, Puts, Rose, kept}
-use Rattle.mcs_text.specs.declared.sink.Sink.{Sink}
+use Rattle.mcs_trace.specs.Output.{Moves, Puts, Rose, kept}
+use Rattle.mcs_trace.specs.declared.sink.Sink.{Sink}
 use Rattle.mcs_sim.specs.declared.fault.SimFault.{SimFault}
 use Rattle.mcs_sim.specs.declared.fault.SimFault.TheVariants as fault
 use Rattle.mcs_sim.specs.Trace.{trace, trace_of}

@@ -18,7 +18,7 @@ pub use feeding::ReplayRun;
 pub use laws::{fed_as_read, fed_in_pieces, replayed_legal, too_long_stands};
 pub use mcs_cores::{Gate, Open};
 pub use mcs_options::{Options, options};
-pub use mcs_text::Sink;
+pub use mcs_trace::Sink;
 pub use replaying::{TracedRun, simulate};
 pub use running::run_text;
 pub use source::{ReadFault, Source};

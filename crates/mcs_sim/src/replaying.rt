@@ -1,6 +1,6 @@
 //! A script of steps, from bytes to bytes.
 ghost use Rattle.std.specs.Prelude.{◌≡◌, ◌⊎◌, ◌<◌, ◌≤◌, [], IfOk, IfErr, OnOk, Err};
-ghost use Rattle.mcs_text.specs.Output.{Rose, Puts, kept};
+ghost use Rattle.mcs_trace.specs.Output.{Rose, Puts, kept};
 ghost use Rattle.mcs_sim.specs.Trace.{IsToldBy, IsToldUpTo, untold_of};
 ghost use Rattle.mcs_sim.specs.Going.{TakesPiece, IsFairBook, no_line, at_line};
 ghost use Rattle.mcs_sim.specs.Runs.{Finished, EndedBy, TellsMore, WritesMore, HasFailed, answer_with};
@@ -9,7 +9,7 @@ use crate::fault::SimFault;
 use crate::feeding::ReplayRun;
 use crate::source::Source;
 use crate::writing::{Told, put_untold};
-use mcs_text::Sink;
+use mcs_trace::Sink;
 use mcs_types::OutOfMemory;
 use std::alloc::Global;
 use std::io::{Read, Write};

@@ -1,7 +1,7 @@
 //! A script of users, from bytes to bytes: they run on a machine, and the trace of its book is written.
 ghost use Rattle.std.specs.Prelude.{◌≡◌, ◌≤◌, IfOk, IfErr, OnOk, Err};
 ghost use Rattle.mcs_book.specs.History.{IsLegal};
-ghost use Rattle.mcs_text.specs.Output.{Rose};
+ghost use Rattle.mcs_trace.specs.Output.{Rose};
 ghost use Rattle.mcs_sim.specs.Running.{Reads, EndsUsers, IsOfMachine, IsBookOf, RunFinished, RunEndedBy, run_fault, finish_fault};
 
 use crate::fault::SimFault;
@@ -11,7 +11,8 @@ use crate::writing::trace;
 use mcs_cores::{FinishFault, Gate, Machine, RunFault, Settled, Users};
 use mcs_kernel::{Boot, Kernel};
 use mcs_queues::LinkedLines;
-use mcs_text::{Sink, UserEntry};
+use mcs_text::UserEntry;
+use mcs_trace::Sink;
 use mcs_types::{CORES, OutOfMemory};
 use std::alloc::{AllocGlobal, Global};
 use std::io::{Read, Write};

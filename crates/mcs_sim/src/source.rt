@@ -1,7 +1,7 @@
 //! Reading from any reader.
 ghost use Rattle.std.specs.Prelude.{◌≡◌, ◌+◌, ◌^◌, ◌<◌, ◌≤◌, length, take, [], IfOk, OnErr, Err};
 ghost use Rattle.std.specs.Io.KnownBytes.{Consumes, Keeps, IsAtEnd};
-ghost use Rattle.mcs_text.specs.Output.{Rose};
+ghost use Rattle.mcs_trace.specs.Output.{Rose};
 
 use mcs_types::{RETRIES, SCRIPT_LINE_BYTES, SCRIPT_LINES};
 use std::alloc::{AllocError, Global};

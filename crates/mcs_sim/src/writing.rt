@@ -1,14 +1,13 @@
 //! The trace of a book.
 ghost use Rattle.std.specs.Prelude.{◌≡◌, ◌+◌, ◌-◌, ◌*◌, ◌^◌, ◌<◌, ◌≤◌, OnOk, OnErr, length, Err, None};
-ghost use Rattle.mcs_text.specs.Output.{Puts, Rose};
+ghost use Rattle.mcs_trace.specs.Output.{Puts, Rose};
 ghost use Rattle.mcs_sim.specs.Trace.{sent_with, sent_after, sent_in, boot_lines_trace, records_trace, line_trace, lines_trace, trace, untold_lines, untold_boot, untold, all_told, told_of, IsToldOf};
 ghost use Rattle.mcs_sim.specs.Runs.{Writes, WritesPart};
 
 use crate::fault::SimFault;
 use mcs_book::{Book, Line};
 use mcs_packing::KeptRecord;
-use mcs_text::{Sink, put_boot_line, put_cores};
-use mcs_trace::{put_kept_answer, put_kept_record, put_kept_step};
+use mcs_trace::{Sink, put_boot_line, put_cores, put_kept_answer, put_kept_record, put_kept_step};
 use mcs_types::BootLine;
 use std::io::Write;
 

@@ -1,8 +1,18 @@
-//! The lines of a trace, from what the book keeps: nothing is unpacked on the way.
+//! The lines of a trace, written into a sink. Those of steps, answers and records come from what the book keeps: nothing is
+//! unpacked on the way.
 #![tactic(auto)]
 
-mod pieces;
+mod boot;
+mod entries;
+mod facts;
+mod line;
+mod numbers;
+mod put;
 mod records;
+mod rooms;
+mod sink;
 mod steps;
+mod words;
 
-pub use pieces::{put_kept_answer, put_kept_record, put_kept_step};
+pub use put::{put_boot_line, put_cores, put_kept_answer, put_kept_record, put_kept_step};
+pub use sink::{Sink, WriteFault};

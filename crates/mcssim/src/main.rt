@@ -13,9 +13,6 @@ use std::process::ExitCode;
 use std::sync::Wait;
 use std::thread::Threads;
 
-/// How many bytes are kept back, so that not each line is a write of its own.
-const KEPT: usize = 65_536;
-
 fn tell(rt: &HostRuntime, fault: SimFault) -> ExitCode {
     let _ = rt.eprintln(fault);
     ExitCode::from(fault.status())
@@ -34,8 +31,9 @@ fn carry_out<R: AllocGlobal + Input + Print + Threads + Wait + Sync>(
     asked: Options,
 ) -> Result<(), SimFault> {
     let mut source = Source::new(rt.reader());
-    let mut sink = Sink::new(rt.alloc(), io::writer(rt));
-    sink.reserve(KEPT).map_err(|_| SimFault::OutOfMemory)?;
+    let Ok(mut sink) = Sink::new(rt.alloc(), io::writer(rt)) else {
+        return Err(SimFault::OutOfMemory);
+    };
     match asked {
         Options::Replay => simulate(rt.alloc(), &mut source, &mut sink),
         Options::Run { cores } => run_text(rt, &mut source, &mut sink, cores, &Open),

@@ -3,8 +3,8 @@ use Rattle.std.specs.Prelude.{IsErrAnd}
 use Rattle.std.specs.Io.KnownBytes.{Consumes}
 use Rattle.std.proofs.KnownBytes.{Consumes-trans}
 use Rattle.std.proofs.lemmas.List.{length-take-le}
-use Rattle.mcs_text.specs.Output.{Rose}
-use Rattle.mcs_text.proofs.Outputs.{Puts-nil, Puts-text}
+use Rattle.mcs_trace.specs.Output.{Rose}
+use Rattle.mcs_trace.proofs.Outputs.{Puts-nil, Puts-text}
 use Rattle.mcs_sim.specs.declared.fault.SimFault.{SimFault}
 use Rattle.mcs_sim.specs.declared.fault.SimFault.TheVariants as fault
 use Rattle.mcs_sim.specs.Trace.{trace_of}

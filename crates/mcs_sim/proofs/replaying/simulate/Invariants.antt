@@ -1,6 +1,6 @@
 use Rattle.std.proofs.Common.{◌≡◌, ◌+◌, ◌-◌, ◌*◌, ◌≤◌, ℕ, false, List, [], None, length}
 use Rattle.std.specs.Io.KnownBytes.{Consumes}
-use Rattle.mcs_text.specs.Output.{Puts, kept}
+use Rattle.mcs_trace.specs.Output.{Puts, kept}
 use Rattle.mcs_sim.specs.Trace.{trace_of}
 use Rattle.mcs_sim.specs.Going.{at_line, no_line, fed}
 use Rattle.mcs_sim.proofs.replaying.simulate.Given as goal

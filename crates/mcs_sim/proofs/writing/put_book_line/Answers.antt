@@ -1,6 +1,6 @@
 use Rattle.std.proofs.Common.{ap}
 use Rattle.mcs_text.specs.Table.{step_text, answer_text}
-use Rattle.mcs_text.proofs.Outputs.{Puts-then, Puts-text}
+use Rattle.mcs_trace.proofs.Outputs.{Puts-then, Puts-text}
 use Rattle.mcs_sim.proofs.writing.put_book_line.Goals as goal
 
 pub returns-clause-puts : goal.returns-clause-puts

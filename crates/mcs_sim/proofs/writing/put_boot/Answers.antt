@@ -1,4 +1,4 @@
-use Rattle.mcs_text.proofs.Outputs.{Puts-then, Puts-nil}
+use Rattle.mcs_trace.proofs.Outputs.{Puts-then, Puts-nil}
 use Rattle.mcs_text.proofs.Pieces.{flat_map-take}
 use Rattle.mcs_sim.proofs.writing.put_boot.Goals as goal
 

@@ -1,6 +1,6 @@
 use Rattle.std.proofs.Common.{take}
 use Rattle.std.specs.List.{flat_map}
-use Rattle.mcs_text.specs.Output.{Puts}
+use Rattle.mcs_trace.specs.Output.{Puts}
 use Rattle.mcs_text.specs.Table.{boot_text}
 use Rattle.mcs_sim.proofs.writing.put_boot.Given as goal
 

@@ -1,5 +1,5 @@
 use Rattle.std.proofs.Common.{◌≡◌, ◌-◌, take, reverse, refl, sym, ◌∙◌, arith}
-use Rattle.mcs_text.proofs.Outputs.{Puts-then, Puts-nil, Puts-text}
+use Rattle.mcs_trace.proofs.Outputs.{Puts-then, Puts-nil, Puts-text}
 use Rattle.mcs_sim.specs.Trace.{untold_lines}
 use Rattle.mcs_sim.proofs.GoingBooks.{lines-next}
 use Rattle.mcs_sim.proofs.TraceLaws.{line-past, lines_trace-next, sent_in-next}

@@ -1,5 +1,5 @@
 use Rattle.std.proofs.Common.{◌≡◌, ◌-◌, ◌*◌, ◌≤◌, take}
-use Rattle.mcs_text.specs.Output.{Puts}
+use Rattle.mcs_trace.specs.Output.{Puts}
 use Rattle.mcs_sim.specs.Trace.{sent_in, lines_trace, untold_lines}
 use Rattle.mcs_sim.proofs.writing.put_lines.Given as goal
 

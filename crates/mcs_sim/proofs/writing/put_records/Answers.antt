@@ -1,5 +1,5 @@
 use Rattle.std.proofs.Common.{◌<◌, length, refl, sym, ◌∙◌, arith}
-use Rattle.mcs_text.proofs.Outputs.{Puts-then, Puts-nil, Puts-text}
+use Rattle.mcs_trace.proofs.Outputs.{Puts-then, Puts-nil, Puts-text}
 use Rattle.mcs_sim.proofs.TraceLaws.{none-past, get_or-at, sent_with-le, records_trace-next, sent_after-next}
 use Rattle.mcs_sim.proofs.writing.put_records.Goals as goal
 

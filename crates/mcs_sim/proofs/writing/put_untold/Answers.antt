@@ -1,4 +1,4 @@
-use Rattle.mcs_text.proofs.Outputs.{Puts-then}
+use Rattle.mcs_trace.proofs.Outputs.{Puts-then}
 use Rattle.mcs_sim.specs.Trace.{untold}
 use Rattle.mcs_sim.proofs.writing.put_untold.Goals as goal
 

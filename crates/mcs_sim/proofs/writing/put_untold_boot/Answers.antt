@@ -1,7 +1,7 @@
 use Rattle.std.proofs.Common.{◌≡◌, true, false, [], ◌++◌, if◌then◌else◌, eqb, reverse, Bool, ap, sym, ◌∙◌}
 use Rattle.std.proofs.lemmas.Bool.{ne_eqb}
 use Rattle.mcs_text.specs.Table.{cores_text}
-use Rattle.mcs_text.proofs.Outputs.{Puts-then, Puts-nil, Puts-text}
+use Rattle.mcs_trace.proofs.Outputs.{Puts-then, Puts-nil, Puts-text}
 use Rattle.mcs_sim.specs.Trace.{boot_lines_trace}
 use Rattle.mcs_sim.proofs.writing.put_untold_boot.Goals as goal
 

@@ -1,5 +1,5 @@
 use Rattle.std.proofs.Common.{sym, ◌∙◌}
-use Rattle.mcs_text.proofs.Outputs.{Puts-text, ends}
+use Rattle.mcs_trace.proofs.Outputs.{Puts-text, ends}
 use Rattle.mcs_sim.proofs.GoingBooks.{untold-all}
 use Rattle.mcs_sim.proofs.writing.trace.Goals as goal
 

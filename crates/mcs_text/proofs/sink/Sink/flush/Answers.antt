@@ -1,6 +1,0 @@
-use Rattle.std.proofs.Common.{refl}
-use Rattle.mcs_text.proofs.Outputs.{Puts-lost}
-use Rattle.mcs_text.proofs.sink.Sink.flush.Goals as goal
-
-pub returns-then-self-clause-puts : goal.returns-then-self-clause-puts
-returns-then-self-clause-puts g c = Puts-lost _ _ _ _ refl refl c.if-self.true c.if-self.true

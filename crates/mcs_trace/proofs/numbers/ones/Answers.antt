@@ -1,0 +1,5 @@
+use Rattle.mcs_trace.proofs.Digits.{pair-at}
+use Rattle.mcs_trace.proofs.numbers.ones.Goals as goal
+
+pub returns : goal.returns
+returns c = (pair-at c.args.n c.requires).1

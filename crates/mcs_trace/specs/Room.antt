@@ -1,0 +1,11 @@
+-- What stands on a line, and the room behind it.
+use Rattle.std.specs.Prelude.{◌≡◌, ℕ, ◌+◌, ◌≤◌, List, ◌++◌, length}
+use Rattle.mcs_trace.specs.declared.line.TheConstants.{SIZE}
+
+-- there is room for so many bytes more
+abbrev pub HasRoom : List ℕ → ℕ → Type 0
+HasRoom line count = length line + count ≤ SIZE
+
+-- a text stands behind what stood there, and took at most so much room
+abbrev pub Adds : List ℕ → List ℕ → ℕ → List ℕ → Type 0
+Adds old new most text = (new ≡ old ++ text) × (length new ≤ length old + most)

@@ -1,0 +1,257 @@
+//! The lines of answers and records: each form once. The room that they ask for is that of any line.
+ghost use Rattle.std.specs.Prelude.{◌≡◌, ◌≤◌, ◌+◌, ◌∷◌, ◌++◌, [], length};
+ghost use Rattle.mcs_trace.specs.Room.{Adds, HasRoom};
+ghost use Rattle.mcs_text.specs.Spelling.{then_text, token_text};
+ghost use Rattle.mcs_text.specs.Table.{form, how_key, end_key, joins_form, refusal_number, form_text, fact_text, record_text};
+
+use crate::line::Line;
+use crate::rooms::{LINE, WORD};
+use mcs_text::{Key, Token};
+use mcs_types::{Cap, Ending, MESSAGE_WORDS, Mode, ObjId, Queue, Rec, Refusal, SendMode};
+
+/// The number of a refusal.
+pub fn number_of(refusal: Refusal) -> u64
+    ensures { result ≡ refusal_number refusal }
+{
+    match refusal {
+        Refusal::Missing => 1,
+        Refusal::DepthMismatch => 2,
+        Refusal::GuardMismatch => 3,
+        Refusal::WrongKind => 4,
+        Refusal::NoRight => 5,
+        Refusal::Range => 6,
+        Refusal::SlotFull => 7,
+        Refusal::SlotEmpty => 8,
+        Refusal::AlreadyBound => 9,
+        Refusal::NotBound => 10,
+        Refusal::NoRoom => 11,
+        Refusal::BadgeNotAllowed => 12,
+        Refusal::LastCNode => 13,
+    }
+}
+
+/// The word for how a debt ended.
+pub fn end_word(ending: Ending) -> Token
+    ensures { result ≡ end_key ending }
+{
+    match ending {
+        Ending::Deleted => Token::Key(Key::Deleted),
+        Ending::Cancelled => Token::Key(Key::Cancelled),
+    }
+}
+
+impl Line {
+    /// A line of one word.
+    #[inline(always)]
+    #[tactic(auto, unfolding(mcs_text::specs::Spelling::line_text))]
+    pub fn bare(&mut self, key: Key)
+        requires { HasRoom self.old LINE }
+        ensures { self.new ≡ self.old ++ form_text (form (Token.Key key) [] []) }
+    {
+        self.key(key);
+        self.byte(b'\n');
+    }
+
+    /// A line of one number.
+    #[inline(always)]
+    #[tactic(auto, unfolding(mcs_text::specs::Spelling::line_text))]
+    pub fn numbered(&mut self, key: Key, number: u64)
+        requires { HasRoom self.old LINE }
+        ensures { self.new ≡ self.old ++ form_text (form (Token.Key key) [] (number ∷ [])) }
+    {
+        self.key(key);
+        self.spaced(number);
+        self.byte(b'\n');
+    }
+
+    /// The line of a message that was received.
+    #[tactic(auto, unfolding(mcs_text::specs::Spelling::line_text))]
+    pub fn got(&mut self, badge: u64, label: u64, words: &[u64])
+        requires few { length words.now ≤ MESSAGE_WORDS }
+        requires room { HasRoom self.old LINE }
+        ensures { self.new ≡ self.old ++ form_text (form (Token.Key Key.Got) []
+            (badge ∷ label ∷ words.now)) }
+    {
+        self.key(Key::Got);
+        self.spaced(badge);
+        self.message(label, words);
+        self.byte(b'\n');
+    }
+
+    /// A record that names one word.
+    #[inline(always)]
+    #[tactic(auto, unfolding(mcs_text::specs::Spelling::line_text))]
+    pub fn one(&mut self, key: Key, first: Token)
+        requires { HasRoom self.old LINE }
+        ensures { self.new ≡ self.old ++ fact_text (Token.Key key) (first ∷ []) }
+    {
+        self.key(key);
+        self.spaced_word(&first);
+        self.byte(b'\n');
+    }
+
+    /// A record that names two words.
+    #[inline(always)]
+    #[tactic(auto, unfolding(mcs_text::specs::Spelling::line_text))]
+    pub fn two(&mut self, key: Key, first: Token, second: Token)
+        requires { HasRoom self.old LINE }
+        ensures { self.new ≡ self.old ++ fact_text (Token.Key key) (first ∷ second ∷ []) }
+    {
+        self.key(key);
+        self.spaced_word(&first);
+        self.spaced_word(&second);
+        self.byte(b'\n');
+    }
+
+    /// How a debt of a reply object begins or ends: it names the reply object, the caller and a word.
+    #[inline(always)]
+    #[tactic(auto, unfolding(mcs_text::specs::Spelling::line_text))]
+    pub fn owing(&mut self, key: Key, reply: ObjId, caller: ObjId, word: Token)
+        requires { HasRoom self.old LINE }
+        ensures { self.new ≡ self.old ++ fact_text (Token.Key key)
+            (Token.Name reply ∷ Token.Name caller ∷ word ∷ []) }
+    {
+        self.key(key);
+        self.spaced_name(reply);
+        self.spaced_name(caller);
+        self.spaced_word(&word);
+        self.byte(b'\n');
+    }
+
+    /// What a slot of a CNode holds.
+    #[inline(always)]
+    #[tactic(auto, unfolding(mcs_text::specs::Spelling::line_text))]
+    pub fn slot(&mut self, cnode: ObjId, index: u8, cap: Option<Cap>)
+        requires { HasRoom self.old LINE }
+        ensures { self.new ≡ self.old ++ fact_text (Token.Key Key.SlotIs)
+            (Token.Name cnode ∷ Token.Number index ∷ Token.Held cap ∷ []) }
+    {
+        self.key(Key::SlotIs);
+        self.spaced_name(cnode);
+        self.spaced_word(&Token::Number(index as u64));
+        self.spaced_word(&Token::Held(cap));
+        self.byte(b'\n');
+    }
+
+    /// A record that names an object and a number.
+    #[tactic(auto, unfolding(mcs_text::specs::Spelling::line_text))]
+    pub fn object_number(&mut self, key: Key, object: ObjId, number: u64)
+        requires { HasRoom self.old LINE }
+        ensures { self.new ≡ self.old ++ form_text (form (Token.Key key)
+            (Token.Name object ∷ []) (number ∷ [])) }
+    {
+        self.key(key);
+        self.spaced_name(object);
+        self.spaced(number);
+        self.byte(b'\n');
+    }
+
+    /// The record of the mode of a thread.
+    pub fn turns(&mut self, thread: ObjId, mode: Mode)
+        requires { HasRoom self.old LINE }
+        ensures { self.new ≡ self.old ++ record_text 0 (Rec.Turns thread mode) }
+    {
+        let name = Token::Name(thread);
+        match mode {
+            Mode::Running => self.two(Key::Turns, name, Token::Key(Key::Running)),
+            Mode::Restart => self.two(Key::Turns, name, Token::Key(Key::Restart)),
+            Mode::Inactive => self.two(Key::Turns, name, Token::Key(Key::Inactive)),
+        }
+    }
+
+    /// A space, and how a message was sent.
+    fn how(&mut self, mode: SendMode)
+        requires { HasRoom self.old (1 + WORD) }
+        ensures { Adds self.old self.new (1 + WORD) (then_text (token_text (how_key mode))) }
+    {
+        match mode {
+            SendMode::Plain => self.spaced_word(&Token::Key(Key::Send)),
+            SendMode::Call => self.spaced_word(&Token::Key(Key::Call)),
+            SendMode::Mute => self.spaced_word(&Token::Key(Key::Mute)),
+            SendMode::Give => self.spaced_word(&Token::Key(Key::Give)),
+        }
+    }
+
+    /// The record of a message that was sent.
+    #[tactic(auto, unfolding(mcs_text::specs::Spelling::line_text))]
+    pub fn sent(
+        &mut self,
+        sent: u128,
+        between: (ObjId, ObjId),
+        mode: SendMode,
+        badge: u64,
+        label: u64,
+        words: &[u64],
+    )
+        requires few { length words.now ≤ MESSAGE_WORDS }
+        requires room { HasRoom self.old LINE }
+        ensures { self.new ≡ self.old ++ form_text (form (Token.Key Key.Sent)
+            (Token.Message sent ∷ Token.Name between.0 ∷ Token.Name between.1 ∷ how_key mode ∷ [])
+            (badge ∷ label ∷ words.now)) }
+    {
+        self.key(Key::Sent);
+        self.spaced_word(&Token::Message(sent));
+        self.spaced_name(between.0);
+        self.spaced_name(between.1);
+        self.how(mode);
+        self.spaced(badge);
+        self.message(label, words);
+        self.byte(b'\n');
+    }
+
+    /// The record of an answer to a caller.
+    #[tactic(auto, unfolding(mcs_text::specs::Spelling::line_text))]
+    pub fn paid(&mut self, reply: ObjId, caller: ObjId, label: u64, words: &[u64])
+        requires few { length words.now ≤ MESSAGE_WORDS }
+        requires room { HasRoom self.old LINE }
+        ensures { self.new ≡ self.old ++ form_text (form (Token.Key Key.Paid)
+            (Token.Name reply ∷ Token.Name caller ∷ []) (label ∷ words.now)) }
+    {
+        self.key(Key::Paid);
+        self.spaced_name(reply);
+        self.spaced_name(caller);
+        self.message(label, words);
+        self.byte(b'\n');
+    }
+
+    /// The record of a word that was heard.
+    #[tactic(auto, unfolding(mcs_text::specs::Spelling::line_text))]
+    pub fn heard(&mut self, thread: ObjId, notification: ObjId, word: u64)
+        requires { HasRoom self.old LINE }
+        ensures { self.new ≡ self.old ++ record_text 0 (Rec.Heard thread notification word) }
+    {
+        self.key(Key::Heard);
+        self.spaced_name(thread);
+        self.spaced_name(notification);
+        self.spaced(word);
+        self.byte(b'\n');
+    }
+
+    /// The record of a receiver that joins a queue with its reply object.
+    #[inline(always)]
+    #[tactic(auto, unfolding(mcs_text::specs::Spelling::line_text))]
+    fn receiver(&mut self, thread: ObjId, queue: Queue, reply: Option<ObjId>)
+        requires { HasRoom self.old LINE }
+        ensures { self.new ≡ self.old ++ fact_text (Token.Key Key.Joins)
+            (Token.Name thread ∷ Token.Line queue ∷ Token.Maybe reply ∷ []) }
+    {
+        self.key(Key::Joins);
+        self.spaced_name(thread);
+        self.spaced_word(&Token::Line(queue));
+        self.spaced_word(&Token::Maybe(reply));
+        self.byte(b'\n');
+    }
+
+    /// The record of a thread that joins a queue.
+    pub fn joins(&mut self, thread: ObjId, queue: Queue, reply: Option<ObjId>)
+        requires { HasRoom self.old LINE }
+        ensures { self.new ≡ self.old ++ form_text (joins_form thread queue reply) }
+    {
+        match queue {
+            Queue::Receivers(_) => self.receiver(thread, queue, reply),
+            Queue::Senders(_) | Queue::Waiters(_) => {
+                self.two(Key::Joins, Token::Name(thread), Token::Line(queue));
+            }
+        }
+    }
+}

@@ -1,0 +1,85 @@
+//! The line that is written: bytes at the front of a buffer.
+ghost use Rattle.std.specs.Prelude.{◌≡◌, ◌≤◌, ◌+◌, ◌∷◌, [], length};
+ghost use Rattle.mcs_trace.specs.Room.{Adds, HasRoom};
+
+use std::marker::Model;
+
+/// How many bytes a line under construction holds at most.
+pub const SIZE: usize = 65_536;
+
+/// Text that is put together at the front of a buffer. Clauses see the text alone, as a list of its bytes.
+#[derive(Drop)]
+pub struct Line {
+    end: usize,
+    bytes: [u8; SIZE],
+}
+
+impl Model for Line {
+    ghost use Rattle.std.specs.Prelude.{◌≤◌, ℕ, List, take};
+    ghost use Rattle.mcs_trace.specs.declared.line.TheConstants.{SIZE};
+
+    ghost Value = { List ℕ };
+
+    ghost view = { λ l. take l.end l.bytes };
+
+    ghost invariant = { λ l. l.end ≤ SIZE };
+}
+
+impl Line {
+    /// No text.
+    pub fn new() -> Line
+        ensures { result ≡ [] }
+    {
+        Line {
+            end: 0,
+            bytes: [0; SIZE],
+        }
+    }
+
+    /// How many bytes there are.
+    #[inline(always)]
+    pub fn len(&self) -> usize
+        ensures { result ≡ length self.now }
+    {
+        self.end
+    }
+
+    /// The text.
+    pub fn text(&self) -> &[u8]
+        ensures { result.now ≡ self.now }
+    {
+        &self.bytes[..self.end]
+    }
+
+    /// Begins anew.
+    pub fn clear(&mut self)
+        ensures { self.new ≡ [] }
+    {
+        self.end = 0;
+    }
+
+    // The end is read once, before the bytes are written: so it stays in a register from word to word.
+
+    /// A byte.
+    #[inline(always)]
+    pub fn byte(&mut self, byte: u8)
+        requires { HasRoom self.old 1 }
+        ensures { Adds self.old self.new 1 (byte ∷ []) }
+    {
+        let end = self.end;
+        self.bytes[end] = byte;
+        self.end = end + 1;
+    }
+
+    /// Bytes.
+    #[inline(always)]
+    pub fn bytes(&mut self, bytes: &[u8])
+        requires { HasRoom self.old (length bytes.now) }
+        ensures { Adds self.old self.new (length bytes.now) bytes.now }
+    {
+        let at = self.end;
+        let end = at + bytes.len();
+        self.bytes[at..end].copy_from_slice(bytes);
+        self.end = end;
+    }
+}

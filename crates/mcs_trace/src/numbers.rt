@@ -1,0 +1,218 @@
+//! Numbers on a line.
+ghost use Rattle.std.specs.Prelude.{◌≡◌, ◌<◌, ◌≤◌, ◌+◌, ◌*◌, ◌/◌, ◌%◌, ◌∷◌, [], ◌++◌, length, decimal};
+ghost use Rattle.std.specs.List.{flat_map};
+ghost use Rattle.mcs_trace.specs.Room.{Adds, HasRoom};
+ghost use Rattle.mcs_text.specs.Spelling.{pair, four, eight, then_text};
+
+use crate::line::Line;
+use crate::rooms::{COUNT, MESSAGE, NUMBER};
+use itoa::Buffer;
+use mcs_types::MESSAGE_WORDS;
+
+/// The two digits of each number below 100.
+static PAIRS: [u8; 200] =
+    *b"00010203040506070809101112131415161718192021222324252627282930313233343536373839404142434445464748495051525354555657585960616263646566676869707172737475767778798081828384858687888990919293949596979899";
+
+/// The first of the two digits of a number below 100.
+#[inline(always)]
+fn tens(n: u64) -> u8
+    requires { n < 100 }
+    ensures { result ≡ 48 + n / 10 }
+{
+    PAIRS[n as usize * 2]
+}
+
+/// The last digit of a number below 100.
+#[inline(always)]
+fn ones(n: u64) -> u8
+    requires { n < 100 }
+    ensures { result ≡ 48 + n % 10 }
+{
+    PAIRS[n as usize * 2 + 1]
+}
+
+impl Line {
+    /// A digit.
+    #[inline(always)]
+    #[tactic(auto, using(std::proofs::lemmas::Fmt::decimal_digit))]
+    fn digit(&mut self, n: u64)
+        requires small { n < 10 }
+        requires room { HasRoom self.old 1 }
+        ensures { Adds self.old self.new 1 (decimal n) }
+    {
+        self.byte(b'0' + n as u8);
+    }
+
+    /// The two digits of a number below 100, also where the first is 0.
+    #[inline(always)]
+    fn pair(&mut self, n: u64)
+        requires small { n < 100 }
+        requires room { HasRoom self.old 2 }
+        ensures { Adds self.old self.new 2 (pair n) }
+    {
+        self.byte(tens(n));
+        self.byte(ones(n));
+    }
+
+    /// The four digits of a number below 10,000, also where the first are 0.
+    #[inline(always)]
+    fn four(&mut self, n: u64)
+        requires small { n < 10000 }
+        requires room { HasRoom self.old 4 }
+        ensures { Adds self.old self.new 4 (four n) }
+    {
+        self.pair(n / 100);
+        self.pair(n % 100);
+    }
+
+    /// The eight digits of a number below 100,000,000, also where the first are 0.
+    fn eight(&mut self, n: u64)
+        requires small { n < 100000000 }
+        requires room { HasRoom self.old 8 }
+        ensures { Adds self.old self.new 8 (eight n) }
+    {
+        self.four(n / 10_000);
+        self.four(n % 10_000);
+    }
+
+    /// A number below 100.
+    #[inline(always)]
+    #[tactic(auto, using(itoa::proofs::Decimal::decimal_two))]
+    fn small(&mut self, n: u64)
+        requires small { n < 100 }
+        requires room { HasRoom self.old 2 }
+        ensures { Adds self.old self.new 2 (decimal n) }
+    {
+        if n < 10 {
+            self.digit(n);
+        } else {
+            self.pair(n);
+        }
+    }
+
+    /// A number below 10,000.
+    #[inline(always)]
+    fn short(&mut self, n: u64)
+        requires small { n < 10000 }
+        requires room { HasRoom self.old 4 }
+        ensures { Adds self.old self.new 4 (decimal n) }
+    {
+        if n < 100 {
+            self.small(n);
+        } else {
+            self.small(n / 100);
+            self.pair(n % 100);
+        }
+    }
+
+    /// A number below 100,000,000.
+    fn middle(&mut self, n: u64)
+        requires small { n < 100000000 }
+        requires room { HasRoom self.old 8 }
+        ensures { Adds self.old self.new 8 (decimal n) }
+    {
+        if n < 10_000 {
+            self.short(n);
+            return;
+        }
+        self.short(n / 10_000);
+        self.four(n % 10_000);
+    }
+
+    /// A number of nine digits or more. It is never a part of `long`, which saves no registers for it so.
+    #[inline(never)]
+    fn huge(&mut self, n: u64)
+        requires large { 100000000 ≤ n }
+        requires room { HasRoom self.old NUMBER }
+        ensures { Adds self.old self.new NUMBER (decimal n) }
+    {
+        if n < 10_000_000_000_000_000 {
+            self.middle(n / 100_000_000);
+            self.eight(n % 100_000_000);
+            return;
+        }
+        let high = n / 100_000_000;
+        self.short(high / 100_000_000);
+        self.eight(high % 100_000_000);
+        self.eight(n % 100_000_000);
+    }
+
+    /// A number of 100 or more. It is a function of its own, as most numbers of a trace are smaller.
+    fn long(&mut self, n: u64)
+        requires { HasRoom self.old NUMBER }
+        ensures { Adds self.old self.new NUMBER (decimal n) }
+    {
+        if n < 100_000_000 {
+            self.middle(n);
+        } else {
+            self.huge(n);
+        }
+    }
+
+    /// A number.
+    #[inline(always)]
+    pub fn number(&mut self, n: u64)
+        requires { HasRoom self.old NUMBER }
+        ensures { Adds self.old self.new NUMBER (decimal n) }
+    {
+        if n < 100 {
+            self.small(n);
+        } else {
+            self.long(n);
+        }
+    }
+
+    /// A space, and the number.
+    #[inline(always)]
+    pub fn spaced(&mut self, n: u64)
+        requires { HasRoom self.old (1 + NUMBER) }
+        ensures { Adds self.old self.new (1 + NUMBER) (then_text (decimal n)) }
+    {
+        self.byte(b' ');
+        self.number(n);
+    }
+
+    /// A number of 128 bits.
+    #[cold]
+    #[inline(never)]
+    fn wide(&mut self, n: u128)
+        requires { HasRoom self.old COUNT }
+        ensures { Adds self.old self.new COUNT (decimal n) }
+    {
+        let mut digits = Buffer::new();
+        self.bytes(digits.format(n).as_bytes());
+    }
+
+    /// A number of messages.
+    pub fn count(&mut self, count: u128)
+        requires { HasRoom self.old COUNT }
+        ensures { Adds self.old self.new COUNT (decimal count) }
+    {
+        if count <= u64::MAX as u128 {
+            self.number(count as u64);
+        } else {
+            self.wide(count);
+        }
+    }
+
+    /// Numbers, with a space before each.
+    fn numbers(&mut self, numbers: &[u64])
+        requires { HasRoom self.old ((1 + NUMBER) * length numbers.now) }
+        ensures { Adds self.old self.new ((1 + NUMBER) * length numbers.now) (flat_map (λ n. then_text (decimal n)) numbers.now) }
+    {
+        for number in numbers {
+            self.spaced(*number);
+        }
+    }
+
+    /// The label and the words of a message, with a space before each.
+    pub fn message(&mut self, label: u64, words: &[u64])
+        requires few { length words.now ≤ MESSAGE_WORDS }
+        requires room { HasRoom self.old MESSAGE }
+        ensures { Adds self.old self.new MESSAGE
+            (flat_map (λ n. then_text (decimal n)) (label ∷ words.now)) }
+    {
+        self.spaced(label);
+        self.numbers(words);
+    }
+}
