@@ -121,7 +121,7 @@ pub fn users_of(alloc: Global, book: &Book) -> Result<Users, Fail> {
 /// The trace of a book.
 pub fn trace_of(alloc: Global, book: &Book) -> Result<Vec<u8>, Fail> {
     let mut written = Vec::new(alloc);
-    trace(book, &mut Sink::new(alloc, &mut written))?;
+    trace(book, &mut Sink::new(alloc, &mut written)?)?;
     Ok(written)
 }
 
@@ -131,7 +131,7 @@ pub fn replayed(alloc: Global, script: &[u8]) -> Result<Vec<u8>, Fail> {
     simulate(
         alloc,
         &mut Source::new(script),
-        &mut Sink::new(alloc, &mut written),
+        &mut Sink::new(alloc, &mut written)?,
     )?;
     Ok(written)
 }

@@ -70,7 +70,7 @@ fn held<R: AllocGlobal + Threads + Wait + Sync>(
     run_text(
         rt,
         &mut Source::new(script),
-        &mut Sink::new(rt.alloc(), &mut written),
+        &mut Sink::new(rt.alloc(), &mut written).map_err(|_| SimFault::OutOfMemory)?,
         None,
         &gate,
     )?;

@@ -114,13 +114,10 @@ fn run_users<R: AllocGlobal + Threads + Wait + Sync>(
     cores: Option<u8>,
 ) -> (Result<(), SimFault>, Vec<u8>) {
     let mut written = Vec::new(rt.alloc());
-    let result = run_text(
-        rt,
-        &mut Source::new(script),
-        &mut Sink::new(rt.alloc(), &mut written),
-        cores,
-        &Open,
-    );
+    let result = match Sink::new(rt.alloc(), &mut written) {
+        Ok(mut sink) => run_text(rt, &mut Source::new(script), &mut sink, cores, &Open),
+        Err(_) => Err(SimFault::OutOfMemory),
+    };
     (result, written)
 }
 
@@ -259,7 +256,7 @@ fn a_users_line_is_no_step(rt: HostRuntime) -> Result<(), Fail> {
     let result = simulate(
         rt.alloc(),
         &mut Source::new(script.as_bytes()),
-        &mut Sink::new(rt.alloc(), &mut written),
+        &mut Sink::new(rt.alloc(), &mut written)?,
     );
     let why = LineFault::Form;
     assert!(rt; result == Err(SimFault::Script { line: 14, why }));
@@ -303,11 +300,11 @@ impl Write for Failing {
 fn a_failing_read_or_write_is_told(rt: HostRuntime) -> Result<(), Fail> {
     let mut written = Vec::new(rt.alloc());
     let mut source = Source::new(Failing);
-    let mut sink = Sink::new(rt.alloc(), &mut written);
+    let mut sink = Sink::new(rt.alloc(), &mut written)?;
     let result = run_text(&rt, &mut source, &mut sink, None, &Open);
     assert!(rt; result == Err(SimFault::Read) && source.failed() == 1);
     let mut source = Source::new(TWO_CORES.as_bytes());
-    let mut sink = Sink::new(rt.alloc(), Failing);
+    let mut sink = Sink::new(rt.alloc(), Failing)?;
     let result = run_text(&rt, &mut source, &mut sink, None, &Open);
     assert!(rt; result == Err(SimFault::Write) && sink.failed() == 1);
     Ok(())

@@ -218,12 +218,18 @@ fn enter(
     }
 }
 
+fn add_trace(alloc: Global, book: &Book, text: &mut Vec<u8>) -> Result<(), Failed> {
+    let mut sink = Sink::new(alloc, text).map_err(|_| Failed)?;
+    trace(book, &mut sink)?;
+    Ok(())
+}
+
 /// The trace of a book as a text, written once more where memory was refused.
 pub fn text_of(alloc: Global, book: &Book) -> Result<Vec<u8>, Failed> {
     let mut text = Vec::new(alloc);
-    if trace(book, &mut Sink::new(alloc, &mut text)).is_err() {
+    if add_trace(alloc, book, &mut text).is_err() {
         text.clear();
-        trace(book, &mut Sink::new(alloc, &mut text))?;
+        add_trace(alloc, book, &mut text)?;
     }
     Ok(text)
 }

@@ -10,9 +10,9 @@ mod calls;
 mod scripts;
 
 use calls::trace_of_calls;
-use mcs_sim::{ReadFault, Sink, Source};
+use mcs_sim::{ReadFault, Source};
 use scripts::given_by;
-use std::io::{self, Input};
+use std::io::{self, Input, Write};
 use std::process::ExitCode;
 
 /// With this the name of a script begins, which ends with its line.
@@ -67,10 +67,9 @@ fn write_given(rt: &HostRuntime, name: &[u8], script: &[u8]) -> io::Result<()> {
     let Ok((given, wrong)) = given_by(rt.alloc(), script) else {
         return rt.println("memory was refused twice");
     };
-    let mut sink = Sink::new(rt.alloc(), io::writer(rt));
-    sink.put(name);
-    sink.put(&given.trace);
-    sink.flush();
+    let mut output = io::writer(rt);
+    output.write_all(name)?;
+    output.write_all(&given.trace)?;
     if let Some(fault) = given.fault {
         rt.println(fault)?;
     }
@@ -98,7 +97,9 @@ fn write_all(rt: &HostRuntime, text: &[u8]) -> io::Result<()> {
 
 fn main(rt: HostRuntime) -> ExitCode {
     match trace_of_calls(rt.alloc()) {
-        Ok(text) => Sink::new(rt.alloc(), io::writer(&rt)).put(&text),
+        Ok(text) => {
+            let _ = io::writer(&rt).write_all(&text);
+        }
         Err(_) => {
             let _ = rt.println("a call failed, or changed something where it failed");
         }

@@ -34,7 +34,7 @@ fn replayed(alloc: Global, script: &[u8]) -> Result<Told, OutOfMemory> {
     let result = simulate(
         alloc,
         &mut Source::new(script),
-        &mut Sink::new(alloc, &mut text),
+        &mut Sink::new(alloc, &mut text)?,
     );
     given(text, result)
 }
@@ -60,7 +60,7 @@ fn fed(
     let result = feed(alloc, &mut run, script, piece);
     let mut text = Vec::new(alloc);
     if let Some(book) = run.book() {
-        trace(book, &mut Sink::new(alloc, &mut text)).map_err(|_| OutOfMemory)?;
+        trace(book, &mut Sink::new(alloc, &mut text)?).map_err(|_| OutOfMemory)?;
     }
     Ok((text, result))
 }

@@ -29,7 +29,7 @@ fn feed(
     }
     let mut output = Output::new(alloc);
     if let Some(book) = run.book() {
-        trace(book, &mut Sink::new(alloc, &mut output))?;
+        trace(book, &mut Sink::new(alloc, &mut output)?)?;
     }
     let Output { taken, .. } = output;
     Ok((result, taken))
@@ -104,7 +104,7 @@ fn an_endless_line_is_too_long(rt: HostRuntime) -> Result<(), Fail> {
     let result = simulate(
         rt.alloc(),
         &mut source,
-        &mut Sink::new(rt.alloc(), &mut output),
+        &mut Sink::new(rt.alloc(), &mut output)?,
     );
     assert!(rt; result == Err(fault));
     assert!(rt; output.taken.is_empty());

@@ -89,6 +89,6 @@ pub fn pipe(alloc: Global, input: Input<'_>, output: &mut Output) -> Result<(), 
     simulate(
         alloc,
         &mut Source::new(input),
-        &mut Sink::new(alloc, output),
+        &mut Sink::new(alloc, output).map_err(|_| SimFault::OutOfMemory)?,
     )
 }

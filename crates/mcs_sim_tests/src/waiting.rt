@@ -105,8 +105,7 @@ fn each_piece_is_answered_before_the_next_read(rt: HostRuntime) -> Result<(), Fa
             answered: &answered,
         };
         let writer = Counting { written: &written };
-        let mut sink = Sink::new(rt.alloc(), writer);
-        sink.reserve(65_536)?;
+        let mut sink = Sink::new(rt.alloc(), writer)?;
         assert_eq!(rt;
             simulate(rt.alloc(), &mut Source::new(reader), &mut sink),
             Ok(())

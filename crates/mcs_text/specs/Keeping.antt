@@ -1,6 +1,5 @@
 -- The numbers of a message that is read.
-use Rattle.std.specs.Prelude.{◌≡◌, ◌<◌, ◌≤◌, ℕ, List, length, Option, Some, None, IsSome}
-use Rattle.mcs_types.specs.declared.message.Room.{Room}
+use Rattle.std.specs.Prelude.{◌<◌, ◌≤◌, ℕ, List, length, Option, Some, None, IsSome}
 use Rattle.mcs_text.specs.declared.message.Kept.{Kept}
 
 -- the numbers, where they fit

@@ -68,6 +68,7 @@ impl Line {
     }
 
     /// The line of an entry that sends and receives, over two addresses.
+    #[inline(always)]
     #[tactic(auto, unfolding(mcs_text::specs::Spelling::line_text))]
     pub fn send_receive(
         &mut self,
@@ -91,6 +92,7 @@ impl Line {
     }
 
     /// The line of an entry that sends, and receives with a reply object.
+    #[inline(always)]
     #[tactic(auto, unfolding(mcs_text::specs::Spelling::line_text))]
     pub fn exchange(
         &mut self,

@@ -65,6 +65,7 @@ impl Line {
     }
 
     /// The line of a message that was received.
+    #[inline(always)]
     #[tactic(auto, unfolding(mcs_text::specs::Spelling::line_text))]
     pub fn got(&mut self, badge: u64, label: u64, words: &[u64])
         requires few { length words.now ≤ MESSAGE_WORDS }
@@ -134,6 +135,7 @@ impl Line {
     }
 
     /// A record that names an object and a number.
+    #[inline(always)]
     #[tactic(auto, unfolding(mcs_text::specs::Spelling::line_text))]
     pub fn object_number(&mut self, key: Key, object: ObjId, number: u64)
         requires { HasRoom self.old LINE }
@@ -147,6 +149,7 @@ impl Line {
     }
 
     /// The record of the mode of a thread.
+    #[inline(always)]
     pub fn turns(&mut self, thread: ObjId, mode: Mode)
         requires { HasRoom self.old LINE }
         ensures { self.new ≡ self.old ++ record_text 0 (Rec.Turns thread mode) }
@@ -160,6 +163,7 @@ impl Line {
     }
 
     /// A space, and how a message was sent.
+    #[inline(always)]
     fn how(&mut self, mode: SendMode)
         requires { HasRoom self.old (1 + WORD) }
         ensures { Adds self.old self.new (1 + WORD) (then_text (token_text (how_key mode))) }
@@ -173,6 +177,7 @@ impl Line {
     }
 
     /// The record of a message that was sent.
+    #[inline(always)]
     #[tactic(auto, unfolding(mcs_text::specs::Spelling::line_text))]
     pub fn sent(
         &mut self,
@@ -200,6 +205,7 @@ impl Line {
     }
 
     /// The record of an answer to a caller.
+    #[inline(always)]
     #[tactic(auto, unfolding(mcs_text::specs::Spelling::line_text))]
     pub fn paid(&mut self, reply: ObjId, caller: ObjId, label: u64, words: &[u64])
         requires few { length words.now ≤ MESSAGE_WORDS }
@@ -215,6 +221,7 @@ impl Line {
     }
 
     /// The record of a word that was heard.
+    #[inline(always)]
     #[tactic(auto, unfolding(mcs_text::specs::Spelling::line_text))]
     pub fn heard(&mut self, thread: ObjId, notification: ObjId, word: u64)
         requires { HasRoom self.old LINE }
@@ -243,6 +250,7 @@ impl Line {
     }
 
     /// The record of a thread that joins a queue.
+    #[inline(always)]
     pub fn joins(&mut self, thread: ObjId, queue: Queue, reply: Option<ObjId>)
         requires { HasRoom self.old LINE }
         ensures { self.new ≡ self.old ++ form_text (joins_form thread queue reply) }

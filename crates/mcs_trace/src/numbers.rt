@@ -196,6 +196,7 @@ impl Line {
     }
 
     /// Numbers, with a space before each.
+    #[inline(always)]
     fn numbers(&mut self, numbers: &[u64])
         requires { HasRoom self.old ((1 + NUMBER) * length numbers.now) }
         ensures { Adds self.old self.new ((1 + NUMBER) * length numbers.now) (flat_map (λ n. then_text (decimal n)) numbers.now) }
@@ -206,6 +207,7 @@ impl Line {
     }
 
     /// The label and the words of a message, with a space before each.
+    #[inline(always)]
     pub fn message(&mut self, label: u64, words: &[u64])
         requires few { length words.now ≤ MESSAGE_WORDS }
         requires room { HasRoom self.old MESSAGE }

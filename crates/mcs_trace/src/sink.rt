@@ -113,15 +113,6 @@ impl<W: Write> Sink<W> {
     ghost use Rattle.mcs_trace.specs.Output.{Puts};
     ghost use Rattle.mcs_trace.specs.Room.{HasRoom};
 
-    /// Writes bytes with none before them.
-    fn send(&mut self, bytes: &[u8])
-        requires nothing_kept { kept self.old ≡ [] }
-        requires whole { self.old.is_broken ≡ false }
-        ensures puts { Puts W.contents self.old self.new bytes.now }
-    {
-        self.is_broken = write_out(&mut self.writer, &mut self.failed, bytes).is_err();
-    }
-
     /// Writes what is kept back, where no call of the writer failed for good.
     fn send_kept(&mut self)
         requires { self.old.is_broken ≡ false }
@@ -144,16 +135,6 @@ impl<W: Write> Sink<W> {
             return;
         }
         self.send_kept();
-    }
-
-    /// Puts bytes at the end of what was put: what is kept goes out first, and they do after it.
-    pub fn put(&mut self, bytes: &[u8])
-        ensures { Puts W.contents self.old self.new bytes.now }
-    {
-        self.flush();
-        if !self.is_broken {
-            self.send(bytes);
-        }
     }
 
     /// Makes room for a line: what is kept goes out where there is none.

@@ -1,4 +1,4 @@
-use Rattle.std.proofs.Common.{◌+◌, ◌*◌, decimal, take}
+use Rattle.std.proofs.Common.{◌*◌, decimal, take}
 use Rattle.std.specs.List.{flat_map}
 use Rattle.mcs_trace.specs.Room.{Adds}
 use Rattle.mcs_text.specs.Spelling.{then_text}
