@@ -37,7 +37,9 @@ impl Line {
         requires { HasRoom self.old KEY }
         ensures { Adds self.old self.new KEY (key_text key) }
     {
-        self.bytes(key.text());
+        for byte in key.text() {
+            self.byte(*byte);
+        }
     }
 
     #[inline(always)]

@@ -1,7 +1,7 @@
 use Rattle.std.proofs.Common.{Bool, Ok, rules, sym, ap, ◌∙◌}
 use Rattle.mcs_text.specs.Reading.{kept_after, some_if}
 use Rattle.mcs_text.proofs.WordLaws.{kept-fault, kept-more, kept-end, number_at-shorter}
-use Rattle.mcs_text.proofs.message.rest_numbers.Goals as goal
+use Rattle.mcs_text.proofs.message.more_numbers.Goals as goal
 
 pub loop-words-preserved : goal.loop-words-preserved
 loop-words-preserved c =
