@@ -1,6 +1,6 @@
 //! A book gives back the lines that were added to it.
 use mcs_book::{Book, Line};
-use mcs_text::{Sink, put_answer, put_record, put_step};
+use mcs_trace::{Sink, put_kept_answer, put_kept_record, put_kept_step};
 use mcs_types::{
     Answer, Badge, Cap, CoreId, Ending, Entry, Form, Guard, Kind, MESSAGE_WORDS, Message, Mode,
     ObjId, OutOfMemory, Place, Prio, Queue, Rec, Refusal, Rights, SendMode, Step,
@@ -358,31 +358,8 @@ fn answers(alloc: Global) -> Result<Vec<Answer>, Fail> {
     Ok(answers)
 }
 
-fn put<W: Write>(sink: &mut Sink<W>, step: &Step, answer: &Answer, records: &[Rec]) {
-    put_step(sink, step);
-    put_answer(sink, answer);
-    for fact in records {
-        put_record(sink, 0, fact);
-    }
-}
-
-fn put_line<W: Write>(
-    alloc: Global,
-    sink: &mut Sink<W>,
-    line: &Line<'_>,
-) -> Result<(), OutOfMemory> {
-    put_step(sink, &line.step(alloc)?);
-    put_answer(sink, &line.answer(alloc)?);
-    for i in 0..line.record_count() {
-        if let Some(fact) = line.record(alloc, i)? {
-            put_record(sink, 0, &fact);
-        }
-    }
-    Ok(())
-}
-
-/// Adds a line for each of the entries, whose answers take turns, and writes what was added.
-fn add_lines<W: Write>(alloc: Global, book: &mut Book, sink: &mut Sink<W>) -> Result<(), Fail> {
+/// Adds a line for each of the entries, whose answers take turns.
+fn add_lines(alloc: Global, book: &mut Book) -> Result<(), Fail> {
     let answers = answers(alloc)?;
     let mut entries = receives(alloc)?;
     entries.append(&mut changes(alloc)?)?;
@@ -400,44 +377,91 @@ fn add_lines<W: Write>(alloc: Global, book: &mut Book, sink: &mut Sink<W>) -> Re
         let names = if at % 2 == 0 { own_ids() } else { odd_ids() };
         let mut facts = Vec::new(alloc);
         add_records(alloc, &mut facts, &names)?;
-        put(sink, &step, &answer, &facts);
         book.reserve(facts.len())?;
         book.append(&step, &answer, &mut facts);
     }
-    sink.flush();
     Ok(())
 }
 
-/// Adds lines to a book, and gives the text of what was added.
-fn fill(alloc: Global, book: &mut Book) -> Result<Vec<u8>, Fail> {
-    let mut written = Vec::new(alloc);
-    add_lines(alloc, book, &mut Sink::new(alloc, &mut written))?;
-    Ok(written)
+/// Adds what a line gives back.
+fn add_again(alloc: Global, book: &mut Book, line: &Line<'_>) -> Result<(), Fail> {
+    let mut facts = Vec::new(alloc);
+    for i in 0..line.record_count() {
+        facts.push(line.record(alloc, i)?.ok_or("record")?)?;
+    }
+    book.reserve(facts.len())?;
+    book.append(&line.step(alloc)?, &line.answer(alloc)?, &mut facts);
+    Ok(())
 }
 
-fn put_lines<W: Write>(alloc: Global, sink: &mut Sink<W>, book: &Book) -> Result<(), OutOfMemory> {
-    for i in 0..book.lines() {
-        if let Some(line) = book.line(i) {
-            put_line(alloc, sink, &line)?;
+/// A book of what a book gives back.
+fn again(alloc: Global, book: &Book) -> Result<Book, Fail> {
+    let mut other = Book::new(alloc, 2);
+    for i in 1..book.lines() {
+        add_again(alloc, &mut other, &book.line(i).ok_or("line")?)?;
+    }
+    Ok(other)
+}
+
+fn put_line<W: Write>(sink: &mut Sink<W>, line: &Line<'_>) {
+    put_kept_step(sink, &line.kept_step());
+    put_kept_answer(sink, &line.kept_answer());
+    for i in 0..line.record_count() {
+        if let Some(fact) = line.kept_record(i) {
+            put_kept_record(sink, 0, &fact);
         }
     }
-    sink.flush();
-    Ok(())
 }
 
 /// The text of all lines of a book.
 fn text_of(alloc: Global, book: &Book) -> Result<Vec<u8>, OutOfMemory> {
     let mut written = Vec::new(alloc);
-    put_lines(alloc, &mut Sink::new(alloc, &mut written), book)?;
+    let mut sink = Sink::new(alloc, &mut written)?;
+    for i in 0..book.lines() {
+        if let Some(line) = book.line(i) {
+            put_line(&mut sink, &line);
+        }
+    }
+    sink.flush();
     Ok(written)
 }
+
+/// With this the text begins: the first entry, and what it records of odd names, of objects, slots and threads.
+const BEGINNING: &str = "\
+255 t4294967286 recv 18446744073709551615 1
+= got 18446744073709551615 4503599627370495 18446744073709551615 18446744073709551614 18446744073709551613 18446744073709551612
++ made n4294967293
++ made t4294967295
++ made c4294967290
++ made e4294967294
++ closed s4294967291
++ slot t4294967295 255 -
++ slot t4294967295 255 n4294967293 rwgp 0
++ slot t4294967295 255 n4294967293 rwgp 18446744073709551615
++ slot t4294967295 255 t4294967295
++ slot t4294967295 255 t4294967295
++ slot t4294967295 255 r4294967292
++ prio e4294967294 255
++ turns e4294967294 running
++ turns e4294967294 restart
++ turns e4294967294 inactive
++ holds c4294967290 -
++ holds c4294967290 e4294967294
++ tied e4294967294 -
++ homed c4294967290 -
++ tied e4294967294 r4294967292
++ homed c4294967290 r4294967292
+";
 
 #[test]
 fn a_book_gives_back_its_lines(rt: HostRuntime) -> Result<(), Fail> {
     let mut book = Book::new(rt.alloc(), 2);
-    let added = fill(rt.alloc(), &mut book)?;
+    add_lines(rt.alloc(), &mut book)?;
     assert_eq!(rt; book.lines(), 26);
-    assert!(rt; added.len() > 25 * 1_000);
-    assert_eq!(rt; text_of(rt.alloc(), &book)?, added);
+    let text = text_of(rt.alloc(), &book)?;
+    assert!(rt; text.starts_with(BEGINNING.as_bytes()));
+    assert!(rt; text.len() > 25 * 1_000);
+    let other = again(rt.alloc(), &book)?;
+    assert_eq!(rt; text_of(rt.alloc(), &other)?, text);
     Ok(())
 }
