@@ -82,4 +82,14 @@ impl Line {
         self.bytes[at..end].copy_from_slice(bytes);
         self.end = end;
     }
+    /// A few bytes, one after the other: where they are known they are stored together, and no call compares where they stand.
+    #[inline(always)]
+    pub fn few_bytes(&mut self, bytes: &[u8])
+        requires { HasRoom self.old (length bytes.now) }
+        ensures { Adds self.old self.new (length bytes.now) bytes.now }
+    {
+        for byte in bytes {
+            self.byte(*byte);
+        }
+    }
 }

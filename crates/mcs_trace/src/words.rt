@@ -37,9 +37,7 @@ impl Line {
         requires { HasRoom self.old KEY }
         ensures { Adds self.old self.new KEY (key_text key) }
     {
-        for byte in key.text() {
-            self.byte(*byte);
-        }
+        self.few_bytes(key.text());
     }
 
     #[inline(always)]
@@ -151,7 +149,7 @@ impl Line {
             Queue::Waiters(o) => (o, b".wait"),
         };
         self.name(o);
-        self.bytes(suffix);
+        self.few_bytes(suffix);
     }
 
     /// A capability.
