@@ -107,13 +107,6 @@ numbered b at some = go (at == 0) refl
     go false e = refl
     go true e = let no : at ≡ 0 = grind (arith, common_steps, e) in absurd (omega (arith, no, some))
 
--- a line is below the end of its book
-pub line-below : (b : Book) (at : ℕ) (l : Line) → 1 ≤ at → line_of_number b at ≡ Some l → at < length b.lines + 1
-line-below b at l some e =
-    let lt = slice_get_within (reverse b.lines) (at - 1) l (sym (numbered b at some) ∙ e) in
-    let whole = length-reverse b.lines in
-    omega (arith, lt, whole, some)
-
 -- where there is no line the book has ended
 pub line-none : (b : Book) (at : ℕ) → 1 ≤ at → line_of_number b at ≡ None → length b.lines < at
 line-none b at some e = elim (slice_get_cases (reverse b.lines) (at - 1)).1 [ inl h ↦ absurd (no h.0 h.2) | inr h ↦ past h.0 ]

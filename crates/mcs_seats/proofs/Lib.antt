@@ -1,6 +1,6 @@
 pub mod Counting
 pub mod Cutting
 pub mod Notes
+pub mod Seating
 pub mod Told
 pub mod Trails
-pub mod Following

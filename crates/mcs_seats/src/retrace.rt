@@ -1,91 +1,89 @@
-//! Whether the calls of a core agree with a book, line by line (own).
-ghost use Rattle.std.specs.Prelude.{◌≡◌, ◌≤◌, ◌+◌, IfOk, IfSome, IfNone, IsTrue, ◌↔◌, OnOk, length, Some};
+//! Whether the calls of seats agree with a book, which is made again once for all of them, line by line (own).
+ghost use Rattle.std.specs.Prelude.{◌≡◌, ◌==◌, ◌≤◌, ◌+◌, ◌-◌, true, All, IfOk, IfNone, IfSome, OnOk, IsTrue, ◌↔◌, Some, drop, length, map};
 ghost use Rattle.mcs_book.specs.History.{line_of_number};
-ghost use Rattle.mcs_seats.specs.Settling.{notes_of, note_of, noted_line, told_note, AreRight, IsTornAt};
-ghost use Rattle.mcs_seats.specs.Trails.{IsKernelBook, PassesForeign, IsNextLine, IsFollowed};
+ghost use Rattle.mcs_kernel.specs.Faults.{fault_of};
+ghost use Rattle.mcs_seats.specs.Settling.{noted_line, told_note, cut, AllAgree, HasTorn};
+ghost use Rattle.mcs_seats.specs.Trails.{IsKernelBook, IsLineAt, IsBeside, place_of, trail_of, past_line, AreRightTo, IsLater, IsReady, IsProgress, AllRight, IsTornOf, HasTornTrail};
 
 use crate::call::{Answered, Call, Outcome};
 use crate::same::{is_same_answer, is_same_entry, is_same_fault};
+use crate::seat::CoreSeat;
 use mcs_book::{Book, Line};
 use mcs_kernel::{Boot, EnterFault, Kernel};
 use mcs_queues::Lines;
-use mcs_types::{Answer, CoreId, OutOfMemory, Step};
+use mcs_types::{Answer, CoreId, ObjId, OutOfMemory, Step};
 use std::alloc::Global;
 use std::marker::Model;
+use std::sync::ledger::Ledger;
 
-/// A book that is made again, line by line, beside the calls of a core. The replay has made the lines before that of number
-/// `at`. Clauses see the book, the core and that number.
+/// What a line has, as a copy of its own: the step and the answer.
+#[derive(Drop)]
+struct LineCopy {
+    step: Step,
+    answer: Answer,
+}
+
+impl LineCopy {
+    /// OutOfMemory where a growth was refused.
+    fn new(alloc: Global, line: &Line<'_>) -> Result<LineCopy, OutOfMemory>
+        ensures step { IfOk result (λ c. c.step ≡ line.now.step) }
+        ensures answer { IfOk result (λ c. c.answer ≡ line.now.answer) }
+    {
+        Ok(LineCopy {
+            step: line.step(alloc)?,
+            answer: line.answer(alloc)?,
+        })
+    }
+}
+
+/// A book that is made again, line by line. The replay has made the lines before that of number `at`. Clauses see the book and
+/// that number.
 #[derive(Drop)]
 struct Retrace<'a, L: Lines> {
     book: &'a Book,
-    core: CoreId,
     replay: Kernel<L>,
     at: usize,
 }
 
 impl<'a, L: Lines> Model for Retrace<'a, L> {
-    ghost use Rattle.mcs_seats.specs.Trails.{Trail, IsKernelBook, StandsAt};
+    ghost use Rattle.mcs_seats.specs.Trails.{Place, IsKernelBook, StandsAt};
 
-    ghost Value = { Trail };
+    ghost Value = { Place };
 
-    ghost view = { λ r. record { book = r.book.now.book; core = r.core; at = r.at } };
+    ghost view = { λ r. record { book = r.book.now.book; at = r.at } };
 
     ghost invariant = { λ r. IsKernelBook r.book.now.book
         × StandsAt r.book.now.book r.replay r.at };
 }
 
-/// Whether a call was told a line of this number, step and answer.
-fn is_noted(number: usize, step: &Step, answer: &Answer, call: &Call, told: &Answered) -> bool
-    ensures { IsTrue result ↔ (noted_line number step.now answer.now ≡ told_note call.now told.now) }
-{
-    told.line == number
-        && step.thread == call.thread
-        && is_same_entry(&step.entry, &call.entry)
-        && is_same_answer(answer, &told.answer)
-}
-
-/// Whether a call was told this line.
-fn is_told(
-    alloc: Global,
-    line: &Line<'_>,
-    number: usize,
-    call: &Call,
-    told: &Answered,
-) -> Result<bool, OutOfMemory>
-    ensures { IfOk result (λ b. IsTrue b ↔ (note_of number line.now ≡ told_note call.now told.now)) }
-{
-    let step = line.step(alloc)?;
-    let answer = line.answer(alloc)?;
-    Ok(is_noted(number, &step, &answer, call, told))
-}
-
 impl<'a, L: Lines> Retrace<'a, L> {
     /// Before the first line after the boot.
-    fn new(
-        alloc: Global,
-        book: &'a Book,
-        boot: &Boot,
-        core: CoreId,
-    ) -> Result<Retrace<'a, L>, OutOfMemory>
+    fn new(alloc: Global, book: &'a Book, boot: &Boot) -> Result<Retrace<'a, L>, OutOfMemory>
         requires kept { IsKernelBook book.now.book }
         requires boot { book.now.book.boot ≡ boot.now }
-        ensures { IfOk result (λ r. r ≡ record { book = book.now.book; core = core; at = 1 }) }
+        ensures { IfOk result (λ r. r ≡ record { book = book.now.book; at = 1 }) }
     {
         Ok(Retrace {
             book,
-            core,
             replay: Kernel::new(alloc, boot)?,
             at: 1,
         })
     }
 
+    /// Why an entry would be turned away before the next line.
+    fn fault(&self, core: CoreId, thread: ObjId) -> Option<EnterFault>
+        ensures found { result ≡ fault_of (cut self.now.book (self.now.at - 1)) core thread }
+        ensures within { self.now.at ≤ length self.now.book.lines + 1 }
+    {
+        self.replay.fault(core, thread)
+    }
+
     /// Makes the next line again.
-    fn make_line(&mut self, alloc: Global, line: &Line<'_>) -> Result<(), OutOfMemory>
-        requires { line_of_number self.old.book self.old.at ≡ Some line.now }
+    fn make_line(&mut self, alloc: Global, line: &LineCopy) -> Result<(), OutOfMemory>
+        requires { IsLineAt self.old line.now }
         ensures { OnOk result (self.new ≡ record self.old { at = self.old.at + 1 }) }
     {
-        let step = line.step(alloc)?;
-        match self.replay.enter(alloc, step.core, step.thread, step.entry) {
+        match self.replay.admit(alloc, &line.step) {
             Ok(_) => {
                 self.at += 1;
                 Ok(())
@@ -94,114 +92,254 @@ impl<'a, L: Lines> Retrace<'a, L> {
             Err(_) => Err(OutOfMemory),
         }
     }
+}
 
-    /// Makes lines again up to one of number `end`, or to the next that is the core's where that comes before.
-    fn pass_foreign(&mut self, alloc: Global, end: usize) -> Result<(), OutOfMemory>
-        requires order { self.old.at ≤ end }
-        requires end { end ≤ length self.old.book.lines + 1 }
-        ensures { OnOk result (PassesForeign self.old self.new end) }
+/// How far the calls of a seat are right.
+#[derive(Clone, Copy)]
+pub(crate) enum Progress {
+    /// So many are; of the others none was turned away before the next line.
+    Right(usize),
+    /// The call of this number, counted from 1, is the first that is not; one more than there are, where the core was told more.
+    Torn(usize),
+}
+
+/// The calls of a seat, which were followed past the lines of a book before that of number `at`. Clauses see the book, the core,
+/// the calls and that number.
+#[derive(Drop)]
+struct Follower<'a> {
+    book: &'a Book,
+    core: CoreId,
+    calls: &'a [Call],
+    at: usize,
+    progress: Progress,
+}
+
+impl<'a> Model for Follower<'a> {
+    ghost use Rattle.mcs_seats.specs.Trails.{Trail, IsKernelBook, IsFollowed};
+
+    ghost Value = { Trail };
+
+    ghost view = { λ f. record {
+      book = f.book.now.book;
+      core = f.core;
+      calls = f.calls.now;
+      at = f.at;
+    } };
+
+    ghost invariant = { λ f. IsFollowed f.book.now.book f.core f.calls.now f.at f.progress };
+}
+
+/// Whether a call was told this line, which is of this number.
+fn is_noted(number: usize, line: &LineCopy, call: &Call, told: &Answered) -> bool
+    ensures { IsTrue result
+        ↔ (noted_line number line.now.step line.now.answer ≡ told_note call.now told.now) }
+{
+    told.line == number
+        && line.step.thread == call.thread
+        && is_same_entry(&line.step.entry, &call.entry)
+        && is_same_answer(&line.answer, &told.answer)
+}
+
+impl<'a> Follower<'a> {
+    /// Before the first line after the boot, where no call was followed.
+    fn new<G: Ledger>(book: &'a Book, seat: &'a CoreSeat<G>) -> Follower<'a>
+        requires { IsKernelBook book.now.book }
+        ensures { result ≡ trail_of book.now.book 1 seat.now }
     {
-        for at in self.at..end {
-            match self.book.line(at) {
-                None => unreachable!(),
-                Some(line) => {
-                    if line.kept_step().core == self.core {
-                        return Ok(());
+        Follower {
+            book,
+            core: seat.core(),
+            calls: seat.calls(),
+            at: 1,
+            progress: Progress::Right(0),
+        }
+    }
+
+    /// How far the calls are right, when those are followed that were turned away before the next line.
+    fn follow_away<L: Lines>(&self, retrace: &Retrace<'_, L>) -> Progress
+        requires { IsBeside retrace.now self.now }
+        ensures { IsReady self.now result }
+    {
+        let count = match self.progress {
+            Progress::Right(count) => count,
+            Progress::Torn(n) => return Progress::Torn(n),
+        };
+        for i in count..self.calls.len() {
+            let call = &self.calls[i];
+            match &call.outcome {
+                Outcome::Told(_) => return Progress::Right(i),
+                Outcome::Away { lines, fault } => {
+                    if self.at < *lines {
+                        return Progress::Right(i);
                     }
-                    self.make_line(alloc, &line)?;
+                    if *lines < self.at {
+                        return Progress::Torn(i + 1);
+                    }
+                    if !is_same_fault(retrace.fault(self.core, call.thread), *fault) {
+                        return Progress::Torn(i + 1);
+                    }
                 }
             }
         }
-        Ok(())
+        Progress::Right(self.calls.len())
     }
 
-    /// Makes lines again up to the next one of the core's, and answers that, if there is one.
-    fn next_line(&mut self, alloc: Global) -> Result<Option<Line<'a>>, OutOfMemory>
-        ensures { IfOk result (IsNextLine self.old self.new) }
+    /// How far the calls are right behind the next line, which is the core's: the next call has to be told it.
+    fn follow_own(&self, count: usize, line: &LineCopy) -> Progress
+        requires right { AreRightTo self.now count }
+        requires later { IsLater self.now.at (drop count self.now.calls) }
+        requires line { IsLineAt (place_of self.now) line.now }
+        requires own { (line.now.step.core.0 == self.now.core.0) ≡ true }
+        ensures { IsProgress (past_line self.now) result }
     {
-        let book = self.book;
-        self.pass_foreign(alloc, book.lines())?;
-        Ok(book.line(self.at))
-    }
-
-    /// Whether a call that was told a line is right: that has to be the next of the core's, and is passed then.
-    fn follow_told(
-        &mut self,
-        alloc: Global,
-        call: &Call,
-        told: &Answered,
-    ) -> Result<bool, OutOfMemory>
-        ensures { IfOk result (IsFollowed self.old call.now (Outcome.Told told.now) self.new) }
-    {
-        match self.next_line(alloc)? {
-            Some(line) => {
-                if !is_told(alloc, &line, self.at, call, told)? {
-                    return Ok(false);
-                }
-                self.make_line(alloc, &line)?;
-                Ok(true)
-            }
-            None => Ok(false),
-        }
-    }
-
-    /// Whether a call that was turned away is right: no line of the core's may lie before, and the fault has to be right
-    /// there.
-    fn follow_away(
-        &mut self,
-        alloc: Global,
-        call: &Call,
-        lines: usize,
-        fault: EnterFault,
-    ) -> Result<bool, OutOfMemory>
-        ensures { IfOk result (IsFollowed self.old call.now (Outcome.Away lines fault) self.new) }
-    {
-        if lines < self.at || self.book.lines() < lines {
-            return Ok(false);
-        }
-        self.pass_foreign(alloc, lines)?;
-        if self.at < lines {
-            return Ok(false);
-        }
-        Ok(is_same_fault(self.replay.fault(self.core, call.thread), fault))
-    }
-
-    /// Whether a call is right; where it is, the next one may come where this leads.
-    fn follow(&mut self, alloc: Global, call: &Call) -> Result<bool, OutOfMemory>
-        ensures { IfOk result (IsFollowed self.old call.now call.now.outcome self.new) }
-    {
+        let Some(call) = self.calls.get(count) else {
+            return Progress::Torn(count + 1);
+        };
         match &call.outcome {
-            Outcome::Told(told) => self.follow_told(alloc, call, told),
-            Outcome::Away { lines, fault } => self.follow_away(alloc, call, *lines, *fault),
+            Outcome::Away { .. } => Progress::Torn(count + 1),
+            Outcome::Told(told) => {
+                if is_noted(self.at, line, call, told) {
+                    Progress::Right(count + 1)
+                } else {
+                    Progress::Torn(count + 1)
+                }
+            }
+        }
+    }
+
+    /// How far the calls are right behind the next line.
+    fn follow_line(&self, count: usize, line: &LineCopy) -> Progress
+        requires right { AreRightTo self.now count }
+        requires later { IsLater self.now.at (drop count self.now.calls) }
+        requires line { IsLineAt (place_of self.now) line.now }
+        ensures { IsProgress (past_line self.now) result }
+    {
+        if line.step.core == self.core {
+            return self.follow_own(count, line);
+        }
+        Progress::Right(count)
+    }
+
+    /// Follows the calls past the next line.
+    fn pass_line<L: Lines>(&mut self, retrace: &Retrace<'_, L>, line: &LineCopy)
+        requires beside { IsBeside retrace.now self.old }
+        requires line { IsLineAt retrace.now line.now }
+        ensures { self.new ≡ past_line self.old }
+    {
+        self.progress = match self.follow_away(retrace) {
+            Progress::Right(count) => self.follow_line(count, line),
+            Progress::Torn(n) => Progress::Torn(n),
+        };
+        self.at += 1;
+    }
+
+    /// The number of the first call that does not agree with the book, behind whose last line it stands.
+    fn torn_call<L: Lines>(&self, retrace: &Retrace<'_, L>) -> Option<usize>
+        requires beside { IsBeside retrace.now self.now }
+        requires end { retrace.now.at ≡ length retrace.now.book.lines + 1 }
+        ensures none { IfNone result (AllRight self.now) }
+        ensures torn { IfSome result (IsTornOf self.now) }
+    {
+        match self.follow_away(retrace) {
+            Progress::Torn(n) => Some(n),
+            Progress::Right(count) => {
+                if count < self.calls.len() {
+                    Some(count + 1)
+                } else {
+                    None
+                }
+            }
         }
     }
 }
 
-/// The number of the first of a core's calls that does not agree with the book.
-pub(crate) fn torn_call<L: Lines>(
+/// A follower of each seat, before the first line after the boot.
+fn followers<'a, G: Ledger>(
+    alloc: Global,
+    book: &'a Book,
+    seats: &'a Vec<CoreSeat<G>>,
+) -> Result<Vec<Follower<'a>>, OutOfMemory>
+    requires { IsKernelBook book.now.book }
+    ensures { IfOk result (λ v. v.items ≡ map (trail_of book.now.book 1) seats.now.items) }
+{
+    let mut followers = Vec::with_capacity(alloc, seats.len())?;
+    for seat in seats {
+        match followers.push(Follower::new(book, seat)) {
+            Ok(()) => {}
+            Err(_) => unreachable!(),
+        }
+    }
+    Ok(followers)
+}
+
+/// Has all followers pass the next line.
+fn pass_all<L: Lines>(followers: &mut Vec<Follower<'_>>, retrace: &Retrace<'_, L>, line: &LineCopy)
+    requires beside { All (IsBeside retrace.now) followers.old.items }
+    requires line { IsLineAt retrace.now line.now }
+    ensures { followers.new.items ≡ map past_line followers.old.items }
+{
+    for follower in followers.iter_mut() {
+        follower.pass_line(retrace, line);
+    }
+}
+
+/// Has all followers pass the next line, and makes it again.
+fn pass_next<L: Lines>(
+    alloc: Global,
+    followers: &mut Vec<Follower<'_>>,
+    retrace: &mut Retrace<'_, L>,
+    line: &Line<'_>,
+) -> Result<(), OutOfMemory>
+    requires beside { All (IsBeside retrace.old) followers.old.items }
+    requires line { line_of_number retrace.old.book retrace.old.at ≡ Some line.now }
+    ensures followed { OnOk result (followers.new.items ≡ map past_line followers.old.items) }
+    ensures made { OnOk result (retrace.new ≡ record retrace.old { at = retrace.old.at + 1 }) }
+{
+    let line = LineCopy::new(alloc, line)?;
+    pass_all(followers, retrace, &line);
+    retrace.make_line(alloc, &line)
+}
+
+/// The core of the first follower whose calls do not agree with the book, behind whose last line all stand, and the number of
+/// the first such call.
+fn torn_follower<L: Lines>(
+    followers: &Vec<Follower<'_>>,
+    retrace: &Retrace<'_, L>,
+) -> Option<(CoreId, usize)>
+    requires beside { All (IsBeside retrace.now) followers.now.items }
+    requires end { retrace.now.at ≡ length retrace.now.book.lines + 1 }
+    ensures none { IfNone result (All AllRight followers.now.items) }
+    ensures torn { IfSome result (λ t. HasTornTrail followers.now.items t.0 t.1) }
+{
+    for follower in followers {
+        if let Some(n) = follower.torn_call(retrace) {
+            return Some((follower.core, n));
+        }
+    }
+    None
+}
+
+/// The first seat whose calls do not agree with a book, by its core and the number of the first such call. The book is made
+/// once: before each line the calls are compared that were turned away there, and then the line with the next call of its core.
+pub(crate) fn first_torn<G: Ledger, L: Lines>(
     alloc: Global,
     book: &Book,
     boot: &Boot,
-    core: CoreId,
-    calls: &[Call],
-) -> Result<Option<usize>, OutOfMemory>
+    seats: &Vec<CoreSeat<G>>,
+) -> Result<Option<(CoreId, usize)>, OutOfMemory>
     requires kept { IsKernelBook book.now.book }
     requires boot { book.now.book.boot ≡ boot.now }
-    ensures none { IfOk result (λ o. IfNone o
-        (AreRight book.now.book core (notes_of book.now.book core) 1 calls.now)) }
+    ensures none { IfOk result (λ o. IfNone o (AllAgree book.now.book seats.now.items)) }
     ensures torn { IfOk result (λ o. IfSome o
-        (IsTornAt book.now.book core (notes_of book.now.book core) 1 calls.now)) }
+        (λ t. HasTorn book.now.book seats.now.items t.0 t.1)) }
 {
-    let mut retrace: Retrace<'_, L> = Retrace::new(alloc, book, boot, core)?;
-    let mut count = 0;
-    for call in calls {
-        count += 1;
-        if !retrace.follow(alloc, call)? {
-            return Ok(Some(count));
+    let mut followers = followers(alloc, book, seats)?;
+    let mut retrace: Retrace<'_, L> = Retrace::new(alloc, book, boot)?;
+    for at in 1..book.lines() {
+        match book.line(at) {
+            None => unreachable!(),
+            Some(line) => pass_next(alloc, &mut followers, &mut retrace, &line)?,
         }
     }
-    match retrace.next_line(alloc)? {
-        None => Ok(None),
-        Some(_) => Ok(Some(count + 1)),
-    }
+    Ok(torn_follower(&followers, &retrace))
 }

@@ -4,7 +4,7 @@ ghost use Rattle.std.specs.List.{list_any};
 ghost use Rattle.mcs_book.specs.History.{IsLegal};
 ghost use Rattle.mcs_seats.specs.Settling.{AllAgree, HasSeats, LacksSeat, Because};
 
-use crate::retrace::torn_call;
+use crate::retrace::first_torn;
 use crate::same::are_same_lines;
 use crate::seat::CoreSeat;
 use mcs_book::Book;
@@ -76,19 +76,11 @@ fn compare<G: Ledger, L: Lines>(
     if !begins_with(book, boot) {
         return Err(FinishFault::OtherBoot);
     }
-    for seat in seats {
-        match torn_call::<L>(alloc, book, boot, seat.core(), seat.calls()) {
-            Ok(None) => {}
-            Ok(Some(n)) => {
-                return Err(FinishFault::Torn {
-                    core: seat.core(),
-                    n,
-                });
-            }
-            Err(OutOfMemory) => return Err(FinishFault::OutOfMemory),
-        }
+    match first_torn::<G, L>(alloc, book, boot, seats) {
+        Ok(None) => Ok(()),
+        Ok(Some((core, n))) => Err(FinishFault::Torn { core, n }),
+        Err(OutOfMemory) => Err(FinishFault::OutOfMemory),
     }
-    Ok(())
 }
 
 /// A kernel with whose book all seats agree.
