@@ -4,8 +4,8 @@
 # usage: bench/runs.sh PROGRAM [RUNS]     1,000 runs where no number is said
 #
 # Each run has 32 users on 8 cores that call and reply, send and receive, signal and wait, suspend and resume, make and delete. It
-# has to end with status 0, and its trace, replayed, has to give the same bytes. Then longer runs of the same users on 1, 2, 4
-# and 8 cores are timed: a host thread for each core enters the one kernel under its lock.
+# has to end with status 0, and its trace, replayed, has to give the same bytes. Then longer runs of the same users on 1, 2, 4,
+# 8 and 16 cores are timed: a host thread for each core enters the one kernel under its lock.
 set -eu
 program=$1
 runs=${2:-1000}
@@ -77,7 +77,7 @@ for i in $(seq "$runs"); do
 done
 echo "8 cores: $runs runs of $((let_in / runs)) entries each, $failed failed"
 
-for cores in 1 2 4 8; do
+for cores in 1 2 4 8 16; do
     script "$cores" 2500 >"$work/script"
     best=0
     for i in 1 2 3; do
