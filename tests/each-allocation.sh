@@ -1,7 +1,8 @@
 #!/bin/sh
-# Refuses each allocation in turn: crates/mcs_scripts gives each call once more that memory was refused to, and writes the same
+# Refuses each allocation in turn, and each thread: crates/mcs_scripts gives each call once more that memory was refused to, and writes the same
 # traces; mcssim replay ends with status 6 and a beginning of the trace, or with status 0 and all of it, which is counted; mcssim run
-# ends with status 6 or 7 and nothing written, or with status 0 and a trace that gives itself again. Each does so for short
+# ends with status 6 or 7 and nothing written, or with status 0 and a trace that gives itself again; where a thread is refused it
+# ends with status 7 and nothing written. Each does so for short
 # messages and for messages of more than four words, which take memory of their own. Run it after
 # `rt ci`, which leaves the programs in the folders out/; it proves and builds one that is not there. It needs a C compiler, for
 # the library below.
@@ -11,21 +12,32 @@ work=$(mktemp -d)
 trap 'rm -rf "$work"' EXIT
 
 # The allocator of the program under test: the allocation of the number in REFUSED is refused, and the file in COUNTED is made
-# where it came to that.
+# where it came to that; and so for the thread of the number in REFUSED_THREAD.
 cat >"$work/refuse.c" <<'C'
 #define _GNU_SOURCE
 #include <dlfcn.h>
+#include <errno.h>
 #include <fcntl.h>
+#include <pthread.h>
 #include <stdlib.h>
 #include <unistd.h>
 
-static long made;
-
-static int is_refused(void) {
-    const char *wanted = getenv("REFUSED");
-    if (!wanted || __atomic_add_fetch(&made, 1, __ATOMIC_SEQ_CST) != atol(wanted)) return 0;
+static int is_counted(long *made, const char *wanted) {
+    if (!wanted || __atomic_add_fetch(made, 1, __ATOMIC_SEQ_CST) != atol(wanted)) return 0;
     close(open(getenv("COUNTED"), O_CREAT | O_WRONLY, 0600));
     return 1;
+}
+
+static int is_refused(void) {
+    static long made;
+    return is_counted(&made, getenv("REFUSED"));
+}
+
+int pthread_create(pthread_t *thread, const pthread_attr_t *attr, void *(*run)(void *), void *with) {
+    static int (*real)(pthread_t *, const pthread_attr_t *, void *(*)(void *), void *);
+    static long made;
+    if (!real) real = dlsym(RTLD_NEXT, "pthread_create");
+    return is_counted(&made, getenv("REFUSED_THREAD")) ? EAGAIN : real(thread, attr, run, with);
 }
 
 void *malloc(size_t size) {
@@ -50,14 +62,18 @@ build() {
 build mcs_scripts
 build mcssim replay
 
-# Runs a program on $input with the allocation of this number refused: its output is in $work/out, its status in $status. It
-# fails where the program made fewer allocations.
+# Runs a program on $input with the allocation (REFUSED) or the thread (REFUSED_THREAD) of this number refused: its output is in
+# $work/out, its status in $status. It fails where the program made fewer of them.
 refuse() {
-    number=$1
-    shift
+    refuse_any REFUSED "$@"
+}
+refuse_any() {
+    kind=$1
+    number=$2
+    shift 2
     rm -f "$work/counted"
     status=0
-    REFUSED=$number COUNTED=$work/counted LD_PRELOAD=$work/refuse.so "$@" >"$work/out" 2>"$work/err" <"$input" || status=$?
+    env "$kind=$number" COUNTED=$work/counted LD_PRELOAD=$work/refuse.so "$@" >"$work/out" 2>"$work/err" <"$input" || status=$?
     [ -e "$work/counted" ]
 }
 
@@ -114,11 +130,25 @@ runs() {
     [ $number -gt 1 ]
 }
 
+# Tries mcssim run where the system gives one thread less.
+threads() {
+    input=$1
+    number=1
+    while refuse_any REFUSED_THREAD $number crates/mcssim/out/mcssim run; do
+        [ $status -eq 7 ] || { echo "thread $number: status $status"; exit 1; }
+        [ ! -s "$work/out" ]
+        number=$((number + 1))
+    done
+    echo "mcssim run, $(basename "$input"): $((number - 1)) threads, each refused in turn; nothing was written"
+    [ $number -gt 1 ]
+}
+
 crates/mcssim/out/mcssim replay <crates/mcssim/stdin | cmp - crates/mcssim/stdout
 sed '/^user .* \(call\|replyrecv\) /s/$/ 1 2 3 4 5 6 7/' examples/two-cores.mcs >"$work/long-users"
-for script in crates/mcssim/stdin examples/long-messages.mcs; do
+for script in crates/mcssim/stdin $(grep -L '^user ' examples/*.mcs); do
     scripts "$script"
     replays "$script"
 done
 runs examples/two-cores.mcs
 runs "$work/long-users"
+threads examples/two-cores.mcs

@@ -3,7 +3,7 @@ use Rattle.mcs_book.specs.Messages.{is_sent}
 use Rattle.mcs_state.proofs.Answering.{counted-le, thread-place}
 use Rattle.mcs_state.proofs.ThreadLaws.{thread-there}
 use Rattle.mcs_state.proofs.Following.{fewer-lines}
-use Rattle.std.proofs.Common.{refl, arith}
+use Rattle.std.proofs.Common.{refl, arith, ◌∙◌}
 use Rattle.mcs_types.specs.declared.record.Rec.TheVariants as rec
 use Rattle.mcs_state.proofs.Following.{follows, inside, inside-room}
 use Rattle.mcs_state.proofs.state.State.sends.Goals as goal
@@ -20,8 +20,8 @@ keep-requires g c =
     thread-place _ c.args.sender c.self.invariant.1.letters.places (c.are_few.ensures c.args.sender (thread-there _ c.self.inside.threads c.args.sender c.self.invariant.1.sound c.self.invariant.1.threads ok.0))
 
 pub invariant_of-self : goal.invariant_of-self
-invariant_of-self g c = let kept = rw (c.message.invariant.0, c.message.view_is, c.self.invariant.1.sent.all) at c.keep.ensures.kept in
-    let items = rw c.message.view_is at c.note.ensures.items in (
+invariant_of-self g c = let kept = rw (c.noted.invariant.0, c.noted.view_is ∙ c.made.ensures, c.self.invariant.1.sent.all) at c.keep.ensures.kept in
+    let items = rw (c.noted.view_is ∙ c.made.ensures) at c.note.ensures.items in (
       omega (arith, c.self.invariant.0, c.note.ensures.capacity),
       follows (rec.Sent c.args.sender c.args.endpoint c.args.mode c.args.badge c.args.message) _ _ _ _ _ _ items (inside-room c.self.view_is c.requires.room) (inside (rec.Sent c.args.sender c.args.endpoint c.args.mode c.args.badge c.args.message) c.self.view_is c.requires.allowed)
           (record { threads = refl; letters = record { places = c.keep.ensures.places; letters = kept }; contexts = refl; queues = refl; replies = refl; notifications = refl; slots = refl; sent = refl }) c.self.invariant.1,
