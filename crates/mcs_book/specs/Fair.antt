@@ -1,4 +1,4 @@
--- Fair books: seven laws over records, lines and the questions about them. None speaks of the table of entries.
+-- Fair books: seven laws, in nine clauses, over records, lines and the questions about them. None speaks of the table of entries.
 use Rattle.std.specs.Prelude.{ℕ, ◌≡◌, ◌≢◌, ◌<◌, ◌⊎◌, false, Bool, Option, Some, None, ◌==◌, IsTrue}
 use Rattle.std.specs.List.{list_any}
 use Rattle.mcs_types.specs.Views.{Content}

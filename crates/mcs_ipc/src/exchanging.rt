@@ -50,7 +50,8 @@ pub fn exchange<W: Waiting>(
     requires waiting { OnlyBoundWait (so_far state.old) }
     requires few { length state.old.book.lines < BOOK_LINES }
     requires room { Fits state.old core thread (exchange_entry address source reply message) }
-    ensures { Does state.old core thread (exchange_entry address source reply message.entry) result state.new }
+    ensures { Does state.old core thread (exchange_entry address source reply message.entry)
+        result state.new }
 {
     state.is_sound();
     match ends_of_exchange(state, thread, address, source, reply) {

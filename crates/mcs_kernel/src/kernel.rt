@@ -25,7 +25,8 @@ use mcs_notify::{bind, signal_at, unbind};
 use mcs_queues::Lines;
 use mcs_state::State;
 use mcs_types::{
-    Answer, BOOK_LINES, CORES, Copied, Copies, CoreId, Entry, Kind, ObjId, OutOfMemory, Status, Step,
+    Answer, BOOK_LINES, CORES, Copied, Copies, CoreId, Entry, Kind, ObjId, OutOfMemory, Status,
+    Step,
 };
 use mcs_waiting::{ObjectQueues, Waiting};
 use std::alloc::Global;

@@ -47,7 +47,8 @@ fn context_at_home<W: Waiting>(
     thread: ObjId,
     notification: Option<ObjId>,
 ) -> Option<ObjId>
-    ensures { result ≡ if_at_home (so_far state.now) notification (context_of (so_far state.now) thread) }
+    ensures { result
+        ≡ if_at_home (so_far state.now) notification (context_of (so_far state.now) thread) }
 {
     let notification = notification?;
     let context = state.context(thread)?;
