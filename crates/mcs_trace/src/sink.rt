@@ -123,7 +123,7 @@ impl<W: Write> Sink<W> {
         self.line.clear();
     }
 
-    /// Writes what is kept back.
+    /// Writes what is kept back. It is out of line, so that who makes room only tests whether there is some.
     #[cold]
     #[inline(never)]
     pub fn flush(&mut self)

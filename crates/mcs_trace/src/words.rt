@@ -6,7 +6,7 @@ ghost use Rattle.mcs_text.specs.Keys.{key_text};
 ghost use Rattle.mcs_text.specs.Spelling.{name_text, maybe_text, letter_if, rights_letters, rights_text, then_text, place_text, cap_rest, cap_text, held_text, queue_name, queue_end, queue_text, token_text};
 
 use crate::line::Line;
-use crate::rooms::{CAP, COUNT, HEAD, KEY, NAME, PLACE, RIGHTS, WORD};
+use crate::rooms::{CAP, COUNT, HEAD, KEY, NAME, PLACE, QUEUE, RIGHTS, WORD};
 use mcs_text::{Entrant, Key, Token, letter};
 use mcs_types::{Cap, Kind, ObjId, Place, Queue, Rights};
 
@@ -140,8 +140,8 @@ impl Line {
     /// A queue: the object, and which of its queues.
     #[inline(always)]
     fn queue(&mut self, queue: Queue)
-        requires { HasRoom self.old (NAME + 5) }
-        ensures { Adds self.old self.new (NAME + 5) (queue_text queue) }
+        requires { HasRoom self.old QUEUE }
+        ensures { Adds self.old self.new QUEUE (queue_text queue) }
     {
         let (o, suffix) = match queue {
             Queue::Senders(o) => (o, b".send"),
