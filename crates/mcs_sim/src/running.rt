@@ -5,8 +5,8 @@ ghost use Rattle.mcs_trace.specs.Output.{Rose};
 ghost use Rattle.mcs_sim.specs.Running.{Reads, EndsUsers, IsOfMachine, IsBookOf, RunFinished, RunEndedBy, run_fault, finish_fault};
 
 use crate::fault::SimFault;
-use crate::script::{Script, read_script};
-use crate::source::{ReadFault, Source};
+use crate::source::{PIECE, Source};
+use crate::users::UserLines;
 use crate::writing::trace;
 use mcs_cores::{FinishFault, Gate, Machine, RunFault, Settled, Users};
 use mcs_kernel::{Boot, Kernel};
@@ -21,7 +21,8 @@ use std::sync::Wait;
 use std::sync::ledger::{Blank, Ledger};
 use std::thread::Threads;
 
-/// The boot and the entries of users that a source says, to its end.
+/// The boot and the entries of users that a source says, to its end or to a fault, which is told with the piece in which it
+/// stands.
 fn read_users<R: Read>(
     alloc: Global,
     from: &mut Source<R>,
@@ -34,25 +35,18 @@ fn read_users<R: Read>(
     ensures failed { result ≡ Err SimFault.Read → Rose from.old.failed from.new.failed }
     ensures count { from.old.failed ≤ from.new.failed }
 {
-    let text = match from.read_all(alloc) {
-        Ok(text) => text,
-        Err(ReadFault::Read) => return Err(SimFault::Read),
-        Err(ReadFault::OutOfMemory) => return Err(SimFault::OutOfMemory),
-    };
-    let Ok((script, fault)) = read_script(alloc, cores, &text) else {
+    let Ok(mut users) = UserLines::new(alloc, cores) else {
         return Err(SimFault::OutOfMemory);
     };
-    if let Some((line, why)) = fault {
-        return Err(SimFault::Script { line, why });
-    }
-    let Script {
-        boot,
-        items,
-        room: _,
-    } = script;
-    match boot {
-        Some(boot) => Ok((boot, items)),
-        None => unreachable!(),
+    let mut piece = [0; PIECE];
+    loop {
+        let Ok(n) = from.read_piece(&mut piece) else {
+            return Err(SimFault::Read);
+        };
+        if n == 0 {
+            return users.end(alloc);
+        }
+        users.feed(alloc, &piece[..n])?;
     }
 }
 
