@@ -10,7 +10,7 @@ mod calls;
 mod scripts;
 
 use calls::trace_of_calls;
-use mcs_sim::{ReadFault, Sink, Source};
+use mcs_sim::{SimFault, Sink, Source};
 use scripts::given_by;
 use std::io::{self, Input};
 use std::process::ExitCode;
@@ -22,21 +22,25 @@ const NAME: &[u8] = b"#!";
 const MOST: usize = 1 << 20;
 
 /// The scripts of standard input. The room for them is asked for once more where memory was refused.
-fn read_scripts(rt: &HostRuntime) -> Result<Vec<u8>, ReadFault> {
+fn read_scripts(rt: &HostRuntime) -> Result<Vec<u8>, SimFault> {
     let mut text = match Vec::with_capacity(rt.alloc(), MOST) {
         Ok(text) => text,
-        Err(_) => Vec::with_capacity(rt.alloc(), MOST)?,
+        Err(_) => Vec::with_capacity(rt.alloc(), MOST).map_err(|_| SimFault::OutOfMemory)?,
     };
     let mut source = Source::new(rt.reader());
     let mut piece = [0; 4_096];
     for _ in 0..MOST {
-        let count = source.read_piece(&mut piece)?;
+        let Ok(count) = source.read_piece(&mut piece) else {
+            return Err(SimFault::Read);
+        };
         if count == 0 {
             return Ok(text);
         }
-        text.extend_from_slice(&piece[..count])?;
+        let Ok(()) = text.extend_from_slice(&piece[..count]) else {
+            return Err(SimFault::OutOfMemory);
+        };
     }
-    Err(ReadFault::Read)
+    Err(SimFault::Read)
 }
 
 /// How many bytes of a text are its first line, with the newline, where it names a script.

@@ -2,6 +2,7 @@ pub mod SmallScripts
 pub mod ScriptLaws
 pub mod InputLaws
 pub mod LongLaws
+pub mod UserLaws
 pub mod RunLaws
 pub mod GoingLaws
 pub mod GoingScripts

@@ -1,14 +1,13 @@
 -- What is said by a text that is too long stands whatever bytes follow.
 use Rattle.std.proofs.Common.{◌≡◌, ℕ, ◌+◌, ◌*◌, ◌<◌, ◌≤◌, ◌⊎◌, inl, inr, Bool, true, false, ltb, eqb, Result, Ok, Err, List, [], ◌∷◌, ◌++◌, length, take, refl, sym, ap, ◌∙◌, append_assoc, arith}
 use Rattle.std.proofs.lemmas.Bool.{lt-ltb, ltb-true, ltb-false}
-use Rattle.std.proofs.lemmas.List.{length-append, length-take-le, take-append-le}
+use Rattle.std.proofs.lemmas.List.{length-append}
 use Rattle.mcs_text.specs.declared.fault.LineFault.{LineFault}
 use Rattle.mcs_text.specs.declared.fault.LineFault.TheVariants.{LongLine, ManyLines}
 use Rattle.mcs_text.specs.Reading.{onto_first, lines_of}
-use Rattle.mcs_sim.specs.declared.source.Begun.{Begun}
-use Rattle.mcs_sim.specs.Input.{none_begun, begun_with, begun_after, BeginsNext, IsShort, IsTooLong, IsWithin}
+use Rattle.mcs_sim.specs.Input.{IsTooLong}
 use Rattle.mcs_sim.specs.Script.{Grammar, Script, no_script, read_line, script_from, script_of}
-use Rattle.mcs_sim.proofs.InputLaws.{begun-lines, begun_after-grown, lines-begun_with-le, lines-byte, total, length-total, within}
+use Rattle.mcs_sim.proofs.InputLaws.{lines-byte, total, length-total, within}
 use Rattle.mcs_sim.proofs.ScriptLaws.{script_from-ok, script_from-err}
 
 -- ---- lines that go on
@@ -111,50 +110,3 @@ long-stands {T = T} grammar text more too =
       | inr next ↦ inl (omega (arith, next.next))
     ] in
     lines-stand grammar (lines_of text) (lines_of (text ++ more)) no_script 1 (lines-extend text more) (omega arith) from
-
--- ---- the first byte behind the last line
-
--- so many bytes are taken of what was read
-pub length-piece : (n : ℕ) (xs ys : List ℕ) → n ≤ length xs → length (take n (xs ++ ys)) ≡ n
-length-piece n xs ys le = ap (λ (l : List ℕ). length l) (take-append-le n xs ys le) ∙ length-take-le n xs le
-
--- where a piece was read of which no more bytes could begin a line than to the first behind the last, its last byte begins that line
-pub next-begun : (piece : List ℕ) (s t : Begun) (xs zs : List ℕ) → s ≡ begun_after none_begun xs → t ≡ begun_after s piece → zs ≡ xs ++ piece
-    → 0 < length piece → s.lines + length piece ≤ 2000001 → 2000000 < t.lines → BeginsNext zs
-unfolding begun_after
-next-begun [] s t xs zs before after grown some few over = absurd (omega (arith, some))
-next-begun (b ∷ []) s t xs zs before after grown some few over =
-    let lines : length (lines_of xs) ≡ s.lines = sym (begun-lines xs) ∙ ap (λ (s : Begun). s.lines) (sym before) in
-    let one : t.lines ≡ (begun_with s b).lines = ap (λ (s : Begun). s.lines) after in
-    let all : length (lines_of zs) ≡ t.lines =
-    sym (begun-lines zs) ∙ ap (λ (s : Begun). s.lines) (sym (begun_after-grown s t xs (b ∷ []) zs after before grown)) in
-    let most = lines-begun_with-le s b in
-    record { before = xs; first = b; split = grown; full = omega (arith, lines, one, most, few, over); next = omega (arith, all, one, most, few, over) }
-next-begun (b ∷ c ∷ bs) s t xs zs before after grown some few over =
-    next-begun (c ∷ bs) (begun_with s b) t (xs ++ b ∷ []) zs (begun_after-grown s (begun_with s b) xs (b ∷ []) (xs ++ b ∷ []) refl before refl) after
-    (grown ∙ sym (append_assoc xs (b ∷ []) (c ∷ bs))) (omega arith) (omega (arith, few, lines-begun_with-le s b)) over
-
--- what was read that is not too long yet
-pub short-read : (s : Begun) (xs : List ℕ) → s ≡ begun_after none_begun xs → s.lines ≤ 2000000 → length xs < 8194000001 → IsShort xs
-short-read s xs before few short =
-    let lines : length (lines_of xs) ≡ s.lines = sym (begun-lines xs) ∙ ap (λ (s : Begun). s.lines) (sym before) in
-    (omega (arith, short), omega (arith, lines, few))
-
--- what was read is short, or too long by one byte
-pub within-read : (s : Begun) (xs : List ℕ) → s ≡ begun_after none_begun xs → (2000000 < s.lines → BeginsNext xs) → length xs ≤ 8194000001 → IsWithin xs
-within-read s xs before next fits = go (ltb 2000000 s.lines) refl
-  where
-    few : s.lines ≤ 2000000 → (b : Bool) → ltb 8194000000 (length xs) ≡ b → IsWithin xs
-    few le true e = let over : 8194000000 < length xs = ltb-true _ _ e in inr (inl (omega (arith, over, fits)))
-    few le false e = let short : length xs ≤ 8194000000 = ltb-false _ _ e in inl (short-read s xs before le (omega (arith, short)))
-
-    go : (b : Bool) → ltb 2000000 s.lines ≡ b → IsWithin xs
-    go true e = inr (inr (next (ltb-true _ _ e)))
-    go false e = few (ltb-false _ _ e) (ltb 8194000000 (length xs)) refl
-
--- what was read with a piece more
-pub within-grown : (piece : List ℕ) (s t : Begun) (xs zs : List ℕ) → s ≡ begun_after none_begun xs → t ≡ begun_after s piece → zs ≡ xs ++ piece
-    → 0 < length piece → s.lines + length piece ≤ 2000001 → length xs + length piece ≤ 8194000001 → IsWithin zs
-within-grown piece s t xs zs before after grown some few fits =
-    let all : length zs ≡ length xs + length piece = ap (λ (l : List ℕ). length l) grown ∙ length-append xs piece in
-    within-read t zs (begun_after-grown s t xs piece zs after before grown) (next-begun piece s t xs zs before after grown some few) (omega (arith, all, fits))

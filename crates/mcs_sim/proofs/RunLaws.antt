@@ -1,9 +1,8 @@
 -- What a run reads and writes.
-use Rattle.std.proofs.Common.{ℕ, Option, Some, None, Result, Ok, Err, IfErr, OnErr, List, [], ◌≡◌, refl, sym, subst, append-nil}
+use Rattle.std.proofs.Common.{ℕ, Option, Some, None, Result, Ok, Err, IfOk, IfErr, List, [], ◌≡◌, refl, sym, subst, append-nil}
 use Rattle.std.specs.Prelude.{IsErrAnd}
 use Rattle.std.specs.Io.KnownBytes.{Appends, Consumes}
 use Rattle.mcs_sim.specs.declared.fault.SimFault.{SimFault}
-use Rattle.mcs_sim.specs.Input.{IsWithin}
 use Rattle.mcs_sim.specs.Runs.{Begins}
 
 -- a writer that took nothing
@@ -16,14 +15,18 @@ pub Begins-nil : (a : Option (List ℕ)) (text : List ℕ) → Begins a a text
 Begins-nil a text = (text, record { sent = []; grown = Appends-nil a; split = refl })
 
 -- an error that is passed on
-pub IfErr-same : (r : Result (Unit {0}) SimFault) (e : SimFault) (Q : SimFault → Type 0) → IsErrAnd r (λ x. x ≡ e) → Q e → IfErr r Q
+pub IfErr-same : {T : Type 0} (r : Result T SimFault) (e : SimFault) (Q : SimFault → Type 0) → IsErrAnd r (λ x. x ≡ e) → Q e → IfErr r Q
 IfErr-same (Ok u) e Q same q = tt
 IfErr-same (Err x) e Q same q = subst Q (sym same) q
 
--- some bytes were read, whatever was answered
-pub OnErr-consumes : {T E : Type 0} (r : Result T E) (a b : Option (List ℕ)) (bytes : List ℕ) → Consumes a b bytes → IsWithin bytes → OnErr r ((x : List ℕ) × Consumes a b x × IsWithin x)
-OnErr-consumes (Ok x) a b bytes c within = tt
-OnErr-consumes (Err e) a b bytes c within = (bytes, c, within)
+-- what an answer says, and what that leads to
+pub IfOk-then : {T : Type 0} (r : Result T SimFault) (P Q : T → Type 0) → IfOk r P → ((x : T) → P x → Q x) → IfOk r Q
+IfOk-then (Ok x) P Q p then = then x p
+IfOk-then (Err e) P Q p then = tt
+
+pub IfErr-then : {T : Type 0} (r : Result T SimFault) (P Q : SimFault → Type 0) → IfErr r P → ((e : SimFault) → P e → Q e) → IfErr r Q
+IfErr-then (Ok x) P Q p then = tt
+IfErr-then (Err e) P Q p then = then e p
 
 -- no byte was read
 pub Consumes-nil : (a : Option (List ℕ)) (bytes : List ℕ) → bytes ≡ [] → Consumes a a bytes

@@ -1,16 +1,13 @@
 -- What a run of users leaves.
-use Rattle.std.proofs.Common.{◌≡◌, ℕ, List, Option, Result, Ok, Err, IfErr, OnErr, inl, ap, sym, subst}
+use Rattle.std.proofs.Common.{◌≡◌, ℕ, List, Option, Result, Ok, Err, IfErr, OnErr, inl, inr, sym, subst}
 use Rattle.mcs_book.specs.Boots.{Boot}
 use Rattle.mcs_book.specs.History.{Book}
-use Rattle.mcs_text.specs.declared.fault.LineFault.{LineFault}
 use Rattle.mcs_text.specs.declared.steps.UserEntry.{UserEntry}
 use Rattle.mcs_sim.specs.declared.fault.SimFault.{SimFault}
 use Rattle.mcs_sim.specs.declared.fault.SimFault.TheVariants as fault
-use Rattle.mcs_sim.specs.Script.{Script, of_users}
 use Rattle.mcs_sim.specs.Trace.{trace}
 use Rattle.mcs_sim.specs.Runs.{Begins}
-use Rattle.mcs_sim.specs.Running.{Reads, IsOfMachine, IsBookOf, RunEnds}
-use Rattle.mcs_sim.proofs.InputLaws.{is-short}
+use Rattle.mcs_sim.specs.Running.{Reads, EndsUsers, IsOfMachine, IsBookOf, RunEnds}
 use Rattle.mcs_sim.proofs.RunLaws.{Appends-nil}
 
 -- a fault of the machine comes after the reading, and before the first byte is written
@@ -21,9 +18,7 @@ RunEnds-machine (fault.Script line why) asked left left' out boot entries is rea
 RunEnds-machine fault.Read asked left left' out boot entries is reads = absurd is
 RunEnds-machine fault.Write asked left left' out boot entries is reads = absurd is
 RunEnds-machine fault.BookFull asked left left' out boot entries is reads = ((boot, entries, reads), Appends-nil out)
-RunEnds-machine fault.OutOfMemory asked left left' out boot entries is reads =
-    let none = ap (λ (r : Script UserEntry × Option (ℕ × LineFault)). r.1) reads.faultless in
-    ((reads.text, reads.read, inl (is-short (of_users asked) reads.text none)), Appends-nil out)
+RunEnds-machine fault.OutOfMemory asked left left' out boot entries is reads = (inr (boot, entries, reads), Appends-nil out)
 RunEnds-machine fault.Failed asked left left' out boot entries is reads = ((boot, entries, reads), Appends-nil out)
 
 -- a write that fails leaves a beginning of the trace of the book that was settled
@@ -40,3 +35,13 @@ IfErr-run_writes (Err e) asked left left' out out' boot entries book written rea
       settled = settled;
       wrote = subst (λ (b : Book). Begins out out' (trace b)) same begins;
     })
+
+-- a fault of reading comes before the first byte is written
+pub RunEnds-reading : (e : SimFault) (asked : Option ℕ) (left left' out : Option (List ℕ)) → EndsUsers e asked left left' → RunEnds e asked left left' out out
+RunEnds-reading fault.Argument asked left left' out ends = absurd ends
+RunEnds-reading (fault.Script line why) asked left left' out ends = (ends, Appends-nil out)
+RunEnds-reading fault.Read asked left left' out ends = (ends, Appends-nil out)
+RunEnds-reading fault.Write asked left left' out ends = absurd ends
+RunEnds-reading fault.BookFull asked left left' out ends = absurd ends
+RunEnds-reading fault.OutOfMemory asked left left' out ends = (inl ends, Appends-nil out)
+RunEnds-reading fault.Failed asked left left' out ends = absurd ends

@@ -4,6 +4,7 @@ pub mod BootLines
 pub mod Script
 pub mod Input
 pub mod Runs
-pub mod Running
 pub mod Going
+pub mod Users
+pub mod Running
 pub mod Outcomes

@@ -1,5 +1,5 @@
 -- What a run of users leaves.
-use Rattle.std.specs.Prelude.{◌≡◌, ℕ, List, [], Option, Some, None}
+use Rattle.std.specs.Prelude.{◌≡◌, ◌⊎◌, ℕ, List, [], ◌++◌, Option, Some, None}
 use Rattle.std.specs.Io.KnownBytes.{Appends, Consumes, IsAtEnd}
 use Rattle.mcs_book.specs.Boots.{Boot}
 use Rattle.mcs_book.specs.History.{Book, IsLegal}
@@ -14,8 +14,8 @@ use Rattle.mcs_seats.specs.declared.settle.FinishFault.TheVariants as finish
 use Rattle.mcs_sim.specs.declared.fault.SimFault.{SimFault}
 use Rattle.mcs_sim.specs.declared.fault.SimFault.TheVariants as fault
 use Rattle.mcs_sim.specs.declared.source.Source.{Source}
-use Rattle.mcs_sim.specs.Input.{IsWithin, EndsReading}
 use Rattle.mcs_sim.specs.Script.{users}
+use Rattle.mcs_sim.specs.Users.{UsersStopSoon}
 use Rattle.mcs_sim.specs.Trace.{trace}
 use Rattle.mcs_sim.specs.Runs.{Begins}
 
@@ -26,16 +26,18 @@ pub record Reads (asked : Option ℕ) (left left' : Option (List ℕ)) (boot : B
   pub ended : IsAtEnd left'
   pub faultless : users asked text ≡ (record { boot = Some boot; items = entries }, None)
 
--- an input was read to a faulty line, and no byte behind what was too long
+-- an input was read to a faulty line: the input has ended, or the fault stands, whatever follows; and at most a piece was read behind
+-- what gave no fault
 pub record ReadsTo (line : ℕ) (why : LineFault) (asked : Option ℕ) (left left' : Option (List ℕ)) : Type 0 where
   pub text : List ℕ
   pub read : Consumes left left' text
-  pub ended : EndsReading left' text
+  pub stops : UsersStopSoon asked text
+  pub named : IsAtEnd left' ⊎ ((more : List ℕ) → (users asked (text ++ more)).1 ≡ Some (line, why))
   pub faulty : (users asked text).1 ≡ Some (line, why)
 
--- part of an input was read
-abbrev pub ReadsPart : (left left' : Option (List ℕ)) → Type 0
-ReadsPart left left' = (text : List ℕ) × Consumes left left' text × IsWithin text
+-- part of an input was read, at most a piece of it behind what gave no fault
+abbrev pub ReadsPart : (asked : Option ℕ) (left left' : Option (List ℕ)) → Type 0
+ReadsPart asked left left' = (text : List ℕ) × Consumes left left' text × UsersStopSoon asked text
 
 -- an input was read that says a boot and entries
 abbrev pub ReadsUsers : (asked : Option ℕ) (left left' : Option (List ℕ)) → Type 0
@@ -44,8 +46,8 @@ ReadsUsers asked left left' = (boot : Boot) × (entries : List UserEntry) × Rea
 -- why users could not be read
 abbrev pub EndsUsers : SimFault → (asked : Option ℕ) (left left' : Option (List ℕ)) → Type 0
 EndsUsers (fault.Script line why) asked left left' = ReadsTo line why asked left left'
-EndsUsers fault.Read asked left left' = ReadsPart left left'
-EndsUsers fault.OutOfMemory asked left left' = ReadsPart left left'
+EndsUsers fault.Read asked left left' = ReadsPart asked left left'
+EndsUsers fault.OutOfMemory asked left left' = ReadsPart asked left left'
 EndsUsers _ asked left left' = ⊥
 
 -- how the program tells why a run ended early
@@ -91,14 +93,15 @@ pub record RunWrites (asked : Option ℕ) (left left' out out' : Option (List �
   pub settled : IsBookOf boot book
   pub wrote : Begins out out' (trace book)
 
--- what a run leaves that ended early: nothing was written, but where the writing itself failed
+-- what a run leaves that ended early: nothing was written, but where the writing itself failed. Memory may be refused while users are
+-- read, or behind that
 abbrev pub RunEnds : SimFault → (asked : Option ℕ) (left left' out out' : Option (List ℕ)) → Type 0
 RunEnds fault.Argument asked left left' out out' = ⊥
 RunEnds (fault.Script line why) asked left left' out out' = ReadsTo line why asked left left' × Appends out out' []
-RunEnds fault.Read asked left left' out out' = ReadsPart left left' × Appends out out' []
+RunEnds fault.Read asked left left' out out' = ReadsPart asked left left' × Appends out out' []
 RunEnds fault.Write asked left left' out out' = RunWrites asked left left' out out'
 RunEnds fault.BookFull asked left left' out out' = ReadsUsers asked left left' × Appends out out' []
-RunEnds fault.OutOfMemory asked left left' out out' = ReadsPart left left' × Appends out out' []
+RunEnds fault.OutOfMemory asked left left' out out' = (ReadsPart asked left left' ⊎ ReadsUsers asked left left') × Appends out out' []
 RunEnds fault.Failed asked left left' out out' = ReadsUsers asked left left' × Appends out out' []
 
 -- a run from a source to a sink was finished

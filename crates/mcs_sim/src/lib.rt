@@ -11,6 +11,7 @@ mod script;
 mod source;
 mod standing;
 mod startup;
+mod users;
 mod writing;
 
 pub use fault::SimFault;

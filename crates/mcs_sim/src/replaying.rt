@@ -7,16 +7,13 @@ ghost use Rattle.mcs_sim.specs.Runs.{Finished, EndedBy, TellsMore, WritesMore, H
 
 use crate::fault::SimFault;
 use crate::feeding::ReplayRun;
-use crate::source::Source;
+use crate::source::{PIECE, Source};
 use crate::writing::{Told, put_untold};
 use mcs_text::Sink;
 use mcs_types::OutOfMemory;
 use std::alloc::Global;
 use std::io::{Read, Write};
 use std::marker::Model;
-
-/// How many bytes are asked for at once.
-const PIECE: usize = 4_096;
 
 /// Puts what of a run's book was not told, if it has one, and answers how much is told with it.
 #[tactic(auto, using(crate::proofs::TraceLaws::puts_nothing))]

@@ -5,8 +5,8 @@ ghost use Rattle.mcs_text.specs.Output.{Rose};
 ghost use Rattle.mcs_sim.specs.Running.{Reads, EndsUsers, IsOfMachine, IsBookOf, RunFinished, RunEndedBy, run_fault, finish_fault};
 
 use crate::fault::SimFault;
-use crate::script::{Script, read_script};
-use crate::source::{ReadFault, Source};
+use crate::source::{PIECE, Source};
+use crate::users::UserLines;
 use crate::writing::trace;
 use mcs_cores::{FinishFault, Gate, Machine, RunFault, Settled, Users};
 use mcs_kernel::{Boot, Kernel};
@@ -20,7 +20,8 @@ use std::sync::Wait;
 use std::sync::ledger::{Blank, Ledger};
 use std::thread::Threads;
 
-/// The boot and the entries of users that a source says, to its end.
+/// The boot and the entries of users that a source says, to its end or to a fault, which is told with the piece in which it
+/// stands.
 fn read_users<R: Read>(
     alloc: Global,
     from: &mut Source<R>,
@@ -33,25 +34,18 @@ fn read_users<R: Read>(
     ensures failed { result ≡ Err SimFault.Read → Rose from.old.failed from.new.failed }
     ensures count { from.old.failed ≤ from.new.failed }
 {
-    let text = match from.read_all(alloc) {
-        Ok(text) => text,
-        Err(ReadFault::Read) => return Err(SimFault::Read),
-        Err(ReadFault::OutOfMemory) => return Err(SimFault::OutOfMemory),
-    };
-    let Ok((script, fault)) = read_script(alloc, cores, &text) else {
+    let Ok(mut users) = UserLines::new(alloc, cores) else {
         return Err(SimFault::OutOfMemory);
     };
-    if let Some((line, why)) = fault {
-        return Err(SimFault::Script { line, why });
-    }
-    let Script {
-        boot,
-        items,
-        room: _,
-    } = script;
-    match boot {
-        Some(boot) => Ok((boot, items)),
-        None => unreachable!(),
+    let mut piece = [0; PIECE];
+    loop {
+        let Ok(n) = from.read_piece(&mut piece) else {
+            return Err(SimFault::Read);
+        };
+        if n == 0 {
+            return users.end(alloc);
+        }
+        users.feed(alloc, &piece[..n])?;
     }
 }
 
@@ -139,9 +133,10 @@ fn run_users<X: Threads + Wait + Sync, T: Gate>(
 /// trace of its book. Where a number of cores is asked for, a script that says another is refused with fault Number at the
 /// line that says it. After Ok the whole trace is written, of a book that is legal and fair and begins with the boot that was
 /// read. After Write a beginning of such a trace is written, and after any other fault nothing: Script where a line is faulty,
-/// BookFull where the book had no room for an entry, Failed where a host thread was not started or the book does not agree
-/// with what the cores were told. The gate is called as `Machine::run` says. Reads and writes are tried again as `simulate`
-/// does.
+/// OutOfMemory where memory was refused while users were read or behind that, BookFull where the book had no room for an entry, Failed where a host thread was not started or the book does not agree
+/// with what the cores were told. Nothing is read behind the piece of at most 4,096 bytes in which a fault stands: that of a
+/// line comes with its newline, its 4,097th byte, or the first byte of line 2,000,001. The gate is called as `Machine::run`
+/// says. Reads and writes are tried again as `simulate` does.
 pub fn run_text<R: Read, W: Write, X: AllocGlobal + Threads + Wait + Sync, T: Gate>(
     rt: &X,
     from: &mut Source<R>,

@@ -4,12 +4,12 @@ ghost use Rattle.mcs_book.specs.Boots.{boot_log, is_object};
 ghost use Rattle.mcs_text.specs.Reading.{Gives, words_of, step_of, user_of};
 ghost use Rattle.mcs_text.specs.BootLines.{raw_line};
 ghost use Rattle.mcs_sim.specs.BootLines.{object_of, cores_of, cap_of, index_of, fitted, with_line};
-ghost use Rattle.mcs_sim.specs.Script.{Grammar, Reads, script_of, is_skipped, says_something, asked_cores, boot_in, first_boot, next_boot, next_items, later_line};
+ghost use Rattle.mcs_sim.specs.Script.{Grammar, Reads, is_skipped, says_something, asked_cores, boot_in, first_boot, next_boot, next_items, later_line};
 
 use mcs_kernel::Boot;
 use mcs_text::{
-    Key, LineFault, Lines, RawBootLine, RawCap, RawNumber, UserEntry, Words, address, byte,
-    find_boot_key, read_boot_line, read_step, read_user,
+    Key, LineFault, RawBootLine, RawCap, RawNumber, UserEntry, Words, address, byte, find_boot_key,
+    read_boot_line, read_step, read_user,
 };
 use mcs_types::{
     Badge, BootFault, BootLine, CORES, Cap, CoreId, Guard, Kind, ObjId, OutOfMemory, Prio, Room,
@@ -413,29 +413,4 @@ impl<T: Item> Script<T> {
             ),
         }
     }
-}
-
-/// The script of a text, where so many cores are asked for, up to the first faulty line, and that line's number and fault.
-pub fn read_script<T: Item>(
-    alloc: Global,
-    asked: Option<u8>,
-    text: &[u8],
-) -> Result<(Script<T>, Option<(u64, LineFault)>), OutOfMemory>
-    ensures { IfOk result (λ r. script_of (record { cores = asked; item = T.item }) text.now
-        ≡ (r.0, r.1)) }
-{
-    let mut script = Script::new(alloc);
-    let mut lines = Lines::new(text);
-    let mut number = 1u64;
-    while let Some(line) = lines.next_line() {
-        match script.read_line(alloc, asked, number, line) {
-            Ok(()) => number += 1,
-            Err(ReadFault::Line(why)) => return Ok((script, Some((number, why)))),
-            Err(ReadFault::OutOfMemory) => return Err(OutOfMemory),
-        }
-    }
-    if script.boot.is_none() {
-        return Ok((script, Some((number, LineFault::NoCores))));
-    }
-    Ok((script, None))
 }

@@ -1,10 +1,9 @@
 //! Reading from any reader.
-ghost use Rattle.std.specs.Prelude.{◌≡◌, ◌+◌, ◌^◌, ◌<◌, ◌≤◌, length, take, [], IfOk, OnErr, Err};
+ghost use Rattle.std.specs.Prelude.{◌≡◌, ◌<◌, ◌≤◌, length, take, [], IfOk, OnErr, Err};
 ghost use Rattle.std.specs.Io.KnownBytes.{Consumes, Keeps, IsAtEnd};
 ghost use Rattle.mcs_text.specs.Output.{Rose};
 
-use mcs_types::{RETRIES, SCRIPT_LINE_BYTES, SCRIPT_LINES};
-use std::alloc::{AllocError, Global};
+use mcs_types::RETRIES;
 use std::io::{ErrorKind, Read};
 
 /// A reader, and how many of its calls failed.
@@ -14,29 +13,14 @@ pub struct Source<R> {
     failed: u64,
 }
 
-/// Why not all could be read.
+/// Why no piece could be read.
 #[derive(Clone, Copy, Debug, PartialEq, Eq)]
 pub enum ReadFault {
     Read,
-    OutOfMemory,
 }
-
-impl From<AllocError> for ReadFault {
-    ghost use Rattle.std.specs.Prelude.{◌≡◌};
-    ghost use Rattle.mcs_sim.specs.declared.source.ReadFault.TheVariants.{OutOfMemory};
-
-    ghost from_gives = { λ _ e. e ≡ OutOfMemory };
-
-    fn from(_e: AllocError) -> ReadFault {
-        ReadFault::OutOfMemory
-    }
-}
-
-/// The bytes of as many of the longest lines as a script may have, and one byte more.
-const MOST_BYTES: usize = SCRIPT_LINES as usize * (SCRIPT_LINE_BYTES + 1) + 1;
 
 /// How many bytes are asked for at once.
-const PIECE: usize = 65_536;
+pub const PIECE: usize = 4_096;
 
 /// One read, tried again where it is interrupted, a bounded number of times.
 fn read_some<R: Read>(reader: &mut R, failed: &mut u64, buf: &mut [u8]) -> Result<usize, ReadFault>
@@ -63,44 +47,6 @@ fn read_some<R: Read>(reader: &mut R, failed: &mut u64, buf: &mut [u8]) -> Resul
     Err(ReadFault::Read)
 }
 
-/// How many lines have begun, and whether the last of them goes on.
-#[derive(Clone, Copy)]
-struct Begun {
-    lines: u64,
-    is_open: bool,
-}
-
-impl Begun {
-    ghost use Rattle.mcs_sim.specs.Input.{begun_with, begun_after};
-
-    /// With a byte more.
-    fn with_byte(self, byte: u8) -> Begun
-        requires { self.lines + 1 < 2 ^ 64 }
-        ensures { result ≡ begun_with self byte }
-    {
-        Begun {
-            lines: if self.is_open {
-                self.lines
-            } else {
-                self.lines + 1
-            },
-            is_open: byte != b'\n',
-        }
-    }
-
-    /// With a piece of text more.
-    fn with(self, piece: &[u8]) -> Begun
-        requires { self.lines + length piece.now < 2 ^ 64 }
-        ensures { result ≡ begun_after self piece.now }
-    {
-        let mut begun = self;
-        for byte in piece {
-            begun = begun.with_byte(*byte);
-        }
-        begun
-    }
-}
-
 impl<R> Source<R> {
     /// A source of which no call has failed.
     pub fn new(reader: R) -> Source<R>
@@ -118,7 +64,7 @@ impl<R> Source<R> {
 }
 
 impl<R: Read> Source<R> {
-    ghost use Rattle.mcs_sim.specs.Input.{EndsReading, Reads, ReadsWithin};
+    ghost use Rattle.mcs_sim.specs.Input.{Reads};
 
     /// The next bytes, as many as one read gives, and none at the end of the input.
     pub fn read_piece(&mut self, piece: &mut [u8]) -> Result<usize, ReadFault>
@@ -132,37 +78,5 @@ impl<R: Read> Source<R> {
         ensures fault { OnErr result (result ≡ Err ReadFault.Read) }
     {
         read_some(&mut self.reader, &mut self.failed, piece)
-    }
-
-    /// All bytes to the end, or to the first byte of the line after the last that a script may have, or as many bytes as all
-    /// lines may have and one more.
-    pub fn read_all(&mut self, alloc: Global) -> Result<Vec<u8>, ReadFault>
-        ensures bytes { IfOk result (λ v. Reads R.remaining self.old self.new v.items) }
-        ensures end { IfOk result (λ v. EndsReading (R.remaining self.new.reader) v.items) }
-        ensures err { OnErr result (ReadsWithin R.remaining self.old self.new) }
-        ensures count { self.old.failed ≤ self.new.failed }
-        ensures rose { result ≡ Err ReadFault.Read → Rose self.old.failed self.new.failed }
-    {
-        let mut bytes = Vec::new(alloc);
-        let mut piece = [0; PIECE];
-        let mut begun = Begun {
-            lines: 0,
-            is_open: false,
-        };
-        'reads: while bytes.len() < MOST_BYTES {
-            // a byte begins at most one line, so that no byte is read behind the first of the line after the last
-            let lines_left = (SCRIPT_LINES + 1).saturating_sub(begun.lines);
-            let room = PIECE.min(lines_left as usize).min(MOST_BYTES - bytes.len());
-            if room == 0 {
-                return Ok(bytes);
-            }
-            let n = read_some(&mut self.reader, &mut self.failed, &mut piece[..room])?;
-            if n == 0 {
-                return Ok(bytes);
-            }
-            begun = begun.with(&piece[..n]);
-            bytes.extend_from_slice(&piece[..n])?;
-        }
-        Ok(bytes)
     }
 }

@@ -16,4 +16,6 @@ mod runs;
 #[cfg(test)]
 mod streams;
 #[cfg(test)]
+mod users;
+#[cfg(test)]
 mod waiting;
