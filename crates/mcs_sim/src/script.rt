@@ -8,8 +8,8 @@ ghost use Rattle.mcs_sim.specs.Script.{Grammar, Reads, is_skipped, says_somethin
 
 use mcs_kernel::Boot;
 use mcs_text::{
-    Key, LineFault, RawBootLine, RawCap, RawNumber, UserEntry, Words, address, byte,
-    find_boot_key, read_boot_line, read_step, read_user,
+    Key, LineFault, RawBootLine, RawCap, RawNumber, UserEntry, Words, address, byte, find_boot_key,
+    read_boot_line, read_step, read_user,
 };
 use mcs_types::{
     Badge, BootFault, BootLine, CORES, Cap, CoreId, Guard, Kind, ObjId, OutOfMemory, Prio, Room,
