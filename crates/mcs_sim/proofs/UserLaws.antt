@@ -1,16 +1,16 @@
 -- The lists of users: bytes after bytes, whole lines, and what stops.
-use Rattle.std.proofs.Common.{◌≡◌, ℕ, zero, suc, ◌+◌, ◌*◌, ◌<◌, ◌≤◌, ◌⊎◌, inl, inr, Bool, true, false, eqb, ltb, Option, Some, None, Result, Ok, Err, OnOk, IfErr, List, [], ◌∷◌, ◌++◌, length, slice_index, take, drop, refl, sym, ap, subst, ◌∙◌, append_assoc, append-nil, arith}
-use Rattle.std.proofs.lemmas.Bool.{lt-ltb, le-ltb, ne_eqb, eqb-true}
+use Rattle.std.proofs.Common.{◌≡◌, ℕ, zero, suc, ◌+◌, ◌*◌, ◌<◌, ◌≤◌, ◌⊎◌, inl, inr, true, false, eqb, ltb, Option, Some, None, Result, Ok, Err, OnOk, IfErr, List, [], ◌∷◌, ◌++◌, length, slice_index, refl, sym, ap, subst, ◌∙◌, append_assoc, append-nil, arith}
+use Rattle.std.proofs.lemmas.Bool.{lt-ltb, le-ltb, ne_eqb}
 use Rattle.std.proofs.lemmas.List.{length-append}
 use Rattle.std.specs.Io.KnownBytes.{Consumes, IsAtEnd}
 use Rattle.mcs_book.specs.Boots.{Boot}
 use Rattle.mcs_text.specs.declared.fault.LineFault.{LineFault}
 use Rattle.mcs_text.specs.declared.fault.LineFault.TheVariants as why
 use Rattle.mcs_text.specs.declared.steps.UserEntry.{UserEntry}
-use Rattle.mcs_text.specs.Reading.{◌>>=◌, onto_first, lines_of}
+use Rattle.mcs_text.specs.Reading.{onto_first, lines_of}
 use Rattle.mcs_sim.specs.declared.fault.SimFault.{SimFault}
 use Rattle.mcs_sim.specs.declared.fault.SimFault.TheVariants as fault
-use Rattle.mcs_sim.specs.Script.{Script, no_script, of_users, says_something, read_line, ending, script_from, script_of, users}
+use Rattle.mcs_sim.specs.Script.{Script, of_users, says_something, read_line, ending, script_from, script_of, users}
 use Rattle.mcs_sim.specs.Going.{HasNoNewline}
 use Rattle.mcs_sim.specs.Users.{Users, no_users, IsKept, read_behind, AreLines, TakesUsers, IsFaultIn, IsFaultOfLine, read_to_end, IsFaultAtEnd, AreFaultless, GoesOn, UsersStopSoon}
 use Rattle.mcs_sim.specs.Running.{Reads, EndsUsers}
@@ -99,17 +99,6 @@ takes-part u part line is = record {
 }
 
 -- ---- what is kept
-
--- a line that goes on
-pub kept-part : (lines : ℕ) (line part more : List ℕ) → IsKept lines line → HasNoNewline part → lines < 2000000 → length line + length part ≤ 4096 → more ≡ line ++ part → IsKept lines more
-kept-part lines line part more kept plain few fits is =
-    let count : length more ≡ length line + length part = ap (λ (l : List ℕ). length l) is ∙ length-append line part in
-    record {
-      few = kept.few;
-      short = omega (arith, count, fits);
-      room = λ lt. few;
-      plain = subst HasNoNewline (sym is) (plain-append line part kept.plain plain);
-    }
 
 -- a line that has ended
 pub kept-nil : (lines : ℕ) (line : List ℕ) → lines ≤ 2000000 → line ≡ [] → IsKept lines line

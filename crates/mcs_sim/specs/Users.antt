@@ -1,10 +1,11 @@
 -- The lists of users, from text that comes in pieces.
-use Rattle.std.specs.Prelude.{◌≡◌, ◌⊎◌, ◌<◌, ◌≤◌, ◌*◌, ℕ, ◌+◌, List, [], ◌∷◌, ◌++◌, length, Option, Some, Result, Ok, Err}
+use Rattle.std.specs.Prelude.{◌≡◌, ◌⊎◌, ◌<◌, ◌≤◌, ◌*◌, ℕ, ◌+◌, List, [], ◌∷◌, ◌++◌, length, Option, Some, Result, Err}
 use Rattle.mcs_types.specs.declared.limits.TheConstants.{SCRIPT_LINES, SCRIPT_LINE_BYTES}
 use Rattle.mcs_text.specs.declared.fault.LineFault.{LineFault}
 use Rattle.mcs_text.specs.declared.steps.UserEntry.{UserEntry}
 use Rattle.mcs_text.specs.Reading.{lines_of}
 use Rattle.mcs_sim.specs.declared.fault.SimFault.{SimFault}
+use Rattle.mcs_sim.specs.declared.source.TheConstants.{PIECE}
 use Rattle.mcs_sim.specs.declared.fault.SimFault.TheVariants as fault
 use Rattle.mcs_sim.specs.Script.{Script, no_script, of_users, script_from, users}
 use Rattle.mcs_sim.specs.Going.{HasNoNewline}
@@ -41,7 +42,7 @@ pub record TakesUsers (bytes : List ℕ) (old new : Users) : Type 0 where
   pub split : old.line ++ bytes ≡ ended ++ new.line
   pub lines : AreLines ended
   pub count : (more : List ℕ) → old.lines + length (lines_of (ended ++ more)) ≡ new.lines + length (lines_of more)
-  pub short : old.lines * 4097 + length ended ≤ new.lines * 4097
+  pub short : old.lines * (SCRIPT_LINE_BYTES + 1) + length ended ≤ new.lines * (SCRIPT_LINE_BYTES + 1)
   pub reads : (more : List ℕ) → read_behind old (ended ++ more) ≡ read_behind new more
 
 -- a fault that stands in these bytes, whatever follows; nothing is said where memory was refused
@@ -82,10 +83,10 @@ pub record GoesOn (asked : Option ℕ) (text : List ℕ) : Type 0 where
   pub short : length last ≤ SCRIPT_LINE_BYTES
   pub few : length (lines_of text) ≤ SCRIPT_LINES
 
--- reading users stops soon: within a piece of 4,096 bytes, at most, behind what gave no fault
+-- reading users stops soon: within one piece, at most, behind what gave no fault
 pub record UsersStopSoon (asked : Option ℕ) (text : List ℕ) : Type 0 where
   pub before : List ℕ
   pub piece : List ℕ
   pub split : text ≡ before ++ piece
-  pub few : length piece ≤ 4096
+  pub few : length piece ≤ PIECE
   pub goes : GoesOn asked before

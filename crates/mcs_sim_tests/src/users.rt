@@ -49,24 +49,20 @@ fn run<R: AllocGlobal + Threads + Wait + Sync, F: Read + Drop>(
     cores: Option<u8>,
 ) -> (Result<(), SimFault>, usize) {
     let mut output = Output::new(rt.alloc());
-    let result = run_text(
-        rt,
-        &mut Source::new(from),
-        &mut Sink::new(rt.alloc(), &mut output),
-        cores,
-        &Open,
-    );
+    let result = match Sink::new(rt.alloc(), &mut output) {
+        Ok(mut sink) => run_text(rt, &mut Source::new(from), &mut sink, cores, &Open),
+        Err(_) => Err(SimFault::OutOfMemory),
+    };
     (result, output.taken.len())
 }
 
 /// What a replay gives, and how much it writes.
 fn replay<F: Read + Drop>(alloc: Global, from: F) -> (Result<(), SimFault>, usize) {
     let mut output = Output::new(alloc);
-    let result = simulate(
-        alloc,
-        &mut Source::new(from),
-        &mut Sink::new(alloc, &mut output),
-    );
+    let result = match Sink::new(alloc, &mut output) {
+        Ok(mut sink) => simulate(alloc, &mut Source::new(from), &mut sink),
+        Err(_) => Err(SimFault::OutOfMemory),
+    };
     (result, output.taken.len())
 }
 

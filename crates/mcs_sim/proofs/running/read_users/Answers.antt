@@ -1,9 +1,8 @@
-use Rattle.std.proofs.Common.{◌≡◌, ℕ, ◌++◌, [], List, length, take, Err, IfErr, refl, ap, sym, subst, ◌∙◌, append-nil, arith}
+use Rattle.std.proofs.Common.{◌≡◌, ℕ, ◌++◌, [], length, take, IfErr, refl, ap, sym, subst, append-nil, arith}
 use Rattle.std.specs.Prelude.{IsErrAnd}
 use Rattle.std.specs.Io.KnownBytes.{Consumes}
 use Rattle.std.proofs.KnownBytes.{Consumes-trans}
 use Rattle.std.proofs.lemmas.List.{length-take-le}
-use Rattle.mcs_sim.specs.declared.fault.SimFault.{SimFault}
 use Rattle.mcs_sim.specs.Users.{Users, no_users, IsKept, TakesUsers, IsFaultIn, IsFaultAtEnd}
 use Rattle.mcs_sim.proofs.RunLaws.{IfErr-same, IfOk-then, IfErr-then, Consumes-nil}
 use Rattle.mcs_sim.proofs.UserLaws.{takes-nothing, takes-append, kept-nil, further, stops-here, ends-in, ends-at, reads-all}
