@@ -413,16 +413,19 @@ fn put_line<W: Write>(sink: &mut Sink<W>, line: &Line<'_>) {
     }
 }
 
-/// The text of all lines of a book.
-fn text_of(alloc: Global, book: &Book) -> Result<Vec<u8>, OutOfMemory> {
-    let mut written = Vec::new(alloc);
-    let mut sink = Sink::new(alloc, &mut written)?;
+fn put_lines<W: Write>(sink: &mut Sink<W>, book: &Book) {
     for i in 0..book.lines() {
         if let Some(line) = book.line(i) {
-            put_line(&mut sink, &line);
+            put_line(sink, &line);
         }
     }
     sink.flush();
+}
+
+/// The text of all lines of a book.
+fn text_of(alloc: Global, book: &Book) -> Result<Vec<u8>, OutOfMemory> {
+    let mut written = Vec::new(alloc);
+    put_lines(&mut Sink::new(alloc, &mut written)?, book);
     Ok(written)
 }
 
