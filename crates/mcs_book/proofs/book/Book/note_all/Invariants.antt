@@ -1,4 +1,4 @@
-use Rattle.std.proofs.Common.{◌≡◌, ◌+◌, ◌++◌, take, drop, reverse, length}
+use Rattle.std.proofs.Common.{◌≡◌, ◌+◌, ◌++◌, take, drop, reverse}
 use Rattle.mcs_book.proofs.book.Book.note_all.Given as goal
 
 abbrev pub invariant-loop-fact : goal.invariant-loop-fact
