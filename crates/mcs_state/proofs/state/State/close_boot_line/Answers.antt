@@ -17,7 +17,7 @@ invariant_of-self g c =
     let was : P (record { book = book; hand = hand; boot_room = c.self.inside.book.boot_room; room = c.self.inside.book.room }) = subst P (sym c.self.view_is) (c.requires.boot, c.requires.records) in
     let none = ap (λ (h : Log). counted is_sent h) was.1 ∙ boot-sends-none (log_of book) c.args.line in
     let empty = ap (λ (ls : List Line). length ls) was.0 in
-    let kept = ap (λ (b : Book). length b.lines) c.add_boot_line.ensures in
+    let kept = ap (λ (b : Book). length b.lines) c.add_boot_line.ensures.line in
     let few : c.self.inside.sent ≤ HAND * length c.add_boot_line.new.self.book.lines = omega (arith, i.1.sent.few, none, empty, kept) in
-    let same : log_of c.add_boot_line.new.self.book ≡ hand ++ log_of book = ap (λ (b : Book). log_of b) c.add_boot_line.ensures ∙ boot-moved book.boot.lines book.lines c.args.line hand was.0 was.1 in
+    let same : log_of c.add_boot_line.new.self.book ≡ hand ++ log_of book = ap (λ (b : Book). log_of b) c.add_boot_line.ensures.line ∙ boot-moved book.boot.lines book.lines c.args.line hand was.0 was.1 in
     (omega (arith, i.0, c.clear.ensures.capacity), rw c.clear.ensures.items (moved-kept (length c.add_boot_line.new.self.book.lines) (log_of c.add_boot_line.new.self.book) same few i.1))
