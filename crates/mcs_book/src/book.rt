@@ -1,5 +1,5 @@
 //! The book: all lines, kept packed, with their records side by side.
-ghost use Rattle.std.specs.Prelude.{◌≡◌, ◌<◌, ◌≤◌, ◌∷◌, ◌++◌, [], ◌+◌, ◌-◌, take, drop, IfOk, OnOk, OnErr, reverse, length, slice_get, vec_len, vec_capacity};
+ghost use Rattle.std.specs.Prelude.{◌≡◌, ◌<◌, ◌≤◌, ◌∷◌, ◌++◌, [], ◌+◌, ◌-◌, take, drop, IfOk, OnOk, OnErr, max, reverse, length, slice_get, vec_len, vec_capacity};
 ghost use Rattle.mcs_packing.specs.Packing.{AllFit, Grew, HasRoom, records_of};
 ghost use Rattle.mcs_packing.specs.Heads.{AllHeadsFit, all_entered};
 ghost use Rattle.mcs_book.specs.History.{with_boot_line, with_line, line_of_number};
@@ -293,6 +293,7 @@ impl Book {
         ensures boot { result.book.boot.lines ≡ [] }
         ensures lines { result.book.lines ≡ [] }
         ensures hand { result.hand ≡ [] }
+        ensures room { result.room ≡ 0 }
     {
         Book {
             cores,
@@ -353,6 +354,7 @@ impl Book {
     /// book is as it was. It is out of memory as well for more than 1,000,000 records, and where 2 to the 31 words are kept.
     pub fn reserve(&mut self, records: usize) -> Result<(), OutOfMemory>
         ensures room { OnOk result (records < self.new.room) }
+        ensures few { self.new.room ≤ max self.old.room (records + 1) }
         ensures full { OnErr result (self.old.room ≤ records) }
         ensures unchanged { self.new.book ≡ self.old.book }
         ensures hand { self.new.hand ≡ self.old.hand }
@@ -407,6 +409,8 @@ impl Book {
         ensures book { self.new.book ≡ self.old.book }
         ensures boot_room { self.new.boot_room ≡ self.old.boot_room }
         ensures room { self.new.room + 1 ≡ self.old.room }
+        ensures whole { self.new.room + length self.new.hand
+            ≡ self.old.room + length self.old.hand }
     {
         self.note_from(&mut fact);
     }
@@ -430,6 +434,7 @@ impl Book {
             ≡ with_line self.old.book step.now answer.now (reverse self.old.hand) }
         ensures hand { self.new.hand ≡ [] }
         ensures boot_room { self.new.boot_room ≡ self.old.boot_room }
+        ensures room { self.new.room ≡ 0 }
     {
         let first = self.first.min(MOST_KEPT) as u32;
         let entry = self.arena.pack_entry(&step.entry, first);
@@ -461,6 +466,13 @@ impl Book {
         self.note_all(records);
         records.clear();
         self.close(step, answer);
+    }
+
+    /// How many records the open line has.
+    pub fn open_records(&self) -> usize
+        ensures { result ≡ length self.now.hand }
+    {
+        self.packed.len() - self.start
     }
 
     /// How many lines there are, the boot's among them.
