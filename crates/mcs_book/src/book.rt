@@ -319,6 +319,7 @@ impl Book {
         ensures full { OnErr result (self.old.boot_room ≡ 0) }
         ensures unchanged { self.new.book ≡ self.old.book }
         ensures hand { self.new.hand ≡ self.old.hand }
+        ensures line_room { self.new.room ≡ self.old.room }
     {
         self.boot.reserve(1)?;
         Ok(())
