@@ -7,7 +7,7 @@ use Rattle.std.specs.Prelude.{Bool, bytes_eq, if◌then◌else◌}
 use Rattle.mcs_text.specs.declared.fault.LineFault.TheVariants.{Form}
 use Rattle.mcs_text.specs.declared.key.Key.{Key}
 use Rattle.mcs_text.specs.declared.key.Key.TheVariants as k
-use Rattle.mcs_text.specs.Keys.{key_text, boot_key, entry_key, entry_keys, short_keys, nb_keys, six_keys, long_keys, NoneBegins}
+use Rattle.mcs_text.specs.Keys.{key_text, boot_key, entry_key, entry_keys, short_keys, nb_keys, six_keys, long_keys, longest_keys, NoneBegins}
 use Rattle.mcs_text.specs.FirstKeys.{first_key}
 use Rattle.mcs_text.specs.Reading.{words_of, onto_first, entry_of, entry_at, sent_at, replied_at, exchanged_at, pair_at, priority_at, address_at, place_at, copy_at, mint_at, move_at, last_place_at, make_at, number_at}
 use Rattle.mcs_text.proofs.WordLaws.{words_of-some, word-then}
@@ -103,9 +103,9 @@ no-words (Some k.NbSendWait) = refl
 no-words (Some _) = refl
 
 -- where none of the keys begins the text, no entry is spelled
-pub no_entry : (s : List ℕ) → NoneBegins short_keys s → NoneBegins nb_keys s → NoneBegins six_keys s → NoneBegins long_keys s → entry_at (words_of s) ≡ Err Form
+pub no_entry : (s : List ℕ) → NoneBegins short_keys s → NoneBegins nb_keys s → NoneBegins six_keys s → NoneBegins long_keys s → NoneBegins longest_keys s → entry_at (words_of s) ≡ Err Form
 unfolding entry_at entry_key
-no_entry s (send, (call, (recv, (wait, (bind, (copy, (mint, (move, (make, _))))))))) (nbsend, (nbrecv, (nbwait, (nbsendrecv, (nbsendwait, _))))) (signal, (resume, (unbind, (cancel, (delete, _))))) (replyrecv, (setprio, (suspend, (bindntfn, (unbindntfn, _))))) = go (words_of s) refl
+no_entry s (send, (call, (recv, (wait, (bind, (copy, (mint, (move, (make, _))))))))) (nbsend, (nbrecv, (nbwait, (nbsendrecv, (nbsendwait, _))))) (signal, (resume, (unbind, (cancel, (delete, _))))) (setprio, (suspend, (bindntfn, _))) (replyrecv, (unbindntfn, _)) = go (words_of s) refl
   where
     go : (ws : List (List ℕ)) → words_of s ≡ ws → entry_at ws ≡ Err Form
     go [] e = refl
