@@ -248,7 +248,9 @@ impl<W: Write + Drop> Checker<W> {
     fn put_plan(&mut self) -> io::Result<()> {
         let told = self.told;
         if told == 0 {
-            return self.to.write_all(b"1..0 # SKIP nothing is said of any step\n");
+            return self
+                .to
+                .write_all(b"1..0 # SKIP nothing is said of any step\n");
         }
         writeln!(self.to, "1..{told}")
     }
@@ -263,9 +265,7 @@ impl<W: Write + Drop> Checker<W> {
     /// Tells that the script could not be read on.
     fn bail(&mut self, fault: LabFault) -> io::Result<()> {
         match fault {
-            LabFault::Script { line, why } => {
-                writeln!(self.to, "Bail out! line {line}: {why}")
-            }
+            LabFault::Script { line, why } => { writeln!(self.to, "Bail out! line {line}: {why}") }
             LabFault::Form { line } => {
                 writeln!(self.to, "Bail out! line {line}: no question has this form")
             }

@@ -2,8 +2,7 @@
 use mcs_sim::SimFault;
 use mcs_text::LineFault;
 use std::alloc::{AllocError, AllocFailed};
-use std::fmt;
-use std::io;
+use std::{fmt, io};
 
 /// Why a script is not read to its end.
 #[derive(Clone, Copy, PartialEq, Eq, Debug)]
@@ -72,7 +71,10 @@ impl fmt::Display for LabFault {
                 let number = why.number();
                 write!(f, "mcslab: line {line}: fault {number}: {why}")
             }
-            LabFault::Form { line } => write!(f, "mcslab: line {line}: no question and no name has this form"),
+            LabFault::Form { line } => write!(
+                f,
+                "mcslab: line {line}: no question and no name has this form"
+            ),
             LabFault::Read => f.write_str("mcslab: read fault"),
             LabFault::Write => f.write_str("mcslab: write fault"),
             LabFault::BookFull => f.write_str("mcslab: book full"),

@@ -5,6 +5,7 @@ mod asking;
 mod behind;
 mod checking;
 mod fault;
+mod hints;
 mod names;
 mod reading;
 mod seeing;

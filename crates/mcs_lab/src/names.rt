@@ -1,8 +1,7 @@
 //! The names that a script gives to objects.
 use crate::fault::LabFault;
 use crate::words::object_of;
-use mcs_text::letter;
-use mcs_text::Words;
+use mcs_text::{Words, letter};
 use mcs_types::{ObjId, Queue};
 use std::alloc::Global;
 use std::io::{self, Write};

@@ -43,7 +43,11 @@ fn put_status(line: &mut Line, status: Option<Status>, by: bool) {
             line.spaced_word(&Token::Line(queue));
         }
         Some(Status::OnReply(reply)) => {
-            line.bytes(if by { b" owed by".as_slice() } else { b" owed".as_slice() });
+            line.bytes(if by {
+                b" owed by".as_slice()
+            } else {
+                b" owed".as_slice()
+            });
             line.spaced_word(&Token::Name(reply));
         }
         Some(Status::Running) => line.spaced_word(&Token::Key(Key::Running)),
@@ -121,7 +125,10 @@ fn see_thread(line: &mut Line, kernel: &Kernel<LinkedLines>, question: &Question
         }
         Question::Priority { thread } => {
             begin(line, thread, b"priority");
-            put_number_or_dash(line, kernel.priority(thread).map(|priority| priority.0 as u64));
+            put_number_or_dash(
+                line,
+                kernel.priority(thread).map(|priority| priority.0 as u64),
+            );
         }
         _ => {}
     }

@@ -174,8 +174,11 @@ impl<'a, W: Write> Tables<'a, W> {
         }
         let mut is_first = true;
         for reply in self.kernel.chain(context) {
-            self.to
-                .write_all(if is_first { b"; chain ".as_slice() } else { b" ".as_slice() })?;
+            self.to.write_all(if is_first {
+                b"; chain ".as_slice()
+            } else {
+                b" ".as_slice()
+            })?;
             self.names.put(self.to, reply)?;
             is_first = false;
         }

@@ -9,11 +9,7 @@ use std::alloc::Global;
 use std::io::Write;
 
 /// The thread that took the call for which a reply object owed last: the one that received in the same line.
-pub fn taker_of(
-    alloc: Global,
-    book: &Book,
-    reply: ObjId,
-) -> Result<Option<ObjId>, OutOfMemory> {
+pub fn taker_of(alloc: Global, book: &Book, reply: ObjId) -> Result<Option<ObjId>, OutOfMemory> {
     for number in (1..book.lines()).rev() {
         let Some(line) = book.line(number) else {
             return Ok(None);
@@ -47,11 +43,13 @@ fn add_receivers(
             return Ok(());
         };
         for i in 0..line.record_count() {
-            if let Some(Rec::Joins {
-                thread,
-                queue: Queue::Receivers(place),
-                ..
-            }) = line.record(alloc, i)?
+            if let Some(
+                Rec::Joins {
+                    thread,
+                    queue: Queue::Receivers(place),
+                    ..
+                },
+            ) = line.record(alloc, i)?
                 && place.is_same(endpoint)
                 && !thread.is_same(but)
             {
@@ -153,11 +151,10 @@ impl Waits {
 
     /// Whether one of those for whom a thread waits goes on, as far as is known.
     fn has_free(&self, thread: ObjId, free: &ThreadSet) -> bool {
-        (1..=self.sets.len() as u32)
-            .any(|serial| {
-                let other = thread_of(serial);
-                self.is_waited(thread, other) && free.contains(other)
-            })
+        (1..=self.sets.len() as u32).any(|serial| {
+            let other = thread_of(serial);
+            self.is_waited(thread, other) && free.contains(other)
+        })
     }
 
     /// Adds the threads that go on because of those that are known to go on.

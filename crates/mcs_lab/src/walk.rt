@@ -60,7 +60,10 @@ impl Walk {
 
     /// The line of the book of the last step that was let in.
     pub fn last(&self) -> Option<Line<'_>> {
-        self.run.kernel()?.book().line(self.book_lines.saturating_sub(1))
+        self.run
+            .kernel()?
+            .book()
+            .line(self.book_lines.saturating_sub(1))
     }
 
     /// How many messages were sent before the last step that was let in.

@@ -1,12 +1,15 @@
 //! Why a step did nothing, in words.
 use crate::fault::LabFault;
+use crate::hints::{put_hints, put_path};
 use crate::names::Names;
 use crate::reading::{TakesLines, take_lines};
 use crate::stuck::{Waits, taker_of};
 use crate::walk::{Came, Walk};
 use crate::words::entrant_of;
-use mcs_kernel::EnterFault;
+use mcs_kernel::{EnterFault, Kernel};
+use mcs_queues::LinkedLines;
 use mcs_sim::Source;
+use mcs_text::LineFault;
 use mcs_types::{
     Answer, Ending, Entry, ObjId, OutOfMemory, Place, Rec, Refusal, SendMode, Status, Step,
 };
@@ -54,7 +57,9 @@ fn named_by(entry: &Entry) -> [Named; 3] {
             [Named::Address(*cap), Named::Address(*reply), none]
         }
         Entry::SetPriority {
-            thread, authority, ..
+            thread,
+            authority,
+            ..
         } => [Named::Address(*thread), Named::Address(*authority), none],
         Entry::Suspend { thread } | Entry::Resume { thread } | Entry::UnbindNtfn { thread } => {
             [Named::Address(*thread), none, none]
@@ -77,7 +82,10 @@ fn named_by(entry: &Entry) -> [Named; 3] {
         | Entry::MakeReply { place }
         | Entry::MakeContext { place } => [Named::Place(*place), none, none],
         Entry::NbSendRecv {
-            cap, source, reply, ..
+            cap,
+            source,
+            reply,
+            ..
         } => [
             Named::Address(*cap),
             Named::Address(*source),
@@ -86,6 +94,15 @@ fn named_by(entry: &Entry) -> [Named; 3] {
         Entry::NbSendWait { cap, source, .. } => {
             [Named::Address(*cap), Named::Address(*source), none]
         }
+    }
+}
+
+/// How what an entry names is refused, if lookup refuses it.
+fn refusal_of(kernel: &Kernel<LinkedLines>, thread: ObjId, named: Named) -> Option<Refusal> {
+    match named {
+        Named::Nothing => None,
+        Named::Address(address) => kernel.named(thread, address)?.err(),
+        Named::Place(place) => kernel.placed(thread, place)?.err(),
     }
 }
 
@@ -180,31 +197,47 @@ impl<W: Write> Explainer<W> {
         Ok(())
     }
 
-    /// Writes the first address or place of an entry that is refused so.
+    /// Writes where the first address or place of an entry leads that is refused so.
     fn put_refused(&mut self, step: &Step, refusal: Refusal) -> Result<(), LabFault> {
+        let Some(kernel) = self.walk.kernel() else {
+            return Ok(());
+        };
+        let Some(root) = kernel.root(step.thread) else {
+            return Ok(());
+        };
         for named in named_by(&step.entry) {
-            let Some(kernel) = self.walk.kernel() else {
-                return Ok(());
-            };
-            match named {
-                Named::Nothing => {}
+            if refusal_of(kernel, step.thread, named) != Some(refusal) {
+                continue;
+            }
+            let (number, depth) = match named {
+                Named::Nothing => continue,
                 Named::Address(address) => {
-                    if let Some(Err(found)) = kernel.named(step.thread, address)
-                        && found == refusal
-                    {
-                        write!(self.to, "address {address}: ")?;
-                        return Ok(());
-                    }
+                    write!(self.to, "address {address}")?;
+                    (address, 64)
                 }
-                Named::Place(place) => {
-                    if let Some(Err(found)) = kernel.placed(step.thread, place)
-                        && found == refusal
-                    {
-                        let Place { index, depth } = place;
-                        write!(self.to, "index {index} at depth {depth}: ")?;
-                        return Ok(());
-                    }
+                Named::Place(Place { index, depth }) => {
+                    write!(self.to, "index {index} at depth {depth}")?;
+                    (index, depth as u32)
                 }
+            };
+            if depth >= 1 && depth <= 64 {
+                put_path(&mut self.to, kernel, &self.names, root, number, depth)?;
+            }
+            self.to.write_all(b": ")?;
+            return Ok(());
+        }
+        Ok(())
+    }
+
+    /// Tells a fault of the script, and what may have been meant.
+    fn tell_fault(&mut self, line: &[u8], fault: LabFault) -> Result<(), LabFault> {
+        if let LabFault::Script { line: number, why } = fault {
+            let told = why.number();
+            write!(self.to, "line {number}: fault {told}: {why}: ")?;
+            self.to.write_all(line)?;
+            self.to.write_all(b"\n")?;
+            if why == LineFault::Form {
+                put_hints(&mut self.to, line)?;
             }
         }
         Ok(())
@@ -247,7 +280,8 @@ impl<W: Write> Explainer<W> {
                 self.to.write_all(b" owed ")?;
                 self.names.put(&mut self.to, *caller)?;
                 self.to.write_all(match ending {
-                    Ending::Deleted => b" an answer, which never comes: it was deleted\n".as_slice(),
+                    Ending::Deleted =>
+                        b" an answer, which never comes: it was deleted\n".as_slice(),
                     Ending::Cancelled => {
                         b" an answer, which never comes: the debt was cancelled\n".as_slice()
                     }
@@ -301,7 +335,14 @@ impl<W: Write> Explainer<W> {
 
 impl<W: Write> TakesLines for Explainer<W> {
     fn take_line(&mut self, alloc: Global, line: &[u8]) -> Result<(), LabFault> {
-        match self.walk.take(alloc, line)? {
+        let came = match self.walk.take(alloc, line) {
+            Ok(came) => came,
+            Err(fault) => {
+                self.tell_fault(line, fault)?;
+                return Err(fault);
+            }
+        };
+        match came {
             Came::Step { entered: false } => self.tell_away(alloc, line),
             Came::Step { entered: true } => self.tell_entered(alloc, line),
             Came::Named(text) => match self.names.take(alloc, text)? {

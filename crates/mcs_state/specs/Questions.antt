@@ -10,7 +10,7 @@ use Rattle.mcs_book.specs.Lookup.{capability, slot_named}
 use Rattle.mcs_book.specs.Slots.{SlotName}
 use Rattle.mcs_types.specs.declared.cap.Place.{Place}
 use Rattle.mcs_book.specs.Notifications.{pending}
-use Rattle.mcs_book.specs.Threads.{prio_of}
+use Rattle.mcs_book.specs.Threads.{prio_of, root_of}
 use Rattle.mcs_state.specs.Tables.{is_there}
 
 -- the priority of a thread that is there
@@ -28,3 +28,7 @@ named_for R t address = cond (is_there R kind.Thread t) (Some (capability R t ad
 -- the slot that a place of a thread that is there names
 abbrev pub placed_for : Log → ObjId → Place → Option (Result SlotName Refusal)
 placed_for R t place = cond (is_there R kind.Thread t) (Some (slot_named R t place)) None
+
+-- the root capability of a thread that is there
+abbrev pub root_said : Log → ObjId → Option Cap
+root_said R t = cond (is_there R kind.Thread t) (root_of R t) None

@@ -71,21 +71,25 @@ fn commands<'a>(alloc: Global) -> Result<Words<'a>, Error> {
         .after_help(FORMS)
         .arg(file(alloc))?;
     let why = Words::new(alloc, "why")
-        .about("Tells why a step was turned away or refused, and at the end which threads are stuck")
+        .about(
+            "Tells why a step was turned away or refused, and at the end which threads are stuck",
+        )
         .arg(file(alloc))?;
     let state = Words::new(alloc, "state")
         .about("Shows who stands where")
         .arg(at(alloc))?
         .arg(stuck(alloc))?
         .arg(file(alloc))?;
-    Ok(Words::new(alloc, "mcslab")
-        .version(VERSION)
-        .about("Tests scripts of mcssim, and says why a step did nothing and who stands where")
-        .after_help(FORMS)
-        .subcommand_required(true)
-        .subcommand(check)?
-        .subcommand(why)?
-        .subcommand(state)?)
+    Ok(
+        Words::new(alloc, "mcslab")
+            .version(VERSION)
+            .about("Tests scripts of mcssim, and says why a step did nothing and who stands where")
+            .after_help(FORMS)
+            .subcommand_required(true)
+            .subcommand(check)?
+            .subcommand(why)?
+            .subcommand(state)?,
+    )
 }
 
 /// What the words of the command line ask for; the first is the program's name.

@@ -37,7 +37,11 @@ fn tell_answer(rt: &HostRuntime, answer: &Error) -> ExitCode {
 }
 
 /// Does what is asked with a script that is read.
-fn read_script<R: Read + Drop>(rt: &HostRuntime, request: &Request<'_>, from: R) -> Result<bool, LabFault> {
+fn read_script<R: Read + Drop>(
+    rt: &HostRuntime,
+    request: &Request<'_>,
+    from: R,
+) -> Result<bool, LabFault> {
     let mut source = Source::new(from);
     let mut to = BufWriter::new(rt.alloc(), io::writer(rt))?;
     let done = match request.command {

@@ -14,7 +14,7 @@ ghost use Rattle.mcs_book.specs.Slots.{slot};
 ghost use Rattle.mcs_replies.specs.Rest.{rest_of};
 ghost use Rattle.mcs_state.specs.Now.{so_far};
 ghost use Rattle.mcs_state.specs.Nexts.{behind};
-ghost use Rattle.mcs_state.specs.Questions.{priority_of, word_of, named_for, placed_for};
+ghost use Rattle.mcs_state.specs.Questions.{priority_of, word_of, named_for, placed_for, root_said};
 ghost use Rattle.mcs_state.specs.Tables.{core_said};
 ghost use Rattle.mcs_cspace.specs.Spaces.{named_by};
 
@@ -147,6 +147,13 @@ impl<L: Lines> Kernel<L> {
         ensures { option_map (λ r. named_by r) result ≡ placed_for (log_of self.now) thread place }
     {
         self.state.placed(thread, place)
+    }
+
+    /// The capability to the root of a thread's space; None where the thread is not there (manual: Capability Spaces).
+    pub fn root(&self, thread: ObjId) -> Option<Cap>
+        ensures { result ≡ root_said (log_of self.now) thread }
+    {
+        self.state.root_of(thread)
     }
 
     /// The core of a context; None where it is not there (manual: Threads and Execution).

@@ -6,7 +6,7 @@ ghost use Rattle.mcs_book.specs.Chains.{chain_of};
 ghost use Rattle.mcs_replies.specs.Rest.{rest_of};
 ghost use Rattle.mcs_state.specs.Now.{so_far};
 ghost use Rattle.mcs_state.specs.Nexts.{behind};
-ghost use Rattle.mcs_state.specs.Questions.{priority_of, word_of, named_for, placed_for};
+ghost use Rattle.mcs_state.specs.Questions.{priority_of, word_of, named_for, placed_for, root_said};
 ghost use Rattle.mcs_state.specs.Tables.{core_said};
 ghost use Rattle.mcs_cspace.specs.Spaces.{named_by};
 
@@ -74,6 +74,16 @@ impl<W: Waiting> State<W> {
         match self.threads.get(thread) {
             None => None,
             Some(row) => Some(lookup_slot(&self.slots, &row.root, place)),
+        }
+    }
+
+    /// The capability to the root of a thread's space; None where the thread is not there (manual: Capability Spaces).
+    pub fn root_of(&self, thread: ObjId) -> Option<Cap>
+        ensures { result ≡ root_said (so_far self.now) thread }
+    {
+        match self.threads.get(thread) {
+            None => None,
+            Some(row) => Some(row.root.again()),
         }
     }
 
