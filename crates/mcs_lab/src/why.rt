@@ -11,7 +11,7 @@ use mcs_queues::LinkedLines;
 use mcs_sim::Source;
 use mcs_text::LineFault;
 use mcs_types::{
-    Answer, Ending, Entry, ObjId, OutOfMemory, Place, Rec, Refusal, SendMode, Status, Step,
+    Answer, Ending, Entry, Mode, ObjId, OutOfMemory, Place, Rec, Refusal, SendMode, Status, Step,
 };
 use std::alloc::Global;
 use std::io::{Read, Write};
@@ -95,6 +95,25 @@ fn named_by(entry: &Entry) -> [Named; 3] {
             [Named::Address(*cap), Named::Address(*source), none]
         }
     }
+}
+
+/// Who took a call, and whose it is, where nobody can answer it: in a line in which a message is taken its caller becomes
+/// inactive, and no debt to it ends.
+fn unanswerable(records: &[Rec]) -> Option<(ObjId, ObjId)> {
+    let mut taker = None;
+    let mut ended = None;
+    for record in records {
+        match record {
+            Rec::Took { thread, .. } => taker = Some(*thread),
+            Rec::Void { caller, .. } => ended = Some(*caller),
+            Rec::Turns {
+                thread,
+                mode: Mode::Inactive,
+            } if ended != Some(*thread) => return Some((taker?, *thread)),
+            _ => {}
+        }
+    }
+    None
 }
 
 /// How what an entry names is refused, if lookup refuses it.
@@ -328,6 +347,13 @@ impl<W: Write> Explainer<W> {
         }
         for record in entered.records.iter() {
             self.tell_record(line, record)?;
+        }
+        if let Some((taker, caller)) = unanswerable(&entered.records) {
+            self.put_line(line)?;
+            self.names.put(&mut self.to, taker)?;
+            self.to.write_all(b" took the call of ")?;
+            self.names.put(&mut self.to, caller)?;
+            self.to.write_all(b", which nobody can answer: no reply object owes for it\n")?;
         }
         Ok(())
     }

@@ -11,6 +11,7 @@ pub mod NotificationLaws
 pub mod SlotLaws
 pub mod Following
 pub mod Answering
+pub mod Asking
 pub mod MakingLaws
 pub mod Opening
 pub mod Picking
