@@ -11,7 +11,7 @@ use Rattle.mcs_lab.specs.Seen.{seen}
 -- whether two texts are one
 abbrev pub same_text : List ℕ → List ℕ → Bool
 same_text [] [] = true
-same_text (a ∷ as) (b ∷ bs) = (a == b) && same_text as bs
+same_text (a ∷ text) (b ∷ other) = (a == b) && same_text text other
 same_text _ _ = false
 
 -- a line without its newline

@@ -12,6 +12,7 @@ pub mod SlotLaws
 pub mod Following
 pub mod Answering
 pub mod Asking
+pub mod Walking
 pub mod MakingLaws
 pub mod Opening
 pub mod Picking

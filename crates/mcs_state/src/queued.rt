@@ -1,6 +1,4 @@
 //! The threads of a queue, one after the other.
-ghost use Rattle.mcs_state.specs.Now.{so_far};
-
 use crate::state::State;
 use mcs_types::ObjId;
 use mcs_waiting::Waiting;

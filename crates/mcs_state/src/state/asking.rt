@@ -1,6 +1,5 @@
 //! Questions to the tables of what may not be there: each answers its definition over all records so far.
 ghost use Rattle.std.specs.Prelude.{◌≡◌, option_map};
-ghost use Rattle.mcs_types.specs.Limits.{object_limit};
 ghost use Rattle.mcs_book.specs.Queues.{queued_in};
 ghost use Rattle.mcs_book.specs.Chains.{chain_of};
 ghost use Rattle.mcs_replies.specs.Rest.{rest_of};
@@ -23,6 +22,7 @@ impl<W: Waiting> State<W> {
     pub fn queued(&self, queue: Queue) -> Queued<'_, W>
         ensures { behind result.left (so_far result.state.now) result.at ≡ queued_in (so_far self.now) queue }
     {
+        self.is_sound();
         Queued {
             state: self,
             at: self.first(queue),
