@@ -11,6 +11,8 @@ pub mod NotificationLaws
 pub mod SlotLaws
 pub mod Following
 pub mod Answering
+pub mod Asking
+pub mod Walking
 pub mod MakingLaws
 pub mod Opening
 pub mod Picking

@@ -1,6 +1,7 @@
 pub mod Now
 pub mod Saying
 pub mod Nexts
+pub mod Questions
 pub mod Tables
 pub mod Following
 pub mod Making

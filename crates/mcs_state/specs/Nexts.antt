@@ -1,5 +1,5 @@
 -- Who stands behind a thread in its queue.
-use Rattle.std.specs.Prelude.{cond, Option, Some, None, List, [], ◌∷◌}
+use Rattle.std.specs.Prelude.{ℕ, zero, suc, cond, Option, Some, None, List, [], ◌∷◌}
 use Rattle.mcs_types.specs.declared.id.ObjId.{ObjId}
 use Rattle.mcs_types.specs.declared.record.Queue.{Queue}
 use Rattle.mcs_types.specs.Chains.{head_of}
@@ -20,3 +20,9 @@ next_in R (Some q) t = next_among t (queued_in R q)
 -- the thread behind t in the queue where t stands
 unfoldable pub next_of : Log → ObjId → Option ObjId
 next_of R t = next_in R (queue_of R t) t
+
+-- a thread and those behind it in its queue, at most so many
+abbrev pub behind : ℕ → Log → Option ObjId → List ObjId
+behind zero R at = []
+behind (suc n) R None = []
+behind (suc n) R (Some t) = t ∷ behind n R (next_of R t)

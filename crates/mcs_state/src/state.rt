@@ -9,6 +9,7 @@ ghost use Rattle.mcs_book.specs.Sound.{Allowed};
 ghost use Rattle.mcs_state.specs.Now.{so_far, adds, IsNumberOf};
 ghost use Rattle.mcs_state.specs.Tables.{HAND};
 
+mod asking;
 mod closing;
 mod making;
 mod notifying;
