@@ -13,7 +13,7 @@ ghost use Rattle.mcs_cancel.specs.Badging.{cancellable, restarts_one, restarts_w
 use crate::cancelling::cancel;
 use mcs_state::{State, of_kind, wake};
 use mcs_types::{Answer, Badge, Cap, CoreId, Kind, Letter, Mode, ObjId, Queue, Refusal};
-use mcs_waiting::Waiting;
+use mcs_object_queues::Waiting;
 
 /// Write, Read, Grant and GrantReply.
 const ALL_RIGHTS: u8 = 15;

@@ -10,7 +10,7 @@ ghost use Rattle.mcs_cancel.specs.Leaving.{drops_from, leaves_queue, reply_await
 
 use mcs_state::State;
 use mcs_types::{Ending, Mode, ObjId, Queue, Status};
-use mcs_waiting::Waiting;
+use mcs_object_queues::Waiting;
 
 /// The open message of a thread that leaves this queue is dropped, where it sends there: nobody receives it (own).
 fn drop_letter<W: Waiting>(state: &mut State<W>, thread: ObjId, queue: Queue)

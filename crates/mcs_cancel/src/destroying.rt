@@ -15,7 +15,7 @@ ghost use Rattle.mcs_cancel.specs.Releasing.{IsNoCNode, IsUnnamed, releases, unt
 use crate::cancelling::cancel;
 use mcs_state::{State, give_back};
 use mcs_types::{Ending, Kind, Mode, ObjId, Queue};
-use mcs_waiting::Waiting;
+use mcs_object_queues::Waiting;
 
 /// Cancels each thread of a queue, first to last: it restarts. Nobody stands there then.
 fn restart_all<W: Waiting>(state: &mut State<W>, queue: Queue)

@@ -11,7 +11,7 @@ use crate::checks::{Placing, find_places, with_no_badge};
 use mcs_slots::{with_badge, with_mask};
 use mcs_state::{State, wake};
 use mcs_types::{Answer, Badge, Cap, CoreId, ObjId, Place, Rights};
-use mcs_waiting::Waiting;
+use mcs_object_queues::Waiting;
 
 /// Wakes the thread, and puts a capability to the object of the one that was found into the empty slot.
 fn fill<W: Waiting>(state: &mut State<W>, thread: ObjId, at: &Placing, cap: Cap) -> Answer

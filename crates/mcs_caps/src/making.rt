@@ -15,7 +15,7 @@ ghost use Rattle.mcs_caps.specs.Placed.{IsSlot};
 use mcs_slots::SlotId;
 use mcs_state::{State, wake};
 use mcs_types::{Answer, Badge, Cap, CoreId, Guard, Kind, ObjId, Place, Refusal, Rights};
-use mcs_waiting::Waiting;
+use mcs_object_queues::Waiting;
 
 /// Write, Read, Grant and GrantReply.
 const ALL_RIGHTS: u8 = 15;

@@ -10,7 +10,7 @@ use Rattle.mcs_types.specs.Ids.{IsThread, place_of, same, is_just, value_after}
 use Rattle.mcs_types.proofs.Ids.{parts, same_kind-equal, same-self, same-equal, same-other}
 use Rattle.mcs_objects.specs.Store.{Objects, WasGiven, next_id, value_at, with_value}
 use Rattle.mcs_objects.proofs.MapLaws.{value-written}
-use Rattle.mcs_places.specs.Places.{kept_in, HasPlace}
+use Rattle.mcs_objects.specs.Places.{kept_in, HasPlace}
 use Rattle.mcs_contexts.specs.declared.contexts.ContextRow.{ContextRow}
 use Rattle.mcs_contexts.specs.Holding.{Holding, core_at, holder_at, home_at, core_in, holder_in, context_in, holds, IsOneToOne, IsHolding}
 

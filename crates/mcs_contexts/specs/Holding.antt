@@ -7,7 +7,7 @@ use Rattle.mcs_types.specs.declared.entry.Refusal.{Refusal}
 use Rattle.mcs_types.specs.declared.entry.Refusal.TheVariants.{AlreadyBound, Missing, NotBound, Range}
 use Rattle.mcs_types.specs.Ids.{same_kind, is_just, value_after, ChangesAt}
 use Rattle.mcs_objects.specs.Store.{Objects, Shape, value_at, shape, next_id, is_full}
-use Rattle.mcs_places.specs.Places.{kept_at}
+use Rattle.mcs_objects.specs.Places.{kept_at}
 use Rattle.mcs_contexts.specs.declared.contexts.ContextRow.{ContextRow}
 
 pub record Holding : Type 0 where

@@ -12,7 +12,7 @@ ghost use Rattle.mcs_ipc.specs.Holding.{given, bindable, unbindable, unbinds};
 use mcs_cancel::unbind;
 use mcs_state::{Change, State, change_awake, find_object, wake};
 use mcs_types::{Answer, CoreId, Kind, ObjId, Refusal};
-use mcs_waiting::Waiting;
+use mcs_object_queues::Waiting;
 
 /// Whether nobody holds a context, it is homed nowhere, and no reply object stands in its chain.
 fn is_loose<W: Waiting>(state: &State<W>, context: ObjId) -> bool

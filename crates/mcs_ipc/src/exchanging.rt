@@ -11,7 +11,7 @@ use crate::receiving::receive_from;
 use crate::sending::send_target;
 use mcs_state::{State, wake};
 use mcs_types::{Answer, BOOK_LINES, Copies, CoreId, ObjId, SendMode};
-use mcs_waiting::Waiting;
+use mcs_object_queues::Waiting;
 
 /// Sends what does not wait, with the thread's context, and then receives.
 fn send_and_receive<W: Waiting>(

@@ -5,7 +5,7 @@ ghost use Rattle.mcs_state.specs.Doing.{Makes, HasRoomFor};
 
 use mcs_state::{State, give_back};
 use mcs_types::{Copies, Mode, ObjId};
-use mcs_waiting::Waiting;
+use mcs_object_queues::Waiting;
 
 /// Answers the caller that a reply object owes, if it owes one: the caller runs again. A reply object that tops a chain of
 /// calls returns the context of that chain (manual: Message Passing; own).

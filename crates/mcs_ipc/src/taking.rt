@@ -13,7 +13,7 @@ ghost use Rattle.mcs_ipc.specs.Rows.{lent, resumes, handed_to, taken_by};
 
 use mcs_state::{State, give_back};
 use mcs_types::{Message, Mode, ObjId, Queue, SendMode};
-use mcs_waiting::Waiting;
+use mcs_object_queues::Waiting;
 
 /// A message that is taken: its number, its sender, the endpoint, and how it was sent.
 #[derive(Clone, Copy)]

@@ -28,7 +28,7 @@ use mcs_types::{
     Answer, BOOK_LINES, CORES, Copied, Copies, CoreId, Entry, Kind, ObjId, OutOfMemory, Status,
     Step,
 };
-use mcs_waiting::{ObjectQueues, Waiting};
+use mcs_object_queues::{ObjectQueues, Waiting};
 use std::alloc::Global;
 use std::marker::Model;
 

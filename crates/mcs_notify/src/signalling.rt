@@ -16,7 +16,7 @@ ghost use Rattle.mcs_notify.specs.Waiting.{NoneElseBound};
 
 use mcs_state::{State, give_back, of_kind, wake, with_write};
 use mcs_types::{Answer, Badge, Cap, CoreId, Kind, Mode, ObjId, Queue, Refusal};
-use mcs_waiting::Waiting;
+use mcs_object_queues::Waiting;
 
 /// A thread that a word reaches, and the queue in which it stands.
 #[derive(Clone, Copy)]

@@ -11,7 +11,7 @@ ghost use Rattle.mcs_notify.specs.Waiting.{NoneElseBound, takes_bound};
 
 use mcs_state::{State, stand};
 use mcs_types::{Answer, ObjId, Queue};
-use mcs_waiting::Waiting;
+use mcs_object_queues::Waiting;
 
 /// Whether a thread may wait on a notification: only the bound thread may, where one is bound (manual: Notifications; own).
 pub fn may_wait<W: Waiting>(state: &State<W>, thread: ObjId, notification: ObjId) -> bool

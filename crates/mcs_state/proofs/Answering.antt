@@ -35,12 +35,12 @@ use Rattle.mcs_book.proofs.SoundLogs.KeptLaws.{bound-there, standing-thread}
 use Rattle.mcs_book.proofs.Queues.QueueLaws.{queued_in-growing}
 use Rattle.mcs_book.proofs.Queues.WordLaws.{pending-growing}
 use Rattle.mcs_book.proofs.Messages.OpenLaws.{open_of-growing}
-use Rattle.mcs_places.specs.Places.{HasPlace}
+use Rattle.mcs_objects.specs.Places.{HasPlace}
 use Rattle.mcs_slots.specs.Pages.{Page}
 use Rattle.mcs_cspace.specs.Spaces.{slots_space}
 use Rattle.mcs_threads.specs.declared.row.ThreadRow.{ThreadRow}
 use Rattle.mcs_threads.specs.Rows.{status_in, status_under}
-use Rattle.mcs_waiting.specs.Queues.{behind, behind_in}
+use Rattle.mcs_object_queues.specs.Queues.{behind, behind_in}
 use Rattle.mcs_state.specs.Saying.{block_said, row_said}
 use Rattle.mcs_state.specs.Nexts.{next_among, next_in, next_of}
 use Rattle.mcs_state.specs.Tables.{SlotsAgree, word_said}

@@ -16,7 +16,7 @@ use Rattle.mcs_book.specs.Sound.{Allowed, Sound}
 use Rattle.mcs_book.proofs.Messages.MessageLaws.{open_of-letter, open_of-open}
 use Rattle.mcs_book.proofs.Messages.OpenLaws.{open_of-growing}
 use Rattle.mcs_state.specs.Now.{IsNumberOf}
-use Rattle.mcs_places.specs.Places.{kept_at}
+use Rattle.mcs_objects.specs.Places.{kept_at}
 use Rattle.mcs_state.specs.Tables.{ROOM, LettersAgree}
 use Rattle.mcs_state.specs.Following.{KeepsLetter, LosesLetter, LettersFollow}
 

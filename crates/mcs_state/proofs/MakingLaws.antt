@@ -6,7 +6,7 @@ use Rattle.mcs_types.specs.declared.id.Kind.{Kind}
 use Rattle.mcs_book.specs.Logs.{Log, counted}
 use Rattle.mcs_book.specs.Objects.{makes_kind, number_of, next_id}
 use Rattle.mcs_objects.specs.Store.{Shape}
-use Rattle.mcs_waiting.specs.Queues.{has_queues, no_room}
+use Rattle.mcs_object_queues.specs.Queues.{has_queues, no_room}
 use Rattle.mcs_state.specs.Tables.{Queueing, QueuesAgree, shape_said}
 use Rattle.mcs_state.specs.Making.{HasRoom}
 

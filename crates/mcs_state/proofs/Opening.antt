@@ -18,7 +18,7 @@ use Rattle.mcs_book.specs.Contexts.{homed_at}
 use Rattle.mcs_book.specs.Notifications.{tied_to}
 use Rattle.mcs_book.specs.Replies.{receiver_with}
 use Rattle.mcs_book.specs.Standing.{mail_of}
-use Rattle.mcs_places.specs.Places.{kept_at}
+use Rattle.mcs_objects.specs.Places.{kept_at}
 use Rattle.mcs_objects.specs.Store.{empty_shape}
 use Rattle.mcs_replies.specs.Owing.{counts as reply_counts, is_there as has_reply, receiver_in, owed_in, chain_in}
 use Rattle.mcs_notifications.specs.Signals.{counts as notification_counts, is_there as has_notification, word_in, thread_in, homed_in}
@@ -26,7 +26,7 @@ use Rattle.mcs_contexts.specs.Holding.{counts, core_in, holder_in, home_in}
 use Rattle.mcs_slots.specs.Numbers.{number_of}
 use Rattle.mcs_slots.specs.Pages.{page_of, page_radix, page_slot, radix_of, slot_at}
 use Rattle.mcs_threads.specs.Tables.{made, row_of, mail_of as mail_in}
-use Rattle.mcs_waiting.specs.Queues.{queue_object, queue_kind}
+use Rattle.mcs_object_queues.specs.Queues.{queue_object, queue_kind}
 use Rattle.mcs_state.specs.Tables.{ROOM, HAND, Tables, IsKept, is_there, word_said}
 
 -- a book without lines has no records

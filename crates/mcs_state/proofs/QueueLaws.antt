@@ -19,7 +19,7 @@ use Rattle.mcs_book.specs.Sound.{Sound, Allowed, IsLineThere, IsEmptyLine}
 use Rattle.mcs_book.specs.Threads.{prio_of}
 use Rattle.mcs_book.proofs.Objects.Same.{is_queue-some}
 use Rattle.mcs_book.proofs.Queues.QueueLaws.{among-line}
-use Rattle.mcs_waiting.specs.Queues.{queue_object, queue_kind, is_queue_of, has_queues, line_after, count_after}
+use Rattle.mcs_object_queues.specs.Queues.{queue_object, queue_kind, is_queue_of, has_queues, line_after, count_after}
 use Rattle.mcs_state.specs.Tables.{Queueing, QueuesAgree, is_there}
 use Rattle.mcs_state.specs.Following.{QueuesFollow, QueuesFollowMade, QueuesFollowClosed, OpensQueues, ClosesQueues, JoinsQueue, PartsQueue}
 use Rattle.mcs_state.proofs.CountLaws.{never-made, number-made, number-closed}

@@ -24,7 +24,7 @@ use Rattle.mcs_threads.specs.declared.row.Block.TheVariants.{Queued, OnReply}
 use Rattle.mcs_threads.specs.declared.row.ThreadRow.{ThreadRow}
 use Rattle.mcs_threads.specs.Rows.{new_row, with_notification}
 use Rattle.mcs_threads.specs.Tables.{Table, row_of, mail_of as mail_in, ChangesRow, SameMails}
-use Rattle.mcs_places.specs.Places.{kept_at}
+use Rattle.mcs_objects.specs.Places.{kept_at}
 use Rattle.mcs_book.specs.Logs.{Log, given, counted, latest_knowing}
 use Rattle.mcs_book.specs.Messages.{letter}
 use Rattle.mcs_book.specs.Objects.{was_made, was_closed, is_alive, form_of, makes_kind}

@@ -26,7 +26,7 @@ use Rattle.mcs_book.specs.Notifications.{bound_of}
 use Rattle.mcs_book.specs.Queues.{reply_with}
 use Rattle.mcs_book.specs.Standing.{letter_mail}
 use Rattle.mcs_book.specs.Threads.{prio_of}
-use Rattle.mcs_places.specs.Places.{kept_at}
+use Rattle.mcs_objects.specs.Places.{kept_at}
 use Rattle.mcs_objects.specs.Store.{one_more, IsOneFewer}
 use Rattle.mcs_contexts.specs.Holding.{Holding, core_in, holder_in, home_in, counts}
 use Rattle.mcs_replies.specs.Owing.{Owing, counts as reply_counts, is_there as has_reply, receiver_in, owed_in, chain_in, SetsOwed, LiesOnTop, EndsDebt}
@@ -37,7 +37,7 @@ use Rattle.mcs_threads.specs.declared.row.Block.TheVariants.{Queued, OnReply}
 use Rattle.mcs_threads.specs.declared.row.ThreadRow.{ThreadRow}
 use Rattle.mcs_threads.specs.Rows.{new_row, with_notification}
 use Rattle.mcs_threads.specs.Tables.{Table, made, row_of, mail_of, ChangesRow, SetsRow, SetsMail, SameRows, SameMails}
-use Rattle.mcs_waiting.specs.Queues.{is_queue_of, line_after, count_after, CountsOneMore, LosesQueues}
+use Rattle.mcs_object_queues.specs.Queues.{is_queue_of, line_after, count_after, CountsOneMore, LosesQueues}
 use Rattle.mcs_state.specs.Tables.{Tables, Queueing}
 
 -- a thread was made

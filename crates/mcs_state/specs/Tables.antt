@@ -22,14 +22,14 @@ use Rattle.mcs_book.specs.Notifications.{tied_to}
 use Rattle.mcs_book.specs.Replies.{receiver_with, owed_by}
 use Rattle.mcs_book.specs.Growing.{Waiter, growing_queue, growing_open, growing_chain, growing_word}
 use Rattle.mcs_book.specs.Sound.{Sound}
-use Rattle.mcs_places.specs.Places.{kept_at}
+use Rattle.mcs_objects.specs.Places.{kept_at}
 use Rattle.mcs_objects.specs.Store.{Shape}
 use Rattle.mcs_contexts.specs.Holding.{Holding, counts, core_in, holder_in, home_in}
 use Rattle.mcs_replies.specs.Owing.{Owing, counts as reply_counts, is_there as has_reply, receiver_in, owed_in, chain_in}
 use Rattle.mcs_notifications.specs.Signals.{Signals, counts as notification_counts, is_there as has_notification, word_in, thread_in, homed_in}
 use Rattle.mcs_slots.specs.Pages.{Page, radix_of, slot_at, held}
 use Rattle.mcs_threads.specs.Tables.{Table, made, row_of, mail_of as mail_in}
-use Rattle.mcs_waiting.specs.Queues.{queue_object, queue_kind, has_queues}
+use Rattle.mcs_object_queues.specs.Queues.{queue_object, queue_kind, has_queues}
 use Rattle.mcs_state.specs.Saying.{row_said}
 
 -- how many objects of most kinds there may be

@@ -10,7 +10,7 @@ ghost use Rattle.mcs_state.specs.Tables.{HAND};
 use crate::state::State;
 use crate::waking::wake;
 use mcs_types::{Answer, ObjId, Prio};
-use mcs_waiting::Waiting;
+use mcs_object_queues::Waiting;
 
 /// One thing that an entry changes: who holds a context, where it is homed, which notification is bound to a thread, or a thread's
 /// priority.

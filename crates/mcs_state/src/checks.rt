@@ -7,7 +7,7 @@ ghost use Rattle.mcs_state.specs.Checks.{kinded, writable, readable, object_name
 
 use crate::state::State;
 use mcs_types::{Cap, Kind, ObjId, Refusal};
-use mcs_waiting::Waiting;
+use mcs_object_queues::Waiting;
 
 /// What was found, where it is a capability to an object of this kind.
 pub fn of_kind(found: Result<Cap, Refusal>, kind: Kind) -> Result<Cap, Refusal>

@@ -12,7 +12,7 @@ ghost use Rattle.mcs_state.specs.Doing.{Makes, HasRoomFor};
 
 use crate::state::State;
 use mcs_types::{ObjId, Queue};
-use mcs_waiting::Waiting;
+use mcs_object_queues::Waiting;
 
 /// A context passes to a thread, where the thread holds none.
 pub fn give_back<W: Waiting>(state: &mut State<W>, context: Option<ObjId>, thread: ObjId)

@@ -22,7 +22,7 @@ use crate::letters::{OpenLetter, deliver};
 use mcs_book::Book;
 use mcs_contexts::Contexts;
 use mcs_notifications::Notifications;
-use mcs_places::{empty_places, keep, take};
+use mcs_objects::{empty_places, keep, take};
 use mcs_replies::Replies;
 use mcs_slots::{SlotId, Slots};
 use mcs_threads::{Block, Threads};
@@ -30,7 +30,7 @@ use mcs_types::{
     Answer, BOOK_LINES, Badge, BootLine, Cap, Copied, Copies, Kind, LINE_RECORDS, Letter, Message,
     Mode, OBJECTS, ObjId, OutOfMemory, Prio, Queue, Rec, SendMode, Step, cap_again,
 };
-use mcs_waiting::Waiting;
+use mcs_object_queues::Waiting;
 use std::alloc::Global;
 use std::marker::Model;
 

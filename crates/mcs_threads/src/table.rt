@@ -6,7 +6,7 @@ ghost use Rattle.mcs_threads.specs.declared.row.Block.{Block};
 ghost use Rattle.mcs_threads.specs.Rows.{new_row, with_notification};
 
 use crate::row::{Block, ThreadRow};
-use mcs_places::{keep, kept_at};
+use mcs_objects::{keep, kept_at};
 use mcs_types::{Cap, Kind, Mail, Mode, OBJECTS, ObjId, OutOfMemory, Prio};
 use std::alloc::Global;
 use std::marker::Model;

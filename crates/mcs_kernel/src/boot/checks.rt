@@ -9,7 +9,7 @@ ghost use Rattle.mcs_kernel.specs.Booted.{IsBooting};
 use mcs_slots::SlotId;
 use mcs_state::State;
 use mcs_types::{BootFault, BootLine, CNODES, Cap, Guard, Kind, OBJECTS, ObjId, RADIX};
-use mcs_waiting::Waiting;
+use mcs_object_queues::Waiting;
 
 /// Whether an object of this kind was made.
 pub(crate) fn exists_as<W: Waiting>(state: &State<W>, kind: Kind, object: ObjId) -> bool

@@ -15,7 +15,7 @@ ghost use Rattle.mcs_kernel.specs.Booted.{IsBooting};
 use mcs_slots::SlotId;
 use mcs_state::State;
 use mcs_types::{Badge, BootLine, Cap, Guard, Kind, Mode, ObjId, OutOfMemory, Prio, Rights};
-use mcs_waiting::Waiting;
+use mcs_object_queues::Waiting;
 
 /// A capability to a CNode, with a guard.
 fn cap_to(cnode: ObjId, guard: Guard) -> Cap

@@ -15,7 +15,7 @@ use mcs_cspace::{lookup, lookup_slot};
 use mcs_replies::Chain;
 use mcs_slots::SlotId;
 use mcs_types::{Cap, CoreId, OBJECTS, ObjId, Place, Prio, Queue, Refusal};
-use mcs_waiting::Waiting;
+use mcs_object_queues::Waiting;
 
 impl<W: Waiting> State<W> {
     /// The threads in a queue, first to last; none where its object is not there.

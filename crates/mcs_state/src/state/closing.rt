@@ -10,7 +10,7 @@ ghost use Rattle.mcs_state.specs.Tables.{HAND};
 use super::{State, note};
 use mcs_notifications::Notifications;
 use mcs_types::{Kind, ObjId, Rec};
-use mcs_waiting::Waiting;
+use mcs_object_queues::Waiting;
 
 /// A notification that is there ends, to which no thread is bound and at which no context is homed; its word is gone.
 fn end_notification(notifications: &mut Notifications, notification: ObjId)

@@ -10,7 +10,7 @@ ghost use Rattle.mcs_state.specs.Making.{HasRoom, MayMake, makes_next, is_plain_
 
 use super::{State, note};
 use mcs_types::{Cap, CoreId, Form, Kind, ObjId, OutOfMemory, Prio, Rec};
-use mcs_waiting::Waiting;
+use mcs_object_queues::Waiting;
 
 impl<W: Waiting> State<W> {
     /// Makes an endpoint.

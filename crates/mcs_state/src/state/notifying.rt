@@ -18,7 +18,7 @@ use mcs_contexts::Contexts;
 use mcs_notifications::Notifications;
 use mcs_threads::Threads;
 use mcs_types::{Badge, Mail, ObjId, Rec};
-use mcs_waiting::Waiting;
+use mcs_object_queues::Waiting;
 
 /// A thread is bound to this notification now, or to none.
 fn tie(threads: &mut Threads, thread: ObjId, notification: Option<ObjId>)

@@ -14,7 +14,7 @@ use super::{State, note};
 use mcs_replies::{Ended, Replies};
 use mcs_threads::{Block, Threads};
 use mcs_types::{Badge, Copied, Copies, Ending, Mail, Message, ObjId, Rec};
-use mcs_waiting::Waiting;
+use mcs_object_queues::Waiting;
 
 /// A reply object that may owe owes this caller from now on.
 fn owe(replies: &mut Replies, reply: ObjId, caller: ObjId, brought: Option<ObjId>)

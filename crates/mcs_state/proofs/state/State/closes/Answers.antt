@@ -1,7 +1,7 @@
 use Rattle.std.proofs.Common.{refl, ap, arith}
 use Rattle.mcs_types.specs.declared.id.Kind.TheVariants as kind
 use Rattle.mcs_types.specs.declared.record.Rec.TheVariants as rec
-use Rattle.mcs_waiting.specs.Queues.{has_queues}
+use Rattle.mcs_object_queues.specs.Queues.{has_queues}
 use Rattle.mcs_state.proofs.ContextLaws.{closing-context, closing-unheld, closing-homeless}
 use Rattle.mcs_state.proofs.NotificationLaws.{closing-notification, closing-unbound, closing-homeless as closing-unhomed}
 use Rattle.mcs_state.proofs.QueueLaws.{closing-queues, closing-empty}

@@ -1,0 +1,199 @@
+//! The queues of endpoints and notifications as lines with numbers.
+ghost use Rattle.std.specs.Prelude.{◌≡◌, ◌≤◌, ◌<◌, ◌+◌, IfSome};
+ghost use Rattle.mcs_types.specs.declared.id.ObjId.{ObjId};
+ghost use Rattle.mcs_types.specs.declared.id.Kind.{Kind};
+ghost use Rattle.mcs_types.specs.Ids.{place_of};
+ghost use Rattle.mcs_queues.specs.Numbers.{thread_number, line_number};
+ghost use Rattle.mcs_objects.specs.Store.{shape, is_full};
+ghost use Rattle.mcs_object_queues.specs.Places.{thread_at, below_room, number_of};
+
+use crate::waiting::Waiting;
+use mcs_objects::Store;
+use mcs_queues::{LineNo, Lines, ThreadNo};
+use mcs_types::{Kind, OBJECTS, ObjId, OutOfMemory, Prio, Queue};
+use std::alloc::Global;
+use std::marker::Model;
+
+/// The first line of receivers, and the first of waiters: those of senders begin at 0.
+const RECEIVERS: u16 = OBJECTS;
+
+const WAITERS: u16 = 2 * OBJECTS;
+
+/// How many lines there are.
+const LINES: u16 = 3 * OBJECTS;
+
+/// Queues over lines with numbers: the line of a queue goes by the place of its object, which the next object in that place
+/// gets again. An object is forgotten only where nobody stands in its queues, so a line is empty while its place is vacant (own).
+pub struct ObjectQueues<L: Lines> {
+    endpoints: Store<()>,
+    notifications: Store<()>,
+    lines: L,
+}
+
+// By hand, so that it is a function of its own: a derived drop would be proved anew wherever it is let go.
+impl<L: Lines> Drop for ObjectQueues<L> {
+    fn drop(self) {
+        let ObjectQueues {
+            endpoints: _,
+            notifications: _,
+            lines: _,
+        } = self;
+    }
+}
+
+impl<L: Lines> Model for ObjectQueues<L> {
+    ghost use Rattle.mcs_object_queues.specs.Places.{Placed, IsPlaced};
+
+    ghost Value = { Placed (Unit {0}) L };
+
+    ghost view = { λ s. record { endpoints = s.endpoints; notifications = s.notifications; lines = s.lines } };
+
+    ghost invariant = { λ s. IsPlaced s.endpoints s.notifications (L.line s.lines) (L.place s.lines) (L.rooms s.lines) };
+}
+
+/// The number of a thread of a serial from 1 to 256.
+fn thread_no(thread: ObjId) -> Option<ThreadNo>
+    ensures { thread_number result ≡ below_room (place_of Kind.Thread thread) }
+{
+    let place = thread.place(Kind::Thread)?;
+    if place < OBJECTS as usize {
+        Some(ThreadNo(place as u16))
+    } else {
+        None
+    }
+}
+
+/// The thread of a number.
+fn thread_id(thread: ThreadNo) -> ObjId
+    ensures { result ≡ thread_at thread.0 }
+{
+    ObjId {
+        kind: Kind::Thread,
+        serial: thread.0 as u32 + 1,
+    }
+}
+
+/// The number of the line of a queue, if its object is there.
+fn line_no(endpoints: &Store<()>, notifications: &Store<()>, queue: Queue) -> Option<LineNo>
+    requires endpoints { (shape endpoints.now).room ≤ 256 }
+    requires notifications { (shape notifications.now).room ≤ 256 }
+    ensures number { line_number result ≡ number_of endpoints.now notifications.now queue }
+    ensures below { IfSome result (λ n. n.0 < 768) }
+{
+    endpoints.are_apart();
+    notifications.are_apart();
+    match queue {
+        Queue::Senders(endpoint) => Some(LineNo(endpoints.place(endpoint)?)),
+        Queue::Receivers(endpoint) => Some(LineNo(RECEIVERS + endpoints.place(endpoint)?)),
+        Queue::Waiters(notification) => Some(LineNo(WAITERS + notifications.place(notification)?)),
+    }
+}
+
+impl<L: Lines> Waiting for ObjectQueues<L> {
+    ghost use Rattle.mcs_object_queues.specs.Places.{line_of, queue_of, has_object, given_of, there_of};
+
+    ghost line = { λ s. line_of s.endpoints s.notifications (L.line s.lines) };
+
+    ghost queue = { λ s. queue_of s.endpoints s.notifications (L.place s.lines) };
+
+    ghost has = { λ s. has_object s.endpoints s.notifications };
+
+    ghost given = { λ s. given_of s.endpoints s.notifications };
+
+    ghost there = { λ s. there_of s.endpoints s.notifications };
+
+    fn new(alloc: Global) -> Result<ObjectQueues<L>, OutOfMemory> {
+        Ok(ObjectQueues {
+            endpoints: Store::with_room(alloc, Kind::Endpoint, OBJECTS)?,
+            notifications: Store::with_room(alloc, Kind::Notification, OBJECTS)?,
+            lines: L::new(alloc, OBJECTS, LINES)?,
+        })
+    }
+
+    fn made(&self, kind: Kind) -> u32 {
+        match kind {
+            Kind::Endpoint => self.endpoints.given(),
+            Kind::Notification => self.notifications.given(),
+            _ => 0,
+        }
+    }
+
+    fn count(&self, kind: Kind) -> usize {
+        match kind {
+            Kind::Endpoint => self.endpoints.len(),
+            Kind::Notification => self.notifications.len(),
+            _ => 0,
+        }
+    }
+
+    fn is_full(&self, kind: Kind) -> bool {
+        self.count(kind) == OBJECTS as usize || self.made(kind) == u32::MAX
+    }
+
+    fn open(&mut self, kind: Kind) -> ObjId {
+        // Laws for the proof: a place tells its object, before and after.
+        self.endpoints.are_apart();
+        self.notifications.are_apart();
+        let object = match kind {
+            Kind::Endpoint => self.endpoints.add(()),
+            Kind::Notification => self.notifications.add(()),
+            _ => unreachable!(),
+        };
+        self.endpoints.are_apart();
+        self.notifications.are_apart();
+        object
+    }
+
+    fn close(&mut self, object: ObjId) {
+        // Laws for the proof: a place tells its object, before and after.
+        self.endpoints.are_apart();
+        self.notifications.are_apart();
+        match object.kind {
+            Kind::Endpoint => self.endpoints.remove(object),
+            Kind::Notification => self.notifications.remove(object),
+            _ => unreachable!(),
+        };
+        self.endpoints.are_apart();
+        self.notifications.are_apart();
+    }
+
+    fn join(&mut self, thread: ObjId, into: Queue, priority: Prio) {
+        // Laws for the proof: a place tells its object.
+        self.endpoints.are_apart();
+        self.notifications.are_apart();
+        let line = line_no(&self.endpoints, &self.notifications, into);
+        match (thread_no(thread), line) {
+            (Some(number), Some(line)) => {
+                self.lines.join(number, line, priority);
+            }
+            _ => unreachable!(),
+        }
+    }
+
+    fn part(&mut self, thread: ObjId) {
+        if let Some(number) = thread_no(thread) {
+            self.lines.part(number);
+        }
+    }
+
+    fn shift(&mut self, thread: ObjId, priority: Prio) {
+        if let Some(number) = thread_no(thread) {
+            self.lines.shift(number, priority);
+        }
+    }
+
+    fn first(&self, of: Queue) -> Option<ObjId> {
+        let line = line_no(&self.endpoints, &self.notifications, of)?;
+        let first = self.lines.first(line)?;
+        Some(thread_id(first))
+    }
+
+    fn next(&self, thread: ObjId) -> Option<ObjId> {
+        // Laws for the proof: a place tells its object.
+        self.endpoints.are_apart();
+        self.notifications.are_apart();
+        let number = thread_no(thread)?;
+        let next = self.lines.next(number)?;
+        Some(thread_id(next))
+    }
+}

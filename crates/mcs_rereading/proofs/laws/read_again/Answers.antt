@@ -1,5 +1,0 @@
-use Rattle.mcs_rereading.proofs.ReadAgain.{legal-again}
-use Rattle.mcs_rereading.proofs.laws.read_again.Goals as goal
-
-pub returns : goal.returns
-returns g c = legal-again g.book c.requires
