@@ -6,12 +6,14 @@ use Rattle.mcs_packing.specs.declared.heads.Head.{Head}
 use Rattle.mcs_packing.specs.declared.packed.Packed.{Packed}
 use Rattle.mcs_packing.specs.Packing.{records_of}
 use Rattle.mcs_packing.specs.Heads.{Entered, all_entered}
+use Rattle.mcs_book.specs.Logs.{Log}
 use Rattle.mcs_book.specs.History.{Line, Book}
 
--- a book, how many more lines its boot has room for, and the room that was made for one more line:
--- room 0 has no room, and room n + 1 has room for a line of n records
+-- a book, the records of the line that is open (the newest first), how many more lines its boot has room for, and the room
+-- that is left in the open line: room 0 has no room, and room n + 1 has room for n more records and the head of the line
 pub record Written : Type 0 where
   pub book : Book
+  pub hand : Log
   pub boot_room : ℕ
   pub room : ℕ
 
@@ -32,6 +34,12 @@ facts ps a = records_of ps a.words.items a.wide.items
 abbrev pub EndsRise : ℕ → List Entered → ℕ → Type 0
 EndsRise start [] n = start ≡ n
 EndsRise start (h ∷ hs) n = (start ≤ h.end) × EndsRise h.end hs n
+
+-- the ends rise, and the last is not beyond the number of records
+pub record EndsWithin (hs : List Entered) (n : ℕ) : Type 0 where
+  pub end : ℕ
+  pub rise : EndsRise 0 hs end
+  pub within : end ≤ n
 
 -- where the records of an entry begin: at the position, or where those of the entry before it end
 abbrev pub start_at : ℕ → List Entered → ℕ → ℕ

@@ -1,9 +1,9 @@
 //! The book: all lines, kept packed, with their records side by side.
-ghost use Rattle.std.specs.Prelude.{◌≡◌, ◌<◌, ◌≤◌, ◌∷◌, ◌++◌, [], ◌+◌, ◌-◌, take, drop, IfOk, OnOk, OnErr, reverse, length, slice_get, vec_len, vec_capacity};
-ghost use Rattle.mcs_packing.specs.Packing.{AllFit, GrowsBy, HasMessageRoom, HasRoom, records_of};
+ghost use Rattle.std.specs.Prelude.{◌≡◌, ◌<◌, ◌≤◌, ◌∷◌, ◌++◌, [], ◌+◌, ◌-◌, take, drop, IfOk, OnOk, OnErr, max, reverse, length, slice_get, vec_len, vec_capacity};
+ghost use Rattle.mcs_packing.specs.Packing.{AllFit, Grew, HasRoom, records_of};
 ghost use Rattle.mcs_packing.specs.Heads.{AllHeadsFit, all_entered};
 ghost use Rattle.mcs_book.specs.History.{with_boot_line, with_line, line_of_number};
-ghost use Rattle.mcs_book.specs.Pages.{EndsRise, facts, lines_of, start_at};
+ghost use Rattle.mcs_book.specs.Pages.{EndsWithin, facts, lines_of, start_at};
 
 use mcs_packing::{Arena, Head, KeptAnswer, KeptRecord, KeptStep, Packed};
 use mcs_types::{Answer, BootLine, ObjId, OutOfMemory, Rec, Step};
@@ -122,8 +122,9 @@ fn record_at<'a>(
 }
 
 /// The boot, and a line for each entry that was let in. All is kept packed: a head for each line, the records of all
-/// lines side by side, and the words that they name. `sent` has the place of the words of each message, and `room` is 0
-/// or how many records the next line may have, and one more.
+/// lines side by side, and the words that they name. `sent` has the place of the words of each message. The packed records
+/// from `start` on are those of the open line, and `room` is 0 or how many more it may have, and one more. Two hints for its
+/// head: the words of the line stand from `first` on, and those of its answer may stand at `place`.
 pub struct Book {
     cores: u8,
     boot: Vec<BootLine>,
@@ -131,7 +132,10 @@ pub struct Book {
     packed: Vec<Packed>,
     arena: Arena,
     sent: Vec<u32>,
+    start: usize,
     room: usize,
+    first: usize,
+    place: u32,
 }
 
 // By hand, so that it is a function of its own: a derived drop would be proved anew wherever a book is let go.
@@ -144,16 +148,19 @@ impl Drop for Book {
             packed: _,
             arena: _,
             sent: _,
+            start: _,
             room: _,
+            first: _,
+            place: _,
         } = self;
     }
 }
 
 impl Model for Book {
-    ghost use Rattle.std.specs.Prelude.{reverse, vec_len, vec_capacity, ◌<◌, ◌≤◌, ◌+◌, ◌-◌};
+    ghost use Rattle.std.specs.Prelude.{reverse, drop, vec_len, vec_capacity, ◌<◌, ◌≤◌, ◌+◌, ◌-◌};
     ghost use Rattle.mcs_packing.specs.Packing.{AllFit, HasRoom};
     ghost use Rattle.mcs_packing.specs.Heads.{AllHeadsFit, all_entered};
-    ghost use Rattle.mcs_book.specs.Pages.{EndsRise, Written, lines_of};
+    ghost use Rattle.mcs_book.specs.Pages.{EndsRise, Written, facts, lines_of};
 
     ghost Value = { Written };
 
@@ -163,13 +170,15 @@ impl Model for Book {
         lines = reverse (lines_of b.heads.items b.packed.items
             b.arena.words.items b.arena.wide.items);
       };
+      hand = reverse (drop b.start (facts b.packed.items b.arena));
       boot_room = vec_capacity b.boot - vec_len b.boot;
       room = b.room;
     } };
 
     ghost invariant = { λ b. AllHeadsFit b.heads.items b.arena.words.items
         × AllFit b.packed.items b.arena.words.items b.arena.wide.items
-        × EndsRise 0 (all_entered b.heads.items b.arena.words.items) (vec_len b.packed)
+        × EndsRise 0 (all_entered b.heads.items b.arena.words.items) b.start
+        × (b.start ≤ vec_len b.packed)
         × (0 < b.room → HasRoom b.arena (b.room - 1))
         × (0 < b.room → vec_len b.packed + b.room ≤ vec_capacity b.packed + 1)
         × (0 < b.room → vec_len b.heads < vec_capacity b.heads) };
@@ -202,7 +211,7 @@ fn line_at<'a>(
 ) -> Option<Line<'a>>
     requires heads { AllHeadsFit heads.now words.now }
     requires records { AllFit packed.now words.now wide.now }
-    requires rise { EndsRise 0 (all_entered heads.now words.now) (length packed.now) }
+    requires rise { EndsWithin (all_entered heads.now words.now) (length packed.now) }
     ensures { result ≡ slice_get (lines_of heads.now packed.now words.now wide.now) at }
 {
     match heads.get(at) {
@@ -221,7 +230,7 @@ fn line_at<'a>(
 
 /// Notes where the words of a message that was sent stand, and answers where those of what was taken or heard do, or the
 /// place that was answered before. A place is a hint: what stands there is compared before it is shared.
-fn note(sent: &mut Vec<u32>, packed: &Packed, place: u32) -> u32 {
+fn place_after(sent: &mut Vec<u32>, packed: &Packed, place: u32) -> u32 {
     match packed {
         Packed::Sent { at, .. } => match sent.push(*at) {
             Ok(()) => place,
@@ -236,31 +245,30 @@ fn note(sent: &mut Vec<u32>, packed: &Packed, place: u32) -> u32 {
     }
 }
 
-/// Packs records, for which there is room, and answers where the words of the answer may stand. Those that are kept whole are moved.
-fn pack_all(
+/// Packs a record, for which there is room, behind the others, and answers where the words of the answer may stand. What
+/// stands in its place then means nothing.
+#[inline(always)]
+fn push_packed(
     arena: &mut Arena,
     packed: &mut Vec<Packed>,
     sent: &mut Vec<u32>,
-    records: &mut [Rec],
+    place: u32,
+    fact: &mut Rec,
 ) -> u32
-    requires room { HasRoom arena.old (length records.old) }
-    requires packed { vec_len packed.old + length records.old ≤ vec_capacity packed.old }
+    requires room { HasRoom arena.old 1 }
+    requires packed { vec_len packed.old < vec_capacity packed.old }
     requires fit { AllFit packed.old.items arena.old.words.items arena.old.wide.items }
     ensures value { facts packed.new.items arena.new
-        ≡ facts packed.old.items arena.old ++ records.old }
+        ≡ facts packed.old.items arena.old ++ fact.old ∷ [] }
     ensures fit { AllFit packed.new.items arena.new.words.items arena.new.wide.items }
-    ensures words { GrowsBy arena.old.words.items arena.new.words.items }
-    ensures wide { GrowsBy arena.old.wide.items arena.new.wide.items }
-    ensures room { HasMessageRoom arena.new 2 }
-    ensures len { vec_len packed.new ≡ vec_len packed.old + length records.old }
+    ensures grew { Grew arena.old arena.new }
+    ensures len { vec_len packed.new ≡ vec_len packed.old + 1 }
+    ensures capacity { vec_capacity packed.old ≤ vec_capacity packed.new }
 {
-    let mut place = 0;
-    for fact in records.iter_mut() {
-        let one = arena.pack(fact);
-        place = note(sent, &one, place);
-        packed.push_reserved(one);
-    }
-    place
+    let one = arena.pack(fact);
+    let next = place_after(sent, &one, place);
+    packed.push_reserved(one);
+    next
 }
 
 /// The most words that one record keeps, but for long messages.
@@ -284,6 +292,8 @@ impl Book {
         ensures cores { result.book.boot.cores ≡ cores }
         ensures boot { result.book.boot.lines ≡ [] }
         ensures lines { result.book.lines ≡ [] }
+        ensures hand { result.hand ≡ [] }
+        ensures room { result.room ≡ 0 }
     {
         Book {
             cores,
@@ -296,7 +306,10 @@ impl Book {
                 spare: 0,
             },
             sent: Vec::new(alloc),
+            start: 0,
             room: 0,
+            first: 0,
+            place: 0,
         }
     }
 
@@ -305,28 +318,47 @@ impl Book {
         ensures room { OnOk result (0 < self.new.boot_room) }
         ensures full { OnErr result (self.old.boot_room ≡ 0) }
         ensures unchanged { self.new.book ≡ self.old.book }
+        ensures hand { self.new.hand ≡ self.old.hand }
+        ensures line_room { self.new.room ≡ self.old.room }
     {
         self.boot.reserve(1)?;
         Ok(())
     }
 
-    /// Adds a line to the boot, for which there is room.
+    /// Lets go of the records of the open line. Their words stay.
+    fn drop_open(&mut self)
+        ensures book { self.new.book ≡ self.old.book }
+        ensures hand { self.new.hand ≡ [] }
+        ensures boot_room { self.new.boot_room ≡ self.old.boot_room }
+        ensures room { self.new.room ≡ self.old.room }
+    {
+        self.packed.truncate(self.start);
+        self.first = self.arena.words.len();
+        self.place = 0;
+    }
+
+    /// Adds a line to the boot, for which there is room, and lets go of the records of the open line.
     pub fn add_boot_line(&mut self, line: BootLine)
         requires { 0 < self.old.boot_room }
-        ensures { self.new.book ≡ with_boot_line self.old.book line }
+        ensures line { self.new.book ≡ with_boot_line self.old.book line }
+        ensures hand { self.new.hand ≡ [] }
+        ensures room { self.new.room ≡ self.old.room }
     {
+        self.drop_open();
         match self.boot.push(line) {
             Ok(()) => {}
             Err(_) => unreachable!(),
         }
     }
 
-    /// Makes room for one line with that many records; where there is room it takes no memory. The book is as it was. It
-    /// is out of memory as well for more than 1,000,000 records, and where 2 to the 31 words are kept.
+    /// Makes room for one line with that many records beside those that it has; where there is room it takes no memory. The
+    /// book is as it was. It is out of memory as well for more than 1,000,000 records, and where 2 to the 31 words are kept.
     pub fn reserve(&mut self, records: usize) -> Result<(), OutOfMemory>
         ensures room { OnOk result (records < self.new.room) }
+        ensures few { self.new.room ≤ max self.old.room (records + 1) }
         ensures full { OnErr result (self.old.room ≤ records) }
         ensures unchanged { self.new.book ≡ self.old.book }
+        ensures hand { self.new.hand ≡ self.old.hand }
     {
         if records < self.room {
             return Ok(());
@@ -351,7 +383,79 @@ impl Book {
         Ok(())
     }
 
-    /// Adds a line, and empties the records, whose room stays.
+    /// Notes a record in the open line, for which there is room. What stands in its place then means nothing.
+    #[inline(always)]
+    fn note_from(&mut self, fact: &mut Rec)
+        requires { 1 < self.old.room }
+        ensures hand { self.new.hand ≡ fact.old ∷ self.old.hand }
+        ensures book { self.new.book ≡ self.old.book }
+        ensures boot_room { self.new.boot_room ≡ self.old.boot_room }
+        ensures room { self.new.room + 1 ≡ self.old.room }
+    {
+        self.place = push_packed(
+            &mut self.arena,
+            &mut self.packed,
+            &mut self.sent,
+            self.place,
+            fact,
+        );
+        self.room -= 1;
+    }
+
+    /// Notes a record in the open line, for which there is room: it is packed where it is made.
+    #[inline(always)]
+    pub fn note(&mut self, mut fact: Rec)
+        requires { 1 < self.old.room }
+        ensures hand { self.new.hand ≡ fact ∷ self.old.hand }
+        ensures book { self.new.book ≡ self.old.book }
+        ensures boot_room { self.new.boot_room ≡ self.old.boot_room }
+        ensures room { self.new.room + 1 ≡ self.old.room }
+        ensures whole { self.new.room + length self.new.hand
+            ≡ self.old.room + length self.old.hand }
+    {
+        self.note_from(&mut fact);
+    }
+
+    /// Notes records in order, for which there is room. What stands in their places then means nothing.
+    fn note_all(&mut self, records: &mut [Rec])
+        requires { length records.old < self.old.room }
+        ensures hand { self.new.hand ≡ reverse records.old ++ self.old.hand }
+        ensures book { self.new.book ≡ self.old.book }
+        ensures room { self.new.room + length records.old ≡ self.old.room }
+    {
+        for fact in records.iter_mut() {
+            self.note_from(fact);
+        }
+    }
+
+    /// Adds a line with the records of the open one; the next open one has none, and no room.
+    pub fn close(&mut self, step: &Step, answer: &Answer)
+        requires { 0 < self.old.room }
+        ensures line { self.new.book
+            ≡ with_line self.old.book step.now answer.now (reverse self.old.hand) }
+        ensures hand { self.new.hand ≡ [] }
+        ensures boot_room { self.new.boot_room ≡ self.old.boot_room }
+        ensures room { self.new.room ≡ 0 }
+    {
+        let first = self.first.min(MOST_KEPT) as u32;
+        let entry = self.arena.pack_entry(&step.entry, first);
+        let told = self.arena.pack_answer(answer, self.place);
+        self.start = self.packed.len();
+        let head = Head {
+            entry,
+            end: self.start,
+            answer: told,
+            serial: step.thread.serial,
+            kind: step.thread.kind,
+            core: step.core,
+        };
+        self.heads.push_reserved(head);
+        self.room = 0;
+        self.first = self.arena.words.len();
+        self.place = 0;
+    }
+
+    /// Adds a line, and empties the records, whose room stays. Lets go of the records of the open line.
     pub fn append(&mut self, step: &Step, answer: &Answer, records: &mut Vec<Rec>)
         requires { vec_len records.old < self.old.room }
         ensures line { self.new.book
@@ -359,21 +463,17 @@ impl Book {
         ensures empty { records.new.items ≡ [] }
         ensures capacity { vec_capacity records.new ≡ vec_capacity records.old }
     {
-        let first = self.arena.words.len() as u32;
-        self.room = 0;
-        let place = pack_all(&mut self.arena, &mut self.packed, &mut self.sent, records);
-        let entry = self.arena.pack_entry(&step.entry, first);
-        let told = self.arena.pack_answer(answer, place);
-        let head = Head {
-            entry,
-            end: self.packed.len(),
-            answer: told,
-            serial: step.thread.serial,
-            kind: step.thread.kind,
-            core: step.core,
-        };
-        self.heads.push_reserved(head);
+        self.drop_open();
+        self.note_all(records);
         records.clear();
+        self.close(step, answer);
+    }
+
+    /// How many records the open line has.
+    pub fn open_records(&self) -> usize
+        ensures { result ≡ length self.now.hand }
+    {
+        self.packed.len() - self.start
     }
 
     /// How many lines there are, the boot's among them.

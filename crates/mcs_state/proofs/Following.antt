@@ -1,13 +1,13 @@
 -- The state after one record more.
-use Rattle.std.specs.Prelude.{ℕ, ◌≡◌, ◌<◌, ◌+◌, ◌++◌, ◌∷◌, List, [], length, reverse}
+use Rattle.std.specs.Prelude.{ℕ, ◌≡◌, ◌<◌, ◌≤◌, ◌+◌, ◌++◌, ◌∷◌, List, [], length}
 use Rattle.std.proofs.Common.{ap, sym, ◌∙◌, subst, arith}
-use Rattle.std.proofs.lemmas.List.{reverse-append}
 use Rattle.mcs_types.specs.declared.record.Rec.{Rec}
 use Rattle.mcs_types.specs.declared.record.Rec.TheVariants as rec
 use Rattle.mcs_types.specs.declared.id.Kind.{Kind}
 use Rattle.mcs_types.specs.declared.id.ObjId.{ObjId}
 use Rattle.mcs_types.specs.declared.record.Form.{Form}
 use Rattle.mcs_book.specs.Logs.{Log}
+use Rattle.mcs_book.specs.History.{Book, log_of}
 use Rattle.mcs_book.specs.Objects.{next_id}
 use Rattle.mcs_book.specs.Sound.{Allowed}
 use Rattle.mcs_state.specs.Now.{Now, so_far}
@@ -30,8 +30,8 @@ pub inside : {n m : Now} (r : Rec) → n ≡ m → Allowed (so_far m) r → Allo
 inside r is ok = subst (λ (k : Now). Allowed (so_far k) r) (sym is) ok
 
 -- and there is as much room
-pub inside-room : {n m : Now} → n ≡ m → length m.hand < HAND → length n.hand < HAND
-inside-room is room = subst (λ (k : Now). length k.hand < HAND) (sym is) room
+pub inside-room : {n m : Now} → n ≡ m → length m.hand + 1 < m.room → n.room ≤ HAND + 1 → length n.hand < HAND
+inside-room {n} {m} is room few = let here : length n.hand + 1 < n.room = subst (λ (k : Now). length k.hand + 1 < k.room) (sym is) room in omega (arith, here, few)
 
 -- the number of messages follows a record
 sent-follows : (r : Rec) (sent sent' lines : ℕ) (hand R : Log) → SentFollows r sent sent' → SentAgrees sent lines hand R → SentAgrees sent' lines (r ∷ hand) (r ∷ R)
@@ -39,19 +39,19 @@ sent-follows (rec.Sent x e mode badge message) sent sent' lines hand R h a = rec
 sent-follows _ sent sent' lines hand R h a = rw h (record { all = a.all; few = a.few })
 
 -- after any record
-pub follows : (r : Rec) (T T' : Tables) (lines : ℕ) (items items' : List Rec) (B : Log) → items' ≡ items ++ r ∷ [] → length (reverse items) < HAND → Allowed (reverse items ++ B) r → Follows (reverse items ++ B) r T T'
-    → IsKept T lines (reverse items) (reverse items ++ B) → IsKept T' lines (reverse items') (reverse items' ++ B)
-follows r T T' lines items items' B noted room ok f a = rw (noted, reverse-append) (record {
+pub follows : (r : Rec) (T T' : Tables) (hand hand' : Log) (book book' : Book) → book' ≡ book → hand' ≡ r ∷ hand → length hand < HAND → Allowed (hand ++ log_of book) r → Follows (hand ++ log_of book) r T T'
+    → IsKept T (length book.lines) hand (hand ++ log_of book) → IsKept T' (length book'.lines) hand' (hand' ++ log_of book')
+follows r T T' hand hand' book book' same noted room ok f a = rw (same, noted) (record {
   few = omega (arith, room);
   sound = (ok, a.sound);
-  threads = threads-follow r (reverse items ++ B) T.threads T'.threads a.sound ok f.threads a.threads;
-  letters = letters-follow r (reverse items ++ B) T.letters T'.letters a.sound ok f.letters a.letters;
-  contexts = contexts-follow r (reverse items ++ B) T.contexts T'.contexts a.sound ok f.contexts a.contexts;
-  queues = queues-follow r (reverse items ++ B) T.queues T'.queues a.sound ok f.queues a.queues;
-  replies = replies-follow r (reverse items ++ B) T.replies T'.replies a.sound ok f.replies a.replies;
-  notifications = notifications-follow r (reverse items ++ B) T.notifications T'.notifications a.sound ok f.notifications a.notifications;
-  slots = slots-follow r (reverse items ++ B) T.slots T'.slots a.sound ok f.slots a.slots;
-  sent = sent-follows r T.sent T'.sent lines (reverse items) (reverse items ++ B) f.sent a.sent;
+  threads = threads-follow r (hand ++ log_of book) T.threads T'.threads a.sound ok f.threads a.threads;
+  letters = letters-follow r (hand ++ log_of book) T.letters T'.letters a.sound ok f.letters a.letters;
+  contexts = contexts-follow r (hand ++ log_of book) T.contexts T'.contexts a.sound ok f.contexts a.contexts;
+  queues = queues-follow r (hand ++ log_of book) T.queues T'.queues a.sound ok f.queues a.queues;
+  replies = replies-follow r (hand ++ log_of book) T.replies T'.replies a.sound ok f.replies a.replies;
+  notifications = notifications-follow r (hand ++ log_of book) T.notifications T'.notifications a.sound ok f.notifications a.notifications;
+  slots = slots-follow r (hand ++ log_of book) T.slots T'.slots a.sound ok f.slots a.slots;
+  sent = sent-follows r T.sent T'.sent (length book.lines) hand (hand ++ log_of book) f.sent a.sent;
 })
 
 -- as many lines are seen as there are

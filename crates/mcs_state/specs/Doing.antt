@@ -1,5 +1,5 @@
 -- What an operation claims: its answer, and the records that it adds.
-use Rattle.std.specs.Prelude.{◌≡◌, ◌≤◌, ◌+◌, length, List}
+use Rattle.std.specs.Prelude.{◌≡◌, ◌<◌, ◌+◌, length, List}
 use Rattle.mcs_types.specs.declared.id.ObjId.{ObjId}
 use Rattle.mcs_types.specs.declared.id.CoreId.{CoreId}
 use Rattle.mcs_types.specs.declared.record.Rec.{Rec}
@@ -9,7 +9,6 @@ use Rattle.mcs_book.specs.Pieces.{Piece, Act, Outcome, before}
 use Rattle.mcs_book.specs.Table.{does, wakes}
 use Rattle.mcs_book.specs.Threads.{mode_of}
 use Rattle.mcs_state.specs.Now.{Now, so_far, adds_all}
-use Rattle.mcs_state.specs.Tables.{HAND}
 
 -- the outcome was answered, and its records are made
 pub record Gives (outcome : Outcome) (old : Now) (said : Answer) (new : Now) : Type 0 where
@@ -18,7 +17,7 @@ pub record Gives (outcome : Outcome) (old : Now) (said : Answer) (new : Now) : T
 
 -- the hand has room for so many records
 abbrev pub Holds : List Rec → Now → Type 0
-Holds records n = length records + length n.hand ≤ HAND
+Holds records n = length records + length n.hand < n.room
 
 -- a piece made its records
 abbrev pub Makes : Piece → Now → Now → Type 0

@@ -1,11 +1,10 @@
 //! Entries that change one thing, by one record.
-ghost use Rattle.std.specs.Prelude.{◌≡◌, ◌<◌, length};
+ghost use Rattle.std.specs.Prelude.{◌≡◌, ◌<◌, length, ◌+◌};
 ghost use Rattle.mcs_book.specs.Sound.{Allowed};
 ghost use Rattle.mcs_state.specs.Changing.{record_of, changes};
 ghost use Rattle.mcs_state.specs.Doing.{ActsAwake, FitsAwake};
 ghost use Rattle.mcs_state.specs.Entering.{IsEntering};
 ghost use Rattle.mcs_state.specs.Now.{so_far, adds};
-ghost use Rattle.mcs_state.specs.Tables.{HAND};
 
 use crate::state::State;
 use crate::waking::wake;
@@ -37,7 +36,7 @@ pub enum Change {
 /// Changes one thing.
 fn make_change<W: Waiting>(state: &mut State<W>, change: Change)
     requires allowed { Allowed (so_far state.old) (record_of change) }
-    requires room { length state.old.hand < HAND }
+    requires room { length state.old.hand + 1 < state.old.room }
     ensures { state.new ≡ adds (record_of change) state.old }
 {
     match change {

@@ -1,5 +1,5 @@
 //! The tables, and a primitive for each kind of record.
-ghost use Rattle.std.specs.Prelude.{◌≡◌, ◌<◌, ◌≤◌, ◌∷◌, ◌++◌, [], IfOk, IfSome, OnOk, length, vec_len, vec_capacity, reverse};
+ghost use Rattle.std.specs.Prelude.{◌≡◌, ◌<◌, ◌≤◌, ◌∷◌, ◌++◌, [], IfOk, IfSome, OnOk, length, vec_len, vec_capacity, reverse, ◌+◌};
 ghost use Rattle.mcs_types.specs.declared.record.Rec.{Rec};
 ghost use Rattle.mcs_book.specs.Logs.{onto};
 ghost use Rattle.mcs_book.specs.Boots.{boot_line};
@@ -34,10 +34,9 @@ use mcs_object_queues::Waiting;
 use std::alloc::Global;
 use std::marker::Model;
 
-/// All tables, beside the book and the records of the line in hand.
+/// All tables, beside the book, whose open line has the records of the line in hand.
 pub struct State<W: Waiting> {
     book: Book,
-    hand: Vec<Rec>,
     threads: Threads,
     letters: Vec<Option<OpenLetter>>,
     contexts: Contexts,
@@ -54,7 +53,6 @@ impl<W: Waiting> Drop for State<W> {
     fn drop(self) {
         let State {
             book: _,
-            hand: _,
             threads: _,
             letters: _,
             contexts: _,
@@ -68,16 +66,16 @@ impl<W: Waiting> Drop for State<W> {
 }
 
 impl<W: Waiting> Model for State<W> {
-    ghost use Rattle.std.specs.Prelude.{◌≤◌, ◌++◌, reverse, length, vec_capacity};
+    ghost use Rattle.std.specs.Prelude.{◌≤◌, ◌+◌, ◌++◌, length};
     ghost use Rattle.mcs_book.specs.History.{log_of};
     ghost use Rattle.mcs_state.specs.Now.{Now};
     ghost use Rattle.mcs_state.specs.Tables.{HAND, IsKept, Tables, Queueing};
 
     ghost Value = { Now };
 
-    ghost view = { λ s. record { book = s.book.book; hand = reverse s.hand.items; boot_room = s.book.boot_room; room = s.book.room } };
+    ghost view = { λ s. record { book = s.book.book; hand = s.book.hand; boot_room = s.book.boot_room; room = s.book.room + length s.book.hand } };
 
-    ghost invariant = { λ s. (HAND ≤ vec_capacity s.hand)
+    ghost invariant = { λ s. (s.book.room + length s.book.hand ≤ HAND + 1)
         × IsKept (record {
           threads = s.threads;
           letters = s.letters.items;
@@ -87,21 +85,11 @@ impl<W: Waiting> Model for State<W> {
           notifications = s.notifications;
           slots = s.slots;
           sent = s.sent;
-        }) (length s.book.book.lines) (reverse s.hand.items) (reverse s.hand.items ++ log_of s.book.book) };
-}
-
-/// Notes a record, for which there is room. It stands in its callers, where the record is made in its place.
-#[inline(always)]
-fn note(hand: &mut Vec<Rec>, rec: Rec)
-    requires { vec_len hand.old < vec_capacity hand.old }
-    ensures items { hand.new.items ≡ hand.old.items ++ rec ∷ [] }
-    ensures capacity { vec_capacity hand.old ≤ vec_capacity hand.new }
-{
-    hand.push_reserved(rec);
+        }) (length s.book.book.lines) s.book.hand (s.book.hand ++ log_of s.book.book) };
 }
 
 impl<W: Waiting> State<W> {
-    /// A state with nothing made, and the room of all tables and of one line's records.
+    /// A state with nothing made, and the room of all tables.
     pub fn new(alloc: Global, cores: u8) -> Result<State<W>, OutOfMemory>
         ensures cores { IfOk result (λ s. s.book.boot.cores ≡ cores) }
         ensures boot { IfOk result (λ s. s.book.boot.lines ≡ []) }
@@ -110,7 +98,6 @@ impl<W: Waiting> State<W> {
     {
         // Those whose letting go is long to prove come last.
         Ok(State {
-            hand: Vec::with_capacity(alloc, LINE_RECORDS)?,
             slots: Slots::new(alloc, &[])?,
             threads: Threads::new(alloc)?,
             contexts: Contexts::new(alloc)?,
@@ -145,7 +132,8 @@ impl<W: Waiting> State<W> {
         ensures book { self.new.book ≡ self.old.book }
         ensures hand { self.new.hand ≡ self.old.hand }
     {
-        self.book.reserve(LINE_RECORDS)
+        self.is_sound();
+        self.book.reserve(LINE_RECORDS - self.book.open_records())
     }
 
     /// Moves the records in hand to a line of the boot, whose records they are.
@@ -156,7 +144,6 @@ impl<W: Waiting> State<W> {
         ensures book { self.new.book ≡ with_boot_line self.old.book line }
         ensures hand { self.new.hand ≡ [] }
     {
-        self.hand.clear();
         self.book.add_boot_line(line);
     }
 
@@ -167,28 +154,28 @@ impl<W: Waiting> State<W> {
             ≡ with_line self.old.book step.now answer.now (reverse self.old.hand) }
         ensures hand { self.new.hand ≡ [] }
     {
-        self.book.append(step, answer, &mut self.hand);
+        self.book.close(step, answer);
     }
 
     /// A slot holds a capability now, or none.
     pub fn fills(&mut self, at: SlotId, cap: Option<Cap>)
         requires allowed { Allowed (so_far self.old) (Rec.Slot at.cnode at.index cap) }
-        requires room { length self.old.hand < HAND }
+        requires room { length self.old.hand + 1 < self.old.room }
         ensures { self.new ≡ adds (Rec.Slot at.cnode at.index cap) self.old }
     {
         self.slots.are_pages();
         self.slots.set(at, cap_again(&cap));
         let SlotId { cnode, index } = at;
-        note(&mut self.hand, Rec::Slot { cnode, index, cap });
+        self.book.note(Rec::Slot { cnode, index, cap });
     }
 
     /// The priority of a thread changes; where it stands in a queue, it queues anew.
     pub fn prio(&mut self, thread: ObjId, priority: Prio)
         requires allowed { Allowed (so_far self.old) (Rec.Prio thread priority) }
-        requires room { length self.old.hand < HAND }
+        requires room { length self.old.hand + 1 < self.old.room }
         ensures { self.new ≡ adds (Rec.Prio thread priority) self.old }
     {
-        note(&mut self.hand, Rec::Prio { thread, priority });
+        self.book.note(Rec::Prio { thread, priority });
         self.threads.set_prio(thread, priority);
         self.queues.shift(thread, priority);
     }
@@ -196,29 +183,26 @@ impl<W: Waiting> State<W> {
     /// The mode of a thread changes.
     pub fn turns(&mut self, thread: ObjId, mode: Mode)
         requires allowed { Allowed (so_far self.old) (Rec.Turns thread mode) }
-        requires room { length self.old.hand < HAND }
+        requires room { length self.old.hand + 1 < self.old.room }
         ensures { self.new ≡ adds (Rec.Turns thread mode) self.old }
     {
-        note(&mut self.hand, Rec::Turns { thread, mode });
+        self.book.note(Rec::Turns { thread, mode });
         self.threads.set_mode(thread, mode);
     }
 
     /// A thread joins a queue; a receiver names its reply object.
     pub fn joins(&mut self, thread: ObjId, queue: Queue, reply: Option<ObjId>)
         requires allowed { Allowed (so_far self.old) (Rec.Joins thread queue reply) }
-        requires room { length self.old.hand < HAND }
+        requires room { length self.old.hand + 1 < self.old.room }
         ensures { self.new ≡ adds (Rec.Joins thread queue reply) self.old }
     {
         self.threads.are_few();
         let priority = self.priority(thread);
-        note(
-            &mut self.hand,
-            Rec::Joins {
-                thread,
-                queue,
-                reply,
-            },
-        );
+        self.book.note(Rec::Joins {
+            thread,
+            queue,
+            reply,
+        });
         self.threads.block(thread, Block::Queued { queue, reply });
         self.queues.join(thread, queue, priority);
         attend(&mut self.replies, attended(queue, reply), Some(thread));
@@ -227,11 +211,11 @@ impl<W: Waiting> State<W> {
     /// A thread leaves its queue.
     pub fn parts(&mut self, thread: ObjId, queue: Queue)
         requires allowed { Allowed (so_far self.old) (Rec.Parts thread queue) }
-        requires room { length self.old.hand < HAND }
+        requires room { length self.old.hand + 1 < self.old.room }
         ensures { self.new ≡ adds (Rec.Parts thread queue) self.old }
     {
         let reply = self.reply_with(thread, queue);
-        note(&mut self.hand, Rec::Parts { thread, queue });
+        self.book.note(Rec::Parts { thread, queue });
         self.threads.unblock(thread);
         self.queues.part(thread);
         attend(&mut self.replies, reply, None);
@@ -249,7 +233,7 @@ impl<W: Waiting> State<W> {
     )
         requires allowed { Allowed (so_far self.old) (Rec.Sent sender endpoint mode badge message) }
         requires few { length self.old.book.lines < BOOK_LINES }
-        requires room { length self.old.hand < HAND }
+        requires room { length self.old.hand + 1 < self.old.room }
         ensures { self.new ≡ adds (Rec.Sent sender endpoint mode badge message.entry) self.old }
     {
         self.threads.are_few();
@@ -269,16 +253,13 @@ impl<W: Waiting> State<W> {
             },
             answer,
         };
-        note(
-            &mut self.hand,
-            Rec::Sent {
-                sender,
-                endpoint,
-                mode,
-                badge,
-                message: noted,
-            },
-        );
+        self.book.note(Rec::Sent {
+            sender,
+            endpoint,
+            mode,
+            badge,
+            message: noted,
+        });
         self.sent += 1;
         keep(Kind::Thread, &mut self.letters, sender, Some(letter));
     }
@@ -289,18 +270,15 @@ impl<W: Waiting> State<W> {
     pub fn took(&mut self, number: u32, sender: ObjId, receiver: ObjId) -> Message
         requires allowed { Allowed (so_far self.old) (Rec.Took number receiver) }
         requires open { IsNumberOf number (open_of (so_far self.old) sender) }
-        requires room { length self.old.hand < HAND }
+        requires room { length self.old.hand + 1 < self.old.room }
         ensures took { self.new ≡ adds (Rec.Took number receiver) self.old }
         ensures message { IfSome (open_of (so_far self.old) sender) (λ l. result ≡ l.message) }
     {
         self.threads.are_few();
-        note(
-            &mut self.hand,
-            Rec::Took {
-                message: number,
-                thread: receiver,
-            },
-        );
+        self.book.note(Rec::Took {
+            message: number,
+            thread: receiver,
+        });
         match take(Kind::Thread, &mut self.letters, sender) {
             None => unreachable!(),
             Some(letter) => deliver(&mut self.threads, receiver, letter),
@@ -311,21 +289,21 @@ impl<W: Waiting> State<W> {
     pub fn drops(&mut self, number: u32, sender: ObjId)
         requires allowed { Allowed (so_far self.old) (Rec.Dropped number) }
         requires open { IsNumberOf number (open_of (so_far self.old) sender) }
-        requires room { length self.old.hand < HAND }
+        requires room { length self.old.hand + 1 < self.old.room }
         ensures { self.new ≡ adds (Rec.Dropped number) self.old }
     {
-        note(&mut self.hand, Rec::Dropped { message: number });
+        self.book.note(Rec::Dropped { message: number });
         take(Kind::Thread, &mut self.letters, sender);
     }
 
     /// A context is held by this thread now, or by nobody.
     pub fn holds(&mut self, context: ObjId, thread: Option<ObjId>)
         requires allowed { Allowed (so_far self.old) (Rec.Holds context thread) }
-        requires room { length self.old.hand < HAND }
+        requires room { length self.old.hand + 1 < self.old.room }
         ensures { self.new ≡ adds (Rec.Holds context thread) self.old }
     {
         self.threads.are_few();
         give(&mut self.contexts, context, thread);
-        note(&mut self.hand, Rec::Holds { context, thread });
+        self.book.note(Rec::Holds { context, thread });
     }
 }

@@ -1,5 +1,6 @@
 -- A line added to a packed book.
-use Rattle.std.proofs.Common.{◌≡◌, ◌∙◌, ◌+◌, ℕ, List, [], ◌∷◌, ◌++◌, length, ap}
+use Rattle.std.proofs.Common.{◌≡◌, ◌∙◌, ◌≤◌, ◌+◌, ℕ, List, [], ◌∷◌, ◌++◌, length, drop, reverse, ap, append-nil, arith}
+use Rattle.std.proofs.lemmas.List.{drop-append-le, reverse-append, reverse-reverse}
 use Rattle.mcs_types.specs.declared.record.Rec.{Rec}
 use Rattle.mcs_types.specs.declared.entry.Step.{Step}
 use Rattle.mcs_types.specs.declared.entry.Answer.{Answer}
@@ -7,12 +8,13 @@ use Rattle.mcs_packing.specs.declared.heads.Head.{Head}
 use Rattle.mcs_packing.specs.declared.entries.PackedEntry.{PackedEntry}
 use Rattle.mcs_packing.specs.declared.heads.PackedAnswer.{PackedAnswer}
 use Rattle.mcs_packing.specs.declared.packed.Packed.{Packed}
-use Rattle.mcs_packing.specs.Packing.{GrowsBy, records_of}
+use Rattle.mcs_packing.specs.declared.arena.Arena.{Arena}
+use Rattle.mcs_packing.specs.Packing.{GrowsBy, HasMessageRoom, HasRoom, records_of}
 use Rattle.mcs_packing.specs.Entries.{EntryFits, entry_of}
 use Rattle.mcs_packing.specs.Heads.{Entered, AllHeadsFit, AnswerFits, HeadFits, answer_of, entered_of, all_entered}
-use Rattle.mcs_book.specs.Pages.{EndsRise, cut}
+use Rattle.mcs_book.specs.Pages.{EndsRise, EndsWithin, cut}
 use Rattle.mcs_packing.proofs.HeadLaws.{EntryFits-grows, entry_of-grows, all_entered-grows, all_entered-push}
-use Rattle.mcs_book.proofs.Books.Cuts.{cut-push}
+use Rattle.mcs_book.proofs.Books.Cuts.{cut-beyond, cut-close}
 
 -- the head of a step
 abbrev pub head_of : Step → PackedEntry → PackedAnswer → ℕ → Head
@@ -37,11 +39,41 @@ pub heads-of : (hs : List Head) (h : Head) (k : Entered) (ws vs : List ℕ) → 
     → all_entered (hs ++ h ∷ []) vs ≡ all_entered hs ws ++ k ∷ []
 heads-of hs h k ws vs w fits is = all_entered-push hs h vs ∙ ap (λ l. l ++ entered_of h vs ∷ []) (all_entered-grows hs ws vs w fits) ∙ ap (λ x. all_entered hs ws ++ x ∷ []) is
 
--- the lines, with one more
-pub lines-of : (hs : List Head) (h : Head) (k : Entered) (ws vs : List ℕ) (qs ps : List Packed) (rs os : List Rec) (new : List Rec) (n : ℕ)
+-- the lines, with one more, of the records behind the last end
+pub lines-closed : (hs : List Head) (h : Head) (k : Entered) (ws vs : List ℕ) (ps : List Packed) (rs os : List Rec) (n : ℕ)
     → all_entered (hs ++ h ∷ []) vs ≡ all_entered hs ws ++ k ∷ []
-    → records_of ps vs os ≡ records_of qs ws rs ++ new
-    → n ≡ 0 + length (records_of qs ws rs) → EndsRise 0 (all_entered hs ws) n → k.end ≡ n + length new
-    → cut 0 (all_entered (hs ++ h ∷ []) vs) (records_of ps vs os) ≡ cut 0 (all_entered hs ws) (records_of qs ws rs) ++ (record { step = k.step; answer = k.answer; records = new }) ∷ []
-lines-of hs h k ws vs qs ps rs os new n heads records len rise end =
-    ap (λ l. cut 0 l (records_of ps vs os)) heads ∙ ap (cut 0 (all_entered hs ws ++ k ∷ [])) records ∙ cut-push 0 (all_entered hs ws) (records_of qs ws rs) new k n len rise end
+    → records_of ps vs os ≡ records_of ps ws rs
+    → n ≤ length (records_of ps ws rs) → EndsRise 0 (all_entered hs ws) n → k.end ≡ length (records_of ps ws rs)
+    → cut 0 (all_entered (hs ++ h ∷ []) vs) (records_of ps vs os) ≡ cut 0 (all_entered hs ws) (records_of ps ws rs) ++ (record { step = k.step; answer = k.answer; records = drop n (records_of ps ws rs) }) ∷ []
+lines-closed hs h k ws vs ps rs os n heads records le rise end =
+    ap (λ l. cut 0 l (records_of ps vs os)) heads ∙ ap (cut 0 (all_entered hs ws ++ k ∷ [])) records ∙ cut-close (all_entered hs ws) (records_of ps ws rs) k n le rise end
+
+-- the lines, with one more record behind the last end
+pub lines-noted : (hs : List Head) (ws vs : List ℕ) (qs ps : List Packed) (rs os : List Rec) (new : List Rec) (n : ℕ)
+    → GrowsBy ws vs → AllHeadsFit hs ws → records_of ps vs os ≡ records_of qs ws rs ++ new
+    → n ≤ length (records_of qs ws rs) → EndsRise 0 (all_entered hs ws) n
+    → cut 0 (all_entered hs vs) (records_of ps vs os) ≡ cut 0 (all_entered hs ws) (records_of qs ws rs)
+lines-noted hs ws vs qs ps rs os new n w fits records le rise =
+    let within : n ≤ 0 + length (records_of qs ws rs) = omega (arith, le) in
+    ap (λ l. cut 0 l (records_of ps vs os)) (all_entered-grows hs ws vs w fits) ∙ ap (cut 0 (all_entered hs ws)) records ∙ cut-beyond 0 (all_entered hs ws) (records_of qs ws rs) new n within rise
+
+-- there is room for fewer
+pub HasRoom-fewer : (a : Arena) (n m : ℕ) → m ≤ n → HasRoom a n → HasRoom a m
+HasRoom-fewer a n m le h = record { words = omega (arith, h.words, le); named = omega (arith, h.named, le); wide = omega (arith, h.wide, le); named_wide = omega (arith, h.named_wide, le) }
+
+-- where there is room for records there is room for the head
+pub HasRoom-head : (a : Arena) (n : ℕ) → HasRoom a n → HasMessageRoom a 2
+HasRoom-head a n h = record { words = omega (arith, h.words); named = omega (arith, h.named) }
+
+-- where the ends rise, over lists that are the same
+pub EndsWithin-of : (hs ks : List Head) (ws vs : List ℕ) (ps qs : List Packed) (end : ℕ) → hs ≡ ks → ws ≡ vs → ps ≡ qs
+    → EndsRise 0 (all_entered ks vs) end → end ≤ length qs → EndsWithin (all_entered hs ws) (length ps)
+EndsWithin-of hs ks ws vs ps qs end h w p rise le = record { end = end; rise = rw (h, w) rise; within = rw p le }
+
+-- the records of the open line, the newest first, with one more
+pub hand-noted : (n : ℕ) (rs new : List Rec) (r : Rec) → new ≡ rs ++ r ∷ [] → n ≤ length rs → reverse (drop n new) ≡ r ∷ reverse (drop n rs)
+hand-noted n rs new r is le = ap (λ l. reverse (drop n l)) is ∙ ap reverse (drop-append-le n rs (r ∷ []) le) ∙ reverse-append (drop n rs) (r ∷ [])
+
+-- records that were noted in order
+pub hand-appended : (now old new recs : List Rec) → new ≡ reverse now ++ old → old ≡ [] → now ≡ recs → reverse new ≡ recs
+hand-appended now old new recs is none same = ap reverse (is ∙ ap (λ l. reverse now ++ l) none ∙ append-nil (reverse now)) ∙ reverse-reverse now ∙ same

@@ -1,9 +1,10 @@
 -- A line added to a book.
-use Rattle.std.proofs.Common.{◌≡◌, ◌∙◌, ℕ, zero, suc, ◌≤◌, ◌+◌, ◌-◌, List, [], ◌∷◌, ◌++◌, length, take, drop, refl, ap, arith, length-drop, slice_get, Some, None}
+use Rattle.std.proofs.Common.{◌≡◌, ◌∙◌, ℕ, zero, suc, ◌≤◌, ◌+◌, ◌-◌, List, [], ◌∷◌, ◌++◌, length, take, drop, refl, sym, ap, arith, length-drop, slice_get, Some, None}
 use Rattle.std.proofs.Math.Seq.{take-length}
-use Rattle.std.proofs.lemmas.List.{take-append-le, drop-append-le, drop-drop}
+use Rattle.std.proofs.lemmas.List.{take-append-le, drop-append-le, drop-drop, length-take-le, take-append-drop}
 use Rattle.mcs_types.specs.declared.record.Rec.{Rec}
 use Rattle.mcs_packing.specs.Heads.{Entered}
+use Rattle.mcs_book.specs.History.{Line}
 use Rattle.mcs_book.specs.Pages.{cut, start_at, EndsRise}
 
 -- the last end is not before the first start
@@ -26,6 +27,32 @@ cut-push s (j ∷ hs) rs new k n e h end =
     let within : j.end - s ≤ length rs = omega (arith, h.0) in
     let rest : n ≡ j.end + length (drop (j.end - s) rs) = omega (arith, h.0, length-drop (j.end - s) rs) in
     rw (take-append-le, drop-append-le) (ap (λ ls. (record { step = j.step; answer = j.answer; records = take (j.end - s) rs }) ∷ ls) (cut-push j.end hs (drop (j.end - s) rs) new k n rest h.1 end))
+
+-- records behind the last end are in no line
+pub cut-beyond : (s : ℕ) (hs : List Entered) (rs new : List Rec) (n : ℕ) → n ≤ s + length rs → EndsRise s hs n → cut s hs (rs ++ new) ≡ cut s hs rs
+cut-beyond s [] rs new n le h = refl
+cut-beyond s (j ∷ hs) rs new n le h =
+    let last : j.end ≤ n = start-le_end j.end hs n h.1 in
+    let within : j.end - s ≤ length rs = omega (arith, h.0, last, le) in
+    let rest : n ≤ j.end + length (drop (j.end - s) rs) = omega (arith, h.0, last, le, length-drop (j.end - s) rs) in
+    rw (take-append-le, drop-append-le) (ap (λ ls. (record { step = j.step; answer = j.answer; records = take (j.end - s) rs }) ∷ ls) (cut-beyond j.end hs (drop (j.end - s) rs) new n rest h.1))
+
+-- the lines without the records behind the last end
+pub cut-first : (hs : List Entered) (rs : List Rec) (n : ℕ) → n ≤ length rs → EndsRise 0 hs n → cut 0 hs (take n rs) ≡ cut 0 hs rs
+cut-first hs rs n le h =
+    let long : n ≤ 0 + length (take n rs) = omega (arith, length-take-le n rs le) in
+    sym (cut-beyond 0 hs (take n rs) (drop n rs) n long h) ∙ ap (cut 0 hs) (take-append-drop n rs)
+
+-- one more line, of the records behind the last end
+pub cut-close : (hs : List Entered) (rs : List Rec) (k : Entered) (n : ℕ) → n ≤ length rs → EndsRise 0 hs n → k.end ≡ length rs
+    → cut 0 (hs ++ k ∷ []) rs ≡ cut 0 hs rs ++ (record { step = k.step; answer = k.answer; records = drop n rs }) ∷ []
+cut-close hs rs k n le h end =
+    let line : Line = record { step = k.step; answer = k.answer; records = drop n rs } in
+    let long : n ≡ 0 + length (take n rs) = omega (arith, length-take-le n rs le) in
+    let all : k.end ≡ n + length (drop n rs) = omega (arith, end, le, length-drop n rs) in
+    ap (cut 0 (hs ++ k ∷ [])) (sym (take-append-drop n rs))
+    ∙ cut-push 0 hs (take n rs) (drop n rs) k n long h all
+    ∙ ap (λ ls. ls ++ line ∷ []) (cut-first hs rs n le h)
 
 -- where an entry's records begin and end
 pub start-within : (s : ℕ) (hs : List Entered) (n i : ℕ) (h : Entered) → EndsRise s hs n → slice_get hs i ≡ Some h → (s ≤ start_at s hs i) × (start_at s hs i ≤ h.end) × (h.end ≤ n)

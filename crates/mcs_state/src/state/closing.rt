@@ -1,13 +1,12 @@
 //! Objects that end.
-ghost use Rattle.std.specs.Prelude.{◌≡◌, ◌<◌, true, None, length};
+ghost use Rattle.std.specs.Prelude.{◌≡◌, ◌<◌, true, None, length, ◌+◌};
 ghost use Rattle.mcs_types.specs.declared.record.Rec.{Rec};
 ghost use Rattle.mcs_book.specs.Sound.{Allowed};
 ghost use Rattle.mcs_notifications.specs.Signals.{is_there, thread_in, homed_in};
 ghost use Rattle.mcs_state.specs.Following.{ClosesNotification};
 ghost use Rattle.mcs_state.specs.Now.{so_far, adds};
-ghost use Rattle.mcs_state.specs.Tables.{HAND};
 
-use super::{State, note};
+use super::State;
 use mcs_notifications::Notifications;
 use mcs_types::{Kind, ObjId, Rec};
 use mcs_object_queues::Waiting;
@@ -26,10 +25,10 @@ impl<W: Waiting> State<W> {
     /// An object ends, which nobody uses and which no slot names any more (own).
     pub fn closes(&mut self, object: ObjId)
         requires allowed { Allowed (so_far self.old) (Rec.Closed object) }
-        requires room { length self.old.hand < HAND }
+        requires room { length self.old.hand + 1 < self.old.room }
         ensures { self.new ≡ adds (Rec.Closed object) self.old }
     {
-        note(&mut self.hand, Rec::Closed { object });
+        self.book.note(Rec::Closed { object });
         match object.kind {
             Kind::Endpoint => self.queues.close(object),
             Kind::Notification => {

@@ -1,5 +1,5 @@
 //! Signals, who hears them, and the threads that notifications are bound to.
-ghost use Rattle.std.specs.Prelude.{◌≡◌, ◌<◌, true, IfSome, IsSome, is_some, is_none, length};
+ghost use Rattle.std.specs.Prelude.{◌≡◌, ◌<◌, true, IfSome, IsSome, is_some, is_none, length, ◌+◌};
 ghost use Rattle.mcs_types.specs.declared.id.Kind.{Kind};
 ghost use Rattle.mcs_types.specs.declared.record.Rec.{Rec};
 ghost use Rattle.mcs_book.specs.Contexts.{home_of, homed_at};
@@ -11,9 +11,8 @@ ghost use Rattle.mcs_threads.specs.Rows.{with_notification};
 ghost use Rattle.mcs_threads.specs.Tables.{ChangesRow};
 ghost use Rattle.mcs_state.specs.Following.{Rebinds, HomesContext, Rehomes};
 ghost use Rattle.mcs_state.specs.Now.{so_far, adds};
-ghost use Rattle.mcs_state.specs.Tables.{HAND};
 
-use super::{State, note};
+use super::State;
 use mcs_contexts::Contexts;
 use mcs_notifications::Notifications;
 use mcs_threads::Threads;
@@ -74,33 +73,27 @@ impl<W: Waiting> State<W> {
     /// A notification is signalled: its word gains the bits of the badge (manual: Notifications).
     pub fn raises(&mut self, notification: ObjId, badge: Badge)
         requires allowed { Allowed (so_far self.old) (Rec.Raised notification badge) }
-        requires room { length self.old.hand < HAND }
+        requires room { length self.old.hand + 1 < self.old.room }
         ensures { self.new ≡ adds (Rec.Raised notification badge) self.old }
     {
-        note(
-            &mut self.hand,
-            Rec::Raised {
-                notification,
-                badge,
-            },
-        );
+        self.book.note(Rec::Raised {
+            notification,
+            badge,
+        });
         self.notifications.raise(notification, badge);
     }
 
     /// A thread hears the pending word of a notification, which is cleared (manual: Notifications).
     pub fn hears(&mut self, thread: ObjId, notification: ObjId, word: u64)
         requires allowed { Allowed (so_far self.old) (Rec.Heard thread notification word) }
-        requires room { length self.old.hand < HAND }
+        requires room { length self.old.hand + 1 < self.old.room }
         ensures { self.new ≡ adds (Rec.Heard thread notification word) self.old }
     {
-        note(
-            &mut self.hand,
-            Rec::Heard {
-                thread,
-                notification,
-                word,
-            },
-        );
+        self.book.note(Rec::Heard {
+            thread,
+            notification,
+            word,
+        });
         self.threads.set_mail(thread, Mail::Word { word });
         self.notifications.hear(notification);
     }
@@ -108,17 +101,14 @@ impl<W: Waiting> State<W> {
     /// A notification is bound to a thread from now on, or none is any more (manual: Notifications).
     pub fn ties(&mut self, thread: ObjId, notification: Option<ObjId>)
         requires allowed { Allowed (so_far self.old) (Rec.Tied thread notification) }
-        requires room { length self.old.hand < HAND }
+        requires room { length self.old.hand + 1 < self.old.room }
         ensures { self.new ≡ adds (Rec.Tied thread notification) self.old }
     {
         let bound = self.bound_of(thread);
-        note(
-            &mut self.hand,
-            Rec::Tied {
-                thread,
-                notification,
-            },
-        );
+        self.book.note(Rec::Tied {
+            thread,
+            notification,
+        });
         tie(&mut self.threads, thread, notification);
         rebind(&mut self.notifications, thread, bound, notification);
     }
@@ -126,17 +116,14 @@ impl<W: Waiting> State<W> {
     /// A context is homed at a notification from now on, or nowhere any more (own).
     pub fn homes(&mut self, context: ObjId, notification: Option<ObjId>)
         requires allowed { Allowed (so_far self.old) (Rec.Homed context notification) }
-        requires room { length self.old.hand < HAND }
+        requires room { length self.old.hand + 1 < self.old.room }
         ensures { self.new ≡ adds (Rec.Homed context notification) self.old }
     {
         let old = self.home_of(context);
-        note(
-            &mut self.hand,
-            Rec::Homed {
-                context,
-                notification,
-            },
-        );
+        self.book.note(Rec::Homed {
+            context,
+            notification,
+        });
         home(&mut self.contexts, context, notification);
         rehome(&mut self.notifications, context, old, notification);
     }

@@ -1,5 +1,5 @@
 //! Debts of reply objects, from a call to its answer or its end.
-ghost use Rattle.std.specs.Prelude.{◌≡◌, ◌<◌, true, IsSome, option_and_then, length};
+ghost use Rattle.std.specs.Prelude.{◌≡◌, ◌<◌, true, IsSome, option_and_then, length, ◌+◌};
 ghost use Rattle.mcs_types.specs.declared.record.Mail.{Mail};
 ghost use Rattle.mcs_types.specs.declared.record.Rec.{Rec};
 ghost use Rattle.mcs_book.specs.Chains.{topped_by};
@@ -8,9 +8,8 @@ ghost use Rattle.mcs_replies.specs.Owing.{may_owe};
 ghost use Rattle.mcs_threads.specs.Tables.{row_of};
 ghost use Rattle.mcs_state.specs.Following.{AddsDebt, MailsFreed};
 ghost use Rattle.mcs_state.specs.Now.{so_far, adds};
-ghost use Rattle.mcs_state.specs.Tables.{HAND};
 
-use super::{State, note};
+use super::State;
 use mcs_replies::{Ended, Replies};
 use mcs_threads::{Block, Threads};
 use mcs_types::{Badge, Copied, Copies, Ending, Mail, Message, ObjId, Rec};
@@ -46,17 +45,14 @@ impl<W: Waiting> State<W> {
     /// A reply object owes a caller an answer; the context is the one that the caller brought along (manual: Message Passing).
     pub fn owes(&mut self, reply: ObjId, caller: ObjId, brought: Option<ObjId>)
         requires allowed { Allowed (so_far self.old) (Rec.Owes reply caller brought) }
-        requires room { length self.old.hand < HAND }
+        requires room { length self.old.hand + 1 < self.old.room }
         ensures { self.new ≡ adds (Rec.Owes reply caller brought) self.old }
     {
-        note(
-            &mut self.hand,
-            Rec::Owes {
-                reply,
-                caller,
-                context: brought,
-            },
-        );
+        self.book.note(Rec::Owes {
+            reply,
+            caller,
+            context: brought,
+        });
         self.threads.block(caller, Block::OnReply { reply });
         owe(&mut self.replies, reply, caller, brought);
     }
@@ -65,7 +61,7 @@ impl<W: Waiting> State<W> {
     /// it topped one (manual: Message Passing; chains are own).
     pub fn paid(&mut self, reply: ObjId, caller: ObjId, message: Copies<'_>) -> Option<ObjId>
         requires allowed { Allowed (so_far self.old) (Rec.Paid reply caller message) }
-        requires room { length self.old.hand < HAND }
+        requires room { length self.old.hand + 1 < self.old.room }
         ensures paid { self.new ≡ adds (Rec.Paid reply caller message.entry) self.old }
         ensures topped { result ≡ topped_by (so_far self.old) reply }
     {
@@ -74,14 +70,11 @@ impl<W: Waiting> State<W> {
             mail,
             answer: _,
         } = message.made();
-        note(
-            &mut self.hand,
-            Rec::Paid {
-                reply,
-                caller,
-                message: noted,
-            },
-        );
+        self.book.note(Rec::Paid {
+            reply,
+            caller,
+            message: noted,
+        });
         answers(&mut self.threads, caller, mail);
         topped(self.replies.pay(reply))
     }
@@ -89,18 +82,15 @@ impl<W: Waiting> State<W> {
     /// The debt of a reply object becomes void. The answer is as that of `paid` (manual: Message Passing; chains are own).
     pub fn voids(&mut self, reply: ObjId, caller: ObjId, how: Ending) -> Option<ObjId>
         requires allowed { Allowed (so_far self.old) (Rec.Void reply caller how) }
-        requires room { length self.old.hand < HAND }
+        requires room { length self.old.hand + 1 < self.old.room }
         ensures void { self.new ≡ adds (Rec.Void reply caller how) self.old }
         ensures topped { result ≡ topped_by (so_far self.old) reply }
     {
-        note(
-            &mut self.hand,
-            Rec::Void {
-                reply,
-                caller,
-                ending: how,
-            },
-        );
+        self.book.note(Rec::Void {
+            reply,
+            caller,
+            ending: how,
+        });
         self.threads.unblock(caller);
         topped(self.replies.void(reply, how))
     }

@@ -1,4 +1,4 @@
-use Rattle.std.proofs.Common.{◌≡◌, slice_get, refl, Some, sym, ap, ◌∙◌}
+use Rattle.std.proofs.Common.{◌≡◌, slice_get, refl, Some, sym}
 use Rattle.std.proofs.lemmas.Option.{slice_get_read, slice_get_past}
 use Rattle.mcs_packing.proofs.Packings.{Fits-at, slice_get-record_of, slice_get-unpacked_none}
 use Rattle.mcs_book.proofs.book.record_at.Goals as goal

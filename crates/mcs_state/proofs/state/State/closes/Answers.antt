@@ -27,8 +27,8 @@ pub invariant_of-self : goal.invariant_of-self
 invariant_of-self g c =
     let ok = inside (rec.Closed c.args.object) c.self.view_is c.requires.allowed in
     let close = c.close.ensures in (
-      omega (arith, c.self.invariant.0, c.note.ensures.capacity),
-      follows (rec.Closed c.args.object) _ _ _ _ _ _ c.note.ensures.items (inside-room c.self.view_is c.requires.room) ok
+      omega (arith, c.self.invariant.0, c.note.ensures.whole),
+      follows (rec.Closed c.args.object) _ _ _ _ _ _ c.note.ensures.book c.note.ensures.hand (inside-room c.self.view_is c.requires.room c.self.invariant.0) ok
           (follows-closed _ c.args.object kind.Endpoint _ _ c.in-Endpoint.is (record {
             threads = refl;
             letters = refl;
@@ -73,8 +73,8 @@ pub invariant_of-self-in-Notification : goal.invariant_of-self-in-Notification
 invariant_of-self-in-Notification g c =
     let ok = inside (rec.Closed c.args.object) c.self.view_is c.requires.allowed in
     let close = c.close-in-Notification.ensures in (
-      omega (arith, c.self.invariant.0, c.note.ensures.capacity),
-      follows (rec.Closed c.args.object) _ _ _ _ _ _ c.note.ensures.items (inside-room c.self.view_is c.requires.room) ok
+      omega (arith, c.self.invariant.0, c.note.ensures.whole),
+      follows (rec.Closed c.args.object) _ _ _ _ _ _ c.note.ensures.book c.note.ensures.hand (inside-room c.self.view_is c.requires.room c.self.invariant.0) ok
           (follows-closed _ c.args.object kind.Notification _ _ c.in-Notification.is (record {
             threads = refl;
             letters = refl;
@@ -106,8 +106,8 @@ pub invariant_of-self-in-Reply : goal.invariant_of-self-in-Reply
 invariant_of-self-in-Reply g c =
     let ok = inside (rec.Closed c.args.object) c.self.view_is c.requires.allowed in
     let close = c.close-in-Reply.ensures in (
-      omega (arith, c.self.invariant.0, c.note.ensures.capacity),
-      follows (rec.Closed c.args.object) _ _ _ _ _ _ c.note.ensures.items (inside-room c.self.view_is c.requires.room) ok
+      omega (arith, c.self.invariant.0, c.note.ensures.whole),
+      follows (rec.Closed c.args.object) _ _ _ _ _ _ c.note.ensures.book c.note.ensures.hand (inside-room c.self.view_is c.requires.room c.self.invariant.0) ok
           (follows-closed _ c.args.object kind.Reply _ _ c.in-Reply.is (record {
             threads = refl;
             letters = refl;
@@ -140,8 +140,8 @@ invariant_of-self-in-Context g c =
     let ok = inside (rec.Closed c.args.object) c.self.view_is c.requires.allowed in
     let close = c.close-in-Context.ensures in
     let chain = c.drop_chain.ensures in (
-      omega (arith, c.self.invariant.0, c.note.ensures.capacity),
-      follows (rec.Closed c.args.object) _ _ _ _ _ _ c.note.ensures.items (inside-room c.self.view_is c.requires.room) ok
+      omega (arith, c.self.invariant.0, c.note.ensures.whole),
+      follows (rec.Closed c.args.object) _ _ _ _ _ _ c.note.ensures.book c.note.ensures.hand (inside-room c.self.view_is c.requires.room c.self.invariant.0) ok
           (follows-closed _ c.args.object kind.Context _ _ c.in-Context.is (record {
             threads = refl;
             letters = refl;
@@ -159,8 +159,8 @@ invariant_of-self-in-Thread g c =
     let ok = inside (rec.Closed c.args.object) c.self.view_is c.requires.allowed in
     let there = thread-there _ c.self.inside.threads c.args.object c.self.invariant.1.sound c.self.invariant.1.threads (c.in-Thread.is, ok.0) in
     let close = c.close-in-Thread.ensures in (
-      omega (arith, c.self.invariant.0, c.note.ensures.capacity),
-      follows (rec.Closed c.args.object) _ _ _ _ _ _ c.note.ensures.items (inside-room c.self.view_is c.requires.room) ok
+      omega (arith, c.self.invariant.0, c.note.ensures.whole),
+      follows (rec.Closed c.args.object) _ _ _ _ _ _ c.note.ensures.book c.note.ensures.hand (inside-room c.self.view_is c.requires.room c.self.invariant.0) ok
           (follows-closed _ c.args.object kind.Thread _ _ c.in-Thread.is (record {
             threads = record { made = close.made; rows = close.rows; mails = close.mails there };
             letters = refl;

@@ -11,7 +11,7 @@ set-requires g c =
 
 pub invariant_of-self : goal.invariant_of-self
 invariant_of-self g c = let set = rw c.cap_again.ensures at c.set.ensures in (
-  omega (arith, c.self.invariant.0, c.note.ensures.capacity),
-  follows (rec.Slot c.args.at.cnode c.args.at.index c.args.cap) _ _ _ _ _ _ c.note.ensures.items (inside-room c.self.view_is c.requires.room) (inside (rec.Slot c.args.at.cnode c.args.at.index c.args.cap) c.self.view_is c.requires.allowed)
+  omega (arith, c.self.invariant.0, c.note.ensures.whole),
+  follows (rec.Slot c.args.at.cnode c.args.at.index c.args.cap) _ _ _ _ _ _ c.note.ensures.book c.note.ensures.hand (inside-room c.self.view_is c.requires.room c.self.invariant.0) (inside (rec.Slot c.args.at.cnode c.args.at.index c.args.cap) c.self.view_is c.requires.allowed)
       (record { threads = refl; letters = refl; contexts = refl; queues = refl; replies = refl; notifications = refl; slots = (c.are_pages.ensures.pages, set); sent = refl }) c.self.invariant.1,
 )

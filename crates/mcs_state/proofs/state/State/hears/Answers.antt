@@ -10,8 +10,8 @@ invariant_of-self g c =
     let there = thread-there _ c.self.inside.threads c.args.thread c.self.invariant.1.sound c.self.invariant.1.threads ok.0 in
     let mail = c.set_mail.ensures in
     let hear = c.hear.ensures in (
-      omega (arith, c.self.invariant.0, c.note.ensures.capacity),
-      follows (rec.Heard c.args.thread c.args.notification c.args.word) _ _ _ _ _ _ c.note.ensures.items (inside-room c.self.view_is c.requires.room) (inside (rec.Heard c.args.thread c.args.notification c.args.word) c.self.view_is c.requires.allowed)
+      omega (arith, c.self.invariant.0, c.note.ensures.whole),
+      follows (rec.Heard c.args.thread c.args.notification c.args.word) _ _ _ _ _ _ c.note.ensures.book c.note.ensures.hand (inside-room c.self.view_is c.requires.room c.self.invariant.0) (inside (rec.Heard c.args.thread c.args.notification c.args.word) c.self.view_is c.requires.allowed)
           (record {
             threads = record { made = mail.made; rows = mail.rows; mails = mail.mails there };
             letters = refl;

@@ -25,7 +25,7 @@ give-requires-clause-idle g c = given-idle _ _ c.args.context c.args.thread c.se
 
 pub invariant_of-self : goal.invariant_of-self
 invariant_of-self g c = (
-  omega (arith, c.self.invariant.0, c.note.ensures.capacity),
-  follows (rec.Holds c.args.context c.args.thread) _ _ _ _ _ _ c.note.ensures.items (inside-room c.self.view_is c.requires.room) (inside (rec.Holds c.args.context c.args.thread) c.self.view_is c.requires.allowed)
+  omega (arith, c.self.invariant.0, c.note.ensures.whole),
+  follows (rec.Holds c.args.context c.args.thread) _ _ _ _ _ _ c.note.ensures.book c.note.ensures.hand (inside-room c.self.view_is c.requires.room c.self.invariant.0) (inside (rec.Holds c.args.context c.args.thread) c.self.view_is c.requires.allowed)
       (record { threads = refl; letters = refl; contexts = c.give.ensures; queues = refl; replies = refl; notifications = refl; slots = refl; sent = refl }) c.self.invariant.1,
 )

@@ -26,7 +26,7 @@ pub invariant_of-self : goal.invariant_of-self
 invariant_of-self g c =
     let old = seen c.self.view_is (λ R. c.home_of-old.result ≡ home_of R c.args.context) c.home_of-old.ensures in
     let notifications = rw old at c.rehome.ensures in (
-      omega (arith, c.self.invariant.0, c.note.ensures.capacity),
-      follows (rec.Homed c.args.context c.args.notification) _ _ _ _ _ _ c.note.ensures.items (inside-room c.self.view_is c.requires.room) (inside (rec.Homed c.args.context c.args.notification) c.self.view_is c.requires.allowed)
+      omega (arith, c.self.invariant.0, c.note.ensures.whole),
+      follows (rec.Homed c.args.context c.args.notification) _ _ _ _ _ _ c.note.ensures.book c.note.ensures.hand (inside-room c.self.view_is c.requires.room c.self.invariant.0) (inside (rec.Homed c.args.context c.args.notification) c.self.view_is c.requires.allowed)
           (record { threads = refl; letters = refl; contexts = c.home.ensures; queues = refl; replies = refl; notifications = notifications; slots = refl; sent = refl }) c.self.invariant.1,
     )

@@ -18,7 +18,7 @@ join-requires-clause-known g c =
 pub join-requires-clause-there : goal.join-requires-clause-there
 join-requires-clause-there g c =
     let ok = inside (rec.Joins c.args.thread c.args.queue c.args.reply) c.self.view_is c.requires.allowed in
-    c.self.invariant.1.queues.has c.args.queue ∙ queue-there (reverse c.self.inside.hand.items ++ log_of c.self.inside.book.book) c.args.queue ok.3
+    c.self.invariant.1.queues.has c.args.queue ∙ queue-there (c.self.inside.book.hand ++ log_of c.self.inside.book.book) c.args.queue ok.3
 
 pub attend-requires : goal.attend-requires
 attend-requires g c =
@@ -28,7 +28,7 @@ attend-requires g c =
 pub invariant_of-self : goal.invariant_of-self
 invariant_of-self g c = let line = rw (seen c.self.view_is (λ R. c.priority-priority.result.0 ≡ prio_of R c.args.thread) c.priority-priority.ensures) at c.join.ensures.line in
     let replies = rw c.attended.ensures at c.attend.ensures in (
-      omega (arith, c.self.invariant.0, c.note.ensures.capacity),
-      follows (rec.Joins c.args.thread c.args.queue c.args.reply) _ _ _ _ _ _ c.note.ensures.items (inside-room c.self.view_is c.requires.room) (inside (rec.Joins c.args.thread c.args.queue c.args.reply) c.self.view_is c.requires.allowed)
+      omega (arith, c.self.invariant.0, c.note.ensures.whole),
+      follows (rec.Joins c.args.thread c.args.queue c.args.reply) _ _ _ _ _ _ c.note.ensures.book c.note.ensures.hand (inside-room c.self.view_is c.requires.room c.self.invariant.0) (inside (rec.Joins c.args.thread c.args.queue c.args.reply) c.self.view_is c.requires.allowed)
           (record { threads = c.block.ensures.changed; letters = refl; contexts = refl; queues = record { line = line; queue = c.join.ensures.queue; objects = record { has = c.join.ensures.has; made = c.join.ensures.given; there = c.join.ensures.there } }; replies = replies; notifications = refl; slots = refl; sent = refl }) c.self.invariant.1,
     )

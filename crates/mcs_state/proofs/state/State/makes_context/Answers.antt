@@ -13,12 +13,12 @@ use Rattle.mcs_state.proofs.state.State.makes_context.Goals as goal
 
 pub invariant_of-self : goal.invariant_of-self
 invariant_of-self g c =
-    let R : Log = reverse c.self.inside.hand.items ++ log_of c.self.inside.book.book in
+    let R : Log = c.self.inside.book.hand ++ log_of c.self.inside.book.book in
     let is : c.add-object.result ≡ next_id R kind.Context = c.add-object.ensures.id ∙ next-of R kind.Context _ c.self.invariant.1.contexts.shape in
-    let items = rw is at c.note.ensures.items in
+    let items = rw is at c.note.ensures.hand in
     let cores = rw is at c.add-object.ensures.cores in
     let made = rec.Made (next_id R kind.Context) (form.OnCore c.args.core) in (
-      omega (arith, c.self.invariant.0, c.note.ensures.capacity),
-      follows made _ _ _ _ _ _ items (inside-room c.self.view_is c.requires.room) (inside-made kind.Context (form.OnCore c.args.core) c.self.view_is c.requires.allowed)
+      omega (arith, c.self.invariant.0, c.note.ensures.whole),
+      follows made _ _ _ _ _ _ c.note.ensures.book items (inside-room c.self.view_is c.requires.room c.self.invariant.0) (inside-made kind.Context (form.OnCore c.args.core) c.self.view_is c.requires.allowed)
           (record { threads = refl; letters = refl; contexts = record { counts = c.add-object.ensures.counts; cores = cores; holders = c.add-object.ensures.holders; homes = c.add-object.ensures.homes }; queues = refl; replies = refl; notifications = refl; slots = refl; sent = refl }) c.self.invariant.1,
     )

@@ -13,17 +13,17 @@ use Rattle.mcs_state.proofs.state.State.makes_notification.Goals as goal
 
 pub invariant_of-self : goal.invariant_of-self
 invariant_of-self g c =
-    let R : Log = reverse c.self.inside.hand.items ++ log_of c.self.inside.book.book in
+    let R : Log = c.self.inside.book.hand ++ log_of c.self.inside.book.book in
     let open_queue = c.open.ensures in
     let add = c.add-object.ensures in
     let queued : c.open.result ≡ next_id R kind.Notification = open_queue.id ∙ ap (λ n. record { kind = kind.Notification; serial = n + 1 }) (c.self.invariant.1.queues.made kind.Notification refl) in
     let is : c.add-object.result ≡ next_id R kind.Notification = add.id ∙ next-of R kind.Notification _ c.self.invariant.1.notifications.counts in
-    let items = rw is at c.note.ensures.items in
+    let items = rw is at c.note.ensures.hand in
     let has = rw queued at open_queue.has in
     let there = rw is at add.there in
     let made = rec.Made (next_id R kind.Notification) (form.Plain) in (
-      omega (arith, c.self.invariant.0, c.note.ensures.capacity),
-      follows made _ _ _ _ _ _ items (inside-room c.self.view_is c.requires.room) (inside-made kind.Notification form.Plain c.self.view_is c.requires.allowed)
+      omega (arith, c.self.invariant.0, c.note.ensures.whole),
+      follows made _ _ _ _ _ _ c.note.ensures.book items (inside-room c.self.view_is c.requires.room c.self.invariant.0) (inside-made kind.Notification form.Plain c.self.view_is c.requires.allowed)
           (record {
             threads = refl;
             letters = refl;

@@ -13,13 +13,13 @@ use Rattle.mcs_state.proofs.state.State.makes_reply.Goals as goal
 
 pub invariant_of-self : goal.invariant_of-self
 invariant_of-self g c =
-    let R : Log = reverse c.self.inside.hand.items ++ log_of c.self.inside.book.book in
+    let R : Log = c.self.inside.book.hand ++ log_of c.self.inside.book.book in
     let add = c.add-object.ensures in
     let is : c.add-object.result ≡ next_id R kind.Reply = add.id ∙ next-of R kind.Reply _ c.self.invariant.1.replies.counts in
-    let items = rw is at c.note.ensures.items in
+    let items = rw is at c.note.ensures.hand in
     let there = rw is at add.there in
     let made = rec.Made (next_id R kind.Reply) (form.Plain) in (
-      omega (arith, c.self.invariant.0, c.note.ensures.capacity),
-      follows made _ _ _ _ _ _ items (inside-room c.self.view_is c.requires.room) (inside-made kind.Reply form.Plain c.self.view_is c.requires.allowed)
+      omega (arith, c.self.invariant.0, c.note.ensures.whole),
+      follows made _ _ _ _ _ _ c.note.ensures.book items (inside-room c.self.view_is c.requires.room c.self.invariant.0) (inside-made kind.Reply form.Plain c.self.view_is c.requires.allowed)
           (record { threads = refl; letters = refl; contexts = refl; queues = refl; replies = record { counts = add.counts; there = there; receivers = add.receivers; debts = record { owed = add.owed; chains = add.chains } }; notifications = refl; slots = refl; sent = refl }) c.self.invariant.1,
     )

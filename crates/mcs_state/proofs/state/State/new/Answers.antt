@@ -1,13 +1,14 @@
 use Rattle.std.proofs.Common.{refl, length, ap, arith}
 use Rattle.mcs_types.specs.declared.id.Kind.TheVariants as kind
+use Rattle.mcs_book.specs.Logs.{Log}
 use Rattle.mcs_book.specs.History.{log_of}
 use Rattle.mcs_state.proofs.Opening.{blank-kept, log-empty}
 use Rattle.mcs_state.proofs.state.State.new.Goals as goal
 
 pub invariant_of-result : goal.invariant_of-result
 invariant_of-result g c = (
-  omega (arith, c.in_ok-with_capacity.ensures.capacity),
-  rw (c.in_ok-with_capacity.ensures.items, ap (λ ls. length ls) c.new-7.ensures.lines)
+  omega (arith, c.new-7.ensures.room, ap (λ (h : Log). length h) c.new-7.ensures.hand),
+  rw (c.new-7.ensures.hand, ap (λ ls. length ls) c.new-7.ensures.lines)
       (blank-kept _ (log_of c.new-7.result.book) (log-empty c.new-7.result.book c.new-7.ensures.boot c.new-7.ensures.lines) (record {
         threads = c.in_ok-new-2.ensures.made;
         rows = c.in_ok-new-2.ensures.rows;

@@ -11,7 +11,7 @@ owe-requires g c =
 
 pub invariant_of-self : goal.invariant_of-self
 invariant_of-self g c = (
-  omega (arith, c.self.invariant.0, c.note.ensures.capacity),
-  follows (rec.Owes c.args.reply c.args.caller c.args.brought) _ _ _ _ _ _ c.note.ensures.items (inside-room c.self.view_is c.requires.room) (inside (rec.Owes c.args.reply c.args.caller c.args.brought) c.self.view_is c.requires.allowed)
+  omega (arith, c.self.invariant.0, c.note.ensures.whole),
+  follows (rec.Owes c.args.reply c.args.caller c.args.brought) _ _ _ _ _ _ c.note.ensures.book c.note.ensures.hand (inside-room c.self.view_is c.requires.room c.self.invariant.0) (inside (rec.Owes c.args.reply c.args.caller c.args.brought) c.self.view_is c.requires.allowed)
       (record { threads = c.block.ensures.changed; letters = refl; contexts = refl; queues = refl; replies = c.owe.ensures; notifications = refl; slots = refl; sent = refl }) c.self.invariant.1,
 )

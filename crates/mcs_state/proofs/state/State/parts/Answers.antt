@@ -19,7 +19,7 @@ attend-requires g c =
 pub invariant_of-self : goal.invariant_of-self
 invariant_of-self g c = let is = seen c.self.view_is (λ R. c.reply_with-reply.result ≡ attended c.args.queue (reply_with R c.args.thread)) c.reply_with-reply.ensures in
     let replies = subst (λ (o : Option ObjId). SetsAny o None c.self.inside.replies c.attend.new.replies) is c.attend.ensures in (
-      omega (arith, c.self.invariant.0, c.note.ensures.capacity),
-      follows (rec.Parts c.args.thread c.args.queue) _ _ _ _ _ _ c.note.ensures.items (inside-room c.self.view_is c.requires.room) (inside (rec.Parts c.args.thread c.args.queue) c.self.view_is c.requires.allowed)
+      omega (arith, c.self.invariant.0, c.note.ensures.whole),
+      follows (rec.Parts c.args.thread c.args.queue) _ _ _ _ _ _ c.note.ensures.book c.note.ensures.hand (inside-room c.self.view_is c.requires.room c.self.invariant.0) (inside (rec.Parts c.args.thread c.args.queue) c.self.view_is c.requires.allowed)
           (record { threads = c.unblock.ensures.changed; letters = refl; contexts = refl; queues = record { line = c.part.ensures.line; queue = c.part.ensures.queue; objects = record { has = c.part.ensures.has; made = c.part.ensures.given; there = c.part.ensures.there } }; replies = replies; notifications = refl; slots = refl; sent = refl }) c.self.invariant.1,
     )

@@ -9,12 +9,12 @@ use Rattle.mcs_state.proofs.state.State.raises.Goals as goal
 pub raise-requires : goal.raise-requires
 raise-requires g c =
     let ok = inside (rec.Raised c.args.notification c.args.badge) c.self.view_is c.requires.allowed in
-    c.self.invariant.1.notifications.there c.args.notification ∙ there (reverse c.self.inside.hand.items ++ log_of c.self.inside.book.book) kind.Notification c.args.notification ok.0
+    c.self.invariant.1.notifications.there c.args.notification ∙ there (c.self.inside.book.hand ++ log_of c.self.inside.book.book) kind.Notification c.args.notification ok.0
 
 pub invariant_of-self : goal.invariant_of-self
 invariant_of-self g c =
     let raise = c.raise.ensures in (
-      omega (arith, c.self.invariant.0, c.note.ensures.capacity),
-      follows (rec.Raised c.args.notification c.args.badge) _ _ _ _ _ _ c.note.ensures.items (inside-room c.self.view_is c.requires.room) (inside (rec.Raised c.args.notification c.args.badge) c.self.view_is c.requires.allowed)
+      omega (arith, c.self.invariant.0, c.note.ensures.whole),
+      follows (rec.Raised c.args.notification c.args.badge) _ _ _ _ _ _ c.note.ensures.book c.note.ensures.hand (inside-room c.self.view_is c.requires.room c.self.invariant.0) (inside (rec.Raised c.args.notification c.args.badge) c.self.view_is c.requires.allowed)
           (record { threads = refl; letters = refl; contexts = refl; queues = refl; replies = refl; notifications = record { objects = record { counts = raise.counts; there = raise.there }; words = raise.words; threads = raise.threads; homed = raise.homed }; slots = refl; sent = refl }) c.self.invariant.1,
     )

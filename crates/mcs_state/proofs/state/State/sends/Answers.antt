@@ -10,7 +10,7 @@ use Rattle.mcs_state.proofs.state.State.sends.Goals as goal
 
 pub overflow_add-self : goal.overflow_add-self
 overflow_add-self g c =
-    let all = counted-le is_sent (reverse c.self.inside.hand.items) in
+    let all = counted-le is_sent (c.self.inside.book.hand) in
     let lines = fewer-lines c.self.view_is c.requires.few in
     omega (arith, c.self.invariant.1.sent.few, c.self.invariant.1.few, all, lines)
 
@@ -21,8 +21,8 @@ keep-requires g c =
 
 pub invariant_of-self : goal.invariant_of-self
 invariant_of-self g c = let kept = rw (c.noted.invariant.0, c.noted.view_is ∙ c.made.ensures, c.self.invariant.1.sent.all) at c.keep.ensures.kept in
-    let items = rw (c.noted.view_is ∙ c.made.ensures) at c.note.ensures.items in (
-      omega (arith, c.self.invariant.0, c.note.ensures.capacity),
-      follows (rec.Sent c.args.sender c.args.endpoint c.args.mode c.args.badge c.args.message) _ _ _ _ _ _ items (inside-room c.self.view_is c.requires.room) (inside (rec.Sent c.args.sender c.args.endpoint c.args.mode c.args.badge c.args.message) c.self.view_is c.requires.allowed)
+    let items = rw (c.noted.view_is ∙ c.made.ensures) at c.note.ensures.hand in (
+      omega (arith, c.self.invariant.0, c.note.ensures.whole),
+      follows (rec.Sent c.args.sender c.args.endpoint c.args.mode c.args.badge c.args.message) _ _ _ _ _ _ c.note.ensures.book items (inside-room c.self.view_is c.requires.room c.self.invariant.0) (inside (rec.Sent c.args.sender c.args.endpoint c.args.mode c.args.badge c.args.message) c.self.view_is c.requires.allowed)
           (record { threads = refl; letters = record { places = c.keep.ensures.places; letters = kept }; contexts = refl; queues = refl; replies = refl; notifications = refl; slots = refl; sent = refl }) c.self.invariant.1,
     )

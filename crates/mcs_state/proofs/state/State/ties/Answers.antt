@@ -19,7 +19,7 @@ pub invariant_of-self : goal.invariant_of-self
 invariant_of-self g c =
     let bound = seen c.self.view_is (λ R. c.bound_of-bound.result ≡ bound_of R c.args.thread) c.bound_of-bound.ensures in
     let notifications = rw bound at c.rebind.ensures in (
-      omega (arith, c.self.invariant.0, c.note.ensures.capacity),
-      follows (rec.Tied c.args.thread c.args.notification) _ _ _ _ _ _ c.note.ensures.items (inside-room c.self.view_is c.requires.room) (inside (rec.Tied c.args.thread c.args.notification) c.self.view_is c.requires.allowed)
+      omega (arith, c.self.invariant.0, c.note.ensures.whole),
+      follows (rec.Tied c.args.thread c.args.notification) _ _ _ _ _ _ c.note.ensures.book c.note.ensures.hand (inside-room c.self.view_is c.requires.room c.self.invariant.0) (inside (rec.Tied c.args.thread c.args.notification) c.self.view_is c.requires.allowed)
           (record { threads = c.tie.ensures; letters = refl; contexts = refl; queues = refl; replies = refl; notifications = notifications; slots = refl; sent = refl }) c.self.invariant.1,
     )

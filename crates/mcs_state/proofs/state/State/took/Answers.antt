@@ -24,8 +24,8 @@ invariant_of-self g c = let ok = inside (rec.Took c.args.number c.args.receiver)
     let taken = opened _ c.args.sender c.args.number c.in-Some.letter c.self.invariant.1.sound number (sym is) in
     let there = thread-there _ c.self.inside.threads c.args.receiver c.self.invariant.1.sound c.self.invariant.1.threads ok.0 in
     let mails = c.deliver.ensures.mails there in (
-      omega (arith, c.self.invariant.0, c.note.ensures.capacity),
-      follows (rec.Took c.args.number c.args.receiver) _ _ _ _ _ _ c.note.ensures.items (inside-room c.self.view_is c.requires.room) (inside (rec.Took c.args.number c.args.receiver) c.self.view_is c.requires.allowed)
+      omega (arith, c.self.invariant.0, c.note.ensures.whole),
+      follows (rec.Took c.args.number c.args.receiver) _ _ _ _ _ _ c.note.ensures.book c.note.ensures.hand (inside-room c.self.view_is c.requires.room c.self.invariant.0) (inside (rec.Took c.args.number c.args.receiver) c.self.view_is c.requires.allowed)
           (record { threads = (c.in-Some.letter, (taken.letter, record { made = c.deliver.ensures.made; rows = c.deliver.ensures.rows; mails = mails })); letters = (c.in-Some.letter, (taken.kept, taken.number, record { places = c.in-Some.ensures.places; letters = rw taken.sender c.in-Some.ensures.kept })); contexts = refl; queues = refl; replies = refl; notifications = refl; slots = refl; sent = refl }) c.self.invariant.1,
     )
 

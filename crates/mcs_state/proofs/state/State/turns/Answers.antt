@@ -5,7 +5,7 @@ use Rattle.mcs_state.proofs.state.State.turns.Goals as goal
 
 pub invariant_of-self : goal.invariant_of-self
 invariant_of-self g c = (
-  omega (arith, c.self.invariant.0, c.note.ensures.capacity),
-  follows (rec.Turns c.args.thread c.args.mode) _ _ _ _ _ _ c.note.ensures.items (inside-room c.self.view_is c.requires.room) (inside (rec.Turns c.args.thread c.args.mode) c.self.view_is c.requires.allowed)
+  omega (arith, c.self.invariant.0, c.note.ensures.whole),
+  follows (rec.Turns c.args.thread c.args.mode) _ _ _ _ _ _ c.note.ensures.book c.note.ensures.hand (inside-room c.self.view_is c.requires.room c.self.invariant.0) (inside (rec.Turns c.args.thread c.args.mode) c.self.view_is c.requires.allowed)
       (record { threads = c.set_mode.ensures.changed; letters = refl; contexts = refl; queues = refl; replies = refl; notifications = refl; slots = refl; sent = refl }) c.self.invariant.1,
 )

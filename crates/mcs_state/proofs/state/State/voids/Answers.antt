@@ -9,8 +9,8 @@ pub invariant_of-self : goal.invariant_of-self
 invariant_of-self g c =
     let void = c.void.ensures in
     let replies : DropsDebt c.args.reply c.args.how c.self.inside.replies c.void.new.self = record { same = record { objects = record { counts = void.counts; there = void.there }; receivers = void.receivers }; owed = void.owed; chains = void.chains } in (
-      omega (arith, c.self.invariant.0, c.note.ensures.capacity),
-      follows (rec.Void c.args.reply c.args.caller c.args.how) _ _ _ _ _ _ c.note.ensures.items (inside-room c.self.view_is c.requires.room) (inside (rec.Void c.args.reply c.args.caller c.args.how) c.self.view_is c.requires.allowed)
+      omega (arith, c.self.invariant.0, c.note.ensures.whole),
+      follows (rec.Void c.args.reply c.args.caller c.args.how) _ _ _ _ _ _ c.note.ensures.book c.note.ensures.hand (inside-room c.self.view_is c.requires.room c.self.invariant.0) (inside (rec.Void c.args.reply c.args.caller c.args.how) c.self.view_is c.requires.allowed)
           (record { threads = c.unblock.ensures.changed; letters = refl; contexts = refl; queues = refl; replies = replies; notifications = refl; slots = refl; sent = refl }) c.self.invariant.1,
     )
 
