@@ -1,5 +1,5 @@
 //! MakeEndpoint, MakeNotification, MakeReply and MakeContext.
-ghost use Rattle.std.specs.Prelude.{◌≡◌, ◌<◌, true, IfOk, length};
+ghost use Rattle.std.specs.Prelude.{◌≡◌, ◌<◌, ◌+◌, true, IfOk, length};
 ghost use Rattle.mcs_types.specs.declared.id.Kind.{Kind};
 ghost use Rattle.mcs_book.specs.Objects.{next_id};
 ghost use Rattle.mcs_book.specs.Sound.{IsFormOf};
@@ -8,7 +8,6 @@ ghost use Rattle.mcs_state.specs.Doing.{Makes, HasRoomFor, ActsAwake, FitsAwake,
 ghost use Rattle.mcs_state.specs.Entering.{IsEntering};
 ghost use Rattle.mcs_state.specs.Making.{HasRoom, MayMake, makes_next, has_limit};
 ghost use Rattle.mcs_state.specs.Now.{so_far};
-ghost use Rattle.mcs_state.specs.Tables.{HAND};
 ghost use Rattle.mcs_caps.specs.NewObjects.{HasSerials, entry_making, new_form, new_cap, vacant, makes_at, makes};
 ghost use Rattle.mcs_caps.specs.Placed.{IsSlot};
 
@@ -67,7 +66,7 @@ fn add<W: Waiting>(state: &mut State<W>, kind: Kind, core: CoreId)
     requires kind { has_limit kind ≡ true }
     requires allowed { MayMake (so_far state.old) kind (new_form kind core) }
     requires few { HasRoom (so_far state.old) kind }
-    requires room { length state.old.hand < HAND }
+    requires room { length state.old.hand + 1 < state.old.room }
     ensures { state.new ≡ makes_next kind (new_form kind core) state.old }
 {
     match kind {

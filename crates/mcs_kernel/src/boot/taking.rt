@@ -1,5 +1,5 @@
 //! How a line of the boot is taken (own).
-ghost use Rattle.std.specs.Prelude.{◌≡◌, ◌≤◌, ◌<◌, ◌∷◌, [], IsTrue, OnOk, OnErr, IfSome, Some, None, is_ok, length};
+ghost use Rattle.std.specs.Prelude.{◌≡◌, ◌≤◌, ◌<◌, ◌∷◌, ◌+◌, [], IsTrue, OnOk, OnErr, IfSome, Some, None, is_ok, length};
 ghost use Rattle.mcs_types.specs.declared.id.Kind.{Kind};
 ghost use Rattle.mcs_types.specs.declared.record.Rec.{Rec};
 ghost use Rattle.mcs_types.specs.declared.record.Form.{Form};
@@ -49,7 +49,8 @@ fn takes_thread<W: Waiting>(
 ) -> ObjId
     requires booting { IsBooting (so_far state.old) }
     requires few { counted (makes_kind Kind.Thread) (so_far state.old) < ROOM }
-    requires room { state.old.hand ≡ [] }
+    requires hand { state.old.hand ≡ [] }
+    requires room { HAND < state.old.room }
     ensures thread { result ≡ next_id (so_far state.old) Kind.Thread }
     ensures made { state.new ≡ adds_all
         (Rec.Made (next_id (so_far state.old) Kind.Thread) (Form.Runner maximum root)
@@ -70,7 +71,7 @@ fn takes_thread<W: Waiting>(
 /// Gives a thread the context with which it begins, if there is one.
 fn takes_context<W: Waiting>(state: &mut State<W>, thread: ObjId, context: Option<ObjId>)
     requires allowed { IfSome context (λ s. Allowed (so_far state.old) (Rec.Holds s (Some thread))) }
-    requires room { length state.old.hand < HAND }
+    requires room { length state.old.hand + 1 < state.old.room }
     ensures { state.new ≡ adds_all (begins_with context thread) state.old }
 {
     if let Some(context) = context {
@@ -85,6 +86,7 @@ fn takes_records<W: Waiting>(state: &mut State<W>, line: &BootLine) -> Result<()
         (boot_check state.old.book.boot.cores (so_far state.old) line.now)) }
     requires booting { IsBooting (so_far state.old) }
     requires hand { state.old.hand ≡ [] }
+    requires room { HAND < state.old.room }
     ensures made { OnOk result (state.new
         ≡ adds_all (boot_line (so_far state.old) line.now) state.old) }
     ensures unchanged { OnErr result (state.new ≡ state.old) }
@@ -141,6 +143,7 @@ pub(crate) fn takes_line<W: Waiting>(
     ensures hand { state.new.hand ≡ [] }
 {
     state.reserve_boot_line()?;
+    state.reserve()?;
     takes_records(state, &line)?;
     state.close_boot_line(line);
     Ok(())
