@@ -9,6 +9,7 @@ use mcs_packing::{Arena, Head, KeptAnswer, KeptRecord, KeptStep, Packed};
 use mcs_types::{Answer, BootLine, ObjId, OutOfMemory, Rec, Step};
 use std::alloc::Global;
 use std::marker::Model;
+use std::mem;
 
 /// A line of the book: an entry by a thread on a core, its answer, and its records. It is read by value, and takes no
 /// memory from an allocator.
@@ -230,6 +231,7 @@ fn line_at<'a>(
 
 /// Notes where the words of a message that was sent stand, and answers where those of what was taken or heard do, or the
 /// place that was answered before. A place is a hint: what stands there is compared before it is shared.
+#[inline(always)]
 fn place_after(sent: &mut Vec<u32>, packed: &Packed, place: u32) -> u32 {
     match packed {
         Packed::Sent { at, .. } => match sent.push(*at) {
@@ -245,21 +247,20 @@ fn place_after(sent: &mut Vec<u32>, packed: &Packed, place: u32) -> u32 {
     }
 }
 
-/// Packs a record, for which there is room, behind the others, and answers where the words of the answer may stand. What
-/// stands in its place then means nothing.
+/// Packs a record, for which there is room, behind the others, and answers where the words of the answer may stand.
 #[inline(always)]
 fn push_packed(
     arena: &mut Arena,
     packed: &mut Vec<Packed>,
     sent: &mut Vec<u32>,
     place: u32,
-    fact: &mut Rec,
+    fact: Rec,
 ) -> u32
     requires room { HasRoom arena.old 1 }
     requires packed { vec_len packed.old < vec_capacity packed.old }
     requires fit { AllFit packed.old.items arena.old.words.items arena.old.wide.items }
     ensures value { facts packed.new.items arena.new
-        ≡ facts packed.old.items arena.old ++ fact.old ∷ [] }
+        ≡ facts packed.old.items arena.old ++ fact ∷ [] }
     ensures fit { AllFit packed.new.items arena.new.words.items arena.new.wide.items }
     ensures grew { Grew arena.old arena.new }
     ensures len { vec_len packed.new ≡ vec_len packed.old + 1 }
@@ -383,14 +384,16 @@ impl Book {
         Ok(())
     }
 
-    /// Notes a record in the open line, for which there is room. What stands in its place then means nothing.
+    /// Notes a record in the open line, for which there is room: it is packed where it is made.
     #[inline(always)]
-    fn note_from(&mut self, fact: &mut Rec)
+    pub fn note(&mut self, fact: Rec)
         requires { 1 < self.old.room }
-        ensures hand { self.new.hand ≡ fact.old ∷ self.old.hand }
+        ensures hand { self.new.hand ≡ fact ∷ self.old.hand }
         ensures book { self.new.book ≡ self.old.book }
         ensures boot_room { self.new.boot_room ≡ self.old.boot_room }
         ensures room { self.new.room + 1 ≡ self.old.room }
+        ensures whole { self.new.room + length self.new.hand
+            ≡ self.old.room + length self.old.hand }
     {
         self.place = push_packed(
             &mut self.arena,
@@ -402,20 +405,6 @@ impl Book {
         self.room -= 1;
     }
 
-    /// Notes a record in the open line, for which there is room: it is packed where it is made.
-    #[inline(always)]
-    pub fn note(&mut self, mut fact: Rec)
-        requires { 1 < self.old.room }
-        ensures hand { self.new.hand ≡ fact ∷ self.old.hand }
-        ensures book { self.new.book ≡ self.old.book }
-        ensures boot_room { self.new.boot_room ≡ self.old.boot_room }
-        ensures room { self.new.room + 1 ≡ self.old.room }
-        ensures whole { self.new.room + length self.new.hand
-            ≡ self.old.room + length self.old.hand }
-    {
-        self.note_from(&mut fact);
-    }
-
     /// Notes records in order, for which there is room. What stands in their places then means nothing.
     fn note_all(&mut self, records: &mut [Rec])
         requires { length records.old < self.old.room }
@@ -424,7 +413,7 @@ impl Book {
         ensures room { self.new.room + length records.old ≡ self.old.room }
     {
         for fact in records.iter_mut() {
-            self.note_from(fact);
+            self.note(mem::replace(fact, Rec::Dropped { message: 0 }));
         }
     }
 

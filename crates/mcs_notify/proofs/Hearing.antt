@@ -1,5 +1,5 @@
 -- Who hears a word: what a signal records, and what holds of the hearer.
-use Rattle.std.specs.Prelude.{ℕ, ◌≡◌, ◌≢◌, ◌<◌, ◌∷◌, List, length, Option, Some, None, option_and_then, option_map}
+use Rattle.std.specs.Prelude.{ℕ, ◌≡◌, ◌≢◌, ◌<◌, ◌+◌, ◌∷◌, List, length, Option, Some, None, option_and_then, option_map}
 use Rattle.std.specs.Option.{IfSome, option_or}
 use Rattle.std.proofs.Common.{refl, ap, sym, ◌∙◌, subst, arith}
 use Rattle.mcs_types.specs.declared.id.ObjId.{ObjId}
@@ -22,7 +22,6 @@ use Rattle.mcs_book.proofs.SoundLogs.KeptLaws.{bound-one}
 use Rattle.mcs_state.specs.Doing.{Holds, Makes, HasRoomFor}
 use Rattle.mcs_state.specs.Entering.{OnlyBoundWait}
 use Rattle.mcs_state.specs.Now.{Now, so_far, adds_all}
-use Rattle.mcs_state.specs.Tables.{HAND}
 use Rattle.mcs_state.proofs.Doing.{makes-then, room-first, room-next}
 use Rattle.mcs_notify.specs.declared.signalling.Hearer.{Hearer}
 use Rattle.mcs_notify.specs.Hearing.{among_receivers, waiter, next_hearer, unless_pending, reached, goes_on, heard_by}
@@ -115,7 +114,7 @@ reached-is R n h sound only found = go (pending R n) refl found
 -- a signal, and then who hears it
 module _ (n : Now) (at : ObjId) (badge : Badge) where
   -- room for a signal is room for the badge
-  pub room-raised : HasRoomFor (signal at badge) n → length n.hand < HAND
+  pub room-raised : HasRoomFor (signal at badge) n → length n.hand + 1 < n.room
   room-raised room =
       let first = room-first (say (rec.Raised at badge)) (with_any (reached (so_far n) at) (heard_by at badge.0)) n (subst (λ made. Holds made n) (signal-is (so_far n) at badge) room) in
       omega (arith, first)

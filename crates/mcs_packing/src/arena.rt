@@ -5,7 +5,6 @@ ghost use Rattle.mcs_packing.specs.Packing.{FitsIn, Grew, GrewHead, GrowsBy, Has
 use crate::packed::Packed;
 use mcs_types::{Badge, INLINE_WORDS, Message, OutOfMemory, Rec};
 use std::alloc::Global;
-use std::mem;
 
 /// The words that packed records, entries and answers name by their places, and the records that fit no packed form. A
 /// message stands as its label, its words and a badge. Both lists only grow. `spare` is how many words the long messages of
@@ -191,19 +190,15 @@ impl Arena {
         }
     }
 
-    /// Keeps a record as it is: it is moved, and what stands in its place means nothing.
-    pub(crate) fn keep_wide(&mut self, fact: &mut Rec) -> Packed
+    /// Keeps a record as it is.
+    pub(crate) fn keep_wide(&mut self, fact: Rec) -> Packed
         requires { HasRoom self.old 1 }
-        ensures value { record_in result self.new ≡ fact.old }
+        ensures value { record_in result self.new ≡ fact }
         ensures fits { FitsIn result self.new }
         ensures grew { Grew self.old self.new }
     {
         let at = self.wide.len() as u32;
-        let kept = mem::replace(fact, Rec::Dropped { message: 0 });
-        match self.wide.push(kept) {
-            Ok(()) => {}
-            Err(_) => unreachable!(),
-        }
+        self.wide.push_reserved(fact);
         Packed::Wide { at }
     }
 }

@@ -167,6 +167,7 @@ pub enum Packed {
 const _: () = prove!(size_of::<Packed>() == 16);
 
 /// The serial of an object of a kind.
+#[inline(always)]
 fn serial_of(id: &ObjId, kind: Kind) -> Option<u32>
     ensures { IfSome result (λ n. id.now ≡ record { kind = kind; serial = n }) }
 {
@@ -178,6 +179,7 @@ fn serial_of(id: &ObjId, kind: Kind) -> Option<u32>
 }
 
 /// The side of a line, and the serial of its object.
+#[inline(always)]
 fn side_of(queue: &Queue) -> Option<(Side, u32)>
     ensures { IfSome result (λ s. queue.now ≡ queue_on s.0 s.1) }
 {
@@ -189,6 +191,7 @@ fn side_of(queue: &Queue) -> Option<(Side, u32)>
 }
 
 /// Packs what was made and what ended.
+#[inline(always)]
 fn pack_object(fact: &Rec) -> Option<Packed>
     ensures { IsPlain result fact.now }
 {
@@ -216,6 +219,7 @@ fn pack_object(fact: &Rec) -> Option<Packed>
 }
 
 /// Packs how a thread stands in a queue.
+#[inline(always)]
 fn pack_joins(thread: &ObjId, queue: &Queue, reply: &Option<ObjId>) -> Option<Packed>
     ensures { IsPlain result (Rec.Joins thread.now queue.now reply.now) }
 {
@@ -237,6 +241,7 @@ fn pack_joins(thread: &ObjId, queue: &Queue, reply: &Option<ObjId>) -> Option<Pa
 }
 
 /// Packs what a reply object owes.
+#[inline(always)]
 fn pack_owes(reply: &ObjId, caller: &ObjId, context: &Option<ObjId>) -> Option<Packed>
     ensures { IsPlain result (Rec.Owes reply.now caller.now context.now) }
 {
@@ -253,6 +258,7 @@ fn pack_owes(reply: &ObjId, caller: &ObjId, context: &Option<ObjId>) -> Option<P
 }
 
 /// Packs how a thread runs and where it stands.
+#[inline(always)]
 fn pack_thread(fact: &Rec) -> Option<Packed>
     ensures { IsPlain result fact.now }
 {
@@ -283,6 +289,7 @@ fn pack_thread(fact: &Rec) -> Option<Packed>
 }
 
 /// Packs what became of a message, and of the debt for it.
+#[inline(always)]
 fn pack_debt(fact: &Rec) -> Option<Packed>
     ensures { IsPlain result fact.now }
 {
@@ -311,6 +318,7 @@ fn pack_debt(fact: &Rec) -> Option<Packed>
 }
 
 /// Packs who holds a context.
+#[inline(always)]
 fn pack_holds(context: &ObjId, thread: &Option<ObjId>) -> Option<Packed>
     ensures { IsPlain result (Rec.Holds context.now thread.now) }
 {
@@ -325,6 +333,7 @@ fn pack_holds(context: &ObjId, thread: &Option<ObjId>) -> Option<Packed>
 }
 
 /// Packs which notification a thread is bound to.
+#[inline(always)]
 fn pack_tied(thread: &ObjId, notification: &Option<ObjId>) -> Option<Packed>
     ensures { IsPlain result (Rec.Tied thread.now notification.now) }
 {
@@ -339,6 +348,7 @@ fn pack_tied(thread: &ObjId, notification: &Option<ObjId>) -> Option<Packed>
 }
 
 /// Packs at which notification a context is homed.
+#[inline(always)]
 fn pack_homed(context: &ObjId, notification: &Option<ObjId>) -> Option<Packed>
     ensures { IsPlain result (Rec.Homed context.now notification.now) }
 {
@@ -353,6 +363,7 @@ fn pack_homed(context: &ObjId, notification: &Option<ObjId>) -> Option<Packed>
 }
 
 /// Packs who holds a context, is bound to a notification, and what was signalled.
+#[inline(always)]
 fn pack_bond(fact: &Rec) -> Option<Packed>
     ensures { IsPlain result fact.now }
 {
@@ -378,6 +389,7 @@ fn pack_bond(fact: &Rec) -> Option<Packed>
 }
 
 /// Packs a slot without a capability, or with one that has no badge and no guard.
+#[inline(always)]
 fn pack_filled(cnode: &ObjId, index: u8, cap: &Option<Cap>) -> Option<Packed>
     ensures { IsPlain result (Rec.Slot cnode.now index cap.now) }
 {
@@ -401,6 +413,7 @@ fn pack_filled(cnode: &ObjId, index: u8, cap: &Option<Cap>) -> Option<Packed>
 }
 
 /// Packs a record that needs no words.
+#[inline(always)]
 fn pack_small(fact: &Rec) -> Option<Packed>
     ensures { IsPlain result fact.now }
 {
@@ -511,6 +524,7 @@ impl Arena {
     }
 
     /// Packs a record that needs words.
+    #[inline(always)]
     fn pack_large(&mut self, fact: &Rec) -> Option<Packed>
         requires { HasRoom self.old 1 }
         ensures { Packs self.old self.new result fact.now }
@@ -542,18 +556,19 @@ impl Arena {
         }
     }
 
-    /// Packs a record, for which there is room; it may be moved, and what stands in its place then means nothing. What was packed
-    /// before stands for what it stood for.
-    pub fn pack(&mut self, fact: &mut Rec) -> Packed
+    /// Packs a record, for which there is room. What was packed before stands for what it stood for. Where the kind of the record
+    /// is known, its part alone is left here.
+    #[inline(always)]
+    pub fn pack(&mut self, fact: Rec) -> Packed
         requires { HasRoom self.old 1 }
-        ensures value { record_in result self.new ≡ fact.old }
+        ensures value { record_in result self.new ≡ fact }
         ensures fits { FitsIn result self.new }
         ensures grew { Grew self.old self.new }
     {
-        if let Some(packed) = pack_small(fact) {
+        if let Some(packed) = pack_small(&fact) {
             return packed;
         }
-        match self.pack_large(fact) {
+        match self.pack_large(&fact) {
             Some(packed) => packed,
             None => self.keep_wide(fact),
         }

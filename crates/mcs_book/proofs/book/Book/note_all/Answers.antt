@@ -28,10 +28,10 @@ loop-fact-preserved c =
     let inside : i < length recs = omega (arith, c.loop-fact-test.true, c.loop-fact.auto.records) in
     let at : get_or xs i d ≡ get_or recs i d = rest_at i xs recs d before.rest in
     let next = (take_at_read recs i c.fact-item.result inside).1 in
-    let note = c.note_from in
+    let note = c.note in
     record {
-      hand = note.ensures.hand ∙ ap (λ (x : Rec). x ∷ c.loop-fact.self.hand) at ∙ ap (λ l. get_or recs i d ∷ l) before.hand ∙ one_more (take i recs) (take (i + 1) recs) c.args.self.now.hand (get_or recs i d) next;
-      rest = drop-set-lt (i + 1) xs i note.new.fact (omega arith) ∙ rest_after i xs recs before.rest;
+      hand = note.ensures.hand ∙ ap (λ (x : Rec). x ∷ c.loop-fact.self.hand) (c.replace.ensures.value ∙ at) ∙ ap (λ l. get_or recs i d ∷ l) before.hand ∙ one_more (take i recs) (take (i + 1) recs) c.args.self.now.hand (get_or recs i d) next;
+      rest = drop-set-lt (i + 1) xs i c.replace.new.dest (omega arith) ∙ rest_after i xs recs before.rest;
       book = note.ensures.book ∙ before.book;
       room = omega (arith, note.ensures.room, before.room);
     }

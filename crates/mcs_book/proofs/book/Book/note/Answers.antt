@@ -1,11 +1,11 @@
-use Rattle.std.proofs.Common.{◌≡◌, ◌≤◌, ◌<◌, ◌-◌, ◌+◌, ◌∙◌, ◌∷◌, [], length, ap, arith}
+use Rattle.std.proofs.Common.{◌≡◌, List, ◌≤◌, ◌<◌, ◌-◌, ◌+◌, ◌∙◌, ◌∷◌, [], length, ap, arith}
 use Rattle.mcs_types.specs.declared.record.Rec.{Rec}
 use Rattle.mcs_packing.specs.Packing.{records_of}
 use Rattle.mcs_book.specs.Pages.{Written}
 use Rattle.mcs_packing.proofs.Packings.{length-record_of}
 use Rattle.mcs_packing.proofs.HeadLaws.{AllHeadsFit-grows, all_entered-grows}
 use Rattle.mcs_book.proofs.Books.Appending.{HasRoom-fewer, hand-noted, lines-noted}
-use Rattle.mcs_book.proofs.book.Book.note_from.Goals as goal
+use Rattle.mcs_book.proofs.book.Book.note.Goals as goal
 
 pub invariant_of-self : goal.invariant_of-self
 invariant_of-self c =
@@ -28,7 +28,7 @@ invariant_of-self c =
 pub returns-clause-hand : goal.returns-clause-hand
 returns-clause-hand c =
     let b = c.self.inside in
-    let fact : Rec = c.args.fact.now in
+    let fact : Rec = c.args.fact in
     let p = c.push_packed-self-inside.new in
     let was = records_of b.packed.items b.arena.words.items b.arena.wide.items in
     let now = records_of p.packed.items p.arena.words.items p.arena.wide.items in
@@ -38,10 +38,17 @@ returns-clause-hand c =
 pub returns-clause-book : goal.returns-clause-book
 returns-clause-book c =
     let b = c.self.inside in
-    let fact : Rec = c.args.fact.now in
+    let fact : Rec = c.args.fact in
     let p = c.push_packed-self-inside.new in
     let e = c.push_packed-self-inside.ensures in
     let was = records_of b.packed.items b.arena.words.items b.arena.wide.items in
     let within : b.start ≤ length was = omega (arith, c.self.invariant.3, b.packed.ok.0, length-record_of b.packed.items b.arena.words.items b.arena.wide.items) in
     let lines = lines-noted b.heads.items b.arena.words.items p.arena.words.items b.packed.items p.packed.items b.arena.wide.items p.arena.wide.items (fact ∷ []) b.start e.grew.words c.self.invariant.0 e.value within c.self.invariant.2 in
     rw lines (ap (λ (w : Written). w.book) c.self.view_is)
+
+pub returns-clause-whole : goal.returns-clause-whole
+returns-clause-whole c =
+    let hand = ap (λ (l : List Rec). length l) (returns-clause-hand c) in
+    let room : c.self.inside.room ≡ c.args.self.now.room = ap (λ (w : Written). w.room) c.self.view_is in
+    let some = c.requires in
+    omega (arith, hand, room, some)
