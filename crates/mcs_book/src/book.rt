@@ -229,33 +229,33 @@ fn line_at<'a>(
     }
 }
 
-/// Notes where the words of a message that was sent stand, and answers where those of what was taken or heard do, or the
-/// place that was answered before. A place is a hint: what stands there is compared before it is shared.
+/// Notes where the words of a message that was sent stand, and where those of the line's answer may: those of what was taken
+/// or heard. A place is a hint: what stands there is compared before it is shared.
 #[inline(always)]
-fn place_after(sent: &mut Vec<u32>, packed: &Packed, place: u32) -> u32 {
+fn note_place(sent: &mut Vec<u32>, place: &mut u32, packed: &Packed) {
     match packed {
         Packed::Sent { at, .. } => match sent.push(*at) {
-            Ok(()) => place,
-            Err(_) => place,
+            Ok(()) => {}
+            Err(_) => {}
         },
-        Packed::Heard { at, .. } => *at,
+        Packed::Heard { at, .. } => *place = *at,
         Packed::Took { message, .. } => match sent.get(*message as usize) {
-            Some(at) => *at,
-            None => place,
+            Some(at) => *place = *at,
+            None => {}
         },
-        _ => place,
+        _ => {}
     }
 }
 
-/// Packs a record, for which there is room, behind the others, and answers where the words of the answer may stand.
+/// Packs a record, for which there is room, behind the others.
 #[inline(always)]
 fn push_packed(
     arena: &mut Arena,
     packed: &mut Vec<Packed>,
     sent: &mut Vec<u32>,
-    place: u32,
+    place: &mut u32,
     fact: Rec,
-) -> u32
+)
     requires room { HasRoom arena.old 1 }
     requires packed { vec_len packed.old < vec_capacity packed.old }
     requires fit { AllFit packed.old.items arena.old.words.items arena.old.wide.items }
@@ -267,9 +267,8 @@ fn push_packed(
     ensures capacity { vec_capacity packed.old ≤ vec_capacity packed.new }
 {
     let one = arena.pack(fact);
-    let next = place_after(sent, &one, place);
+    note_place(sent, place, &one);
     packed.push_reserved(one);
-    next
 }
 
 /// The most words that one record keeps, but for long messages.
@@ -395,11 +394,11 @@ impl Book {
         ensures whole { self.new.room + length self.new.hand
             ≡ self.old.room + length self.old.hand }
     {
-        self.place = push_packed(
+        push_packed(
             &mut self.arena,
             &mut self.packed,
             &mut self.sent,
-            self.place,
+            &mut self.place,
             fact,
         );
         self.room -= 1;
@@ -462,7 +461,8 @@ impl Book {
     pub fn open_records(&self) -> usize
         ensures { result ≡ length self.now.hand }
     {
-        self.packed.len() - self.start
+        let end = self.packed.len();
+        end - self.start
     }
 
     /// How many lines there are, the boot's among them.

@@ -28,7 +28,7 @@ use Rattle.mcs_book.proofs.Firm.Laws.{Firm, firm-sound, owing-none, root-there, 
 use Rattle.mcs_state.proofs.Opening.{onto-reverse}
 use Rattle.mcs_state.specs.Entering.{IsEntering, OpenStand, OnlyBoundWait}
 use Rattle.mcs_state.specs.Doing.{Does, Fits}
-use Rattle.mcs_state.specs.Tables.{ROOM}
+use Rattle.mcs_state.specs.Tables.{HAND, ROOM}
 use Rattle.mcs_types.specs.declared.entry.Answer.{Answer}
 use Rattle.mcs_types.specs.declared.entry.Entry.{Entry}
 use Rattle.mcs_book.specs.Logs.{counted}
@@ -106,13 +106,13 @@ legal-entered b s legal may range = record {
   lines = (record { enters = may; in_range = range; answer = refl; records = refl }, legal.lines);
 }
 
--- no entry has more records than a line may have
-pub entry-fits : (n : Now) (core : CoreId) (t : ObjId) (entry : Entry) → n.hand ≡ [] → counted (makes_kind kind.Thread) (so_far n) ≤ ROOM → Fits n core t entry
-entry-fits n core t entry empty few =
+-- room for as many records as a line may have is room for those of an entry
+pub entry-fits : (n : Now) (core : CoreId) (t : ObjId) (entry : Entry) → n.hand ≡ [] → HAND < n.room → counted (makes_kind kind.Thread) (so_far n) ≤ ROOM → Fits n core t entry
+entry-fits n core t entry empty room few =
     let short = does-short (so_far n) core t entry in
     let all = length-made (so_far n) kind.Thread in
     let none = ap length empty in
-    omega (arith, short, all, none, few)
+    omega (arith, short, all, none, few, room)
 
 -- an entry s was done on a state n whose hand is empty, and whose book is b
 module _ (b : Book) (s : Step) (n m : Now) (a : Answer) (empty : n.hand ≡ []) (is : n.book ≡ b) (did : Does n s.core s.thread s.entry a m) where

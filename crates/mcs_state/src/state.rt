@@ -117,11 +117,12 @@ impl<W: Waiting> State<W> {
         &self.book
     }
 
-    /// Makes room for one line of the boot.
+    /// Makes room for one line of the boot; that of its records is as it was.
     pub fn reserve_boot_line(&mut self) -> Result<(), OutOfMemory>
         ensures room { OnOk result (0 < self.new.boot_room) }
         ensures book { self.new.book ≡ self.old.book }
         ensures hand { self.new.hand ≡ self.old.hand }
+        ensures line_room { self.new.room ≡ self.old.room }
     {
         self.book.reserve_boot_line()
     }

@@ -142,8 +142,8 @@ pub(crate) fn takes_line<W: Waiting>(
     ensures unchanged { OnErr result (state.new.book ≡ state.old.book) }
     ensures hand { state.new.hand ≡ [] }
 {
-    state.reserve_boot_line()?;
     state.reserve()?;
+    state.reserve_boot_line()?;
     takes_records(state, &line)?;
     state.close_boot_line(line);
     Ok(())

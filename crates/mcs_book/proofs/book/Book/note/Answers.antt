@@ -11,8 +11,8 @@ pub invariant_of-self : goal.invariant_of-self
 invariant_of-self c =
     let b = c.self.inside in
     let i = c.self.invariant in
-    let p = c.push_packed-self-inside.ensures in
-    let ws = c.push_packed-self-inside.new.arena.words.items in
+    let p = c.push_packed.ensures in
+    let ws = c.push_packed.new.arena.words.items in
     let room : b.room ≡ c.args.self.now.room = ap (λ (w : Written). w.room) c.self.view_is in
     let some : 0 < b.room = omega (arith, room, c.requires) in
     let fewer : (b.room - 1 - 1) + 1 ≤ b.room - 1 = omega (arith, room, c.requires) in (
@@ -29,18 +29,18 @@ pub returns-clause-hand : goal.returns-clause-hand
 returns-clause-hand c =
     let b = c.self.inside in
     let fact : Rec = c.args.fact in
-    let p = c.push_packed-self-inside.new in
+    let p = c.push_packed.new in
     let was = records_of b.packed.items b.arena.words.items b.arena.wide.items in
     let now = records_of p.packed.items p.arena.words.items p.arena.wide.items in
     let within : b.start ≤ length was = omega (arith, c.self.invariant.3, b.packed.ok.0, length-record_of b.packed.items b.arena.words.items b.arena.wide.items) in
-    hand-noted b.start was now fact c.push_packed-self-inside.ensures.value within ∙ ap (λ (w : Written). fact ∷ w.hand) c.self.view_is
+    hand-noted b.start was now fact c.push_packed.ensures.value within ∙ ap (λ (w : Written). fact ∷ w.hand) c.self.view_is
 
 pub returns-clause-book : goal.returns-clause-book
 returns-clause-book c =
     let b = c.self.inside in
     let fact : Rec = c.args.fact in
-    let p = c.push_packed-self-inside.new in
-    let e = c.push_packed-self-inside.ensures in
+    let p = c.push_packed.new in
+    let e = c.push_packed.ensures in
     let was = records_of b.packed.items b.arena.words.items b.arena.wide.items in
     let within : b.start ≤ length was = omega (arith, c.self.invariant.3, b.packed.ok.0, length-record_of b.packed.items b.arena.words.items b.arena.wide.items) in
     let lines = lines-noted b.heads.items b.arena.words.items p.arena.words.items b.packed.items p.packed.items b.arena.wide.items p.arena.wide.items (fact ∷ []) b.start e.grew.words c.self.invariant.0 e.value within c.self.invariant.2 in

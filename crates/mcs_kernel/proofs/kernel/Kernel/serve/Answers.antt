@@ -22,7 +22,7 @@ operate-answer-requires-clause-core g c = serving-core c.args.self.now c.args.st
 pub operate-answer-requires-clause-room : goal.operate-answer-requires-clause-room
 operate-answer-requires-clause-room g c =
     let s : IsServing c.args.self.now c.args.step.now.core c.args.step.now.thread c.reserve.new.self = serving c.args.self.now c.args.step.now.core c.args.step.now.thread c.self.inside.state c.reserve.new.self c.self.invariant c.self.view_is c.requires.let_in c.in_ok-reserve.ensures.hand c.in_ok-reserve.ensures.book in
-    entry-fits c.reserve.new.self c.args.step.now.core c.args.step.now.thread c.args.step.now.entry s.hand c.is_sound.ensures.threads
+    entry-fits c.reserve.new.self c.args.step.now.core c.args.step.now.thread c.args.step.now.entry s.hand c.in_ok-reserve.ensures.room c.is_sound.ensures.threads
 
 pub invariant_of-self-2 : goal.invariant_of-self-2
 invariant_of-self-2 g c =

@@ -1,4 +1,4 @@
-use Rattle.std.proofs.Common.{sym, ◌∙◌, ◌++◌, reverse}
+use Rattle.std.proofs.Common.{sym, ◌∙◌, ◌++◌}
 use Rattle.mcs_book.specs.History.{log_of}
 use Rattle.mcs_book.specs.Logs.{Log}
 use Rattle.mcs_state.proofs.Answering.{slot_named-is, root-is}
@@ -10,7 +10,7 @@ returns-in-None g c = rw (← c.self.view_is) (unsaid-rowless _ c.args.thread _ 
 
 pub returns-in-Some : goal.returns-in-Some
 returns-in-Some g c =
-    let R : Log = reverse c.self.inside.hand.items ++ log_of c.self.inside.book.book in
+    let R : Log = c.self.inside.book.hand ++ log_of c.self.inside.book.book in
     let row = c.in-Some.ensures ∙ c.self.invariant.1.threads.rows c.args.thread in
     let found = c.lookup_slot.ensures.value ∙ sym (slot_named-is R c.self.inside.slots c.args.thread _ c.args.place c.self.invariant.1.slots (root-is R c.args.thread _ row)) in
     rw (← c.self.view_is) (said-row R c.args.thread _ _ _ c.self.invariant.1.sound row found)
