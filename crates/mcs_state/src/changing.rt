@@ -8,8 +8,8 @@ ghost use Rattle.mcs_state.specs.Now.{so_far, adds};
 
 use crate::state::State;
 use crate::waking::wake;
-use mcs_types::{Answer, ObjId, Prio};
 use mcs_object_queues::Waiting;
+use mcs_types::{Answer, ObjId, Prio};
 
 /// One thing that an entry changes: who holds a context, where it is homed, which notification is bound to a thread, or a thread's
 /// priority.

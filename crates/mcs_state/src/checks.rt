@@ -6,8 +6,8 @@ ghost use Rattle.mcs_state.specs.Now.{so_far};
 ghost use Rattle.mcs_state.specs.Checks.{kinded, writable, readable, object_named};
 
 use crate::state::State;
-use mcs_types::{Cap, Kind, ObjId, Refusal};
 use mcs_object_queues::Waiting;
+use mcs_types::{Cap, Kind, ObjId, Refusal};
 
 /// What was found, where it is a capability to an object of this kind.
 pub fn of_kind(found: Result<Cap, Refusal>, kind: Kind) -> Result<Cap, Refusal>

@@ -1,7 +1,7 @@
 //! The threads of a queue, one after the other.
 use crate::state::State;
-use mcs_types::ObjId;
 use mcs_object_queues::Waiting;
+use mcs_types::ObjId;
 
 /// The threads of a queue that are left to name, first to last. It takes no memory.
 #[derive(Drop)]

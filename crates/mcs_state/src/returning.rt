@@ -11,8 +11,8 @@ ghost use Rattle.mcs_state.specs.Now.{so_far};
 ghost use Rattle.mcs_state.specs.Doing.{Makes, HasRoomFor};
 
 use crate::state::State;
-use mcs_types::{ObjId, Queue};
 use mcs_object_queues::Waiting;
+use mcs_types::{ObjId, Queue};
 
 /// A context passes to a thread, where the thread holds none.
 pub fn give_back<W: Waiting>(state: &mut State<W>, context: Option<ObjId>, thread: ObjId)

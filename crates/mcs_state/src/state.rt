@@ -22,6 +22,7 @@ use crate::letters::{OpenLetter, deliver};
 use mcs_book::Book;
 use mcs_contexts::Contexts;
 use mcs_notifications::Notifications;
+use mcs_object_queues::Waiting;
 use mcs_objects::{empty_places, keep, take};
 use mcs_replies::Replies;
 use mcs_slots::{SlotId, Slots};
@@ -30,7 +31,6 @@ use mcs_types::{
     Answer, BOOK_LINES, Badge, BootLine, Cap, Copied, Copies, Kind, LINE_RECORDS, Letter, Message,
     Mode, OBJECTS, ObjId, OutOfMemory, Prio, Queue, Rec, SendMode, Step, cap_again,
 };
-use mcs_object_queues::Waiting;
 use std::alloc::Global;
 use std::marker::Model;
 

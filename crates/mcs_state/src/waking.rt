@@ -6,8 +6,8 @@ ghost use Rattle.mcs_state.specs.Entering.{IsEntering};
 ghost use Rattle.mcs_state.specs.Doing.{Makes, HasRoomFor};
 
 use crate::state::State;
-use mcs_types::{Mode, ObjId};
 use mcs_object_queues::Waiting;
+use mcs_types::{Mode, ObjId};
 
 /// The thread becomes Running where it is in Restart.
 pub fn wake<W: Waiting>(state: &mut State<W>, thread: ObjId)

@@ -12,10 +12,10 @@ ghost use Rattle.mcs_cspace.specs.Spaces.{named_by};
 use super::State;
 use crate::queued::Queued;
 use mcs_cspace::{lookup, lookup_slot};
+use mcs_object_queues::Waiting;
 use mcs_replies::Chain;
 use mcs_slots::SlotId;
 use mcs_types::{Cap, CoreId, OBJECTS, ObjId, Place, Prio, Queue, Refusal};
-use mcs_object_queues::Waiting;
 
 impl<W: Waiting> State<W> {
     /// The threads in a queue, first to last; none where its object is not there.

@@ -8,8 +8,8 @@ ghost use Rattle.mcs_state.specs.Now.{so_far, adds};
 
 use super::State;
 use mcs_notifications::Notifications;
-use mcs_types::{Kind, ObjId, Rec};
 use mcs_object_queues::Waiting;
+use mcs_types::{Kind, ObjId, Rec};
 
 /// A notification that is there ends, to which no thread is bound and at which no context is homed; its word is gone.
 fn end_notification(notifications: &mut Notifications, notification: ObjId)

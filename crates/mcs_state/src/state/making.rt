@@ -9,8 +9,8 @@ ghost use Rattle.mcs_state.specs.Tables.{ROOM};
 ghost use Rattle.mcs_state.specs.Making.{HasRoom, MayMake, makes_next, is_plain_kind};
 
 use super::State;
-use mcs_types::{Cap, CoreId, Form, Kind, ObjId, OutOfMemory, Prio, Rec};
 use mcs_object_queues::Waiting;
+use mcs_types::{Cap, CoreId, Form, Kind, ObjId, OutOfMemory, Prio, Rec};
 
 impl<W: Waiting> State<W> {
     /// Makes an endpoint.

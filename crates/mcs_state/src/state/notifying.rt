@@ -15,9 +15,9 @@ ghost use Rattle.mcs_state.specs.Now.{so_far, adds};
 use super::State;
 use mcs_contexts::Contexts;
 use mcs_notifications::Notifications;
+use mcs_object_queues::Waiting;
 use mcs_threads::Threads;
 use mcs_types::{Badge, Mail, ObjId, Rec};
-use mcs_object_queues::Waiting;
 
 /// A thread is bound to this notification now, or to none.
 fn tie(threads: &mut Threads, thread: ObjId, notification: Option<ObjId>)

@@ -11,8 +11,8 @@ ghost use Rattle.mcs_state.specs.Now.{so_far};
 ghost use Rattle.mcs_state.specs.Picking.{thread_at, is_above, better_of};
 
 use super::State;
-use mcs_types::{CoreId, Kind, ObjId, Status, ThreadSet};
 use mcs_object_queues::Waiting;
+use mcs_types::{CoreId, Kind, ObjId, Status, ThreadSet};
 
 /// Whether a thread of this status can run.
 fn is_ready(status: Option<Status>) -> bool

@@ -25,13 +25,13 @@ ghost use Rattle.mcs_state.specs.Nexts.{next_of};
 use super::State;
 use crate::giving::attended;
 use mcs_cspace::{lookup, lookup_slot, radix_in};
+use mcs_object_queues::Waiting;
 use mcs_objects::kept_at;
 use mcs_slots::SlotId;
 use mcs_threads::Block;
 use mcs_types::{
     Cap, CoreId, Kind, Letter, Mail, Mode, OBJECTS, ObjId, Place, Prio, Queue, Refusal, Status,
 };
-use mcs_object_queues::Waiting;
 
 impl<W: Waiting> State<W> {
     /// How many objects of a kind were made.

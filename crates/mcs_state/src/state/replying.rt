@@ -10,10 +10,10 @@ ghost use Rattle.mcs_state.specs.Following.{AddsDebt, MailsFreed};
 ghost use Rattle.mcs_state.specs.Now.{so_far, adds};
 
 use super::State;
+use mcs_object_queues::Waiting;
 use mcs_replies::{Ended, Replies};
 use mcs_threads::{Block, Threads};
 use mcs_types::{Badge, Copied, Copies, Ending, Mail, Message, ObjId, Rec};
-use mcs_object_queues::Waiting;
 
 /// A reply object that may owe owes this caller from now on.
 fn owe(replies: &mut Replies, reply: ObjId, caller: ObjId, brought: Option<ObjId>)
