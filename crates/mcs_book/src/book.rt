@@ -1,5 +1,5 @@
 //! The book: all lines, kept packed, with their records side by side.
-ghost use Rattle.std.specs.Prelude.{◌≡◌, ◌<◌, ◌≤◌, ◌∷◌, ◌++◌, [], ◌+◌, ◌-◌, take, drop, IfOk, OnOk, OnErr, max, reverse, length, slice_get, vec_len, vec_capacity};
+ghost use Rattle.std.specs.Prelude.{◌≡◌, ◌<◌, ◌≤◌, ◌∷◌, ◌++◌, [], ◌+◌, ◌-◌, take, drop, IsTrue, false, IfOk, OnOk, OnErr, max, reverse, length, slice_get, vec_len, vec_capacity};
 ghost use Rattle.mcs_packing.specs.Packing.{AllFit, Grew, HasRoom, records_of};
 ghost use Rattle.mcs_packing.specs.Heads.{AllHeadsFit, all_entered};
 ghost use Rattle.mcs_book.specs.History.{with_boot_line, with_line, line_of_number};
@@ -351,18 +351,43 @@ impl Book {
         }
     }
 
-    /// Makes room for one line with that many records beside those that it has; where there is room it takes no memory. The
-    /// book is as it was. It is out of memory as well for more than 1,000,000 records, and where 2 to the 31 words are kept.
-    pub fn reserve(&mut self, records: usize) -> Result<(), OutOfMemory>
+    /// Gives the open line room for so many more records, where the lists have it. Whether they do.
+    #[inline(always)]
+    fn give_room(&mut self, records: usize) -> bool
+        ensures room { IsTrue result → records < self.new.room }
+        ensures few { self.new.room ≤ max self.old.room (records + 1) }
+        ensures unchanged { self.new.book ≡ self.old.book }
+        ensures hand { self.new.hand ≡ self.old.hand }
+        ensures none { result ≡ false → self.new.room ≡ self.old.room }
+    {
+        if records > MOST_RECORDS {
+            return false;
+        }
+        let words = MOST_WORDS * records + SPARE_WORDS + 2 * MESSAGE_ROOM;
+        let has_room = self.heads.len() < self.heads.capacity()
+            && records <= self.packed.capacity() - self.packed.len()
+            && words <= self.arena.words.capacity() - self.arena.words.len()
+            && records <= self.arena.wide.capacity() - self.arena.wide.len()
+            && records <= self.sent.capacity() - self.sent.len()
+            && self.arena.words.len() <= MOST_KEPT
+            && self.arena.wide.len() <= MOST_KEPT;
+        if has_room {
+            self.arena.spare = SPARE_WORDS;
+            self.room = records + 1;
+        }
+        has_room
+    }
+
+    /// Makes room in the lists, as `reserve` says.
+    // out of line, so that a line for which there is room pays for the tests alone
+    #[cold]
+    #[inline(never)]
+    fn grow(&mut self, records: usize) -> Result<(), OutOfMemory>
         ensures room { OnOk result (records < self.new.room) }
         ensures few { self.new.room ≤ max self.old.room (records + 1) }
-        ensures full { OnErr result (self.old.room ≤ records) }
         ensures unchanged { self.new.book ≡ self.old.book }
         ensures hand { self.new.hand ≡ self.old.hand }
     {
-        if records < self.room {
-            return Ok(());
-        }
         if MOST_RECORDS < records
             || MOST_KEPT < self.arena.words.len()
             || MOST_KEPT < self.arena.wide.len()
@@ -375,12 +400,26 @@ impl Book {
             .words
             .reserve(MOST_WORDS * records + SPARE_WORDS + 2 * MESSAGE_ROOM)?;
         self.arena.wide.reserve(records)?;
-        if self.sent.capacity().saturating_sub(self.sent.len()) < records {
-            self.sent.reserve(records)?;
-        }
+        self.sent.reserve(records)?;
         self.arena.spare = SPARE_WORDS;
         self.room = records + 1;
         Ok(())
+    }
+
+    /// Makes room for one line with that many records beside those that it has; where there is room it takes no memory. The
+    /// book is as it was. It is out of memory as well for more than 1,000,000 records, and where 2 to the 31 words are kept.
+    #[inline(always)]
+    pub fn reserve(&mut self, records: usize) -> Result<(), OutOfMemory>
+        ensures room { OnOk result (records < self.new.room) }
+        ensures few { self.new.room ≤ max self.old.room (records + 1) }
+        ensures full { OnErr result (self.old.room ≤ records) }
+        ensures unchanged { self.new.book ≡ self.old.book }
+        ensures hand { self.new.hand ≡ self.old.hand }
+    {
+        if records < self.room || self.give_room(records) {
+            return Ok(());
+        }
+        self.grow(records)
     }
 
     /// Notes a record in the open line, for which there is room: it is packed where it is made.
