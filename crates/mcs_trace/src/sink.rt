@@ -5,6 +5,7 @@ ghost use Rattle.mcs_trace.specs.Output.{Rose, Moves, kept};
 
 use crate::line::{Line, SIZE};
 use crate::rooms::LINE;
+use mcs_types::RETRIES;
 use std::alloc::{AllocError, Global};
 use std::io::{Error, ErrorKind, Write};
 
