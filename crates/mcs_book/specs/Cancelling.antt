@@ -44,6 +44,10 @@ cancel_all xs mode = for_each xs (λ x. cancel x mode)
 abbrev pub untie : Option ObjId → Piece
 untie x = with_any x (λ x. say (Tied x None))
 
+-- the thread x is bound to no notification any more, if it was bound to n
+abbrev pub untie_from : Option ObjId → ObjId → Piece
+untie_from n x = with_any n (λ n. say (Tied x None))
+
 -- a context is held by nobody any more
 abbrev pub let_go : Option ObjId → Piece
 let_go s = with_any s (λ s. say (Holds s None))
@@ -67,7 +71,7 @@ release R o Endpoint = cancel_all (queued_in R (Senders o) ++ queued_in R (Recei
 release R o Notification = cancel_all (queued_in R (Waiters o)) Restart then untie (tied_to R o) then unhome (homed_at R o)
 release R o Reply = with_any (receiver_with R o) (λ x. cancel x Inactive) then void_deleted o
 release R o Context = unbind o
-release R o Thread = cancel o Inactive then with_any (bound_of R o) (λ n. say (Tied o None)) then let_go (context_of R o)
+release R o Thread = cancel o Inactive then untie_from (bound_of R o) o then let_go (context_of R o)
 
 -- the object o ends
 unfoldable pub destroy : ObjId → Piece

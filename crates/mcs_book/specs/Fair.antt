@@ -1,7 +1,7 @@
 -- Fair books: seven laws, in nine clauses, over records, lines and the questions about them. None speaks of the table of entries.
 use Rattle.std.specs.Prelude.{ℕ, ◌≡◌, ◌≢◌, ◌<◌, ◌⊎◌, false, Bool, Option, Some, None, ◌==◌, IsTrue}
 use Rattle.std.specs.List.{list_any}
-use Rattle.mcs_types.specs.Views.{Content}
+use Rattle.mcs_types.specs.Brings.{message_of}
 use Rattle.mcs_types.specs.declared.id.ObjId.{ObjId}
 use Rattle.mcs_types.specs.declared.cap.Cap.{Cap}
 use Rattle.mcs_types.specs.declared.record.Queue.{Queue}
@@ -11,7 +11,7 @@ use Rattle.mcs_types.specs.declared.record.Rec.{Rec}
 use Rattle.mcs_types.specs.declared.record.Rec.TheVariants.{Sent, Took, Dropped, Owes, Paid, Void}
 use Rattle.mcs_types.specs.declared.entry.Answer.TheVariants.{Got}
 use Rattle.mcs_types.specs.declared.entry.Entry.{Entry}
-use Rattle.mcs_types.specs.declared.entry.Entry.TheVariants.{Send, NbSend, Call, ReplyRecv, NbSendRecv, NbSendWait}
+use Rattle.mcs_types.specs.declared.entry.Entry.TheVariants.{Send, NbSend, Call, NbSendRecv, NbSendWait}
 use Rattle.mcs_book.specs.Logs.{Log, onto}
 use Rattle.mcs_book.specs.Objects.{is_alive}
 use Rattle.mcs_types.specs.Chains.{head_of}
@@ -32,16 +32,6 @@ EndsOpen R (Took m p) = IsTrue (is_open R m)
 EndsOpen R (Dropped m) = IsTrue (is_open R m)
 EndsOpen R _ = Unit {0}
 
--- the message that an entry carries
-abbrev pub carried : Entry → Option Content
-carried (Send a message) = Some message
-carried (NbSend a message) = Some message
-carried (Call a message) = Some message
-carried (ReplyRecv a r message) = Some message
-carried (NbSendRecv a source r message) = Some message
-carried (NbSendWait a source message) = Some message
-carried _ = None
-
 -- the address over which an entry sends
 abbrev pub address_used : Entry → Option ℕ
 address_used (Send a message) = Some a
@@ -57,7 +47,7 @@ IsOver before l x e badge = (a : ℕ) × (cap : Cap) × (address_used l.step.ent
 
 -- Whole, when sent: by the line's thread, with the message of its entry, over the capability that it named.
 abbrev pub IsSentWhole : Log → Line → Log → Rec → Type 0
-IsSentWhole before l R (Sent x e mode badge message) = (x ≡ l.step.thread) × (carried l.step.entry ≡ Some message) × IsOver before l x e badge.0
+IsSentWhole before l R (Sent x e mode badge message) = (x ≡ l.step.thread) × (message_of l.step.entry ≡ Some message) × IsOver before l x e badge.0
 IsSentWhole before l R _ = Unit {0}
 
 -- Whole, when taken: the line's own thread is answered badge and message; another has them in its mail after the line.
@@ -126,7 +116,7 @@ GivesBack after R _ = Unit {0}
 
 -- A caller gets the message of the payer's entry, with badge 0.
 abbrev pub IsPaidWhole : Log → Line → Log → Rec → Type 0
-IsPaidWhole after l R (Paid r x message) = (carried l.step.entry ≡ Some message) × (mail_of after x ≡ Some (mail.Message (record { 0 = 0 }) message))
+IsPaidWhole after l R (Paid r x message) = (message_of l.step.entry ≡ Some message) × (mail_of after x ≡ Some (mail.Message (record { 0 = 0 }) message))
 IsPaidWhole after l R _ = Unit {0}
 
 -- Answered once: what each line says of contexts and answers

@@ -12,11 +12,8 @@ ghost use Rattle.mcs_cancel.specs.Badging.{cancellable, restarts_one, restarts_w
 
 use crate::cancelling::cancel;
 use mcs_state::{State, of_kind, wake};
-use mcs_types::{Answer, Badge, Cap, CoreId, Kind, Letter, Mode, ObjId, Queue, Refusal};
+use mcs_types::{ALL_RIGHTS, Answer, Badge, Cap, CoreId, Kind, Letter, Mode, ObjId, Queue, Refusal};
 use mcs_object_queues::Waiting;
-
-/// Write, Read, Grant and GrantReply.
-const ALL_RIGHTS: u8 = 15;
 
 /// Whether there is a message, and it has this badge.
 fn has_badge(letter: Option<&Letter>, badge: Badge) -> bool

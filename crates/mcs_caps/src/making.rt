@@ -13,11 +13,8 @@ ghost use Rattle.mcs_caps.specs.Placed.{IsSlot};
 
 use mcs_slots::SlotId;
 use mcs_state::{State, wake};
-use mcs_types::{Answer, Badge, Cap, CoreId, Guard, Kind, ObjId, Place, Refusal, Rights};
+use mcs_types::{ALL_RIGHTS, Answer, Badge, Cap, CoreId, Guard, Kind, ObjId, Place, Refusal, Rights};
 use mcs_object_queues::Waiting;
-
-/// Write, Read, Grant and GrantReply.
-const ALL_RIGHTS: u8 = 15;
 
 /// The capability that comes with an object: one with all rights where its kind carries rights.
 fn new_cap(object: ObjId) -> Cap

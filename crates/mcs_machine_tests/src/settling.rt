@@ -6,7 +6,6 @@ use mcs_book::Book;
 use mcs_cores::{CoreSeat, FinishFault, Machine, Settled};
 use mcs_kernel::{Boot, Kernel};
 use mcs_queues::LinkedLines;
-use mcs_seats::is_same_answer;
 use mcs_types::{Badge, CORES, Mail};
 use std::alloc::Global;
 use std::marker::Brand;
@@ -56,7 +55,7 @@ fn enter_steps<G: Ledger, R: Wait>(
         let step = line.step(alloc)?;
         let answer = line.answer(alloc)?;
         match machine.enter(rt, alloc, seat, step.thread, step.entry) {
-            Ok(told) if told.line == i && is_same_answer(&told.answer, &answer) => {}
+            Ok(told) if told.line == i && told.answer.is_same(&answer) => {}
             _ => return Err(Fail::from("the entry is let in as its line")),
         }
     }

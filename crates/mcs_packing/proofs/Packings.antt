@@ -5,7 +5,7 @@ use Rattle.std.proofs.lemmas.List.{take-append-le, drop-append-le, get_or_append
 use Rattle.mcs_types.specs.declared.record.Rec.{Rec}
 use Rattle.mcs_packing.specs.declared.arena.Arena.{Arena}
 use Rattle.mcs_packing.specs.declared.packed.Packed.{Packed}
-use Rattle.mcs_packing.specs.declared.packed.Packed.TheVariants.{Made, MadeOn, Closed, Emptied, Filled, FilledBadged, FilledGuarded, Prio, Turns, Joins, JoinsWith, Parts, Sent, Took, Dropped, Owes, OwesWith, Paid, Void, Held, Unheld, Raised, Heard, Tied, Untied, Homed, Unhomed, Wide}
+use Rattle.mcs_packing.specs.declared.packed.Packed.TheVariants.{FilledBadged, FilledGuarded, Sent, Paid, Heard, Wide}
 use Rattle.mcs_packing.specs.Packing.{word_at, content_at, record_of, records_of, IsMessageAt, Fits, AllFit, GrowsBy, Grew, no_record}
 
 -- a word
@@ -27,66 +27,24 @@ IsMessageAt-grows ws more at len h =
 
 -- a record
 pub record_of-grows : (p : Packed) (ws more : List ℕ) (rs others : List Rec) → Fits p ws rs → record_of p (ws ++ more) (rs ++ others) ≡ record_of p ws rs
-record_of-grows (Made _ _) ws more rs others h = refl
-record_of-grows (MadeOn _ _) ws more rs others h = refl
-record_of-grows (Closed _ _) ws more rs others h = refl
-record_of-grows (Emptied _ _) ws more rs others h = refl
-record_of-grows (Filled _ _ _ _ _) ws more rs others h = refl
 record_of-grows (FilledBadged i rights k c n at) ws more rs others h = rw (word_at-grows ws more at h) refl
 record_of-grows (FilledGuarded i rights bits c n at) ws more rs others h = rw (word_at-grows ws more at h) refl
-record_of-grows (Prio _ _) ws more rs others h = refl
-record_of-grows (Turns _ _) ws more rs others h = refl
-record_of-grows (Joins _ _ _) ws more rs others h = refl
-record_of-grows (JoinsWith _ _ _ _) ws more rs others h = refl
-record_of-grows (Parts _ _ _) ws more rs others h = refl
 record_of-grows (Sent m len t e at) ws more rs others h =
     let badge : at + 1 + len < length ws = omega (arith, h.ends) in
     rw (content_at-grows ws more at len h, word_at-grows ws more (at + 1 + len) badge) refl
-record_of-grows (Took _ _) ws more rs others h = refl
-record_of-grows (Dropped _) ws more rs others h = refl
-record_of-grows (Owes _ _) ws more rs others h = refl
-record_of-grows (OwesWith _ _ _) ws more rs others h = refl
 record_of-grows (Paid len r t at) ws more rs others h = rw (content_at-grows ws more at len h) refl
-record_of-grows (Void _ _ _) ws more rs others h = refl
-record_of-grows (Held _ _) ws more rs others h = refl
-record_of-grows (Unheld _) ws more rs others h = refl
-record_of-grows (Raised _ _) ws more rs others h = refl
 record_of-grows (Heard t n at) ws more rs others h = rw (word_at-grows ws more at h) refl
-record_of-grows (Tied _ _) ws more rs others h = refl
-record_of-grows (Untied _) ws more rs others h = refl
-record_of-grows (Homed _ _) ws more rs others h = refl
-record_of-grows (Unhomed _) ws more rs others h = refl
 record_of-grows (Wide at) ws more rs others h = get_or_append_left rs others no_record at h
+record_of-grows _ ws more rs others h = refl
 
 pub Fits-grows : (p : Packed) (ws more : List ℕ) (rs others : List Rec) → Fits p ws rs → Fits p (ws ++ more) (rs ++ others)
-Fits-grows (Made _ _) ws more rs others h = h
-Fits-grows (MadeOn _ _) ws more rs others h = h
-Fits-grows (Closed _ _) ws more rs others h = h
-Fits-grows (Emptied _ _) ws more rs others h = h
-Fits-grows (Filled _ _ _ _ _) ws more rs others h = h
 Fits-grows (FilledBadged i rights k c n at) ws more rs others h = omega (arith, h, length-append ws more)
 Fits-grows (FilledGuarded i rights bits c n at) ws more rs others h = omega (arith, h, length-append ws more)
-Fits-grows (Prio _ _) ws more rs others h = h
-Fits-grows (Turns _ _) ws more rs others h = h
-Fits-grows (Joins _ _ _) ws more rs others h = h
-Fits-grows (JoinsWith _ _ _ _) ws more rs others h = h
-Fits-grows (Parts _ _ _) ws more rs others h = h
 Fits-grows (Sent m len t e at) ws more rs others h = IsMessageAt-grows ws more at len h
-Fits-grows (Took _ _) ws more rs others h = h
-Fits-grows (Dropped _) ws more rs others h = h
-Fits-grows (Owes _ _) ws more rs others h = h
-Fits-grows (OwesWith _ _ _) ws more rs others h = h
 Fits-grows (Paid len r t at) ws more rs others h = IsMessageAt-grows ws more at len h
-Fits-grows (Void _ _ _) ws more rs others h = h
-Fits-grows (Held _ _) ws more rs others h = h
-Fits-grows (Unheld _) ws more rs others h = h
-Fits-grows (Raised _ _) ws more rs others h = h
 Fits-grows (Heard t n at) ws more rs others h = omega (arith, h, length-append ws more)
-Fits-grows (Tied _ _) ws more rs others h = h
-Fits-grows (Untied _) ws more rs others h = h
-Fits-grows (Homed _ _) ws more rs others h = h
-Fits-grows (Unhomed _) ws more rs others h = h
 Fits-grows (Wide at) ws more rs others h = omega (arith, h, length-append rs others)
+Fits-grows _ ws more rs others h = h
 
 -- many records
 pub records_of-grows : (ps : List Packed) (ws vs : List ℕ) (rs qs : List Rec) → GrowsBy ws vs → GrowsBy rs qs → AllFit ps ws rs → records_of ps vs qs ≡ records_of ps ws rs

@@ -1,5 +1,4 @@
 pub mod Packing
-pub mod Copies
 pub mod Entries
 pub mod Heads
 pub mod Kept

@@ -3,7 +3,6 @@
 #![tactic(auto)]
 
 mod arena;
-mod copying;
 mod entries;
 mod heads;
 mod kept;

@@ -3,7 +3,6 @@ ghost use Rattle.std.specs.Prelude.{◌≡◌, IfOk};
 ghost use Rattle.mcs_packing.specs.Packing.{Fits, IsOfBond, IsOfDebt, IsOfMessage, IsOfObject, IsOfSlot, IsOfThread, IsOfWord, guarded_cap, queue_on, object, plain_cap, record_of};
 
 use crate::arena::message_at;
-use crate::copying::copy_of;
 use crate::packed::{Packed, Side};
 use mcs_types::{Badge, Cap, Form, Guard, Kind, ObjId, OutOfMemory, Queue, Rec, Rights};
 use std::alloc::Global;
@@ -360,6 +359,6 @@ pub fn unpack(
             unpack_word(packed, words, wide)
         }
         Packed::Sent { .. } | Packed::Paid { .. } => unpack_message(alloc, packed, words, wide)?,
-        Packed::Wide { at } => copy_of(alloc, &wide[*at as usize])?,
+        Packed::Wide { at } => wide[*at as usize].copy(alloc)?,
     })
 }

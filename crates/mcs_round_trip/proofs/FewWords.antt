@@ -16,7 +16,7 @@ use Rattle.mcs_types.specs.declared.record.Queue.TheVariants.{Senders, Receivers
 use Rattle.mcs_types.specs.declared.record.Rec.{Rec}
 use Rattle.mcs_types.specs.declared.record.Rec.TheVariants as rec
 use Rattle.mcs_types.specs.declared.entry.Entry.{Entry}
-use Rattle.mcs_types.specs.declared.entry.Entry.TheVariants.{Send, NbSend, Call, Recv, NbRecv, Wait, NbWait, ReplyRecv, Signal, SetPriority, Suspend, Resume, BindNtfn, UnbindNtfn, BindCtx, UnbindCtx, CancelBadged, CopyCap, MintCap, MoveCap, DeleteCap, MakeEndpoint, MakeNotification, MakeReply, MakeContext, NbSendRecv, NbSendWait}
+use Rattle.mcs_types.specs.declared.entry.Entry.TheVariants.{Send, NbSend, Call, ReplyRecv}
 use Rattle.mcs_types.specs.declared.entry.Answer.{Answer}
 use Rattle.mcs_types.specs.declared.entry.Answer.TheVariants as ans
 use Rattle.mcs_book.specs.Logs.{Log, onto}
@@ -216,30 +216,8 @@ unfolding row
 few-row R core t (Send a message) = passed-bind _ _ _ (λ cap. few-send_over _ t cap message _ (few-queues _))
 few-row R core t (NbSend a message) = passed-bind _ _ _ (λ cap. few-send_over _ t cap message _ (few-answers ans.Done _ tt))
 few-row R core t (Call a message) = passed-bind _ _ _ (λ cap. passed-next _ _ _ (passed-ok _ _ (few-sends _ ans.Waits _ tt (few-queues _))))
-few-row R core t (Recv a r) = passed-bind _ _ _ (λ cap. few-receive_over R t cap _ true)
-few-row R core t (NbRecv a r) = passed-bind _ _ _ (λ cap. few-receive_over R t cap _ false)
-few-row R core t (Wait a) = passed-bind _ _ _ (λ cap. few-receive_over R t cap _ true)
-few-row R core t (NbWait a) = passed-bind _ _ _ (λ cap. few-receive_over R t cap _ false)
 few-row R core t (ReplyRecv a r message) = passed-bind _ _ _ (λ cap. few-reply_receive R t cap r message)
-few-row R core t (Signal a) = passed-bind _ _ _ (λ cap. passed-next _ _ _ (few-done _))
-few-row R core t (SetPriority x authority p) = passed-bind _ _ _ (λ thread. passed-bind _ _ _ (λ giver. passed-next _ _ _ (few-done _)))
-few-row R core t (Suspend x) = passed-bind _ _ _ (λ thread. few-done _)
-few-row R core t (Resume x) = passed-bind _ _ _ (λ thread. few-done _)
-few-row R core t (BindNtfn x n) = passed-bind _ _ _ (λ thread. passed-bind _ _ _ (λ cap. passed-next _ _ _ (passed-next _ _ _ (few-done _))))
-few-row R core t (UnbindNtfn x) = passed-bind _ _ _ (λ thread. passed-next _ _ _ (few-done _))
-few-row R core t (BindCtx s x) = passed-bind _ _ _ (λ context. passed-bind _ _ _ (λ target. few-bind_by target.obj.kind R context.obj target.obj))
-few-row R core t (UnbindCtx s) = passed-bind _ _ _ (λ context. passed-next _ _ _ (few-done _))
-few-row R core t (CancelBadged a) = passed-bind _ _ _ (λ cap. passed-next _ _ _ (few-done _))
-few-row R core t (CopyCap source dest rights) = passed-bind _ _ _ (λ at. few-done _)
-few-row R core t (MintCap source dest rights badge) = passed-bind _ _ _ (λ at. passed-next _ _ _ (passed-next _ _ _ (few-done _)))
-few-row R core t (MoveCap source dest) = passed-bind _ _ _ (λ at. few-done _)
-few-row R core t (DeleteCap place) = passed-bind _ _ _ (λ at. passed-next _ _ _ (passed-ok _ _ (few-delete at _)))
-few-row R core t (MakeEndpoint place) = few-make R t kind.Endpoint _ _ place
-few-row R core t (MakeNotification place) = few-make R t kind.Notification _ _ place
-few-row R core t (MakeReply place) = few-make R t kind.Reply _ _ place
-few-row R core t (MakeContext place) = few-make R t kind.Context _ _ place
-few-row R core t (NbSendRecv a source r message) = few-send_receive R t _ source _
-few-row R core t (NbSendWait a source message) = few-send_receive R t _ source _
+few-row R core t _ = search (passed-bind, passed-next, passed-ok, few-done, few-receive_over, few-bind_by, few-delete, few-make, few-send_receive) depth 9
 
 -- an entry answers few words, where all messages have few
 pub few-does : (R : Log) (core : CoreId) (t : ObjId) (e : Entry) → Each HasFewWords (onto ((does R core t e).records) R) → FewAnswer ((does R core t e).answer)

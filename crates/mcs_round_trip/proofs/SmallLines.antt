@@ -20,7 +20,8 @@ use Rattle.mcs_types.specs.Ranges.{IsMessage, InRange}
 use Rattle.mcs_book.specs.Table.{does}
 use Rattle.mcs_book.specs.History.{Line, Book, IsLegal, Follows, AreLegal, past}
 use Rattle.mcs_book.specs.Each.{Each, EachOf, EachLineAfter}
-use Rattle.mcs_book.specs.Fair.{carried, IsSentWhole, IsPaidWhole, IsWholeLine, AnswersWhole}
+use Rattle.mcs_types.specs.Brings.{message_of}
+use Rattle.mcs_book.specs.Fair.{IsSentWhole, IsPaidWhole, IsWholeLine, AnswersWhole}
 use Rattle.mcs_book.proofs.SoundLogs.Safety.{each-onto}
 use Rattle.mcs_book.proofs.SoundLogs.SoundBooks.{legal-sound}
 use Rattle.mcs_book.proofs.WholeMessages.Lines.{legal-whole, sound-answers_whole}
@@ -32,19 +33,19 @@ use Rattle.mcs_round_trip.proofs.Scripts.{AreSmall}
 use Rattle.mcs_round_trip.proofs.FewWords.{HasFewWords, FewAnswer, few-does}
 
 -- the message that an entry carries is in its ranges
-carried-few : (e : Entry) (m : Content) → InRange e → carried e ≡ Some m → IsMessage m
-carried-few (Send a message) m h is = let it : message ≡ m = cc in subst IsMessage it h.1
-carried-few (NbSend a message) m h is = let it : message ≡ m = cc in subst IsMessage it h.1
-carried-few (Call a message) m h is = let it : message ≡ m = cc in subst IsMessage it h.1
-carried-few (ReplyRecv a r message) m h is = let it : message ≡ m = cc in subst IsMessage it h.2
-carried-few (NbSendRecv a f r message) m h is = let it : message ≡ m = cc in subst IsMessage it h.3
-carried-few (NbSendWait a f message) m h is = let it : message ≡ m = cc in subst IsMessage it h.2
-carried-few _ m h is = absurd cc
+message_of-few : (e : Entry) (m : Content) → InRange e → message_of e ≡ Some m → IsMessage m
+message_of-few (Send a message) m h is = let it : message ≡ m = cc in subst IsMessage it h.1
+message_of-few (NbSend a message) m h is = let it : message ≡ m = cc in subst IsMessage it h.1
+message_of-few (Call a message) m h is = let it : message ≡ m = cc in subst IsMessage it h.1
+message_of-few (ReplyRecv a r message) m h is = let it : message ≡ m = cc in subst IsMessage it h.2
+message_of-few (NbSendRecv a f r message) m h is = let it : message ≡ m = cc in subst IsMessage it h.3
+message_of-few (NbSendWait a f message) m h is = let it : message ≡ m = cc in subst IsMessage it h.2
+message_of-few _ m h is = absurd cc
 
 -- so is that of a record
 few-record : (R after S : Log) (l : Line) (r : Rec) → InRange l.step.entry → IsSentWhole R l S r → IsPaidWhole after l S r → HasFewWords S r
-few-record R after S l (rec.Sent x e mode badge message) range sent paid = carried-few l.step.entry message range sent.1
-few-record R after S l (rec.Paid r x message) range sent paid = carried-few l.step.entry message range paid.0
+few-record R after S l (rec.Sent x e mode badge message) range sent paid = message_of-few l.step.entry message range sent.1
+few-record R after S l (rec.Paid r x message) range sent paid = message_of-few l.step.entry message range paid.0
 few-record R after S l _ range sent paid = tt
 
 -- so are those of the records of a line

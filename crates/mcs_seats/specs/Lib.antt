@@ -1,4 +1,3 @@
-pub mod Families
 pub mod Seats
 pub mod Settling
 pub mod Trails

@@ -6,7 +6,6 @@ mod call;
 mod laws;
 mod prepared;
 mod retrace;
-mod same;
 mod seat;
 mod settle;
 
@@ -14,6 +13,5 @@ pub use audit::audit_seats;
 pub use call::{Answered, Call, Outcome, Turned};
 pub use laws::{told_lines, told_of_core};
 pub use prepared::Prepared;
-pub use same::{is_same_answer, is_same_entry};
 pub use seat::CoreSeat;
 pub use settle::{FinishFault, Settled, settle_seats};

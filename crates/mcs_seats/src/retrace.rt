@@ -6,7 +6,6 @@ ghost use Rattle.mcs_seats.specs.Settling.{noted_line, told_note, cut, AllAgree,
 ghost use Rattle.mcs_seats.specs.Trails.{IsKernelBook, IsLineAt, IsBeside, place_of, trail_of, past_line, AreRightTo, IsLater, IsReady, IsProgress, AllRight, IsTornOf, HasTornTrail};
 
 use crate::call::{Answered, Call, Outcome};
-use crate::same::{is_same_answer, is_same_entry, is_same_fault};
 use crate::seat::CoreSeat;
 use mcs_book::{Book, Line};
 use mcs_kernel::{Boot, EnterFault, Kernel};
@@ -129,6 +128,13 @@ impl<'a> Model for Follower<'a> {
     ghost invariant = { λ f. IsFollowed f.book.now.book f.core f.calls.now f.at f.progress };
 }
 
+/// Whether this fault was found.
+fn is_same_fault(found: Option<EnterFault>, fault: EnterFault) -> bool
+    ensures { IsTrue result ↔ (found ≡ Some fault) }
+{
+    found == Some(fault)
+}
+
 /// Whether a call was told this line, which is of this number.
 fn is_noted(number: usize, line: &LineCopy, call: &Call, told: &Answered) -> bool
     ensures { IsTrue result
@@ -136,8 +142,8 @@ fn is_noted(number: usize, line: &LineCopy, call: &Call, told: &Answered) -> boo
 {
     told.line == number
         && line.step.thread == call.thread
-        && is_same_entry(&line.step.entry, &call.entry)
-        && is_same_answer(&line.answer, &told.answer)
+        && line.step.entry.is_same(&call.entry)
+        && line.answer.is_same(&told.answer)
 }
 
 impl<'a> Follower<'a> {

@@ -5,12 +5,11 @@ ghost use Rattle.mcs_book.specs.History.{IsLegal};
 ghost use Rattle.mcs_seats.specs.Settling.{AllAgree, HasSeats, LacksSeat, Because};
 
 use crate::retrace::first_torn;
-use crate::same::are_same_lines;
 use crate::seat::CoreSeat;
 use mcs_book::Book;
 use mcs_kernel::{Boot, Kernel};
 use mcs_queues::Lines;
-use mcs_types::{CoreId, OutOfMemory};
+use mcs_types::{BootLine, CoreId, OutOfMemory};
 use std::alloc::Global;
 use std::marker::Model;
 use std::sync::ledger::Ledger;
@@ -43,6 +42,28 @@ fn has_seats<G: Ledger>(seats: &Vec<CoreSeat<G>>, book: &Book) -> bool
 {
     for core in 0..book.cores() {
         if !has_seat(seats, core) {
+            return false;
+        }
+    }
+    true
+}
+
+/// Whether two lines of a boot are the same.
+fn is_same_line(one: &BootLine, other: &BootLine) -> bool
+    ensures { IsTrue result ↔ (one.now ≡ other.now) }
+{
+    *one == *other
+}
+
+/// Whether two boots have the same lines.
+fn are_same_lines(one: &[BootLine], other: &[BootLine]) -> bool
+    ensures { IsTrue result ↔ (one.now ≡ other.now) }
+{
+    if one.len() != other.len() {
+        return false;
+    }
+    for i in 0..one.len() {
+        if !is_same_line(&one[i], &other[i]) {
             return false;
         }
     }

@@ -5,6 +5,7 @@ ghost use Rattle.mcs_trace.specs.Output.{Rose, Moves, kept};
 
 use crate::line::{Line, SIZE};
 use crate::rooms::LINE;
+use mcs_types::RETRIES;
 use std::alloc::{AllocError, Global};
 use std::io::{Error, ErrorKind, Write};
 
@@ -21,8 +22,6 @@ pub struct Sink<W> {
 #[derive(Clone, Copy, Debug, PartialEq, Eq)]
 pub struct WriteFault;
 
-const TRIES: u32 = 1000;
-
 /// One write of at least a byte, tried again where it is interrupted.
 fn write_some<W: Write>(writer: &mut W, failed: &mut u64, bytes: &[u8]) -> Result<usize, WriteFault>
     ensures ok { IfOk result (λ n. n ≤ length bytes.now) }
@@ -33,7 +32,7 @@ fn write_some<W: Write>(writer: &mut W, failed: &mut u64, bytes: &[u8]) -> Resul
     ensures count { failed.old ≤ failed.new }
     ensures rose { OnErr result (Rose failed.old failed.new) }
 {
-    for _ in 0..TRIES {
+    for _ in 0..RETRIES {
         match writer.write(bytes) {
             Ok(0) => {
                 *failed = failed.saturating_add(1);

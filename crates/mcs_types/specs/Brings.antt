@@ -1,20 +1,11 @@
 -- What entries and answers bring.
-use Rattle.std.specs.Prelude.{ℕ, Bool, true, false, List, [], Option, Some, None}
+use Rattle.std.specs.Prelude.{ℕ, Bool, true, false, List, [], Option, Some, None, IfSome}
+use Rattle.mcs_types.specs.Messages.{IsShort}
 use Rattle.mcs_types.specs.Views.{Content}
 use Rattle.mcs_types.specs.declared.entry.Entry.{Entry}
 use Rattle.mcs_types.specs.declared.entry.Entry.TheVariants.{Send, NbSend, Call, Recv, NbRecv, Wait, NbWait, ReplyRecv, NbSendRecv, NbSendWait}
 use Rattle.mcs_types.specs.declared.entry.Answer.{Answer}
 use Rattle.mcs_types.specs.declared.entry.Answer.TheVariants.{Got}
-
--- the words of the message that an entry brings; none where it brings no message
-abbrev pub entry_words : Entry → List ℕ
-entry_words (Send cap message) = message.words
-entry_words (NbSend cap message) = message.words
-entry_words (Call cap message) = message.words
-entry_words (ReplyRecv cap reply message) = message.words
-entry_words (NbSendRecv cap source reply message) = message.words
-entry_words (NbSendWait cap source message) = message.words
-entry_words _ = []
 
 -- the message that an entry brings
 abbrev pub message_of : Entry → Option Content
@@ -25,6 +16,10 @@ message_of (ReplyRecv cap reply message) = Some message
 message_of (NbSendRecv cap source reply message) = Some message
 message_of (NbSendWait cap source message) = Some message
 message_of _ = None
+
+-- a message that it brings has so few words that they take no memory
+abbrev pub BringsShort : Entry → Type 0
+BringsShort entry = IfSome (message_of entry) (λ m. IsShort m.words)
 
 -- whether it may be answered with a message
 abbrev pub receives : Entry → Bool

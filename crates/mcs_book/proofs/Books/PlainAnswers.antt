@@ -1,5 +1,5 @@
 -- Which entries are answered without a message.
-use Rattle.std.specs.Prelude.{ℕ, false, ◌≡◌, Option, Some, None, Ok, Err}
+use Rattle.std.specs.Prelude.{ℕ, true, false, ◌≡◌, Option, Some, None, Ok, Err}
 use Rattle.mcs_types.specs.Views.{Content}
 use Rattle.mcs_types.specs.Brings.{receives, IsPlain}
 use Rattle.mcs_types.specs.declared.id.ObjId.{ObjId}
@@ -14,7 +14,7 @@ use Rattle.mcs_types.specs.declared.record.SendMode.{SendMode}
 use Rattle.mcs_types.specs.declared.record.Queue.TheVariants.{Receivers}
 use Rattle.mcs_types.specs.declared.entry.Answer.{Answer}
 use Rattle.mcs_types.specs.declared.entry.Entry.{Entry}
-use Rattle.mcs_types.specs.declared.entry.Entry.TheVariants.{Send, NbSend, Call, Recv, NbRecv, Wait, NbWait, ReplyRecv, Signal, SetPriority, Suspend, Resume, BindNtfn, UnbindNtfn, BindCtx, UnbindCtx, CancelBadged, CopyCap, MintCap, MoveCap, DeleteCap, MakeEndpoint, MakeNotification, MakeReply, MakeContext, NbSendRecv, NbSendWait}
+use Rattle.mcs_types.specs.declared.entry.Entry.TheVariants.{Send, NbSend, Call}
 use Rattle.mcs_book.specs.Logs.{Log}
 use Rattle.mcs_book.specs.Slots.{SlotName}
 use Rattle.mcs_book.specs.Queues.{first_in}
@@ -77,36 +77,17 @@ plain-bind_by Endpoint R s o = passed-err _ _
 plain-bind_by Reply R s o = passed-err _ _
 plain-bind_by Context R s o = passed-err _ _
 
+-- an entry that receives is none of them
+never : (P : Act → Type 0) (m : Checked Act) → true ≡ false → OnPassed P m
+never P m is = absurd cc
+
 -- what each row answers, where its checks are passed
 plain-row : (R : Log) (core : CoreId) (t : ObjId) (entry : Entry) → receives entry ≡ false → OnPassed PlainAct (row R core t entry)
 unfolding row send_over
 plain-row R core t (Send a message) is = passed-bind _ _ _ (λ held. plain-send_by held.obj.kind _ t held message _ (plain-queues _))
 plain-row R core t (NbSend a message) is = passed-bind _ _ _ (λ held. plain-send_by held.obj.kind _ t held message _ (λ S. tt))
 plain-row R core t (Call a message) is = passed-bind _ _ _ (λ held. passed-next _ _ _ (passed-ok _ _ (plain-sends _ _ _ tt (plain-queues _))))
-plain-row R core t (Recv a r) is = absurd cc
-plain-row R core t (NbRecv a r) is = absurd cc
-plain-row R core t (Wait a) is = absurd cc
-plain-row R core t (NbWait a) is = absurd cc
-plain-row R core t (ReplyRecv a r message) is = absurd cc
-plain-row R core t (Signal a) is = passed-bind _ _ _ (λ held. passed-next _ _ _ (passed-ok _ _ (λ S. tt)))
-plain-row R core t (SetPriority x authority p) is = passed-bind _ _ _ (λ thread. passed-bind _ _ _ (λ giver. passed-next _ _ _ (passed-ok _ _ (λ S. tt))))
-plain-row R core t (Suspend x) is = passed-bind _ _ _ (λ thread. passed-ok _ _ (λ S. tt))
-plain-row R core t (Resume x) is = passed-bind _ _ _ (λ thread. passed-ok _ _ (λ S. tt))
-plain-row R core t (BindNtfn x n) is = passed-bind _ _ _ (λ thread. passed-bind _ _ _ (λ held. passed-next _ _ _ (passed-next _ _ _ (passed-ok _ _ (λ S. tt)))))
-plain-row R core t (UnbindNtfn x) is = passed-bind _ _ _ (λ thread. passed-next _ _ _ (passed-ok _ _ (λ S. tt)))
-plain-row R core t (BindCtx s x) is = passed-bind _ _ _ (λ context. passed-bind _ _ _ (λ target. plain-bind_by target.obj.kind R context.obj target.obj))
-plain-row R core t (UnbindCtx s) is = passed-bind _ _ _ (λ context. passed-next _ _ _ (passed-ok _ _ (λ S. tt)))
-plain-row R core t (CancelBadged a) is = passed-bind _ _ _ (λ held. passed-next _ _ _ (passed-ok _ _ (λ S. tt)))
-plain-row R core t (CopyCap source dest rights) is = passed-bind _ _ _ (λ at. passed-ok _ _ (λ S. tt))
-plain-row R core t (MintCap source dest rights badge) is = passed-bind _ _ _ (λ at. passed-next _ _ _ (passed-next _ _ _ (passed-ok _ _ (λ S. tt))))
-plain-row R core t (MoveCap source dest) is = passed-bind _ _ _ (λ at. passed-ok _ _ (λ S. tt))
-plain-row R core t (DeleteCap place) is = passed-bind _ _ _ (λ at. passed-next _ _ _ (passed-ok _ _ (plain-delete at _)))
-plain-row R core t (MakeEndpoint place) is = plain-make R t Endpoint _ _ place
-plain-row R core t (MakeNotification place) is = plain-make R t Notification _ _ place
-plain-row R core t (MakeReply place) is = plain-make R t Reply _ _ place
-plain-row R core t (MakeContext place) is = plain-make R t Context _ _ place
-plain-row R core t (NbSendRecv a source r message) is = absurd cc
-plain-row R core t (NbSendWait a source message) is = absurd cc
+plain-row R core t _ is = search (never, passed-bind, passed-next, passed-ok, plain-make, plain-delete, plain-bind_by) depth 9
 
 -- the law: who does not receive is answered without a message
 pub does-plain : (R : Log) (core : CoreId) (t : ObjId) (entry : Entry) → receives entry ≡ false → IsPlain ((does R core t entry).answer)

@@ -23,7 +23,7 @@ use Rattle.mcs_book.specs.Chains.{topped_by}
 use Rattle.mcs_book.specs.Notifications.{bound_of, tied_to}
 use Rattle.mcs_book.specs.Pieces.{Piece, ◌then◌, say, with_any}
 use Rattle.mcs_book.specs.Taking.{back_to, give_back, pay}
-use Rattle.mcs_book.specs.Cancelling.{cancel, cancel_all, untie, let_go, unhome, unbind, void_deleted, release, destroy}
+use Rattle.mcs_book.specs.Cancelling.{cancel, cancel_all, untie, untie_from, let_go, unhome, unbind, void_deleted, release, destroy}
 use Rattle.mcs_book.specs.Sound.{IsThere, IsIdle, IsReleased, IsUnattended, IsEmptyLine, IsUnbound}
 use Rattle.mcs_book.proofs.Queues.Sorted.{In}
 use Rattle.mcs_book.proofs.Queues.NoneBeside.{left-queue}
@@ -260,7 +260,7 @@ record IsUntied (R : Log) (o : ObjId) (R' : Log) : Type 0 where
 
 -- a thread leaves all
 thread-done : (R : Log) (o : ObjId) → IsThere R kind.Thread o → Firm R → IsDone kind.Thread o (onto (release R o kind.Thread R) R)
-thread-done R o there firm = then-next (IsDone kind.Thread o) (cancel o Inactive then with_any (bound_of R o) (λ n. say (rec.Tied o None))) (let_go (context_of R o)) R (ends (context_of R o) refl _ untied)
+thread-done R o there firm = then-next (IsDone kind.Thread o) (cancel o Inactive then untie_from (bound_of R o) o) (let_go (context_of R o)) R (ends (context_of R o) refl _ untied)
   where
     S : Log
     S = onto (cancel o Inactive R) R
@@ -274,12 +274,12 @@ thread-done R o there firm = then-next (IsDone kind.Thread o) (cancel o Inactive
     holding : (s : ObjId) → holder_of S s ≡ holder_of R s
     holding = outlasts-cancel (λ R'. (s : ObjId) → holder_of R' s ≡ holder_of R s) o Inactive (record { dropped = λ R m h. h; parts = λ R q h. h; voided = λ R r h. h; turns = λ R h. h }) R (λ s. refl)
 
-    go : (b : Option ObjId) → bound_of R o ≡ b → IsUntied R o (onto (with_any b (λ n. say (rec.Tied o None)) S) S)
+    go : (b : Option ObjId) → bound_of R o ≡ b → IsUntied R o (onto (untie_from b o S) S)
     go (Some n) is = record { firm = ((ap (λ z. is_some z) (binding ∙ is), tt), l.firm); idle = l.idle; unbound = set-self o None (bound_of S o); holders = holding }
     go None is = record { firm = l.firm; idle = l.idle; unbound = binding ∙ is; holders = holding }
 
-    untied : IsUntied R o (onto ((cancel o Inactive then with_any (bound_of R o) (λ n. say (rec.Tied o None))) R) R)
-    untied = then-next (IsUntied R o) (cancel o Inactive) (with_any (bound_of R o) (λ n. say (rec.Tied o None))) R (go (bound_of R o) refl)
+    untied : IsUntied R o (onto ((cancel o Inactive then untie_from (bound_of R o) o) R) R)
+    untied = then-next (IsUntied R o) (cancel o Inactive) (untie_from (bound_of R o) o) R (go (bound_of R o) refl)
 
     ends : (c : Option ObjId) → context_of R o ≡ c → (R' : Log) → IsUntied R o R' → IsDone kind.Thread o (onto (let_go c R') R')
     ends (Some s) is R' h =
@@ -357,10 +357,10 @@ last-release R o d kind.Reply h = then-next (IsLast o) (with_any (receiver_with 
     go None = h
 last-release R o d kind.Context h = last-unbind o d R h
 last-release R o d kind.Thread h =
-    then-next (IsLast o) (cancel d Inactive then with_any (bound_of R d) (λ n. say (rec.Tied d None))) (let_go (context_of R d)) R
-    (lets (context_of R d) _ (then-next (IsLast o) (cancel d Inactive) (with_any (bound_of R d) (λ n. say (rec.Tied d None))) R (ties (bound_of R d) _ (outlasts-cancel (IsLast o) d Inactive (last-cancel o d Inactive) R h))))
+    then-next (IsLast o) (cancel d Inactive then untie_from (bound_of R d) d) (let_go (context_of R d)) R
+    (lets (context_of R d) _ (then-next (IsLast o) (cancel d Inactive) (untie_from (bound_of R d) d) R (ties (bound_of R d) _ (outlasts-cancel (IsLast o) d Inactive (last-cancel o d Inactive) R h))))
   where
-    ties : (b : Option ObjId) (R' : Log) → IsLast o R' → IsLast o (onto (with_any b (λ n. say (rec.Tied d None)) R') R')
+    ties : (b : Option ObjId) (R' : Log) → IsLast o R' → IsLast o (onto (untie_from b d R') R')
     ties (Some u) R' k = record { alive = k.alive; no_cap = k.no_cap }
     ties None R' k = k
 

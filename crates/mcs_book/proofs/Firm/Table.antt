@@ -16,9 +16,9 @@ use Rattle.mcs_types.specs.declared.record.Queue.{Queue}
 use Rattle.mcs_types.specs.declared.record.Queue.TheVariants.{Senders, Waiters}
 use Rattle.mcs_types.specs.declared.record.Status.TheVariants as status
 use Rattle.mcs_types.specs.declared.record.Rec.TheVariants as rec
-use Rattle.mcs_types.specs.declared.entry.Answer.TheVariants.{Waits}
+use Rattle.mcs_types.specs.declared.entry.Answer.TheVariants.{Done, Waits}
 use Rattle.mcs_types.specs.declared.entry.Entry.{Entry}
-use Rattle.mcs_types.specs.declared.entry.Entry.TheVariants.{Send, NbSend, Call, Recv, NbRecv, Wait, NbWait, ReplyRecv, Signal, SetPriority, Suspend, Resume, BindNtfn, UnbindNtfn, BindCtx, UnbindCtx, CancelBadged, CopyCap, MintCap, MoveCap, DeleteCap, MakeEndpoint, MakeNotification, MakeReply, MakeContext, NbSendRecv, NbSendWait}
+use Rattle.mcs_types.specs.declared.entry.Entry.TheVariants.{Send, NbSend, Call, Recv, NbRecv, Wait, NbWait, ReplyRecv, SetPriority, Resume, BindNtfn, UnbindNtfn, BindCtx, UnbindCtx, CancelBadged, CopyCap, MintCap, MoveCap, DeleteCap, MakeEndpoint, MakeNotification, MakeReply, MakeContext, NbSendRecv, NbSendWait}
 use Rattle.mcs_types.specs.Ids.{same_kind}
 use Rattle.mcs_book.specs.Logs.{Log, onto}
 use Rattle.mcs_book.specs.Objects.{was_made, was_closed, is_alive, form_of}
@@ -34,8 +34,9 @@ use Rattle.mcs_book.specs.Standing.{status_of, is_ready, status_by, is_on_core, 
 use Rattle.mcs_book.specs.Checks.{Checked, ◌>>=◌}
 use Rattle.mcs_book.specs.Rights.{call_mode}
 use Rattle.mcs_book.specs.Lookup.{capability, of_kind, slot_named}
-use Rattle.mcs_book.specs.Pieces.{Piece, nothing, Act}
+use Rattle.mcs_book.specs.Pieces.{Piece, nothing, Act, answers}
 use Rattle.mcs_book.specs.Cancelling.{cancel, cancel_all}
+use Rattle.mcs_book.specs.Signalling.{signal}
 use Rattle.mcs_book.specs.Sending.{letter_over, queues, send_over}
 use Rattle.mcs_book.specs.Receiving.{reply_at}
 use Rattle.mcs_book.specs.Placing.{source_and_dest, fills, is_last_cnode, has_badge, senders_with}
@@ -120,6 +121,14 @@ module _ (t : ObjId) (S : Log) (firm : Firm S) where
       (all-cancelled (senders_with S e badge) Restart W (λ y i. woken-there t S firm W kind.Thread y w
       (standing-thread S y (Senders e) (firm-sound S firm) (in-line S (Senders e) y ((filter-in (λ x. has_badge badge (open_of S x)) (queued_in S (Senders e)) y i).0)))) h.firm).0
 
+  -- a notification that is held is signalled
+  firm-signals : (cap : Cap) → IsHeldOf S kind.Notification cap → Keeps (answers Done (signal cap.obj cap.badge))
+  firm-signals cap held W w h = firm-signal cap.obj cap.badge W (woken-there t S firm W kind.Notification cap.obj w held.there) held.small h.firm
+
+  -- a thread that is held is suspended
+  firm-suspends : (thread : Cap) → IsHeldOf S kind.Thread thread → Keeps (answers Done (cancel thread.obj Inactive))
+  firm-suspends thread held W w h = (cancelled thread.obj Inactive W (woken-there t S firm W kind.Thread thread.obj w held.there) h.firm).firm
+
   -- what each row does, where its checks are passed
   firm-row : (core : CoreId) (entry : Entry) → InRange entry → core.0 < 16 → OnPassed Keeps (row S core t entry)
   unfolding row send_over
@@ -133,9 +142,7 @@ module _ (t : ObjId) (S : Log) (firm : Firm S) where
   firm-row core (Wait a) range small = with-cap a _ (λ cap held. firm-receive t S firm (Ok None) true cap held (none-known t S firm))
   firm-row core (NbWait a) range small = with-cap a _ (λ cap held. firm-receive t S firm (Ok None) false cap held (none-known t S firm))
   firm-row core (ReplyRecv a r message) range small = with-cap a _ (λ cap held. firm-reply_receive t S firm cap r message held)
-  firm-row core (Signal a) range small = with-kind kind.Notification a _ (λ cap held. passed-next _ _ _ (passed-ok Keeps _ (λ W w h. firm-signal cap.obj cap.badge W (woken-there t S firm W kind.Notification cap.obj w held.there) held.small h.firm)))
   firm-row core (SetPriority x authority p) range small = with-kind kind.Thread x _ (λ thread held. passed-bind _ _ _ (λ giver. passed-next _ _ _ (passed-ok Keeps _ (λ W w h. (((woken-there t S firm W kind.Thread thread.obj w held.there, range.2), tt), h.firm)))))
-  firm-row core (Suspend x) range small = with-kind kind.Thread x _ (λ thread held. passed-ok Keeps _ (λ W w h. (cancelled thread.obj Inactive W (woken-there t S firm W kind.Thread thread.obj w held.there) h.firm).firm))
   firm-row core (Resume x) range small = with-kind kind.Thread x _ (λ thread held. passed-ok Keeps _ (λ W w h.
       firm-if (is_ready (status_of S thread.obj)) nothing (cancel thread.obj Restart) W h.firm ((cancelled thread.obj Restart W (woken-there t S firm W kind.Thread thread.obj w held.there) h.firm).firm)))
   firm-row core (BindNtfn x n) range small = with-kind kind.Thread x _ (λ thread held. with-kind kind.Notification n _ (λ cap ntfn. passed-next _ _ _ (passed-need Keeps _ _ _ (λ ok. passed-ok Keeps _ (firm-ties thread.obj cap.obj held.there ntfn.there ok)))))
@@ -159,6 +166,7 @@ module _ (t : ObjId) (S : Log) (firm : Firm S) where
   firm-row core (MakeContext place) range small = firm-make t S firm kind.Context 0 (form.OnCore core) place (λ e. absurd cc) small (λ R o. tt)
   firm-row core (NbSendRecv a source r message) range small = firm-send_receive t S firm _ source _ (passed-after (IsHeld S) (KeepsActing t S firm) (capability S t a) _ (capability-held S t a firm) (λ cap held. acting-send_by t S firm cap.obj.kind cap message refl held)) (reply-known t S firm r)
   firm-row core (NbSendWait a source message) range small = firm-send_receive t S firm _ source _ (passed-after (IsHeld S) (KeepsActing t S firm) (capability S t a) _ (capability-held S t a firm) (λ cap held. acting-send_by t S firm cap.obj.kind cap message refl held)) (none-known t S firm)
+  firm-row core _ range small = search (with-kind, passed-next, passed-ok, firm-signals, firm-suspends) depth 9
 
 -- who may enter is not inactive
 enters-active : (R : Log) (core : CoreId) (t : ObjId) → may_enter R core t ≡ true → mode_of R t ≢ Inactive

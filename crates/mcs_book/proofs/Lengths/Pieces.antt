@@ -230,13 +230,13 @@ module _ (T : List ObjId) where
       let le : length (queued_in R (Waiters o)) ≤ length (threads R) = line-short R (Waiters o) in
       let e : length (threads R) ≡ length T = ap length is in
       few-within (3 * length (queued_in R (Waiters o)) + 1 + 1) (3 * length T + 6) _ (omega (arith, le, e))
-      (few-then (3 * length (queued_in R (Waiters o)) + 1) 1 _ _ (few-then (3 * length (queued_in R (Waiters o))) 1 _ _ (few-cancel_all (queued_in R (Waiters o)) Restart) (few-any 1 (tied_to R o) _ (λ x. few-say (rec.Tied x None) (λ S. refl))))
+      (few-then (3 * length (queued_in R (Waiters o)) + 1) 1 _ _ (few-then (3 * length (queued_in R (Waiters o))) 1 _ _ (few-cancel_all (queued_in R (Waiters o)) Restart) (few-any 1 (tied_to R o) _ (λ x. few-say _ (λ S. refl))))
       (few-any 1 (homed_at R o) _ (λ s. few-say (rec.Homed s None) (λ S. refl))))
   few-release R o Reply is = few-within 6 (3 * length T + 6) _ (omega arith) (few-then 3 3 _ _ (few-any 3 (receiver_with R o) _ (λ x. few-cancel x Inactive)) (few-void o))
   few-release R o Context is = few-within 2 (3 * length T + 6) _ (omega arith) (few-unbind o)
   few-release R o Thread is =
       few-within 5 (3 * length T + 6) _ (omega arith)
-      (few-then 4 1 _ _ (few-then 3 1 _ _ (few-cancel o Inactive) (few-any 1 (bound_of R o) _ (λ n. few-say (rec.Tied o None) (λ S. refl)))) (few-any 1 (context_of R o) _ (λ s. few-say (rec.Holds s None) (λ S. refl))))
+      (few-then 4 1 _ _ (few-then 3 1 _ _ (few-cancel o Inactive) (few-any 1 (bound_of R o) _ (λ n. few-say _ (λ S. refl)))) (few-any 1 (context_of R o) _ (λ s. few-say (rec.Holds s None) (λ S. refl))))
 
   -- an object ends
   few-destroy : (o : ObjId) → Few (3 * length T + 7) (destroy o)

@@ -24,18 +24,21 @@ use Rattle.std.specs.Prelude.{ℕ, true, false, ◌≡◌, List, ◌∷◌, Opti
 use Rattle.mcs_types.specs.declared.id.CoreId.{CoreId}
 use Rattle.mcs_types.specs.declared.id.Kind.TheVariants.{Endpoint, Notification, Reply, Context}
 use Rattle.mcs_types.specs.declared.cap.Place.{Place}
+use Rattle.mcs_types.specs.declared.id.Badge.{Badge}
+use Rattle.mcs_types.specs.declared.record.Mode.{Mode}
 use Rattle.mcs_types.specs.declared.record.Mode.TheVariants.{Restart, Inactive}
 use Rattle.mcs_types.specs.declared.record.Form.{Form}
 use Rattle.mcs_types.specs.declared.record.Form.TheVariants as form
 use Rattle.mcs_types.specs.declared.entry.Answer.TheVariants.{Done, Waits}
 use Rattle.mcs_types.specs.declared.entry.Entry.{Entry}
-use Rattle.mcs_types.specs.declared.entry.Entry.TheVariants.{Send, NbSend, Call, Recv, NbRecv, Wait, NbWait, ReplyRecv, Signal, SetPriority, Suspend, Resume, BindNtfn, UnbindNtfn, BindCtx, UnbindCtx, CancelBadged, CopyCap, MintCap, MoveCap, DeleteCap, MakeEndpoint, MakeNotification, MakeReply, MakeContext, NbSendRecv, NbSendWait}
+use Rattle.mcs_types.specs.declared.entry.Entry.TheVariants.{Send, NbSend, Call, Recv, NbRecv, Wait, NbWait, ReplyRecv, Resume, CancelBadged, MoveCap, NbSendRecv, NbSendWait}
 use Rattle.mcs_book.specs.Slots.{SlotName}
 use Rattle.mcs_book.specs.Threads.{mode_of}
 use Rattle.mcs_book.specs.Checks.{Checked}
 use Rattle.mcs_book.specs.Rights.{call_mode}
 use Rattle.mcs_book.specs.Pieces.{◌then◌, nothing, say, Act, answers, silently, before}
-use Rattle.mcs_book.specs.Cancelling.{cancel, cancel_all}
+use Rattle.mcs_book.specs.Cancelling.{cancel, cancel_all, unbind}
+use Rattle.mcs_book.specs.Signalling.{signal}
 use Rattle.mcs_book.specs.Receiving.{reply_receive}
 use Rattle.mcs_book.specs.Placing.{senders_with, delete, make}
 use Rattle.mcs_book.specs.Table.{row, wakes, outcome_of, does}
@@ -209,6 +212,16 @@ module _ (T : List ObjId) where
   few-alone : FewAct 2 (answers Done nothing)
   few-alone = record { at = λ S same. record { few = omega arith; threads_same = same } }
 
+  -- one piece is a row's act
+  row-signal : (n : ObjId) (badge : Badge) → OnPassed RowAct (Ok (answers Done (signal n badge)))
+  row-signal n badge = act-piece 5 Done _ (omega arith) (few-signal T n badge)
+
+  row-unbind : (s : ObjId) → OnPassed RowAct (Ok (answers Done (unbind s)))
+  row-unbind s = act-piece 2 Done _ (omega arith) (few-unbind T s)
+
+  row-cancel : (x : ObjId) (mode : Mode) → OnPassed RowAct (Ok (answers Done (cancel x mode)))
+  row-cancel x mode = act-piece 3 Done _ (omega arith) (few-cancel T x mode)
+
   -- what each row does, where its checks are passed
   few-row : (R : Log) (core : CoreId) (t : ObjId) (entry : Entry) → threads R ≡ T → OnPassed RowAct (row R core t entry)
   unfolding row send_over reply_receive
@@ -222,14 +235,7 @@ module _ (T : List ObjId) where
   few-row R core t (ReplyRecv a r message) is =
       passed-bind _ _ _ (λ held. passed-next _ _ _ (passed-next _ _ _ (passed-bind _ _ _ (λ o.
       passed-after (FewAct 7) _ _ _ (few-receive_over R t held (Ok o) true) (λ act k. passed-ok _ _ (act-within 10 (3 * length T + 13) _ (omega arith) (few-before 3 7 (pay_any o message) act (few-any T 3 o _ (λ r. few-pay T r message)) k)))))))
-  few-row R core t (Signal a) is = passed-bind _ _ _ (λ held. passed-next _ _ _ (act-piece 5 Done _ (omega arith) (few-signal T held.obj held.badge)))
-  few-row R core t (SetPriority x authority p) is = passed-bind _ _ _ (λ thread. passed-bind _ _ _ (λ giver. passed-next _ _ _ (act-say (rec.Prio thread.obj p) (λ S. refl))))
-  few-row R core t (Suspend x) is = passed-bind _ _ _ (λ thread. act-piece 3 Done _ (omega arith) (few-cancel T thread.obj Inactive))
   few-row R core t (Resume x) is = passed-bind _ _ _ (λ thread. act-piece 3 Done _ (omega arith) (few-if T 3 _ nothing (cancel thread.obj Restart) (few-within T 0 3 nothing (omega arith) (few-nothing T)) (few-cancel T thread.obj Restart)))
-  few-row R core t (BindNtfn x n) is = passed-bind _ _ _ (λ thread. passed-bind _ _ _ (λ held. passed-next _ _ _ (passed-next _ _ _ (act-say (rec.Tied thread.obj (Some held.obj)) (λ S. refl)))))
-  few-row R core t (UnbindNtfn x) is = passed-bind _ _ _ (λ thread. passed-next _ _ _ (act-say (rec.Tied thread.obj None) (λ S. refl)))
-  few-row R core t (BindCtx s x) is = passed-bind _ _ _ (λ context. passed-bind _ _ _ (λ target. few-bind_by target.obj.kind R context.obj target.obj))
-  few-row R core t (UnbindCtx s) is = passed-bind _ _ _ (λ context. passed-next _ _ _ (act-piece 2 Done _ (omega arith) (few-unbind T context.obj)))
   few-row R core t (NbSendRecv a source r message) is = few-send_receive R t _ source _ (passed-bind _ _ _ (λ held. few-send_by held.obj.kind how.Give t held message _ few-alone))
   few-row R core t (NbSendWait a source message) is = few-send_receive R t _ source _ (passed-bind _ _ _ (λ held. few-send_by held.obj.kind how.Give t held message _ few-alone))
   few-row R core t (CancelBadged a) is =
@@ -238,14 +244,8 @@ module _ (T : List ObjId) where
       let le : length xs ≤ length (threads R) = badged-short R held.obj held.badge.0 in
       let e : length (threads R) ≡ length T = ap length is in
       act-piece (3 * length xs) Done _ (omega (arith, le, e)) (few-if T (3 * length xs) _ nothing (cancel_all xs Restart) (few-within T 0 (3 * length xs) nothing (omega arith) (few-nothing T)) (few-cancel_all T xs Restart))))
-  few-row R core t (CopyCap source dest rights) is = passed-bind _ _ _ (λ at. act-say (rec.Slot _ _ _) (λ S. refl))
-  few-row R core t (MintCap source dest rights badge) is = passed-bind _ _ _ (λ at. passed-next _ _ _ (passed-next _ _ _ (act-say (rec.Slot _ _ _) (λ S. refl))))
   few-row R core t (MoveCap source dest) is = passed-bind _ _ _ (λ at. act-piece 2 Done _ (omega arith) (few-then T 1 1 _ _ (few-say T (rec.Slot _ _ _) (λ S. refl)) (few-say T (rec.Slot _ _ _) (λ S. refl))))
-  few-row R core t (DeleteCap place) is = passed-bind _ _ _ (λ at. passed-next _ _ _ (few-delete at _))
-  few-row R core t (MakeEndpoint place) is = few-make R t Endpoint 15 form.Plain place (λ S. refl)
-  few-row R core t (MakeNotification place) is = few-make R t Notification 15 form.Plain place (λ S. refl)
-  few-row R core t (MakeReply place) is = few-make R t Reply 0 form.Plain place (λ S. refl)
-  few-row R core t (MakeContext place) is = few-make R t Context 0 (form.OnCore core) place (λ S. refl)
+  few-row R core t _ is = search (passed-bind, passed-next, act-say, row-signal, row-unbind, row-cancel, few-bind_by, few-delete, few-make) depth 9
 
   -- what each entry does
   few-does : (R : Log) (core : CoreId) (t : ObjId) (entry : Entry) → threads R ≡ T → FewRecords T (4 * length T + 32) R ((does R core t entry).records)

@@ -51,17 +51,15 @@ answered-replayed = refl
 pub answered-legal : IsLegal answered
 answered-legal = subst (λ (b : Book). IsLegal b) answered-replayed (replayed-legal five_threads (steps_of answered) five_threads_faultless answered-in_range)
 
--- whether a boot makes records of this kind
-abbrev is_first : Rec → Bool
-is_first (rec.Made o form) = true
-is_first (rec.Slot c i held) = true
-is_first (rec.Prio x p) = true
-is_first (rec.Turns x mode) = true
-is_first (rec.Holds c x) = true
-is_first (rec.Tied t n) = true
-is_first _ = false
+-- whether a record neither takes a message nor is of a debt
+abbrev is_quiet : Rec → Bool
+is_quiet (rec.Took m p) = false
+is_quiet (rec.Owes r x c) = false
+is_quiet (rec.Paid r x m) = false
+is_quiet (rec.Void r x ending) = false
+is_quiet _ = true
 
-module _ (P : Log → Rec → Type 0) (first : (R : Log) (x : Rec) → is_first x ≡ true → P R x) where
+module _ (P : Log → Rec → Type 0) (first : (R : Log) (x : Rec) → is_quiet x ≡ true → P R x) where
   -- what holds of the records that a boot makes holds of each of a line
   boot_line-each : (R S : Log) (line : BootLine) → Each P R → Each P (onto (boot_line S line) R)
   boot_line-each R S (boot.Thread priority maximum root guard runs (Some c)) h = (first _ _ refl, (first _ _ refl, (first _ _ refl, (first _ _ refl, h))))
@@ -84,7 +82,7 @@ module _ (P : Log → Rec → Type 0) (first : (R : Log) (x : Rec) → is_first 
 pub boot-takes_first : Each TakesFirst (boot_log five_threads.lines)
 boot-takes_first = boot-each TakesFirst none five_threads.lines
   where
-    none : (R : Log) (x : Rec) → is_first x ≡ true → TakesFirst R x
+    none : (R : Log) (x : Rec) → is_quiet x ≡ true → TakesFirst R x
     none R (rec.Took m p) h = absurd cc
     none R _ h = tt
 
@@ -92,7 +90,7 @@ boot-takes_first = boot-each TakesFirst none five_threads.lines
 pub boot-takes_in_order : Each TakesInOrder (boot_log five_threads.lines)
 boot-takes_in_order = boot-each TakesInOrder none five_threads.lines
   where
-    none : (R : Log) (x : Rec) → is_first x ≡ true → TakesInOrder R x
+    none : (R : Log) (x : Rec) → is_quiet x ≡ true → TakesInOrder R x
     none R (rec.Took m p) h = absurd cc
     none R _ h = tt
 
@@ -100,7 +98,7 @@ boot-takes_in_order = boot-each TakesInOrder none five_threads.lines
 pub boot-takes_alive : Each TakesAlive (boot_log five_threads.lines)
 boot-takes_alive = boot-each TakesAlive none five_threads.lines
   where
-    none : (R : Log) (x : Rec) → is_first x ≡ true → TakesAlive R x
+    none : (R : Log) (x : Rec) → is_quiet x ≡ true → TakesAlive R x
     none R (rec.Took m p) h = absurd cc
     none R _ h = tt
 
@@ -108,7 +106,7 @@ boot-takes_alive = boot-each TakesAlive none five_threads.lines
 pub boot-answers : Each AnswersOwed (boot_log five_threads.lines)
 boot-answers = boot-each AnswersOwed none five_threads.lines
   where
-    none : (R : Log) (x : Rec) → is_first x ≡ true → AnswersOwed R x
+    none : (R : Log) (x : Rec) → is_quiet x ≡ true → AnswersOwed R x
     none R (rec.Owes a x c) h = absurd cc
     none R (rec.Paid a x m) h = absurd cc
     none R (rec.Void a x m) h = absurd cc

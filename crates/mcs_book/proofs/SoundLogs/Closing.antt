@@ -23,7 +23,7 @@ use Rattle.mcs_book.specs.Contexts.{context_of}
 use Rattle.mcs_book.specs.Replies.{owing, owed_by}
 use Rattle.mcs_book.specs.Notifications.{bound_of}
 use Rattle.mcs_book.specs.Pieces.{Piece, ◌then◌, nothing, say, with_any}
-use Rattle.mcs_book.specs.Cancelling.{drop_message, leave, cancel, let_go, release, destroy}
+use Rattle.mcs_book.specs.Cancelling.{drop_message, leave, cancel, untie_from, let_go, release, destroy}
 use Rattle.mcs_book.specs.Placing.{destroy_last}
 use Rattle.mcs_types.proofs.Ids.{same-self}
 use Rattle.mcs_book.proofs.SoundLogs.Keeping.{Keeps, then-at, then-next}
@@ -82,8 +82,8 @@ cancelled-loose R x mode safe = loose-then R x (leave R x (queue_of R x)) (say (
 -- so is a thread with which nobody is left
 released-loose : (R : Log) (o : ObjId) (k : Kind) → Each Safe R → k ≡ kind.Thread → IsLoose o (onto (release R o k R) R)
 released-loose R o kind.Thread safe e =
-    loose-then R o (cancel o Inactive then with_any (bound_of R o) (λ n. say (rec.Tied o None))) (let_go (context_of R o)) (makes-any is_plain (context_of R o) _ (λ s. makes-say is_plain _ refl))
-    (loose-then R o (cancel o Inactive) (with_any (bound_of R o) (λ n. say (rec.Tied o None))) (makes-any is_plain (bound_of R o) _ (λ n. makes-say is_plain (rec.Tied o None) refl)) (cancelled-loose R o Inactive safe))
+    loose-then R o (cancel o Inactive then untie_from (bound_of R o) o) (let_go (context_of R o)) (makes-any is_plain (context_of R o) _ (λ s. makes-say is_plain _ refl))
+    (loose-then R o (cancel o Inactive) (untie_from (bound_of R o) o) (makes-any is_plain (bound_of R o) _ (λ n. makes-say is_plain _ refl)) (cancelled-loose R o Inactive safe))
 released-loose R o kind.CNode safe e = absurd cc
 released-loose R o kind.Endpoint safe e = absurd cc
 released-loose R o kind.Notification safe e = absurd cc

@@ -20,7 +20,7 @@ use Rattle.mcs_types.specs.declared.record.Rec.TheVariants as rec
 use Rattle.mcs_types.specs.declared.entry.Answer.{Answer}
 use Rattle.mcs_types.specs.declared.entry.Answer.TheVariants.{Done, Waits}
 use Rattle.mcs_types.specs.declared.entry.Entry.{Entry}
-use Rattle.mcs_types.specs.declared.entry.Entry.TheVariants.{Send, NbSend, Call, Recv, NbRecv, Wait, NbWait, ReplyRecv, Signal, SetPriority, Suspend, Resume, BindNtfn, UnbindNtfn, BindCtx, UnbindCtx, CancelBadged, CopyCap, MintCap, MoveCap, DeleteCap, MakeEndpoint, MakeNotification, MakeReply, MakeContext, NbSendRecv, NbSendWait}
+use Rattle.mcs_types.specs.declared.entry.Entry.TheVariants.{Send, NbSend, Call, ReplyRecv, Resume, CancelBadged, NbSendRecv, NbSendWait}
 use Rattle.mcs_book.specs.Logs.{Log, onto}
 use Rattle.mcs_book.specs.Slots.{SlotName}
 use Rattle.mcs_types.specs.declared.record.Letter.{Letter}
@@ -216,31 +216,13 @@ module _ (t : ObjId) (J I : Log → Type 0) (enters : Entering t J I) where
   keeps-row R core (Send a message) = passed-bind _ _ _ (λ cap. keeps-send_by I enters.ends cap.obj.kind how.Plain cap message _ (keeps-queues cap how.Plain message))
   keeps-row R core (NbSend a message) = passed-bind _ _ _ (λ cap. keeps-send_by I enters.ends cap.obj.kind how.Plain cap message _ (λ R none h. enters.ends R h))
   keeps-row R core (Call a message) = passed-bind _ _ _ (λ cap. passed-next _ _ _ (passed-ok _ _ (keeps-sends I enters.ends cap (call_mode cap) message Waits _ (keeps-queues cap (call_mode cap) message))))
-  keeps-row R core (Recv a r) = passed-bind _ _ _ (λ cap. keeps-receive_over R cap _ true)
-  keeps-row R core (NbRecv a r) = passed-bind _ _ _ (λ cap. keeps-receive_over R cap _ false)
-  keeps-row R core (Wait a) = passed-bind _ _ _ (λ cap. keeps-receive_over R cap _ true)
-  keeps-row R core (NbWait a) = passed-bind _ _ _ (λ cap. keeps-receive_over R cap _ false)
   keeps-row R core (ReplyRecv a r message) = passed-bind _ _ _ (λ cap. passed-next _ _ _ (passed-next _ _ _ (passed-bind _ _ _ (λ o.
       passed-after KeepsAct _ _ _ (keeps-receive_over R cap (Ok o) true) (λ act k. passed-ok _ _ (keeps-before (pay_any o message) act (keeps-any J o _ (λ x. keeps-pay J enters.steps x message)) k))))))
-  keeps-row R core (Signal a) = passed-bind _ _ _ (λ cap. passed-next _ _ _ (passed-piece _ _ (keeps-signal J enters.steps _ _)))
-  keeps-row R core (SetPriority x authority p) = passed-bind _ _ _ (λ thread. passed-bind _ _ _ (λ giver. passed-next _ _ _ (passed-piece _ _ (keeps-say J enters.steps _ refl))))
-  keeps-row R core (Suspend x) = passed-bind _ _ _ (λ thread. passed-piece _ _ (keeps-cancel J enters.steps _ _))
   keeps-row R core (Resume x) = passed-bind _ _ _ (λ thread. passed-piece _ _ (keeps-if J _ nothing (cancel thread.obj Restart) (keeps-nothing J) (keeps-cancel J enters.steps _ _)))
-  keeps-row R core (BindNtfn x n) = passed-bind _ _ _ (λ thread. passed-bind _ _ _ (λ cap. passed-next _ _ _ (passed-next _ _ _ (passed-piece _ _ (keeps-say J enters.steps _ refl)))))
-  keeps-row R core (UnbindNtfn x) = passed-bind _ _ _ (λ thread. passed-next _ _ _ (passed-piece _ _ (keeps-say J enters.steps _ refl)))
-  keeps-row R core (BindCtx s x) = passed-bind _ _ _ (λ context. passed-bind _ _ _ (λ target. keeps-bind_by target.obj.kind R context.obj target.obj))
-  keeps-row R core (UnbindCtx s) = passed-bind _ _ _ (λ context. passed-next _ _ _ (passed-piece _ _ (keeps-unbind J enters.steps _)))
   keeps-row R core (CancelBadged a) = passed-bind _ _ _ (λ cap. passed-next _ _ _ (passed-piece _ _ (keeps-if J _ nothing (cancel_all (senders_with R cap.obj cap.badge.0) Restart) (keeps-nothing J) (keeps-cancel_all J enters.steps _ _))))
-  keeps-row R core (CopyCap source dest rights) = passed-bind _ _ _ (λ at. passed-piece _ _ (keeps-say J enters.steps _ refl))
-  keeps-row R core (MintCap source dest rights badge) = passed-bind _ _ _ (λ at. passed-next _ _ _ (passed-next _ _ _ (passed-piece _ _ (keeps-say J enters.steps _ refl))))
-  keeps-row R core (MoveCap source dest) = passed-bind _ _ _ (λ at. passed-piece _ _ (keeps-then J _ _ (keeps-say J enters.steps _ refl) (keeps-say J enters.steps _ refl)))
-  keeps-row R core (DeleteCap place) = passed-bind _ _ _ (λ at. passed-next _ _ _ (passed-ok _ _ (keeps-delete at _)))
-  keeps-row R core (MakeEndpoint place) = keeps-make R Endpoint 15 form.Plain place
-  keeps-row R core (MakeNotification place) = keeps-make R Notification 15 form.Plain place
-  keeps-row R core (MakeReply place) = keeps-make R Reply 0 form.Plain place
-  keeps-row R core (MakeContext place) = keeps-make R Context 0 (form.OnCore core) place
   keeps-row R core (NbSendRecv a source r message) = keeps-send_receive R _ source _ (passed-bind _ _ _ (λ cap. keeps-send_by J (λ R h. h) cap.obj.kind how.Give cap message _ (λ R none h. h)))
   keeps-row R core (NbSendWait a source message) = keeps-send_receive R _ source _ (passed-bind _ _ _ (λ cap. keeps-send_by J (λ R h. h) cap.obj.kind how.Give cap message _ (λ R none h. h)))
+  keeps-row R core _ = search (passed-bind, passed-next, passed-ok, passed-piece, keeps-say J enters.steps, keeps-signal J enters.steps, keeps-cancel J enters.steps, keeps-unbind J enters.steps, keeps-then J, keeps-receive_over, keeps-bind_by, keeps-delete, keeps-make) depth 9
 
   -- a thread becomes Running with its entry
   keeps-wakes : (mode : Mode) → Keeps J (wakes mode t)

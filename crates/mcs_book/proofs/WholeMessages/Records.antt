@@ -35,7 +35,8 @@ use Rattle.mcs_book.specs.Standing.{mail_of}
 use Rattle.mcs_book.specs.Paths.{IsNamed}
 use Rattle.mcs_book.specs.History.{Line}
 use Rattle.mcs_book.specs.Each.{Each, EachOf}
-use Rattle.mcs_book.specs.Fair.{carried, address_used, IsSentWhole, IsTakenWhole, IsPaidWhole, GivesBack}
+use Rattle.mcs_types.specs.Brings.{message_of}
+use Rattle.mcs_book.specs.Fair.{address_used, IsSentWhole, IsTakenWhole, IsPaidWhole, GivesBack}
 use Rattle.mcs_book.proofs.SoundLogs.Keeping.{onto-append, sent_record}
 use Rattle.mcs_book.proofs.Queues.QueueLaws.{first-stands}
 use Rattle.mcs_book.proofs.Messages.MessageLaws.{open_of-open, open_of-letter}
@@ -140,7 +141,7 @@ pub record WholeAct (R : Log) (s : Step) (act : Act) : Type 0 where
 
 -- a message over this capability is what the step's entry says
 pub record IsSending (R : Log) (s : Step) (cap : Cap) (message : Content) : Type 0 where
-  pub carries : carried s.entry ≡ Some message
+  pub carries : message_of s.entry ≡ Some message
   pub address : ℕ
   pub used : address_used s.entry ≡ Some address
   pub named : IsNamed R s.thread address cap

@@ -46,7 +46,8 @@ use Rattle.mcs_types.proofs.Ids.{same-self, same_kind-equal}
 use Rattle.mcs_book.proofs.SoundLogs.Safety.{IsReplyMade, safe-owed, safe-standing, none-plains}
 use Rattle.mcs_book.proofs.Chains.GivingBack.{top-brought, top-found}
 use Rattle.mcs_book.specs.Sound.{Sound}
-use Rattle.mcs_book.specs.Fair.{carried, GivesBack}
+use Rattle.mcs_types.specs.Brings.{message_of}
+use Rattle.mcs_book.specs.Fair.{GivesBack}
 use Rattle.mcs_book.proofs.SoundLogs.Keeping.{onto-append}
 use Rattle.mcs_book.proofs.Books.Checking.{OnPassed, passed-ok, passed-err, passed-after, passed-bind, passed-next}
 use Rattle.mcs_book.proofs.SoundLogs.Making.{Makes, is_unheld, unheld-free, Passes, passes-map, passes-append, is_plain, Plain, Quiet, makes-any, plain-back, plain-free, plain-let_go, is_quiet, quiet-signal}
@@ -124,7 +125,7 @@ pub record Follows (t : ObjId) (S : Log) (more : List Rec) : Type 0 where
   pub holders : (c y : ObjId) → y ≢ t → holder_of S c ≡ Some y → queue_of S y ≡ None → holder_of (onto more S) c ≡ Some y
 
 -- an answer is whole, where nothing more reaches its caller; and the context that it brought returns
-pay-whole : (R after : Log) (s : Step) (a : Answer) (S : Log) (r : ObjId) (message : Content) (more : List Rec) → carried s.entry ≡ Some message → Begins R s.thread S
+pay-whole : (R after : Log) (s : Step) (a : Answer) (S : Log) (r : ObjId) (message : Content) (more : List Rec) → message_of s.entry ≡ Some message → Begins R s.thread S
     → Follows s.thread (onto (pay r message S) S) more → after ≡ onto more (onto (pay r message S) S) → AreWhole R after s a S (pay r message S)
 pay-whole R after s a S r message more carries b f is = go (owed_by S r) refl
   where
@@ -326,11 +327,11 @@ pub act-quiet : (R : Log) (s : Step) (a : Answer) (p : Piece) → Quiet p → On
 act-quiet R s a p h = passed-ok _ _ (record { whole = λ S b. quiet-all R (onto (p S) S) s a S (p S) (h.passes S) })
 
 -- an answer is paid
-act-pay : (R : Log) (s : Step) (a : Answer) (r : ObjId) (message : Content) → carried s.entry ≡ Some message → WholeAct R s (answers a (pay r message))
+act-pay : (R : Log) (s : Step) (a : Answer) (r : ObjId) (message : Content) → message_of s.entry ≡ Some message → WholeAct R s (answers a (pay r message))
 act-pay R s a r message carries = record { whole = λ S b. pay-whole R (onto (pay r message S) S) s a S r message [] carries b (record { still = λ x ne. tt; holders = λ c y ne held none. held }) refl }
 
 -- an answer is paid, and then its payer receives
-pub act-pay_receive : (R : Log) (s : Step) (r : Option ObjId) (message : Content) (act : Act) → carried s.entry ≡ Some message → WholeReceive R s act → WholeAct R s (before (pay_any r message) act)
+pub act-pay_receive : (R : Log) (s : Step) (r : Option ObjId) (message : Content) (act : Act) → message_of s.entry ≡ Some message → WholeReceive R s act → WholeAct R s (before (pay_any r message) act)
 unfolding before
 act-pay_receive R s None message act carries h = act-receive R s act h
 act-pay_receive R s (Some r) message act carries h = record {

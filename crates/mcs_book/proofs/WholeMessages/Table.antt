@@ -18,7 +18,7 @@ use Rattle.mcs_types.specs.declared.record.Rec.TheVariants as rec
 use Rattle.mcs_types.specs.declared.entry.Answer.TheVariants.{Done, Waits}
 use Rattle.mcs_types.specs.declared.entry.Step.{Step}
 use Rattle.mcs_types.specs.declared.entry.Entry.{Entry}
-use Rattle.mcs_types.specs.declared.entry.Entry.TheVariants.{Send, NbSend, Call, Recv, NbRecv, Wait, NbWait, ReplyRecv, Signal, SetPriority, Suspend, Resume, BindNtfn, UnbindNtfn, BindCtx, UnbindCtx, CancelBadged, CopyCap, MintCap, MoveCap, DeleteCap, MakeEndpoint, MakeNotification, MakeReply, MakeContext, NbSendRecv, NbSendWait}
+use Rattle.mcs_types.specs.declared.entry.Entry.TheVariants.{Send, NbSend, Call, Recv, NbRecv, Wait, NbWait, ReplyRecv, Resume, CancelBadged, CopyCap, MintCap, MoveCap, MakeEndpoint, MakeNotification, MakeReply, MakeContext, NbSendRecv, NbSendWait}
 use Rattle.mcs_book.specs.Logs.{Log, onto}
 use Rattle.mcs_book.specs.Rights.{call_mode}
 use Rattle.mcs_book.specs.Lookup.{capability, of_kind}
@@ -170,14 +170,7 @@ whole-row R core t (ReplyRecv a r message) =
     let s : Step = step_of core t (ReplyRecv a r message) in
     passed-bind _ _ _ (λ held. passed-next _ _ _ (passed-next _ _ _ (passed-found _ _ _ (λ o e.
     passed-after (WholeReceive R s) _ _ _ (receive-over R s held (Ok o) true (found-reply R o (reply-at R t r o e))) (λ act k. passed-ok _ _ (act-pay_receive R s o message act refl k))))))
-whole-row R core t (Signal a) = passed-bind _ _ _ (λ held. passed-next _ _ _ (act-quiet R _ Done _ (quiet-signal held.obj held.badge)))
-whole-row R core t (SetPriority x authority p) = passed-bind _ _ _ (λ thread. passed-bind _ _ _ (λ giver. passed-next _ _ _ (act-say R _ (rec.Prio thread.obj p) refl)))
-whole-row R core t (Suspend x) = passed-bind _ _ _ (λ thread. act-quiet R _ Done _ (quiet-piece _ (plain-cancel thread.obj Inactive)))
 whole-row R core t (Resume x) = passed-bind _ _ _ (λ thread. act-quiet R _ Done _ (quiet-piece _ (makes-if is_plain (is_ready (status_of R thread.obj)) nothing (cancel thread.obj Restart) (makes-nothing is_plain) (plain-cancel thread.obj Restart))))
-whole-row R core t (BindNtfn x n) = passed-bind _ _ _ (λ thread. passed-bind _ _ _ (λ held. passed-next _ _ _ (passed-next _ _ _ (act-say R _ (rec.Tied thread.obj (Some held.obj)) refl))))
-whole-row R core t (UnbindNtfn x) = passed-bind _ _ _ (λ thread. passed-next _ _ _ (act-say R _ (rec.Tied thread.obj None) refl))
-whole-row R core t (BindCtx s x) = passed-bind _ _ _ (λ context. passed-bind _ _ _ (λ target. act-bind_by target.obj.kind R _ context.obj target.obj))
-whole-row R core t (UnbindCtx s) = passed-bind _ _ _ (λ context. passed-next _ _ _ (act-quiet R _ Done _ (quiet-piece _ (plain-unbind context.obj))))
 whole-row R core t (NbSendRecv a source r message) =
     let s : Step = step_of core t (NbSendRecv a source r message) in
     act-send_receive R s _ source _ (passed-found _ _ _ (λ held e. first-send_by held.obj.kind R s held message (is-first_send R core t a source r held message e))) (reply-at R t r)
@@ -189,11 +182,11 @@ whole-row R core t (CancelBadged a) =
 whole-row R core t (CopyCap source dest rights) = passed-found _ _ _ (λ at e. act-fill R _ at.dest _ at.cap at.source.cnode at.source.index (source-held R t source dest at e) refl)
 whole-row R core t (MintCap source dest rights badge) = passed-found _ _ _ (λ at e. passed-next _ _ _ (passed-next _ _ _ (act-fill R _ at.dest _ at.cap at.source.cnode at.source.index (source-held R t source dest at e) refl)))
 whole-row R core t (MoveCap source dest) = passed-found _ _ _ (λ at e. act-move R _ at.dest at.source at.cap at.source.cnode at.source.index (source-held R t source dest at e))
-whole-row R core t (DeleteCap place) = passed-bind _ _ _ (λ at. passed-next _ _ _ (act-delete R _ at _))
 whole-row R core t (MakeEndpoint place) = act-make R (step_of core t (MakeEndpoint place)) Endpoint 15 form.Plain place (λ e. absurd cc) refl (λ o c e. absurd cc)
 whole-row R core t (MakeNotification place) = act-make R (step_of core t (MakeNotification place)) Notification 15 form.Plain place (λ e. absurd cc) refl (λ o c e. absurd cc)
 whole-row R core t (MakeReply place) = act-make R (step_of core t (MakeReply place)) Reply 0 form.Plain place (λ e. absurd cc) refl (λ o c e. absurd cc)
 whole-row R core t (MakeContext place) = act-make R (step_of core t (MakeContext place)) Context 0 (form.OnCore core) place (λ e. absurd cc) refl (λ o c e. cc)
+whole-row R core t _ = search (passed-bind, passed-next, act-quiet, quiet-signal, quiet-piece, plain-cancel, plain-unbind, act-say, act-bind_by, act-delete) depth 9
 
 -- who stands or is owed does so after the entering thread became Running
 begins-wakes : (mode : Mode) (R : Log) (t : ObjId) (S : Log) → Begins R t S → Begins R t (onto (wakes mode t S) S)
