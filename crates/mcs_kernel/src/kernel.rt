@@ -4,7 +4,7 @@ ghost use Rattle.mcs_types.specs.Brings.{message_of};
 ghost use Rattle.mcs_types.specs.Messages.{IsSpare};
 ghost use Rattle.mcs_book.specs.History.{IsLegal, log_of};
 ghost use Rattle.mcs_book.specs.Each.{EachRecord, EachLine, AfterEachLine};
-ghost use Rattle.mcs_book.specs.Fair.{EndsOpen, IsWholeLine, TakesFirst, TakesInOrder, TakesAlive, SendersAreOpen, AnswersOwed, AnswersWhole, NoneWaitBeside};
+ghost use Rattle.mcs_book.specs.Fair.{EndsOpen, IsWholeLine, TakesFirst, TakesInOrder, TakesAlive, SendersAreOpen, AnswersOwed, AnswersWhole, NoneWaitBeside, IsFair};
 ghost use Rattle.mcs_book.specs.Standing.{may_enter};
 ghost use Rattle.mcs_caps.specs.NewObjects.{HasSerials};
 ghost use Rattle.mcs_book.specs.Table.{does};
@@ -49,7 +49,8 @@ impl<L: Lines> Model for Kernel<L> {
     ghost invariant = { λ k. IsResting k.state };
 }
 
-/// Does an entry of a thread that may enter. The copies of its message that take memory are made before, so it takes none.
+/// Does an entry of a thread that may enter: a table, with an arm for each entry. The copies of its message that take memory are
+/// made before, so it takes none.
 #[inline(always)]
 fn operate<W: Waiting>(
     state: &mut State<W>,
@@ -159,9 +160,12 @@ impl<L: Lines> Kernel<L> {
         Ok(Kernel { state })
     }
 
-    /// The book of all entries that were let in.
+    /// The book of all entries that were let in. It is legal and fair, and has at most 1,000,000 lines.
     pub fn book(&self) -> &Book
-        ensures { result.now.book ≡ self.now }
+        ensures lent { result.now.book ≡ self.now }
+        ensures legal { IsLegal self.now }
+        ensures few { length self.now.lines < BOOK_LINES }
+        ensures fair { IsFair self.now }
     {
         self.state.book()
     }
@@ -170,15 +174,7 @@ impl<L: Lines> Kernel<L> {
     pub fn is_fair(&self)
         ensures legal { IsLegal self.now }
         ensures few { length self.now.lines < BOOK_LINES }
-        ensures taken_once { EachRecord EndsOpen self.now }
-        ensures whole { EachLine IsWholeLine self.now }
-        ensures by_priority { EachRecord TakesFirst self.now }
-        ensures in_order { EachRecord TakesInOrder self.now }
-        ensures not_deleted { EachRecord TakesAlive self.now }
-        ensures not_cancelled { AfterEachLine SendersAreOpen self.now }
-        ensures answered_once { EachRecord AnswersOwed self.now }
-        ensures answered_whole { EachLine AnswersWhole self.now }
-        ensures none_beside { AfterEachLine NoneWaitBeside self.now }
+        ensures fair { IsFair self.now }
     {
         let _ = &self.state;
     }
@@ -239,15 +235,7 @@ impl<L: Lines> Kernel<L> {
             a ≡ (does (log_of self.old) step.now.core step.now.thread step.now.entry).answer) }
         ensures err { OnErr result (self.new ≡ self.old) }
         ensures legal { IsLegal self.new }
-        ensures taken_once { EachRecord EndsOpen self.new }
-        ensures whole { EachLine IsWholeLine self.new }
-        ensures by_priority { EachRecord TakesFirst self.new }
-        ensures in_order { EachRecord TakesInOrder self.new }
-        ensures not_deleted { EachRecord TakesAlive self.new }
-        ensures not_cancelled { AfterEachLine SendersAreOpen self.new }
-        ensures answered_once { EachRecord AnswersOwed self.new }
-        ensures answered_whole { EachLine AnswersWhole self.new }
-        ensures none_beside { AfterEachLine NoneWaitBeside self.new }
+        ensures fair { IsFair self.new }
     {
         let result = match self.fault(step.core, step.thread) {
             Some(fault) => Err(fault),

@@ -1,8 +1,7 @@
 //! A replay that goes on, step by step.
 ghost use Rattle.std.specs.Prelude.{◌≡◌, false, IfOk, OnOk, IfErr, OnErr};
 ghost use Rattle.mcs_book.specs.History.{IsLegal};
-ghost use Rattle.mcs_book.specs.Each.{EachRecord, EachLine, AfterEachLine};
-ghost use Rattle.mcs_book.specs.Fair.{EndsOpen, IsWholeLine, TakesFirst, TakesInOrder, TakesAlive, SendersAreOpen, AnswersOwed, AnswersWhole, NoneWaitBeside};
+ghost use Rattle.mcs_book.specs.Fair.{IsFair};
 ghost use Rattle.mcs_kernel.specs.Faults.{fault_of};
 ghost use Rattle.mcs_kernel.specs.Runs.{is_book_full, begun, after_step, answer_to, next_count, StepEnds};
 
@@ -51,15 +50,7 @@ impl<L: Lines> Replay<L> {
         ensures full { IfErr result (StepEnds (next_count self.old.taken)
             (is_book_full (fault_of self.old.book step.now.core step.now.thread))) }
         ensures legal { IsLegal self.new.book }
-        ensures taken_once { EachRecord EndsOpen self.new.book }
-        ensures whole { EachLine IsWholeLine self.new.book }
-        ensures by_priority { EachRecord TakesFirst self.new.book }
-        ensures in_order { EachRecord TakesInOrder self.new.book }
-        ensures not_deleted { EachRecord TakesAlive self.new.book }
-        ensures not_cancelled { AfterEachLine SendersAreOpen self.new.book }
-        ensures answered_once { EachRecord AnswersOwed self.new.book }
-        ensures answered_whole { EachLine AnswersWhole self.new.book }
-        ensures none_beside { AfterEachLine NoneWaitBeside self.new.book }
+        ensures fair { IsFair self.new.book }
     {
         let number = self.taken.saturating_add(1);
         let answer = match self.kernel.admit(alloc, step) {
@@ -84,15 +75,7 @@ impl<L: Lines> Replay<L> {
         ensures full { IfErr result (StepEnds (next_count self.old.taken)
             (is_book_full (fault_of self.old.book step.core step.thread))) }
         ensures legal { IsLegal self.new.book }
-        ensures taken_once { EachRecord EndsOpen self.new.book }
-        ensures whole { EachLine IsWholeLine self.new.book }
-        ensures by_priority { EachRecord TakesFirst self.new.book }
-        ensures in_order { EachRecord TakesInOrder self.new.book }
-        ensures not_deleted { EachRecord TakesAlive self.new.book }
-        ensures not_cancelled { AfterEachLine SendersAreOpen self.new.book }
-        ensures answered_once { EachRecord AnswersOwed self.new.book }
-        ensures answered_whole { EachLine AnswersWhole self.new.book }
-        ensures none_beside { AfterEachLine NoneWaitBeside self.new.book }
+        ensures fair { IsFair self.new.book }
     {
         self.advance(alloc, &step)
     }

@@ -199,7 +199,8 @@ impl Line {
     #[inline(always)]
     fn numbers(&mut self, numbers: &[u64])
         requires { HasRoom self.old ((1 + NUMBER) * length numbers.now) }
-        ensures { Adds self.old self.new ((1 + NUMBER) * length numbers.now) (flat_map (λ n. then_text (decimal n)) numbers.now) }
+        ensures { Adds self.old self.new ((1 + NUMBER) * length numbers.now)
+            (flat_map (λ n. then_text (decimal n)) numbers.now) }
     {
         for number in numbers {
             self.spaced(*number);

@@ -290,7 +290,7 @@ fn write_message(line: &mut Line, sent: u128, packed: &Packed, words: &[u64], wi
     }
 }
 
-/// The line of a record that stands as it is, before which so many messages were sent.
+/// The line of a record that stands as it is, before which so many messages were sent: a table, with an arm for each record.
 fn write_record(line: &mut Line, sent: u128, fact: &Rec)
     requires { HasRoom line.old LINE }
     ensures { line.new ≡ line.old ++ record_text sent fact.now }
