@@ -1,8 +1,11 @@
 -- How a book is kept: the records of all lines side by side, and where each line ends, over what was packed.
 use Rattle.std.specs.Prelude.{ℕ, zero, suc, ◌≡◌, ◌≤◌, ◌-◌, List, [], ◌∷◌, take, drop}
 use Rattle.mcs_types.specs.declared.record.Rec.{Rec}
+use Rattle.mcs_types.specs.declared.entry.Step.{Step}
 use Rattle.mcs_packing.specs.declared.arena.Arena.{Arena}
+use Rattle.mcs_packing.specs.declared.entries.PackedEntry.{PackedEntry}
 use Rattle.mcs_packing.specs.declared.heads.Head.{Head}
+use Rattle.mcs_packing.specs.declared.heads.PackedAnswer.{PackedAnswer}
 use Rattle.mcs_packing.specs.declared.packed.Packed.{Packed}
 use Rattle.mcs_packing.specs.Packing.{records_of}
 use Rattle.mcs_packing.specs.Heads.{Entered, all_entered}
@@ -46,3 +49,7 @@ abbrev pub start_at : ℕ → List Entered → ℕ → ℕ
 start_at start hs zero = start
 start_at start [] (suc i) = start
 start_at start (h ∷ hs) (suc i) = start_at h.end hs i
+
+-- the head of a line: who entered on which core, the entry and the answer as they were packed, and where its records end
+abbrev pub line_head : Step → PackedEntry → PackedAnswer → ℕ → Head
+line_head s entry answer end = record { entry = entry; end = end; answer = answer; serial = s.thread.serial; kind = s.thread.kind; core = s.core }

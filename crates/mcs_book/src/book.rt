@@ -3,9 +3,11 @@ ghost use Rattle.std.specs.Prelude.{◌≡◌, ◌<◌, ◌≤◌, ◌∷◌, �
 ghost use Rattle.mcs_packing.specs.Packing.{AllFit, Grew, HasRoom, records_of};
 ghost use Rattle.mcs_packing.specs.Heads.{AllHeadsFit, all_entered};
 ghost use Rattle.mcs_book.specs.History.{with_boot_line, with_line, line_of_number};
-ghost use Rattle.mcs_book.specs.Pages.{EndsWithin, facts, lines_of, start_at};
+ghost use Rattle.mcs_book.specs.Pages.{EndsWithin, facts, line_head, lines_of, start_at};
 
-use mcs_packing::{Arena, Head, KeptAnswer, KeptRecord, KeptStep, Packed};
+use mcs_packing::{
+    Arena, Head, KeptAnswer, KeptRecord, KeptStep, Packed, PackedAnswer, PackedEntry,
+};
 use mcs_types::{Answer, BootLine, ObjId, OutOfMemory, Rec, Step};
 use std::alloc::Global;
 use std::marker::Model;
@@ -271,6 +273,28 @@ fn push_packed(
     packed.push_reserved(one);
 }
 
+/// The first packed records alone are left.
+fn keep_first(packed: &mut Vec<Packed>, count: usize)
+    ensures items { packed.new.items ≡ take count packed.old.items }
+    ensures capacity { vec_capacity packed.new ≡ vec_capacity packed.old }
+{
+    packed.truncate(count);
+}
+
+/// The head of a line whose records end at a position.
+fn line_head(step: &Step, entry: PackedEntry, answer: PackedAnswer, end: usize) -> Head
+    ensures { result ≡ line_head step.now entry answer end }
+{
+    Head {
+        entry,
+        end,
+        answer,
+        serial: step.thread.serial,
+        kind: step.thread.kind,
+        core: step.core,
+    }
+}
+
 /// The most words that one record keeps, but for long messages.
 const MOST_WORDS: usize = 6;
 
@@ -332,7 +356,7 @@ impl Book {
         ensures boot_room { self.new.boot_room ≡ self.old.boot_room }
         ensures room { self.new.room ≡ self.old.room }
     {
-        self.packed.truncate(self.start);
+        keep_first(&mut self.packed, self.start);
         self.first = self.arena.words.len();
         self.place = 0;
     }
@@ -468,15 +492,8 @@ impl Book {
         let entry = self.arena.pack_entry(&step.entry, first);
         let told = self.arena.pack_answer(answer, self.place);
         self.start = self.packed.len();
-        let head = Head {
-            entry,
-            end: self.start,
-            answer: told,
-            serial: step.thread.serial,
-            kind: step.thread.kind,
-            core: step.core,
-        };
-        self.heads.push_reserved(head);
+        self.heads
+            .push_reserved(line_head(step, entry, told, self.start));
         self.room = 0;
         self.first = self.arena.words.len();
         self.place = 0;

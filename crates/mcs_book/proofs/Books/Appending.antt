@@ -12,13 +12,9 @@ use Rattle.mcs_packing.specs.declared.arena.Arena.{Arena}
 use Rattle.mcs_packing.specs.Packing.{GrowsBy, HasMessageRoom, HasRoom, records_of}
 use Rattle.mcs_packing.specs.Entries.{EntryFits, entry_of}
 use Rattle.mcs_packing.specs.Heads.{Entered, AllHeadsFit, AnswerFits, HeadFits, answer_of, entered_of, all_entered}
-use Rattle.mcs_book.specs.Pages.{EndsRise, EndsWithin, cut}
+use Rattle.mcs_book.specs.Pages.{EndsRise, EndsWithin, cut, line_head}
 use Rattle.mcs_packing.proofs.HeadLaws.{EntryFits-grows, entry_of-grows, all_entered-grows, all_entered-push}
 use Rattle.mcs_book.proofs.Books.Cuts.{cut-beyond, cut-close}
-
--- the head of a step
-abbrev pub head_of : Step → PackedEntry → PackedAnswer → ℕ → Head
-head_of s e a end = record { entry = e; end = end; answer = a; serial = s.thread.serial; kind = s.thread.kind; core = s.core }
 
 -- the entry of a step
 abbrev pub entered_with : Step → Answer → ℕ → Entered
@@ -26,12 +22,12 @@ entered_with s told end = record { step = s; answer = told; end = end }
 
 -- a head stands for its step and its answer, also where the entry was packed before the answer
 pub entered_of-of : (s : Step) (told : Answer) (e : PackedEntry) (a : PackedAnswer) (end : ℕ) (ws vs : List ℕ) → GrowsBy ws vs
-    → entry_of e ws ≡ s.entry → EntryFits e ws → answer_of a vs ≡ told → entered_of (head_of s e a end) vs ≡ entered_with s told end
+    → entry_of e ws ≡ s.entry → EntryFits e ws → answer_of a vs ≡ told → entered_of (line_head s e a end) vs ≡ entered_with s told end
 entered_of-of s told e a end ws vs w entry fits answer =
     let e3 : entry_of e vs ≡ s.entry = ap (entry_of e) w.is ∙ entry_of-grows e ws w.more fits ∙ entry in
     ap (λ x. record { step = record { core = s.core; thread = s.thread; entry = x }; answer = answer_of a vs; end = end }) e3 ∙ ap (λ x. record { step = s; answer = x; end = end }) answer
 
-pub HeadFits-of : (s : Step) (e : PackedEntry) (a : PackedAnswer) (end : ℕ) (ws vs : List ℕ) → GrowsBy ws vs → EntryFits e ws → AnswerFits a vs → HeadFits (head_of s e a end) vs
+pub HeadFits-of : (s : Step) (e : PackedEntry) (a : PackedAnswer) (end : ℕ) (ws vs : List ℕ) → GrowsBy ws vs → EntryFits e ws → AnswerFits a vs → HeadFits (line_head s e a end) vs
 HeadFits-of s e a end ws vs w fits answer = record { entry = rw w.is (EntryFits-grows e ws w.more fits); answer = answer }
 
 -- the heads, with one more

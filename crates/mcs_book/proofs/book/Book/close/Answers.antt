@@ -2,11 +2,11 @@ use Rattle.std.proofs.Common.{◌≡◌, ◌<◌, ◌∷◌, ◌++◌, [], lengt
 use Rattle.std.proofs.lemmas.List.{drop_all, reverse-append, reverse-reverse}
 use Rattle.mcs_packing.specs.Packing.{records_of}
 use Rattle.mcs_packing.specs.Heads.{all_entered}
-use Rattle.mcs_book.specs.Pages.{Written, cut}
+use Rattle.mcs_book.specs.Pages.{Written, cut, line_head}
 use Rattle.mcs_packing.proofs.Packings.{AllFit-grows, GrowsBy-then, length-record_of, records_of-grows}
 use Rattle.mcs_packing.proofs.HeadLaws.{AllHeadsFit-grows, AllHeadsFit-push}
 use Rattle.mcs_book.proofs.Books.Cuts.{EndsRise-push}
-use Rattle.mcs_book.proofs.Books.Appending.{HasRoom-head, HeadFits-of, entered_with, head_of, heads-of, lines-closed, entered_of-of}
+use Rattle.mcs_book.proofs.Books.Appending.{HasRoom-head, HeadFits-of, entered_with, heads-of, lines-closed, entered_of-of}
 use Rattle.mcs_book.proofs.book.Book.close.Goals as goal
 
 pub pack_answer-told-requires : goal.pack_answer-told-requires
@@ -25,14 +25,14 @@ invariant_of-self c =
     let w13 = GrowsBy-then _ _ _ e.ensures.grew.words a.ensures.grew.words in
     let r13 = GrowsBy-then _ _ _ e.ensures.grew.wide a.ensures.grew.wide in
     let ws = a.new.self.words.items in
-    let h = head_of c.args.step.now e.result a.result c.len-self-inside.result in
+    let h = line_head c.args.step.now e.result a.result c.len-self-inside.result in
     let k = entered_with c.args.step.now c.args.answer.now c.len-self-inside.result in
     let is = entered_of-of c.args.step.now c.args.answer.now e.result a.result c.len-self-inside.result e.new.self.words.items ws a.ensures.grew.words e.ensures.value e.ensures.fits a.ensures.value in
     let heads = heads-of b.heads.items h k b.arena.words.items ws w13 i.0 is in
     let le : b.start ≤ c.len-self-inside.result = omega (arith, c.len-self-inside.ensures, i.3) in (
-      rw c.push_reserved.ensures.items (AllHeadsFit-push b.heads.items h ws (AllHeadsFit-grows b.heads.items b.arena.words.items ws w13 i.0) (HeadFits-of c.args.step.now e.result a.result c.len-self-inside.result e.new.self.words.items ws a.ensures.grew.words e.ensures.fits a.ensures.fits)),
+      rw (c.push_reserved.ensures.items, c.line_head.ensures) (AllHeadsFit-push b.heads.items h ws (AllHeadsFit-grows b.heads.items b.arena.words.items ws w13 i.0) (HeadFits-of c.args.step.now e.result a.result c.len-self-inside.result e.new.self.words.items ws a.ensures.grew.words e.ensures.fits a.ensures.fits)),
       AllFit-grows b.packed.items _ _ _ _ w13 r13 i.1,
-      rw (c.push_reserved.ensures.items, heads) (EndsRise-push 0 (all_entered b.heads.items b.arena.words.items) b.start k i.2 le),
+      rw (c.push_reserved.ensures.items, c.line_head.ensures, heads) (EndsRise-push 0 (all_entered b.heads.items b.arena.words.items) b.start k i.2 le),
       omega (arith, c.len-self-inside.ensures),
       λ z. absurd (omega arith),
       λ z. absurd (omega arith),
@@ -48,7 +48,7 @@ returns-clause-line c =
     let w13 = GrowsBy-then _ _ _ e.ensures.grew.words a.ensures.grew.words in
     let r13 = GrowsBy-then _ _ _ e.ensures.grew.wide a.ensures.grew.wide in
     let ws = a.new.self.words.items in
-    let h = head_of c.args.step.now e.result a.result c.len-self-inside.result in
+    let h = line_head c.args.step.now e.result a.result c.len-self-inside.result in
     let k = entered_with c.args.step.now c.args.answer.now c.len-self-inside.result in
     let is = entered_of-of c.args.step.now c.args.answer.now e.result a.result c.len-self-inside.result e.new.self.words.items ws a.ensures.grew.words e.ensures.value e.ensures.fits a.ensures.value in
     let heads = heads-of b.heads.items h k b.arena.words.items ws w13 i.0 is in
@@ -60,7 +60,7 @@ returns-clause-line c =
     let end : c.len-self-inside.result ≡ length was = omega (arith, c.len-self-inside.ensures, b.packed.ok.0, all) in
     let lines = lines-closed b.heads.items h k b.arena.words.items ws b.packed.items b.arena.wide.items rs b.start heads records within i.2 end in
     let turned = ap (λ l. cut 0 (all_entered b.heads.items b.arena.words.items) was ++ (record { step = c.args.step.now; answer = c.args.answer.now; records = l }) ∷ []) (sym (reverse-reverse (drop b.start was))) in
-    rw (c.push_reserved.ensures.items, lines ∙ turned, reverse-append)
+    rw (c.push_reserved.ensures.items, c.line_head.ensures, lines ∙ turned, reverse-append)
     (ap (λ (w : Written). record w.book { lines = (record { step = c.args.step.now; answer = c.args.answer.now; records = reverse w.hand }) ∷ w.book.lines }) c.self.view_is)
 
 pub returns-clause-hand : goal.returns-clause-hand

@@ -12,13 +12,13 @@ invariant_of-self c =
     let b = c.self.inside in
     let i = c.self.invariant in
     let within : b.start ≤ length b.packed.items = omega (arith, i.3, b.packed.ok.0) in
-    let long : length c.truncate.new.self.items ≡ b.start = ap length c.truncate.ensures.items ∙ length-take-le b.start b.packed.items within in (
+    let long : length c.keep_first.new.packed.items ≡ b.start = ap length c.keep_first.ensures.items ∙ length-take-le b.start b.packed.items within in (
       i.0,
-      rw c.truncate.ensures.items (AllFit-take b.start b.packed.items b.arena.words.items b.arena.wide.items i.1),
+      rw c.keep_first.ensures.items (AllFit-take b.start b.packed.items b.arena.words.items b.arena.wide.items i.1),
       i.2,
-      omega (arith, long, c.truncate.new.self.ok.0),
+      omega (arith, long, c.keep_first.new.packed.ok.0),
       i.4,
-      λ z. omega (arith, i.5 z, i.3, long, c.truncate.new.self.ok.0, c.truncate.ensures.capacity),
+      λ z. omega (arith, i.5 z, i.3, long, c.keep_first.new.packed.ok.0, c.keep_first.ensures.capacity),
       i.6,
     )
 
@@ -28,10 +28,10 @@ returns-clause-hand c =
     let ws = b.arena.words.items in
     let rs = b.arena.wide.items in
     let within : b.start ≤ length b.packed.items = omega (arith, c.self.invariant.3, b.packed.ok.0) in
-    let long : length c.truncate.new.self.items ≡ b.start = ap length c.truncate.ensures.items ∙ length-take-le b.start b.packed.items within in
-    let all = length-record_of c.truncate.new.self.items ws rs in
-    let short : length (records_of c.truncate.new.self.items ws rs) ≤ b.start = omega (arith, long, all) in
-    ap reverse (drop_all b.start (records_of c.truncate.new.self.items ws rs) short)
+    let long : length c.keep_first.new.packed.items ≡ b.start = ap length c.keep_first.ensures.items ∙ length-take-le b.start b.packed.items within in
+    let all = length-record_of c.keep_first.new.packed.items ws rs in
+    let short : length (records_of c.keep_first.new.packed.items ws rs) ≤ b.start = omega (arith, long, all) in
+    ap reverse (drop_all b.start (records_of c.keep_first.new.packed.items ws rs) short)
 
 pub returns-clause-book : goal.returns-clause-book
 returns-clause-book c =
@@ -41,5 +41,5 @@ returns-clause-book c =
     let hs = all_entered b.heads.items ws in
     let all = records_of b.packed.items ws rs in
     let within : b.start ≤ length all = omega (arith, c.self.invariant.3, b.packed.ok.0, length-record_of b.packed.items ws rs) in
-    let lines : cut 0 hs (records_of c.truncate.new.self.items ws rs) ≡ cut 0 hs all = ap (λ l. cut 0 hs (records_of l ws rs)) c.truncate.ensures.items ∙ ap (cut 0 hs) (sym (take-record_of b.start b.packed.items ws rs)) ∙ cut-first hs all b.start within c.self.invariant.2 in
+    let lines : cut 0 hs (records_of c.keep_first.new.packed.items ws rs) ≡ cut 0 hs all = ap (λ l. cut 0 hs (records_of l ws rs)) c.keep_first.ensures.items ∙ ap (cut 0 hs) (sym (take-record_of b.start b.packed.items ws rs)) ∙ cut-first hs all b.start within c.self.invariant.2 in
     rw lines (ap (λ (w : Written). w.book) c.self.view_is)
