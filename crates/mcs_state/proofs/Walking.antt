@@ -11,8 +11,7 @@ use Rattle.mcs_types.specs.Chains.{head_of}
 use Rattle.mcs_types.proofs.Ids.{same-self, same-equal}
 use Rattle.mcs_book.specs.Logs.{Log, counted}
 use Rattle.mcs_book.specs.Objects.{made_of, makes_kind}
-use Rattle.mcs_book.specs.Threads.{threads}
-use Rattle.mcs_book.specs.Queues.{queue_of, is_ahead, queued_in, first_in}
+use Rattle.mcs_book.specs.Queues.{is_ahead, queued_in, first_in}
 use Rattle.mcs_book.specs.Sound.{Sound}
 use Rattle.mcs_book.proofs.Queues.Sorted.{In, Sorted, ahead-in}
 use Rattle.mcs_book.proofs.Queues.QueueLaws.{line-sorted, queued_in-growing, ahead-irreflexive}

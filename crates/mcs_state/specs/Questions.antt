@@ -1,5 +1,5 @@
 -- What is asked of what may not be there.
-use Rattle.std.specs.Prelude.{ℕ, cond, Option, Some, None, List, Result}
+use Rattle.std.specs.Prelude.{ℕ, cond, Option, Some, None, Result}
 use Rattle.mcs_types.specs.declared.id.ObjId.{ObjId}
 use Rattle.mcs_types.specs.declared.id.Kind.TheVariants as kind
 use Rattle.mcs_types.specs.declared.id.Prio.{Prio}

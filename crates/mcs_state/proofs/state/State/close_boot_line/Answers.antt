@@ -1,4 +1,4 @@
-use Rattle.std.proofs.Common.{◌≡◌, ◌≤◌, ◌*◌, ◌+◌, ◌++◌, List, [], length, reverse, sym, ◌∙◌, subst, ap, arith}
+use Rattle.std.proofs.Common.{◌≡◌, ◌≤◌, ◌*◌, ◌+◌, ◌++◌, List, [], length, sym, ◌∙◌, subst, ap, arith}
 use Rattle.mcs_book.specs.Logs.{Log, counted, onto}
 use Rattle.mcs_book.specs.Messages.{is_sent}
 use Rattle.mcs_book.specs.History.{Book, Line, log_of}

@@ -1,4 +1,4 @@
-use Rattle.std.proofs.Common.{◌++◌, reverse, ◌∙◌}
+use Rattle.std.proofs.Common.{◌++◌, ◌∙◌}
 use Rattle.mcs_types.specs.declared.id.Kind.TheVariants as kind
 use Rattle.mcs_book.specs.History.{log_of}
 use Rattle.mcs_book.specs.Logs.{Log}

@@ -1,4 +1,4 @@
-use Rattle.std.proofs.Common.{◌++◌, reverse, refl, arith, ◌∙◌}
+use Rattle.std.proofs.Common.{◌++◌, refl, arith, ◌∙◌}
 use Rattle.mcs_types.specs.declared.id.Kind.TheVariants as kind
 use Rattle.mcs_types.specs.declared.record.Rec.TheVariants as rec
 use Rattle.mcs_book.specs.History.{log_of}

@@ -1,4 +1,3 @@
-use Rattle.std.proofs.Common.{reverse}
 use Rattle.mcs_book.specs.Messages.{is_sent}
 use Rattle.mcs_state.proofs.Answering.{counted-le, thread-place}
 use Rattle.mcs_state.proofs.ThreadLaws.{thread-there}
