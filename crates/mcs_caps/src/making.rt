@@ -12,12 +12,10 @@ ghost use Rattle.mcs_state.specs.Tables.{HAND};
 ghost use Rattle.mcs_caps.specs.NewObjects.{HasSerials, entry_making, new_form, new_cap, vacant, makes_at, makes};
 ghost use Rattle.mcs_caps.specs.Placed.{IsSlot};
 
-use mcs_object_queues::Waiting;
 use mcs_slots::SlotId;
 use mcs_state::{State, wake};
-use mcs_types::{
-    ALL_RIGHTS, Answer, Badge, Cap, CoreId, Guard, Kind, ObjId, Place, Refusal, Rights,
-};
+use mcs_types::{ALL_RIGHTS, Answer, Badge, Cap, CoreId, Guard, Kind, ObjId, Place, Refusal, Rights};
+use mcs_object_queues::Waiting;
 
 /// The capability that comes with an object: one with all rights where its kind carries rights.
 fn new_cap(object: ObjId) -> Cap
