@@ -42,7 +42,7 @@ use Rattle.mcs_book.specs.Receiving.{reply_at}
 use Rattle.mcs_book.specs.Placing.{source_and_dest, fills, is_last_cnode, has_badge, senders_with}
 use Rattle.mcs_book.specs.Table.{row, wakes, outcome_of, does}
 use Rattle.mcs_types.specs.Ranges.{InRange}
-use Rattle.mcs_book.specs.Sound.{IsThere, IsIdle}
+use Rattle.mcs_book.specs.Sound.{IsThere, IsIdle, IsUnbound, IsEmptyLine}
 use Rattle.mcs_types.proofs.Ids.{parts}
 use Rattle.mcs_book.proofs.Queues.Sorted.{filter-in}
 use Rattle.mcs_book.proofs.Objects.MadeLaws.{alive-made}
@@ -79,16 +79,14 @@ module _ (t : ObjId) (S : Log) (firm : Firm S) where
   with-kind : (kd : Kind) (a : ℕ) (f : Cap → Checked Act) → ((cap : Cap) → IsHeldOf S kd cap → OnPassed Keeps (f cap)) → OnPassed Keeps (of_kind S t kd a >>= f)
   with-kind kd a f k = passed-after (IsHeldOf S kd) Keeps (of_kind S t kd a) f (of_kind-held S t kd a firm) k
 
-  -- a thread is bound to a notification
-  firm-ties : (x n : ObjId) → IsThere S kind.Thread x → IsThere S kind.Notification n → (is_none (bound_of S x) && is_none (tied_to S n) && is_none (first_in S (Waiters n))) ≡ true → (W : Log) → Woken S W → Acting t W → Firm (rec.Tied x (Some n) ∷ W)
-  firm-ties x n there ntfn ok W w h =
+  -- a thread and a notification that are there and free are so after the entering thread woke
+  still-free : (x n : ObjId) → IsThere S kind.Thread x → IsThere S kind.Notification n → (is_none (bound_of S x) && is_none (tied_to S n) && is_none (first_in S (Waiters n))) ≡ true → (W : Log) → Woken S W
+      → (IsThere W kind.Thread x × IsThere W kind.Notification n × (bound_of W x ≡ None) × IsUnbound W n) × IsEmptyLine W (Waiters n)
+  still-free x n there ntfn ok W w =
       let (rest, nobody) = parts _ _ ok in
       let (free, untied) = parts _ _ rest in (
-        (
-          (woken-there t S firm W kind.Thread x w there, woken-there t S firm W kind.Notification n w ntfn, w.since.bound x ∙ none-is _ free, λ u b. tied-none S n (firm-sound S firm) (none-is _ untied) u (sym (w.since.bound u) ∙ b)),
-          λ y at. first-none S (Waiters n) (λ y q stands. let s : IsThere S kind.Thread y = standing-thread S y q (firm-sound S firm) stands in (s.0, alive-made S y s.1)) (none-is _ nobody) y (sym (w.stands y) ∙ at),
-        ),
-        h.firm,
+        (woken-there t S firm W kind.Thread x w there, woken-there t S firm W kind.Notification n w ntfn, w.since.bound x ∙ none-is _ free, λ u b. tied-none S n (firm-sound S firm) (none-is _ untied) u (sym (w.since.bound u) ∙ b)),
+        λ y at. first-none S (Waiters n) (λ y q stands. let s : IsThere S kind.Thread y = standing-thread S y q (firm-sound S firm) stands in (s.0, alive-made S y s.1)) (none-is _ nobody) y (sym (w.stands y) ∙ at),
       )
 
   -- a context is given to a thread
@@ -145,7 +143,7 @@ module _ (t : ObjId) (S : Log) (firm : Firm S) where
   firm-row core (SetPriority x authority p) range small = with-kind kind.Thread x _ (λ thread held. passed-bind _ _ _ (λ giver. passed-next _ _ _ (passed-ok Keeps _ (λ W w h. (((woken-there t S firm W kind.Thread thread.obj w held.there, range.2), tt), h.firm)))))
   firm-row core (Resume x) range small = with-kind kind.Thread x _ (λ thread held. passed-ok Keeps _ (λ W w h.
       firm-if (is_ready (status_of S thread.obj)) nothing (cancel thread.obj Restart) W h.firm ((cancelled thread.obj Restart W (woken-there t S firm W kind.Thread thread.obj w held.there) h.firm).firm)))
-  firm-row core (BindNtfn x n) range small = with-kind kind.Thread x _ (λ thread held. with-kind kind.Notification n _ (λ cap ntfn. passed-next _ _ _ (passed-need Keeps _ _ _ (λ ok. passed-ok Keeps _ (firm-ties thread.obj cap.obj held.there ntfn.there ok)))))
+  firm-row core (BindNtfn x n) range small = with-kind kind.Thread x _ (λ thread held. with-kind kind.Notification n _ (λ cap ntfn. passed-next _ _ _ (passed-need Keeps _ _ _ (λ ok. passed-ok Keeps _ (λ W w h. (still-free thread.obj cap.obj held.there ntfn.there ok W w, h.firm))))))
   firm-row core (UnbindNtfn x) range small = with-kind kind.Thread x _ (λ thread held. passed-need Keeps _ _ _ (λ ok. passed-ok Keeps _ (λ W w h. ((ap (λ o. is_some o) (w.since.bound thread.obj) ∙ ok, tt), h.firm))))
   firm-row core (BindCtx s x) range small = with-kind kind.Context s _ (λ context held. with-cap x _ (λ target held'. firm-bind_by target.obj.kind context.obj target.obj held.there refl held'.alive))
   firm-row core (UnbindCtx s) range small = with-kind kind.Context s _ (λ context held. passed-need Keeps _ _ _ (λ ok. passed-ok Keeps _ (λ W w h. firm-unbind context.obj W h.firm)))
