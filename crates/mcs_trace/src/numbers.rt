@@ -9,6 +9,7 @@ use crate::rooms::{COUNT, MESSAGE, NUMBER};
 use itoa::Buffer;
 use mcs_types::MESSAGE_WORDS;
 
+// Digits have several writers: with `itoa` in their place a script takes 11 to 18 in a hundred instructions more.
 /// The two digits of each number below 100.
 static PAIRS: [u8; 200] =
     *b"00010203040506070809101112131415161718192021222324252627282930313233343536373839404142434445464748495051525354555657585960616263646566676869707172737475767778798081828384858687888990919293949596979899";
