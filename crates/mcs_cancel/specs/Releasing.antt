@@ -1,12 +1,12 @@
 -- What an object is that ends; and what its end takes from others, in the parts in which the code does it.
 use Rattle.std.specs.Prelude.{ℕ, ◌≡◌, ◌≢◌, false, None}
 use Rattle.mcs_types.specs.declared.id.ObjId.{ObjId}
-use Rattle.mcs_types.specs.declared.record.Rec.TheVariants.{Tied, Holds, Homed}
+use Rattle.mcs_types.specs.declared.record.Rec.TheVariants.{Holds, Homed}
 use Rattle.mcs_types.specs.declared.id.Kind.{Kind}
 use Rattle.mcs_types.specs.declared.id.Kind.TheVariants.{CNode}
 use Rattle.mcs_types.specs.declared.record.Mode.TheVariants.{Inactive}
 use Rattle.mcs_book.specs.Logs.{Log}
-use Rattle.mcs_book.specs.Cancelling.{cancel, untie, let_go, unhome, release}
+use Rattle.mcs_book.specs.Cancelling.{cancel, untie, untie_from, let_go, unhome, release}
 use Rattle.mcs_book.specs.Contexts.{context_of, holder_of, home_of, homed_at}
 use Rattle.mcs_book.specs.Notifications.{bound_of, tied_to}
 use Rattle.mcs_book.specs.Replies.{receiver_with}
@@ -27,7 +27,7 @@ releases o k R = release R o k R
 
 -- t is bound to no notification any more
 abbrev pub unties : ObjId → Piece
-unties t R = with_any (bound_of R t) (λ n. say (Tied t None)) R
+unties t R = untie_from (bound_of R t) t R
 
 -- t holds no context any more
 abbrev pub lets_go : ObjId → Piece

@@ -1,6 +1,5 @@
 use Rattle.std.proofs.Common.{refl, ap, sym, ◌∙◌, subst}
 use Rattle.mcs_types.specs.declared.entry.Answer.TheVariants.{Done}
-use Rattle.mcs_types.specs.declared.entry.Entry.TheVariants.{Signal}
 use Rattle.mcs_types.specs.declared.id.Kind.TheVariants as kind
 use Rattle.mcs_book.specs.Pieces.{Outcome}
 use Rattle.mcs_book.specs.Sound.{IsThere}
@@ -19,7 +18,7 @@ use Rattle.mcs_notify.proofs.signalling.signal_at.Goals as goal
 pub wake-requires-clause-room : goal.wake-requires-clause-room
 wake-requires-clause-room g c =
     let row = row-signal (so_far c.args.state.now) c.args.core c.args.thread c.args.address ∙ ap (λ m. act_of m signal_act) (sym c.cap_to_signal.ensures ∙ c.in-Ok.is) in
-    room-wakes c.args.state.now c.args.core c.args.thread (Signal c.args.address) (signal_act c.in-Ok.cap) row c.requires.room
+    room-wakes c.args.state.now c.args.core c.args.thread _ (signal_act c.in-Ok.cap) row c.requires.room
 
 pub signal-requires-clause-there : goal.signal-requires-clause-there
 signal-requires-clause-there g c =
@@ -38,15 +37,15 @@ pub signal-requires-clause-room : goal.signal-requires-clause-room
 signal-requires-clause-room g c =
     let row = row-signal (so_far c.args.state.now) c.args.core c.args.thread c.args.address ∙ ap (λ m. act_of m signal_act) (sym c.cap_to_signal.ensures ∙ c.in-Ok.is) in
     subst (λ (o : Outcome). Holds o.records c.wake.new.state) (signals (so_far c.wake.new.state) c.in-Ok.cap)
-    (room-acts c.args.state.now c.wake.new.state c.args.core c.args.thread (Signal c.args.address) (signal_act c.in-Ok.cap) row c.wake.ensures c.requires.room)
+    (room-acts c.args.state.now c.wake.new.state c.args.core c.args.thread _ (signal_act c.in-Ok.cap) row c.wake.ensures c.requires.room)
 
 pub returns-in-Err : goal.returns-in-Err
 returns-in-Err g c =
     let row = row-signal (so_far c.args.state.now) c.args.core c.args.thread c.args.address ∙ ap (λ m. act_of m signal_act) (sym c.cap_to_signal.ensures ∙ c.in-Err.is) in
-    refused c.args.state.now c.args.core c.args.thread (Signal c.args.address) c.in-Err.refusal row
+    refused c.args.state.now c.args.core c.args.thread _ c.in-Err.refusal row
 
 pub returns-in-Ok : goal.returns-in-Ok
 returns-in-Ok g c =
     let row = row-signal (so_far c.args.state.now) c.args.core c.args.thread c.args.address ∙ ap (λ m. act_of m signal_act) (sym c.cap_to_signal.ensures ∙ c.in-Ok.is) in
     let made = subst (λ (o : Outcome). Gives o c.wake.new.state Done c.signal.new.state) (sym (signals (so_far c.wake.new.state) c.in-Ok.cap)) (record { records = c.signal.ensures; answer = refl }) in
-    acted c.args.state.now c.wake.new.state c.signal.new.state c.args.core c.args.thread (Signal c.args.address) (signal_act c.in-Ok.cap) Done row c.wake.ensures made
+    acted c.args.state.now c.wake.new.state c.signal.new.state c.args.core c.args.thread _ (signal_act c.in-Ok.cap) Done row c.wake.ensures made
