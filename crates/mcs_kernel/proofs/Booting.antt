@@ -29,7 +29,7 @@ use Rattle.mcs_book.proofs.Objects.MadeLaws.{made-serial}
 use Rattle.mcs_state.specs.Now.{Now, so_far}
 use Rattle.mcs_types.specs.declared.record.Mode.{Mode}
 use Rattle.mcs_types.specs.declared.id.Prio.{Prio}
-use Rattle.mcs_book.specs.Sound.{Sound, Allowed, IsThere, HoldsNone}
+use Rattle.mcs_book.specs.Sound.{Sound, Allowed, IsThere, IsUnbound, HoldsNone}
 use Rattle.mcs_types.proofs.Ids.{both, parts, same-self, same_kind-equal}
 use Rattle.mcs_book.proofs.Firm.Laws.{tied-none, none-is}
 use Rattle.mcs_book.proofs.Queues.Sorted.{In}
@@ -265,8 +265,9 @@ faultless-at cores lines inside i d e h lt =
     sym (reverse-reverse lines) ∙ ap (λ xs. reverse xs) (sym e ∙ whole) ∙ reverse-append (take i inside ++ x ∷ []) (drop (i + 1) inside) ∙ ap (λ xs. reverse (drop (i + 1) inside) ++ xs) (reverse-append (take i inside) (x ∷ [])) in
     (faultless-older cores (reverse (drop (i + 1) inside)) (x ∷ reverse (take i inside)) (subst (λ xs. AreFaultless cores xs) back h)).0
 
--- what a line binds may be bound
-pub tie-allowed : (R : Log) (t n : ObjId) → Sound R → IsBooting R → has_objects R (boot.Tie t n) ≡ true → is_free R (boot.Tie t n) ≡ true → Allowed R (rec.Tied t (Some n))
+-- what a line binds is there, and nothing is bound to it: so it may be bound
+pub tie-allowed : (R : Log) (t n : ObjId) → Sound R → IsBooting R → has_objects R (boot.Tie t n) ≡ true → is_free R (boot.Tie t n) ≡ true
+    → IsThere R kind.Thread t × IsThere R kind.Notification n × (bound_of R t ≡ None) × IsUnbound R n
 tie-allowed R t n sound boots objects free =
     let (thread, notification) = parts (is_object R kind.Thread t) (is_object R kind.Notification n) objects in
     let (unbound, untied) = parts (is_none (bound_of R t)) (is_none (tied_to R n)) free in
