@@ -5,7 +5,7 @@ use Rattle.std.proofs.lemmas.List.{length-replicate}
 use Rattle.mcs_types.specs.Waiters.{Waiter, lower, NoneAbove, NeverRises}
 use Rattle.mcs_queues.specs.declared.lines.ThreadNo.{ThreadNo}
 use Rattle.mcs_queues.specs.declared.slots.ThreadSlot.{ThreadSlot}
-use Rattle.mcs_queues.specs.declared.fingers.Row.{Row}
+use Rattle.mcs_queues.specs.declared.fingers.LineFingers.{LineFingers}
 use Rattle.mcs_queues.specs.declared.fingers.TheConstants.{BAND, BANDS}
 use Rattle.mcs_queues.specs.Numbers.{line_number}
 use Rattle.mcs_queues.specs.Links.{Links, blank_ends, slot_at, spelled, stands_at}
@@ -15,13 +15,13 @@ use Rattle.mcs_queues.proofs.LinkLaws.{Relinked}
 use Rattle.mcs_queues.proofs.LinkSteps.{get-replicate, place}
 use Rattle.mcs_queues.proofs.WalkLaws.{visited}
 
-no-finger : (rows : List Row) (n : ℕ) → rows ≡ replicate n no_fingers → (q b : ℕ) → finger rows q b ≡ None
+no-finger : (rows : List LineFingers) (n : ℕ) → rows ≡ replicate n no_fingers → (q b : ℕ) → finger rows q b ≡ None
 no-finger rows n h q b =
-    let e : get_or rows q no_fingers ≡ no_fingers = ap (λ (zs : List Row). get_or zs q no_fingers) h ∙ get-replicate no_fingers n q in
-    ap (λ (r : Row). get_or r.threads b None) e ∙ get-replicate None BANDS b
+    let e : get_or rows q no_fingers ≡ no_fingers = ap (λ (zs : List LineFingers). get_or zs q no_fingers) h ∙ get-replicate no_fingers n q in
+    ap (λ (r : LineFingers). get_or r.threads b None) e ∙ get-replicate None BANDS b
 
 -- lines without fingers
-pub pointed-none : (rows : List Row) (l : Links) (n : ℕ) → rows ≡ replicate n no_fingers → l.lines ≡ replicate n blank_ends → Pointed rows l
+pub pointed-none : (rows : List LineFingers) (l : Links) (n : ℕ) → rows ≡ replicate n no_fingers → l.lines ≡ replicate n blank_ends → Pointed rows l
 pointed-none rows l n h e = record {
   lines = ap length h ∙ length-replicate n no_fingers ∙ sym (ap length e ∙ length-replicate n blank_ends);
   stands = λ q b t f. let none = no-finger rows n h q b in absurd (cc);
@@ -49,7 +49,7 @@ all-lower p v vs h lt =
     grind (arith, common_steps, r, lt)
 
 -- a walk may begin before a finger of a lower band
-pub finger-walks : (rows : List Row) (l : Links) (q p : ℕ) (t : ThreadNo) → Linked l (spelled l) → Pointed rows l → IsLower rows q p t → Walked (spelled l q) p (slot_at l t.0).previous (Some t) 1
+pub finger-walks : (rows : List LineFingers) (l : Links) (q p : ℕ) (t : ThreadNo) → Linked l (spelled l) → Pointed rows l → IsLower rows q p t → Walked (spelled l q) p (slot_at l t.0).previous (Some t) 1
 finger-walks rows l q p t h f i =
     let is = f.stands q i.0 t i.2 in
     let s = place l t q h is in
@@ -66,7 +66,7 @@ finger-walks rows l q p t h f i =
       lower_are = all-lower p s.own s.back (rises-behind s.front (s.own ∷ s.back) (subst P s.is (h q).rises)) lt;
     }
 
-pub finger-in_room : (rows : List Row) (l : Links) (q p : ℕ) (t : ThreadNo) → Linked l (spelled l) → Pointed rows l → IsLower rows q p t → t.0 < length l.threads
+pub finger-in_room : (rows : List LineFingers) (l : Links) (q p : ℕ) (t : ThreadNo) → Linked l (spelled l) → Pointed rows l → IsLower rows q p t → t.0 < length l.threads
 finger-in_room rows l q p t h f i = (place l t q h (f.stands q i.0 t i.2)).within
 
 -- a thread stands in a line with a priority of a band
@@ -85,7 +85,7 @@ in-own q t before after x y s l m r e = (
   ap (λ (z : ThreadSlot). z.priority.0 / BAND) r.here,
 )
 
-enter-finger : (old new : List Row) (q : ℕ) (t : ThreadNo) (before after x y : Option ThreadNo) (s : ThreadSlot) (l m : Links) → Pointed old l → Relinked q t.0 before after x y s l m → stands_at l t.0 ≡ None → line_number s.line ≡ Some q → Points old new q (s.priority.0 / BAND) (Some t)
+enter-finger : (old new : List LineFingers) (q : ℕ) (t : ThreadNo) (before after x y : Option ThreadNo) (s : ThreadSlot) (l m : Links) → Pointed old l → Relinked q t.0 before after x y s l m → stands_at l t.0 ≡ None → line_number s.line ≡ Some q → Points old new q (s.priority.0 / BAND) (Some t)
     → (k c : ℕ) (u : ThreadNo) → finger new k c ≡ Some u → (e : Bool) → (nat_eq k q && nat_eq c (s.priority.0 / BAND)) ≡ e → IsIn m k c u.0
 enter-finger old new q t before after x y s l m f r out own points k c u h true e =
     let is = points k c in
@@ -104,7 +104,7 @@ enter-finger old new q t before after x y s l m f r out own points k c u h false
     in-other q t.0 before after x y s l m r k c u.0 ne (st, f.bands k c u was)
 
 -- after a thread has entered a line, whose finger it is now
-pub pointed-enter : (old new : List Row) (q : ℕ) (t : ThreadNo) (before after x y : Option ThreadNo) (s : ThreadSlot) (l m : Links) → Pointed old l → Relinked q t.0 before after x y s l m → stands_at l t.0 ≡ None → line_number s.line ≡ Some q → Points old new q (s.priority.0 / BAND) (Some t) → length new ≡ length old → Pointed new m
+pub pointed-enter : (old new : List LineFingers) (q : ℕ) (t : ThreadNo) (before after x y : Option ThreadNo) (s : ThreadSlot) (l m : Links) → Pointed old l → Relinked q t.0 before after x y s l m → stands_at l t.0 ≡ None → line_number s.line ≡ Some q → Points old new q (s.priority.0 / BAND) (Some t) → length new ≡ length old → Pointed new m
 pointed-enter old new q t before after x y s l m f r out own points n =
     let each : (k c : ℕ) (u : ThreadNo) → finger new k c ≡ Some u → IsIn m k c u.0 = λ k c u h. enter-finger old new q t before after x y s l m f r out own points k c u h (nat_eq k q && nat_eq c (s.priority.0 / BAND)) refl in
     record {
@@ -114,7 +114,7 @@ pointed-enter old new q t before after x y s l m f r out own points n =
     }
 
 -- after a thread has left its line, which has no finger at it any more
-pub pointed-leave : (old new : List Row) (q : ℕ) (t : ThreadNo) (before after x y : Option ThreadNo) (s : ThreadSlot) (l m : Links) → Pointed old l → Relinked q t.0 before after x y s l m → stands_at l t.0 ≡ Some q → IsReleased old new q ((slot_at l t.0).priority.0 / BAND) t → length new ≡ length old → Pointed new m
+pub pointed-leave : (old new : List LineFingers) (q : ℕ) (t : ThreadNo) (before after x y : Option ThreadNo) (s : ThreadSlot) (l m : Links) → Pointed old l → Relinked q t.0 before after x y s l m → stands_at l t.0 ≡ Some q → IsReleased old new q ((slot_at l t.0).priority.0 / BAND) t → length new ≡ length old → Pointed new m
 pointed-leave old new q t before after x y s l m f r was left n =
     let each : (k c : ℕ) (u : ThreadNo) → finger new k c ≡ Some u → IsIn m k c u.0 = λ k c u h.
     let o = left.same k c u h in

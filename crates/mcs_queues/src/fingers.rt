@@ -15,7 +15,7 @@ const BANDS: usize = 64;
 
 /// The fingers of a line, and a bit for each band that has one.
 #[derive(Clone, Copy)]
-pub struct Row {
+pub struct LineFingers {
     known: u64,
     threads: [Option<ThreadNo>; BANDS],
 }
@@ -24,14 +24,14 @@ pub struct Row {
 /// long as it stands there (own).
 #[derive(Drop)]
 pub struct Fingers {
-    rows: Vec<Row>,
+    rows: Vec<LineFingers>,
 }
 
 impl Model for Fingers {
     ghost use Rattle.std.specs.Prelude.{List};
-    ghost use Rattle.mcs_queues.specs.declared.fingers.Row.{Row};
+    ghost use Rattle.mcs_queues.specs.declared.fingers.LineFingers.{LineFingers};
 
-    ghost Value = { List Row };
+    ghost Value = { List LineFingers };
 
     ghost view = { λ f. f.rows.items };
 }
@@ -50,7 +50,7 @@ impl Fingers {
     pub fn new(alloc: Global, lines: u16) -> Result<Fingers, OutOfMemory>
         ensures { IfOk result (λ f. f ≡ replicate lines no_fingers) }
     {
-        let row = Row {
+        let row = LineFingers {
             known: 0,
             threads: [None; BANDS],
         };

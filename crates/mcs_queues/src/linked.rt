@@ -9,7 +9,7 @@ ghost use Rattle.mcs_queues.specs.Fingers.{Pointed, AtMostOneGoes};
 
 use crate::fingers::Fingers;
 use crate::lines::{LineNo, Lines, ThreadNo};
-use crate::slots::{Slots, Steps, ThreadSlot};
+use crate::slots::{LinkSlots, Steps, ThreadSlot};
 use mcs_types::{OutOfMemory, Prio};
 use std::alloc::Global;
 use std::marker::{Brand, Model};
@@ -20,7 +20,7 @@ use std::sync::ledger::{Blank, Ledger};
 /// from a finger of the nearest lower band that has one, or from the line's end (own). `new` takes all slots and fingers.
 #[derive(Drop)]
 pub struct LinkedLines {
-    slots: Slots,
+    slots: LinkSlots,
     fingers: Fingers,
 }
 
@@ -40,7 +40,7 @@ impl Model for LinkedLines {
 /// Where a walk to a priority begins: ahead of a finger of a lower band, or at the line's end. It answers the thread that is to be
 /// visited next, and the one behind it.
 fn begin<G: Ledger>(
-    slots: &Slots,
+    slots: &LinkSlots,
     fingers: &Fingers,
     q: LineNo,
     p: Prio,
@@ -60,7 +60,7 @@ fn begin<G: Ledger>(
 
 /// Between which threads of a line a priority belongs, by a walk from a finger or from the line's end.
 fn seek<G: Ledger>(
-    slots: &Slots,
+    slots: &LinkSlots,
     fingers: &Fingers,
     q: LineNo,
     p: Prio,
@@ -86,7 +86,7 @@ fn seek<G: Ledger>(
 
 /// Writes a thread's slot, and the links to it: what is next to the thread `around.0`, and previous to `around.1`.
 fn relink(
-    slots: &mut Slots,
+    slots: &mut LinkSlots,
     q: LineNo,
     t: ThreadNo,
     around: (Option<ThreadNo>, Option<ThreadNo>),
@@ -102,7 +102,7 @@ fn relink(
 }
 
 /// Takes a thread out of its line, which is answered.
-fn leave(slots: &mut Slots, fingers: &mut Fingers, t: ThreadNo) -> Option<LineNo>
+fn leave(slots: &mut LinkSlots, fingers: &mut Fingers, t: ThreadNo) -> Option<LineNo>
     requires linked { Linked slots.old (spelled slots.old) }
     requires pointed { Pointed fingers.old slots.old }
     ensures answer { line_number result ≡ stands_at slots.old t.0 }
@@ -142,7 +142,7 @@ fn leave(slots: &mut Slots, fingers: &mut Fingers, t: ThreadNo) -> Option<LineNo
 
 /// Puts a thread that stands in no line behind all of its priority.
 fn enter<G: Ledger>(
-    slots: &mut Slots,
+    slots: &mut LinkSlots,
     fingers: &mut Fingers,
     t: ThreadNo,
     q: LineNo,
@@ -175,7 +175,7 @@ fn enter<G: Ledger>(
 }
 
 /// The first thread of a line.
-fn first_in(slots: &Slots, q: LineNo) -> Option<ThreadNo>
+fn first_in(slots: &LinkSlots, q: LineNo) -> Option<ThreadNo>
     requires { Linked slots.now (spelled slots.now) }
     ensures answer { thread_number result ≡ first_waiter (spelled slots.now q.0) }
     ensures ordered { NeverRises (spelled slots.now q.0) }
@@ -187,7 +187,7 @@ fn first_in(slots: &Slots, q: LineNo) -> Option<ThreadNo>
 }
 
 /// The thread behind another in its line.
-fn next_in(slots: &Slots, t: ThreadNo) -> Option<ThreadNo>
+fn next_in(slots: &LinkSlots, t: ThreadNo) -> Option<ThreadNo>
     requires { Linked slots.now (spelled slots.now) }
     ensures { thread_number result ≡ behind_in (stands_at slots.now t.0) (spelled slots.now) t.0 }
 {
@@ -202,7 +202,7 @@ fn next_in(slots: &Slots, t: ThreadNo) -> Option<ThreadNo>
 }
 
 /// The line of a thread.
-fn line_of(slots: &Slots, t: ThreadNo) -> Option<LineNo>
+fn line_of(slots: &LinkSlots, t: ThreadNo) -> Option<LineNo>
     requires { Linked slots.now (spelled slots.now) }
     ensures answer { line_number result ≡ stands_at slots.now t.0 }
     ensures stands { StandsAtPlace (spelled slots.now) (stands_at slots.now) t.0 }
@@ -214,7 +214,7 @@ fn line_of(slots: &Slots, t: ThreadNo) -> Option<LineNo>
 }
 
 /// Whether a thread may join a line.
-fn may_enter(slots: &Slots, t: ThreadNo, q: LineNo) -> bool
+fn may_enter(slots: &LinkSlots, t: ThreadNo, q: LineNo) -> bool
     ensures { result ≡ may_join (rooms_of slots.now) (stands_at slots.now) t.0 q.0 }
 {
     (t.0 as usize) < slots.threads()
@@ -323,7 +323,7 @@ impl Lines for LinkedLines {
     ghost rooms = { λ l. rooms_of l };
 
     fn new(alloc: Global, threads: u16, lines: u16) -> Result<LinkedLines, OutOfMemory> {
-        let slots = Slots::new(alloc, threads, lines)?;
+        let slots = LinkSlots::new(alloc, threads, lines)?;
         let fingers = Fingers::new(alloc, lines)?;
         Ok(LinkedLines { slots, fingers })
     }

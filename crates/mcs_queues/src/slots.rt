@@ -25,7 +25,7 @@ pub struct LineSlot {
 }
 
 /// How many slots of threads other than the one that a call names were read. It takes no bytes at run time, and only
-/// `Slots::visit` adds to it (own).
+/// `LinkSlots::visit` adds to it (own).
 #[derive(Drop)]
 pub struct Steps<G: Ledger> {
     book: Book<G>,
@@ -63,12 +63,12 @@ impl<G: Ledger> Steps<G> {
 
 /// The slots of all threads and of all lines.
 #[derive(Drop)]
-pub struct Slots {
+pub struct LinkSlots {
     threads: Vec<ThreadSlot>,
     lines: Vec<LineSlot>,
 }
 
-impl Model for Slots {
+impl Model for LinkSlots {
     ghost use Rattle.mcs_queues.specs.Links.{Links};
 
     ghost Value = { Links };
@@ -76,9 +76,9 @@ impl Model for Slots {
     ghost view = { λ s. record { threads = s.threads.items; lines = s.lines.items } };
 }
 
-impl Slots {
+impl LinkSlots {
     /// Slots of threads in no line and of empty lines.
-    pub fn new(alloc: Global, threads: u16, lines: u16) -> Result<Slots, OutOfMemory>
+    pub fn new(alloc: Global, threads: u16, lines: u16) -> Result<LinkSlots, OutOfMemory>
         ensures threads { IfOk result (λ s. s.threads ≡ replicate threads blank_slot) }
         ensures lines { IfOk result (λ s. s.lines ≡ replicate lines blank_ends) }
     {
@@ -92,7 +92,7 @@ impl Slots {
             first: None,
             last: None,
         };
-        Ok(Slots {
+        Ok(LinkSlots {
             threads: Vec::from_elem(alloc, slot, threads as usize)?,
             lines: Vec::from_elem(alloc, ends, lines as usize)?,
         })

@@ -19,12 +19,24 @@ use Rattle.mcs_seats.proofs.Notes.{notes-bounded, notes-foreign, notes-own, note
 pub next-call : (xs : List Call) (k : ℕ) (x : Call) → k < length xs → x ≡ get_or xs k x → drop k xs ≡ x ∷ drop (k + 1) xs
 next-call xs k x lt is = drop_more xs k x lt ∙ ap (λ y. y ∷ drop (k + 1) xs) (sym is)
 
+-- the call of this number
+pub record IsCallAt (w : Trail) (k : ℕ) (x : Call) : Type 0 where
+  pub few : k < length w.calls
+  pub is : x ≡ get_or w.calls k x
+
+-- the same of a trail that is this one
+pub call-at : {t w : Trail} → t ≡ w → (k : ℕ) (x : Call) → k < length t.calls → x ≡ get_or t.calls k x → IsCallAt w k x
+call-at same k x few is = record {
+  few = subst (λ (s : Trail). k < length s.calls) same few;
+  is = is ∙ ap (λ (s : Trail). get_or s.calls k x) same;
+}
+
 -- a call that is wrong is the first
-pub wrong-torn : (w : Trail) (k : ℕ) (x : Call) → AreRightTo w k → k < length w.calls → x ≡ get_or w.calls k x
+pub wrong-torn : (w : Trail) (k : ℕ) (x : Call) → AreRightTo w k → IsCallAt w k x
     → ¬ (IsRight w.book w.core (notes_ahead w) w.at x) → IsTornOf w (k + 1)
-wrong-torn w k x to lt is wrong =
+wrong-torn w k x to here wrong =
     let torn : IsTornFrom w (drop k w.calls) 1 =
-    subst (λ ys. IsTornFrom w ys 1) (sym (next-call w.calls k x lt is)) (inl (refl, wrong)) in
+    subst (λ ys. IsTornFrom w ys 1) (sym (next-call w.calls k x here.few here.is)) (inl (refl, wrong)) in
     let same : 1 + k ≡ k + 1 = omega arith in
     subst (λ n. IsTornOf w n) same (to.torn 1 torn)
 
@@ -56,10 +68,11 @@ behind w x o to P led h =
     (subst (λ (ns : List Note). P ns to) (sym led.notes) h)
 
 -- a call more is right
-right-more : (w : Trail) (k : ℕ) (x : Call) (to : ℕ) → AreRightTo w k → k < length w.calls → x ≡ get_or w.calls k x
+right-more : (w : Trail) (k : ℕ) (x : Call) (to : ℕ) → AreRightTo w k → IsCallAt w k x
     → Leads w x x.outcome to → AreRightTo (record w { at = to }) (k + 1)
-right-more w k x to h lt is led =
-    let next = next-call w.calls k x lt is in
+right-more w k x to h here led =
+    let next = next-call w.calls k x here.few here.is in
+    let lt = here.few in
     let later : List Call = drop (k + 1) w.calls in
     record {
       few = omega (arith, lt);
@@ -78,15 +91,15 @@ right-more w k x to h lt is led =
     }
 
 -- a call that was turned away rightly before the next line
-pub away-right : (w : Trail) (k : ℕ) (x : Call) (n : ℕ) (f : EnterFault) → AreRightTo w k → k < length w.calls
-    → x ≡ get_or w.calls k x → x.outcome ≡ Away n f → n ≡ w.at → 1 ≤ w.at → w.at ≤ length w.book.lines + 1
+pub away-right : (w : Trail) (k : ℕ) (x : Call) (n : ℕ) (f : EnterFault) → AreRightTo w k → IsCallAt w k x
+    → x.outcome ≡ Away n f → n ≡ w.at → 1 ≤ w.at → w.at ≤ length w.book.lines + 1
     → fault_of (cut w.book (w.at - 1)) w.core x.thread ≡ Some f → AreRightTo w (k + 1)
-away-right w k x n f h lt is away here some few fault =
+away-right w k x n f h call away here some few fault =
     let least : w.at ≤ next_line w.book (notes_ahead w) = (notes-bounded w.book w.core w.at some few).least in
     let right : IsRightAt w.book w.core (notes_ahead w) w.at x (Away w.at f) = (omega arith, least, fault) in
     let led : Leads w x (Away w.at f) w.at = record { right = right; lines = refl; notes = refl } in
     let came : Away w.at f ≡ x.outcome = sym (away ∙ ap (λ i. Away i f) here) in
-    right-more w k x w.at h lt is (subst (λ o. Leads w x o w.at) came led)
+    right-more w k x w.at h call (subst (λ o. Leads w x o w.at) came led)
 
 -- no call is right that was turned away before
 pub early-wrong : (w : Trail) (x : Call) (n : ℕ) (f : EnterFault) → x.outcome ≡ Away n f → n < w.at
@@ -143,10 +156,10 @@ past-foreign w k h later same =
     }
 
 -- past a line of the core's, which the next call was told
-pub past-own : (w : Trail) (k : ℕ) (x : Call) (a : Answered) (n : Note) → AreRightTo w k → k < length w.calls
-    → x ≡ get_or w.calls k x → x.outcome ≡ Told a → n.line ≡ w.at → n ≡ told_note x a
+past-own : (w : Trail) (k : ℕ) (x : Call) (a : Answered) (n : Note) → AreRightTo w k → IsCallAt w k x
+    → x.outcome ≡ Told a → n.line ≡ w.at → n ≡ told_note x a
     → notes_ahead w ≡ n ∷ notes_from w.book w.core (w.at + 1) → AreRightTo (past_line w) (k + 1)
-past-own w k x a n h lt is told number same notes =
+past-own w k x a n h call told number same notes =
     let right : IsRightAt w.book w.core (notes_ahead w) w.at x (Told a) =
     subst (λ ns. next_note ns ≡ Some (told_note x a)) (sym notes) (ap Some same) in
     let line : a.line ≡ w.at = sym (ap (λ (m : Note). m.line) same) ∙ number in
@@ -155,7 +168,7 @@ past-own w k x a n h lt is told number same notes =
       lines = ap (λ i. i + 1) line;
       notes = ap (λ ns. later_notes ns) notes;
     } in
-    right-more w k x (w.at + 1) h lt is (subst (λ o. Leads w x o (w.at + 1)) (sym told) led)
+    right-more w k x (w.at + 1) h call (subst (λ o. Leads w x o (w.at + 1)) (sym told) led)
 
 -- where the core is told a line, no call is right that was told something else
 pub other-wrong : (w : Trail) (x : Call) (a : Answered) (n : Note) (ns : List Note) → x.outcome ≡ Told a
@@ -195,12 +208,12 @@ behind-wrong w x m f away late end none right =
     absurd (omega (arith, before, end, late))
 
 -- behind the last line no call that is left is right
-pub ended-torn : (w : Trail) (k : ℕ) (x : Call) → AreRightTo w k → IsLater w.at (drop k w.calls) → k < length w.calls
-    → x ≡ get_or w.calls k x → w.at ≡ length w.book.lines + 1 → IsTornOf w (k + 1)
-ended-torn w k x h later lt is end =
+pub ended-torn : (w : Trail) (k : ℕ) (x : Call) → AreRightTo w k → IsLater w.at (drop k w.calls) → IsCallAt w k x
+    → w.at ≡ length w.book.lines + 1 → IsTornOf w (k + 1)
+ended-torn w k x h later call end =
     let none : notes_ahead w ≡ [] = notes-none w.book w.core w.at (omega (arith, end)) in
-    let came : CameLater w.at x.outcome = subst (λ ys. IsLater w.at ys) (next-call w.calls k x lt is) later in
-    wrong-torn w k x h lt is (go x.outcome refl came none)
+    let came : CameLater w.at x.outcome = subst (λ ys. IsLater w.at ys) (next-call w.calls k x call.few call.is) later in
+    wrong-torn w k x h call (go x.outcome refl came none)
   where
     go : (o : Outcome) → x.outcome ≡ o → CameLater w.at o → notes_ahead w ≡ []
         → ¬ (IsRight w.book w.core (notes_ahead w) w.at x)
@@ -211,7 +224,7 @@ pub ended-torn-any : (w : Trail) (k : ℕ) → AreRightTo w k → IsLater w.at (
     → w.at ≡ length w.book.lines + 1 → IsTornOf w (k + 1)
 ended-torn-any w k h later lt end =
     elim (slice_get_cases w.calls k).1 [
-      | inl p ↦ ended-torn w k p.0 h later lt (sym (get_or_from_slice_get w.calls k p.0 p.0 p.2)) end
+      | inl p ↦ ended-torn w k p.0 h later (record { few = lt; is = sym (get_or_from_slice_get w.calls k p.0 p.0 p.2) }) end
       | inr p ↦ let past = p.0 in absurd (omega (arith, lt, past))
     ]
 
@@ -220,39 +233,41 @@ pub line-foreign : (w : Trail) (k : ℕ) (l : Line) → AreRightTo w k → IsLat
     → line_of_number w.book w.at ≡ Some l → (l.step.core.0 == w.core.0) ≡ false → AreRightTo (past_line w) k
 line-foreign w k l h later some is other = past-foreign w k h later (notes-foreign w.book w.core w.at l some is other)
 
--- past one of its own, that the next call was told
-pub line-own : (w : Trail) (k : ℕ) (l : Line) (x : Call) (a : Answered) → AreRightTo w k → k < length w.calls
-    → x ≡ get_or w.calls k x → x.outcome ≡ Told a → 1 ≤ w.at
-    → line_of_number w.book w.at ≡ Some l → (l.step.core.0 == w.core.0) ≡ true → note_of w.at l ≡ told_note x a
-    → AreRightTo (past_line w) (k + 1)
-line-own w k l x a h lt at told some is own same =
-    past-own w k x a (note_of w.at l) h lt at told refl same (notes-own w.book w.core w.at l some is own)
+-- before the next line, which is the core's own, so many calls are right, and the next one was not turned away before it
+pub record IsBeforeOwn (w : Trail) (k : ℕ) (l : Line) : Type 0 where
+  pub right : AreRightTo w k
+  pub later : IsLater w.at (drop k w.calls)
+  pub some : 1 ≤ w.at
+  pub is : line_of_number w.book w.at ≡ Some l
+  pub own : (l.step.core.0 == w.core.0) ≡ true
 
--- that it was not told
-pub line-other : (w : Trail) (k : ℕ) (l : Line) (x : Call) (a : Answered) → AreRightTo w k → k < length w.calls
-    → x ≡ get_or w.calls k x → x.outcome ≡ Told a → 1 ≤ w.at
-    → line_of_number w.book w.at ≡ Some l → (l.step.core.0 == w.core.0) ≡ true → ¬ (note_of w.at l ≡ told_note x a)
-    → IsTornOf w (k + 1)
-line-other w k l x a h lt at told some is own other =
-    wrong-torn w k x h lt at
-    (other-wrong w x a (note_of w.at l) (notes_from w.book w.core (w.at + 1)) told other
-    (notes-own w.book w.core w.at l some is own))
+module _ (w : Trail) (k : ℕ) (l : Line) (before : IsBeforeOwn w k l) where
+  -- the core is told it
+  told-next : notes_ahead w ≡ note_of w.at l ∷ notes_from w.book w.core (w.at + 1)
+  told-next = notes-own w.book w.core w.at l before.some before.is before.own
 
--- that the next call was turned away behind
-pub line-late : (w : Trail) (k : ℕ) (l : Line) (x : Call) (m : ℕ) (f : EnterFault) → AreRightTo w k
-    → IsLater w.at (drop k w.calls) → k < length w.calls → x ≡ get_or w.calls k x → x.outcome ≡ Away m f → 1 ≤ w.at
-    → line_of_number w.book w.at ≡ Some l → (l.step.core.0 == w.core.0) ≡ true → IsTornOf w (k + 1)
-line-late w k l x m f h later lt at away some is own =
-    let came : CameLater w.at x.outcome = subst (λ ys. IsLater w.at ys) (next-call w.calls k x lt at) later in
-    let late : w.at < m = subst (λ o. CameLater w.at o) away came in
-    wrong-torn w k x h lt at
-    (late-wrong w x m f (note_of w.at l) (notes_from w.book w.core (w.at + 1)) away late refl
-    (notes-own w.book w.core w.at l some is own))
+  -- past the line, where the next call was told it
+  pub line-own : (x : Call) (a : Answered) → IsCallAt w k x → x.outcome ≡ Told a → note_of w.at l ≡ told_note x a
+      → AreRightTo (past_line w) (k + 1)
+  line-own x a call told same = past-own w k x a (note_of w.at l) before.right call told refl same told-next
 
--- for which there is no call
-pub line-left : (w : Trail) (k : ℕ) (l : Line) → AreRightTo w k → length w.calls ≤ k → 1 ≤ w.at
-    → line_of_number w.book w.at ≡ Some l → (l.step.core.0 == w.core.0) ≡ true → IsTornOf w (k + 1)
-line-left w k l h le some is own =
-    left-torn w k h le
-    (λ none. let no : note_of w.at l ∷ notes_from w.book w.core (w.at + 1) ≡ [] =
-    sym (notes-own w.book w.core w.at l some is own) ∙ none in absurd cc)
+  -- where the next call was told something else
+  pub line-other : (x : Call) (a : Answered) → IsCallAt w k x → x.outcome ≡ Told a → ¬ (note_of w.at l ≡ told_note x a)
+      → IsTornOf w (k + 1)
+  line-other x a call told other =
+      wrong-torn w k x before.right call
+      (other-wrong w x a (note_of w.at l) (notes_from w.book w.core (w.at + 1)) told other told-next)
+
+  -- where the next call was turned away behind it
+  pub line-late : (x : Call) (m : ℕ) (f : EnterFault) → IsCallAt w k x → x.outcome ≡ Away m f → IsTornOf w (k + 1)
+  line-late x m f call away =
+      let came : CameLater w.at x.outcome = subst (λ ys. IsLater w.at ys) (next-call w.calls k x call.few call.is) before.later in
+      let late : w.at < m = subst (λ o. CameLater w.at o) away came in
+      wrong-torn w k x before.right call
+      (late-wrong w x m f (note_of w.at l) (notes_from w.book w.core (w.at + 1)) away late refl told-next)
+
+  -- where there is no call
+  pub line-left : length w.calls ≤ k → IsTornOf w (k + 1)
+  line-left le =
+      left-torn w k before.right le
+      (λ none. let no : note_of w.at l ∷ notes_from w.book w.core (w.at + 1) ≡ [] = sym told-next ∙ none in absurd cc)

@@ -2,6 +2,7 @@
 ghost use Rattle.std.specs.Prelude.{◌≡◌, ◌==◌, IfOk, IfErr, IsTrue, ◌↔◌, OnOk, true, false};
 ghost use Rattle.std.specs.List.{list_any};
 ghost use Rattle.mcs_book.specs.History.{IsLegal};
+ghost use Rattle.mcs_book.specs.Fair.{IsFair};
 ghost use Rattle.mcs_seats.specs.Settling.{AllAgree, HasSeats, LacksSeat, Because};
 
 use crate::retrace::first_torn;
@@ -84,12 +85,13 @@ fn compare<G: Ledger, L: Lines>(
     boot: &Boot,
     seats: &Vec<CoreSeat<G>>,
 ) -> Result<(), FinishFault>
+    ensures legal { IsLegal kernel.now }
+    ensures fair { IsFair kernel.now }
     ensures boot { OnOk result (kernel.now.boot ≡ boot.now) }
     ensures seats { OnOk result (HasSeats kernel.now seats.now.items) }
     ensures agree { OnOk result (AllAgree kernel.now seats.now.items) }
     ensures fault { IfErr result (Because kernel.now boot.now seats.now.items) }
 {
-    kernel.is_fair();
     let book = kernel.book();
     if !has_seats(seats, book) {
         return Err(FinishFault::MissingSeat);
@@ -145,13 +147,13 @@ pub fn settle_seats<G: Ledger, L: Lines>(
     seats: &Vec<CoreSeat<G>>,
 ) -> Result<Settled<L>, FinishFault>
     ensures same { IfOk result (λ s. s ≡ kernel) }
-    ensures legal { IfOk result (λ s. IsLegal s) }
+    ensures legal { IsLegal kernel }
+    ensures fair { IsFair kernel }
     ensures boot { IfOk result (λ s. s.boot ≡ boot.now) }
     ensures seats { IfOk result (λ s. HasSeats s seats.now.items) }
     ensures agree { IfOk result (λ s. AllAgree s seats.now.items) }
     ensures fault { IfErr result (Because kernel boot.now seats.now.items) }
 {
-    kernel.is_fair();
     compare(alloc, &kernel, boot, seats)?;
     Ok(Settled { kernel })
 }

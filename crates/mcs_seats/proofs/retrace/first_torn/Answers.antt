@@ -1,10 +1,17 @@
-use Rattle.std.proofs.Common.{◌<◌, ◌+◌, List, All, IfNone, IfSome, length, map, ap, sym, subst, ◌∙◌, arith}
+use Rattle.std.proofs.Common.{ℕ, ◌≡◌, ◌<◌, ◌+◌, List, All, IfNone, IfSome, length, map, ap, sym, subst, ◌∙◌, arith}
 use Rattle.std.proofs.lemmas.Option.{IfSome_then}
 use Rattle.mcs_book.specs.History.{Book}
-use Rattle.mcs_seats.specs.Trails.{Trail, Place, IsBeside, AllRight, HasTornTrail, past_line}
+use Rattle.mcs_seats.specs.Seats.{Seat}
+use Rattle.mcs_seats.specs.Trails.{Trail, Place, IsBeside, AllRight, HasTornTrail, past_line, trail_of}
 use Rattle.mcs_seats.proofs.Cutting.{line-none}
 use Rattle.mcs_seats.proofs.Seating.{all-beside, all-past, none-torn, has-torn}
 use Rattle.mcs_seats.proofs.retrace.first_torn.Goals as goal
+
+-- all followers stand where the book was made again
+beside : (b : Book) (at : ℕ) (seats : List Seat) (p : Place) (ws : List Trail) → p ≡ record { book = b; at = at } → ws ≡ map (trail_of b at) seats → All (IsBeside p) ws
+beside b at seats p ws made followed =
+    subst (λ (q : Place). All (IsBeside q) ws) (sym made)
+    (subst (λ (xs : List Trail). All (IsBeside (record { book = b; at = at })) xs) (sym followed) (all-beside b at seats))
 
 pub unreachable-requires : goal.unreachable-requires
 unreachable-requires g c =
@@ -14,11 +21,7 @@ unreachable-requires g c =
 
 pub pass_next-requires-clause-beside : goal.pass_next-requires-clause-beside
 pass_next-requires-clause-beside g c =
-    let b : Book = c.args.book.now.book in
-    let p : Place = record { book = b; at = c.loop-at.at } in
-    subst (λ (q : Place). All (IsBeside q) c.loop-at.followers.items) (sym c.loop-at.invariant.made)
-    (subst (λ (ws : List Trail). All (IsBeside p) ws) (sym c.loop-at.invariant.followed)
-    (all-beside b c.loop-at.at c.args.seats.now.items))
+    beside c.args.book.now.book c.loop-at.at c.args.seats.now.items c.loop-at.retrace c.loop-at.followers.items c.loop-at.invariant.made c.loop-at.invariant.followed
 
 pub loop-at-preserved : goal.loop-at-preserved
 loop-at-preserved g c =
@@ -32,11 +35,7 @@ loop-at-preserved g c =
 
 pub torn_follower-requires-clause-beside : goal.torn_follower-requires-clause-beside
 torn_follower-requires-clause-beside g c =
-    let b : Book = c.args.book.now.book in
-    let p : Place = record { book = b; at = c.loop-at.at } in
-    subst (λ (q : Place). All (IsBeside q) c.loop-at.followers.items) (sym c.loop-at.invariant.made)
-    (subst (λ (ws : List Trail). All (IsBeside p) ws) (sym c.loop-at.invariant.followed)
-    (all-beside b c.loop-at.at c.args.seats.now.items))
+    beside c.args.book.now.book c.loop-at.at c.args.seats.now.items c.loop-at.retrace c.loop-at.followers.items c.loop-at.invariant.made c.loop-at.invariant.followed
 
 pub returns-clause-none : goal.returns-clause-none
 returns-clause-none g c =
