@@ -11,9 +11,11 @@ ghost use Rattle.mcs_state.specs.Nexts.{next_of};
 ghost use Rattle.mcs_cancel.specs.Badging.{cancellable, restarts_one, restarts_with, restarts_badged};
 
 use crate::cancelling::cancel;
-use mcs_state::{State, of_kind, wake};
-use mcs_types::{ALL_RIGHTS, Answer, Badge, Cap, CoreId, Kind, Letter, Mode, ObjId, Queue, Refusal};
 use mcs_object_queues::Waiting;
+use mcs_state::{State, of_kind, wake};
+use mcs_types::{
+    ALL_RIGHTS, Answer, Badge, Cap, CoreId, Kind, Letter, Mode, ObjId, Queue, Refusal,
+};
 
 /// Whether there is a message, and it has this badge.
 fn has_badge(letter: Option<&Letter>, badge: Badge) -> bool

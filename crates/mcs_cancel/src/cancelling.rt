@@ -8,9 +8,9 @@ ghost use Rattle.mcs_state.specs.Now.{so_far};
 ghost use Rattle.mcs_state.specs.Doing.{Makes, HasRoomFor};
 ghost use Rattle.mcs_cancel.specs.Leaving.{drops_from, leaves_queue, reply_awaited, leaves_reply, leaves};
 
+use mcs_object_queues::Waiting;
 use mcs_state::State;
 use mcs_types::{Ending, Mode, ObjId, Queue, Status};
-use mcs_object_queues::Waiting;
 
 /// The open message of a thread that leaves this queue is dropped, where it sends there: nobody receives it (own).
 fn drop_letter<W: Waiting>(state: &mut State<W>, thread: ObjId, queue: Queue)

@@ -6,9 +6,9 @@ ghost use Rattle.mcs_state.specs.Now.{so_far};
 ghost use Rattle.mcs_state.specs.Checks.{object_named};
 ghost use Rattle.mcs_cancel.specs.Priorities.{settable_thread};
 
+use mcs_object_queues::Waiting;
 use mcs_state::{State, find_object};
 use mcs_types::{Kind, ObjId, Prio, Refusal};
-use mcs_object_queues::Waiting;
 
 /// The thread that a thread that is there names by an address; it is there too.
 pub fn find_thread<W: Waiting>(

@@ -13,9 +13,9 @@ ghost use Rattle.mcs_cancel.specs.Emptying.{restarts_all, KeepsOthers};
 ghost use Rattle.mcs_cancel.specs.Releasing.{IsNoCNode, IsUnnamed, releases, unties, lets_go, frees, clears, unhomes, unholds, dismisses};
 
 use crate::cancelling::cancel;
+use mcs_object_queues::Waiting;
 use mcs_state::{State, give_back};
 use mcs_types::{Ending, Kind, Mode, ObjId, Queue};
-use mcs_object_queues::Waiting;
 
 /// Cancels each thread of a queue, first to last: it restarts. Nobody stands there then.
 fn restart_all<W: Waiting>(state: &mut State<W>, queue: Queue)

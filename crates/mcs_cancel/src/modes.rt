@@ -12,9 +12,9 @@ ghost use Rattle.mcs_cancel.specs.Turning.{sets_mode, mode_resumed};
 
 use crate::cancelling::cancel;
 use crate::checks::find_thread;
+use mcs_object_queues::Waiting;
 use mcs_state::{State, wake};
 use mcs_types::{Answer, CoreId, Mode, ObjId, Status};
-use mcs_object_queues::Waiting;
 
 /// Cancels what a thread is blocked on, and sets its mode, where one is given.
 fn cancel_any<W: Waiting>(state: &mut State<W>, thread: ObjId, mode: Option<Mode>)

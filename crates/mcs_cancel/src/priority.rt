@@ -6,9 +6,9 @@ ghost use Rattle.mcs_state.specs.Doing.{Does, Fits};
 ghost use Rattle.mcs_state.specs.Entering.{IsEntering};
 
 use crate::checks::thread_to_set;
+use mcs_object_queues::Waiting;
 use mcs_state::{Change, State, change_awake};
 use mcs_types::{Answer, CoreId, ObjId, Prio};
-use mcs_object_queues::Waiting;
 
 /// SetPriority: the thread has this priority from now on; where it stands in a queue, it queues anew (own). The refusals are 1
 /// to 3 of the lookups, the thread's first, 4 for a capability of another kind, and 6 where the priority is above the maximum

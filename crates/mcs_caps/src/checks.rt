@@ -6,10 +6,10 @@ ghost use Rattle.mcs_state.specs.Now.{so_far};
 ghost use Rattle.mcs_caps.specs.Placed.{IsPlaced};
 ghost use Rattle.mcs_caps.specs.Rows.{placed_by, mintable};
 
+use mcs_object_queues::Waiting;
 use mcs_slots::{SlotId, takes_badge};
 use mcs_state::State;
 use mcs_types::{Cap, ObjId, Place, Refusal};
-use mcs_object_queues::Waiting;
 
 /// A capability, the slot that holds it, and an empty slot.
 #[derive(Clone, Copy)]

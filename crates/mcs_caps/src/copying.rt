@@ -8,10 +8,10 @@ ghost use Rattle.mcs_caps.specs.Placed.{IsPlaced};
 ghost use Rattle.mcs_caps.specs.Rows.{fills_act, moves_act};
 
 use crate::checks::{Placing, find_places, with_no_badge};
+use mcs_object_queues::Waiting;
 use mcs_slots::{with_badge, with_mask};
 use mcs_state::{State, wake};
 use mcs_types::{Answer, Badge, Cap, CoreId, ObjId, Place, Rights};
-use mcs_object_queues::Waiting;
 
 /// Wakes the thread, and puts a capability to the object of the one that was found into the empty slot.
 fn fill<W: Waiting>(state: &mut State<W>, thread: ObjId, at: &Placing, cap: Cap) -> Answer

@@ -13,10 +13,10 @@ ghost use Rattle.mcs_caps.specs.Deletions.{IsSpared, deletable, deletes, takes_o
 ghost use Rattle.mcs_caps.specs.Placed.{IsSlot};
 
 use mcs_cancel::destroy;
+use mcs_object_queues::Waiting;
 use mcs_slots::SlotId;
 use mcs_state::{State, wake};
 use mcs_types::{Answer, Cap, CoreId, Kind, ObjId, Place, Refusal};
-use mcs_object_queues::Waiting;
 
 /// Whether it is the last capability to a CNode.
 fn is_last_cnode<W: Waiting>(state: &State<W>, held: Option<Cap>) -> bool

@@ -11,10 +11,12 @@ ghost use Rattle.mcs_state.specs.Now.{so_far};
 ghost use Rattle.mcs_caps.specs.NewObjects.{HasSerials, entry_making, new_form, new_cap, vacant, makes_at, makes};
 ghost use Rattle.mcs_caps.specs.Placed.{IsSlot};
 
+use mcs_object_queues::Waiting;
 use mcs_slots::SlotId;
 use mcs_state::{State, wake};
-use mcs_types::{ALL_RIGHTS, Answer, Badge, Cap, CoreId, Guard, Kind, ObjId, Place, Refusal, Rights};
-use mcs_object_queues::Waiting;
+use mcs_types::{
+    ALL_RIGHTS, Answer, Badge, Cap, CoreId, Guard, Kind, ObjId, Place, Refusal, Rights,
+};
 
 /// The capability that comes with an object: one with all rights where its kind carries rights.
 fn new_cap(object: ObjId) -> Cap

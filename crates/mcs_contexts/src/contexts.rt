@@ -7,7 +7,7 @@ ghost use Rattle.mcs_types.specs.declared.id.Kind.{Kind};
 ghost use Rattle.mcs_objects.specs.Store.{shape, empty_shape, one_more, is_full, IsOneFewer};
 ghost use Rattle.mcs_contexts.specs.Holding.{counts, no_room, next_context, core_at, holder_at, home_at, core_in, holder_in, home_in, context_in, is_holder, bound, unbound, homed, unhomed, may_lend, may_wake, SetsHolder, SetsContext, SetsHome, FreesHolder, LendsHolders, LendsContexts, HoldersDiffer, IsOneToOne};
 
-use mcs_objects::{keep, kept_at, Store};
+use mcs_objects::{Store, keep, kept_at};
 use mcs_types::{CoreId, Kind, ObjId, OutOfMemory, Refusal};
 use std::alloc::Global;
 use std::marker::Model;

@@ -7,10 +7,10 @@ ghost use Rattle.mcs_ipc.specs.Sources.{reply_named, endpoint_source, notificati
 ghost use Rattle.mcs_ipc.specs.Rows.{sendable, callable};
 
 use mcs_notify::may_wait;
+use mcs_object_queues::Waiting;
 use mcs_slots::takes_badge;
 use mcs_state::{State, find_object, of_kind, with_read, with_write};
 use mcs_types::{Cap, Kind, ObjId, Refusal};
-use mcs_object_queues::Waiting;
 
 /// What a thread sends over: an endpoint or a notification, by this capability, or a reply object, which it pays.
 #[derive(Clone, Copy)]

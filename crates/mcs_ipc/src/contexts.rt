@@ -10,9 +10,9 @@ ghost use Rattle.mcs_state.specs.Entering.{IsEntering};
 ghost use Rattle.mcs_ipc.specs.Holding.{given, bindable, unbindable, unbinds};
 
 use mcs_cancel::unbind;
+use mcs_object_queues::Waiting;
 use mcs_state::{Change, State, change_awake, find_object, wake};
 use mcs_types::{Answer, CoreId, Kind, ObjId, Refusal};
-use mcs_object_queues::Waiting;
 
 /// Whether nobody holds a context, it is homed nowhere, and no reply object stands in its chain.
 fn is_loose<W: Waiting>(state: &State<W>, context: ObjId) -> bool

@@ -9,9 +9,9 @@ ghost use Rattle.mcs_ipc.specs.Rows.{exchange_entry, exchange_act};
 use crate::checks::{Exchange, ends_of_exchange};
 use crate::receiving::receive_from;
 use crate::sending::send_target;
+use mcs_object_queues::Waiting;
 use mcs_state::{State, wake};
 use mcs_types::{Answer, BOOK_LINES, Copies, CoreId, ObjId, SendMode};
-use mcs_object_queues::Waiting;
 
 /// Sends what does not wait, with the thread's context, and then receives.
 fn send_and_receive<W: Waiting>(

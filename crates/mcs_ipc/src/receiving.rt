@@ -16,9 +16,9 @@ use crate::replying::pay;
 use crate::taking::{Delivery, take};
 use mcs_cancel::cancel;
 use mcs_notify::take_bound;
+use mcs_object_queues::Waiting;
 use mcs_state::{State, wake};
 use mcs_types::{Answer, Copies, CoreId, Mode, ObjId, Queue};
-use mcs_object_queues::Waiting;
 
 /// Cancels whoever uses a reply object, the caller that it owes or the receiver that stands with it: it becomes inactive
 /// (own).

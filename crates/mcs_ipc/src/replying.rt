@@ -3,9 +3,9 @@ ghost use Rattle.mcs_book.specs.Taking.{pay as paid};
 ghost use Rattle.mcs_state.specs.Now.{so_far};
 ghost use Rattle.mcs_state.specs.Doing.{Makes, HasRoomFor};
 
+use mcs_object_queues::Waiting;
 use mcs_state::{State, give_back};
 use mcs_types::{Copies, Mode, ObjId};
-use mcs_object_queues::Waiting;
 
 /// Answers the caller that a reply object owes, if it owes one: the caller runs again. A reply object that tops a chain of
 /// calls returns the context of that chain (manual: Message Passing; own).

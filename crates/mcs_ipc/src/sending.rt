@@ -17,9 +17,9 @@ use crate::checks::{Target, cap_to_call, target_to_send};
 use crate::replying::pay;
 use crate::taking::{Delivery, hand};
 use mcs_notify::signal;
+use mcs_object_queues::Waiting;
 use mcs_state::{State, wake};
 use mcs_types::{Answer, BOOK_LINES, Cap, Copies, CoreId, ObjId, Queue, SendMode};
-use mcs_object_queues::Waiting;
 
 /// How a call over a capability is sent: without Grant and GrantReply it cannot be answered (manual: Message Passing).
 fn call_mode(cap: &Cap) -> SendMode

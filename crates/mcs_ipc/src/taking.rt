@@ -11,9 +11,9 @@ ghost use Rattle.mcs_state.specs.Doing.{Makes, HasRoomFor};
 ghost use Rattle.mcs_ipc.specs.Ready.{IsReady, IsSettling, IsCalling};
 ghost use Rattle.mcs_ipc.specs.Rows.{lent, resumes, handed_to, taken_by};
 
+use mcs_object_queues::Waiting;
 use mcs_state::{State, give_back};
 use mcs_types::{Message, Mode, ObjId, Queue, SendMode};
-use mcs_object_queues::Waiting;
 
 /// A message that is taken: its number, its sender, the endpoint, and how it was sent.
 #[derive(Clone, Copy)]

@@ -11,10 +11,10 @@ mod checks;
 mod taking;
 
 use checks::{check, exists_as};
+use mcs_object_queues::{ObjectQueues, Waiting};
 use mcs_queues::PlainLines;
 use mcs_state::State;
 use mcs_types::{BootFault, BootLine, CORES, Kind, ObjId, OutOfMemory};
-use mcs_object_queues::{ObjectQueues, Waiting};
 use std::alloc::Global;
 use std::marker::Model;
 use taking::takes_line;

@@ -22,13 +22,13 @@ use mcs_cancel::{cancel_badged, resume, set_priority, suspend};
 use mcs_caps::{copy_cap, delete_cap, make, mint_cap, move_cap};
 use mcs_ipc::{bind_context, call, exchange, receive, reply_receive, send, unbind_context};
 use mcs_notify::{bind, signal_at, unbind};
+use mcs_object_queues::{ObjectQueues, Waiting};
 use mcs_queues::Lines;
 use mcs_state::State;
 use mcs_types::{
     Answer, BOOK_LINES, CORES, Copied, Copies, CoreId, Entry, Kind, ObjId, OutOfMemory, Status,
     Step,
 };
-use mcs_object_queues::{ObjectQueues, Waiting};
 use std::alloc::Global;
 use std::marker::Model;
 

@@ -8,9 +8,9 @@ ghost use Rattle.mcs_state.specs.Doing.{Does, Fits};
 ghost use Rattle.mcs_state.specs.Entering.{IsEntering};
 ghost use Rattle.mcs_notify.specs.Tying.{bindable, unbindable};
 
+use mcs_object_queues::Waiting;
 use mcs_state::{Change, State, change_awake, find_object, of_kind, with_read};
 use mcs_types::{Answer, CoreId, Kind, ObjId, Queue, Refusal};
-use mcs_object_queues::Waiting;
 
 /// What a bind changes: the thread has no notification, and the notification is bound to nobody, and nobody waits on it.
 fn tie_to_make<W: Waiting>(

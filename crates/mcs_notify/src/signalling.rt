@@ -14,9 +14,9 @@ ghost use Rattle.mcs_notify.specs.Hearing.{bound_receiver, first_waiter, next_he
 ghost use Rattle.mcs_notify.specs.Rows.{signalable};
 ghost use Rattle.mcs_notify.specs.Waiting.{NoneElseBound};
 
+use mcs_object_queues::Waiting;
 use mcs_state::{State, give_back, of_kind, wake, with_write};
 use mcs_types::{Answer, Badge, Cap, CoreId, Kind, Mode, ObjId, Queue, Refusal};
-use mcs_object_queues::Waiting;
 
 /// A thread that a word reaches, and the queue in which it stands.
 #[derive(Clone, Copy)]

@@ -9,9 +9,9 @@ ghost use Rattle.mcs_state.specs.Doing.{Makes, HasRoomFor, Acts, FitsAct};
 ghost use Rattle.mcs_state.specs.Entering.{IsActing};
 ghost use Rattle.mcs_notify.specs.Waiting.{NoneElseBound, takes_bound};
 
+use mcs_object_queues::Waiting;
 use mcs_state::{State, stand};
 use mcs_types::{Answer, ObjId, Queue};
-use mcs_object_queues::Waiting;
 
 /// Whether a thread may wait on a notification: only the bound thread may, where one is bound (manual: Notifications; own).
 pub fn may_wait<W: Waiting>(state: &State<W>, thread: ObjId, notification: ObjId) -> bool

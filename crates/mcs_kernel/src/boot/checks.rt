@@ -6,10 +6,10 @@ ghost use Rattle.mcs_book.specs.Boots.{is_object, fits_guard, has_no_guard, has_
 ghost use Rattle.mcs_state.specs.Now.{so_far};
 ghost use Rattle.mcs_kernel.specs.Booted.{IsBooting};
 
+use mcs_object_queues::Waiting;
 use mcs_slots::SlotId;
 use mcs_state::State;
 use mcs_types::{BootFault, BootLine, CNODES, Cap, Guard, Kind, OBJECTS, ObjId, RADIX};
-use mcs_object_queues::Waiting;
 
 /// Whether an object of this kind was made.
 pub(crate) fn exists_as<W: Waiting>(state: &State<W>, kind: Kind, object: ObjId) -> bool

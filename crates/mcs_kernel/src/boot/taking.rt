@@ -12,10 +12,10 @@ ghost use Rattle.mcs_state.specs.Now.{so_far, adds, adds_all};
 ghost use Rattle.mcs_state.specs.Tables.{HAND, ROOM};
 ghost use Rattle.mcs_kernel.specs.Booted.{IsBooting};
 
+use mcs_object_queues::Waiting;
 use mcs_slots::SlotId;
 use mcs_state::State;
 use mcs_types::{Badge, BootLine, Cap, Guard, Kind, Mode, ObjId, OutOfMemory, Prio, Rights};
-use mcs_object_queues::Waiting;
 
 /// A capability to a CNode, with a guard.
 fn cap_to(cnode: ObjId, guard: Guard) -> Cap
