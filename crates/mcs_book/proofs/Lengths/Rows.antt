@@ -26,7 +26,7 @@ use Rattle.mcs_types.specs.declared.id.Kind.TheVariants.{Endpoint, Notification,
 use Rattle.mcs_types.specs.declared.cap.Place.{Place}
 use Rattle.mcs_types.specs.declared.id.Badge.{Badge}
 use Rattle.mcs_types.specs.declared.record.Mode.{Mode}
-use Rattle.mcs_types.specs.declared.record.Mode.TheVariants.{Restart, Inactive}
+use Rattle.mcs_types.specs.declared.record.Mode.TheVariants.{Restart}
 use Rattle.mcs_types.specs.declared.record.Form.{Form}
 use Rattle.mcs_types.specs.declared.record.Form.TheVariants as form
 use Rattle.mcs_types.specs.declared.entry.Answer.TheVariants.{Done, Waits}

@@ -10,7 +10,7 @@ use Rattle.mcs_types.specs.declared.cap.Cap.{Cap}
 use Rattle.mcs_types.specs.declared.cap.Place.{Place}
 use Rattle.mcs_types.specs.declared.record.SendMode.TheVariants as how
 use Rattle.mcs_types.specs.declared.record.Mode.{Mode}
-use Rattle.mcs_types.specs.declared.record.Mode.TheVariants.{Restart, Inactive}
+use Rattle.mcs_types.specs.declared.record.Mode.TheVariants.{Restart}
 use Rattle.mcs_types.specs.declared.record.Form.{Form}
 use Rattle.mcs_types.specs.declared.record.Form.TheVariants as form
 use Rattle.mcs_types.specs.declared.record.Rec.{Rec}
