@@ -196,7 +196,8 @@ pub fn reply_receive<W: Waiting>(
     requires entering { IsEntering (so_far state.old) thread }
     requires stand { OpenStand (so_far state.old) }
     requires room { Fits state.old core thread (Entry.ReplyRecv address reply message) }
-    ensures { Does state.old core thread (Entry.ReplyRecv address reply message.entry) result state.new }
+    ensures { Does state.old core thread (Entry.ReplyRecv address reply message.entry) result
+        state.new }
 {
     state.is_sound();
     match source_to_reply(state, thread, address, reply) {

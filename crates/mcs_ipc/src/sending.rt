@@ -174,7 +174,8 @@ pub fn send<W: Waiting>(
     requires waiting { OnlyBoundWait (so_far state.old) }
     requires few { length state.old.book.lines < BOOK_LINES }
     requires room { Fits state.old core thread (send_entry blocks address message) }
-    ensures { Does state.old core thread (send_entry blocks address message.entry) result state.new }
+    ensures { Does state.old core thread (send_entry blocks address message.entry) result
+        state.new }
 {
     state.is_sound();
     match target_to_send(state, thread, address) {

@@ -72,8 +72,10 @@ fn settle<W: Waiting>(
     queued: bool,
 )
     requires settling { IsSettling (so_far state.old) sender receiver reply }
-    requires room { HasRoomFor (settled mode sender receiver reply (resumes queued sender)) state.old }
-    ensures { Makes (settled mode sender receiver reply (resumes queued sender)) state.old state.new }
+    requires room { HasRoomFor (settled mode sender receiver reply (resumes queued sender))
+        state.old }
+    ensures { Makes (settled mode sender receiver reply (resumes queued sender))
+        state.old state.new }
 {
     match mode {
         SendMode::Plain if queued => state.turns(sender, Mode::Running),
@@ -91,7 +93,8 @@ fn settle<W: Waiting>(
 pub fn hand<W: Waiting>(state: &mut State<W>, delivery: Delivery, receiver: ObjId)
     requires sender { IsThere (so_far state.old) Kind.Thread delivery.sender }
     requires idle { IsIdle (so_far state.old) delivery.sender }
-    requires stands { queue_of (so_far state.old) receiver ≡ Some (Queue.Receivers delivery.endpoint) }
+    requires stands { queue_of (so_far state.old) receiver
+        ≡ Some (Queue.Receivers delivery.endpoint) }
     requires open { IsNumberOf delivery.number (open_of (so_far state.old) delivery.sender) }
     requires room { HasRoomFor (handed_to delivery receiver) state.old }
     ensures { Makes (handed_to delivery receiver) state.old state.new }
@@ -120,11 +123,13 @@ pub fn take<W: Waiting>(
     reply: Option<ObjId>,
 ) -> Message
     requires ready { IsReady (so_far state.old) thread delivery.endpoint reply }
-    requires first { first_in (so_far state.old) (Queue.Senders delivery.endpoint) ≡ Some delivery.sender }
+    requires first { first_in (so_far state.old) (Queue.Senders delivery.endpoint)
+        ≡ Some delivery.sender }
     requires open { IsNumberOf delivery.number (open_of (so_far state.old) delivery.sender) }
     requires room { HasRoomFor (taken_by delivery thread reply) state.old }
     ensures taken { Makes (taken_by delivery thread reply) state.old state.new }
-    ensures message { IfSome (open_of (so_far state.old) delivery.sender) (λ l. result ≡ l.message) }
+    ensures message { IfSome (open_of (so_far state.old) delivery.sender)
+        (λ l. result ≡ l.message) }
 {
     let Delivery {
         number,

@@ -70,7 +70,8 @@ fn takes_thread<W: Waiting>(
 
 /// Gives a thread the context with which it begins, if there is one.
 fn takes_context<W: Waiting>(state: &mut State<W>, thread: ObjId, context: Option<ObjId>)
-    requires allowed { IfSome context (λ s. Allowed (so_far state.old) (Rec.Holds s (Some thread))) }
+    requires allowed { IfSome context
+        (λ s. Allowed (so_far state.old) (Rec.Holds s (Some thread))) }
     requires room { length state.old.hand + 1 < state.old.room }
     ensures { state.new ≡ adds_all (begins_with context thread) state.old }
 {
