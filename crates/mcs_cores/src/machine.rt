@@ -1,6 +1,7 @@
 //! The machine: a kernel under a lock, and the seats of its cores (own).
 ghost use Rattle.std.specs.Prelude.{◌≡◌, ◌≤◌, ◌+◌, [], length, IfOk, IfErr, OnErr, OnOk, IsTrue, ◌↔◌, ◌||◌, is_ok, false};
 ghost use Rattle.mcs_book.specs.History.{IsLegal};
+ghost use Rattle.mcs_book.specs.Fair.{IsFair};
 ghost use Rattle.mcs_seats.specs.Seats.{AreNew, Enters, noted, told_by};
 ghost use Rattle.mcs_seats.specs.Settling.{AllAgree, AreCounted, Because, HasSeats, HasReason};
 
@@ -67,10 +68,10 @@ impl<G: Ledger, L: Lines> LockedKernel<G, L> {
         ensures seats { IfOk result (λ v. AreNew v.items) }
         ensures count { IfOk result (λ v. length v.items ≡ cores) }
     {
-        if self.given || self.kernel.book().cores() != cores {
+        let booted = self.kernel.book().cores();
+        if self.given || booted != cores {
             return Err(OutOfMemory);
         }
-        self.kernel.is_fair();
         let seats = new_seats(alloc, &mut self.rest, cores)?;
         self.given = true;
         Ok(seats)
@@ -85,6 +86,7 @@ impl<G: Ledger, L: Lines> LockedKernel<G, L> {
     ) -> Result<Settled<L>, FinishFault>
         ensures same { IfOk result (λ s. s ≡ self) }
         ensures legal { IsLegal self }
+        ensures fair { IsFair self }
         ensures boot { IfOk result (λ s. s.boot ≡ boot.now) }
         ensures seats { IfOk result (λ s. HasSeats s seats.items) }
         ensures agree { IfOk result (λ s. AllAgree s seats.items) }
@@ -97,7 +99,6 @@ impl<G: Ledger, L: Lines> LockedKernel<G, L> {
             rest,
             given: _,
         } = self;
-        kernel.is_fair();
         let settled = settle_seats(alloc, kernel, boot, &seats);
         audit_seats(&mut book, rest, seats);
         settled
@@ -235,6 +236,7 @@ impl<G: Ledger, L: Lines> Machine<G, L> {
         seats: Vec<CoreSeat<G>>,
     ) -> Result<Settled<L>, FinishFault>
         ensures legal { IfOk result (λ s. IsLegal s) }
+        ensures fair { IfOk result (λ s. IsFair s) }
         ensures boot { IfOk result (λ s. s.boot ≡ boot.now) }
         ensures seats { IfOk result (λ s. HasSeats s seats.items) }
         ensures agree { IfOk result (λ s. AllAgree s seats.items) }

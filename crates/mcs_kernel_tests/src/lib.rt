@@ -2,8 +2,4 @@
 #![tactic(auto)]
 
 #[cfg(test)]
-mod books;
-#[cfg(test)]
-mod boots;
-#[cfg(test)]
-mod queries;
+mod tests;

@@ -2,16 +2,4 @@
 #![tactic(auto)]
 
 #[cfg(test)]
-mod boots;
-#[cfg(test)]
-mod crossing;
-#[cfg(test)]
-mod holding;
-#[cfg(test)]
-mod running;
-#[cfg(test)]
-mod runs;
-#[cfg(test)]
-mod scripts;
-#[cfg(test)]
-mod settling;
+mod tests;

@@ -2,16 +2,4 @@
 #![tactic(auto)]
 
 #[cfg(test)]
-mod chains;
-#[cfg(test)]
-mod lookups;
-#[cfg(test)]
-mod notifications;
-#[cfg(test)]
-mod objects;
-#[cfg(test)]
-mod queues;
-#[cfg(test)]
-mod slots;
-#[cfg(test)]
-mod tables;
+mod tests;

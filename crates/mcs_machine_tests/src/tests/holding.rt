@@ -1,5 +1,5 @@
 //! Five cores of which one is held at a pick.
-use crate::boots::{five_cores, replayed};
+use crate::tests::boots::{five_cores, replayed};
 use mcs_sim::{Gate, SimFault, Sink, Source, run_text};
 use mcs_types::{CoreId, ObjId};
 use std::alloc::AllocGlobal;

@@ -1,6 +1,6 @@
 //! Reads and writes that fail.
-use crate::runs::{BOOT, MIDDLE_STEPS, MIDDLE_TRACE};
-use crate::streams::{Input, Output, pipe};
+use crate::tests::runs::{BOOT, MIDDLE_STEPS, MIDDLE_TRACE};
+use crate::tests::streams::{Input, Output, pipe};
 use mcs_sim::SimFault;
 use std::alloc::Global;
 use std::test::Fail;

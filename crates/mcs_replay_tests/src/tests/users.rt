@@ -1,6 +1,6 @@
 //! Scripts of users: a fault is told when it was read.
-use crate::runs::BOOT;
-use crate::streams::Output;
+use crate::tests::runs::BOOT;
+use crate::tests::streams::Output;
 use mcs_sim::{Open, SimFault, Sink, Source, run_text, simulate};
 use mcs_text::LineFault;
 use std::alloc::{AllocGlobal, Global};

@@ -1,6 +1,6 @@
 //! Two cores of which each has picked before the other enters.
-use crate::boots::{FREE_CONTEXT, TWO_CORES, replayed, thread, trace_of};
-use crate::runs::{Ran, TurnedAway, run_users};
+use crate::tests::boots::{FREE_CONTEXT, TWO_CORES, replayed, thread, trace_of};
+use crate::tests::runs::{Ran, TurnedAway, run_users};
 use mcs_cores::Gate;
 use mcs_kernel::EnterFault;
 use mcs_types::{CoreId, ObjId};

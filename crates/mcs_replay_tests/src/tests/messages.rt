@@ -1,5 +1,5 @@
 //! Messages of none to 120 words, from the script to the trace.
-use crate::runs::{BOOT, run};
+use crate::tests::runs::{BOOT, run};
 use mcs_sim::SimFault;
 use mcs_text::LineFault;
 use std::alloc::Global;

@@ -1,5 +1,5 @@
 //! Scripts that are cut, long lines, full books, and numbers at the ends of their ranges.
-use crate::runs::{BOOT, FIRST_STEPS, run};
+use crate::tests::runs::{BOOT, FIRST_STEPS, run};
 use mcs_sim::SimFault;
 use mcs_text::LineFault;
 use std::alloc::Global;

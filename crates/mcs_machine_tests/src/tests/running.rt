@@ -1,6 +1,6 @@
 //! Users on one core.
-use crate::boots::{one_core, trace_of};
-use crate::runs::run_users;
+use crate::tests::boots::{one_core, trace_of};
+use crate::tests::runs::run_users;
 use mcs_cores::Open;
 use std::test::Fail;
 

@@ -1,7 +1,7 @@
 //! Scripts of users.
 ghost use Rattle.std.specs.Prelude.{◌<◌, length};
 
-use crate::boots::{one_core, replayed};
+use crate::tests::boots::{one_core, replayed};
 use mcs_sim::{Open, SimFault, Sink, Source, run_text, simulate};
 use mcs_text::LineFault;
 use std::alloc::AllocGlobal;

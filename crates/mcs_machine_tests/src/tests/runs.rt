@@ -1,7 +1,7 @@
 //! A run from its boot to its settled book.
 ghost use Rattle.std.specs.Prelude.{◌≡◌};
 
-use crate::boots::{boot_of, replay_of, users_of};
+use crate::tests::boots::{boot_of, replay_of, users_of};
 use mcs_cores::{CoreSeat, Gate, Machine, Outcome, SeatsFault, Settled, Users};
 use mcs_kernel::{Boot, EnterFault, Kernel};
 use mcs_queues::LinkedLines;

@@ -1,5 +1,5 @@
 //! The first example, and what a script gives.
-use crate::streams::{Input, Output, pipe};
+use crate::tests::streams::{Input, Output, pipe};
 use mcs_sim::SimFault;
 use std::alloc::Global;
 use std::test::Fail;

@@ -1,7 +1,7 @@
 //! Machines whose entries are made by hand.
 ghost use Rattle.std.specs.Prelude.{◌≡◌};
 
-use crate::boots::{TWO_CORES, boot_of, one_core, replay_of, thread, trace_of};
+use crate::tests::boots::{TWO_CORES, boot_of, one_core, replay_of, thread, trace_of};
 use mcs_book::Book;
 use mcs_cores::{CoreSeat, FinishFault, Machine, Settled};
 use mcs_kernel::{Boot, Kernel};

@@ -1,6 +1,6 @@
 //! Scripts that are fed piece by piece.
-use crate::runs::{BOOT, run};
-use crate::streams::Output;
+use crate::tests::runs::{BOOT, run};
+use crate::tests::streams::Output;
 use mcs_sim::{ReplayRun, SimFault, Sink, Source, simulate, trace};
 use mcs_text::LineFault;
 use std::alloc::Global;

@@ -1,5 +1,5 @@
 //! Who writes steps and waits for what they give before writing more.
-use crate::runs::BOOT;
+use crate::tests::runs::BOOT;
 use mcs_sim::{Sink, Source, simulate};
 use std::alloc::Global;
 use std::cell::Cell;

@@ -1,0 +1,5 @@
+//! The tests.
+
+mod books;
+mod boots;
+mod queries;

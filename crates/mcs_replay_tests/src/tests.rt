@@ -1,0 +1,11 @@
+//! The tests.
+
+mod failing;
+mod faults;
+mod feeding;
+mod limits;
+mod messages;
+mod runs;
+mod streams;
+mod users;
+mod waiting;

@@ -1,0 +1,9 @@
+//! The tests.
+
+mod chains;
+mod lookups;
+mod notifications;
+mod objects;
+mod queues;
+mod slots;
+mod tables;
