@@ -1,8 +1,8 @@
 //! How far a replay of a script has come: the boot so far, or the run of the steps behind it.
-ghost use Rattle.std.specs.Prelude.{◌≡◌, ◌≤◌, IfOk, OnOk, OnErr, IsSome, [], Err, None, option_copied, option_to_list};
+ghost use Rattle.std.specs.Prelude.{◌≡◌, ◌≤◌, ◌∷◌, IfOk, OnOk, OnErr, IsSome, [], Err, None, option_copied, option_to_list};
 ghost use Rattle.mcs_text.specs.Reading.{Gives};
 ghost use Rattle.mcs_sim.specs.Script.{threads_of, read_line, of_steps};
-ghost use Rattle.mcs_sim.specs.Going.{ComesOf, not_begun, begun_by, stepped, step_line, book_after, read_at, after_line, after_end};
+ghost use Rattle.mcs_sim.specs.Going.{ComesOf, not_begun, begun_by, stepped, step_line, book_after, read_at, opened, after_line, after_end};
 ghost use Rattle.mcs_sim.specs.Phases.{opened_to, seen, HasNoItems};
 
 use crate::fault::SimFault;
@@ -155,6 +155,23 @@ fn read_opening(
     }
 }
 
+/// Ends the boot with a step, and answers the run behind it, where there is a boot.
+fn end_opening(
+    opening: &mut Script<Step>,
+    alloc: Global,
+    step: Step,
+) -> Result<Option<StepRun>, SimFault>
+    ensures takes { ComesOf (λ run. opened_to opening.new.boot run) result
+        (opened opening.old.boot (step ∷ [])) }
+    ensures kept { opening.new.items ≡ opening.old.items }
+{
+    let Some(boot) = opening.boot.take() else {
+        return Ok(None);
+    };
+    let run = StepRun::start(alloc, boot, step)?;
+    Ok(Some(run))
+}
+
 /// Reads a line of this number while the boot goes on, and answers the run of the step that it says, if it says one.
 fn open(
     opening: &mut Script<Step>,
@@ -168,14 +185,11 @@ fn open(
     ensures kept { opening.new.items ≡ [] }
     ensures numbered { OnOk result (number ≤ SCRIPT_LINES) }
 {
-    let Some(step) = read_opening(opening, alloc, number, line)? else {
-        return Ok(None);
-    };
-    let Some(boot) = opening.boot.take() else {
-        return Ok(None);
-    };
-    let run = StepRun::start(alloc, boot, step)?;
-    Ok(Some(run))
+    match read_opening(opening, alloc, number, line) {
+        Ok(None) => Ok(None),
+        Ok(Some(step)) => end_opening(opening, alloc, step),
+        Err(fault) => Err(fault),
+    }
 }
 
 /// What a replay holds between two lines of its script.

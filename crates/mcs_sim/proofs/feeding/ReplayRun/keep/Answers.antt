@@ -8,18 +8,18 @@ use Rattle.mcs_sim.proofs.feeding.ReplayRun.keep.Goals as goal
 pub returns-then-is_empty-clause-takes : goal.returns-then-is_empty-clause-takes
 returns-then-is_empty-clause-takes c = takes-none c.args.self.now c.args.part.now (sym c.is_empty.ensures ∙ c.if-is_empty.true)
 
-pub returns-then-self-lines-clause-takes : goal.returns-then-self-lines-clause-takes
-returns-then-self-lines-clause-takes c =
+pub returns-then-self-ge-SCRIPT_LINES-clause-takes : goal.returns-then-self-ge-SCRIPT_LINES-clause-takes
+returns-then-self-ge-SCRIPT_LINES-clause-takes c =
     let going = is-going c.self.inside.fault (seen c.self.inside.phase) c.self.inside.lines c.self.inside.line.items c.args.self.now c.self.view_is c.requires.goes in
     keep-many c.args.self.now c.refuse.new.self c.args.part.now c.requires.goes c.requires.one_line (sym c.is_empty.ensures ∙ c.if-is_empty.false)
-    (omega (arith, going.count, c.if-self-lines.true)) c.refuse.ensures.ended
+    (omega (arith, going.count, c.if-self-ge-SCRIPT_LINES.true)) c.refuse.ensures.ended
 
 pub returns-then-part-len-clause-takes : goal.returns-then-part-len-clause-takes
 returns-then-part-len-clause-takes c =
     let going = is-going c.self.inside.fault (seen c.self.inside.phase) c.self.inside.lines c.self.inside.line.items c.args.self.now c.self.view_is c.requires.goes in
     let kept = ap (λ (l : List ℕ). length l) going.kept in
     keep-long c.args.self.now c.refuse-then-part-len.new.self c.args.part.now c.requires.goes c.requires.one_line (sym c.is_empty.ensures ∙ c.if-is_empty.false)
-    (omega (arith, going.count, c.if-self-lines.false)) (omega (arith, kept, c.if-part-len.true, c.len.ensures)) c.refuse-then-part-len.ensures.ended
+    (omega (arith, going.count, c.if-self-ge-SCRIPT_LINES.false)) (omega (arith, kept, c.if-part-len.true, c.len.ensures)) c.refuse-then-part-len.ensures.ended
 
 pub returns-in-Ok-clause-takes : goal.returns-in-Ok-clause-takes
 returns-in-Ok-clause-takes c =
@@ -27,7 +27,7 @@ returns-in-Ok-clause-takes c =
     let kept = ap (λ (l : List ℕ). length l) going.kept in
     let grown = going-kept c.self.inside.fault (seen c.self.inside.phase) c.self.inside.lines c.self.inside.line.items c.extend_from_slice.new.self.items c.args.part.now c.args.self.now c.self.view_is c.requires.goes c.in-Ok.ensures.items in
     keep-fits c.args.self.now (going_of c.self.inside.fault (seen c.self.inside.phase) c.self.inside.lines c.extend_from_slice.new.self.items) c.args.part.now c.requires.goes c.requires.one_line (sym c.is_empty.ensures ∙ c.if-is_empty.false)
-    (omega (arith, going.count, c.if-self-lines.false)) (omega (arith, kept, c.if-part-len.false, c.len.ensures, c.self.invariant.1.1)) grown
+    (omega (arith, going.count, c.if-self-ge-SCRIPT_LINES.false)) (omega (arith, kept, c.if-part-len.false, c.len.ensures, c.self.invariant.1.1)) grown
 
 pub returns-in-Err-clause-takes : goal.returns-in-Err-clause-takes
 returns-in-Err-clause-takes c =
