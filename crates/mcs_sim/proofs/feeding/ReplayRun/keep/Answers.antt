@@ -27,7 +27,7 @@ returns-in-Ok-clause-takes c =
     let kept = ap (λ (l : List ℕ). length l) going.kept in
     let grown = going-kept c.self.inside.fault (seen c.self.inside.phase) c.self.inside.lines c.self.inside.line.items c.extend_from_slice.new.self.items c.args.part.now c.args.self.now c.self.view_is c.requires.goes c.in-Ok.ensures.items in
     keep-fits c.args.self.now (going_of c.self.inside.fault (seen c.self.inside.phase) c.self.inside.lines c.extend_from_slice.new.self.items) c.args.part.now c.requires.goes c.requires.one_line (sym c.is_empty.ensures ∙ c.if-is_empty.false)
-    (omega (arith, going.count, c.if-self-ge-SCRIPT_LINES.false)) (omega (arith, kept, c.if-part-len.false, c.len.ensures, c.self.invariant.1.1)) grown
+    (omega (arith, going.count, c.if-self-ge-SCRIPT_LINES.false)) (omega (arith, kept, c.if-part-len.false, c.len.ensures, c.self.invariant.2)) grown
 
 pub returns-in-Err-clause-takes : goal.returns-in-Err-clause-takes
 returns-in-Err-clause-takes c =
