@@ -38,6 +38,6 @@ Consumes-nil a bytes none = subst (Consumes a a) (sym none) (go a)
     go (Some xs) = refl
 
 -- no byte more was read
-pub no-more : {left mid left' : Option (List ℕ)} {text more : List ℕ} → Consumes left mid text → Consumes mid left' more → more ≡ [] → Consumes left left' text
-no-more {left = left} {mid = mid} {left' = left'} {text = text} read more none =
+pub no-more : (left mid left' : Option (List ℕ)) (text more : List ℕ) → Consumes left mid text → Consumes mid left' more → more ≡ [] → Consumes left left' text
+no-more left mid left' text bytes read more none =
     subst (Consumes left left') (append-nil text) (Consumes-trans _ _ _ _ _ read (subst (Consumes mid left') none more))

@@ -21,7 +21,7 @@ loop-n-init g c = record {
 pub returns-in_default-read_piece-clause-err : goal.returns-in_default-read_piece-clause-err
 returns-in_default-read_piece-clause-err g c =
     let i = c.loop-n.invariant in
-    let read = no-more i.reached.1 c.in_default-read_piece.ensures.err refl in
+    let read = no-more _ _ _ _ _ i.reached.1 c.in_default-read_piece.ensures.err refl in
     (i.reached.0, read, stops-here c.args.cores i.reached.0 c.loop-n.users i.reached.2 i.kept)
 
 pub returns-then-n-eq0-clause-ok : goal.returns-then-n-eq0-clause-ok
@@ -30,7 +30,7 @@ returns-then-n-eq0-clause-ok g c =
     let left = g.R.Read.remaining c.args.from.now.reader in
     let left' = g.R.Read.remaining c.read_piece.new.self.reader in
     let none : c.in-Ok-read_piece.n ≡ 0 = c.if-n-eq0.true in
-    let read = no-more i.reached.1 c.in-Ok-read_piece.ensures.bytes (ap (λ (n : ℕ). take n c.read_piece.new.piece) none) in
+    let read = no-more _ _ _ _ _ i.reached.1 c.in-Ok-read_piece.ensures.bytes (ap (λ (n : ℕ). take n c.read_piece.new.piece) none) in
     IfOk-then c.end.result _ _ c.end.ensures.ok (λ r said. reads-all c.args.cores left left' i.reached.0 c.loop-n.users r.0 r.1.items i.reached.2 read (c.in-Ok-read_piece.ensures.end none) said)
 
 pub returns-then-n-eq0-clause-err : goal.returns-then-n-eq0-clause-err
@@ -39,7 +39,7 @@ returns-then-n-eq0-clause-err g c =
     let left = g.R.Read.remaining c.args.from.now.reader in
     let left' = g.R.Read.remaining c.read_piece.new.self.reader in
     let none : c.in-Ok-read_piece.n ≡ 0 = c.if-n-eq0.true in
-    let read = no-more i.reached.1 c.in-Ok-read_piece.ensures.bytes (ap (λ (n : ℕ). take n c.read_piece.new.piece) none) in
+    let read = no-more _ _ _ _ _ i.reached.1 c.in-Ok-read_piece.ensures.bytes (ap (λ (n : ℕ). take n c.read_piece.new.piece) none) in
     IfErr-then c.end.result _ _ c.end.ensures.err (λ e bad. ends-at e c.args.cores left left' i.reached.0 c.loop-n.users i.reached.2 i.kept read (c.in-Ok-read_piece.ensures.end none) bad)
 
 pub returns-then-n-eq0-clause-failed : goal.returns-then-n-eq0-clause-failed
