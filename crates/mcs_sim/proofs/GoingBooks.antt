@@ -21,7 +21,7 @@ use Rattle.std.specs.Prelude.{nat_lt, ◌==◌, slice_get}
 use Rattle.mcs_sim.proofs.GoingScripts.{book_of-end}
 use Rattle.mcs_sim.specs.Trace.{boot_lines_trace, sent_after, sent_in, line_trace, lines_trace, trace, trace_of}
 use Rattle.mcs_sim.specs.Trace.{IsLonger, told_of, all_told, IsToldBy, IsToldOf, IsToldUpTo, untold, untold_of, untold_lines}
-use Rattle.mcs_sim.specs.Going.{Standing, Course, Going, stepped, stands, read_at, step_line, after_step, book_after, after_line_on, after_line, past_line, with_line, after_end_on, after_end, past_boot, boot_ended_after, boot_ended, with_part, with_byte, fed, with_last, at_end, ended, at_line, refused_for}
+use Rattle.mcs_sim.specs.Going.{BootOrBook, Course, Going, stepped, stands, read_at, step_line, after_step, book_after, after_line_on, after_line, past_line, with_line, after_end_on, after_end, past_boot, boot_ended_after, boot_ended, with_part, with_byte, fed, with_last, at_end, ended, at_line, refused_for}
 
 pub longer-refl : (k : Option Book) → IsLonger k k
 longer-refl None = tt
@@ -54,11 +54,11 @@ steps-longer (s ∷ ss) b before =
     (subst (λ (xs : List Step). IsLonger (Some (book_of b (before ++ s ∷ []))) (Some (book_of b xs))) (append_assoc before (s ∷ []) ss) (steps-longer ss b (before ++ s ∷ [])))
 
 -- what stands next has a longer book
-abbrev LongerIn : Option Book → Result Standing SimFault → Type 0
+abbrev LongerIn : Option Book → Result BootOrBook SimFault → Type 0
 LongerIn k (Ok s) = IsLonger k s.book
 LongerIn k (Err e) = Unit {0}
 
-none-longer : (r : Result Standing SimFault) → LongerIn None r
+none-longer : (r : Result BootOrBook SimFault) → LongerIn None r
 none-longer (Ok s) = tt
 none-longer (Err e) = tt
 
@@ -70,7 +70,7 @@ stepped-longer boot k s = go (is_book_full (fault_of k s.core s.thread))
     go true = tt
     go false = with_step-longer k s
 
-after_line-longer : (s : Standing) (n : ℕ) (l : List ℕ) → LongerIn s.book (after_line s n l)
+after_line-longer : (s : BootOrBook) (n : ℕ) (l : List ℕ) → LongerIn s.book (after_line s n l)
 unfolding after_line book_after
 after_line-longer s n l = go s.book
   where
@@ -87,7 +87,7 @@ pub with_line-longer : (c : Course) (l : List ℕ) → IsLonger c.stands.book (w
 unfolding with_line
 with_line-longer c l = go (after_line c.stands (c.lines + 1) l) (after_line-longer c.stands (c.lines + 1) l)
   where
-    go : (r : Result Standing SimFault) → LongerIn c.stands.book r → IsLonger c.stands.book (past_line c r).stands.book
+    go : (r : Result BootOrBook SimFault) → LongerIn c.stands.book r → IsLonger c.stands.book (past_line c r).stands.book
     go (Ok s) is = is
     go (Err e) is = longer-refl c.stands.book
 
@@ -100,7 +100,7 @@ boot_ended-longer c = go c.fault
     end None (Some b) is = tt
     end None None is = tt
 
-    past : (r : Result Standing SimFault) → LongerIn c.stands.book r → IsLonger c.stands.book (past_boot c r).stands.book
+    past : (r : Result BootOrBook SimFault) → LongerIn c.stands.book r → IsLonger c.stands.book (past_boot c r).stands.book
     past (Ok s) is = is
     past (Err e) is = longer-refl c.stands.book
 

@@ -15,7 +15,7 @@ use Rattle.mcs_sim.specs.Trace.{trace, trace_of}
 use Rattle.mcs_sim.specs.Runs.{script_trace, trace_before, told, written, Begins, IsFull, IsFullAt, IsRoomy, IsFairBefore, IsNamed, StopsSoon, ReadsText, Finishes, Ends}
 use Rattle.mcs_sim.specs.Trace.{IsLonger}
 use Rattle.mcs_sim.specs.Going.{Course, Going, ended_by, at_line, no_line, fed, at_end, ended, IsFairBook, TakesEnd, TakesPiece}
-use Rattle.mcs_sim.specs.Outcomes.{standing_of, IsTaken, IsTakenTo, IsTakenToFull, ComesOfScript}
+use Rattle.mcs_sim.specs.Outcomes.{boot_or_book_of, IsTaken, IsTakenTo, IsTakenToFull, ComesOfScript}
 use Rattle.mcs_sim.proofs.GoingLaws.{fed-append, fed-stopped}
 use Rattle.mcs_sim.proofs.GoingScripts.{fed-as-read}
 use Rattle.mcs_sim.proofs.GoingBooks.{steps-longer, longer-trans, fed-longer, ended-longer, IsBeginning, longer-begins}
@@ -26,7 +26,7 @@ unfolding script_trace
 taken-told t c is = ap (λ (b : Option Boot). script_trace b t.items) is.said ∙ sym (ap trace_of is.book)
 
 -- all before a faulty line
-before-told : (boot : Option Boot) (ss : List Step) → trace_before boot ss ≡ trace_of (standing_of boot ss).book
+before-told : (boot : Option Boot) (ss : List Step) → trace_before boot ss ≡ trace_of (boot_or_book_of boot ss).book
 unfolding trace_before script_trace
 before-told boot [] = refl
 before-told None (s ∷ ss) = refl
@@ -36,7 +36,7 @@ faulty-told : (t : Script Step) (line : ℕ) (why : LineFault) (c : Course) → 
 faulty-told t line why c is = before-told t.boot t.items ∙ sym (ap trace_of is.book)
 
 -- what was taken before a step for which the book is full
-full-told : (f : Option (ℕ × LineFault)) (boot : Option Boot) (before after : List Step) → IsBeginning (trace_of (standing_of boot before).book) (told (record { boot = boot; items = before ++ after }) f)
+full-told : (f : Option (ℕ × LineFault)) (boot : Option Boot) (before after : List Step) → IsBeginning (trace_of (boot_or_book_of boot before).book) (told (record { boot = boot; items = before ++ after }) f)
 unfolding trace_before script_trace
 full-told f boot [] after = (told (record { boot = boot; items = after }) f, refl)
 full-told f None (x ∷ xs) after = (told (record { boot = None; items = (x ∷ xs) ++ after }) f, refl)
@@ -52,7 +52,7 @@ begins-trans x y z one other = (one.0 ++ other.0, other.1 ∙ ap (λ (t : List �
 full-begins : (t : Script Step) (f : Option (ℕ × LineFault)) (c : Course) → IsTakenToFull t c → IsBeginning (trace_of c.stands.book) (told t f)
 full-begins t f c is =
     subst (λ (k : Option Book). IsBeginning (trace_of k) (told t f)) (sym is.book)
-    (subst (λ (ss : List Step). IsBeginning (trace_of (standing_of t.boot is.before).book) (told (record { boot = t.boot; items = ss }) f)) (sym is.split) (full-told f t.boot is.before (is.step ∷ is.after)))
+    (subst (λ (ss : List Step). IsBeginning (trace_of (boot_or_book_of t.boot is.before).book) (told (record { boot = t.boot; items = ss }) f)) (sym is.split) (full-told f t.boot is.before (is.step ∷ is.after)))
 
 outcome-begins : (r : Script Step × Option (ℕ × LineFault)) (c : Course) → ComesOfScript r c → IsBeginning (trace_of c.stands.book) (told r.0 r.1)
 outcome-begins (t, None) c (inl is) = same-begins _ _ (taken-told t c is)
@@ -102,7 +102,7 @@ pub record EndsFaulty (text : List ℕ) (line : ℕ) (why : LineFault) (c : Cour
   pub roomy : IsRoomy (steps text).0.boot (steps text).0.items
   pub fair : IsFairBook c.stands.book → IsFairBefore (steps text).0.boot (steps text).0.items
 
-fair-before : (boot : Option Boot) (ss : List Step) → IsFairBook (standing_of boot ss).book → IsFairBefore boot ss
+fair-before : (boot : Option Boot) (ss : List Step) → IsFairBook (boot_or_book_of boot ss).book → IsFairBefore boot ss
 fair-before boot [] fair = tt
 fair-before None (s ∷ ss) fair = tt
 fair-before (Some b) (s ∷ ss) fair = fair

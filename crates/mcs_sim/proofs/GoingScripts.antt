@@ -18,8 +18,8 @@ use Rattle.mcs_sim.specs.declared.fault.SimFault.{SimFault}
 use Rattle.mcs_sim.specs.declared.fault.SimFault.TheVariants as fault
 use Rattle.mcs_sim.specs.Script.{Script, of_steps, no_script, threads_of, says_something, first_boot, next_boot, next_items, later_line, by_boot, spelled, read_line, ending, script_from, script_of, steps}
 use Rattle.mcs_sim.specs.Runs.{IsFullAt, IsRoomy}
-use Rattle.mcs_sim.specs.Going.{Standing, Course, Going, no_line, begun_by, stepped, behind_boot, step_spelled, step_line, read_at, stands, opened, after_boot_line, after_step, book_after, after_line, ended_by, refused_for, past_line, with_line, after_end, boot_ended_after, boot_ended, at_line, with_part, fed, with_last, at_end, ended}
-use Rattle.mcs_sim.specs.Outcomes.{standing_of, IsTakenToFull, ComesOfScript}
+use Rattle.mcs_sim.specs.Going.{BootOrBook, Course, Going, no_line, begun_by, stepped, behind_boot, step_spelled, step_line, read_at, stands, opened, after_boot_line, after_step, book_after, after_line, ended_by, refused_for, past_line, with_line, after_end, boot_ended_after, boot_ended, at_line, with_part, fed, with_last, at_end, ended}
+use Rattle.mcs_sim.specs.Outcomes.{boot_or_book_of, IsTakenToFull, ComesOfScript}
 use Rattle.mcs_sim.proofs.ScriptLaws.{script_from-ok, script_from-err}
 use Rattle.mcs_sim.proofs.GoingLaws.{fed-stopped, fits-part, many-says, long-says}
 
@@ -161,13 +161,13 @@ IsKnown None (s ∷ ss) = ⊥
 IsKnown _ _ = Unit {0}
 
 -- a script is read on
-pub record GoesOn (t : Script Step) (r : Result Standing SimFault) : Type 0 where
+pub record GoesOn (t : Script Step) (r : Result BootOrBook SimFault) : Type 0 where
   pub known : IsKnown t.boot t.items
   pub roomy : IsRoomy t.boot t.items
-  pub standing : r ≡ Ok (standing_of t.boot t.items)
+  pub standing : r ≡ Ok (boot_or_book_of t.boot t.items)
 
 -- the book is full for the step that a line added to a script
-pub record IsFullNow (s t : Script Step) (r : Result Standing SimFault) : Type 0 where
+pub record IsFullNow (s t : Script Step) (r : Result BootOrBook SimFault) : Type 0 where
   pub by : Boot
   pub last : Step
   pub before : s.boot ≡ Some by
@@ -175,7 +175,7 @@ pub record IsFullNow (s t : Script Step) (r : Result Standing SimFault) : Type 0
   pub full : IsFullAt (length s.items + 1) (Some by) (s.items ++ last ∷ [])
   pub ended : r ≡ Err fault.BookFull
 
-abbrev AfterRead : ℕ → Script Step → Result Standing SimFault → Result (Script Step) LineFault → Type 0
+abbrev AfterRead : ℕ → Script Step → Result BootOrBook SimFault → Result (Script Step) LineFault → Type 0
 AfterRead n s r (Ok t) = GoesOn t r ⊎ IsFullNow s t r
 AfterRead n s r (Err e) = r ≡ Err (fault.Script n e)
 
@@ -189,7 +189,7 @@ after-step n b ss y boot none roomy = go (is_full_for (book_of b ss) y) refl
     known [] = tt
     known (s ∷ ss) = tt
 
-    there : (ss : List Step) → standing_of (Some b) (ss ++ y ∷ []) ≡ record { boot = None; book = Some (book_of b (ss ++ y ∷ [])) }
+    there : (ss : List Step) → boot_or_book_of (Some b) (ss ++ y ∷ []) ≡ record { boot = None; book = Some (book_of b (ss ++ y ∷ [])) }
     there [] = refl
     there (s ∷ ss) = refl
 
@@ -198,8 +198,8 @@ after-step n b ss y boot none roomy = go (is_full_for (book_of b ss) y) refl
         let count : 0 + (length ss + 1) ≡ length ss + 1 = omega arith in
         inr (record { by = b; last = y; before = refl; script = refl; full = full-end ss 0 (begun_by b) y roomy e ∙ ap (λ (n : ℕ). Some n) count; ended = refl })
     go false e =
-        let same : Ok (record { boot = None; book = Some (book_of b (ss ++ y ∷ [])) }) ≡ Ok (standing_of (Some b) (ss ++ y ∷ [])) = ap (λ (s : Standing). Ok s) (sym (there ss)) in
-        let all : Ok (record { boot = boot; book = Some (with_step (book_of b ss) y) }) ≡ Ok (standing_of (Some b) (ss ++ y ∷ [])) =
+        let same : Ok (record { boot = None; book = Some (book_of b (ss ++ y ∷ [])) }) ≡ Ok (boot_or_book_of (Some b) (ss ++ y ∷ [])) = ap (λ (s : BootOrBook). Ok s) (sym (there ss)) in
+        let all : Ok (record { boot = boot; book = Some (with_step (book_of b ss) y) }) ≡ Ok (boot_or_book_of (Some b) (ss ++ y ∷ [])) =
         (λ i. Ok (record { boot = none i; book = Some (sym (book_of-end b ss y) i) })) ∙ same in
         inl (record { known = known ss; roomy = roomy-end ss 0 (begun_by b) y roomy e; standing = all })
 
@@ -213,7 +213,7 @@ after-opening n boot (Ok t) is = elim is [ inl none ↦ still none | inr first �
     still none = inl (record {
       known = subst (λ (ss : List Step). IsKnown t.boot ss) (sym none) (known t.boot);
       roomy = subst (λ (ss : List Step). IsRoomy t.boot ss) (sym none) (roomy t.boot);
-      standing = ap (opened t.boot) none ∙ sym (ap (λ (ss : List Step). Ok (standing_of t.boot ss)) none);
+      standing = ap (opened t.boot) none ∙ sym (ap (λ (ss : List Step). Ok (boot_or_book_of t.boot ss)) none);
     })
       where
         known : (b : Option Boot) → IsKnown b []
@@ -236,11 +236,11 @@ after-behind n b x xs roomy (Err e) = refl
 after-behind n b x xs roomy (Ok None) = inl (record { known = tt; roomy = roomy; standing = refl })
 after-behind n b x xs roomy (Ok (Some y)) = after-step n b (x ∷ xs) y None refl roomy
 
-pub after-read : (n : ℕ) (s : Script Step) (l : List ℕ) → IsKnown s.boot s.items → IsRoomy s.boot s.items → AfterRead n s (after_line (standing_of s.boot s.items) n l) (read_line of_steps s n l)
+pub after-read : (n : ℕ) (s : Script Step) (l : List ℕ) → IsKnown s.boot s.items → IsRoomy s.boot s.items → AfterRead n s (after_line (boot_or_book_of s.boot s.items) n l) (read_line of_steps s n l)
 unfolding after_line book_after
 after-read n s l known roomy = go s.boot s.items known roomy
   where
-    go : (boot : Option Boot) (ss : List Step) → IsKnown boot ss → IsRoomy boot ss → AfterRead n (record { boot = boot; items = ss }) (after_line (standing_of boot ss) n l) (read_line of_steps (record { boot = boot; items = ss }) n l)
+    go : (boot : Option Boot) (ss : List Step) → IsKnown boot ss → IsRoomy boot ss → AfterRead n (record { boot = boot; items = ss }) (after_line (boot_or_book_of boot ss) n l) (read_line of_steps (record { boot = boot; items = ss }) n l)
     go boot [] known roomy = after-opening n boot (read_line of_steps (record { boot = boot; items = [] }) n l) (read_line-opening boot n l)
     go None (x ∷ xs) known roomy = absurd known
     go (Some b) (x ∷ xs) known roomy =
@@ -278,7 +278,7 @@ comes-full : (r : Script Step × Option (ℕ × LineFault)) (c : Course) → IsT
 comes-full (t, None) c full = inr full
 comes-full (t, Some (n, e)) c full = inr full
 
-full-stands : (ls : List (List ℕ)) (s t : Script Step) (n : ℕ) (c : Course) (r : Result Standing SimFault) → IsFullNow s t r → c.fault ≡ Some fault.BookFull → c.stands.book ≡ (standing_of s.boot s.items).book
+full-stands : (ls : List (List ℕ)) (s t : Script Step) (n : ℕ) (c : Course) (r : Result BootOrBook SimFault) → IsFullNow s t r → c.fault ≡ Some fault.BookFull → c.stands.book ≡ (boot_or_book_of s.boot s.items).book
     → ComesOfScript (script_from of_steps t n ls) c
 unfolding Grown
 full-stands ls s t n c r full ended book =
@@ -296,7 +296,7 @@ full-stands ls s t n c r full ended book =
       full = subst (λ (o : Option Boot). IsFullAt (length s.items + 1) o from.0.items) (sym g.0)
           (subst (λ (ss : List Step). IsFullAt (length s.items + 1) (Some full.by) ss) (sym g.1.1) (full-grows (s.items ++ full.last ∷ []) g.1.0 0 (begun_by full.by) (length s.items + 1) full.full));
       ended = ended;
-      book = book ∙ ap (λ (o : Option Boot). (standing_of o s.items).book) (full.before ∙ sym g.0);
+      book = book ∙ ap (λ (o : Option Boot). (boot_or_book_of o s.items).book) (full.before ∙ sym g.0);
     }
 
     go : (ss : List Step) → s.items ≡ ss → ComesOfScript from c
@@ -305,7 +305,7 @@ full-stands ls s t n c r full ended book =
 
 -- between two lines of a script
 abbrev live : Script Step → ℕ → Course
-live s m = record { stands = standing_of s.boot s.items; lines = m; fault = None }
+live s m = record { stands = boot_or_book_of s.boot s.items; lines = m; fault = None }
 
 -- what follows leaves a replay that a fault ended
 abbrev LeavesEnded : (Course → Course) → Type 0
@@ -318,20 +318,20 @@ line-follows : (follow : Course → Course) → LeavesEnded follow → (s : Scri
 unfolding with_line
 line-follows follow leaves s m l ls known roomy next = go (read_line of_steps s (m + 1) l) refl (after-read (m + 1) s l known roomy)
   where
-    r : Result Standing SimFault
-    r = after_line (standing_of s.boot s.items) (m + 1) l
+    r : Result BootOrBook SimFault
+    r = after_line (boot_or_book_of s.boot s.items) (m + 1) l
 
     goes : (t : Script Step) → GoesOn t r → ComesOfScript (script_from of_steps t (m + 1 + 1) ls) (follow (past_line (live s m) r))
-    goes t g = subst (λ (x : Result Standing SimFault). ComesOfScript (script_from of_steps t (m + 1 + 1) ls) (follow (past_line (live s m) x))) (sym g.standing) (next t g.known g.roomy)
+    goes t g = subst (λ (x : Result BootOrBook SimFault). ComesOfScript (script_from of_steps t (m + 1 + 1) ls) (follow (past_line (live s m) x))) (sym g.standing) (next t g.known g.roomy)
 
     stops : (t : Script Step) → IsFullNow s t r → ComesOfScript (script_from of_steps t (m + 1 + 1) ls) (follow (past_line (live s m) r))
     stops t full =
-        let ended : follow (past_line (live s m) r) ≡ ended_by fault.BookFull (live s m) = ap (λ (x : Result Standing SimFault). follow (past_line (live s m) x)) full.ended ∙ leaves (ended_by fault.BookFull (live s m)) fault.BookFull refl in
+        let ended : follow (past_line (live s m) r) ≡ ended_by fault.BookFull (live s m) = ap (λ (x : Result BootOrBook SimFault). follow (past_line (live s m) x)) full.ended ∙ leaves (ended_by fault.BookFull (live s m)) fault.BookFull refl in
         subst (ComesOfScript (script_from of_steps t (m + 1 + 1) ls)) (sym ended) (full-stands ls s t (m + 1 + 1) (ended_by fault.BookFull (live s m)) r full refl refl)
 
     go : (q : Result (Script Step) LineFault) → read_line of_steps s (m + 1) l ≡ q → AfterRead (m + 1) s r q → ComesOfScript (script_from of_steps s (m + 1) (l ∷ ls)) (follow (past_line (live s m) r))
     go (Err e) is after =
-        let ended : follow (past_line (live s m) r) ≡ refused_for e (live s m) = ap (λ (x : Result Standing SimFault). follow (past_line (live s m) x)) after ∙ leaves (refused_for e (live s m)) _ refl in
+        let ended : follow (past_line (live s m) r) ≡ refused_for e (live s m) = ap (λ (x : Result BootOrBook SimFault). follow (past_line (live s m) x)) after ∙ leaves (refused_for e (live s m)) _ refl in
         subst (ComesOfScript (script_from of_steps s (m + 1) (l ∷ ls))) (sym ended)
         (subst (λ (x : Script Step × Option (ℕ × LineFault)). ComesOfScript x (refused_for e (live s m))) (sym (script_from-err of_steps s (m + 1) l ls e is)) (inl (record { roomy = roomy; ended = refl; book = refl })))
     go (Ok t) is after =

@@ -5,9 +5,10 @@ use Rattle.mcs_text.specs.declared.fault.LineFault.TheVariants as why
 use Rattle.mcs_sim.specs.declared.fault.SimFault.{SimFault}
 use Rattle.mcs_sim.specs.declared.fault.SimFault.TheVariants as fault
 use Rattle.mcs_sim.specs.Trace.{IsLonger}
-use Rattle.mcs_sim.specs.Going.{Course, Going, ended_by, refused_for, with_line, boot_ended_after, boot_ended, at_line, fed, with_last, at_end, ended, answer_of, HasNoNewline, line_left, Takes, TakesLine, TakesEnd, TakesPiece, EndsBoot}
+use Rattle.mcs_sim.specs.Going.{BootOrBook, Course, Going, ComesOf, ended_by, refused_for, after_line, past_line, with_line, after_end, past_boot, boot_ended_after, boot_ended, at_line, fed, with_last, at_end, ended, answer_of, HasNoNewline, going_of, Takes, TakesLine, TakesEnd, TakesPiece, EndsBoot}
 use Rattle.mcs_book.specs.History.{Book}
 use Rattle.mcs_sim.proofs.GoingBooks.{longer-refl, with_line-longer, fed-longer, ended-longer}
+use Rattle.mcs_sim.proofs.PhaseLaws.{comes-fault}
 use Rattle.mcs_sim.proofs.GoingLaws.{fed-append, fed-stopped, fed-line, with_kept, fed-kept}
 
 -- a replay that a fault ended takes nothing
@@ -50,25 +51,77 @@ unfolding fed
 takes-line g part c goes plain (inl is) = inl (ap at_line is ∙ sym (fed-line g part goes plain))
 takes-line g part c goes plain (inr is) = inr (record { before = []; after = part ++ 10 ∷ []; split = refl; goes = goes; stopped = ap at_line is })
 
--- no line is left where none goes on
-pub line_left-nil : (o : Option SimFault) → line_left o [] ≡ []
-line_left-nil None = refl
-line_left-nil (Some e) = refl
+-- a replay that goes on, by its fields
+pub record IsGoing (fault : Option SimFault) (s : BootOrBook) (lines : ℕ) (line : List ℕ) (g : Going) : Type 0 where
+  pub goes : fault ≡ None
+  pub stands : s ≡ g.course.stands
+  pub count : lines ≡ g.course.lines
+  pub kept : line ≡ g.line
 
--- a replay that goes on where a line begins, or that a fault ended
-pub at_line-is : (c : Course) (line : List ℕ) → line ≡ [] → record { course = c; line = line_left c.fault line } ≡ at_line c
-at_line-is c line none = λ i. record { course = c; line = (ap (line_left c.fault) none ∙ line_left-nil c.fault) i }
+pub is-going : (f : Option SimFault) (s : BootOrBook) (n : ℕ) (line : List ℕ) (g : Going) → going_of f s n line ≡ g → g.course.fault ≡ None → IsGoing f s n line g
+is-going None s n line g is goes = record {
+  goes = refl;
+  stands = ap (λ (g : Going). g.course.stands) is;
+  count = ap (λ (g : Going). g.course.lines) is;
+  kept = ap (λ (g : Going). g.line) is;
+}
+is-going (Some e) s n line g is goes = absurd (let other : Some e ≡ None = ap (λ (g : Going). g.course.fault) is ∙ goes in cc)
 
-pub at_line-ended : (c : Course) (line : List ℕ) (e : SimFault) → c.fault ≡ Some e → record { course = c; line = line_left c.fault line } ≡ at_line c
-at_line-ended c line e is = λ i. record { course = c; line = ap (λ (o : Option SimFault). line_left o line) is i }
+-- with a part more of its line
+pub going-kept : (f : Option SimFault) (s : BootOrBook) (n : ℕ) (line more part : List ℕ) (g : Going) → going_of f s n line ≡ g → g.course.fault ≡ None → more ≡ line ++ part
+    → going_of f s n more ≡ record g { line = g.line ++ part }
+going-kept None s n line more part g is goes same =
+    subst (λ (g : Going). record { course = record { stands = s; lines = n; fault = None }; line = more } ≡ record g { line = g.line ++ part }) is
+    (ap (λ (l : List ℕ). record { course = record { stands = s; lines = n; fault = None }; line = l }) same)
+going-kept (Some e) s n line more part g is goes same = absurd (let other : Some e ≡ None = ap (λ (g : Going). g.course.fault) is ∙ goes in cc)
 
-pub line-goes : (c : Course) (line : List ℕ) → c.fault ≡ None → line_left c.fault line ≡ line
-line-goes c line is = ap (λ (o : Option SimFault). line_left o line) is
+-- of no line is a part kept
+pub at_line-is : (h : Going) → h.line ≡ [] → h ≡ at_line h.course
+at_line-is h none = λ i. record { course = h.course; line = none i }
+
+-- a line was taken
+pub line-passed : (f : Option SimFault) (s s' : BootOrBook) (n : ℕ) (line text : List ℕ) (g : Going) → going_of f s n line ≡ g → g.course.fault ≡ None → after_line s (n + 1) text ≡ Ok s'
+    → TakesLine g.course text (record { stands = s'; lines = n + 1; fault = None })
+unfolding with_line
+line-passed None s s' n line text g is goes after =
+    subst (λ (g : Going). TakesLine g.course text (record { stands = s'; lines = n + 1; fault = None })) is
+    (inl (sym (ap (past_line (record { stands = s; lines = n; fault = None })) after)))
+line-passed (Some e) s s' n line text g is goes after = absurd (let other : Some e ≡ None = ap (λ (g : Going). g.course.fault) is ∙ goes in cc)
+
+-- a line was refused
+pub line-failed : {X : Type 0} (view : X → BootOrBook) (f : Option SimFault) (s : BootOrBook) (n : ℕ) (line text : List ℕ) (g : Going) (e : SimFault) (c : Course) → going_of f s n line ≡ g → g.course.fault ≡ None
+    → ComesOf view (Err e) (after_line s (n + 1) text) → c ≡ ended_by e g.course → TakesLine g.course text c
+unfolding with_line
+line-failed view None s n line text g e c is goes comes ended = elim (comes-fault view e (after_line s (n + 1) text) comes) [
+  | inl after ↦ inl (ended ∙ sym (subst (λ (g : Going). past_line g.course (after_line g.course.stands (g.course.lines + 1) text) ≡ ended_by e g.course) is (ap (past_line (record { stands = s; lines = n; fault = None })) after)))
+  | inr memory ↦ inr (ended ∙ ap (λ (e : SimFault). ended_by e g.course) memory)
+]
+line-failed view (Some e') s n line text g e c is goes comes ended = absurd (let other : Some e' ≡ None = ap (λ (g : Going). g.course.fault) is ∙ goes in cc)
+
+-- the boot was ended
+pub boot-passed : (f : Option SimFault) (s s' : BootOrBook) (n : ℕ) (line : List ℕ) (g : Going) → going_of f s n line ≡ g → g.course.fault ≡ None → after_end s (n + 1) ≡ Ok s'
+    → EndsBoot g.course (record { stands = s'; lines = n; fault = None })
+unfolding boot_ended
+boot-passed None s s' n line g is goes after =
+    subst (λ (g : Going). EndsBoot g.course (record { stands = s'; lines = n; fault = None })) is
+    (inl (sym (ap (past_boot (record { stands = s; lines = n; fault = None })) after)))
+boot-passed (Some e) s s' n line g is goes after = absurd (let other : Some e ≡ None = ap (λ (g : Going). g.course.fault) is ∙ goes in cc)
+
+-- it could not be
+pub boot-failed : {X : Type 0} (view : X → BootOrBook) (f : Option SimFault) (s : BootOrBook) (n : ℕ) (line : List ℕ) (g : Going) (e : SimFault) (c : Course) → going_of f s n line ≡ g → g.course.fault ≡ None
+    → ComesOf view (Err e) (after_end s (n + 1)) → (e ≡ fault.OutOfMemory → s.book ≡ None) → c ≡ ended_by e g.course → EndsBoot g.course c
+unfolding boot_ended
+boot-failed view None s n line g e c is goes comes none ended = elim (comes-fault view e (after_end s (n + 1)) comes) [
+  | inl after ↦ inl (ended ∙ sym (subst (λ (g : Going). boot_ended g.course ≡ ended_by e g.course) is (ap (past_boot (record { stands = s; lines = n; fault = None })) after)))
+  | inr memory ↦ inr (ap (λ (g : Going). g.course.stands.book) (sym is) ∙ none memory, ended ∙ ap (λ (e : SimFault). ended_by e g.course) memory)
+]
+boot-failed view (Some e') s n line g e c is goes comes none ended = absurd (let other : Some e' ≡ None = ap (λ (g : Going). g.course.fault) is ∙ goes in cc)
 
 -- the end, where a fault had ended the replay
-pub end-stopped : (c : Course) (line : List ℕ) (e : SimFault) → c.fault ≡ Some e → TakesEnd (record { course = c; line = line_left c.fault line }) (record { course = c; line = line_left c.fault line })
+pub end-stopped : (f : Option SimFault) (s : BootOrBook) (n : ℕ) (line : List ℕ) (g : Going) (e : SimFault) → going_of f s n line ≡ g → f ≡ Some e → TakesEnd g g
 unfolding ended
-end-stopped c line e is = inl (at_line-ended c line e is ∙ sym (ap (λ (o : Option SimFault). at_line (at_end (record { course = c; line = line_left c.fault line }) o)) is))
+end-stopped None s n line g e is ends = absurd cc
+end-stopped (Some f) s n line g e is ends = subst (λ (g : Going). TakesEnd g g) is (inl refl)
 
 -- ---- a part of a line
 
@@ -83,34 +136,33 @@ takes-kept : (g : Going) (part : List ℕ) (h : Going) → g.course.fault ≡ No
 takes-kept g [] h goes plain some is = absurd cc
 takes-kept g (b ∷ bs) h goes plain some is = inl (is ∙ sym (fed-kept bs g b goes plain))
 
--- a replay, by its fields
-abbrev pub going_of : Course → List ℕ → Going
-going_of c line = record { course = c; line = line_left c.fault line }
+-- it begins a line too many
+pub keep-many : (g h : Going) (part : List ℕ) → g.course.fault ≡ None → HasNoNewline part → eqb (length part) 0 ≡ false → 2000000 ≤ g.course.lines
+    → h ≡ at_line (refused_for why.ManyLines g.course) → Takes g part h
+keep-many g h part goes plain some full is =
+    let over : ltb 2000000 (g.course.lines + 1) ≡ true = lt-ltb _ _ (omega (arith, full)) in
+    takes-kept g part h goes plain some (is ∙ (rw over refl))
 
-pub keep-many : (c c' : Course) (line part : List ℕ) → c.fault ≡ None → HasNoNewline part → eqb (length part) 0 ≡ false → ltb c.lines 2000000 ≡ false → c' ≡ refused_for why.ManyLines c
-    → Takes (going_of c line) part (going_of c' line)
-keep-many c c' line part goes plain some full is =
-    let over : ltb 2000000 (c.lines + 1) ≡ true = lt-ltb _ _ (omega (arith, ltb-false _ _ full)) in
-    takes-kept (going_of c line) part (going_of c' line) goes plain some (ap (λ (c : Course). going_of c line) is ∙ (rw over refl))
+-- it makes the line too long
+pub keep-long : (g h : Going) (part : List ℕ) → g.course.fault ≡ None → HasNoNewline part → eqb (length part) 0 ≡ false → g.course.lines < 2000000
+    → 4096 < length g.line + length part → h ≡ at_line (refused_for why.LongLine g.course) → Takes g part h
+keep-long g h part goes plain some room over is =
+    let few : ltb 2000000 (g.course.lines + 1) ≡ false = le-ltb _ _ (omega (arith, room)) in
+    let long : ltb 4096 (length g.line + length part) ≡ true = lt-ltb _ _ over in
+    takes-kept g part h goes plain some (is ∙ (rw (few, long) refl))
 
-pub keep-long : (c c' : Course) (line part : List ℕ) → c.fault ≡ None → HasNoNewline part → eqb (length part) 0 ≡ false → ltb c.lines 2000000 ≡ true → 4096 < length line + length part → c' ≡ refused_for why.LongLine c
-    → Takes (going_of c line) part (going_of c' line)
-keep-long c c' line part goes plain some room over is =
-    let few : ltb 2000000 (c.lines + 1) ≡ false = le-ltb _ _ (omega (arith, ltb-true _ _ room)) in
-    let long : ltb 4096 (length (line_left c.fault line) + length part) ≡ true = rw (line-goes c line goes) (lt-ltb _ _ over) in
-    takes-kept (going_of c line) part (going_of c' line) goes plain some (ap (λ (c : Course). going_of c line) is ∙ (rw (few, long) refl))
+-- it is kept
+pub keep-fits : (g h : Going) (part : List ℕ) → g.course.fault ≡ None → HasNoNewline part → eqb (length part) 0 ≡ false → g.course.lines < 2000000
+    → length g.line + length part ≤ 4096 → h ≡ record g { line = g.line ++ part } → Takes g part h
+keep-fits g h part goes plain some room fits is =
+    let few : ltb 2000000 (g.course.lines + 1) ≡ false = le-ltb _ _ (omega (arith, room)) in
+    let short : ltb 4096 (length g.line + length part) ≡ false = le-ltb _ _ fits in
+    takes-kept g part h goes plain some (is ∙ (rw (few, short) refl))
 
-pub keep-fits : (c : Course) (line part more : List ℕ) → c.fault ≡ None → HasNoNewline part → eqb (length part) 0 ≡ false → ltb c.lines 2000000 ≡ true → length line + length part ≤ 4096 → more ≡ line ++ part
-    → Takes (going_of c line) part (going_of c more)
-keep-fits c line part more goes plain some room fits is =
-    let few : ltb 2000000 (c.lines + 1) ≡ false = le-ltb _ _ (omega (arith, ltb-true _ _ room)) in
-    let short : ltb 4096 (length (line_left c.fault line) + length part) ≡ false = rw (line-goes c line goes) (le-ltb _ _ fits) in
-    let same : line_left c.fault more ≡ line_left c.fault line ++ part = line-goes c more goes ∙ is ∙ ap (λ (l : List ℕ). l ++ part) (sym (line-goes c line goes)) in
-    takes-kept (going_of c line) part (going_of c more) goes plain some (ap (λ (l : List ℕ). record { course = c; line = l }) same ∙ (rw (few, short) refl))
-
-pub keep-memory : (c c' : Course) (line line' part : List ℕ) → c.fault ≡ None → c' ≡ ended_by fault.OutOfMemory c → Takes (going_of c line) part (going_of c' line')
+-- memory is refused for it
+pub keep-memory : (g h : Going) (part : List ℕ) → g.course.fault ≡ None → h ≡ at_line (ended_by fault.OutOfMemory g.course) → Takes g part h
 unfolding fed
-keep-memory c c' line line' part goes is = inr (record { before = []; after = part; split = refl; goes = goes; stopped = ap (λ (c : Course). going_of c line') is })
+keep-memory g h part goes is = inr (record { before = []; after = part; split = refl; goes = goes; stopped = is })
 
 -- ---- answers
 
@@ -129,23 +181,20 @@ empty-is [] is = refl
 empty-is (x ∷ xs) is = absurd (let other : eqb (length (x ∷ xs)) 0 ≡ false = ne_eqb _ _ (λ e. omega arith) in cc)
 
 -- a line that begins and ends in one piece
-pub line-empty : (c c' : Course) (line part : List ℕ) → c.fault ≡ None → HasNoNewline part → eqb (length line) 0 ≡ true → TakesLine c part c' → Takes (going_of c line) (part ++ 10 ∷ []) (going_of c' line)
-line-empty c c' line part goes plain none takes =
-    let nil = empty-is line none in
-    let left : line_left c.fault line ≡ [] = line-goes c line goes ∙ nil in
-    subst (Takes (going_of c line) (part ++ 10 ∷ [])) (sym (at_line-is c' line nil))
-    (takes-line (going_of c line) part c' goes plain (subst (λ (l : List ℕ). TakesLine c (l ++ part) c') (sym left) takes))
+pub line-whole : (g h : Going) (part : List ℕ) → g.course.fault ≡ None → HasNoNewline part → g.line ≡ [] → TakesLine g.course part h.course → h.line ≡ [] → Takes g (part ++ 10 ∷ []) h
+line-whole g h part goes plain none takes out =
+    subst (Takes g (part ++ 10 ∷ [])) (sym (at_line-is h out))
+    (takes-line g part h.course goes plain (subst (λ (l : List ℕ). TakesLine g.course (l ++ part) h.course) (sym none) takes))
 
 -- no byte is no newline
 no-newline : HasNoNewline []
 no-newline = λ k lt is. omega (arith, lt)
 
 -- a line that was kept, and its newline
-pub line-more : (c c' : Course) (line after : List ℕ) → c.fault ≡ None → after ≡ [] → TakesLine c line c' → Takes (going_of c line) (10 ∷ []) (going_of c' after)
-line-more c c' line after goes none takes =
-    let left : line_left c.fault line ++ [] ≡ line = append-nil (line_left c.fault line) ∙ line-goes c line goes in
-    subst (Takes (going_of c line) (10 ∷ [])) (sym (at_line-is c' after none))
-    (takes-line (going_of c line) [] c' goes no-newline (subst (λ (l : List ℕ). TakesLine c l c') (sym left) takes))
+pub line-kept : (g h : Going) → g.course.fault ≡ None → TakesLine g.course g.line h.course → h.line ≡ [] → Takes g (10 ∷ []) h
+line-kept g h goes takes out =
+    subst (Takes g (10 ∷ [])) (sym (at_line-is h out))
+    (takes-line g [] h.course goes no-newline (subst (λ (l : List ℕ). TakesLine g.course l h.course) (sym (append-nil g.line)) takes))
 
 -- a line of a piece, its newline, and what follows
 pub line-cut : (rest : List ℕ) (i : ℕ) → i < length rest → eqb (slice_index rest i) 10 ≡ true → rest ≡ (take i rest ++ 10 ∷ []) ++ drop (i + 1) rest
@@ -158,38 +207,38 @@ line-cut (b ∷ bs) (suc i) lt here =
 -- ---- the end
 
 -- the last line lacks its newline, and a fault ended the replay at it
-pub end-line : (c c' : Course) (line after : List ℕ) (e : SimFault) → c.fault ≡ None → eqb (length line) 0 ≡ false → after ≡ [] → TakesLine c line c' → c'.fault ≡ Some e → TakesEnd (going_of c line) (going_of c' after)
+pub end-line : (c : Course) (line : List ℕ) (h : Going) (e : SimFault) → c.fault ≡ None → eqb (length line) 0 ≡ false → TakesLine c line h.course → h.line ≡ [] → h.course.fault ≡ Some e
+    → TakesEnd (record { course = c; line = line }) h
 unfolding ended boot_ended
-end-line c c' [] after e goes some none takes ends = absurd cc
-end-line c c' (b ∷ bs) after e goes some none (inl is) ends =
-    let here : at_end (going_of c (b ∷ bs)) None ≡ boot_ended (with_line c (b ∷ bs)) = ap (λ (l : List ℕ). boot_ended (with_last c l)) (line-goes c (b ∷ bs) goes) in
+end-line c [] h e goes some takes none ends = absurd cc
+end-line c (b ∷ bs) h e goes some (inl is) none ends =
     let stays : boot_ended (with_line c (b ∷ bs)) ≡ with_line c (b ∷ bs) = ap (boot_ended_after (with_line c (b ∷ bs))) (ap (λ (c : Course). c.fault) (sym is) ∙ ends) in
-    inl (at_line-is c' after none ∙ ap at_line (is ∙ sym stays ∙ sym here ∙ sym (ap (at_end (going_of c (b ∷ bs))) goes)))
-end-line c c' (b ∷ bs) after e goes some none (inr is) ends = inr (goes, at_line-is c' after none ∙ ap at_line is)
+    inl (at_line-is h none ∙ ap at_line (is ∙ sym stays ∙ sym (ap (at_end (record { course = c; line = b ∷ bs })) goes)))
+end-line c (b ∷ bs) h e goes some (inr is) none ends = inr (goes, at_line-is h none ∙ ap at_line is)
 
 -- no line is left, and the boot is ended
-pub end-boot : (c c' : Course) (line after : List ℕ) → c.fault ≡ None → line ≡ [] → after ≡ [] → EndsBoot c c' → TakesEnd (going_of c line) (going_of c' after)
+pub end-boot : (c : Course) (line : List ℕ) (h : Going) → c.fault ≡ None → line ≡ [] → EndsBoot c h.course → h.line ≡ [] → TakesEnd (record { course = c; line = line }) h
 unfolding ended
-end-boot c c' line after goes none out (inl is) =
-    let here : at_end (going_of c line) None ≡ boot_ended c = ap (λ (l : List ℕ). boot_ended (with_last c l)) (line-goes c line goes ∙ none) in
-    inl (at_line-is c' after out ∙ ap at_line (is ∙ sym here ∙ sym (ap (at_end (going_of c line)) goes)))
-end-boot c c' line after goes none out (inr is) = inr (goes, at_line-is c' after out ∙ ap at_line is.1)
+end-boot c line h goes none (inl is) out =
+    let here : at_end (record { course = c; line = line }) None ≡ boot_ended c = ap (λ (l : List ℕ). boot_ended (with_last c l)) none in
+    inl (at_line-is h out ∙ ap at_line (is ∙ sym here ∙ sym (ap (at_end (record { course = c; line = line })) goes)))
+end-boot c line h goes none (inr is) out = inr (goes, at_line-is h out ∙ ap at_line is.1)
 
 -- a last line, and then the end of the boot
-pub end-both : (c m c' : Course) (line after : List ℕ) → c.fault ≡ None → eqb (length line) 0 ≡ false → after ≡ [] → TakesLine c line m → m.fault ≡ None → EndsBoot m c' → TakesEnd (going_of c line) (going_of c' after)
+pub end-both : (c m : Course) (line : List ℕ) (h : Going) → c.fault ≡ None → eqb (length line) 0 ≡ false → TakesLine c line m → m.fault ≡ None → EndsBoot m h.course → h.line ≡ []
+    → TakesEnd (record { course = c; line = line }) h
 unfolding ended
-end-both c m c' [] after goes some none takes on ends = absurd cc
-end-both c m c' (b ∷ bs) after goes some none (inl is) on (inl end) =
-    let here : at_end (going_of c (b ∷ bs)) None ≡ boot_ended (with_line c (b ∷ bs)) = ap (λ (l : List ℕ). boot_ended (with_last c l)) (line-goes c (b ∷ bs) goes) in
-    inl (at_line-is c' after none ∙ ap at_line (end ∙ ap boot_ended is ∙ sym here ∙ sym (ap (at_end (going_of c (b ∷ bs))) goes)))
-end-both c m c' (b ∷ bs) after goes some none (inl is) on (inr end) =
+end-both c m [] h goes some takes on ends none = absurd cc
+end-both c m (b ∷ bs) h goes some (inl is) on (inl end) none =
+    inl (at_line-is h none ∙ ap at_line (end ∙ ap boot_ended is ∙ sym (ap (at_end (record { course = c; line = b ∷ bs })) goes)))
+end-both c m (b ∷ bs) h goes some (inl is) on (inr end) none =
     let longer : IsLonger c.stands.book None = subst (IsLonger c.stands.book) (ap (λ (c : Course). c.stands.book) (sym is) ∙ end.0) (with_line-longer c (b ∷ bs)) in
-    inr (goes, at_line-is c' after none ∙ ap at_line (end.1 ∙ ap (λ (k : Option Book). record { stands = record { boot = None; book = k }; lines = 0; fault = Some fault.OutOfMemory }) (end.0 ∙ sym (none-before c.stands.book longer))))
+    inr (goes, at_line-is h none ∙ ap at_line (end.1 ∙ ap (λ (k : Option Book). record { stands = record { boot = None; book = k }; lines = 0; fault = Some fault.OutOfMemory }) (end.0 ∙ sym (none-before c.stands.book longer))))
   where
     none-before : (k : Option Book) → IsLonger k None → k ≡ None
     none-before None longer = refl
     none-before (Some b) longer = absurd longer
-end-both c m c' (b ∷ bs) after goes some none (inr is) on ends = absurd (let other : Some fault.OutOfMemory ≡ None = ap (λ (c : Course). c.fault) (sym is) ∙ on in cc)
+end-both c m (b ∷ bs) h goes some (inr is) on ends none = absurd (let other : Some fault.OutOfMemory ≡ None = ap (λ (c : Course). c.fault) (sym is) ∙ on in cc)
 
 -- ---- books
 

@@ -5,7 +5,7 @@ use Rattle.std.proofs.lemmas.List.{length-append}
 use Rattle.mcs_text.specs.declared.fault.LineFault.TheVariants as why
 use Rattle.mcs_sim.specs.declared.fault.SimFault.{SimFault}
 use Rattle.mcs_sim.specs.declared.fault.SimFault.TheVariants as fault
-use Rattle.mcs_sim.specs.Going.{Standing, Course, Going, after_line, refused_for, past_line, with_line, at_line, with_part, with_next, fed}
+use Rattle.mcs_sim.specs.Going.{BootOrBook, Course, Going, after_line, refused_for, past_line, with_line, at_line, with_part, with_next, fed}
 use Rattle.mcs_sim.proofs.GoingLaws.{fed-stopped, fed-next, refused-line, many-says}
 
 -- how far a replay has come
@@ -31,7 +31,7 @@ line-taken c l goes = (few (ltb 2000000 (c.lines + 1)) refl, count (after_line c
     few true e = absurd (let other : Some (fault.Script (c.lines + 1) why.ManyLines) ≡ None = sym (ap (λ (c : Course). c.fault) (refused-line c l why.ManyLines (many-says (c.lines + 1) l e))) ∙ goes in cc)
     few false e = ltb-false _ _ e
 
-    count : (r : Result Standing SimFault) → (past_line c r).fault ≡ None → (past_line c r).lines ≡ c.lines + 1
+    count : (r : Result BootOrBook SimFault) → (past_line c r).fault ≡ None → (past_line c r).lines ≡ c.lines + 1
     count (Ok s) goes = refl
     count (Err e) goes = absurd cc
 

@@ -9,7 +9,7 @@ pub mod GoingScripts
 pub mod GoingBooks
 pub mod GoingRuns
 pub mod GoingTakes
-pub mod Standings
+pub mod PhaseLaws
 pub mod GoingWeights
 pub mod SimulateLaws
 pub mod TraceLaws

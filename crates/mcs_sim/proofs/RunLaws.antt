@@ -2,6 +2,7 @@
 use Rattle.std.proofs.Common.{ℕ, Option, Some, None, Result, Ok, Err, IfOk, IfErr, List, [], ◌≡◌, refl, sym, subst, append-nil}
 use Rattle.std.specs.Prelude.{IsErrAnd}
 use Rattle.std.specs.Io.KnownBytes.{Appends, Consumes}
+use Rattle.std.proofs.KnownBytes.{Consumes-trans}
 use Rattle.mcs_sim.specs.declared.fault.SimFault.{SimFault}
 use Rattle.mcs_sim.specs.Runs.{Begins}
 
@@ -35,3 +36,8 @@ Consumes-nil a bytes none = subst (Consumes a a) (sym none) (go a)
     go : (a : Option (List ℕ)) → Consumes a a []
     go None = tt
     go (Some xs) = refl
+
+-- no byte more was read
+pub no-more : (left mid left' : Option (List ℕ)) (text more : List ℕ) → Consumes left mid text → Consumes mid left' more → more ≡ [] → Consumes left left' text
+no-more left mid left' text bytes read more none =
+    subst (Consumes left left') (append-nil text) (Consumes-trans _ _ _ _ _ read (subst (Consumes mid left') none more))

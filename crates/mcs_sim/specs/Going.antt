@@ -28,12 +28,12 @@ line_length_limit = SCRIPT_LINE_BYTES
 -- ---- one line
 
 -- the boot so far, until it has ended, and from then on the book
-pub record Standing : Type 0 where
+pub record BootOrBook : Type 0 where
   pub boot : Option Boot
   pub book : Option Book
 
 -- before the first line
-abbrev pub not_begun : Standing
+abbrev pub not_begun : BootOrBook
 not_begun = record { boot = None; book = None }
 
 -- the book of a boot alone
@@ -64,18 +64,18 @@ read_at number (Ok x) = Ok x
 read_at number (Err e) = Err (fault.Script number e)
 
 -- what stands after that, where it stands
-abbrev pub stands : Option Boot → Result Book SimFault → Result Standing SimFault
+abbrev pub stands : Option Boot → Result Book SimFault → Result BootOrBook SimFault
 stands boot (Ok k) = Ok (record { boot = boot; book = Some k })
 stands boot (Err e) = Err e
 
 -- what stands once a script has this boot and these steps, before which it had none: the first step ends the boot
-abbrev pub opened : Option Boot → List Step → Result Standing SimFault
+abbrev pub opened : Option Boot → List Step → Result BootOrBook SimFault
 opened boot [] = Ok (record { boot = boot; book = None })
 opened None (s ∷ ss) = Ok not_begun
 opened (Some b) (s ∷ ss) = stands None (stepped (begun_by b) s)
 
 -- what stands after a line while the boot goes on, by what was read of it
-abbrev pub after_boot_line : Result (Script Step) SimFault → Result Standing SimFault
+abbrev pub after_boot_line : Result (Script Step) SimFault → Result BootOrBook SimFault
 after_boot_line (Ok t) = opened t.boot t.items
 after_boot_line (Err e) = Err e
 
@@ -90,12 +90,12 @@ unfoldable pub book_after : Book → ℕ → List ℕ → Result Book SimFault
 book_after k number line = after_step k (read_at number (step_line k.boot.cores (threads_of k.boot) number line))
 
 -- what stands after the line of this number, where the book was this one, if the boot had ended
-abbrev pub after_line_on : Standing → Option Book → ℕ → List ℕ → Result Standing SimFault
+abbrev pub after_line_on : BootOrBook → Option Book → ℕ → List ℕ → Result BootOrBook SimFault
 after_line_on s None number line = after_boot_line (read_at number (read_line of_steps (record { boot = s.boot; items = [] }) number line))
 after_line_on s (Some k) number line = stands s.boot (book_after k number line)
 
 -- what stands after the line of this number
-unfoldable pub after_line : Standing → ℕ → List ℕ → Result Standing SimFault
+unfoldable pub after_line : BootOrBook → ℕ → List ℕ → Result BootOrBook SimFault
 after_line s number line = after_line_on s s.book number line
 
 -- ---- line by line
@@ -103,7 +103,7 @@ after_line s number line = after_line_on s s.book number line
 -- what a replay holds between two lines: what stands, and how many lines there were; and after a fault that fault, and nothing else but the
 -- book
 pub record Course : Type 0 where
-  pub stands : Standing
+  pub stands : BootOrBook
   pub lines : ℕ
   pub fault : Option SimFault
 
@@ -120,7 +120,7 @@ abbrev pub refused_for : LineFault → Course → Course
 refused_for e c = ended_by (fault.Script (c.lines + 1) e) c
 
 -- a line more, by what stands after it
-abbrev pub past_line : Course → Result Standing SimFault → Course
+abbrev pub past_line : Course → Result BootOrBook SimFault → Course
 past_line c (Ok s) = record { stands = s; lines = c.lines + 1; fault = None }
 past_line c (Err e) = ended_by e c
 
@@ -129,16 +129,16 @@ unfoldable pub with_line : Course → List ℕ → Course
 with_line c line = past_line c (after_line c.stands (c.lines + 1) line)
 
 -- what stands at the end of the input, where this is the number of the line that would follow: the boot has ended, if no step ended it
-abbrev pub after_end_on : Standing → Option Book → Option Boot → ℕ → Result Standing SimFault
+abbrev pub after_end_on : BootOrBook → Option Book → Option Boot → ℕ → Result BootOrBook SimFault
 after_end_on s (Some k) boot number = Ok s
 after_end_on s None (Some b) number = Ok (record { boot = None; book = Some (begun_by b) })
 after_end_on s None None number = Err (fault.Script number why.NoCores)
 
-unfoldable pub after_end : Standing → ℕ → Result Standing SimFault
+unfoldable pub after_end : BootOrBook → ℕ → Result BootOrBook SimFault
 after_end s number = after_end_on s s.book s.boot number
 
 -- the boot has ended, by what stands then
-abbrev pub past_boot : Course → Result Standing SimFault → Course
+abbrev pub past_boot : Course → Result BootOrBook SimFault → Course
 past_boot c (Ok s) = record { stands = s; lines = c.lines; fault = None }
 past_boot c (Err e) = ended_by e c
 
@@ -251,12 +251,14 @@ book_lent (Some b) = Some b.now.book
 abbrev pub HasNoNewline : List ℕ → Type 0
 HasNoNewline text = (k : ℕ) → k < length text → slice_index text k ≢ 10
 
--- the line not yet ended, where this fault ended the replay, if one did
-abbrev pub line_left : Option SimFault → List ℕ → List ℕ
-line_left None line = line
-line_left (Some e) line = []
+-- the first, unless a fault ended the replay
+abbrev pub unless : {X : Type 0} → Option SimFault → X → X → X
+unless None x gone = x
+unless (Some e) x gone = gone
 
--- a replay between two lines, where this fault ended it, if one did
-abbrev pub course_seen : Option SimFault → Standing → ℕ → Course
-course_seen None s lines = record { stands = s; lines = lines; fault = None }
-course_seen (Some e) s lines = record { stands = record { boot = None; book = s.book }; lines = 0; fault = Some e }
+-- a replay between two bytes, by its fields
+abbrev pub going_of : Option SimFault → BootOrBook → ℕ → List ℕ → Going
+going_of f s lines line = record {
+  course = record { stands = record { boot = unless f s.boot None; book = s.book }; lines = unless f lines 0; fault = f };
+  line = unless f line [];
+}

@@ -5,6 +5,7 @@ pub mod Script
 pub mod Input
 pub mod Runs
 pub mod Going
+pub mod Phases
 pub mod Users
 pub mod Running
 pub mod Outcomes

@@ -7,13 +7,13 @@ use Rattle.mcs_text.specs.declared.fault.LineFault.{LineFault}
 use Rattle.mcs_sim.specs.declared.fault.SimFault.TheVariants as fault
 use Rattle.mcs_sim.specs.Script.{Script}
 use Rattle.mcs_sim.specs.Runs.{IsFullAt, IsRoomy}
-use Rattle.mcs_sim.specs.Going.{Standing, Course, not_begun}
+use Rattle.mcs_sim.specs.Going.{BootOrBook, Course, not_begun}
 
 -- what stands after the lines of a script
-abbrev pub standing_of : Option Boot → List Step → Standing
-standing_of boot [] = record { boot = boot; book = None }
-standing_of None (s ∷ ss) = not_begun
-standing_of (Some b) (s ∷ ss) = record { boot = None; book = Some (book_of b (s ∷ ss)) }
+abbrev pub boot_or_book_of : Option Boot → List Step → BootOrBook
+boot_or_book_of boot [] = record { boot = boot; book = None }
+boot_or_book_of None (s ∷ ss) = not_begun
+boot_or_book_of (Some b) (s ∷ ss) = record { boot = None; book = Some (book_of b (s ∷ ss)) }
 
 -- all of a script was taken
 pub record IsTaken (t : Script Step) (c : Course) : Type 0 where
@@ -27,7 +27,7 @@ pub record IsTaken (t : Script Step) (c : Course) : Type 0 where
 pub record IsTakenTo (line : ℕ) (why : LineFault) (t : Script Step) (c : Course) : Type 0 where
   pub roomy : IsRoomy t.boot t.items
   pub ended : c.fault ≡ Some (fault.Script line why)
-  pub book : c.stands.book ≡ (standing_of t.boot t.items).book
+  pub book : c.stands.book ≡ (boot_or_book_of t.boot t.items).book
 
 -- a script was taken to the first step for which the book is full: the book is that of the steps before it
 pub record IsTakenToFull (t : Script Step) (c : Course) : Type 0 where
@@ -37,7 +37,7 @@ pub record IsTakenToFull (t : Script Step) (c : Course) : Type 0 where
   pub split : t.items ≡ before ++ step ∷ after
   pub full : IsFullAt (length before + 1) t.boot t.items
   pub ended : c.fault ≡ Some fault.BookFull
-  pub book : c.stands.book ≡ (standing_of t.boot before).book
+  pub book : c.stands.book ≡ (boot_or_book_of t.boot before).book
 
 -- what comes of a script with its first faulty line, if it has one
 abbrev pub ComesOfScript : Script Step × Option (ℕ × LineFault) → Course → Type 0

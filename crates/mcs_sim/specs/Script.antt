@@ -17,20 +17,20 @@ use Rattle.mcs_text.specs.Keys.{boot_key}
 use Rattle.mcs_text.specs.declared.steps.UserEntry.{UserEntry}
 use Rattle.mcs_text.specs.Reading.{◌>>=◌, lines_of, words_of, step_of, user_of}
 use Rattle.mcs_text.specs.BootLines.{raw_line}
-use Rattle.mcs_sim.specs.declared.script.ReadFault.{ReadFault}
-use Rattle.mcs_sim.specs.declared.script.ReadFault.TheVariants as read_fault
+use Rattle.mcs_sim.specs.declared.script.ScriptFault.{ScriptFault}
+use Rattle.mcs_sim.specs.declared.script.ScriptFault.TheVariants as not_taken
 use Rattle.mcs_sim.specs.BootLines.{line_fault, cores_of, fitted, with_line}
 
 -- the fault of a boot that refuses a line
-abbrev pub read_fault_of : BootFault → ReadFault
-read_fault_of why.OutOfMemory = read_fault.OutOfMemory
-read_fault_of f = read_fault.Line (line_fault f)
+abbrev pub script_fault_of : BootFault → ScriptFault
+script_fault_of why.OutOfMemory = not_taken.OutOfMemory
+script_fault_of f = not_taken.Line (line_fault f)
 
 -- what a reader of lines returned, seen by view, is what reading gives, where memory was there
-abbrev pub Reads : {X Y : Type 0} → (X → Y) → Result X ReadFault → Result Y LineFault → Type 0
+abbrev pub Reads : {X Y : Type 0} → (X → Y) → Result X ScriptFault → Result Y LineFault → Type 0
 Reads view (Ok x) read = read ≡ Ok (view x)
-Reads view (Err (read_fault.Line e)) read = read ≡ Err e
-Reads view (Err read_fault.OutOfMemory) read = Unit {0}
+Reads view (Err (not_taken.Line e)) read = read ≡ Err e
+Reads view (Err not_taken.OutOfMemory) read = Unit {0}
 
 -- how a script is read: the number of cores that it has to say, where that is given, and the item that a line behind the boot spells,
 -- where so many cores and threads are there

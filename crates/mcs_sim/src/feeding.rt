@@ -1,33 +1,41 @@
 //! A replay that is fed its script piece by piece.
-ghost use Rattle.std.specs.Prelude.{◌≡◌, ◌∷◌, [], ◌++◌, IfOk, None};
-ghost use Rattle.mcs_sim.specs.Going.{Takes, TakesEnd, TakesPiece, HasNoNewline, answer_of, no_line, at_line, book_lent, IsFairBook};
+ghost use Rattle.std.specs.Prelude.{◌≡◌, ◌∷◌, [], ◌++◌, IfOk, Err, None, option_copied};
+ghost use Rattle.mcs_sim.specs.Going.{Takes, TakesLine, TakesEnd, TakesPiece, EndsBoot, HasNoNewline, answer_of, no_line, at_line, ended_by, refused_for, book_lent, IsFairBook};
 
-use crate::course::Course;
 use crate::fault::SimFault;
+use crate::phase::Phase;
 use mcs_book::Book;
+use mcs_kernel::Kernel;
+use mcs_queues::LinkedLines;
 use mcs_text::LineFault;
-use mcs_types::{OutOfMemory, SCRIPT_LINE_BYTES};
+use mcs_types::{OutOfMemory, SCRIPT_LINE_BYTES, SCRIPT_LINES};
 use memchr::memchr;
 use std::alloc::Global;
 use std::marker::Model;
+use std::mem;
 
 /// A replay of a script of steps that comes in pieces: it holds the boot until that has ended, then the book, and of the text
-/// no more than the line that has not ended (own).
+/// no more than the line that has not ended (own). Once a fault has ended it, it takes no byte any more.
 #[derive(Drop)]
 pub struct ReplayRun {
-    course: Course,
+    phase: Phase,
+    lines: u64,
+    fault: Option<SimFault>,
     line: Vec<u8>,
 }
 
 impl Model for ReplayRun {
     ghost use Rattle.std.specs.Prelude.{◌≤◌, length};
-    ghost use Rattle.mcs_sim.specs.Going.{Going, line_left, line_length_limit};
+    ghost use Rattle.mcs_sim.specs.Going.{Going, going_of, line_count_limit, line_length_limit};
+    ghost use Rattle.mcs_sim.specs.Phases.{seen, HasNoItems};
 
     ghost Value = { Going };
 
-    ghost view = { λ r. record { course = r.course; line = line_left r.course.fault r.line.items } };
+    ghost view = { λ r. going_of r.fault (seen r.phase) r.lines r.line.items };
 
-    ghost invariant = { λ r. length r.line.items ≤ line_length_limit };
+    ghost invariant = { λ r. HasNoItems r.phase
+        × (r.lines ≤ line_count_limit)
+        × (length r.line.items ≤ line_length_limit) };
 }
 
 impl ReplayRun {
@@ -37,9 +45,18 @@ impl ReplayRun {
     {
         let line = Vec::with_capacity(alloc, SCRIPT_LINE_BYTES).map_err(|_| OutOfMemory)?;
         Ok(ReplayRun {
-            course: Course::new(alloc),
+            phase: Phase::new(alloc),
+            lines: 0,
+            fault: None,
             line,
         })
+    }
+
+    /// The kernel after the steps so far; None until the boot has ended, which its first step does, or the end of the input.
+    pub fn kernel(&self) -> Option<&Kernel<LinkedLines>>
+        ensures { option_copied result ≡ self.now.course.stands.book }
+    {
+        self.phase.kernel()
     }
 
     /// The book of the steps so far; None until the boot has ended, which its first step does, or the end of the input.
@@ -47,7 +64,30 @@ impl ReplayRun {
         ensures lent { book_lent result ≡ self.now.course.stands.book }
         ensures fair { IsFairBook self.now.course.stands.book }
     {
-        self.course.book()
+        let Some(kernel) = self.kernel() else {
+            return None;
+        };
+        Some(kernel.book())
+    }
+
+    /// Ends the replay with this fault.
+    fn end_by(&mut self, fault: SimFault) -> Result<(), SimFault>
+        requires goes { self.old.course.fault ≡ None }
+        ensures ended { self.new ≡ at_line (ended_by fault self.old.course) }
+        ensures told { result ≡ Err fault }
+    {
+        self.fault = Some(fault);
+        Err(fault)
+    }
+
+    /// Ends the replay with a fault of the line that has not ended.
+    fn refuse(&mut self, why: LineFault) -> Result<(), SimFault>
+        requires goes { self.old.course.fault ≡ None }
+        ensures ended { self.new ≡ at_line (refused_for why self.old.course) }
+        ensures told { result ≡ answer_of self.new.course.fault }
+    {
+        let line = self.lines + 1;
+        self.end_by(SimFault::Script { line, why })
     }
 
     /// Keeps a part of a line.
@@ -60,16 +100,49 @@ impl ReplayRun {
         if part.is_empty() {
             return Ok(());
         }
-        if !self.course.has_room() {
-            return self.course.refuse(LineFault::ManyLines);
+        if self.lines >= SCRIPT_LINES {
+            return self.refuse(LineFault::ManyLines);
         }
         if part.len() > SCRIPT_LINE_BYTES - self.line.len() {
-            return self.course.refuse(LineFault::LongLine);
+            return self.refuse(LineFault::LongLine);
         }
         match self.line.extend_from_slice(part) {
             Ok(()) => Ok(()),
-            Err(_) => self.course.end_by(SimFault::OutOfMemory),
+            Err(_) => self.end_by(SimFault::OutOfMemory),
         }
+    }
+
+    /// Takes a line of which nothing was kept.
+    #[tactic(auto, unfolding(crate::specs::Going::with_line))]
+    fn take_line(&mut self, alloc: Global, line: &[u8]) -> Result<(), SimFault>
+        requires goes { self.old.course.fault ≡ None }
+        requires begins { self.old.line ≡ [] }
+        ensures takes { TakesLine self.old.course line.now self.new.course }
+        ensures begins { self.new.line ≡ [] }
+        ensures told { result ≡ answer_of self.new.course.fault }
+    {
+        let number = self.lines + 1;
+        match self.phase.take_line(alloc, number, line) {
+            Ok(()) => {
+                self.lines = number;
+                Ok(())
+            }
+            Err(fault) => self.end_by(fault),
+        }
+    }
+
+    /// Takes the line that was kept.
+    fn take_kept(&mut self, alloc: Global) -> Result<(), SimFault>
+        requires goes { self.old.course.fault ≡ None }
+        ensures takes { TakesLine self.old.course self.old.line self.new.course }
+        ensures begins { self.new.line ≡ [] }
+        ensures told { result ≡ answer_of self.new.course.fault }
+    {
+        let mut line = mem::replace(&mut self.line, Vec::new(alloc));
+        let taken = self.take_line(alloc, &line);
+        line.clear();
+        self.line = line;
+        taken
     }
 
     /// Takes the rest of a line, and its newline.
@@ -80,12 +153,26 @@ impl ReplayRun {
         ensures told { result ≡ answer_of self.new.course.fault }
     {
         if self.line.is_empty() {
-            return self.course.take_line(alloc, part);
+            return self.take_line(alloc, part);
         }
         self.keep(part)?;
-        let taken = self.course.take_line(alloc, &self.line);
-        self.line.clear();
-        taken
+        self.take_kept(alloc)
+    }
+
+    /// Ends the boot at the end of the input, where no step did.
+    #[tactic(auto, unfolding(crate::specs::Going::boot_ended))]
+    fn end_boot(&mut self, alloc: Global) -> Result<(), SimFault>
+        requires goes { self.old.course.fault ≡ None }
+        requires begins { self.old.line ≡ [] }
+        ensures ends { EndsBoot self.old.course self.new.course }
+        ensures begins { self.new.line ≡ [] }
+        ensures told { result ≡ answer_of self.new.course.fault }
+    {
+        let next = self.lines + 1;
+        if let Err(fault) = self.phase.end_boot(alloc, next) {
+            return self.end_by(fault);
+        }
+        Ok(())
     }
 
     /// Takes a piece of the input, whose end may stand anywhere in a line. Fault Script comes at the latest with the newline
@@ -95,7 +182,7 @@ impl ReplayRun {
         ensures takes { Takes self.old piece.now self.new }
         ensures told { result ≡ answer_of self.new.course.fault }
     {
-        if let Some(fault) = self.course.fault() {
+        if let Some(fault) = self.fault {
             return Err(fault);
         }
         let mut rest = piece;
@@ -112,16 +199,14 @@ impl ReplayRun {
         ensures takes { TakesEnd self.old self.new }
         ensures told { result ≡ answer_of self.new.course.fault }
     {
-        if let Some(ended) = self.course.fault() {
+        if let Some(ended) = self.fault {
             return Err(ended);
         }
         if self.line.is_empty() {
-            return self.course.end_boot(alloc);
+            return self.end_boot(alloc);
         }
-        let taken = self.course.take_line(alloc, &self.line);
-        self.line.clear();
-        taken?;
-        self.course.end_boot(alloc)
+        self.take_kept(alloc)?;
+        self.end_boot(alloc)
     }
 
     /// Takes a piece of the input, or its end where the piece is empty.

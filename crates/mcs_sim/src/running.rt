@@ -1,6 +1,7 @@
 //! A script of users, from bytes to bytes: they run on a machine, and the trace of its book is written.
 ghost use Rattle.std.specs.Prelude.{◌≡◌, ◌≤◌, IfOk, IfErr, OnOk, Err};
 ghost use Rattle.mcs_book.specs.History.{IsLegal};
+ghost use Rattle.mcs_book.specs.Fair.{IsFair};
 ghost use Rattle.mcs_trace.specs.Output.{Rose};
 ghost use Rattle.mcs_sim.specs.Running.{Reads, EndsUsers, IsOfMachine, IsBookOf, RunFinished, RunEndedBy, run_fault, finish_fault};
 
@@ -96,6 +97,7 @@ fn settle_run<G: Ledger + Send + Sync, X: Threads + Wait + Sync, T: Gate>(
     requires sixteen { blank.parts ≡ CORES }
     ensures booted { IfOk result (λ s. s.boot ≡ boot.now) }
     ensures legal { IfOk result (λ s. IsLegal s) }
+    ensures fair { IfOk result (λ s. IsFair s) }
     ensures fault { IfErr result IsOfMachine }
 {
     let Ok(kernel) = Kernel::new(alloc, boot) else {
@@ -125,9 +127,7 @@ fn run_users<X: Threads + Wait + Sync, T: Gate>(
         return Err(SimFault::OutOfMemory);
     };
     let blank = Blank::new(u64::from(CORES));
-    let settled = settle_run::<Brand, X, T>(rt, alloc, blank, boot, &users, gate)?;
-    settled.kernel().is_fair();
-    Ok(settled)
+    settle_run::<Brand, X, T>(rt, alloc, blank, boot, &users, gate)
 }
 
 /// Reads a boot and the entries of users, runs them on a machine with a host thread for each core, settles it, and writes the

@@ -95,35 +95,35 @@ impl<T> Model for Script<T> {
 
 /// Why a line could not be taken.
 #[derive(Clone, Copy)]
-pub enum ReadFault {
+pub enum ScriptFault {
     Line(LineFault),
     OutOfMemory,
 }
 
-impl From<LineFault> for ReadFault {
+impl From<LineFault> for ScriptFault {
     ghost use Rattle.std.specs.Prelude.{◌≡◌};
-    ghost use Rattle.mcs_sim.specs.declared.script.ReadFault.TheVariants.{Line};
+    ghost use Rattle.mcs_sim.specs.declared.script.ScriptFault.TheVariants.{Line};
 
     ghost from_gives = { λ fault e. e ≡ Line fault };
 
-    fn from(fault: LineFault) -> ReadFault {
-        ReadFault::Line(fault)
+    fn from(fault: LineFault) -> ScriptFault {
+        ScriptFault::Line(fault)
     }
 }
 
-impl From<BootFault> for ReadFault {
+impl From<BootFault> for ScriptFault {
     ghost use Rattle.std.specs.Prelude.{◌≡◌};
-    ghost use Rattle.mcs_sim.specs.Script.{read_fault_of};
+    ghost use Rattle.mcs_sim.specs.Script.{script_fault_of};
 
-    ghost from_gives = { λ fault e. e ≡ read_fault_of fault };
+    ghost from_gives = { λ fault e. e ≡ script_fault_of fault };
 
-    fn from(fault: BootFault) -> ReadFault {
+    fn from(fault: BootFault) -> ScriptFault {
         match fault {
-            BootFault::Number => ReadFault::Line(LineFault::Number),
-            BootFault::NoObject => ReadFault::Line(LineFault::NoObject),
-            BootFault::Limit => ReadFault::Line(LineFault::Limit),
-            BootFault::Taken => ReadFault::Line(LineFault::Taken),
-            BootFault::OutOfMemory => ReadFault::OutOfMemory,
+            BootFault::Number => ScriptFault::Line(LineFault::Number),
+            BootFault::NoObject => ScriptFault::Line(LineFault::NoObject),
+            BootFault::Limit => ScriptFault::Line(LineFault::Limit),
+            BootFault::Taken => ScriptFault::Line(LineFault::Taken),
+            BootFault::OutOfMemory => ScriptFault::OutOfMemory,
         }
     }
 }
@@ -269,25 +269,25 @@ fn first_boot(
     asked: Option<u8>,
     key: Option<Key>,
     words: &mut Words<'_>,
-) -> Result<Boot, ReadFault>
+) -> Result<Boot, ScriptFault>
     ensures { Reads (λ b. b) result (first_boot asked key words.old) }
 {
     let Some(Key::Cores) = key else {
-        return Err(ReadFault::Line(LineFault::NoCores));
+        return Err(ScriptFault::Line(LineFault::NoCores));
     };
     match read_boot_line(Key::Cores, words)? {
         RawBootLine::Cores { cores } => {
             let cores = asked_cores(asked, cores_of(cores)?)?;
             // the number was tested, so that only memory can be refused
-            Boot::new(alloc, cores).map_err(|_| ReadFault::OutOfMemory)
+            Boot::new(alloc, cores).map_err(|_| ScriptFault::OutOfMemory)
         }
-        _ => Err(ReadFault::Line(LineFault::Form)),
+        _ => Err(ScriptFault::Line(LineFault::Form)),
     }
 }
 
 /// Adds a line to the boot.
 #[tactic(auto, unfolding(crate::specs::BootLines::with_line))]
-fn add_line(boot: &mut Boot, line: BootLine) -> Result<(), ReadFault>
+fn add_line(boot: &mut Boot, line: BootLine) -> Result<(), ScriptFault>
     ensures reads { Reads (λ u. boot.new) result (with_line boot.old line) }
     ensures unchanged { OnErr result (boot.new ≡ boot.old) }
 {
@@ -297,7 +297,7 @@ fn add_line(boot: &mut Boot, line: BootLine) -> Result<(), ReadFault>
 
 /// Adds the line that the words behind a key spell to the boot.
 #[tactic(auto, unfolding(crate::specs::Script::next_boot))]
-fn read_next_boot(boot: &mut Boot, key: Key, words: &mut Words<'_>) -> Result<(), ReadFault>
+fn read_next_boot(boot: &mut Boot, key: Key, words: &mut Words<'_>) -> Result<(), ScriptFault>
     ensures reads { Reads (λ u. boot.new) result (next_boot boot.old key words.old) }
     ensures unchanged { OnErr result (boot.new ≡ boot.old) }
 {
@@ -314,18 +314,18 @@ fn read_next_item<T: Item>(
     items: &mut Vec<T>,
     line: &[u8],
     room: &mut Option<Room>,
-) -> Result<(), ReadFault>
+) -> Result<(), ScriptFault>
     ensures reads { Reads (λ u. items.new.items) result
         (next_items T.item boot.now items.old.items line.now) }
     ensures unchanged { OnErr result (items.new.items ≡ items.old.items) }
 {
     if make_ready(alloc, room).is_err() {
-        return Err(ReadFault::OutOfMemory);
+        return Err(ScriptFault::OutOfMemory);
     }
     let item = T::read(alloc, boot.cores(), boot.made(Kind::Thread), line, room)?;
     match items.push(item) {
         Ok(()) => Ok(()),
-        Err(_) => Err(ReadFault::OutOfMemory),
+        Err(_) => Err(ScriptFault::OutOfMemory),
     }
 }
 
@@ -339,14 +339,14 @@ fn read_later_line<T: Item>(
     room: &mut Option<Room>,
     key: Option<Key>,
     words: &mut Words<'_>,
-) -> Result<(), ReadFault>
+) -> Result<(), ScriptFault>
     ensures reads { Reads (λ u. record { boot = Some boot.new; items = items.new.items }) result
         (later_line T.item boot.old items.old.items line.now key words.old) }
     ensures boot_unchanged { OnErr result (boot.new ≡ boot.old) }
     ensures items_unchanged { OnErr result (items.new.items ≡ items.old.items) }
 {
     match key {
-        Some(_) if !items.is_empty() => Err(ReadFault::Line(LineFault::LateBoot)),
+        Some(_) if !items.is_empty() => Err(ScriptFault::Line(LineFault::LateBoot)),
         Some(key) => read_next_boot(boot, key, words),
         None => read_next_item(alloc, boot, items, line, room),
     }
@@ -375,7 +375,7 @@ impl<T: Item> Script<T> {
         asked: Option<u8>,
         number: u64,
         line: &[u8],
-    ) -> Result<(), ReadFault>
+    ) -> Result<(), ScriptFault>
         ensures reads { Reads (λ u. self.new) result
             (read_line (record { cores = asked; item = T.item }) self.old number line.now) }
         ensures numbered { OnOk result (number ≤ SCRIPT_LINES) }
@@ -389,7 +389,12 @@ impl<T: Item> Script<T> {
 
     /// Takes a line that is not skipped.
     #[tactic(auto, unfolding(crate::specs::Script::spelled, crate::specs::Script::by_boot))]
-    fn read_words(&mut self, alloc: Global, asked: Option<u8>, line: &[u8]) -> Result<(), ReadFault>
+    fn read_words(
+        &mut self,
+        alloc: Global,
+        asked: Option<u8>,
+        line: &[u8],
+    ) -> Result<(), ScriptFault>
         ensures reads { Reads (λ u. self.new) result
             (spelled (record { cores = asked; item = T.item }) self.old line.now (words_of line.now)) }
         ensures unchanged { OnErr result (self.new ≡ self.old) }

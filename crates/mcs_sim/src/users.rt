@@ -5,7 +5,7 @@ ghost use Rattle.mcs_sim.specs.Script.{of_users, read_line};
 ghost use Rattle.mcs_sim.specs.Users.{TakesUsers, IsFaultIn, IsFaultOfLine, IsFaultAtEnd, IsKept, no_users, read_to_end};
 
 use crate::fault::SimFault;
-use crate::script::{ReadFault, Script};
+use crate::script::{Script, ScriptFault};
 use mcs_kernel::Boot;
 use mcs_text::{LineFault, UserEntry};
 use mcs_types::{OutOfMemory, SCRIPT_LINE_BYTES, SCRIPT_LINES};
@@ -28,7 +28,12 @@ impl Model for UserLines {
 
     ghost Value = { Users };
 
-    ghost view = { λ u. record { asked = u.asked; script = u.script; lines = u.lines; line = u.line.items } };
+    ghost view = { λ u. record {
+      asked = u.asked;
+      script = u.script;
+      lines = u.lines;
+      line = u.line.items;
+    } };
 
     ghost invariant = { λ u. IsKept u.lines u.line.items };
 }
@@ -41,15 +46,16 @@ fn read_user_line(
     number: u64,
     line: &[u8],
 ) -> Result<(), SimFault>
-    ensures ok { OnOk result (read_line (of_users asked) script.old number line.now ≡ Ok script.new) }
+    ensures ok { OnOk result
+        (read_line (of_users asked) script.old number line.now ≡ Ok script.new) }
     ensures err { IfErr result
         (IsFaultOfLine number (read_line (of_users asked) script.old number line.now)) }
     ensures numbered { OnOk result (number ≤ SCRIPT_LINES) }
 {
     match script.read_line(alloc, asked, number, line) {
         Ok(()) => Ok(()),
-        Err(ReadFault::Line(why)) => Err(SimFault::Script { line: number, why }),
-        Err(ReadFault::OutOfMemory) => Err(SimFault::OutOfMemory),
+        Err(ScriptFault::Line(why)) => Err(SimFault::Script { line: number, why }),
+        Err(ScriptFault::OutOfMemory) => Err(SimFault::OutOfMemory),
     }
 }
 

@@ -1,6 +1,5 @@
-use Rattle.std.proofs.Common.{◌≡◌, ℕ, ◌++◌, [], List, length, take, Err, refl, ap, sym, subst, ◌∙◌, append-nil, arith}
+use Rattle.std.proofs.Common.{◌≡◌, ℕ, ◌++◌, [], List, length, take, Err, refl, ap, sym, subst, ◌∙◌, arith}
 use Rattle.std.specs.Prelude.{IsErrAnd}
-use Rattle.std.specs.Io.KnownBytes.{Consumes}
 use Rattle.std.proofs.KnownBytes.{Consumes-trans}
 use Rattle.std.proofs.lemmas.List.{length-take-le}
 use Rattle.mcs_trace.specs.Output.{Rose}
@@ -10,7 +9,7 @@ use Rattle.mcs_sim.specs.declared.fault.SimFault.TheVariants as fault
 use Rattle.mcs_sim.specs.Trace.{trace_of}
 use Rattle.mcs_sim.specs.Runs.{Ends}
 use Rattle.mcs_sim.specs.Going.{Going, fed, TakesPiece}
-use Rattle.mcs_sim.proofs.RunLaws.{IfErr-same, Consumes-nil}
+use Rattle.mcs_sim.proofs.RunLaws.{IfErr-same, Consumes-nil, no-more}
 use Rattle.mcs_sim.proofs.GoingRuns.{ends-early, ends-read, ends-well}
 use Rattle.mcs_sim.proofs.SimulateLaws.{tells-on, moves-out, appends-out, answer-well, piece-on, piece-nearer, ends-piece, never-read, only-broken}
 use Rattle.mcs_sim.proofs.replaying.simulate.Goals as goal
@@ -39,7 +38,7 @@ returns-in_default-read_piece-clause-err g c =
     let i = c.loop-n.invariant in
     let left = g.R.Read.remaining c.args.from.now.reader in
     let left' = g.R.Read.remaining c.read_piece.new.self.reader in
-    let read : Consumes left left' i.reached.0 = subst (Consumes left left') (append-nil i.reached.0) (Consumes-trans _ _ _ _ _ i.reached.1 c.in_default-read_piece.ensures.err) in
+    let read = no-more _ _ _ _ _ i.reached.1 c.in_default-read_piece.ensures.err refl in
     let trace = trace_of c.loop-n.run.course.stands.book in
     let out = g.W.Write.contents c.args.to.now.writer in
     let out' = g.W.Write.contents c.loop-n.to.writer in
@@ -88,8 +87,7 @@ returns-then-n-eq0-clause-ok g c =
     let none : n ≡ 0 = c.if-n-eq0.true in
     let nil : take n p ≡ [] = ap (λ (n : ℕ). take n p) none in
     let takes = subst (λ (l : List ℕ). TakesPiece c.loop-n.run l c.take_piece.new.self) nil c.take_piece.ensures.takes in
-    let last : Consumes (g.R.Read.remaining c.loop-n.from.reader) left' [] = subst (Consumes _ _) nil c.in-Ok-read_piece.ensures.bytes in
-    let read : Consumes left left' i.reached.0 = subst (Consumes left left') (append-nil i.reached.0) (Consumes-trans _ _ _ _ _ i.reached.1 last) in
+    let read = no-more _ _ _ _ _ i.reached.1 c.in-Ok-read_piece.ensures.bytes nil in
     let well = answer-well c.take_piece.new.to.is_broken c.take_piece.new.self.course.fault c.in_ok-take_piece.field-0 (sym c.in_ok-take_piece.was ∙ c.take_piece.ensures.answer) in
     let all = tells-on g.W.Write.contents c.start.new.self c.loop-n.to c.take_piece.new.to c.loop-n.run.course.stands.book c.take_piece.new.self.course.stands.book i.puts c.take_piece.ensures.puts in
     ends-well left left' (g.W.Write.contents c.args.to.now.writer) (g.W.Write.contents c.take_piece.new.to.writer) c.loop-n.run i.reached.0 c.take_piece.new.self i.reached.2 read (c.in-Ok-read_piece.ensures.end none) takes

@@ -1,10 +1,9 @@
-use Rattle.std.proofs.Common.{◌≡◌, ℕ, ◌++◌, [], length, take, IfErr, refl, ap, sym, subst, append-nil, arith}
+use Rattle.std.proofs.Common.{◌≡◌, ℕ, ◌++◌, [], length, take, IfErr, refl, ap, sym, subst, arith}
 use Rattle.std.specs.Prelude.{IsErrAnd}
-use Rattle.std.specs.Io.KnownBytes.{Consumes}
 use Rattle.std.proofs.KnownBytes.{Consumes-trans}
 use Rattle.std.proofs.lemmas.List.{length-take-le}
 use Rattle.mcs_sim.specs.Users.{Users, no_users, IsKept, TakesUsers, IsFaultIn, IsFaultAtEnd}
-use Rattle.mcs_sim.proofs.RunLaws.{IfErr-same, IfOk-then, IfErr-then, Consumes-nil}
+use Rattle.mcs_sim.proofs.RunLaws.{IfErr-same, IfOk-then, IfErr-then, Consumes-nil, no-more}
 use Rattle.mcs_sim.proofs.UserLaws.{takes-nothing, takes-append, kept-nil, further, stops-here, ends-in, ends-at, reads-all}
 use Rattle.mcs_sim.proofs.running.read_users.Goals as goal
 
@@ -22,9 +21,7 @@ loop-n-init g c = record {
 pub returns-in_default-read_piece-clause-err : goal.returns-in_default-read_piece-clause-err
 returns-in_default-read_piece-clause-err g c =
     let i = c.loop-n.invariant in
-    let left = g.R.Read.remaining c.args.from.now.reader in
-    let left' = g.R.Read.remaining c.read_piece.new.self.reader in
-    let read : Consumes left left' i.reached.0 = subst (Consumes left left') (append-nil i.reached.0) (Consumes-trans _ _ _ _ _ i.reached.1 c.in_default-read_piece.ensures.err) in
+    let read = no-more _ _ _ _ _ i.reached.1 c.in_default-read_piece.ensures.err refl in
     (i.reached.0, read, stops-here c.args.cores i.reached.0 c.loop-n.users i.reached.2 i.kept)
 
 pub returns-then-n-eq0-clause-ok : goal.returns-then-n-eq0-clause-ok
@@ -33,8 +30,7 @@ returns-then-n-eq0-clause-ok g c =
     let left = g.R.Read.remaining c.args.from.now.reader in
     let left' = g.R.Read.remaining c.read_piece.new.self.reader in
     let none : c.in-Ok-read_piece.n ≡ 0 = c.if-n-eq0.true in
-    let last : Consumes (g.R.Read.remaining c.loop-n.from.reader) left' [] = subst (Consumes _ _) (ap (λ (n : ℕ). take n c.read_piece.new.piece) none) c.in-Ok-read_piece.ensures.bytes in
-    let read : Consumes left left' i.reached.0 = subst (Consumes left left') (append-nil i.reached.0) (Consumes-trans _ _ _ _ _ i.reached.1 last) in
+    let read = no-more _ _ _ _ _ i.reached.1 c.in-Ok-read_piece.ensures.bytes (ap (λ (n : ℕ). take n c.read_piece.new.piece) none) in
     IfOk-then c.end.result _ _ c.end.ensures.ok (λ r said. reads-all c.args.cores left left' i.reached.0 c.loop-n.users r.0 r.1.items i.reached.2 read (c.in-Ok-read_piece.ensures.end none) said)
 
 pub returns-then-n-eq0-clause-err : goal.returns-then-n-eq0-clause-err
@@ -43,8 +39,7 @@ returns-then-n-eq0-clause-err g c =
     let left = g.R.Read.remaining c.args.from.now.reader in
     let left' = g.R.Read.remaining c.read_piece.new.self.reader in
     let none : c.in-Ok-read_piece.n ≡ 0 = c.if-n-eq0.true in
-    let last : Consumes (g.R.Read.remaining c.loop-n.from.reader) left' [] = subst (Consumes _ _) (ap (λ (n : ℕ). take n c.read_piece.new.piece) none) c.in-Ok-read_piece.ensures.bytes in
-    let read : Consumes left left' i.reached.0 = subst (Consumes left left') (append-nil i.reached.0) (Consumes-trans _ _ _ _ _ i.reached.1 last) in
+    let read = no-more _ _ _ _ _ i.reached.1 c.in-Ok-read_piece.ensures.bytes (ap (λ (n : ℕ). take n c.read_piece.new.piece) none) in
     IfErr-then c.end.result _ _ c.end.ensures.err (λ e bad. ends-at e c.args.cores left left' i.reached.0 c.loop-n.users i.reached.2 i.kept read (c.in-Ok-read_piece.ensures.end none) bad)
 
 pub returns-then-n-eq0-clause-failed : goal.returns-then-n-eq0-clause-failed

@@ -1,14 +1,13 @@
-use Rattle.std.proofs.Common.{List, ℕ, [], ◌∷◌, ◌++◌, eqb, ap, sym, subst, ◌∙◌}
-use Rattle.mcs_sim.specs.Going.{Going, Takes, TakesLine}
-use Rattle.mcs_sim.proofs.GoingTakes.{takes-append, takes-stopped, going_of, answer-err, answer-ok, line-empty, line-more}
+use Rattle.std.proofs.Common.{ℕ, [], ◌∷◌, eqb, ap, sym, ◌∙◌}
+use Rattle.mcs_sim.specs.Phases.{seen}
+use Rattle.mcs_sim.proofs.GoingTakes.{is-going, empty-is, takes-append, takes-stopped, answer-err, answer-ok, line-whole, line-kept}
 use Rattle.mcs_sim.proofs.feeding.ReplayRun.end_line.Goals as goal
 
 pub returns-then-is_empty-clause-takes : goal.returns-then-is_empty-clause-takes
 returns-then-is_empty-clause-takes c =
-    let goes = ap (λ (g : Going). g.course.fault) c.self.view_is ∙ c.requires.goes in
-    let none = ap (λ (n : ℕ). eqb n 0) (sym c.self.inside.line.ok.0) ∙ sym c.is_empty.ensures ∙ c.if-is_empty.true in
-    subst (λ (g : Going). Takes g (c.args.part.now ++ 10 ∷ []) (going_of c.take_line.new.self c.self.inside.line.items)) c.self.view_is
-    (line-empty c.self.inside.course c.take_line.new.self c.self.inside.line.items c.args.part.now goes c.requires.one_line none c.take_line.ensures.takes)
+    let going = is-going c.self.inside.fault (seen c.self.inside.phase) c.self.inside.lines c.self.inside.line.items c.args.self.now c.self.view_is c.requires.goes in
+    let none = sym going.kept ∙ empty-is c.self.inside.line.items (ap (λ (n : ℕ). eqb n 0) (sym c.self.inside.line.ok.0) ∙ sym c.is_empty.ensures ∙ c.if-is_empty.true) in
+    line-whole c.args.self.now c.take_line.new.self c.args.part.now c.requires.goes c.requires.one_line none c.take_line.ensures.takes c.take_line.ensures.begins
 
 pub returns-in_err-keep-clause-takes : goal.returns-in_err-keep-clause-takes
 returns-in_err-keep-clause-takes c =
@@ -17,9 +16,5 @@ returns-in_err-keep-clause-takes c =
 
 pub returns-clause-takes : goal.returns-clause-takes
 returns-clause-takes c =
-    let kept = c.self-2.inside in
-    let goes = ap (λ (g : Going). g.course.fault) c.self-2.view_is ∙ answer-ok _ _ (sym c.in_ok-keep.was ∙ c.keep.ensures.told) in
-    let line = subst (λ (l : List ℕ). TakesLine kept.course l c.take_line-taken.new.self) c.deref.ensures.value c.take_line-taken.ensures.takes in
-    let ended = subst (λ (g : Going). Takes g (10 ∷ []) (going_of c.take_line-taken.new.self c.clear.new.self.items)) c.self-2.view_is
-    (line-more kept.course c.take_line-taken.new.self kept.line.items c.clear.new.self.items goes c.clear.ensures.items line) in
-    takes-append c.args.self.now c.keep.new.self (going_of c.take_line-taken.new.self c.clear.new.self.items) c.args.part.now (10 ∷ []) c.keep.ensures.takes ended
+    takes-append c.args.self.now c.keep.new.self c.take_kept.new.self c.args.part.now (10 ∷ []) c.keep.ensures.takes
+    (line-kept c.keep.new.self c.take_kept.new.self (answer-ok _ _ (sym c.in_ok-keep.was ∙ c.keep.ensures.told)) c.take_kept.ensures.takes c.take_kept.ensures.begins)

@@ -5,12 +5,12 @@ use Rattle.mcs_sim.proofs.GoingTakes.{takes-append, takes-split, takes-stopped, 
 use Rattle.mcs_sim.proofs.feeding.ReplayRun.feed.Goals as goal
 
 pub returns-in-Some-clause-takes : goal.returns-in-Some-clause-takes
-returns-in-Some-clause-takes c = takes-stopped c.args.self.now c.in-Some.fault c.args.piece.now (sym (ap (λ (g : Going). g.course.fault) c.self.view_is) ∙ sym c.fault.ensures ∙ c.in-Some.is)
+returns-in-Some-clause-takes c = takes-stopped c.args.self.now c.in-Some.fault c.args.piece.now (sym (ap (λ (g : Going). g.course.fault) c.self.view_is) ∙ c.in-Some.is)
 
 pub loop-i-init : goal.loop-i-init
 unfolding fed
 loop-i-init c = record {
-  goes = sym (ap (λ (g : Going). g.course.fault) c.self.view_is) ∙ sym c.fault.ensures ∙ c.in_default.is;
+  goes = sym (ap (λ (g : Going). g.course.fault) c.self.view_is) ∙ c.in_default.is;
   reached = ([], refl, inl refl);
 }
 

@@ -7,7 +7,8 @@ use Rattle.mcs_book.specs.History.{Book}
 use Rattle.mcs_sim.specs.Script.{Script, of_steps, read_line}
 use Rattle.mcs_sim.specs.declared.fault.SimFault.{SimFault}
 use Rattle.mcs_sim.specs.declared.fault.SimFault.TheVariants as fault
-use Rattle.mcs_sim.specs.Going.{ComesOf, Standing, stands, read_at, after_boot_line, book_after, after_line_on, after_line}
+use Rattle.mcs_sim.specs.Going.{ComesOf, BootOrBook, stands, read_at, after_boot_line, book_after, after_line}
+use Rattle.mcs_sim.specs.Phases.{opened_to}
 use Rattle.mcs_sim.proofs.GoingScripts.{IsOpening, IsFirstStep, read_line-opening}
 
 -- a fault is passed on
@@ -25,21 +26,25 @@ pub comes-stands : {X : Type 0} (boot : Option Boot) (r : Result X SimFault) (k 
 comes-stands {X = X} boot (Ok u) k out comes = ap (stands boot) comes
 comes-stands {X = X} boot (Err e) k out comes = comes-err {X = X} {V = X} (λ u. k) (λ u. record { boot = boot; book = Some k }) e out (stands boot) (λ e. refl) comes
 
--- while the boot goes on
-pub after-open : (s : Standing) (n : ℕ) (l : List ℕ) (t : Script Step) (k : Option Book) → record { boot = t.boot; book = k } ≡ s → s.book ≡ None → t.items ≡ [] → after_line s n l ≡ after_boot_line (read_at n (read_line of_steps t n l))
-unfolding after_line
-after-open s n l t k is began none =
-    let same : record { boot = s.boot; items = [] } ≡ t = λ i. record { boot = (sym is i).boot; items = sym none i } in
-    ap (λ (k : Option Book). after_line_on s k n l) began ∙ ap (λ (t : Script Step). after_boot_line (read_at n (read_line of_steps t n l))) same
+-- a fault is refused memory, or what comes of it
+pub comes-fault : {X Y : Type 0} (view : X → Y) (e : SimFault) (out : Result Y SimFault) → ComesOf view (Err e) out → (out ≡ Err e) ⊎ (e ≡ fault.OutOfMemory)
+comes-fault view fault.OutOfMemory out comes = inr refl
+comes-fault view fault.Argument out comes = inl comes
+comes-fault view (fault.Script line why) out comes = inl comes
+comes-fault view fault.Read out comes = inl comes
+comes-fault view fault.Write out comes = inl comes
+comes-fault view fault.BookFull out comes = inl comes
+comes-fault view fault.Failed out comes = inl comes
 
--- no book is there yet
-pub not-booted : (s : Standing) (boot : Option Boot) (k : Option Book) → record { boot = boot; book = k } ≡ s → s.book ≡ None → k ≡ None
-not-booted s boot k is began = ap (λ (s : Standing). s.book) is ∙ began
+-- while the boot goes on
+pub after-open : (t : Script Step) (n : ℕ) (l : List ℕ) → t.items ≡ [] → after_line (opened_to t.boot None) n l ≡ after_boot_line (read_at n (read_line of_steps t n l))
+unfolding after_line
+after-open t n l none = ap (λ (ss : List Step). after_boot_line (read_at n (read_line of_steps (record { boot = t.boot; items = ss }) n l))) (sym none)
 
 -- behind the boot
-pub after-boot : (s : Standing) (n : ℕ) (l : List ℕ) (k : Book) → s.book ≡ Some k → after_line s n l ≡ stands s.boot (book_after k n l)
+pub after-run : (k : Book) (n : ℕ) (l : List ℕ) → after_line (opened_to None (Some k)) n l ≡ stands None (book_after k n l)
 unfolding after_line
-after-boot s n l k is = ap (λ (k : Option Book). after_line_on s k n l) is
+after-run k n l = refl
 
 -- a line adds at most one step to a boot, and the last of those leaves none
 pub opened-one : (t u : Script Step) (n : ℕ) (l : List ℕ) → t.items ≡ [] → read_line of_steps t n l ≡ Ok u → take (length u.items - 1) u.items ≡ []

@@ -1,30 +1,30 @@
-//! What stands between two lines of a script of steps: the boot so far, and from its end on the replay of the steps.
-ghost use Rattle.std.specs.Prelude.{◌≡◌, ◌≤◌, ◌∷◌, IfOk, OnOk, OnErr, IsSome, [], Err, None, option_to_list};
+//! How far a replay of a script has come: the boot so far, or the run of the steps behind it.
+ghost use Rattle.std.specs.Prelude.{◌≡◌, ◌≤◌, ◌∷◌, IfOk, OnOk, OnErr, IsSome, [], Err, None, option_copied, option_to_list};
 ghost use Rattle.mcs_text.specs.Reading.{Gives};
 ghost use Rattle.mcs_sim.specs.Script.{threads_of, read_line, of_steps};
-ghost use Rattle.mcs_sim.specs.Going.{ComesOf, begun_by, stepped, step_line, book_after, read_at, opened, after_line, after_end, book_lent, IsFairBook};
+ghost use Rattle.mcs_sim.specs.Going.{ComesOf, not_begun, begun_by, stepped, step_line, book_after, read_at, opened, after_line, after_end};
+ghost use Rattle.mcs_sim.specs.Phases.{opened_to, seen, HasNoItems};
 
 use crate::fault::SimFault;
-use crate::script::{ReadFault, Script, make_ready, says_something};
-use mcs_book::Book;
-use mcs_kernel::{Boot, Replay, ReplayFault};
+use crate::script::{Script, ScriptFault, make_ready, says_something};
+use mcs_kernel::{Boot, Kernel, Replay, ReplayFault};
 use mcs_queues::LinkedLines;
 use mcs_text::{LineFault, first_boot_key, read_step};
 use mcs_types::{Kind, OutOfMemory, Room, SCRIPT_LINES, Step};
 use std::alloc::Global;
 use std::marker::Model;
 
-/// The replay of the steps behind a boot, which has so many cores and threads, and room for the words of the next step where it
+/// The run of the steps behind a boot, which has so many cores and threads, and room for the words of the next step where it
 /// was made and not used yet.
 #[derive(Drop)]
-struct Steps {
+pub struct StepRun {
     cores: u8,
     threads: u32,
     replay: Replay<LinkedLines>,
     room: Option<Room>,
 }
 
-impl Model for Steps {
+impl Model for StepRun {
     ghost use Rattle.std.specs.Prelude.{◌≡◌};
     ghost use Rattle.mcs_book.specs.History.{Book};
     ghost use Rattle.mcs_sim.specs.Script.{threads_of};
@@ -37,20 +37,27 @@ impl Model for Steps {
         × (s.threads ≡ threads_of s.replay.book.boot) };
 }
 
-impl Steps {
+impl StepRun {
     /// Before the first step.
-    fn new(alloc: Global, boot: Boot) -> Result<Steps, OutOfMemory>
+    fn new(alloc: Global, boot: Boot) -> Result<StepRun, OutOfMemory>
         ensures { IfOk result (λ s. s ≡ begun_by boot) }
     {
         let cores = boot.cores();
         let threads = boot.made(Kind::Thread);
         let replay = Replay::new(alloc, boot)?;
-        Ok(Steps {
+        Ok(StepRun {
             cores,
             threads,
             replay,
             room: None,
         })
+    }
+
+    /// The kernel after the steps so far.
+    fn kernel(&self) -> &Kernel<LinkedLines>
+        ensures { result.now ≡ self.now }
+    {
+        self.replay.kernel()
     }
 
     /// Takes a step.
@@ -67,14 +74,14 @@ impl Steps {
     }
 
     /// Behind this boot, after the first step.
-    fn start(alloc: Global, boot: Boot, step: Step) -> Result<Steps, SimFault>
+    fn start(alloc: Global, boot: Boot, step: Step) -> Result<StepRun, SimFault>
         ensures { ComesOf (λ k. k) result (stepped (begun_by boot) step) }
     {
-        let Ok(mut steps) = Steps::new(alloc, boot) else {
+        let Ok(mut run) = StepRun::new(alloc, boot) else {
             return Err(SimFault::OutOfMemory);
         };
-        steps.take(alloc, &step)?;
-        Ok(steps)
+        run.take(alloc, &step)?;
+        Ok(run)
     }
 
     /// Takes the line of this number.
@@ -135,124 +142,128 @@ fn read_opening(
     line: &[u8],
 ) -> Result<Option<Step>, SimFault>
     requires { opening.old.items ≡ [] }
-    ensures reads { ComesOf (λ step. record { boot = opening.new.boot; items = option_to_list step })
-        result (read_at number (read_line of_steps opening.old number line.now)) }
+    ensures reads { ComesOf
+        (λ step. record { boot = opening.new.boot; items = option_to_list step }) result
+        (read_at number (read_line of_steps opening.old number line.now)) }
     ensures kept { opening.new.items ≡ [] }
     ensures numbered { OnOk result (number ≤ SCRIPT_LINES) }
 {
     match opening.read_line(alloc, None, number, line) {
         Ok(()) => Ok(opening.items.pop()),
-        Err(ReadFault::Line(why)) => Err(SimFault::Script { line: number, why }),
-        Err(ReadFault::OutOfMemory) => Err(SimFault::OutOfMemory),
+        Err(ScriptFault::Line(why)) => Err(SimFault::Script { line: number, why }),
+        Err(ScriptFault::OutOfMemory) => Err(SimFault::OutOfMemory),
     }
 }
 
-/// What stands between two lines: the boot so far, and from its end on the book.
+/// Ends the boot with a step, and answers the run behind it, where there is a boot.
+fn end_opening(
+    opening: &mut Script<Step>,
+    alloc: Global,
+    step: Step,
+) -> Result<Option<StepRun>, SimFault>
+    ensures takes { ComesOf (λ run. opened_to opening.new.boot run) result
+        (opened opening.old.boot (step ∷ [])) }
+    ensures kept { opening.new.items ≡ opening.old.items }
+{
+    let Some(boot) = opening.boot.take() else {
+        return Ok(None);
+    };
+    let run = StepRun::start(alloc, boot, step)?;
+    Ok(Some(run))
+}
+
+/// Reads a line of this number while the boot goes on, and answers the run of the step that it says, if it says one.
+fn open(
+    opening: &mut Script<Step>,
+    alloc: Global,
+    number: u64,
+    line: &[u8],
+) -> Result<Option<StepRun>, SimFault>
+    requires { opening.old.items ≡ [] }
+    ensures takes { ComesOf (λ run. opened_to opening.new.boot run) result
+        (after_line (opened_to opening.old.boot None) number line.now) }
+    ensures kept { opening.new.items ≡ [] }
+    ensures numbered { OnOk result (number ≤ SCRIPT_LINES) }
+{
+    match read_opening(opening, alloc, number, line) {
+        Ok(None) => Ok(None),
+        Ok(Some(step)) => end_opening(opening, alloc, step),
+        Err(fault) => Err(fault),
+    }
+}
+
+/// What a replay holds between two lines of its script.
 #[derive(Drop)]
-pub struct Standing {
-    opening: Script<Step>,
-    steps: Option<Steps>,
+pub enum Phase {
+    /// The boot so far.
+    Booting(Script<Step>),
+    /// From the end of the boot on the run of the steps.
+    Running(StepRun),
 }
 
-impl Model for Standing {
-    ghost use Rattle.std.specs.Prelude.{◌≡◌, []};
-    ghost use Rattle.mcs_sim.specs.Going.{Standing};
-
-    ghost Value = { Standing };
-
-    ghost view = { λ s. record { boot = s.opening.boot; book = s.steps } };
-
-    ghost invariant = { λ s. s.opening.items ≡ [] };
-}
-
-impl Standing {
-    ghost use Rattle.std.specs.Prelude.{Option, Some};
-    ghost use Rattle.mcs_sim.specs.Going.{not_begun};
-
+impl Phase {
     /// Before the first line.
-    pub fn new(alloc: Global) -> Standing
-        ensures { result ≡ not_begun }
+    pub fn new(alloc: Global) -> Phase
+        ensures begins { seen result ≡ not_begun }
+        ensures kept { HasNoItems result }
     {
-        Standing {
-            opening: Script::new(alloc),
-            steps: None,
+        Phase::Booting(Script::new(alloc))
+    }
+
+    /// The kernel after the steps so far, once the boot has ended.
+    pub fn kernel(&self) -> Option<&Kernel<LinkedLines>>
+        ensures { option_copied result ≡ (seen self.now).book }
+    {
+        match self {
+            Phase::Booting(_) => None,
+            Phase::Running(run) => Some(run.kernel()),
         }
     }
 
-    /// The book, once the boot has ended.
-    pub fn book(&self) -> Option<&Book>
-        ensures lent { book_lent result ≡ self.now.book }
-        ensures fair { IsFairBook self.now.book }
+    /// Takes the line of this number. A fault leaves the book as it was.
+    pub fn take_line(&mut self, alloc: Global, number: u64, line: &[u8]) -> Result<(), SimFault>
+        requires { HasNoItems self.old }
+        ensures takes { ComesOf (λ u. seen self.new) result
+            (after_line (seen self.old) number line.now) }
+        ensures unchanged { OnErr result ((seen self.new).book ≡ (seen self.old).book) }
+        ensures numbered { OnOk result (number ≤ SCRIPT_LINES) }
+        ensures kept { HasNoItems self.new }
     {
-        let Some(steps) = &self.steps else {
-            return None;
+        let opening = match self {
+            Phase::Running(run) => return run.take_line(alloc, number, line),
+            Phase::Booting(opening) => opening,
         };
-        let kernel = steps.replay.kernel();
-        kernel.is_fair();
-        Some(kernel.book())
-    }
-
-    /// Ends the boot with a step.
-    fn start(&mut self, alloc: Global, step: Step) -> Result<(), SimFault>
-        requires { self.old.book ≡ None }
-        ensures takes { ComesOf (λ u. self.new) result (opened self.old.boot (step ∷ [])) }
-        ensures unchanged { OnErr result (self.new.book ≡ None) }
-    {
-        if let Some(boot) = self.opening.boot.take() {
-            self.steps = Some(Steps::start(alloc, boot, step)?);
+        if let Some(run) = open(opening, alloc, number, line)? {
+            *self = Phase::Running(run);
         }
         Ok(())
-    }
-
-    /// Takes a line while the boot goes on.
-    fn open(&mut self, alloc: Global, number: u64, line: &[u8]) -> Result<(), SimFault>
-        requires { self.old.book ≡ None }
-        ensures takes { ComesOf (λ u. self.new) result (after_line self.old number line.now) }
-        ensures unchanged { OnErr result (self.new.book ≡ None) }
-        ensures numbered { OnOk result (number ≤ SCRIPT_LINES) }
-    {
-        match read_opening(&mut self.opening, alloc, number, line) {
-            Ok(None) => Ok(()),
-            Ok(Some(step)) => self.start(alloc, step),
-            Err(fault) => Err(fault),
-        }
     }
 
     /// Ends the boot at the end of the input, where no step did. Fault Script with NoCores (1) and this number of a line where no
     /// line said the number of cores.
     #[tactic(auto, unfolding(crate::specs::Going::after_end))]
     pub fn end_boot(&mut self, alloc: Global, number: u64) -> Result<(), SimFault>
-        ensures ends { ComesOf (λ u. self.new) result (after_end self.old number) }
-        ensures memory { result ≡ Err SimFault.OutOfMemory → self.old.book ≡ None }
-        ensures unchanged { OnErr result (self.new.book ≡ self.old.book) }
+        requires { HasNoItems self.old }
+        ensures ends { ComesOf (λ u. seen self.new) result (after_end (seen self.old) number) }
+        ensures memory { result ≡ Err SimFault.OutOfMemory → (seen self.old).book ≡ None }
+        ensures unchanged { OnErr result ((seen self.new).book ≡ (seen self.old).book) }
+        ensures kept { HasNoItems self.new }
     {
-        if self.steps.is_some() {
+        let Phase::Booting(opening) = self else {
             return Ok(());
-        }
-        let Some(boot) = self.opening.boot.take() else {
+        };
+        let Some(boot) = opening.boot.take() else {
             return Err(SimFault::Script {
                 line: number,
                 why: LineFault::NoCores,
             });
         };
-        match Steps::new(alloc, boot) {
-            Ok(steps) => {
-                self.steps = Some(steps);
+        match StepRun::new(alloc, boot) {
+            Ok(run) => {
+                *self = Phase::Running(run);
                 Ok(())
             }
             Err(OutOfMemory) => Err(SimFault::OutOfMemory),
-        }
-    }
-
-    /// Takes the line of this number. A fault leaves the book as it was.
-    pub fn take_line(&mut self, alloc: Global, number: u64, line: &[u8]) -> Result<(), SimFault>
-        ensures takes { ComesOf (λ u. self.new) result (after_line self.old number line.now) }
-        ensures unchanged { OnErr result (self.new.book ≡ self.old.book) }
-        ensures numbered { OnOk result (number ≤ SCRIPT_LINES) }
-    {
-        match &mut self.steps {
-            Some(steps) => steps.take_line(alloc, number, line),
-            None => self.open(alloc, number, line),
         }
     }
 }
