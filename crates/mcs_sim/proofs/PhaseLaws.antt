@@ -7,7 +7,7 @@ use Rattle.mcs_book.specs.History.{Book}
 use Rattle.mcs_sim.specs.Script.{Script, of_steps, read_line}
 use Rattle.mcs_sim.specs.declared.fault.SimFault.{SimFault}
 use Rattle.mcs_sim.specs.declared.fault.SimFault.TheVariants as fault
-use Rattle.mcs_sim.specs.Going.{ComesOf, BootOrBook, stands, read_at, after_boot_line, book_after, after_line}
+use Rattle.mcs_sim.specs.Going.{ComesOf, stands, read_at, after_boot_line, book_after, after_line}
 use Rattle.mcs_sim.specs.Phases.{opened_to}
 use Rattle.mcs_sim.proofs.GoingScripts.{IsOpening, IsFirstStep, read_line-opening}
 
