@@ -220,8 +220,11 @@ impl Phase {
         }
     }
 
-    /// Takes the line of this number. A fault leaves the book as it was.
-    pub fn take_line(&mut self, alloc: Global, number: u64, line: &[u8]) -> Result<(), SimFault>
+    /// Takes the line of this number, with which a run may begin.
+    // out of line, since the run that it may answer is cleared first, in each call
+    #[cold]
+    #[inline(never)]
+    fn take_opening_line(&mut self, alloc: Global, number: u64, line: &[u8]) -> Result<(), SimFault>
         requires { HasNoItems self.old }
         ensures takes { ComesOf (λ u. seen self.new) result
             (after_line (seen self.old) number line.now) }
@@ -237,6 +240,21 @@ impl Phase {
             *self = Phase::Running(run);
         }
         Ok(())
+    }
+
+    /// Takes the line of this number. A fault leaves the book as it was.
+    pub fn take_line(&mut self, alloc: Global, number: u64, line: &[u8]) -> Result<(), SimFault>
+        requires { HasNoItems self.old }
+        ensures takes { ComesOf (λ u. seen self.new) result
+            (after_line (seen self.old) number line.now) }
+        ensures unchanged { OnErr result ((seen self.new).book ≡ (seen self.old).book) }
+        ensures numbered { OnOk result (number ≤ SCRIPT_LINES) }
+        ensures kept { HasNoItems self.new }
+    {
+        if let Phase::Running(run) = self {
+            return run.take_line(alloc, number, line);
+        }
+        self.take_opening_line(alloc, number, line)
     }
 
     /// Ends the boot at the end of the input, where no step did. Fault Script with NoCores (1) and this number of a line where no
