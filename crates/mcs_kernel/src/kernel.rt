@@ -13,6 +13,7 @@ ghost use Rattle.mcs_state.specs.Doing.{Does, Fits};
 ghost use Rattle.mcs_state.specs.Entering.{IsEntering, OpenStand, OnlyBoundWait};
 ghost use Rattle.mcs_kernel.specs.Faults.{fault_of, entered, with_entry, FailsForMemory};
 
+mod asking;
 mod queries;
 
 use crate::boot::{Boot, boot_state};

@@ -1,10 +1,12 @@
 //! A replay line by line.
-ghost use Rattle.std.specs.Prelude.{◌≡◌, nat_lt, Err, None};
+ghost use Rattle.std.specs.Prelude.{◌≡◌, nat_lt, Err, None, option_copied};
 ghost use Rattle.mcs_sim.specs.Going.{TakesLine, EndsBoot, answer_of, no_line, ended_by, refused_for, book_lent, IsFairBook};
 
 use crate::fault::SimFault;
 use crate::standing::Standing;
 use mcs_book::Book;
+use mcs_kernel::Kernel;
+use mcs_queues::LinkedLines;
 use mcs_text::LineFault;
 use mcs_types::SCRIPT_LINES;
 use std::alloc::Global;
@@ -39,6 +41,13 @@ impl Course {
             lines: 0,
             fault: None,
         }
+    }
+
+    /// The kernel, once the boot has ended.
+    pub fn kernel(&self) -> Option<&Kernel<LinkedLines>>
+        ensures { option_copied result ≡ self.now.stands.book }
+    {
+        self.standing.kernel()
     }
 
     /// The book, once the boot has ended.

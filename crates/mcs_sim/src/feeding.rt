@@ -1,10 +1,12 @@
 //! A replay that is fed its script piece by piece.
-ghost use Rattle.std.specs.Prelude.{◌≡◌, ◌∷◌, [], ◌++◌, IfOk, None};
+ghost use Rattle.std.specs.Prelude.{◌≡◌, ◌∷◌, [], ◌++◌, IfOk, None, option_copied};
 ghost use Rattle.mcs_sim.specs.Going.{Takes, TakesEnd, TakesPiece, HasNoNewline, answer_of, no_line, at_line, book_lent, IsFairBook};
 
 use crate::course::Course;
 use crate::fault::SimFault;
 use mcs_book::Book;
+use mcs_kernel::Kernel;
+use mcs_queues::LinkedLines;
 use mcs_text::LineFault;
 use mcs_types::{OutOfMemory, SCRIPT_LINE_BYTES};
 use memchr::memchr;
@@ -40,6 +42,13 @@ impl ReplayRun {
             course: Course::new(alloc),
             line,
         })
+    }
+
+    /// The kernel after the steps so far; None until the boot has ended, which its first step does, or the end of the input.
+    pub fn kernel(&self) -> Option<&Kernel<LinkedLines>>
+        ensures { option_copied result ≡ self.now.course.stands.book }
+    {
+        self.course.kernel()
     }
 
     /// The book of the steps so far; None until the boot has ended, which its first step does, or the end of the input.

@@ -1,5 +1,5 @@
 //! What stands between two lines of a script of steps: the boot so far, and from its end on the replay of the steps.
-ghost use Rattle.std.specs.Prelude.{◌≡◌, ◌≤◌, ◌∷◌, IfOk, OnOk, OnErr, IsSome, [], Err, None, option_to_list};
+ghost use Rattle.std.specs.Prelude.{◌≡◌, ◌≤◌, ◌∷◌, IfOk, OnOk, OnErr, IsSome, [], Err, None, option_copied, option_to_list};
 ghost use Rattle.mcs_text.specs.Reading.{Gives};
 ghost use Rattle.mcs_sim.specs.Script.{threads_of, read_line, of_steps};
 ghost use Rattle.mcs_sim.specs.Going.{ComesOf, begun_by, stepped, step_line, book_after, read_at, opened, after_line, after_end, book_lent, IsFairBook};
@@ -7,7 +7,7 @@ ghost use Rattle.mcs_sim.specs.Going.{ComesOf, begun_by, stepped, step_line, boo
 use crate::fault::SimFault;
 use crate::script::{ReadFault, Script, make_ready, says_something};
 use mcs_book::Book;
-use mcs_kernel::{Boot, Replay, ReplayFault};
+use mcs_kernel::{Boot, Kernel, Replay, ReplayFault};
 use mcs_queues::LinkedLines;
 use mcs_text::{LineFault, first_boot_key, read_step};
 use mcs_types::{Kind, OutOfMemory, Room, SCRIPT_LINES, Step};
@@ -177,6 +177,16 @@ impl Standing {
             opening: Script::new(alloc),
             steps: None,
         }
+    }
+
+    /// The kernel, once the boot has ended.
+    pub fn kernel(&self) -> Option<&Kernel<LinkedLines>>
+        ensures { option_copied result ≡ self.now.book }
+    {
+        let Some(steps) = &self.steps else {
+            return None;
+        };
+        Some(steps.replay.kernel())
     }
 
     /// The book, once the boot has ended.
