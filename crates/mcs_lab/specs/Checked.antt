@@ -1,107 +1,85 @@
 -- The verdicts on a script, line by line: a definition over its text and the book that its steps make.
-use Rattle.std.specs.Prelude.{ℕ, Bool, true, false, cond, List, [], ◌∷◌, ◌==◌, drop, length, Option, Some, None, fold}
-use Rattle.mcs_types.specs.declared.record.Rec.{Rec}
-use Rattle.mcs_book.specs.History.{Book, Line}
-use Rattle.mcs_sim.specs.Going.{Course, no_line, with_line}
-use Rattle.mcs_sim.specs.Trace.{sent_in}
-use Rattle.mcs_lab.specs.Verdicts.{is_answer, behind_record}
+use Rattle.std.specs.Prelude.{ℕ, ◌-◌, Bool, true, false, cond, List, [], ◌∷◌, ◌++◌, ◌==◌, ◌&&◌, take, length, Option, Some, None}
+use Rattle.mcs_book.specs.History.{Book}
+use Rattle.mcs_sim.specs.Going.{Going, no_line, at_line, fed}
+use Rattle.mcs_lab.specs.Asking.{asked_of}
+use Rattle.mcs_lab.specs.Verdicts.{line_count, sent_count, newest, answers_so, found, reason, was_away, says_so}
+use Rattle.mcs_lab.specs.declared.asking.Asked.{Asked}
+use Rattle.mcs_lab.specs.declared.asking.Asked.TheVariants as asked
+use Rattle.mcs_lab.specs.declared.last.Last.{Last}
+use Rattle.mcs_lab.specs.declared.last.Last.TheVariants.{NoStep, Away, LetIn}
+use Rattle.mcs_lab.specs.declared.last.Told.{Told}
+use Rattle.mcs_lab.specs.declared.last.Told.TheVariants as told
 
--- what is said on a line holds, or not
-pub record Verdict : Type 0 where
-  pub line : ℕ
-  pub holds : Bool
-
--- the step behind which a script says what is wanted: its text, the line of the book where it was let in, the records that were
--- not compared yet, and how many messages were sent before those
-pub record Behind : Type 0 where
-  pub text : List ℕ
-  pub entered : Option Line
-  pub left : List Rec
-  pub sent : ℕ
-
--- a script that is checked: its replay, the last step, and the verdicts so far, the newest first
+-- a script that is checked: its replay, whether its last step was let in, and the text of that step
 pub record Checked : Type 0 where
-  pub course : Course
-  pub behind : Option Behind
-  pub verdicts : List Verdict
+  pub run : Going
+  pub last : Last
+  pub step : List ℕ
+
+-- the book that its steps made, once the boot has ended
+abbrev pub book_of : Checked → Option Book
+book_of c = c.run.course.stands.book
 
 -- nothing was read
 abbrev pub unread : Checked
-unread = record { course = no_line; behind = None; verdicts = [] }
+unread = record { run = at_line no_line; last = NoStep; step = [] }
 
--- the lines of a book that may not be there, the newest first
-abbrev pub lines_in : Option Book → List Line
-lines_in None = []
-lines_in (Some b) = b.lines
+-- the last step was let in where the book has more lines than before
+abbrev pub last_of : Option Book → Option Book → Last
+last_of before after = cond (line_count after == line_count before) Away (LetIn 0 (sent_count before))
 
--- behind a step with this text: the newest line of the book is its own, where the book has more lines than before
-abbrev pub behind_step : List ℕ → ℕ → List Line → Behind
-behind_step text before [] = record { text = text; entered = None; left = []; sent = 0 }
-behind_step text before (l ∷ ls) = cond (length ls == before)
-    (record { text = text; entered = Some l; left = l.records; sent = sent_in 0 ls })
-    (record { text = text; entered = None; left = []; sent = 0 })
+-- what comes of a line that is no remark, before which the book was this one; while the boot goes on it is no step
+abbrev pub stepped : Option Book → Option Book → Checked → List ℕ → Told × Checked
+stepped before None c text = (told.Nothing, c)
+stepped before (Some b) c text = (told.Step, record c { last = last_of before (Some b); step = text })
 
--- a verdict more
-abbrev pub with_verdict : Bool → Checked → Checked
-with_verdict holds c = record c { verdicts = record { line = c.course.lines; holds = holds } ∷ c.verdicts }
+-- what comes of a line of a record: what stands before the one that is found is passed
+abbrev pub with_found : Option (ℕ × ℕ) → Checked → Told × Checked
+with_found None c = (told.Record false, c)
+with_found (Some at) c = (told.Record true, record c { last = LetIn at.0 at.1 })
 
--- whether the answer of a line that may not be there is written so
-abbrev pub answered_so : Option Line → List ℕ → Bool
-answered_so None said = false
-answered_so (Some l) said = is_answer l.answer said
+-- whether what is asked is so
+abbrev pub is_so : Checked → List ℕ → Asked → Bool
+is_so c text (asked.Away why) = was_away c.last (reason (book_of c) c.step) why text
+is_so c text (asked.State q) = says_so (book_of c) q text
 
--- whether the answer of the step behind which it stands is written so
-abbrev pub answers_so : Option Behind → List ℕ → Bool
-answers_so None said = false
-answers_so (Some b) said = answered_so b.entered said
+-- what comes of a question
+abbrev pub answered : Checked → List ℕ → Option Asked → Told
+answered c text None = told.NoQuestion
+answered c text (Some a) = told.Asked (is_so c text a)
 
--- with a verdict on a record, by where it was found: what stands before it is compared no more
-abbrev pub with_found : Behind → Option (ℕ × List Rec) → Checked → Checked
-with_found b None c = with_verdict false c
-with_found b (Some r) c = with_verdict true (record c { behind = Some (record b { sent = r.0; left = r.1 }) })
+-- what stands behind `#? ` on a line, without the newline
+abbrev pub question_text : List ℕ → Option (List ℕ)
+question_text (a ∷ b ∷ c ∷ text) = cond (a == 35 && b == 63 && c == 32) (Some (take (length text - 1) text)) None
+question_text (a ∷ b ∷ []) = None
+question_text (a ∷ []) = None
+question_text [] = None
 
--- with a verdict on a record
-abbrev pub with_record : Option Behind → List ℕ → Checked → Checked
-with_record None said c = with_verdict false c
-with_record (Some b) said c = with_found b (behind_record b.sent b.left said) c
+-- what comes of a remark
+abbrev pub remarked : Checked → Option (List ℕ) → Told
+remarked c None = told.Nothing
+remarked c (Some text) = answered c text (asked_of text)
 
--- how many lines a book has that may not be there
-abbrev pub line_count : Checked → ℕ
-line_count c = length (lines_in c.course.stands.book)
+-- what comes of a line by its first byte, where the replay has taken it, and before it the book was this one
+abbrev pub judged_by : Option Book → Checked → ℕ → List ℕ → Told × Checked
+judged_by before c b text =
+    cond (b == 61) (told.Answer (answers_so c.last (newest (book_of c)) text), c)
+    (cond (b == 43) (with_found (found c.last (newest (book_of c)) text) c)
+    (cond (b == 35) (remarked c (question_text text), c)
+    (cond (b == 10) (told.Nothing, c)
+    (stepped before (book_of c) c text))))
 
--- with a step more, before which the book had so many lines; a line of the boot is none
-abbrev pub stepped : ℕ → Option Book → List ℕ → Checked → Checked
-stepped before None text c = c
-stepped before (Some b) text c = record c { behind = Some (behind_step text before b.lines) }
+-- with a line more, which ends in a newline
+abbrev pub fed_line : Checked → List ℕ → Checked
+fed_line c text = record c { run = fed c.run text }
 
--- a line's bytes at its front: `=`, `+`, `#`, and `? ` behind that
-abbrev pub equals : ℕ
-equals = 61
+-- what comes of a line, which ends in a newline: the verdict, and the script behind it
+abbrev pub judged : Checked → List ℕ → Told × Checked
+judged c [] = (told.Nothing, fed_line c [])
+judged c (b ∷ bs) = judged_by (book_of c) (fed_line c (b ∷ bs)) b (b ∷ bs)
 
-abbrev pub plus : ℕ
-plus = 43
-
-abbrev pub hash : ℕ
-hash = 35
-
--- whether a remark is a question, by what stands behind its `#`
-abbrev pub is_question : List ℕ → Bool
-is_question (63 ∷ 32 ∷ said) = true
-is_question _ = false
-
--- with a line more, of a script whose replay has taken it; `asks` says whether the text of a question is answered so
-abbrev pub judged : (Option Book → Option Behind → List ℕ → Bool) → ℕ → Checked → List ℕ → Checked
-judged asks before c [] = c
-judged asks before c (b ∷ said) =
-    cond (b == equals) (with_verdict (answers_so c.behind (b ∷ said)) c)
-    (cond (b == plus) (with_record c.behind (b ∷ said) c)
-    (cond (b == hash) (cond (is_question said) (with_verdict (asks c.course.stands.book c.behind (drop 2 said)) c) c)
-    (stepped before c.course.stands.book (b ∷ said) c)))
-
--- with a line more
-abbrev pub with_script_line : (Option Book → Option Behind → List ℕ → Bool) → Checked → List ℕ → Checked
-with_script_line asks c line = judged asks (line_count c) (record c { course = with_line c.course line }) line
-
--- the verdicts on the lines of a script: the claim of `check`
-abbrev pub checked : (Option Book → Option Behind → List ℕ → Bool) → List (List ℕ) → Checked
-checked asks lines = fold (with_script_line asks) unread lines
+-- the verdicts on the lines of a script, in their order
+abbrev pub verdicts : Checked → List (List ℕ) → List Told
+verdicts c [] = []
+verdicts c (l ∷ ls) = (judged c l).0 ∷ verdicts (judged c l).1 ls

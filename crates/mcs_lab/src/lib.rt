@@ -2,20 +2,31 @@
 #![tactic(auto)]
 
 mod asking;
-mod behind;
 mod checking;
 mod fault;
+mod forms;
 mod hints;
+mod json;
+mod judging;
+mod last;
 mod names;
+mod path;
 mod reading;
 mod seeing;
 mod state;
 mod stuck;
-mod walk;
+mod tables;
+mod tap;
+mod text;
+mod values;
 mod why;
 mod words;
 
 pub use checking::check;
 pub use fault::LabFault;
+pub use forms::FORMS;
+pub use json::write_json;
+pub use judging::Judge;
+pub use last::{Last, Told};
 pub use state::{Wanted, show_state};
 pub use why::explain;

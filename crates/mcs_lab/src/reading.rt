@@ -9,7 +9,7 @@ use std::io::Read;
 
 /// What takes the lines of a script, one after the other.
 pub trait TakesLines {
-    /// Takes a line, without its newline.
+    /// Takes a line, with its newline.
     fn take_line(&mut self, alloc: Global, line: &[u8]) -> Result<(), LabFault>;
 
     /// How many lines were taken.
@@ -38,9 +38,10 @@ fn take_piece<T: TakesLines>(
     let mut rest = piece;
     while let Some(end) = memchr(b'\n', rest) {
         if left.is_empty() {
-            to.take_line(alloc, &rest[..end])?;
+            to.take_line(alloc, &rest[..end + 1])?;
         } else {
             keep(left, &rest[..end], to.taken())?;
+            left.push(b'\n')?;
             to.take_line(alloc, left.as_slice())?;
             left.clear();
         }
@@ -69,5 +70,6 @@ pub fn take_lines<R: Read, T: TakesLines>(
     if left.is_empty() {
         return Ok(());
     }
+    left.push(b'\n')?;
     to.take_line(alloc, left.as_slice())
 }

@@ -1,185 +1,217 @@
 //! What the kernel says to a question, in the words in which it is asked.
-ghost use Rattle.std.specs.Prelude.{◌≡◌};
+ghost use Rattle.std.specs.Prelude.{◌≡◌, ◌++◌, OnOk, option_copied};
+ghost use Rattle.std.specs.List.{flat_map};
+ghost use Rattle.mcs_text.specs.Spelling.{name_text, maybe_text, then_text};
 ghost use Rattle.mcs_book.specs.History.{log_of};
-ghost use Rattle.mcs_lab.specs.Seen.{seen};
+ghost use Rattle.mcs_book.specs.Chains.{chain_of};
+ghost use Rattle.mcs_book.specs.Queues.{queued_in};
+ghost use Rattle.mcs_lab.specs.Seen.{begin, names_or_dash, number_or_dash, content_text, owed_text, status_text, mail_text, answered_text, level, seen};
 
 use crate::asking::Question;
+use crate::fault::LabFault;
+use crate::text::Text;
 use mcs_kernel::Kernel;
 use mcs_queues::LinkedLines;
 use mcs_text::{Key, Token};
-use mcs_trace::Line;
-use mcs_types::{Mail, Message, Mode, ObjId, Status};
+use mcs_types::{Mail, Message, ObjId, Prio, Queue, Status};
 
-/// A space and a word.
-fn put_name_or_dash(line: &mut Line, object: Option<ObjId>) {
-    line.spaced_word(&Token::Maybe(object));
+/// A name and a word.
+fn begin(to: &mut Text, object: ObjId, word: &[u8]) -> Result<(), LabFault>
+    ensures { OnOk result (to.new ≡ to.old ++ begin object word.now) }
+{
+    to.word(&Token::Name(object))?;
+    to.put(b" ")?;
+    to.put(word)
 }
 
-/// A space and each name, or a dash where there is none.
-fn put_names<I: Iterator<Item = ObjId> + Drop>(line: &mut Line, objects: I) {
-    let mut is_empty = true;
-    for object in objects {
-        line.spaced_word(&Token::Name(object));
-        is_empty = false;
-    }
-    if is_empty {
-        line.bytes(b" -");
-    }
+/// A name, a word, and a name or a dash.
+fn put_relation(
+    to: &mut Text,
+    object: ObjId,
+    word: &[u8],
+    other: Option<ObjId>,
+) -> Result<(), LabFault>
+    ensures { OnOk result
+        (to.new ≡ to.old ++ begin object word.now ++ then_text (maybe_text other)) }
+{
+    begin(to, object, word)?;
+    to.spaced(&Token::Maybe(other))
 }
 
-/// A space and a number, or a dash.
-fn put_number_or_dash(line: &mut Line, number: Option<u64>) {
+/// A number, or a dash.
+fn put_number_or_dash(to: &mut Text, number: Option<u64>) -> Result<(), LabFault>
+    ensures { OnOk result (to.new ≡ to.old ++ number_or_dash number) }
+{
     match number {
-        Some(number) => line.spaced_word(&Token::Number(number)),
-        None => line.bytes(b" -"),
+        Some(number) => to.spaced(&Token::Number(number)),
+        None => to.put(b" -"),
     }
+}
+
+/// The number of a priority.
+fn level(priority: Option<Prio>) -> Option<u64>
+    ensures { result ≡ level priority }
+{
+    let priority = priority?;
+    Some(priority.0 as u64)
+}
+
+/// The word before who owes a thread an answer.
+fn put_owed(to: &mut Text, by: bool) -> Result<(), LabFault>
+    ensures { OnOk result (to.new ≡ to.old ++ owed_text by) }
+{
+    if by {
+        return to.put(b" owed by");
+    }
+    to.put(b" owed")
 }
 
 /// What a thread does.
-fn put_status(line: &mut Line, status: Option<Status>, by: bool) {
+fn put_status(to: &mut Text, status: Option<Status>, by: bool) -> Result<(), LabFault>
+    ensures { OnOk result (to.new ≡ to.old ++ status_text by status) }
+{
     match status {
         Some(Status::Queued(queue)) => {
-            line.bytes(b" waits");
-            line.spaced_word(&Token::Line(queue));
+            to.put(b" waits")?;
+            to.spaced(&Token::Line(queue))
         }
         Some(Status::OnReply(reply)) => {
-            line.bytes(if by {
-                b" owed by".as_slice()
-            } else {
-                b" owed".as_slice()
-            });
-            line.spaced_word(&Token::Name(reply));
+            put_owed(to, by)?;
+            to.spaced(&Token::Name(reply))
         }
-        Some(Status::Running) => line.spaced_word(&Token::Key(Key::Running)),
-        Some(Status::Restart) => line.spaced_word(&Token::Key(Key::Restart)),
-        Some(Status::Inactive) => line.spaced_word(&Token::Key(Key::Inactive)),
-        Some(Status::Closed) => line.bytes(b" closed"),
-        None => line.bytes(b" is not there"),
+        Some(Status::Running) => to.put(b" running"),
+        Some(Status::Restart) => to.put(b" restart"),
+        Some(Status::Inactive) => to.put(b" inactive"),
+        Some(Status::Closed) => to.put(b" closed"),
+        None => to.put(b" is not there"),
     }
 }
 
 /// The label and the words of a message.
-fn put_message(line: &mut Line, message: &Message) {
-    line.spaced_word(&Token::Number(message.label()));
+fn put_content(to: &mut Text, message: &Message) -> Result<(), LabFault>
+    ensures { OnOk result (to.new ≡ to.old ++ content_text message.now) }
+{
+    to.spaced(&Token::Number(message.label()))?;
     for word in message.words() {
-        line.spaced_word(&Token::Number(*word));
+        to.spaced(&Token::Number(*word))?;
     }
+    Ok(())
 }
 
 /// What last reached a thread.
-fn put_mail(line: &mut Line, mail: Option<&Mail>) {
+fn put_mail(to: &mut Text, mail: Option<&Mail>) -> Result<(), LabFault>
+    ensures { OnOk result (to.new ≡ to.old ++ mail_text (option_copied mail)) }
+{
     match mail {
         Some(Mail::Message { badge, message }) => {
-            line.bytes(b" got");
-            line.spaced_word(&Token::Number(badge.0));
-            put_message(line, message);
+            to.put(b" got")?;
+            to.spaced(&Token::Number(badge.0))?;
+            put_content(to, message)
         }
         Some(Mail::Word { word }) => {
-            line.bytes(b" heard");
-            line.spaced_word(&Token::Number(*word));
+            to.put(b" heard")?;
+            to.spaced(&Token::Number(*word))
         }
-        None => line.bytes(b" got nothing"),
+        None => to.put(b" got nothing"),
     }
 }
 
-/// The message with which a caller was answered, where that reached it last: it has no badge.
-fn put_answered(line: &mut Line, mail: Option<&Mail>) {
+/// The same, where the message of an answer has no badge.
+fn put_answered(to: &mut Text, mail: Option<&Mail>) -> Result<(), LabFault>
+    ensures { OnOk result (to.new ≡ to.old ++ answered_text (option_copied mail)) }
+{
     match mail {
         Some(Mail::Message { badge, message }) if badge.0 == 0 => {
-            line.bytes(b" answered");
-            put_message(line, message);
+            to.put(b" answered")?;
+            put_content(to, message)
         }
-        _ => put_mail(line, mail),
+        _ => put_mail(to, mail),
     }
 }
 
-/// A name and a word.
-fn begin(line: &mut Line, object: ObjId, word: &[u8]) {
-    line.name(object);
-    line.bytes(b" ");
-    line.bytes(word);
+/// The reply objects in a context's chain, or a dash.
+fn put_chain(
+    to: &mut Text,
+    kernel: &Kernel<LinkedLines>,
+    context: ObjId,
+) -> Result<(), LabFault>
+    ensures { OnOk result
+        (to.new ≡ to.old ++ names_or_dash (chain_of (log_of kernel.now) context)) }
+{
+    let mut is_empty = true;
+    for reply in kernel.chain(context) {
+        to.spaced(&Token::Name(reply))?;
+        is_empty = false;
+    }
+    if is_empty {
+        return to.put(b" -");
+    }
+    Ok(())
 }
 
-/// Puts what the kernel says to a question of a thread.
-fn see_thread(line: &mut Line, kernel: &Kernel<LinkedLines>, question: &Question) {
-    match *question {
-        Question::Status { thread, by } => {
-            line.name(thread);
-            put_status(line, kernel.status(thread), by);
-        }
-        Question::Mail { thread } => {
-            line.name(thread);
-            put_mail(line, kernel.mail(thread));
-        }
-        Question::Answered { thread } => {
-            line.name(thread);
-            put_answered(line, kernel.mail(thread));
-        }
-        Question::Bound { thread } => {
-            begin(line, thread, b"bound");
-            put_name_or_dash(line, kernel.bound(thread));
-        }
-        Question::Context { thread } => {
-            begin(line, thread, b"holds");
-            put_name_or_dash(line, kernel.context(thread));
-        }
-        Question::Priority { thread } => {
-            begin(line, thread, b"priority");
-            put_number_or_dash(
-                line,
-                kernel.priority(thread).map(|priority| priority.0 as u64),
-            );
-        }
-        _ => {}
+/// The threads in a queue, or a dash.
+fn put_queue(to: &mut Text, kernel: &Kernel<LinkedLines>, queue: Queue) -> Result<(), LabFault>
+    ensures { OnOk result (to.new ≡ to.old ++ names_or_dash (queued_in (log_of kernel.now) queue)) }
+{
+    let mut is_empty = true;
+    for thread in kernel.queue(queue) {
+        to.spaced(&Token::Name(thread))?;
+        is_empty = false;
     }
+    if is_empty {
+        return to.put(b" -");
+    }
+    Ok(())
 }
 
 /// Puts what the kernel says to a question, in the words in which it is asked.
-pub fn see(line: &mut Line, kernel: &Kernel<LinkedLines>, question: &Question)
-    ensures { line.new ≡ seen (log_of kernel.now) question.now }
+pub fn see(
+    to: &mut Text,
+    kernel: &Kernel<LinkedLines>,
+    question: &Question,
+) -> Result<(), LabFault>
+    ensures { OnOk result (to.new ≡ to.old ++ seen (log_of kernel.now) question.now) }
 {
-    line.clear();
     match *question {
-        Question::Away { .. } => {}
-        Question::Held { context } => {
-            begin(line, context, b"held");
-            put_name_or_dash(line, kernel.holder(context));
+        Question::Status { thread, by } => {
+            to.word(&Token::Name(thread))?;
+            put_status(to, kernel.status(thread), by)
         }
+        Question::Mail { thread } => {
+            to.word(&Token::Name(thread))?;
+            put_mail(to, kernel.mail(thread))
+        }
+        Question::Answered { thread } => {
+            to.word(&Token::Name(thread))?;
+            put_answered(to, kernel.mail(thread))
+        }
+        Question::Bound { thread } => put_relation(to, thread, b"bound", kernel.bound(thread)),
+        Question::Context { thread } => put_relation(to, thread, b"holds", kernel.context(thread)),
+        Question::Priority { thread } => {
+            begin(to, thread, b"priority")?;
+            put_number_or_dash(to, level(kernel.priority(thread)))
+        }
+        Question::Held { context } => put_relation(to, context, b"held", kernel.holder(context)),
         Question::Chain { context } => {
-            begin(line, context, b"chain");
-            put_names(line, kernel.chain(context));
+            begin(to, context, b"chain")?;
+            put_chain(to, kernel, context)
         }
-        Question::Homed { context } => {
-            begin(line, context, b"homed");
-            put_name_or_dash(line, kernel.home(context));
-        }
-        Question::Owes { reply } => {
-            begin(line, reply, b"owes");
-            put_name_or_dash(line, kernel.owed(reply));
-        }
-        Question::With { reply } => {
-            begin(line, reply, b"with");
-            put_name_or_dash(line, kernel.receiver(reply));
-        }
+        Question::Homed { context } => put_relation(to, context, b"homed", kernel.home(context)),
+        Question::Owes { reply } => put_relation(to, reply, b"owes", kernel.owed(reply)),
+        Question::With { reply } => put_relation(to, reply, b"with", kernel.receiver(reply)),
         Question::Pending { notification } => {
-            begin(line, notification, b"pending");
-            put_number_or_dash(line, kernel.word(notification));
+            begin(to, notification, b"pending")?;
+            put_number_or_dash(to, kernel.word(notification))
         }
         Question::Queue { queue } => {
-            line.word(&Token::Line(queue));
-            put_names(line, kernel.queue(queue));
+            to.word(&Token::Line(queue))?;
+            put_queue(to, kernel, queue)
         }
         Question::Slot { cnode, index } => {
-            line.name(cnode);
-            line.spaced_word(&Token::Number(index as u64));
-            line.bytes(b" holds");
-            line.spaced_word(&Token::Held(kernel.capability(cnode, index)));
+            to.word(&Token::Name(cnode))?;
+            to.spaced(&Token::Number(index as u64))?;
+            to.put(b" holds")?;
+            to.spaced(&Token::Held(kernel.capability(cnode, index)))
         }
-        Question::Status { .. }
-        | Question::Mail { .. }
-        | Question::Answered { .. }
-        | Question::Bound { .. }
-        | Question::Context { .. }
-        | Question::Priority { .. } => see_thread(line, kernel, question),
     }
 }

@@ -170,6 +170,11 @@ impl Waits {
         }
     }
 
+    /// Whether some thread is stuck.
+    pub fn has_stuck(&self) -> bool {
+        (1..=self.sets.len() as u32).any(|serial| self.is_stuck(thread_of(serial)))
+    }
+
     /// Whether a thread is stuck.
     pub fn is_stuck(&self, thread: ObjId) -> bool {
         self.stuck.contains(thread)
@@ -196,6 +201,15 @@ impl Waits {
         reached.contains(thread)
     }
 
+    /// How a thread is stuck: in a cycle of threads that wait for one another, or for one that does nothing any more.
+    pub fn kind(&self, thread: ObjId) -> &'static str {
+        if self.is_in_cycle(thread) {
+            "deadlock"
+        } else {
+            "stranded"
+        }
+    }
+
     /// Writes what is stuck, a line for each thread. True where nothing is.
     pub fn put<W: Write>(
         &self,
@@ -211,11 +225,7 @@ impl Waits {
                 continue;
             }
             is_free = false;
-            let kind = if self.is_in_cycle(thread) {
-                "deadlock"
-            } else {
-                "stranded"
-            };
+            let kind = self.kind(thread);
             write!(to, "{kind}: ")?;
             names.put(to, thread)?;
             match kernel.status(thread) {

@@ -1,100 +1,38 @@
 //! Why a step did nothing, in words.
 use crate::fault::LabFault;
-use crate::hints::{put_hints, put_path};
+use crate::forms::{LooksUp, form_of};
+use crate::hints::put_hints;
+use crate::judging::{Judge, entrant_of};
+use crate::last::{Last, Told};
 use crate::names::Names;
+use crate::path::put_path;
 use crate::reading::{TakesLines, take_lines};
 use crate::stuck::{Waits, taker_of};
-use crate::walk::{Came, Walk};
-use crate::words::entrant_of;
+use crate::tap::bare;
+use crate::words::address_of;
 use mcs_kernel::{EnterFault, Kernel};
 use mcs_queues::LinkedLines;
 use mcs_sim::Source;
-use mcs_text::LineFault;
+use mcs_text::{LineFault, Words};
 use mcs_types::{
-    Answer, Ending, Entry, Mode, ObjId, OutOfMemory, Place, Rec, Refusal, SendMode, Status, Step,
+    Answer, CoreId, Ending, Mode, ObjId, OutOfMemory, Place, Rec, Refusal, SendMode, Status,
 };
 use std::alloc::Global;
-use std::io::{Read, Write};
+use std::io::{self, Read, Write};
 
 /// A script that is explained.
 #[derive(Drop)]
 struct Explainer<W> {
-    walk: Walk,
+    judge: Judge,
     names: Names,
     to: W,
 }
 
-/// A line of the book.
+/// What is easily overlooked of a line of the book.
 #[derive(Drop)]
 struct Entered {
-    step: Step,
     answer: Answer,
     records: Vec<Rec>,
-}
-
-/// What an entry names, in the order in which it is looked up.
-#[derive(Clone, Copy)]
-enum Named {
-    Nothing,
-    Address(u64),
-    Place(Place),
-}
-
-/// The first three that an entry names.
-fn named_by(entry: &Entry) -> [Named; 3] {
-    let none = Named::Nothing;
-    match entry {
-        Entry::Send { cap, .. }
-        | Entry::NbSend { cap, .. }
-        | Entry::Call { cap, .. }
-        | Entry::Wait { cap }
-        | Entry::NbWait { cap }
-        | Entry::Signal { cap } => [Named::Address(*cap), none, none],
-        Entry::Recv { cap, reply } | Entry::NbRecv { cap, reply } => {
-            [Named::Address(*cap), Named::Address(*reply), none]
-        }
-        Entry::ReplyRecv { cap, reply, .. } => {
-            [Named::Address(*cap), Named::Address(*reply), none]
-        }
-        Entry::SetPriority {
-            thread,
-            authority,
-            ..
-        } => [Named::Address(*thread), Named::Address(*authority), none],
-        Entry::Suspend { thread } | Entry::Resume { thread } | Entry::UnbindNtfn { thread } => {
-            [Named::Address(*thread), none, none]
-        }
-        Entry::BindNtfn {
-            thread,
-            notification,
-        } => [Named::Address(*thread), Named::Address(*notification), none],
-        Entry::BindCtx { context, thread } => {
-            [Named::Address(*context), Named::Address(*thread), none]
-        }
-        Entry::UnbindCtx { context } => [Named::Address(*context), none, none],
-        Entry::CancelBadged { endpoint } => [Named::Address(*endpoint), none, none],
-        Entry::CopyCap { source, dest, .. }
-        | Entry::MintCap { source, dest, .. }
-        | Entry::MoveCap { source, dest } => [Named::Place(*source), Named::Place(*dest), none],
-        Entry::DeleteCap { place }
-        | Entry::MakeEndpoint { place }
-        | Entry::MakeNotification { place }
-        | Entry::MakeReply { place }
-        | Entry::MakeContext { place } => [Named::Place(*place), none, none],
-        Entry::NbSendRecv {
-            cap,
-            source,
-            reply,
-            ..
-        } => [
-            Named::Address(*cap),
-            Named::Address(*source),
-            Named::Address(*reply),
-        ],
-        Entry::NbSendWait { cap, source, .. } => {
-            [Named::Address(*cap), Named::Address(*source), none]
-        }
-    }
 }
 
 /// Who took a call, and whose it is, where nobody can answer it: in a line in which a message is taken its caller becomes
@@ -116,208 +54,313 @@ fn unanswerable(records: &[Rec]) -> Option<(ObjId, ObjId)> {
     None
 }
 
-/// How what an entry names is refused, if lookup refuses it.
-fn refusal_of(kernel: &Kernel<LinkedLines>, thread: ObjId, named: Named) -> Option<Refusal> {
-    match named {
-        Named::Nothing => None,
-        Named::Address(address) => kernel.named(thread, address)?.err(),
-        Named::Place(place) => kernel.placed(thread, place)?.err(),
+/// Whether lookup refuses an address so.
+fn refuses_address(
+    kernel: &Kernel<LinkedLines>,
+    thread: ObjId,
+    address: u64,
+    refusal: Refusal,
+) -> bool {
+    match kernel.named(thread, address) {
+        Some(Err(why)) => why == refusal,
+        _ => false,
     }
 }
 
+/// Whether lookup refuses a place so.
+fn refuses_place(
+    kernel: &Kernel<LinkedLines>,
+    thread: ObjId,
+    place: Place,
+    refusal: Refusal,
+) -> bool {
+    match kernel.placed(thread, place) {
+        Some(Err(why)) => why == refusal,
+        _ => false,
+    }
+}
+
+/// Writes that an address is refused so, and where it leads. False where it is not.
+fn put_address<W: Write>(
+    to: &mut W,
+    names: &Names,
+    kernel: &Kernel<LinkedLines>,
+    thread: ObjId,
+    address: u64,
+    refusal: Refusal,
+) -> io::Result<bool> {
+    if !refuses_address(kernel, thread, address, refusal) {
+        return Ok(false);
+    }
+    write!(to, "address {address}")?;
+    if let Some(root) = kernel.root(thread) {
+        put_path(to, kernel, names, root, address, 64)?;
+    }
+    Ok(true)
+}
+
+/// Writes that a place is refused so, and where it leads. False where it is not.
+fn put_place<W: Write>(
+    to: &mut W,
+    names: &Names,
+    kernel: &Kernel<LinkedLines>,
+    thread: ObjId,
+    place: Place,
+    refusal: Refusal,
+) -> io::Result<bool> {
+    if !refuses_place(kernel, thread, place, refusal) {
+        return Ok(false);
+    }
+    let Place { index, depth } = place;
+    write!(to, "index {index} at depth {depth}")?;
+    if depth >= 1
+        && depth <= 64
+        && let Some(root) = kernel.root(thread)
+    {
+        put_path(to, kernel, names, root, index, depth as u32)?;
+    }
+    Ok(true)
+}
+
+/// Writes which address or place of a step lookup refuses so, if one.
+fn put_refused<W: Write>(
+    to: &mut W,
+    names: &Names,
+    kernel: &Kernel<LinkedLines>,
+    step: &[u8],
+    refusal: Refusal,
+) -> io::Result<bool> {
+    let mut words = Words::new(step);
+    let (Some(_), Some(_), Some(key)) = (words.next_word(), words.next_word(), words.next_word())
+    else {
+        return Ok(false);
+    };
+    let (Some((_, thread)), Some(mut fields)) = (entrant_of(step), form_of(None, key)) else {
+        return Ok(false);
+    };
+    for _ in 0..step.len() {
+        let (Some(field), Some(word)) = (fields.next_field(), words.next_word()) else {
+            return Ok(false);
+        };
+        let Some(number) = address_of(word) else {
+            continue;
+        };
+        let told = match field.looks_up {
+            LooksUp::Nothing => false,
+            LooksUp::Address => put_address(to, names, kernel, thread, number, refusal)?,
+            LooksUp::Place => {
+                let (Some(_), Some(depth)) = (fields.next_field(), words.next_word()) else {
+                    return Ok(false);
+                };
+                match address_of(depth) {
+                    Some(depth) if depth <= u8::MAX as u64 => {
+                        let place = Place {
+                            index: number,
+                            depth: depth as u8,
+                        };
+                        put_place(to, names, kernel, thread, place, refusal)?
+                    }
+                    _ => false,
+                }
+            }
+        };
+        if told {
+            return Ok(true);
+        }
+    }
+    Ok(false)
+}
+
+/// Writes who took the call for which a reply object owes.
+fn put_taker<W: Write>(
+    alloc: Global,
+    to: &mut W,
+    names: &Names,
+    kernel: &Kernel<LinkedLines>,
+    reply: ObjId,
+) -> Result<(), LabFault> {
+    let Ok(taker) = taker_of(alloc, kernel.book(), reply) else {
+        return Err(LabFault::OutOfMemory);
+    };
+    if let Some(taker) = taker {
+        to.write_all(b" (")?;
+        names.put(to, taker)?;
+        to.write_all(b" took its call)")?;
+    }
+    Ok(())
+}
+
+/// Writes why a thread does not run.
+fn put_status<W: Write>(
+    alloc: Global,
+    to: &mut W,
+    names: &Names,
+    kernel: &Kernel<LinkedLines>,
+    thread: ObjId,
+) -> Result<(), LabFault> {
+    names.put(to, thread)?;
+    match kernel.status(thread) {
+        Some(Status::Queued(queue)) => {
+            to.write_all(b" stands in ")?;
+            names.put_queue(to, queue)?;
+        }
+        Some(Status::OnReply(reply)) => {
+            to.write_all(b" waits for the answer that ")?;
+            names.put(to, reply)?;
+            to.write_all(b" owes")?;
+            put_taker(alloc, to, names, kernel, reply)?;
+        }
+        Some(Status::Inactive) => to.write_all(b" is inactive")?,
+        Some(Status::Closed) => to.write_all(b" is closed")?,
+        Some(Status::Running | Status::Restart) | None => to.write_all(b" does not run")?,
+    }
+    Ok(())
+}
+
+/// Writes of which core the context of a thread is.
+fn put_other_core<W: Write>(
+    to: &mut W,
+    names: &Names,
+    kernel: &Kernel<LinkedLines>,
+    thread: ObjId,
+) -> Result<(), LabFault> {
+    names.put(to, thread)?;
+    to.write_all(b" holds ")?;
+    let context = kernel.context(thread);
+    names.put_maybe(to, context)?;
+    if let Some(context) = context
+        && let Some(core) = kernel.core(context)
+    {
+        let core = core.0;
+        write!(to, ", which is of core {core}")?;
+    }
+    Ok(())
+}
+
+/// Writes why a thread may not enter on a core.
+fn put_reason<W: Write>(
+    alloc: Global,
+    to: &mut W,
+    names: &Names,
+    kernel: &Kernel<LinkedLines>,
+    core: CoreId,
+    thread: ObjId,
+) -> Result<(), LabFault> {
+    match kernel.fault(core, thread) {
+        Some(EnterFault::NotRunning) => put_status(alloc, to, names, kernel, thread),
+        Some(EnterFault::NoContext) => {
+            names.put(to, thread)?;
+            to.write_all(b" holds no scheduling context")?;
+            Ok(())
+        }
+        Some(EnterFault::WrongCore) => put_other_core(to, names, kernel, thread),
+        _ => {
+            to.write_all(b"it may not enter")?;
+            Ok(())
+        }
+    }
+}
+
+/// Writes what a record means for who waits for an answer.
+fn put_record<W: Write>(to: &mut W, names: &Names, record: &Rec) -> io::Result<()> {
+    match record {
+        Rec::Sent {
+            sender,
+            endpoint,
+            mode: SendMode::Mute,
+            ..
+        } => {
+            to.write_all(b"nobody can answer the call of ")?;
+            names.put(to, *sender)?;
+            to.write_all(b" on ")?;
+            names.put(to, *endpoint)?;
+            to.write_all(b": its capability has neither g nor p\n")
+        }
+        Rec::Void {
+            reply,
+            caller,
+            ending,
+        } => {
+            names.put(to, *reply)?;
+            to.write_all(b" owed ")?;
+            names.put(to, *caller)?;
+            to.write_all(match ending {
+                Ending::Deleted => b" an answer, which never comes: it was deleted\n".as_slice(),
+                Ending::Cancelled => {
+                    b" an answer, which never comes: the debt was cancelled\n".as_slice()
+                }
+            })
+        }
+        Rec::Dropped { message } => {
+            writeln!(to, "m{message} was dropped: nobody receives it")
+        }
+        _ => Ok(()),
+    }
+}
+
+/// Whether a record is told of.
+fn is_told(record: &Rec) -> bool {
+    matches!(
+        record,
+        Rec::Sent {
+            mode: SendMode::Mute,
+            ..
+        } | Rec::Void { .. } | Rec::Dropped { .. }
+    )
+}
+
 impl<W: Write> Explainer<W> {
-    /// Writes the line in question, and a colon.
-    fn put_line(&mut self, line: &[u8]) -> Result<(), LabFault> {
-        let number = self.walk.number();
+    /// Writes the line of the last step, and a colon.
+    fn put_step(&mut self) -> io::Result<()> {
+        let (number, step) = self.judge.step();
         write!(self.to, "line {number}: ")?;
-        self.to.write_all(line)?;
-        self.to.write_all(b": ")?;
-        Ok(())
+        self.to.write_all(bare(step))?;
+        self.to.write_all(b": ")
     }
 
-    /// Writes why a thread does not run.
-    fn put_status(
-        &mut self,
-        alloc: Global,
-        thread: ObjId,
-        status: Option<Status>,
-    ) -> Result<(), LabFault> {
-        self.names.put(&mut self.to, thread)?;
-        match status {
-            Some(Status::Queued(queue)) => {
-                self.to.write_all(b" stands in ")?;
-                self.names.put_queue(&mut self.to, queue)?;
-            }
-            Some(Status::OnReply(reply)) => {
-                self.to.write_all(b" waits for the answer that ")?;
-                self.names.put(&mut self.to, reply)?;
-                self.to.write_all(b" owes")?;
-                self.put_taker(alloc, reply)?;
-            }
-            Some(Status::Inactive) => self.to.write_all(b" is inactive")?,
-            Some(Status::Closed) => self.to.write_all(b" is closed")?,
-            _ => self.to.write_all(b" does not run")?,
-        }
-        self.to.write_all(b"\n")?;
-        Ok(())
-    }
-
-    /// Writes who took the call for which a reply object owes.
-    fn put_taker(&mut self, alloc: Global, reply: ObjId) -> Result<(), LabFault> {
-        let Some(kernel) = self.walk.kernel() else {
-            return Ok(());
-        };
-        let Ok(taker) = taker_of(alloc, kernel.book(), reply) else {
-            return Err(LabFault::OutOfMemory);
-        };
-        if let Some(taker) = taker {
-            self.to.write_all(b" (")?;
-            self.names.put(&mut self.to, taker)?;
-            self.to.write_all(b" took its call)")?;
-        }
-        Ok(())
-    }
-
-    /// Tells why a step was turned away.
-    fn tell_away(&mut self, alloc: Global, line: &[u8]) -> Result<(), LabFault> {
-        let Some((core, thread)) = entrant_of(line) else {
-            return Ok(());
-        };
-        let Some(kernel) = self.walk.kernel() else {
-            return Ok(());
-        };
-        let fault = kernel.fault(core, thread);
-        let status = kernel.status(thread);
-        let context = kernel.context(thread);
-        let own = match context {
-            Some(context) => kernel.core(context),
-            None => None,
-        };
-        self.put_line(line)?;
+    /// Tells why the last step was turned away.
+    fn tell_away(&mut self, alloc: Global) -> Result<(), LabFault> {
+        self.put_step()?;
         self.to.write_all(b"turned away: ")?;
-        match fault {
-            Some(EnterFault::NotRunning) => return self.put_status(alloc, thread, status),
-            Some(EnterFault::NoContext) => {
-                self.names.put(&mut self.to, thread)?;
-                self.to.write_all(b" holds no scheduling context")?;
-            }
-            Some(EnterFault::WrongCore) => {
-                self.names.put(&mut self.to, thread)?;
-                self.to.write_all(b" holds ")?;
-                self.names.put_maybe(&mut self.to, context)?;
-                if let Some(own) = own {
-                    let own = own.0;
-                    write!(self.to, ", which is of core {own}")?;
-                }
-            }
-            _ => self.to.write_all(b"it may not enter")?,
+        let (_, step) = self.judge.step();
+        if let (Some(kernel), Some((core, thread))) = (self.judge.kernel(), entrant_of(step)) {
+            put_reason(alloc, &mut self.to, &self.names, kernel, core, thread)?;
         }
         self.to.write_all(b"\n")?;
-        Ok(())
-    }
-
-    /// Writes where the first address or place of an entry leads that is refused so.
-    fn put_refused(&mut self, step: &Step, refusal: Refusal) -> Result<(), LabFault> {
-        let Some(kernel) = self.walk.kernel() else {
-            return Ok(());
-        };
-        let Some(root) = kernel.root(step.thread) else {
-            return Ok(());
-        };
-        for named in named_by(&step.entry) {
-            if refusal_of(kernel, step.thread, named) != Some(refusal) {
-                continue;
-            }
-            let (number, depth) = match named {
-                Named::Nothing => continue,
-                Named::Address(address) => {
-                    write!(self.to, "address {address}")?;
-                    (address, 64)
-                }
-                Named::Place(Place { index, depth }) => {
-                    write!(self.to, "index {index} at depth {depth}")?;
-                    (index, depth as u32)
-                }
-            };
-            if depth >= 1 && depth <= 64 {
-                put_path(&mut self.to, kernel, &self.names, root, number, depth)?;
-            }
-            self.to.write_all(b": ")?;
-            return Ok(());
-        }
         Ok(())
     }
 
     /// Tells a fault of the script, and what may have been meant.
-    fn tell_fault(&mut self, line: &[u8], fault: LabFault) -> Result<(), LabFault> {
+    fn tell_fault(&mut self, line: &[u8], fault: LabFault) -> io::Result<()> {
         if let LabFault::Script { line: number, why } = fault {
             let told = why.number();
             write!(self.to, "line {number}: fault {told}: {why}: ")?;
-            self.to.write_all(line)?;
+            self.to.write_all(bare(line))?;
             self.to.write_all(b"\n")?;
-            if why == LineFault::Form {
-                put_hints(&mut self.to, line)?;
+            if why == LineFault::Form || why == LineFault::Number {
+                put_hints(&mut self.to, bare(line))?;
             }
         }
         Ok(())
     }
 
-    /// Tells why a step was refused, if it was.
-    fn tell_refused(&mut self, line: &[u8], step: &Step, refusal: Refusal) -> Result<(), LabFault> {
+    /// Tells why the last step was refused.
+    fn tell_refused(&mut self, refusal: Refusal) -> io::Result<()> {
         let number = refusal as u8;
-        self.put_line(line)?;
+        self.put_step()?;
         write!(self.to, "refused {number}: ")?;
-        self.put_refused(step, refusal)?;
-        writeln!(self.to, "{refusal}")?;
-        Ok(())
-    }
-
-    /// Tells what a record means for who waits for an answer.
-    fn tell_record(&mut self, line: &[u8], record: &Rec) -> Result<(), LabFault> {
-        match record {
-            Rec::Sent {
-                sender,
-                endpoint,
-                mode: SendMode::Mute,
-                ..
-            } => {
-                self.put_line(line)?;
-                self.to.write_all(b"nobody can answer the call of ")?;
-                self.names.put(&mut self.to, *sender)?;
-                self.to.write_all(b" on ")?;
-                self.names.put(&mut self.to, *endpoint)?;
-                self.to
-                    .write_all(b": its capability has neither g nor p\n")?;
-            }
-            Rec::Void {
-                reply,
-                caller,
-                ending,
-            } => {
-                self.put_line(line)?;
-                self.names.put(&mut self.to, *reply)?;
-                self.to.write_all(b" owed ")?;
-                self.names.put(&mut self.to, *caller)?;
-                self.to.write_all(match ending {
-                    Ending::Deleted =>
-                        b" an answer, which never comes: it was deleted\n".as_slice(),
-                    Ending::Cancelled => {
-                        b" an answer, which never comes: the debt was cancelled\n".as_slice()
-                    }
-                })?;
-            }
-            Rec::Dropped { message } => {
-                self.put_line(line)?;
-                writeln!(self.to, "m{message} was dropped: nobody receives it")?;
-            }
-            _ => {}
+        let (_, step) = self.judge.step();
+        if let Some(kernel) = self.judge.kernel()
+            && put_refused(&mut self.to, &self.names, kernel, bare(step), refusal)?
+        {
+            self.to.write_all(b": ")?;
         }
-        Ok(())
+        writeln!(self.to, "{refusal}")
     }
 
-    /// The line of the book of the last step that was let in.
+    /// The answer and the records of the last step, where it was let in.
     fn entered(&self, alloc: Global) -> Result<Option<Entered>, OutOfMemory> {
-        let Some(line) = self.walk.last() else {
+        let Some((line, _)) = self.judge.entered() else {
             return Ok(None);
         };
         let mut records = Vec::new(alloc);
@@ -329,31 +372,34 @@ impl<W: Write> Explainer<W> {
             }
         }
         Ok(Some(Entered {
-            step: line.step(alloc)?,
             answer: line.answer(alloc)?,
             records,
         }))
     }
 
-    /// Tells of a step that was let in what is easily overlooked.
-    fn tell_entered(&mut self, alloc: Global, line: &[u8]) -> Result<(), LabFault> {
+    /// Tells of the last step, which was let in, what is easily overlooked.
+    fn tell_entered(&mut self, alloc: Global) -> Result<(), LabFault> {
         let entered = match self.entered(alloc) {
             Ok(Some(entered)) => entered,
             Ok(None) => return Ok(()),
             Err(OutOfMemory) => return Err(LabFault::OutOfMemory),
         };
         if let Answer::Refused(refusal) = &entered.answer {
-            self.tell_refused(line, &entered.step, *refusal)?;
+            self.tell_refused(*refusal)?;
         }
         for record in entered.records.iter() {
-            self.tell_record(line, record)?;
+            if is_told(record) {
+                self.put_step()?;
+                put_record(&mut self.to, &self.names, record)?;
+            }
         }
         if let Some((taker, caller)) = unanswerable(&entered.records) {
-            self.put_line(line)?;
+            self.put_step()?;
             self.names.put(&mut self.to, taker)?;
             self.to.write_all(b" took the call of ")?;
             self.names.put(&mut self.to, caller)?;
-            self.to.write_all(b", which nobody can answer: no reply object owes for it\n")?;
+            self.to
+                .write_all(b", which nobody can answer: no reply object owes for it\n")?;
         }
         Ok(())
     }
@@ -361,28 +407,23 @@ impl<W: Write> Explainer<W> {
 
 impl<W: Write> TakesLines for Explainer<W> {
     fn take_line(&mut self, alloc: Global, line: &[u8]) -> Result<(), LabFault> {
-        let came = match self.walk.take(alloc, line) {
-            Ok(came) => came,
+        let told = match self.judge.take(alloc, line) {
+            Ok(told) => told,
             Err(fault) => {
                 self.tell_fault(line, fault)?;
                 return Err(fault);
             }
         };
-        match came {
-            Came::Step { entered: false } => self.tell_away(alloc, line),
-            Came::Step { entered: true } => self.tell_entered(alloc, line),
-            Came::Named(text) => match self.names.take(alloc, text)? {
-                true => Ok(()),
-                false => Err(LabFault::Form {
-                    line: self.walk.number(),
-                }),
-            },
+        match (told, self.judge.last()) {
+            (Told::Nothing, _) => self.names.hear(alloc, self.judge.line(), line),
+            (Told::Step, Last::Away) => self.tell_away(alloc),
+            (Told::Step, Last::LetIn { .. }) => self.tell_entered(alloc),
             _ => Ok(()),
         }
     }
 
     fn taken(&self) -> u64 {
-        self.walk.number()
+        self.judge.line()
     }
 }
 
@@ -394,13 +435,13 @@ pub fn explain<R: Read, W: Write + Drop>(
     to: W,
 ) -> Result<bool, LabFault> {
     let mut explainer = Explainer {
-        walk: Walk::new(alloc)?,
+        judge: Judge::new(alloc)?,
         names: Names::new(alloc),
         to,
     };
     take_lines(alloc, from, &mut explainer)?;
-    explainer.walk.end(alloc)?;
-    let Some(kernel) = explainer.walk.kernel() else {
+    explainer.judge.end(alloc)?;
+    let Some(kernel) = explainer.judge.kernel() else {
         return Ok(true);
     };
     let waits = Waits::new(alloc, kernel)?;

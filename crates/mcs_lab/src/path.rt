@@ -1,0 +1,65 @@
+//! Where an address leads, in words.
+use crate::names::Names;
+use mcs_kernel::Kernel;
+use mcs_queues::LinkedLines;
+use mcs_types::{Cap, Kind};
+use std::io::{self, Write};
+
+/// So many bits of a number, behind which so many others stand.
+fn bits_of(number: u64, count: u32, behind: u32) -> u64 {
+    let shifted = number.checked_shr(behind).unwrap_or(0);
+    match 1u64.checked_shl(count) {
+        None => shifted,
+        Some(limit) => shifted & (limit - 1),
+    }
+}
+
+/// Writes the slots that lookup passes from a root on, and where it ends: `(c1 3, c2 1 is empty)`.
+pub fn put_path<W: Write>(
+    to: &mut W,
+    kernel: &Kernel<LinkedLines>,
+    names: &Names,
+    root: Cap,
+    address: u64,
+    depth: u32,
+) -> io::Result<()> {
+    let mut cap = root;
+    let mut left = depth;
+    to.write_all(b" (")?;
+    for level in 1..=64u32 {
+        if level > 1 {
+            to.write_all(b", ")?;
+        }
+        names.put(to, cap.obj)?;
+        let guard = cap.guard.bits as u32;
+        let radix = kernel.radix(cap.obj) as u32;
+        let behind = left.saturating_sub(guard);
+        if guard > left || bits_of(address, guard, behind) != cap.guard.value {
+            write!(to, ", whose guard of {guard} bits is another")?;
+            break;
+        }
+        if radix > behind {
+            write!(
+                to,
+                ", whose index has {radix} bits, where {behind} are left"
+            )?;
+            break;
+        }
+        left = behind.saturating_sub(radix);
+        let index = bits_of(address, radix, left);
+        write!(to, " {index}")?;
+        match kernel.capability(cap.obj, (index & 0xff) as u8) {
+            None => {
+                to.write_all(b" is empty")?;
+                break;
+            }
+            Some(next) if left > 0 && next.obj.kind == Kind::CNode => cap = next,
+            Some(_) if left > 0 => {
+                write!(to, " is no CNode, where {left} bits are left")?;
+                break;
+            }
+            Some(_) => break,
+        }
+    }
+    to.write_all(b")")
+}
