@@ -213,6 +213,7 @@ impl Judge {
     }
 
     /// The replay takes a line.
+    #[tactic(auto, using(crate::proofs::Feeding::fed_whole))]
     fn feed(&mut self, alloc: Global, text: &[u8]) -> Result<(), LabFault>
         ensures { OnOk result (self.new ≡ fed_line self.old text.now) }
     {

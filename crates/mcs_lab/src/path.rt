@@ -10,7 +10,7 @@ fn bits_of(number: u64, count: u32, behind: u32) -> u64 {
     let shifted = number.checked_shr(behind).unwrap_or(0);
     match 1u64.checked_shl(count) {
         None => shifted,
-        Some(limit) => shifted & (limit - 1),
+        Some(limit) => shifted & limit.saturating_sub(1),
     }
 }
 
@@ -48,7 +48,11 @@ pub fn put_path<W: Write>(
         left = behind.saturating_sub(radix);
         let index = bits_of(address, radix, left);
         write!(to, " {index}")?;
-        match kernel.capability(cap.obj, (index & 0xff) as u8) {
+        let held = match u8::try_from(index) {
+            Ok(index) => kernel.capability(cap.obj, index),
+            Err(_) => None,
+        };
+        match held {
             None => {
                 to.write_all(b" is empty")?;
                 break;

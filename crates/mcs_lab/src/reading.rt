@@ -36,7 +36,11 @@ fn take_piece<T: TakesLines>(
     to: &mut T,
 ) -> Result<(), LabFault> {
     let mut rest = piece;
-    while let Some(end) = memchr(b'\n', rest) {
+    // no piece has more lines than bytes
+    for _ in 0..piece.len() {
+        let Some(end) = memchr(b'\n', rest) else {
+            break;
+        };
         if left.is_empty() {
             to.take_line(alloc, &rest[..end + 1])?;
         } else {
@@ -58,7 +62,7 @@ pub fn take_lines<R: Read, T: TakesLines>(
 ) -> Result<(), LabFault> {
     let mut left = Vec::new(alloc);
     let mut piece = [0; 4_096];
-    loop {
+    for _ in 0..u64::MAX {
         let Ok(count) = from.read_piece(&mut piece) else {
             return Err(LabFault::Read);
         };

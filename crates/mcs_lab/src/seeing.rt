@@ -92,7 +92,8 @@ fn put_content(to: &mut Text, message: &Message) -> Result<(), LabFault>
     ensures { OnOk result (to.new ≡ to.old ++ content_text message.now) }
 {
     to.spaced(&Token::Number(message.label()))?;
-    for word in message.words() {
+    let words = message.words();
+    for word in words {
         to.spaced(&Token::Number(*word))?;
     }
     Ok(())
@@ -138,13 +139,13 @@ fn put_chain(
     ensures { OnOk result
         (to.new ≡ to.old ++ names_or_dash (chain_of (log_of kernel.now) context)) }
 {
-    let mut is_empty = true;
-    for reply in kernel.chain(context) {
-        to.spaced(&Token::Name(reply))?;
-        is_empty = false;
-    }
-    if is_empty {
+    let mut chain = kernel.chain(context);
+    let Some(top) = chain.next() else {
         return to.put(b" -");
+    };
+    to.spaced(&Token::Name(top))?;
+    for reply in chain {
+        to.spaced(&Token::Name(reply))?;
     }
     Ok(())
 }
@@ -153,13 +154,13 @@ fn put_chain(
 fn put_queue(to: &mut Text, kernel: &Kernel<LinkedLines>, queue: Queue) -> Result<(), LabFault>
     ensures { OnOk result (to.new ≡ to.old ++ names_or_dash (queued_in (log_of kernel.now) queue)) }
 {
-    let mut is_empty = true;
-    for thread in kernel.queue(queue) {
-        to.spaced(&Token::Name(thread))?;
-        is_empty = false;
-    }
-    if is_empty {
+    let mut threads = kernel.queue(queue);
+    let Some(first) = threads.next() else {
         return to.put(b" -");
+    };
+    to.spaced(&Token::Name(first))?;
+    for thread in threads {
+        to.spaced(&Token::Name(thread))?;
     }
     Ok(())
 }

@@ -100,6 +100,7 @@ fn is_gone(kernel: &Kernel<LinkedLines>, thread: ObjId) -> bool {
 /// The threads that wait, and for whom each.
 #[derive(Drop)]
 pub struct Waits {
+    count: u32,
     sets: Vec<ThreadSet>,
     stuck: ThreadSet,
 }
@@ -116,6 +117,7 @@ impl Waits {
             sets.push(set)?;
         }
         let mut waits = Waits {
+            count,
             sets,
             stuck: ThreadSet::new(),
         };
@@ -135,7 +137,7 @@ impl Waits {
 
     /// Whether a thread waits for some.
     fn waits_for_some(&self, thread: ObjId) -> bool {
-        (1..=self.sets.len() as u32).any(|serial| self.is_waited(thread, thread_of(serial)))
+        (1..=self.count).any(|serial| self.is_waited(thread, thread_of(serial)))
     }
 
     /// Whether a thread waits for another.
@@ -151,7 +153,7 @@ impl Waits {
 
     /// Whether one of those for whom a thread waits goes on, as far as is known.
     fn has_free(&self, thread: ObjId, free: &ThreadSet) -> bool {
-        (1..=self.sets.len() as u32).any(|serial| {
+        (1..=self.count).any(|serial| {
             let other = thread_of(serial);
             self.is_waited(thread, other) && free.contains(other)
         })
@@ -159,7 +161,7 @@ impl Waits {
 
     /// Adds the threads that go on because of those that are known to go on.
     fn free_more(&self, kernel: &Kernel<LinkedLines>, free: &mut ThreadSet) {
-        for serial in 1..=self.sets.len() as u32 {
+        for serial in 1..=self.count {
             let thread = thread_of(serial);
             if is_gone(kernel, thread) {
                 continue;
@@ -172,7 +174,7 @@ impl Waits {
 
     /// Whether some thread is stuck.
     pub fn has_stuck(&self) -> bool {
-        (1..=self.sets.len() as u32).any(|serial| self.is_stuck(thread_of(serial)))
+        (1..=self.count).any(|serial| self.is_stuck(thread_of(serial)))
     }
 
     /// Whether a thread is stuck.
@@ -180,22 +182,31 @@ impl Waits {
         self.stuck.contains(thread)
     }
 
+    /// Adds the stuck threads for which one of these, or the thread itself, waits. False where there are no more.
+    fn reach_more(&self, thread: ObjId, reached: &mut ThreadSet) -> bool {
+        let mut grew = false;
+        for from in 1..=self.count {
+            let from = thread_of(from);
+            if !from.is_same(thread) && !reached.contains(from) {
+                continue;
+            }
+            for to in 1..=self.count {
+                let to = thread_of(to);
+                if self.is_stuck(to) && self.is_waited(from, to) && !reached.contains(to) {
+                    reached.insert(to);
+                    grew = true;
+                }
+            }
+        }
+        grew
+    }
+
     /// Whether a thread is reached again from itself, by threads that are stuck.
     fn is_in_cycle(&self, thread: ObjId) -> bool {
-        let count = self.sets.len() as u32;
         let mut reached = ThreadSet::new();
-        for _ in 0..count {
-            for from in 1..=count {
-                let from = thread_of(from);
-                if !from.is_same(thread) && !reached.contains(from) {
-                    continue;
-                }
-                for to in 1..=count {
-                    let to = thread_of(to);
-                    if self.is_stuck(to) && self.is_waited(from, to) {
-                        reached.insert(to);
-                    }
-                }
+        for _ in 0..self.count {
+            if !self.reach_more(thread, &mut reached) {
+                break;
             }
         }
         reached.contains(thread)
@@ -218,7 +229,7 @@ impl Waits {
         names: &Names,
     ) -> Result<bool, LabFault> {
         let mut is_free = true;
-        let count = self.sets.len() as u32;
+        let count = self.count;
         for serial in 1..=count {
             let thread = thread_of(serial);
             if !self.is_stuck(thread) {
@@ -256,7 +267,7 @@ impl Waits {
         thread: ObjId,
     ) -> Result<(), LabFault> {
         let mut is_first = true;
-        for serial in 1..=self.sets.len() as u32 {
+        for serial in 1..=self.count {
             let other = thread_of(serial);
             if !self.is_waited(thread, other) {
                 continue;
