@@ -4,9 +4,11 @@ use crate::judging::Judge;
 use crate::last::{Last, Told};
 use crate::names::Names;
 use crate::reading::{TakesLines, take_lines};
-use crate::tap::{bare, put_description, put_quoted};
+use crate::tap::{bare, is_plain, put_description, put_quoted};
+use crate::text::Text;
 use mcs_sim::Source;
-use mcs_trace::{Line, spell_record};
+use mcs_text::Token;
+use mcs_trace::{Line, spell_answer, spell_record};
 use std::alloc::Global;
 use std::io::{self, Read, Write};
 
@@ -16,6 +18,7 @@ struct Checker<W> {
     judge: Judge,
     names: Names,
     spelled: Box<Line>,
+    verdict: Text,
     told: u64,
     failed: u64,
     to: W,
@@ -44,6 +47,7 @@ impl<W: Write + Drop> Checker<W> {
             judge: Judge::new(alloc)?,
             names: Names::new(alloc),
             spelled: Box::new(alloc, Line::new())?,
+            verdict: Text::new(alloc)?,
             told: 0,
             failed: 0,
             to,
@@ -51,17 +55,39 @@ impl<W: Write + Drop> Checker<W> {
     }
 
     /// Writes the first line of a verdict.
-    fn put_verdict(&mut self, holds: bool, said: &[u8]) -> io::Result<()> {
+    fn put_verdict(&mut self, holds: bool, said: &[u8]) -> Result<(), LabFault> {
         self.told = self.told.saturating_add(1);
-        let number = self.told;
-        let line = self.judge.line();
+        self.verdict.clear();
         if !holds {
             self.failed = self.failed.saturating_add(1);
-            self.to.write_all(b"not ")?;
+            self.verdict.put(b"not ")?;
         }
-        write!(self.to, "ok {number} - line {line}: ")?;
+        self.verdict.put(b"ok ")?;
+        self.verdict.word(&Token::Number(self.told))?;
+        self.verdict.put(b" - line ")?;
+        self.verdict.word(&Token::Number(self.judge.line()))?;
+        self.verdict.put(b": ")?;
+        // most descriptions stand for themselves, and the whole line is written at once
+        if is_plain(said) {
+            self.verdict.put(said)?;
+            self.verdict.put(b"\n")?;
+            self.to.write_all(self.verdict.text())?;
+            return Ok(());
+        }
+        self.to.write_all(self.verdict.text())?;
         put_description(&mut self.to, said)?;
-        self.to.write_all(b"\n")
+        self.to.write_all(b"\n")?;
+        Ok(())
+    }
+
+    /// Writes the answer of the last step, which was let in.
+    fn put_answer(&mut self) -> io::Result<()> {
+        let Some((line, _)) = self.judge.entered() else {
+            return self.to.write_all(b" ''\n");
+        };
+        spell_answer(&mut self.spelled, &line.kept_answer());
+        self.to.write_all(b" ")?;
+        put_quoted(&mut self.to, &self.names, bare(self.spelled.text()))
     }
 
     /// Writes the records of the last step, which was let in.
@@ -93,6 +119,7 @@ impl<W: Write + Drop> Checker<W> {
             (Last::Away, About::Answer | About::Record) => {
                 self.to.write_all(b" 'the step was turned away'\n")
             }
+            (Last::LetIn { .. }, About::Answer) => self.put_answer(),
             (Last::LetIn { .. }, About::Record) => self.put_records(),
             _ => {
                 self.to.write_all(b" ")?;
@@ -115,7 +142,7 @@ impl<W: Write + Drop> Checker<W> {
     }
 
     /// Tells a verdict, and of what does not hold what was wanted, what was seen, and behind which step.
-    fn tell(&mut self, holds: bool, about: About, said: &[u8]) -> io::Result<()> {
+    fn tell(&mut self, holds: bool, about: About, said: &[u8]) -> Result<(), LabFault> {
         self.put_verdict(holds, said)?;
         if holds {
             return Ok(());
@@ -124,14 +151,17 @@ impl<W: Write + Drop> Checker<W> {
         put_quoted(&mut self.to, &self.names, said)?;
         self.put_seen(about)?;
         self.put_step()?;
-        self.to.write_all(b"  ...\n")
+        self.to.write_all(b"  ...\n")?;
+        Ok(())
     }
 
     /// Writes how many verdicts there were.
     fn put_plan(&mut self) -> io::Result<()> {
         let told = self.told;
         if told == 0 {
-            return self.to.write_all(b"1..0 # SKIP nothing is said of any step\n");
+            return self
+                .to
+                .write_all(b"1..0 # SKIP nothing is said of any step\n");
         }
         writeln!(self.to, "1..{told}")
     }

@@ -38,7 +38,10 @@ fn fits(word: &[u8], wants: Wants) -> bool {
 fn put_word_hint<W: Write>(to: &mut W, number: u64, word: &[u8]) -> io::Result<bool> {
     match word {
         [] => {
-            writeln!(to, "  word {number} is empty: one space stands between two words")?;
+            writeln!(
+                to,
+                "  word {number} is empty: one space stands between two words"
+            )?;
             Ok(true)
         }
         [b'#', ..] => {

@@ -95,18 +95,13 @@ fn put_fields(
 }
 
 /// A line of an answer or a record, with its sign: its word under `kind`, and the others under the names of its form.
-fn line_value(
-    alloc: Global,
-    kind: &str,
-    sign: u8,
-    line: &[u8],
-) -> Result<Value, AllocError> {
+fn line_value(alloc: Global, sign: u8, line: &[u8]) -> Result<Value, AllocError> {
     let mut map = Map::new(alloc);
     let mut words = Words::new(line);
     let (Some(_), Some(key)) = (words.next_word(), words.next_word()) else {
         return Ok(Value::Null);
     };
-    put(&mut map, alloc, kind, text_value(alloc, key)?)?;
+    put(&mut map, alloc, "kind", text_value(alloc, key)?)?;
     let mut fields = match form_of(Some(sign), key) {
         Some(fields) => fields,
         None => Fields::none(),
@@ -140,31 +135,49 @@ struct Writer<W> {
 }
 
 impl<W: Write> Writer<W> {
-    /// The words of the step.
-    fn put_step(&mut self, map: &mut Map<String, Value>, alloc: Global) -> Result<(), AllocError> {
-        let Some((line, _)) = self.judge.entered() else {
-            return Ok(());
-        };
-        spell_step(&mut self.spelled, &line.kept_step());
-        let text = bare(self.spelled.text());
-        let mut words = Words::new(text);
-        let (Some(core), Some(thread), Some(key)) =
-            (words.next_word(), words.next_word(), words.next_word())
-        else {
-            return Ok(());
-        };
-        put(map, alloc, "core", word_value(alloc, core)?)?;
-        put(map, alloc, "thread", text_value(alloc, thread)?)?;
-        put_name(map, alloc, &self.names, thread)?;
-        put(map, alloc, "entry", text_value(alloc, key)?)?;
-        let mut arguments = Map::new(alloc);
-        if let Some(mut fields) = form_of(None, key) {
-            put_fields(&mut arguments, alloc, &mut fields, &mut words, text.len())?;
-        }
-        put(map, alloc, "arguments", Value::Object(arguments))
+    /// Writes a member of the object, which is not its first.
+    fn put_member(&mut self, alloc: Global, name: &str, value: &Value) -> Result<(), LabFault> {
+        let text = value.to_string(alloc)?;
+        write!(self.to, ",\"{name}\":")?;
+        self.to.write_all(text.as_bytes())?;
+        Ok(())
     }
 
-    /// The records, in their order.
+    /// Writes the thread that entered, with its name where it has one.
+    fn put_thread(&mut self, alloc: Global, thread: &[u8]) -> Result<(), LabFault> {
+        self.put_member(alloc, "thread", &text_value(alloc, thread)?)?;
+        let name = match object_of(thread) {
+            Some(object) => self.names.of(object),
+            None => None,
+        };
+        if let Some(name) = name {
+            let name = text_value(alloc, name)?;
+            self.put_member(alloc, "name", &name)?;
+        }
+        Ok(())
+    }
+
+    /// Writes the words of the line of a step.
+    fn put_words(&mut self, alloc: Global, step: &[u8]) -> Result<(), LabFault> {
+        let mut words = Words::new(step);
+        let (Some(core), Some(thread), Some(key)) = (
+            words.next_word(),
+            words.next_word(),
+            words.next_word(),
+        ) else {
+            return Ok(());
+        };
+        self.put_member(alloc, "core", &word_value(alloc, core)?)?;
+        self.put_thread(alloc, thread)?;
+        self.put_member(alloc, "entry", &text_value(alloc, key)?)?;
+        let mut arguments = Map::new(alloc);
+        if let Some(mut fields) = form_of(None, key) {
+            put_fields(&mut arguments, alloc, &mut fields, &mut words, step.len())?;
+        }
+        self.put_member(alloc, "arguments", &Value::Object(arguments))
+    }
+
+    /// The records of the last step, in their order.
     fn records(&mut self, alloc: Global) -> Result<Value, AllocError> {
         let mut list = Vec::new(alloc);
         let Some((line, before)) = self.judge.entered() else {
@@ -179,33 +192,42 @@ impl<W: Write> Writer<W> {
             if fact.is_sent() {
                 sent = sent.saturating_add(1);
             }
-            let record = line_value(alloc, "record", b'+', bare(self.spelled.text()))?;
+            let record = line_value(alloc, b'+', bare(self.spelled.text()))?;
             push(&mut list, record)?;
         }
         Ok(Value::Array(list))
     }
 
-    /// The last step, which was let in.
-    fn object(&mut self, alloc: Global) -> Result<Value, AllocError> {
-        let mut map = Map::new(alloc);
-        let (number, _) = self.judge.step();
-        put(&mut map, alloc, "line", Value::from(number))?;
-        self.put_step(&mut map, alloc)?;
+    /// The answer of the last step.
+    fn answer(&mut self, alloc: Global) -> Result<Value, AllocError> {
+        let Some((line, _)) = self.judge.entered() else {
+            return Ok(Value::Null);
+        };
+        spell_answer(&mut self.spelled, &line.kept_answer());
+        line_value(alloc, b'=', bare(self.spelled.text()))
+    }
+
+    /// The text of the last step, as the book has it.
+    fn step(&mut self, alloc: Global) -> Result<Vec<u8>, LabFault> {
+        let mut text = Vec::new(alloc);
         if let Some((line, _)) = self.judge.entered() {
-            spell_answer(&mut self.spelled, &line.kept_answer());
-            let answer = line_value(alloc, "answer", b'=', bare(self.spelled.text()))?;
-            put(&mut map, alloc, "answer", answer)?;
+            spell_step(&mut self.spelled, &line.kept_step());
+            text.extend_from_slice(bare(self.spelled.text()))?;
         }
-        let records = self.records(alloc)?;
-        put(&mut map, alloc, "records", records)?;
-        Ok(Value::Object(map))
+        Ok(text)
     }
 
     /// Writes the last step, which was let in.
     fn put_object(&mut self, alloc: Global) -> Result<(), LabFault> {
-        let text = self.object(alloc)?.to_string(alloc)?;
-        self.to.write_all(text.as_bytes())?;
-        self.to.write_all(b"\n")?;
+        let (number, _) = self.judge.step();
+        write!(self.to, "{{\"line\":{number}")?;
+        let step = self.step(alloc)?;
+        self.put_words(alloc, step.as_slice())?;
+        let answer = self.answer(alloc)?;
+        self.put_member(alloc, "answer", &answer)?;
+        let records = self.records(alloc)?;
+        self.put_member(alloc, "records", &records)?;
+        self.to.write_all(b"}\n")?;
         Ok(())
     }
 }

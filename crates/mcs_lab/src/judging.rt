@@ -4,6 +4,7 @@ ghost use Rattle.mcs_book.specs.History.{line_of_number};
 ghost use Rattle.mcs_sim.specs.Going.{fed};
 ghost use Rattle.mcs_sim.specs.Trace.{sent_with};
 ghost use Rattle.mcs_text.specs.Reading.{words_of};
+ghost use Rattle.mcs_lab.specs.Asking.{asked_of};
 ghost use Rattle.mcs_lab.specs.Verdicts.{line_count, sent_count, newest, is_answer, answers_so, found_from, found_in, found, entrant_in, reason, away_text, was_away, says_so};
 ghost use Rattle.mcs_lab.specs.Checked.{unread, book_of, fed_line, last_of, stepped, with_found, is_so, answered, question_text, remarked, judged};
 
@@ -51,15 +52,15 @@ fn newest(run: &ReplayRun) -> Option<Line<'_>>
     book.line(book.lines() - 1)
 }
 
-/// Whether the answer of a line is written so. It is left in the text.
-fn is_answer(seen: &mut Text, line: Option<Line<'_>>, text: &[u8]) -> Result<bool, LabFault>
-    ensures { IfOk result (λ holds. holds ≡ is_answer line.entry text.now) }
+/// Whether the answer of a line is written so.
+fn is_answer(seen: &mut Text, line: Option<Line<'_>>, text: &[u8]) -> bool
+    ensures holds { result ≡ is_answer line.entry text.now }
+    ensures same { seen.new ≡ seen.old }
 {
     let Some(line) = line else {
-        return Ok(false);
+        return false;
     };
-    seen.set_answer(&line.kept_answer())?;
-    Ok(seen.text() == text)
+    seen.is_answer(&line.kept_answer(), text)
 }
 
 /// How many messages were sent with a record more.
@@ -77,24 +78,24 @@ fn found_from(
     next: usize,
     sent: u128,
     text: &[u8],
-) -> Result<Option<(usize, u128)>, LabFault>
+) -> Option<(usize, u128)>
     requires { sent + 2 ^ 64 < 2 ^ 128 + next }
-    ensures found { IfOk result
-        (λ found. found ≡ found_from next sent (drop next line.now.records) text.now) }
-    ensures few { IfOk result (λ found. IfSome found (λ at. at.1 + next ≤ sent + at.0)) }
+    ensures found { result ≡ found_from next sent (drop next line.now.records) text.now }
+    ensures few { IfSome result (λ at. at.1 + next ≤ sent + at.0) }
+    ensures same { seen.new ≡ seen.old }
 {
     let mut count = sent;
     for i in next..line.record_count() {
         let Some(fact) = line.kept_record(i) else {
             unreachable!();
         };
-        seen.set_record(count, &fact)?;
+        let is_it = seen.is_record(count, &fact, text);
         count = with_sent(count, &fact);
-        if seen.text() == text {
-            return Ok(Some((i + 1, count)));
+        if is_it {
+            return Some((i + 1, count));
         }
     }
-    Ok(None)
+    None
 }
 
 /// Who enters, and on which core, on the line of a step.
@@ -232,44 +233,40 @@ impl Judge {
         }
     }
 
-    /// Whether the answer of the last step is written so. It is left in what was seen.
-    fn answers_so(&mut self, text: &[u8]) -> Result<bool, LabFault>
-        ensures holds { IfOk result
-            (λ holds. holds ≡ answers_so self.old.last (newest (book_of self.old)) text.now) }
-        ensures same { OnOk result (self.new ≡ self.old) }
+    /// Whether the answer of the last step is written so.
+    fn answers_so(&mut self, text: &[u8]) -> bool
+        ensures holds { result ≡ answers_so self.old.last (newest (book_of self.old)) text.now }
+        ensures same { self.new ≡ self.old }
     {
         match self.last {
             Last::LetIn { .. } => is_answer(&mut self.seen, newest(&self.run), text),
-            Last::NoStep | Last::Away => Ok(false),
+            Last::NoStep | Last::Away => false,
         }
     }
 
     /// Where a record of the last step is written so, of those that were not passed.
-    fn found(&mut self, text: &[u8]) -> Result<Option<(usize, u128)>, LabFault>
-        ensures found { IfOk result
-            (λ at. at ≡ found self.old.last (newest (book_of self.old)) text.now) }
-        ensures few { IfOk result (λ at. IfSome at (λ p. p.1 ≤ 2 ^ 32 + p.0)) }
-        ensures same { OnOk result (self.new ≡ self.old) }
+    fn found(&mut self, text: &[u8]) -> Option<(usize, u128)>
+        ensures found { result ≡ found self.old.last (newest (book_of self.old)) text.now }
+        ensures few { IfSome result (λ at. at.1 ≤ 2 ^ 32 + at.0) }
+        ensures same { self.new ≡ self.old }
     {
         let Last::LetIn { next, sent } = self.last else {
-            return Ok(None);
+            return None;
         };
-        let Some(line) = newest(&self.run) else {
-            return Ok(None);
-        };
+        let line = newest(&self.run)?;
         found_from(&mut self.seen, &line, next, sent, text)
     }
 
     /// Compares a line of a record.
-    fn take_record(&mut self, text: &[u8]) -> Result<Told, LabFault>
-        ensures { IfOk result (λ told. (told, self.new)
-            ≡ with_found (found self.old.last (newest (book_of self.old)) text.now) self.old) }
+    fn take_record(&mut self, text: &[u8]) -> Told
+        ensures { (result, self.new)
+            ≡ with_found (found self.old.last (newest (book_of self.old)) text.now) self.old }
     {
-        let Some((next, sent)) = self.found(text)? else {
-            return Ok(Told::Record { holds: false });
+        let Some((next, sent)) = self.found(text) else {
+            return Told::Record { holds: false };
         };
         self.last = Last::LetIn { next, sent };
-        Ok(Told::Record { holds: true })
+        Told::Record { holds: true }
     }
 
     /// Why the last step is turned away: nothing has changed since.
@@ -328,7 +325,7 @@ impl Judge {
     fn take_step(&mut self, alloc: Global, text: &[u8]) -> Result<Told, LabFault>
         ensures { IfOk result (λ told. (told, self.new)
             ≡ stepped (book_of self.old) (book_of (fed_line self.old text.now))
-                (fed_line self.old text.now) text.now) }
+            (fed_line self.old text.now) text.now) }
     {
         let before = count_lines(&self.run);
         let sent = count_sent(&self.run);
@@ -358,12 +355,12 @@ impl Judge {
         match text {
             [b'=', ..] => {
                 self.feed(alloc, text)?;
-                let holds = self.answers_so(text)?;
+                let holds = self.answers_so(text);
                 Ok(Told::Answer { holds })
             }
             [b'+', ..] => {
                 self.feed(alloc, text)?;
-                self.take_record(text)
+                Ok(self.take_record(text))
             }
             [b'#', ..] => {
                 self.feed(alloc, text)?;

@@ -101,7 +101,7 @@ fn put_content(to: &mut Text, message: &Message) -> Result<(), LabFault>
 
 /// What last reached a thread.
 fn put_mail(to: &mut Text, mail: Option<&Mail>) -> Result<(), LabFault>
-    ensures { OnOk result (to.new ≡ to.old ++ mail_text (option_copied mail)) }
+    ensures { OnOk result (to.new ≡ to.old ++ mail_text (option_copied mail.entry)) }
 {
     match mail {
         Some(Mail::Message { badge, message }) => {
@@ -119,7 +119,7 @@ fn put_mail(to: &mut Text, mail: Option<&Mail>) -> Result<(), LabFault>
 
 /// The same, where the message of an answer has no badge.
 fn put_answered(to: &mut Text, mail: Option<&Mail>) -> Result<(), LabFault>
-    ensures { OnOk result (to.new ≡ to.old ++ answered_text (option_copied mail)) }
+    ensures { OnOk result (to.new ≡ to.old ++ answered_text (option_copied mail.entry)) }
 {
     match mail {
         Some(Mail::Message { badge, message }) if badge.0 == 0 => {
@@ -131,11 +131,7 @@ fn put_answered(to: &mut Text, mail: Option<&Mail>) -> Result<(), LabFault>
 }
 
 /// The reply objects in a context's chain, or a dash.
-fn put_chain(
-    to: &mut Text,
-    kernel: &Kernel<LinkedLines>,
-    context: ObjId,
-) -> Result<(), LabFault>
+fn put_chain(to: &mut Text, kernel: &Kernel<LinkedLines>, context: ObjId) -> Result<(), LabFault>
     ensures { OnOk result
         (to.new ≡ to.old ++ names_or_dash (chain_of (log_of kernel.now) context)) }
 {
@@ -166,11 +162,7 @@ fn put_queue(to: &mut Text, kernel: &Kernel<LinkedLines>, queue: Queue) -> Resul
 }
 
 /// Puts what the kernel says to a question, in the words in which it is asked.
-pub fn see(
-    to: &mut Text,
-    kernel: &Kernel<LinkedLines>,
-    question: &Question,
-) -> Result<(), LabFault>
+pub fn see(to: &mut Text, kernel: &Kernel<LinkedLines>, question: &Question) -> Result<(), LabFault>
     ensures { OnOk result (to.new ≡ to.old ++ seen (log_of kernel.now) question.now) }
 {
     match *question {

@@ -25,18 +25,13 @@ fn put_word<W: Write>(to: &mut W, word: &[u8], before: u8, kinds: [u8; 2]) -> io
     Ok(())
 }
 
-/// Whether a text stands for itself in a description of TAP and between quotes of YAML.
-fn is_plain(text: &[u8]) -> bool {
-    text.iter().all(|byte| {
-        *byte >= b' ' && *byte <= b'~' && *byte != b'#' && *byte != b'\\' && *byte != b'\''
-    })
+/// Whether a text stands for itself in a description of TAP.
+pub fn is_plain(text: &[u8]) -> bool {
+    text.iter().all(|byte| { *byte >= b' ' && *byte <= b'~' && *byte != b'#' && *byte != b'\\' })
 }
 
 /// Writes a description of TAP, in which `#` and `\` stand behind a `\`.
 pub fn put_description<W: Write>(to: &mut W, text: &[u8]) -> io::Result<()> {
-    if is_plain(text) {
-        return to.write_all(text);
-    }
     put_word(to, text, b'\\', [b'#', b'\\'])
 }
 

@@ -1,5 +1,5 @@
 //! Text that grows.
-ghost use Rattle.std.specs.Prelude.{◌≡◌, ◌∷◌, [], ◌++◌, IfOk, OnOk};
+ghost use Rattle.std.specs.Prelude.{◌≡◌, ◌∷◌, [], ◌++◌, IfOk, OnOk, bytes_eq};
 ghost use Rattle.mcs_text.specs.Spelling.{then_text, token_text};
 ghost use Rattle.mcs_text.specs.Table.{answer_text, record_text};
 
@@ -75,23 +75,21 @@ impl Text {
         self.word(token)
     }
 
-    /// The line of an answer, and nothing else.
-    pub fn set_answer(&mut self, answer: &KeptAnswer<'_>) -> Result<(), LabFault>
-        ensures { OnOk result (self.new ≡ answer_text answer.now) }
+    /// Whether the line of an answer is this one.
+    pub fn is_answer(&mut self, answer: &KeptAnswer<'_>, line: &[u8]) -> bool
+        ensures holds { result ≡ bytes_eq (answer_text answer.now) line.now }
+        ensures same { self.new ≡ self.old }
     {
         spell_answer(&mut self.word, answer);
-        self.bytes.clear();
-        self.bytes.extend_from_slice(self.word.text())?;
-        Ok(())
+        self.word.text() == line
     }
 
-    /// The line of a record, before which so many messages were sent, and nothing else.
-    pub fn set_record(&mut self, sent: u128, fact: &KeptRecord<'_>) -> Result<(), LabFault>
-        ensures { OnOk result (self.new ≡ record_text sent fact.now) }
+    /// Whether the line of a record, before which so many messages were sent, is this one.
+    pub fn is_record(&mut self, sent: u128, fact: &KeptRecord<'_>, line: &[u8]) -> bool
+        ensures holds { result ≡ bytes_eq (record_text sent fact.now) line.now }
+        ensures same { self.new ≡ self.old }
     {
         spell_record(&mut self.word, sent, fact);
-        self.bytes.clear();
-        self.bytes.extend_from_slice(self.word.text())?;
-        Ok(())
+        self.word.text() == line
     }
 }

@@ -167,7 +167,10 @@ impl<'a> Values<'a> {
             self.add_queue(&mut list, Queue::Receivers(object(Kind::Endpoint, serial)))?;
         }
         for serial in 1..=self.kernel.made(Kind::Notification) {
-            self.add_queue(&mut list, Queue::Waiters(object(Kind::Notification, serial)))?;
+            self.add_queue(
+                &mut list,
+                Queue::Waiters(object(Kind::Notification, serial)),
+            )?;
         }
         Ok(Value::Array(list))
     }

@@ -291,9 +291,7 @@ fn put_record<W: Write>(to: &mut W, names: &Names, record: &Rec) -> io::Result<(
                 }
             })
         }
-        Rec::Dropped { message } => {
-            writeln!(to, "m{message} was dropped: nobody receives it")
-        }
+        Rec::Dropped { message } => { writeln!(to, "m{message} was dropped: nobody receives it") }
         _ => Ok(()),
     }
 }
@@ -305,7 +303,8 @@ fn is_told(record: &Rec) -> bool {
         Rec::Sent {
             mode: SendMode::Mute,
             ..
-        } | Rec::Void { .. } | Rec::Dropped { .. }
+        } | Rec::Void { .. }
+            | Rec::Dropped { .. }
     )
 }
 
@@ -393,13 +392,14 @@ impl<W: Write> Explainer<W> {
                 put_record(&mut self.to, &self.names, record)?;
             }
         }
-        if let Some((taker, caller)) = unanswerable(&entered.records) {
+        if let Some((taker, caller)) = unanswerable(&entered.records)
+            && !entered.records.iter().any(is_told)
+        {
             self.put_step()?;
             self.names.put(&mut self.to, taker)?;
             self.to.write_all(b" took the call of ")?;
             self.names.put(&mut self.to, caller)?;
-            self.to
-                .write_all(b", which nobody can answer: no reply object owes for it\n")?;
+            self.to.write_all(b", which nobody can answer: no reply object owes for it\n")?;
         }
         Ok(())
     }
@@ -440,10 +440,15 @@ pub fn explain<R: Read, W: Write + Drop>(
         to,
     };
     take_lines(alloc, from, &mut explainer)?;
-    explainer.judge.end(alloc)?;
-    let Some(kernel) = explainer.judge.kernel() else {
+    let Explainer {
+        mut judge,
+        names,
+        mut to,
+    } = explainer;
+    judge.end(alloc)?;
+    let Some(kernel) = judge.kernel() else {
         return Ok(true);
     };
     let waits = Waits::new(alloc, kernel)?;
-    waits.put(&mut explainer.to, kernel, &explainer.names)
+    waits.put(&mut to, kernel, &names)
 }

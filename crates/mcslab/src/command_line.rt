@@ -99,7 +99,9 @@ fn commands<'a>(alloc: Global) -> Result<Words<'a>, Error> {
         )
         .arg(file(alloc))?;
     let json = Words::new(alloc, "json")
-        .about("Writes the lines of the book as JSON, an object for each, by the words of the forms")
+        .about(
+            "Writes the lines of the book as JSON, an object for each, by the words of the forms",
+        )
         .after_help(FORMS)
         .arg(file(alloc))?;
     Ok(

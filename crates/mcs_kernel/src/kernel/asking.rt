@@ -19,11 +19,11 @@ ghost use Rattle.mcs_state.specs.Tables.{core_said};
 ghost use Rattle.mcs_cspace.specs.Spaces.{named_by};
 
 use super::Kernel;
+use mcs_object_queues::ObjectQueues;
 use mcs_queues::Lines;
 use mcs_slots::SlotId;
 use mcs_state::{Chain, Queued};
 use mcs_types::{Cap, CoreId, Kind, Letter, ObjId, Place, Prio, Queue, Refusal};
-use mcs_object_queues::ObjectQueues;
 
 impl<L: Lines> Kernel<L> {
     /// How many objects of a kind were made: they have the serials from 1 on (own).

@@ -4,8 +4,8 @@ use Rattle.mcs_text.specs.Table.{record_text}
 use Rattle.mcs_lab.proofs.Finding.{found-here, found-later, sends-one}
 use Rattle.mcs_lab.proofs.judging.found_from.Goals as goal
 
-pub returns-then-eq-clause-found : goal.returns-then-eq-clause-found
-returns-then-eq-clause-found c =
+pub returns-then-is_it-clause-found : goal.returns-then-is_it-clause-found
+returns-then-is_it-clause-found c =
     let i = c.loop-i.i in
     let at : slice_get c.args.line.now.records i ≡ Some c.in-Some.fact = cc in
     let same : bytes_eq (record_text c.loop-i.count c.in-Some.fact) c.args.text.now ≡ true = grind arith in
