@@ -19,6 +19,7 @@ loop-i-preserved c =
     let other : bytes_eq (record_text c.loop-i.count c.in-Some.fact) c.args.text.now ≡ false = grind arith in
     let later = found-later i c.loop-i.count i c.args.line.now.records c.in-Some.fact c.args.text.now at other in
     record {
+      same = cc;
       few = omega (arith, c.loop-i.invariant.few, c.with_sent-count.ensures, sends-one c.loop-i.count c.in-Some.fact);
       rest = cc (later, c.loop-i.invariant.rest, c.with_sent-count.ensures);
     }

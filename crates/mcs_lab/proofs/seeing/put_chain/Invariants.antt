@@ -6,4 +6,4 @@ use Rattle.mcs_lab.specs.Seen.{names_text}
 use Rattle.mcs_lab.proofs.seeing.put_chain.Given as goal
 
 abbrev pub invariant-loop-reply : goal.invariant-loop-reply
-invariant-loop-reply l = l.to ++ names_text (rest_of l.reply-iterator) ≡ l.fn.to ++ names_text (chain_of (log_of l.kernel) l.context)
+invariant-loop-reply l = l.to ++ names_text (rest_of l.reply-iterator) ≡ l.fn.to ++ names_text (chain_of (log_of l.fn.kernel) l.fn.context)

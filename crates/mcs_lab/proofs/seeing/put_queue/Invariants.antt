@@ -8,4 +8,4 @@ use Rattle.mcs_lab.proofs.seeing.put_queue.Given as goal
 
 abbrev pub invariant-loop-thread : goal.invariant-loop-thread
 invariant-loop-thread l = l.to ++ names_text (behind l.thread-iterator.left (so_far l.thread-iterator.state.now) l.thread-iterator.at)
-    ≡ l.fn.to ++ names_text (queued_in (log_of l.kernel) l.queue)
+    ≡ l.fn.to ++ names_text (queued_in (log_of l.fn.kernel) l.fn.queue)
