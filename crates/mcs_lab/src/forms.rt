@@ -173,37 +173,44 @@ pub fn form_of(sign: Option<u8>, key: &[u8]) -> Option<Fields<'static>> {
     None
 }
 
-/// How many bytes two texts have in common at their front.
-fn common_front(a: &[u8], b: &[u8]) -> usize {
-    let least = a.len().min(b.len());
-    for i in 0..least {
-        if a[i] != b[i] {
-            return i;
+/// What two texts have behind the bytes that are common at their front.
+fn behind_common<'a>(first: &'a [u8], second: &'a [u8]) -> (&'a [u8], &'a [u8]) {
+    let mut a = first;
+    let mut b = second;
+    for _ in 0..first.len() {
+        let ([from_a, rest_a @ ..], [from_b, rest_b @ ..]) = (a, b) else {
+            break;
+        };
+        if *from_a != *from_b {
+            break;
         }
+        a = rest_a;
+        b = rest_b;
     }
-    least
+    (a, b)
 }
 
-/// How many bytes two texts have in common at their end.
-fn common_end(a: &[u8], b: &[u8]) -> usize {
-    let least = a.len().min(b.len());
-    for i in 0..least {
-        if a[a.len() - 1 - i] != b[b.len() - 1 - i] {
-            return i;
+/// What two texts have before the bytes that are common at their end.
+fn before_common<'a>(first: &'a [u8], second: &'a [u8]) -> (&'a [u8], &'a [u8]) {
+    let mut a = first;
+    let mut b = second;
+    for _ in 0..first.len() {
+        let ([rest_a @ .., from_a], [rest_b @ .., from_b]) = (a, b) else {
+            break;
+        };
+        if *from_a != *from_b {
+            break;
         }
+        a = rest_a;
+        b = rest_b;
     }
-    least
+    (a, b)
 }
 
 /// Whether two words differ in one letter that is other, missing or more, or in two that are exchanged.
 fn is_near(a: &[u8], b: &[u8]) -> bool {
-    let front = common_front(a, b);
-    let a = &a[front..];
-    let b = &b[front..];
-    let end = common_end(a, b);
-    let a = &a[..a.len() - end];
-    let b = &b[..b.len() - end];
-    match (a, b) {
+    let (a, b) = behind_common(a, b);
+    match before_common(a, b) {
         ([_], [_]) | ([], [_]) | ([_], []) => true,
         ([first, second], [other, last]) => *first == *last && *second == *other,
         _ => false,

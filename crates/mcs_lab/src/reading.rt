@@ -1,5 +1,6 @@
 //! The lines of an input that comes in pieces.
 use crate::fault::LabFault;
+use crate::tap::bare;
 use mcs_sim::Source;
 use mcs_text::LineFault;
 use mcs_types::SCRIPT_LINE_BYTES;
@@ -41,15 +42,18 @@ fn take_piece<T: TakesLines>(
         let Some(end) = memchr(b'\n', rest) else {
             break;
         };
+        let Some((line, behind)) = rest.split_at_checked(end.saturating_add(1)) else {
+            break;
+        };
         if left.is_empty() {
-            to.take_line(alloc, &rest[..end + 1])?;
+            to.take_line(alloc, line)?;
         } else {
-            keep(left, &rest[..end], to.taken())?;
+            keep(left, bare(line), to.taken())?;
             left.push(b'\n')?;
             to.take_line(alloc, left.as_slice())?;
             left.clear();
         }
-        rest = &rest[end + 1..];
+        rest = behind;
     }
     keep(left, rest, to.taken())
 }
