@@ -1,5 +1,6 @@
 //! What the command line asks for.
 use clap::{Arg, ArgAction, Command as Words, Error, value_parser};
+use crate::drawing::{self, Drawn};
 use mcs_lab::Wanted;
 use std::alloc::Global;
 
@@ -15,6 +16,8 @@ pub enum Command {
     Why,
     /// Shows who stands where.
     State(Wanted),
+    /// Draws the run.
+    Draw(Drawn),
 }
 
 /// A command and the file of its script; None for the standard input.
@@ -88,7 +91,8 @@ fn commands<'a>(alloc: Global) -> Result<Words<'a>, Error> {
             .subcommand_required(true)
             .subcommand(check)?
             .subcommand(why)?
-            .subcommand(state)?,
+            .subcommand(state)?
+            .subcommand(drawing::command(alloc, file(alloc))?)?,
     )
 }
 
@@ -110,6 +114,14 @@ pub fn requested<'a>(alloc: Global, words: &'a [&'a str]) -> Result<Request<'a>,
             command: Command::State(wanted),
             file: found.get_str("FILE"),
         });
+    }
+    if let Some(found) = matches.subcommand_matches("draw") {
+        if let Some(drawn) = drawing::asked(found) {
+            return Ok(Request {
+                command: Command::Draw(drawn),
+                file: found.get_str("FILE"),
+            });
+        }
     }
     let file = match matches.subcommand_matches("check") {
         Some(found) => found.get_str("FILE"),

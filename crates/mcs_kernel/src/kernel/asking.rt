@@ -7,7 +7,7 @@ ghost use Rattle.mcs_book.specs.History.{log_of};
 ghost use Rattle.mcs_book.specs.Queues.{queued_in};
 ghost use Rattle.mcs_book.specs.Chains.{chain_of};
 ghost use Rattle.mcs_book.specs.Contexts.{holder_of, context_of, home_of};
-ghost use Rattle.mcs_book.specs.Messages.{open_of};
+ghost use Rattle.mcs_book.specs.Messages.{next_message, open_of};
 ghost use Rattle.mcs_book.specs.Notifications.{bound_of, tied_to};
 ghost use Rattle.mcs_book.specs.Replies.{owed_by, receiver_with};
 ghost use Rattle.mcs_book.specs.Slots.{slot};
@@ -53,6 +53,13 @@ impl<L: Lines> Kernel<L> {
         ensures { option_copied result ≡ open_of (log_of self.now) thread }
     {
         self.state.letter(thread)
+    }
+
+    /// How many messages were sent (own).
+    pub fn sent(&self) -> u32
+        ensures { result ≡ next_message (log_of self.now) }
+    {
+        self.state.next_message()
     }
 
     /// The thread that holds a context; None where none does (manual: Threads and Execution).
