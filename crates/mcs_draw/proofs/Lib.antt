@@ -1,1 +1,2 @@
 pub mod StrokeLaws
+pub mod DrawnLaws

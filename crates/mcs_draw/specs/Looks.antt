@@ -30,3 +30,8 @@ looks_in R = looks_to R (counted (makes_kind Thread) R)
 abbrev pub looks_of : Log → List Line → List Look
 looks_of B [] = looks_in B
 looks_of B (l ∷ ls) = looks_of B ls ++ looks_in (past B (l ∷ ls))
+
+-- the rows behind all but the last of these lines
+abbrev pub looks_before : Log → List Line → List Look
+looks_before B [] = []
+looks_before B (l ∷ ls) = looks_of B ls

@@ -3,6 +3,7 @@ ghost use Rattle.std.specs.Prelude.{◌≡◌, IfOk, OnOk};
 ghost use Rattle.mcs_draw.specs.Arrows.{beside, no_strokes, start_of, with_arrow, with_record, with_records};
 
 use mcs_book::Line;
+use mcs_packing::KeptRecord;
 use mcs_types::{ObjId, Rec};
 use std::alloc::{AllocError, Global};
 use std::marker::Model;
@@ -119,15 +120,29 @@ impl Strokes {
         }
     }
 
+    /// Adds what a record draws, where the book keeps it.
+    fn add_kept(
+        &mut self,
+        alloc: Global,
+        here: Point,
+        kept: &KeptRecord<'_>,
+    ) -> Result<(), AllocError>
+        ensures { OnOk result (self.new ≡ with_record here self.old kept.now) }
+    {
+        match kept.unpack(alloc) {
+            Ok(fact) => self.add_record(here, &fact),
+            Err(_) => Err(AllocError),
+        }
+    }
+
     /// Adds what the records of a line draw, in the row in which this thread enters.
     pub fn add_line(&mut self, alloc: Global, here: Point, line: &Line<'_>) -> Result<(), AllocError>
         ensures { OnOk result (self.new ≡ with_records here self.old line.now.records) }
     {
         for i in 0..line.record_count() {
-            match line.record(alloc, i) {
-                Ok(Some(fact)) => self.add_record(here, &fact)?,
-                Ok(None) => unreachable!(),
-                Err(_) => return Err(AllocError),
+            match line.kept_record(i) {
+                Some(kept) => self.add_kept(alloc, here, &kept)?,
+                None => unreachable!(),
             }
         }
         Ok(())

@@ -1,7 +1,8 @@
 //! What is drawn of a run, step by step.
-ghost use Rattle.std.specs.Prelude.{◌≡◌, IfOk, OnOk};
+ghost use Rattle.std.specs.Prelude.{◌≡◌, IfOk, OnOk, []};
 ghost use Rattle.mcs_book.specs.History.{with_step};
-ghost use Rattle.mcs_draw.specs.Drawn.{AreDrawn};
+ghost use Rattle.mcs_draw.specs.Arrows.{strokes_of};
+ghost use Rattle.mcs_draw.specs.Drawn.{AreDrawn, AreDrawnBefore, IsDrawnBefore};
 
 use crate::arrows::{Point, Strokes};
 use crate::looks::{Look, add_looks, thread_of};
@@ -73,6 +74,23 @@ fn add_picks(picks: &mut Vec<Option<ObjId>>, kernel: &Kernel<LinkedLines>) -> Re
     Ok(())
 }
 
+/// Draws the last line of a book, in which this thread enters; the lines before it are drawn.
+fn add_last(
+    alloc: Global,
+    strokes: &mut Strokes,
+    kernel: &Kernel<LinkedLines>,
+    thread: ObjId,
+) -> Result<(), AllocError>
+    requires { IsDrawnBefore strokes.old thread kernel.now.lines }
+    ensures { OnOk result (strokes.new ≡ strokes_of kernel.now.lines) }
+{
+    let row = kernel.book().lines() - 1;
+    match kernel.book().line(row) {
+        Some(line) => strokes.add_line(alloc, Point { row, thread }, &line),
+        None => unreachable!(),
+    }
+}
+
 impl Drawing {
     /// Before the first line.
     pub fn new(alloc: Global, boot: &Boot) -> Result<Drawing, AllocError>
@@ -95,12 +113,15 @@ impl Drawing {
         })
     }
 
-    /// Draws the last line of the book.
-    fn add_row(&mut self, alloc: Global, thread: ObjId) -> Result<(), AllocError> {
-        let row = self.kernel.book().lines() - 1;
-        if let Some(line) = self.kernel.book().line(row) {
-            self.strokes.add_line(alloc, Point { row, thread }, &line)?;
-        }
+    /// Draws the last line of the book, in which this thread enters; what stands before it is drawn.
+    fn add_row(&mut self, alloc: Global, thread: ObjId) -> Result<(), AllocError>
+        requires before { AreDrawnBefore self.old.strokes self.old.looks.items thread
+            self.old.kernel }
+        ensures book { OnOk result (self.new.kernel ≡ self.old.kernel) }
+        ensures drawn { OnOk result
+            (AreDrawn self.new.strokes self.new.looks.items self.new.kernel) }
+    {
+        add_last(alloc, &mut self.strokes, &self.kernel, thread)?;
         add_looks(&mut self.looks, &self.kernel)?;
         add_picks(&mut self.picks, &self.kernel)
     }
@@ -112,7 +133,11 @@ impl Drawing {
         step: &Step,
         text: &str,
         why: EnterFault,
-    ) -> Result<(), AllocError> {
+    ) -> Result<(), AllocError>
+        ensures book { OnOk result (self.new.kernel ≡ self.old.kernel) }
+        ensures strokes { OnOk result (self.new.strokes ≡ self.old.strokes) }
+        ensures looks { OnOk result (self.new.looks.items ≡ self.old.looks.items) }
+    {
         let mut kept = String::new(alloc);
         kept.push_str(text)?;
         self.away.push(Away {

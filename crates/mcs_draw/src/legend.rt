@@ -10,9 +10,10 @@ use mcs_types::{Kind, ObjId};
 use std::alloc::{AllocError, Global};
 use std::fmt::Write;
 
-/// The left edge, and the width of a sample.
+/// The left edge, and the widths of the samples of bars and of arrows.
 const LEFT: u64 = 12;
-const SAMPLE: u64 = 34;
+const BAR: u64 = 18;
+const ARROW: u64 = 36;
 
 /// Adds what every thread does at the end, a line each, and gives the height below them.
 pub fn put_end<N: Names>(
@@ -55,10 +56,11 @@ struct Legend {
 
 impl Legend {
     /// The place of a sample with a text of so many columns; where the page ends a line, it begins the next.
-    fn next(&mut self, text: &str) -> Area {
+    fn next(&mut self, sample: u64, text: &str) -> Area {
         let needed = columns(text)
             .saturating_mul(COLUMN)
-            .saturating_add(SAMPLE + 16);
+            .saturating_add(sample)
+            .saturating_add(16);
         if self.x > LEFT && self.x.saturating_add(needed) > self.width {
             self.x = LEFT;
             self.y = self.y.saturating_add(SLOT + 6);
@@ -75,11 +77,11 @@ impl Legend {
 }
 
 /// Adds the text of a sample.
-fn put_meaning(to: &mut String, area: Area, text: &str) -> Result<(), AllocError> {
+fn put_meaning(to: &mut String, area: Area, sample: u64, text: &str) -> Result<(), AllocError> {
     put_text(
         to,
         "state",
-        area.x.saturating_add(SAMPLE),
+        area.x.saturating_add(sample),
         area.y.saturating_add(11),
         text,
     )
@@ -88,7 +90,7 @@ fn put_meaning(to: &mut String, area: Area, text: &str) -> Result<(), AllocError
 /// Adds a line as arrows have it.
 fn put_line(to: &mut String, class: &str, area: Area) -> Result<(), AllocError> {
     let (x, y) = (area.x, area.y.saturating_add(7));
-    let end = x.saturating_add(SAMPLE - 6);
+    let end = x.saturating_add(ARROW - 8);
     write!(
         to,
         "<path class=\"arrow {class}\" marker-end=\"url(#tip)\" d=\"M{x},{y}H{end}\"/>\n"
@@ -121,9 +123,9 @@ pub fn put_legend<N: Names>(
             let core = core.0;
             write!(text, ", core {core}")?;
         }
-        let area = legend.next(text.as_str());
+        let area = legend.next(BAR, text.as_str());
         put_coloured(to, context, "run", area, "")?;
-        put_meaning(to, area, text.as_str())?;
+        put_meaning(to, area, BAR, text.as_str())?;
     }
     put_kinds(to, &mut legend)?;
     Ok(legend.y)
@@ -135,27 +137,27 @@ fn put_kinds(to: &mut String, legend: &mut Legend) -> Result<(), AllocError> {
         kind: Kind::Context,
         serial: 1,
     };
-    let area = legend.next("ready, another runs");
+    let area = legend.next(BAR, "ready, another runs");
     put_coloured(to, first, "ready", area, "")?;
-    put_meaning(to, area, "ready, another runs")?;
-    let area = legend.next("waits");
+    put_meaning(to, area, BAR, "ready, another runs")?;
+    let area = legend.next(BAR, "waits");
     put_area(to, "wait", area, "")?;
-    put_meaning(to, area, "waits")?;
-    let area = legend.next("waits, holds a context");
+    put_meaning(to, area, BAR, "waits")?;
+    let area = legend.next(BAR, "waits, holds a context");
     put_area(to, "wait", area, "")?;
     put_coloured(to, first, "run", Area { width: 4, ..area }, "")?;
-    put_meaning(to, area, "waits, holds a context")?;
-    let area = legend.next("inactive");
+    put_meaning(to, area, BAR, "waits, holds a context")?;
+    let area = legend.next(BAR, "inactive");
     put_area(to, "idle", area, "")?;
-    put_meaning(to, area, "inactive")?;
+    put_meaning(to, area, BAR, "inactive")?;
     for (class, text) in [
         ("message", "message"),
         ("answer", "answer"),
         ("word", "signal"),
     ] {
-        let area = legend.next(text);
+        let area = legend.next(ARROW, text);
         put_line(to, class, area)?;
-        put_meaning(to, area, text)?;
+        put_meaning(to, area, ARROW, text)?;
     }
     Ok(())
 }

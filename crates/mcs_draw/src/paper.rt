@@ -56,6 +56,7 @@ text{font:11px 'DejaVu Sans Mono',Menlo,Consolas,monospace;fill:#111;paint-order
 .strong{font-weight:bold}
 .rule{stroke:#ddd}
 .dot{fill:#111}
+.idle-dot{fill:#fff;stroke:#555}
 .arrow{fill:none;stroke:#111;stroke-width:1.4}
 .answer{stroke-dasharray:7 3}
 .word{stroke-dasharray:2 3}

@@ -7,7 +7,7 @@ use crate::notes::{has_note, marked, put_label, put_look, put_mark};
 use crate::texts::{columns, cut};
 use mcs_kernel::EnterFault;
 use mcs_trace::{Line, spell_answer, spell_step};
-use mcs_types::{CoreId, ObjId, Rec};
+use mcs_types::{BootLine, CoreId, ObjId, Rec};
 use std::alloc::{AllocError, Global};
 use std::fmt::Write;
 use std::str;
@@ -94,6 +94,8 @@ pub struct Plan {
     /// The places of the lanes, and what stands in their heads.
     pub lanes: Vec<u64>,
     pub heads: Vec<String>,
+    /// The priorities of the threads before the first line that is shown.
+    pub priorities: Vec<u8>,
     pub end: u64,
     pub width: u64,
 }
@@ -405,6 +407,38 @@ impl<'a, N: Names> Planner<'a, N> {
         Ok(())
     }
 
+    /// Sets the priority of a thread.
+    fn set_priority(&mut self, fact: &Rec) {
+        if let Rec::Prio { thread, priority } = fact
+            && let Some(kept) = self.plan.priorities.get_mut(lane_of(*thread))
+        {
+            *kept = priority.0;
+        }
+    }
+
+    /// Sets the priorities that the threads have before the first line that is shown.
+    fn set_priorities(&mut self) -> Result<(), AllocError> {
+        let book = self.drawing.book();
+        for line in book.boot() {
+            if let BootLine::Thread { priority, .. } = line {
+                self.plan.priorities.push(priority.0)?;
+            }
+        }
+        for number in 1..self.first {
+            let Some(line) = book.line(number) else {
+                return Ok(());
+            };
+            for i in 0..line.record_count() {
+                match line.record(self.alloc, i) {
+                    Ok(Some(fact)) => self.set_priority(&fact),
+                    Ok(None) => {}
+                    Err(_) => return Err(AllocError),
+                }
+            }
+        }
+        Ok(())
+    }
+
     /// Half the width of the head of a lane.
     fn half_head(&self, lane: usize) -> u64 {
         match self.plan.heads.get(lane) {
@@ -502,11 +536,13 @@ pub fn plan_of<N: Names>(
             strokes: Vec::new(alloc),
             lanes: Vec::new(alloc),
             heads: Vec::new(alloc),
+            priorities: Vec::new(alloc),
             end: 0,
             width: 0,
         },
     };
     planner.add_heads()?;
+    planner.set_priorities()?;
     planner.add_rows(window)?;
     planner.set_rows();
     planner.set_lanes()?;

@@ -18,7 +18,7 @@ fn lane_at(plan: &Plan, lane: usize) -> u64 {
 }
 
 /// Adds the heads of the lanes.
-fn put_heads(to: &mut String, drawing: &Drawing, plan: &Plan) -> Result<(), AllocError> {
+fn put_heads(to: &mut String, plan: &Plan) -> Result<(), AllocError> {
     for (lane, head) in plan.heads.iter().enumerate() {
         let x = lane_at(plan, lane);
         let half = columns(head.as_str()).max(12).saturating_mul(7) / 2 + 6;
@@ -30,8 +30,7 @@ fn put_heads(to: &mut String, drawing: &Drawing, plan: &Plan) -> Result<(), Allo
         };
         put_area(to, "head", area, "")?;
         put_text(to, "head-text", x, 32, head.as_str())?;
-        if let Some(priority) = drawing.kernel.priority(drawing.thread(lane)) {
-            let priority = priority.0;
+        if let Some(priority) = plan.priorities.get(lane) {
             write!(
                 to,
                 "<text class=\"head-more\" x=\"{x}\" y=\"48\">priority {priority}</text>\n"
@@ -77,7 +76,7 @@ fn put_dot(to: &mut String, plan: &Plan, row: &Row) -> Result<(), AllocError> {
         return Ok(());
     };
     let (x, y) = (lane_at(plan, lane_of(thread)), event_of(row));
-    let class = if row.kind == RowKind::Away { "bare" } else { "dot" };
+    let class = if row.kind == RowKind::Away { "idle-dot" } else { "dot" };
     write!(to, "<circle class=\"{class}\" cx=\"{x}\" cy=\"{y}\" r=\"3.5\"/>\n")
 }
 
@@ -198,7 +197,7 @@ fn put_all<N: Names>(
         put_label(to, plan, stroke)?;
     }
     put_notes(to, plan)?;
-    put_heads(to, drawing, plan)
+    put_heads(to, plan)
 }
 
 /// The picture of a window of a drawing, as SVG.
