@@ -1,7 +1,7 @@
 -- The strokes of one record more, and of one line more.
 use Rattle.std.proofs.Common.{◌≡◌, ℕ, zero, suc, Some, None, inl, inr, slice_get, reverse, ◌-◌, ◌+◌, ◌<◌, List, [], ◌∷◌, ◌++◌, length, get_or, take, refl, sym, ap, ◌∙◌, arith}
 use Rattle.std.proofs.lemmas.List.{take_more, get_or-reverse, length-reverse}
-use Rattle.std.proofs.lemmas.Option.{slice_get_cases, slice_get_read}
+use Rattle.std.proofs.lemmas.Option.{slice_get_cases, slice_get_read, slice_get_within}
 use Rattle.mcs_types.specs.declared.record.Rec.{Rec}
 use Rattle.mcs_draw.specs.declared.arrows.Point.{Point}
 use Rattle.mcs_types.specs.declared.id.ObjId.{ObjId}
@@ -33,6 +33,11 @@ pub with_records-next : (here : Point) (s : Strokes) (rs : List Rec) (i : ℕ) (
 with_records-next here s rs i r lt at =
     ap (with_record here (with_records here s (take i rs))) at
     ∙ sym (ap (with_records here s) (take_more rs i r lt) ∙ with_records-end here s (take i rs) (get_or rs i r))
+
+-- the same, of the record at a number
+pub with_records_at : (here : Point) (s : Strokes) (rs : List Rec) (i : ℕ) (r : Rec) → slice_get rs i ≡ Some r
+    → with_record here (with_records here s (take i rs)) r ≡ with_records here s (take (i + 1) rs)
+with_records_at here s rs i r at = with_records-next here s rs i r (slice_get_within rs i r at) (get_or-at rs i r at)
 
 -- the newest line is the last
 reversed-last : (l : Line) (ls : List Line) → slice_get (reverse (l ∷ ls)) (length ls) ≡ Some l
