@@ -45,7 +45,7 @@ reversed-last l ls =
     let at : get_or (reverse (l ∷ ls)) (length ls) l ≡ get_or (l ∷ ls) (length (l ∷ ls) - 1 - length ls) l = get_or-reverse (l ∷ ls) (length ls) l (omega arith) in
     let none : length (l ∷ ls) - 1 - length ls ≡ 0 = omega arith in
     slice_get_read (reverse (l ∷ ls)) (length (l ∷ ls)) (length ls) l (sym (length-reverse (l ∷ ls))) (omega arith)
-      (sym (at ∙ ap (λ n. get_or (l ∷ ls) n l) none))
+    (sym (at ∙ ap (λ n. get_or (l ∷ ls) n l) none))
 
 same-some : {A : Type 0} (x y : A) → Some x ≡ Some y → x ≡ y
 same-some x y e = cc

@@ -137,7 +137,12 @@ impl Strokes {
 
     /// Adds what the records of a line draw, in the row in which this thread enters.
     #[tactic(auto, using(crate::proofs::StrokeLaws::with_records_at))]
-    pub fn add_line(&mut self, alloc: Global, here: Point, line: &Line<'_>) -> Result<(), AllocError>
+    pub fn add_line(
+        &mut self,
+        alloc: Global,
+        here: Point,
+        line: &Line<'_>,
+    ) -> Result<(), AllocError>
         ensures { OnOk result (self.new ≡ with_records here self.old line.now.records) }
     {
         for i in 0..line.record_count() {

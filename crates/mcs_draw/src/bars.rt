@@ -14,6 +14,7 @@ const COLOURS: u32 = 7;
 
 /// Half the width of a bar, and the width of the strip for a context that a thread holds while it waits.
 const HALF: u64 = 6;
+
 const STRIP: u64 = 4;
 
 /// A bar: how a thread looks behind some lines.
@@ -99,7 +100,11 @@ fn put_bar(to: &mut String, bar: Bar, area: Area, title: &str) -> Result<(), All
         }
         (Some(Status::Closed) | None, _) => Ok(()),
         (Some(status), context) => {
-            let class = if status == Status::Inactive { "idle" } else { "wait" };
+            let class = if status == Status::Inactive {
+                "idle"
+            } else {
+                "wait"
+            };
             put_area(to, class, area, title)?;
             match context {
                 Some(context) => put_coloured(to, context, "run", strip, title),
@@ -134,7 +139,10 @@ fn put_ended<N: Names>(
         width: 2 * HALF,
         height: bottom.saturating_sub(bar.top),
     };
-    write!(to, "<g class=\"bar\" data-first=\"{first}\" data-last=\"{last}\">")?;
+    write!(
+        to,
+        "<g class=\"bar\" data-first=\"{first}\" data-last=\"{last}\">"
+    )?;
     put_bar(to, bar, area, title.as_str())?;
     to.push_str("</g>\n")
 }

@@ -66,7 +66,10 @@ pub struct Drawing {
 }
 
 /// Adds a row: which thread each core picks now.
-fn add_picks(picks: &mut Vec<Option<ObjId>>, kernel: &Kernel<LinkedLines>) -> Result<(), AllocError> {
+fn add_picks(
+    picks: &mut Vec<Option<ObjId>>,
+    kernel: &Kernel<LinkedLines>,
+) -> Result<(), AllocError> {
     let passed = ThreadSet::new();
     for core in 0..kernel.book().cores() {
         picks.push(kernel.pick(CoreId(core), &passed))?;

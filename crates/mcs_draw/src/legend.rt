@@ -12,7 +12,9 @@ use std::fmt::Write;
 
 /// The left edge, and the widths of the samples of bars and of arrows.
 const LEFT: u64 = 12;
+
 const BAR: u64 = 18;
+
 const ARROW: u64 = 36;
 
 /// Adds what every thread does at the end, a line each, and gives the height below them.

@@ -26,7 +26,11 @@ pub fn put_name<N: Names>(to: &mut String, names: &N, object: ObjId) -> Result<(
 }
 
 /// Adds the id of an object, with its name where it has one, as `client (t1)`.
-pub fn put_full_name<N: Names>(to: &mut String, names: &N, object: ObjId) -> Result<(), AllocError> {
+pub fn put_full_name<N: Names>(
+    to: &mut String,
+    names: &N,
+    object: ObjId,
+) -> Result<(), AllocError> {
     let Some(name) = names.name(object) else {
         return put_id(to, object);
     };

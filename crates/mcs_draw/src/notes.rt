@@ -41,13 +41,15 @@ fn put_sent<N: Names>(
         if !kept.is_sent() {
             continue;
         }
-        let Ok(Rec::Sent {
-            endpoint,
-            mode,
-            badge,
-            message,
-            ..
-        }) = kept.unpack(alloc)
+        let Ok(
+            Rec::Sent {
+                endpoint,
+                mode,
+                badge,
+                message,
+                ..
+            },
+        ) = kept.unpack(alloc)
         else {
             return Err(AllocError);
         };

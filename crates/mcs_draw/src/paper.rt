@@ -13,7 +13,13 @@ pub struct Area {
 }
 
 /// Adds a text whose baseline begins, stands in the middle or ends at a place, as its class says.
-pub fn put_text(to: &mut String, class: &str, x: u64, y: u64, text: &str) -> Result<(), AllocError> {
+pub fn put_text(
+    to: &mut String,
+    class: &str,
+    x: u64,
+    y: u64,
+    text: &str,
+) -> Result<(), AllocError> {
     write!(to, "<text class=\"{class}\" x=\"{x}\" y=\"{y}\">")?;
     put_escaped(to, text)?;
     to.push_str("</text>\n")

@@ -14,6 +14,7 @@ use std::str;
 
 /// The height of a slot, and the width of a column of its text.
 pub const SLOT: u64 = 16;
+
 pub const COLUMN: u64 = 7;
 
 /// The height of the heads of lanes.
@@ -21,10 +22,12 @@ pub const HEAD: u64 = 64;
 
 /// The most columns of a text at a lane, and of one in the left margin.
 const NOTE_COLUMNS: u64 = 36;
+
 const STEP_COLUMNS: u64 = 48;
 
 /// The least distance of two lanes, and how far a text keeps off a lane.
 const LANE_GAP: u64 = 84;
+
 pub const CLEAR: u64 = 13;
 
 /// What a row shows.
@@ -195,7 +198,11 @@ impl<'a, N: Names> Planner<'a, N> {
     fn add_start(&mut self) -> Result<(), AllocError> {
         let at = self.first.saturating_sub(1);
         let mut row = self.new_row(RowKind::Start, at, None);
-        row.step.push_str(if at == 0 { "the boot" } else { "the lines before" })?;
+        row.step.push_str(if at == 0 {
+            "the boot"
+        } else {
+            "the lines before"
+        })?;
         for lane in 0..self.drawing.threads() {
             let mut text = String::new(self.alloc);
             put_look(&mut text, self.names, self.drawing.look(at, lane))?;
@@ -215,7 +222,10 @@ impl<'a, N: Names> Planner<'a, N> {
 
     /// Adds the arrow of a record, where it has one.
     fn add_arrow(&mut self, row: &mut Row, fact: &Rec) -> Result<(), AllocError> {
-        if !matches!(fact, Rec::Took { .. } | Rec::Paid { .. } | Rec::Heard { .. }) {
+        if !matches!(
+            fact,
+            Rec::Took { .. } | Rec::Paid { .. } | Rec::Heard { .. }
+        ) {
             return Ok(());
         }
         let Some(arrow) = self.drawing.strokes.arrows().get(self.next_arrow).copied() else {
@@ -264,14 +274,20 @@ impl<'a, N: Names> Planner<'a, N> {
     }
 
     /// Adds the labels of the arrows of a row that do not stand above them, at the lanes where they end.
-    fn add_labels(&mut self, row: &mut Row, lane: usize, used: &mut usize) -> Result<(), AllocError> {
+    fn add_labels(
+        &mut self,
+        row: &mut Row,
+        lane: usize,
+        used: &mut usize,
+    ) -> Result<(), AllocError> {
         let first = self.plan.strokes.len().saturating_sub(row.arrows);
         for at in first..self.plan.strokes.len() {
             let mut label = String::new(self.alloc);
             match self.plan.strokes.get(at) {
-                Some(stroke) if !stroke.is_straight() && lane_of(stroke.arrow.to.thread) == lane => {
-                    label.push_str(stroke.label.as_str())?;
-                }
+                Some(stroke) if !stroke.is_straight() && lane_of(stroke.arrow.to.thread) == lane =>
+                    {
+                        label.push_str(stroke.label.as_str())?;
+                    }
                 _ => continue,
             }
             self.add_note(row, used, lane, NoteKind::Label, label.as_str())?;
@@ -391,7 +407,9 @@ impl<'a, N: Names> Planner<'a, N> {
         for row in self.plan.rows.iter_mut() {
             row.top = top;
             let slots = row.slots as u64;
-            top = top.saturating_add(slots.saturating_mul(SLOT)).saturating_add(10);
+            top = top
+                .saturating_add(slots.saturating_mul(SLOT))
+                .saturating_add(10);
         }
         self.plan.end = top.saturating_add(8);
     }
@@ -401,7 +419,9 @@ impl<'a, N: Names> Planner<'a, N> {
         for lane in 0..self.drawing.threads() {
             let mut head = String::new(self.alloc);
             put_name(&mut head, self.names, self.drawing.thread(lane))?;
-            self.plan.heads.push(cut(self.alloc, head.as_str(), NOTE_COLUMNS)?)?;
+            self.plan
+                .heads
+                .push(cut(self.alloc, head.as_str(), NOTE_COLUMNS)?)?;
             self.marks.push(String::new(self.alloc))?;
         }
         Ok(())
@@ -472,7 +492,9 @@ impl<'a, N: Names> Planner<'a, N> {
     fn margin(&self) -> u64 {
         let mut most = 0;
         for row in self.plan.rows.iter() {
-            most = columns(row.step.as_str()).max(columns(row.told.as_str())).max(most);
+            most = columns(row.step.as_str())
+                .max(columns(row.told.as_str()))
+                .max(most);
         }
         most.saturating_mul(COLUMN).saturating_add(STEPS_AT + 16)
     }
@@ -492,6 +514,7 @@ impl<'a, N: Names> Planner<'a, N> {
 
 /// Where the numbers of lines end, and where steps begin.
 pub const NUMBERS_AT: u64 = 56;
+
 pub const STEPS_AT: u64 = 66;
 
 /// The gap in which the label of a straight arrow stands: beside the lane where it ends.

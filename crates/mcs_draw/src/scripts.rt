@@ -128,7 +128,13 @@ fn drawn(alloc: Global, boot: &Boot, text: &[u8]) -> Result<Drawing, DrawFault> 
         if room.is_none() {
             room = Some(Room::new(alloc)?);
         }
-        let read = read_step(alloc, boot.cores(), boot.made(Kind::Thread), line, &mut room);
+        let read = read_step(
+            alloc,
+            boot.cores(),
+            boot.made(Kind::Thread),
+            line,
+            &mut room,
+        );
         if let (Ok(step), Ok(said)) = (read, str::from_utf8(line)) {
             drawing.enter(alloc, &step, said)?;
         }

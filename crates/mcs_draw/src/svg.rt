@@ -6,7 +6,8 @@ use crate::legend::{put_end, put_legend};
 use crate::naming::{Names, put_full_name};
 use crate::paper::{Area, STYLE, put_area, put_text};
 use crate::plans::{
-    CLEAR, HEAD, NUMBERS_AT, NoteKind, Plan, Row, RowKind, SLOT, STEPS_AT, Stroke, gap_of, lane_of, plan_of,
+    CLEAR, HEAD, NUMBERS_AT, NoteKind, Plan, Row, RowKind, SLOT, STEPS_AT, Stroke, gap_of, lane_of,
+    plan_of,
 };
 use crate::texts::{columns, put_escaped};
 use std::alloc::{AllocError, Global};
@@ -63,7 +64,11 @@ fn put_margin(to: &mut String, plan: &Plan, row: &Row) -> Result<(), AllocError>
                 "<g class=\"row\" data-line=\"{number}\"><text class=\"number\" x=\"{NUMBERS_AT}\" y=\"{first}\">{number}</text>\n"
             )?;
             put_text(to, "step", STEPS_AT, first, row.step.as_str())?;
-            let class = if row.kind == RowKind::Refused { "refused" } else { "told" };
+            let class = if row.kind == RowKind::Refused {
+                "refused"
+            } else {
+                "told"
+            };
             put_text(to, class, STEPS_AT, second, row.told.as_str())?;
             to.push_str("</g>\n")
         }
@@ -76,8 +81,15 @@ fn put_dot(to: &mut String, plan: &Plan, row: &Row) -> Result<(), AllocError> {
         return Ok(());
     };
     let (x, y) = (lane_at(plan, lane_of(thread)), event_of(row));
-    let class = if row.kind == RowKind::Away { "idle-dot" } else { "dot" };
-    write!(to, "<circle class=\"{class}\" cx=\"{x}\" cy=\"{y}\" r=\"3.5\"/>\n")
+    let class = if row.kind == RowKind::Away {
+        "idle-dot"
+    } else {
+        "dot"
+    };
+    write!(
+        to,
+        "<circle class=\"{class}\" cx=\"{x}\" cy=\"{y}\" r=\"3.5\"/>\n"
+    )
 }
 
 /// Adds the line of an arrow.
@@ -122,7 +134,10 @@ fn put_stroke<N: Names>(
         Shown::Word(_) => "word",
     };
     let row = stroke.arrow.to.row;
-    write!(to, "<path class=\"arrow {class}\" data-line=\"{row}\" marker-end=\"url(#tip)\" d=\"")?;
+    write!(
+        to,
+        "<path class=\"arrow {class}\" data-line=\"{row}\" marker-end=\"url(#tip)\" d=\""
+    )?;
     put_path(to, plan, stroke)?;
     to.push_str("\"><title>")?;
     let mut name = String::new(*to.allocator());
@@ -154,7 +169,13 @@ fn put_label(to: &mut String, plan: &Plan, stroke: &Stroke) -> Result<(), AllocE
     let y = top
         .saturating_add(slot.saturating_mul(SLOT))
         .saturating_add(SLOT - 6);
-    put_text(to, "label", left.saturating_add(right) / 2, y, stroke.label.as_str())
+    put_text(
+        to,
+        "label",
+        left.saturating_add(right) / 2,
+        y,
+        stroke.label.as_str(),
+    )
 }
 
 /// Adds what is written beside the lanes.
@@ -169,7 +190,11 @@ fn put_notes(to: &mut String, plan: &Plan) -> Result<(), AllocError> {
             .saturating_add(slot.saturating_mul(SLOT))
             .saturating_add(SLOT - 5);
         let x = lane_at(plan, note.lane).saturating_add(CLEAR);
-        let class = if note.kind == NoteKind::Mark { "mark" } else { "note" };
+        let class = if note.kind == NoteKind::Mark {
+            "mark"
+        } else {
+            "note"
+        };
         put_text(to, class, x, y, note.text.as_str())?;
     }
     Ok(())

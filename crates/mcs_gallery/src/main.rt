@@ -3,8 +3,7 @@
 
 use mcs_draw::{Format, Window, draw_script};
 use mcs_sim::Source;
-use std::fs;
-use std::io;
+use std::{fs, io};
 
 /// The scripts, and for each what is made of it.
 const PICTURES: [(&str, &str, Format); 13] = [

@@ -1,6 +1,6 @@
 //! What the command line asks for.
-use clap::{Arg, ArgAction, Command as Words, Error, value_parser};
 use crate::drawing::{self, Drawn};
+use clap::{Arg, ArgAction, Command as Words, Error, value_parser};
 use mcs_lab::Wanted;
 use std::alloc::Global;
 

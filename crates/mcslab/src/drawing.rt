@@ -25,12 +25,22 @@ pub fn command<'a>(alloc: Global, file: Arg<'a>) -> Result<Words<'a>, Error> {
         .long("format")
         .value_name("FORMAT")
         .help("svg, mermaid or html [default: svg]");
-    Ok(Words::new(alloc, "draw")
-        .about("Draws a run: a lane for each thread, a row for each line of the book")
-        .arg(line(alloc, "from", "The first line of the book that is shown [default: 1]"))?
-        .arg(line(alloc, "to", "The last line of the book that is shown [default: the last]"))?
-        .arg(format)?
-        .arg(file)?)
+    Ok(
+        Words::new(alloc, "draw")
+            .about("Draws a run: a lane for each thread, a row for each line of the book")
+            .arg(line(
+                alloc,
+                "from",
+                "The first line of the book that is shown [default: 1]",
+            ))?
+            .arg(line(
+                alloc,
+                "to",
+                "The last line of the book that is shown [default: the last]",
+            ))?
+            .arg(format)?
+            .arg(file)?,
+    )
 }
 
 /// What is asked; None for a format that is not there.
