@@ -1,0 +1,2 @@
+pub mod StrokeLaws
+pub mod DrawnLaws

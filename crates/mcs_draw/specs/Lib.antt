@@ -1,0 +1,3 @@
+pub mod Arrows
+pub mod Looks
+pub mod Drawn
