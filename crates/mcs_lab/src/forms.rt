@@ -3,7 +3,7 @@ use mcs_text::{Lines, Words};
 
 /// The forms of the lines of scripts and traces. Of a step it marks what names a capability of the thread's space: `@` an address,
 /// `%` an index that stands before its depth. Words that end in `..` stand for all that follow.
-pub const FORMS: &str = "\
+const FORMS: &str = "\
 The boot:
   cores count
   cnode radix
@@ -103,13 +103,6 @@ pub struct Fields<'a> {
 }
 
 impl<'a> Fields<'a> {
-    /// No words.
-    pub fn none() -> Fields<'a> {
-        let mut words = Words::new(b"");
-        words.next_word();
-        Fields { words }
-    }
-
     /// The next, if there is one.
     pub fn next_field(&mut self) -> Option<Field<'a>> {
         let word = self.words.next_word()?;

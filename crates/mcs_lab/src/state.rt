@@ -6,17 +6,15 @@ use crate::names::Names;
 use crate::reading::{TakesLines, take_lines};
 use crate::stuck::Waits;
 use crate::tables::put_tables;
-use crate::values::put_values;
 use mcs_sim::Source;
 use std::alloc::Global;
 use std::io::{Read, Write};
 
-/// Of a state: behind which line, whether only what is stuck is told, and whether it is written as JSON.
+/// Of a state: behind which line, and whether only what is stuck is told.
 #[derive(Clone, Copy)]
 pub struct Wanted {
     pub at: Option<u64>,
     pub stuck: bool,
-    pub json: bool,
 }
 
 /// A script that is read up to a line.
@@ -72,10 +70,6 @@ pub fn show_state<R: Read, W: Write + Drop>(
         return Ok(true);
     };
     let waits = Waits::new(alloc, kernel)?;
-    if wanted.json {
-        put_values(alloc, &mut to, kernel, &reader.names, &waits, wanted.stuck)?;
-        return Ok(!wanted.stuck || !waits.has_stuck());
-    }
     if !wanted.stuck {
         put_tables(alloc, &mut to, kernel, &reader.names)?;
     }

@@ -61,7 +61,7 @@ fn add_receivers(
 }
 
 /// The threads of which one has to act before a thread goes on: who took its call, or who received on the endpoint before.
-pub fn waited_for(
+fn waited_for(
     alloc: Global,
     kernel: &Kernel<LinkedLines>,
     thread: ObjId,
@@ -82,7 +82,7 @@ pub fn waited_for(
 }
 
 /// The thread of a serial.
-pub fn thread_of(serial: u32) -> ObjId {
+fn thread_of(serial: u32) -> ObjId {
     ObjId {
         kind: Kind::Thread,
         serial,
@@ -141,7 +141,7 @@ impl Waits {
     }
 
     /// Whether a thread waits for another.
-    pub fn is_waited(&self, thread: ObjId, other: ObjId) -> bool {
+    fn is_waited(&self, thread: ObjId, other: ObjId) -> bool {
         match thread.place(Kind::Thread) {
             None => false,
             Some(place) => match self.sets.get(place) {
@@ -172,13 +172,8 @@ impl Waits {
         }
     }
 
-    /// Whether some thread is stuck.
-    pub fn has_stuck(&self) -> bool {
-        (1..=self.count).any(|serial| self.is_stuck(thread_of(serial)))
-    }
-
     /// Whether a thread is stuck.
-    pub fn is_stuck(&self, thread: ObjId) -> bool {
+    fn is_stuck(&self, thread: ObjId) -> bool {
         self.stuck.contains(thread)
     }
 
@@ -213,7 +208,7 @@ impl Waits {
     }
 
     /// How a thread is stuck: in a cycle of threads that wait for one another, or for one that does nothing any more.
-    pub fn kind(&self, thread: ObjId) -> &'static str {
+    fn kind(&self, thread: ObjId) -> &'static str {
         if self.is_in_cycle(thread) {
             "deadlock"
         } else {

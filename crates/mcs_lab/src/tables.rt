@@ -10,7 +10,7 @@ use std::alloc::Global;
 use std::io::{self, Write};
 
 /// The object of a kind and a serial.
-pub fn object(kind: Kind, serial: u32) -> ObjId {
+fn object(kind: Kind, serial: u32) -> ObjId {
     ObjId { kind, serial }
 }
 

@@ -1,6 +1,6 @@
 //! What the command line asks for.
 use clap::{Arg, ArgAction, Command as Words, Error, value_parser};
-use mcs_lab::{FORMS, Wanted};
+use mcs_lab::Wanted;
 use std::alloc::Global;
 
 /// The version of the program (own).
@@ -15,8 +15,6 @@ pub enum Command {
     Why,
     /// Shows who stands where.
     State(Wanted),
-    /// Writes the lines of the book as JSON.
-    Json,
 }
 
 /// A command and the file of its script; None for the standard input.
@@ -41,7 +39,7 @@ Lines behind a step say what is wanted of it:
      e1.recv t2 t4 | c1 3 holds e1 rw 9         (`-` for nothing)
   #@ t1 client         a name for an object: letters, digits, `-`, `_` and `.`
 
-`mcslab COMMAND --help` shows the options of a command, and `mcslab json --help` the forms of all lines.
+`mcslab COMMAND --help` shows the options of a command.
 
 Exit status: 0; 1 what is wanted does not hold, or a thread is stuck; 2 a fault of the script; 3 a read fault; 4 a write
 fault; 5 the book is full; 6 out of memory; 64 the command line.";
@@ -68,21 +66,12 @@ fn stuck<'a>(alloc: Global) -> Arg<'a> {
         .action(ArgAction::SetTrue)
 }
 
-/// The option for programs.
-fn json<'a>(alloc: Global) -> Arg<'a> {
-    Arg::new(alloc, "json")
-        .long("json")
-        .help("Writes JSON, one object")
-        .action(ArgAction::SetTrue)
-}
-
 /// The command that shows who stands where.
 fn state<'a>(alloc: Global) -> Result<Words<'a>, Error> {
     let words = Words::new(alloc, "state")
         .about("Shows who stands where")
         .arg(at(alloc))?
         .arg(stuck(alloc))?
-        .arg(json(alloc))?
         .arg(file(alloc))?;
     Ok(words)
 }
@@ -98,12 +87,6 @@ fn commands<'a>(alloc: Global) -> Result<Words<'a>, Error> {
             "Tells why a step was turned away or refused, and at the end which threads are stuck",
         )
         .arg(file(alloc))?;
-    let json = Words::new(alloc, "json")
-        .about(
-            "Writes the lines of the book as JSON, an object for each, by the words of the forms",
-        )
-        .after_help(FORMS)
-        .arg(file(alloc))?;
     Ok(
         Words::new(alloc, "mcslab")
             .version(VERSION)
@@ -112,8 +95,7 @@ fn commands<'a>(alloc: Global) -> Result<Words<'a>, Error> {
             .subcommand_required(true)
             .subcommand(check)?
             .subcommand(why)?
-            .subcommand(state(alloc)?)?
-            .subcommand(json)?,
+            .subcommand(state(alloc)?)?,
     )
 }
 
@@ -126,17 +108,10 @@ pub fn requested<'a>(alloc: Global, words: &'a [&'a str]) -> Result<Request<'a>,
             file: found.get_str("FILE"),
         });
     }
-    if let Some(found) = matches.subcommand_matches("json") {
-        return Ok(Request {
-            command: Command::Json,
-            file: found.get_str("FILE"),
-        });
-    }
     if let Some(found) = matches.subcommand_matches("state") {
         let wanted = Wanted {
             at: found.get_one("at"),
             stuck: found.get_flag("stuck"),
-            json: found.get_flag("json"),
         };
         return Ok(Request {
             command: Command::State(wanted),

@@ -7,7 +7,7 @@ mod command_line;
 use clap::Error;
 use clap::error::ErrorKind;
 use command_line::{Command, Request, requested};
-use mcs_lab::{LabFault, check, explain, show_state, write_json};
+use mcs_lab::{LabFault, check, explain, show_state};
 use mcs_sim::{Source, arguments};
 use std::alloc::{AllocError, Global};
 use std::fs;
@@ -48,7 +48,6 @@ fn read_script<R: Read + Drop>(
         Command::Check => check(rt.alloc(), &mut source, &mut to),
         Command::Why => explain(rt.alloc(), &mut source, &mut to),
         Command::State(wanted) => show_state(rt.alloc(), &mut source, &mut to, wanted),
-        Command::Json => write_json(rt.alloc(), &mut source, &mut to),
     };
     to.flush()?;
     done
