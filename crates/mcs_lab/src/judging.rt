@@ -15,9 +15,8 @@ use crate::seeing::see;
 use crate::text::Text;
 use crate::words::{number_of, object_of};
 use mcs_book::Line;
-use mcs_kernel::{EnterFault, Kernel};
+use mcs_kernel::EnterFault;
 use mcs_packing::KeptRecord;
-use mcs_queues::LinkedLines;
 use mcs_sim::ReplayRun;
 use mcs_text::Words;
 use mcs_types::{CoreId, ObjId};
@@ -99,7 +98,7 @@ fn found_from(
 }
 
 /// Who enters, and on which core, on the line of a step.
-pub fn entrant_of(step: &[u8]) -> Option<(CoreId, ObjId)>
+fn entrant_of(step: &[u8]) -> Option<(CoreId, ObjId)>
     ensures { result ≡ entrant_in (words_of step.now) }
 {
     let mut words = Words::new(step);
@@ -198,11 +197,6 @@ impl Judge {
     /// What was seen in the place of what is wanted on the last line.
     pub fn seen(&self) -> &[u8] {
         self.seen.text()
-    }
-
-    /// The kernel behind the last line; None while the boot goes on.
-    pub fn kernel(&self) -> Option<&Kernel<LinkedLines>> {
-        self.run.kernel()
     }
 
     /// The line of the book of the last step, where that was let in, and how many messages were sent before it.

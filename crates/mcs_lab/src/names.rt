@@ -1,7 +1,7 @@
 //! The names that a script gives to objects.
 use crate::fault::LabFault;
 use crate::words::{object_of, queue_of};
-use mcs_text::{Words, letter};
+use mcs_text::Words;
 use mcs_types::{ObjId, Queue};
 use std::alloc::Global;
 use std::io::{self, Write};
@@ -24,12 +24,10 @@ fn is_of_name(byte: u8) -> bool {
     byte.is_ascii_alphanumeric() || byte == b'-' || byte == b'_' || byte == b'.'
 }
 
-/// The object of a queue, and the ending that says which of its queues it is.
-fn queue_parts(queue: Queue) -> (ObjId, &'static str) {
+/// The object of a queue.
+fn object_with(queue: Queue) -> ObjId {
     match queue {
-        Queue::Senders(object) => (object, ".send"),
-        Queue::Receivers(object) => (object, ".recv"),
-        Queue::Waiters(object) => (object, ".wait"),
+        Queue::Senders(object) | Queue::Receivers(object) | Queue::Waiters(object) => object,
     }
 }
 
@@ -65,7 +63,7 @@ impl Names {
     }
 
     /// The name of an object.
-    pub fn of(&self, object: ObjId) -> Option<&[u8]> {
+    fn of(&self, object: ObjId) -> Option<&[u8]> {
         for named in self.all.iter().rev() {
             if named.object.is_same(object) {
                 return Some(named.name.as_slice());
@@ -84,44 +82,14 @@ impl Names {
         to.write_all(b")")
     }
 
-    /// Writes an object, with its name where it has one: `t1 (client)`.
-    pub fn put<W: Write>(&self, to: &mut W, object: ObjId) -> io::Result<()> {
-        to.write_all(&[letter(object.kind)])?;
-        let serial = object.serial;
-        write!(to, "{serial}")?;
-        self.put_name(to, object)
-    }
-
-    /// Writes an object or a dash.
-    pub fn put_maybe<W: Write>(&self, to: &mut W, object: Option<ObjId>) -> io::Result<()> {
-        match object {
-            Some(object) => self.put(to, object),
-            None => to.write_all(b"-"),
-        }
-    }
-
-    /// Writes a queue, with the name of its object where it has one.
-    pub fn put_queue<W: Write>(&self, to: &mut W, queue: Queue) -> io::Result<()> {
-        let (object, end) = queue_parts(queue);
-        to.write_all(&[letter(object.kind)])?;
-        let serial = object.serial;
-        write!(to, "{serial}{end}")?;
-        self.put_name(to, object)
-    }
-
     /// Writes the name of what a word stands for between parentheses, where it has one.
     pub fn put_name_of<W: Write>(&self, to: &mut W, word: &[u8]) -> io::Result<()> {
         if let Some(queue) = queue_of(word) {
-            return self.put_name(to, queue_parts(queue).0);
+            return self.put_name(to, object_with(queue));
         }
         match object_of(word) {
             Some(object) => self.put_name(to, object),
             None => Ok(()),
         }
-    }
-
-    /// Whether no name was given.
-    pub fn is_empty(&self) -> bool {
-        self.all.is_empty()
     }
 }

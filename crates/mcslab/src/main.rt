@@ -1,13 +1,12 @@
-//! The program: `mcslab check` compares what a script says of its steps with what they do, and `mcslab why` tells why a step did
-//! nothing.
+//! The program: `mcslab check` compares what a script says of its steps with what they do.
 #![tactic(auto)]
 
 mod command_line;
 
 use clap::Error;
 use clap::error::ErrorKind;
-use command_line::{Command, Request, requested};
-use mcs_lab::{LabFault, check, explain, show_state};
+use command_line::{Request, requested};
+use mcs_lab::{LabFault, check};
 use mcs_sim::{Source, arguments};
 use std::alloc::{AllocError, Global};
 use std::fs;
@@ -17,7 +16,7 @@ use std::process::ExitCode;
 /// The exit status for a command line that asks for nothing, and for a file that cannot be opened.
 const USAGE: u8 = 64;
 
-/// The exit status where something that is wanted does not hold, or a thread is stuck.
+/// The exit status where something that is wanted does not hold.
 const UNMET: u8 = 1;
 
 /// Tells a fault, and gives its exit status.
@@ -36,19 +35,11 @@ fn tell_answer(rt: &HostRuntime, answer: &Error) -> ExitCode {
     }
 }
 
-/// Does what is asked with a script that is read.
-fn read_script<R: Read + Drop>(
-    rt: &HostRuntime,
-    request: &Request<'_>,
-    from: R,
-) -> Result<bool, LabFault> {
+/// Checks a script that is read.
+fn check_script<R: Read + Drop>(rt: &HostRuntime, from: R) -> Result<bool, LabFault> {
     let mut source = Source::new(from);
     let mut to = BufWriter::new(rt.alloc(), io::writer(rt))?;
-    let done = match request.command {
-        Command::Check => check(rt.alloc(), &mut source, &mut to),
-        Command::Why => explain(rt.alloc(), &mut source, &mut to),
-        Command::State(wanted) => show_state(rt.alloc(), &mut source, &mut to, wanted),
-    };
+    let done = check(rt.alloc(), &mut source, &mut to);
     to.flush()?;
     done
 }
@@ -56,9 +47,9 @@ fn read_script<R: Read + Drop>(
 /// Does what is asked, with its file or the standard input.
 fn carry_out(rt: &HostRuntime, request: &Request<'_>) -> ExitCode {
     let done = match request.file {
-        None => read_script(rt, request, rt.reader()),
+        None => check_script(rt, rt.reader()),
         Some(path) => match fs::open(rt, path) {
-            Ok(file) => read_script(rt, request, file),
+            Ok(file) => check_script(rt, file),
             Err(error) => {
                 let _ = eprintln!(rt; "mcslab: {path}: {error}");
                 return ExitCode::from(USAGE);
