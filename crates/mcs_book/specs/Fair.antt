@@ -21,7 +21,7 @@ use Rattle.mcs_book.specs.Messages.{letter, is_open}
 use Rattle.mcs_book.specs.Contexts.{context_of, holder_of}
 use Rattle.mcs_book.specs.Replies.{owed_by, brought_to}
 use Rattle.mcs_book.specs.Chains.{chain_of}
-use Rattle.mcs_book.specs.Standing.{mail_of, letter_mail}
+use Rattle.mcs_book.specs.Statuses.{mail_of, letter_mail}
 use Rattle.mcs_book.specs.Paths.{IsNamed}
 use Rattle.mcs_book.specs.History.{Line, Book}
 use Rattle.mcs_book.specs.Each.{EachOf, EachLine, AfterEachLine, EachRecord}

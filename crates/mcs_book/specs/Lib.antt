@@ -8,7 +8,7 @@ pub mod Contexts
 pub mod Replies
 pub mod Chains
 pub mod Notifications
-pub mod Standing
+pub mod Statuses
 pub mod Picking
 pub mod Checks
 pub mod Rights

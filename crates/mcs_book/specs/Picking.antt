@@ -5,7 +5,7 @@ use Rattle.mcs_types.specs.declared.id.CoreId.{CoreId}
 use Rattle.mcs_types.specs.ThreadSets.{has}
 use Rattle.mcs_book.specs.Logs.{Log}
 use Rattle.mcs_book.specs.Threads.{prio_of}
-use Rattle.mcs_book.specs.Standing.{may_enter}
+use Rattle.mcs_book.specs.Statuses.{may_enter}
 
 -- whether t may enter on this core, and is not among those that are passed over
 abbrev pub is_candidate : Log → CoreId → List Bool → ObjId → Bool

@@ -22,7 +22,7 @@ use Rattle.mcs_book.specs.Queues.{queue_of}
 use Rattle.mcs_book.specs.Cancelling.{drop_message, leave, cancel}
 use Rattle.mcs_book.specs.Replies.{owing}
 use Rattle.mcs_book.specs.Sound.{Sound, Allowed, IsThere}
-use Rattle.mcs_book.specs.Standing.{status_by, status_of}
+use Rattle.mcs_book.specs.Statuses.{status_by, status_of}
 use Rattle.mcs_book.specs.Threads.{mode_of}
 use Rattle.mcs_types.proofs.Ids.{parts, both}
 use Rattle.mcs_book.proofs.Firm.Cancel.{parted-idle}

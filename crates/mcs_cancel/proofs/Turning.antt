@@ -15,7 +15,7 @@ use Rattle.mcs_book.specs.Cancelling.{cancel}
 use Rattle.mcs_book.specs.Checks.{Checked, ◌>>=◌}
 use Rattle.mcs_book.specs.Lookup.{capability}
 use Rattle.mcs_book.specs.Pieces.{Act, nothing, answers}
-use Rattle.mcs_book.specs.Standing.{status_of, is_ready}
+use Rattle.mcs_book.specs.Statuses.{status_of, is_ready}
 use Rattle.mcs_book.specs.Table.{row}
 use Rattle.mcs_state.specs.Checks.{kinded, object_found, object_named, act_of}
 use Rattle.mcs_state.proofs.Named.{object-is}

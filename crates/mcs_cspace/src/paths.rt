@@ -55,7 +55,10 @@ fn next_in(page: Option<&Page>, step: Step) -> Option<Cap>
 
 /// The slot of a CNode at which lookup ends.
 fn end_at(cnode: ObjId, step: Step) -> End
-    ensures { result ≡ record { slot = record { cnode = cnode; index = step.index }; left = step.left } }
+    ensures { result ≡ record {
+      slot = record { cnode = cnode; index = step.index };
+      left = step.left;
+    } }
 {
     let slot = SlotId {
         cnode,

@@ -18,7 +18,7 @@ use Rattle.mcs_book.specs.Threads.{mode_of}
 use Rattle.mcs_book.specs.Queues.{queue_of}
 use Rattle.mcs_book.specs.Contexts.{context_of}
 use Rattle.mcs_book.specs.Replies.{owing}
-use Rattle.mcs_book.specs.Standing.{status_of, status_by, is_ready, is_on_core, may_enter}
+use Rattle.mcs_book.specs.Statuses.{status_of, status_by, is_ready, is_on_core, may_enter}
 use Rattle.mcs_book.specs.History.{Book, IsLegal, log_of}
 use Rattle.mcs_types.specs.Limits.{core_limit, line_limit}
 use Rattle.mcs_types.specs.Ranges.{InRange}

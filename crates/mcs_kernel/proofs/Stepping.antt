@@ -9,7 +9,7 @@ use Rattle.mcs_types.specs.declared.entry.Answer.{Answer}
 use Rattle.mcs_types.specs.declared.entry.Step.{Step}
 use Rattle.mcs_book.specs.Objects.{form_of}
 use Rattle.mcs_book.specs.Contexts.{context_of}
-use Rattle.mcs_book.specs.Standing.{status_of, is_ready, is_on_core, may_enter}
+use Rattle.mcs_book.specs.Statuses.{status_of, is_ready, is_on_core, may_enter}
 use Rattle.mcs_book.specs.History.{Book, log_of, with_step, book_of}
 use Rattle.mcs_book.specs.Table.{does}
 use Rattle.mcs_book.specs.Boots.{Boot}

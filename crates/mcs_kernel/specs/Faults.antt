@@ -8,7 +8,7 @@ use Rattle.mcs_types.specs.declared.entry.Entry.{Entry}
 use Rattle.mcs_types.specs.declared.entry.Answer.{Answer}
 use Rattle.mcs_book.specs.Objects.{form_of}
 use Rattle.mcs_book.specs.Contexts.{context_of}
-use Rattle.mcs_book.specs.Standing.{status_of, is_ready, is_on_core}
+use Rattle.mcs_book.specs.Statuses.{status_of, is_ready, is_on_core}
 use Rattle.mcs_book.specs.History.{Book, log_of}
 use Rattle.mcs_types.specs.Limits.{line_limit}
 use Rattle.mcs_book.specs.Table.{does}

@@ -35,7 +35,8 @@ impl Model for Boot {
 
     ghost view = { λ b. b.state.book.boot };
 
-    ghost invariant = { λ b. (b.state.hand ≡ []) × (b.state.book.lines ≡ []) × IsFaultless b.state.book.boot };
+    ghost invariant = { λ b. (b.state.hand ≡ []) × (b.state.book.lines ≡ [])
+        × IsFaultless b.state.book.boot };
 }
 
 impl Boot {

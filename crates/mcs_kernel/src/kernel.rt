@@ -5,7 +5,7 @@ ghost use Rattle.mcs_types.specs.Messages.{IsSpare};
 ghost use Rattle.mcs_book.specs.History.{IsLegal, log_of};
 ghost use Rattle.mcs_book.specs.Each.{EachRecord, EachLine, AfterEachLine};
 ghost use Rattle.mcs_book.specs.Fair.{EndsOpen, IsWholeLine, TakesFirst, TakesInOrder, TakesAlive, SendersAreOpen, AnswersOwed, AnswersWhole, NoneWaitBeside, IsFair};
-ghost use Rattle.mcs_book.specs.Standing.{may_enter};
+ghost use Rattle.mcs_book.specs.Statuses.{may_enter};
 ghost use Rattle.mcs_caps.specs.NewObjects.{HasSerials};
 ghost use Rattle.mcs_book.specs.Table.{does};
 ghost use Rattle.mcs_state.specs.Now.{so_far};

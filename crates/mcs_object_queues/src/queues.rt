@@ -46,9 +46,14 @@ impl<L: Lines> Model for ObjectQueues<L> {
 
     ghost Value = { Placed (Unit {0}) L };
 
-    ghost view = { λ s. record { endpoints = s.endpoints; notifications = s.notifications; lines = s.lines } };
+    ghost view = { λ s. record {
+      endpoints = s.endpoints;
+      notifications = s.notifications;
+      lines = s.lines;
+    } };
 
-    ghost invariant = { λ s. IsPlaced s.endpoints s.notifications (L.line s.lines) (L.place s.lines) (L.rooms s.lines) };
+    ghost invariant = { λ s. IsPlaced s.endpoints s.notifications
+        (L.line s.lines) (L.place s.lines) (L.rooms s.lines) };
 }
 
 /// The number of a thread of a serial from 1 to 256.

@@ -39,7 +39,12 @@ impl<T> Model for Store<T> {
     ghost use Rattle.mcs_objects.specs.Rows.{objects_of, IsSound};
     ghost use Rattle.std.specs.Prelude.{vec_capacity};
 
-    ghost view = { λ s. record { kind = s.kind; room = s.room; given = s.given; list = objects_of s.rows.items s.values.slots } };
+    ghost view = { λ s. record {
+      kind = s.kind;
+      room = s.room;
+      given = s.given;
+      list = objects_of s.rows.items s.values.slots;
+    } };
 
     ghost invariant = { λ s. IsSound s.room s.given s.rows.items (vec_capacity s.rows) s.values };
 }

@@ -122,8 +122,10 @@ impl Arena {
     pub(crate) fn keep(&mut self, message: &Message, badge: Badge) -> Option<u32>
         requires { HasRoom self.old 1 }
         ensures value { IfSome result (λ at. HoldsAt self.new.words.items at message.now) }
-        ensures badge { IfSome result (λ at. HasBadgeAt self.new.words.items at message.now badge.0) }
-        ensures fits { IfSome result (λ at. IsMessageAt self.new.words.items at (length message.now.words)) }
+        ensures badge { IfSome result
+            (λ at. HasBadgeAt self.new.words.items at message.now badge.0) }
+        ensures fits { IfSome result
+            (λ at. IsMessageAt self.new.words.items at (length message.now.words)) }
         ensures grew { Grew self.old self.new }
         ensures none { IfNone result (self.new ≡ self.old) }
     {

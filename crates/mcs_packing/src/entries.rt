@@ -145,8 +145,8 @@ impl Arena {
         }
     }
 
-    /// Packs an entry, for which there is room. Its message or its badge may stand at a place already. What was packed before
-    /// stands for what it stood for.
+    /// Packs an entry, for which there is room: a table, a row for each entry. Its message or its badge may stand at a place
+    /// already. What was packed before stands for what it stood for.
     pub fn pack_entry(&mut self, entry: &Entry, place: u32) -> PackedEntry
         requires { HasMessageRoom self.old 1 }
         ensures value { entry_of result self.new.words.items ≡ entry.now }
@@ -324,7 +324,7 @@ fn unpack_at(form: OverPlace, place: Place) -> Entry
     }
 }
 
-/// The entry that a packed one stands for. A message of four words takes no memory.
+/// The entry that a packed one stands for: a table, a row for each form. A message of four words takes no memory.
 pub fn unpack_entry(alloc: Global, entry: &PackedEntry, words: &[u64]) -> Result<Entry, OutOfMemory>
     requires { EntryFits entry.now words.now }
     ensures { IfOk result (λ e. e ≡ entry_of entry.now words.now) }

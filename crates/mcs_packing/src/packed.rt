@@ -444,7 +444,8 @@ impl Arena {
         message: &Message,
     ) -> Option<Packed>
         requires { HasRoom self.old 1 }
-        ensures { Packs self.old self.new result (Rec.Sent sender.now endpoint.now mode badge message.now) }
+        ensures { Packs self.old self.new result
+            (Rec.Sent sender.now endpoint.now mode badge message.now) }
     {
         let sender = serial_of(sender, Kind::Thread)?;
         let endpoint = serial_of(endpoint, Kind::Endpoint)?;

@@ -47,7 +47,9 @@ impl Model for PlainLines {
 
     ghost view = { λ s. record { rows = s.rows.items; threads = s.threads; lines = s.lines } };
 
-    ghost invariant = { λ s. (s.threads ≤ vec_capacity s.rows) × Kept s.threads s.lines s.rows.items × ((k : ℕ) → NeverRises (line_in s.rows.items k)) };
+    ghost invariant = { λ s. (s.threads ≤ vec_capacity s.rows)
+        × Kept s.threads s.lines s.rows.items
+        × ((k : ℕ) → NeverRises (line_in s.rows.items k)) };
 }
 
 /// Where the row of a thread stands.

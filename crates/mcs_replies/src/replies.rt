@@ -61,7 +61,8 @@ impl Model for Replies {
 
     ghost view = { λ s. record { rows = s.rows; links = s.links.items; tops = s.tops } };
 
-    ghost invariant = { λ s. IsOwing (record { rows = s.rows; links = s.links.items; tops = s.tops }) };
+    ghost invariant = { λ s. IsOwing
+        (record { rows = s.rows; links = s.links.items; tops = s.tops }) };
 }
 
 /// Keeps another receiver of a reply object that is there.
@@ -232,7 +233,8 @@ impl Replies {
         ensures none { IfNone result (self.new ≡ self.old) }
         ensures owed { SetsOwed self.old self.new reply None }
         ensures chains { TakesOff self.old self.new reply }
-        ensures changes { IfSome result (λ e. IsSome e.topped → link_changes self.old self.new ≤ 3) }
+        ensures changes { IfSome result
+            (λ e. IsSome e.topped → link_changes self.old self.new ≤ 3) }
         ensures counts { counts self.new ≡ counts self.old }
         ensures there { (r : ObjId) → is_there self.new r ≡ is_there self.old r }
         ensures receivers { (r : ObjId) → receiver_in self.new r ≡ receiver_in self.old r }

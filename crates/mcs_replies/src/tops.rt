@@ -33,7 +33,8 @@ impl Model for Tops {
 
     ghost view = { λ t. record { homes = t.homes.items; others = t.others.items } };
 
-    ghost invariant = { λ t. (length t.homes.items ≡ object_limit) × (object_limit ≤ vec_capacity t.others) };
+    ghost invariant = { λ t. (length t.homes.items ≡ object_limit)
+        × (object_limit ≤ vec_capacity t.others) };
 }
 
 /// Where the row of a context stands among those that are not at home.

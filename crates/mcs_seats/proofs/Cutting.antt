@@ -11,7 +11,7 @@ use Rattle.mcs_book.specs.Objects.{form_of}
 use Rattle.mcs_book.specs.Contexts.{context_of}
 use Rattle.mcs_types.specs.declared.boot.BootLine.{BootLine}
 use Rattle.mcs_book.specs.Boots.{Boot, boot_log}
-use Rattle.mcs_book.specs.Standing.{status_of, is_ready, is_on_core, may_enter}
+use Rattle.mcs_book.specs.Statuses.{status_of, is_ready, is_on_core, may_enter}
 use Rattle.mcs_book.specs.Pieces.{Outcome}
 use Rattle.mcs_book.specs.Table.{does}
 use Rattle.mcs_book.specs.History.{Book, Line, Follows, AreLegal, IsLegal, log_of, line_for, line_of_number}

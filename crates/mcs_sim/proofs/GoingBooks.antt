@@ -7,7 +7,7 @@ use Rattle.std.proofs.lemmas.Option.{slice_get_within, get_or_from_slice_get}
 use Rattle.mcs_sim.specs.declared.writing.Told.{Told}
 use Rattle.mcs_types.specs.declared.entry.Step.{Step}
 use Rattle.mcs_book.specs.Boots.{Boot}
-use Rattle.mcs_book.specs.Standing.{may_enter}
+use Rattle.mcs_book.specs.Statuses.{may_enter}
 use Rattle.mcs_book.specs.History.{Book, Line, log_of, with_step, book_of}
 use Rattle.mcs_kernel.specs.Faults.{fault_of, entered}
 use Rattle.mcs_kernel.specs.Runs.{is_book_full}

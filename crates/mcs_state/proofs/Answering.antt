@@ -23,7 +23,7 @@ use Rattle.mcs_types.specs.Chains.{head_of}
 use Rattle.mcs_book.specs.Queues.{queue_of, reply_with, first_in}
 use Rattle.mcs_book.specs.Replies.{owing}
 use Rattle.mcs_book.specs.Notifications.{bound_of, pending}
-use Rattle.mcs_book.specs.Standing.{status_of, status_by}
+use Rattle.mcs_book.specs.Statuses.{status_of, status_by}
 use Rattle.mcs_book.specs.Messages.{open_of}
 use Rattle.mcs_book.specs.Growing.{Waiter, growing_queue, growing_open, threads_in}
 use Rattle.mcs_book.specs.Checks.{Checked, ◌>>=◌, ◌>>◌, need, needed}

@@ -17,7 +17,7 @@ use Rattle.mcs_book.specs.History.{Line, past, Book, log_of}
 use Rattle.mcs_book.specs.Contexts.{homed_at}
 use Rattle.mcs_book.specs.Notifications.{tied_to}
 use Rattle.mcs_book.specs.Replies.{receiver_with}
-use Rattle.mcs_book.specs.Standing.{mail_of}
+use Rattle.mcs_book.specs.Statuses.{mail_of}
 use Rattle.mcs_objects.specs.Places.{kept_at}
 use Rattle.mcs_objects.specs.Store.{empty_shape}
 use Rattle.mcs_replies.specs.Owing.{counts as reply_counts, is_there as has_reply, receiver_in, owed_in, chain_in}

@@ -10,7 +10,7 @@ use Rattle.mcs_book.specs.Logs.{Log, counted}
 use Rattle.mcs_book.specs.Objects.{makes_kind, form_of}
 use Rattle.mcs_book.specs.Threads.{prio_of}
 use Rattle.mcs_book.specs.Contexts.{context_of}
-use Rattle.mcs_book.specs.Standing.{may_enter, is_ready, is_on_core, status_of}
+use Rattle.mcs_book.specs.Statuses.{may_enter, is_ready, is_on_core, status_of}
 use Rattle.mcs_book.specs.Picking.{is_candidate, GoesBefore, IsPick}
 use Rattle.mcs_book.specs.Sound.{Sound, IsThere}
 use Rattle.mcs_state.specs.Picking.{thread_at, picked, is_above, better_of, best_below}

@@ -18,7 +18,7 @@ use Rattle.mcs_book.specs.Objects.{was_made, was_closed, is_alive, form_of}
 use Rattle.mcs_book.specs.Threads.{prio_of, mode_of}
 use Rattle.mcs_book.specs.Queues.{queue_of, reply_with}
 use Rattle.mcs_book.specs.Notifications.{bound_of}
-use Rattle.mcs_book.specs.Standing.{mail_brought}
+use Rattle.mcs_book.specs.Statuses.{mail_brought}
 use Rattle.mcs_book.specs.Sound.{Sound, IsThere, IsFormOf}
 use Rattle.mcs_types.proofs.Ids.{same-equal}
 use Rattle.mcs_book.proofs.Objects.MadeLaws.{alive-made}

@@ -32,7 +32,7 @@ use Rattle.mcs_book.specs.Threads.{prio_of, mode_of}
 use Rattle.mcs_book.specs.Queues.{queue_of, reply_with}
 use Rattle.mcs_book.specs.Replies.{owed_by, owing}
 use Rattle.mcs_book.specs.Notifications.{bound_of}
-use Rattle.mcs_book.specs.Standing.{letter_mail, mail_brought, mail_of}
+use Rattle.mcs_book.specs.Statuses.{letter_mail, mail_brought, mail_of}
 use Rattle.mcs_book.specs.Sound.{Sound, Allowed, IsThere, IsFormOf}
 use Rattle.mcs_types.proofs.Ids.{same-self, same-equal}
 use Rattle.mcs_book.proofs.Messages.MailLaws.{is_still, mail-still, mail-took, mail-paid}

@@ -24,7 +24,7 @@ use Rattle.mcs_book.specs.Messages.{next_message, letter}
 use Rattle.mcs_book.specs.Contexts.{home_of}
 use Rattle.mcs_book.specs.Notifications.{bound_of}
 use Rattle.mcs_book.specs.Queues.{reply_with}
-use Rattle.mcs_book.specs.Standing.{letter_mail}
+use Rattle.mcs_book.specs.Statuses.{letter_mail}
 use Rattle.mcs_book.specs.Threads.{prio_of}
 use Rattle.mcs_objects.specs.Places.{kept_at}
 use Rattle.mcs_objects.specs.Store.{one_more, IsOneFewer}

@@ -15,7 +15,7 @@ use Rattle.mcs_book.specs.Objects.{is_alive, form_of, makes_kind, number_of}
 use Rattle.mcs_book.specs.Slots.{slot, count_of}
 use Rattle.mcs_book.specs.Lookup.{radix_kept}
 use Rattle.mcs_book.specs.Queues.{queue_of}
-use Rattle.mcs_book.specs.Standing.{mail_of}
+use Rattle.mcs_book.specs.Statuses.{mail_of}
 use Rattle.mcs_book.specs.Messages.{next_message, is_sent}
 use Rattle.mcs_book.specs.Contexts.{holder_of, home_of, homed_at}
 use Rattle.mcs_book.specs.Notifications.{tied_to}

@@ -1,6 +1,6 @@
 //! Messages that are open.
 ghost use Rattle.std.specs.Prelude.{◌≡◌, IsSome, Some};
-ghost use Rattle.mcs_book.specs.Standing.{letter_mail};
+ghost use Rattle.mcs_book.specs.Statuses.{letter_mail};
 ghost use Rattle.mcs_threads.specs.Tables.{made, row_of, SameRows, SetsMail};
 
 use mcs_threads::Threads;

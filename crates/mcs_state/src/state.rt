@@ -73,7 +73,12 @@ impl<W: Waiting> Model for State<W> {
 
     ghost Value = { Now };
 
-    ghost view = { λ s. record { book = s.book.book; hand = s.book.hand; boot_room = s.book.boot_room; room = s.book.room + length s.book.hand } };
+    ghost view = { λ s. record {
+      book = s.book.book;
+      hand = s.book.hand;
+      boot_room = s.book.boot_room;
+      room = s.book.room + length s.book.hand;
+    } };
 
     ghost invariant = { λ s. (s.book.room + length s.book.hand ≤ HAND + 1)
         × IsKept (record {

@@ -26,7 +26,8 @@ impl Model for Threads {
 
     ghost view = { λ t. record { rows = t.rows.items; mails = t.mails.items } };
 
-    ghost invariant = { λ t. (vec_len t.mails ≡ vec_len t.rows) × (vec_len t.rows ≤ 256) × (256 ≤ vec_capacity t.rows) × (256 ≤ vec_capacity t.mails) };
+    ghost invariant = { λ t. (vec_len t.mails ≡ vec_len t.rows) × (vec_len t.rows ≤ 256)
+        × (256 ≤ vec_capacity t.rows) × (256 ≤ vec_capacity t.mails) };
 }
 
 // By hand, so that it is a function of its own: a derived drop would be proved anew wherever it is let go.

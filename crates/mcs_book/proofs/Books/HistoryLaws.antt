@@ -8,7 +8,7 @@ use Rattle.mcs_types.specs.declared.boot.BootLine.TheVariants as boot
 use Rattle.mcs_types.specs.declared.record.Rec.{Rec}
 use Rattle.mcs_book.specs.Logs.{Log, onto}
 use Rattle.mcs_book.specs.Boots.{boot_line, boot_log}
-use Rattle.mcs_book.specs.Standing.{may_enter}
+use Rattle.mcs_book.specs.Statuses.{may_enter}
 use Rattle.mcs_book.specs.Table.{does}
 use Rattle.mcs_book.specs.History.{Line, past, AreLegal}
 use Rattle.mcs_book.specs.Each.{AfterEach}

@@ -15,7 +15,7 @@ use Rattle.mcs_types.specs.Ids.{same}
 use Rattle.mcs_book.specs.Logs.{Log, onto, given}
 use Rattle.mcs_book.specs.Objects.{form_of}
 use Rattle.mcs_book.specs.Contexts.{context_of}
-use Rattle.mcs_book.specs.Standing.{may_enter, is_ready, status_of, is_on_core}
+use Rattle.mcs_book.specs.Statuses.{may_enter, is_ready, status_of, is_on_core}
 use Rattle.mcs_book.specs.Pieces.{Outcome}
 use Rattle.mcs_book.specs.Boots.{boot_line, boot_log, boot_check, AreFaultless}
 use Rattle.mcs_book.specs.Table.{does}

@@ -30,7 +30,7 @@ use Rattle.mcs_book.specs.Contexts.{context_of, homed_at}
 use Rattle.mcs_book.specs.Replies.{owing}
 use Rattle.mcs_book.specs.Notifications.{bound_of, tied_to}
 use Rattle.mcs_book.specs.Binding.{is_loose, bind_by}
-use Rattle.mcs_book.specs.Standing.{status_of, is_ready, status_by, is_on_core, may_enter}
+use Rattle.mcs_book.specs.Statuses.{status_of, is_ready, status_by, is_on_core, may_enter}
 use Rattle.mcs_book.specs.Checks.{Checked, ◌>>=◌}
 use Rattle.mcs_book.specs.Rights.{call_mode}
 use Rattle.mcs_book.specs.Lookup.{capability, of_kind, slot_named}

@@ -12,7 +12,7 @@ use Rattle.mcs_types.specs.Ids.{same}
 use Rattle.mcs_book.specs.Logs.{Log, onto, given, latest_knowing}
 use Rattle.mcs_book.specs.Objects.{is_alive}
 use Rattle.mcs_book.specs.Messages.{letter}
-use Rattle.mcs_book.specs.Standing.{letter_mail, mail_brought, mail_of}
+use Rattle.mcs_book.specs.Statuses.{letter_mail, mail_brought, mail_of}
 use Rattle.mcs_types.proofs.Ids.{same-self, same-other}
 use Rattle.mcs_book.proofs.SoundLogs.Making.{Passes, is_plain}
 

@@ -16,7 +16,7 @@ use Rattle.mcs_types.specs.Ids.{same}
 use Rattle.mcs_book.specs.Logs.{Log, onto, given}
 use Rattle.mcs_book.specs.Queues.{queue_of, first_in}
 use Rattle.mcs_book.specs.Messages.{next_message, letters, letter, settles, is_open, open_of}
-use Rattle.mcs_book.specs.Standing.{may_enter}
+use Rattle.mcs_book.specs.Statuses.{may_enter}
 use Rattle.mcs_book.specs.Boots.{boot_log}
 use Rattle.mcs_book.specs.Table.{does}
 use Rattle.mcs_book.specs.History.{Book, IsLegal, log_of}

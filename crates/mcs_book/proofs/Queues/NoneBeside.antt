@@ -17,7 +17,7 @@ use Rattle.mcs_book.specs.Objects.{was_made}
 use Rattle.mcs_book.specs.Queues.{queue_of, first_in}
 use Rattle.mcs_types.specs.declared.record.Letter.{Letter}
 use Rattle.mcs_book.specs.Messages.{next_message, letters, letter, settles, is_open, open_of}
-use Rattle.mcs_book.specs.Standing.{may_enter}
+use Rattle.mcs_book.specs.Statuses.{may_enter}
 use Rattle.mcs_book.specs.Receiving.{open_of_any}
 use Rattle.mcs_book.specs.Boots.{boot_log}
 use Rattle.mcs_book.specs.Table.{does}

@@ -11,7 +11,7 @@ use Rattle.mcs_book.specs.Objects.{was_made, was_closed, is_alive}
 use Rattle.mcs_book.specs.Threads.{mode_of}
 use Rattle.mcs_book.specs.Queues.{queue_of}
 use Rattle.mcs_book.specs.Replies.{owing}
-use Rattle.mcs_book.specs.Standing.{status_of, may_enter, is_ready, status_by}
+use Rattle.mcs_book.specs.Statuses.{status_of, may_enter, is_ready, status_by}
 use Rattle.mcs_types.proofs.Ids.{same_kind-equal, parts, both}
 
 -- what is known of a thread that may enter

@@ -31,7 +31,7 @@ use Rattle.mcs_book.specs.Replies.{owed_by}
 use Rattle.mcs_book.specs.Pieces.{Piece, ◌then◌, nothing, say, Act, answers}
 use Rattle.mcs_book.specs.Taking.{debt, owe, back_to, give_back, give, settle, handed, taken}
 use Rattle.mcs_book.specs.Sending.{letter_over, sends_to, sends, queues}
-use Rattle.mcs_book.specs.Standing.{mail_of}
+use Rattle.mcs_book.specs.Statuses.{mail_of}
 use Rattle.mcs_book.specs.Paths.{IsNamed}
 use Rattle.mcs_book.specs.History.{Line}
 use Rattle.mcs_book.specs.Each.{Each, EachOf}

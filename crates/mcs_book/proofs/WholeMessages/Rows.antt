@@ -29,7 +29,7 @@ use Rattle.mcs_book.specs.Notifications.{bound_of}
 use Rattle.mcs_book.specs.Signalling.{signal}
 use Rattle.mcs_book.specs.Cancelling.{let_go}
 use Rattle.mcs_book.proofs.Threads.HoldingLaws.{context_of-holder}
-use Rattle.mcs_book.specs.Standing.{mail_of}
+use Rattle.mcs_book.specs.Statuses.{mail_of}
 use Rattle.mcs_book.specs.Checks.{Checked, ◌>>=◌, ◌>>◌, need}
 use Rattle.mcs_book.specs.Rights.{is_kind}
 use Rattle.mcs_book.specs.Lookup.{capability, of_kind}

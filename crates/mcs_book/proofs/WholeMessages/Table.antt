@@ -29,7 +29,7 @@ use Rattle.mcs_book.specs.Table.{row, wakes, outcome_of, does}
 use Rattle.mcs_book.proofs.SoundLogs.Keeping.{onto-append}
 use Rattle.mcs_book.proofs.Books.Checking.{OnPassed, passed-ok, passed-err, passed-after, passed-bind, passed-next}
 use Rattle.mcs_book.specs.Binding.{bind_by}
-use Rattle.mcs_book.specs.Standing.{is_ready, status_of}
+use Rattle.mcs_book.specs.Statuses.{is_ready, status_of}
 use Rattle.mcs_types.specs.declared.id.Kind.TheVariants as kind
 use Rattle.mcs_book.specs.Objects.{was_made, next_id}
 use Rattle.mcs_book.specs.Slots.{SlotName, slot}

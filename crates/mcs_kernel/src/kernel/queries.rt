@@ -1,7 +1,7 @@
 //! Questions to the kernel: what a thread does, what last reached it, and which thread runs next.
 ghost use Rattle.std.specs.Prelude.{◌≡◌, option_copied};
 ghost use Rattle.mcs_book.specs.History.{log_of};
-ghost use Rattle.mcs_book.specs.Standing.{status_of, mail_of};
+ghost use Rattle.mcs_book.specs.Statuses.{status_of, mail_of};
 ghost use Rattle.mcs_book.specs.Picking.{IsPick};
 
 use super::Kernel;

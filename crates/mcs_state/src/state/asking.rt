@@ -20,7 +20,8 @@ use mcs_types::{Cap, CoreId, OBJECTS, ObjId, Place, Prio, Queue, Refusal};
 impl<W: Waiting> State<W> {
     /// The threads in a queue, first to last; none where its object is not there.
     pub fn queued(&self, queue: Queue) -> Queued<'_, W>
-        ensures { behind result.left (so_far result.state.now) result.at ≡ queued_in (so_far self.now) queue }
+        ensures { behind result.left (so_far result.state.now) result.at
+            ≡ queued_in (so_far self.now) queue }
     {
         self.is_sound();
         Queued {

@@ -5,7 +5,7 @@ ghost use Rattle.mcs_book.specs.Logs.{counted};
 ghost use Rattle.mcs_book.specs.Objects.{makes_kind, form_of};
 ghost use Rattle.mcs_book.specs.Contexts.{context_of};
 ghost use Rattle.mcs_book.specs.Sound.{IsThere};
-ghost use Rattle.mcs_book.specs.Standing.{may_enter, is_ready, is_on_core};
+ghost use Rattle.mcs_book.specs.Statuses.{may_enter, is_ready, is_on_core};
 ghost use Rattle.mcs_book.specs.Picking.{IsPick, is_candidate};
 ghost use Rattle.mcs_state.specs.Now.{so_far};
 ghost use Rattle.mcs_state.specs.Picking.{thread_at, is_above, better_of};

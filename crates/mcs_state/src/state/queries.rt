@@ -12,7 +12,7 @@ ghost use Rattle.mcs_book.specs.Contexts.{holder_of, context_of};
 ghost use Rattle.mcs_types.specs.Chains.{head_of};
 ghost use Rattle.mcs_book.specs.Chains.{chain_of, is_unlent};
 ghost use Rattle.mcs_book.specs.Replies.{receiver_with, owed_by, user_of};
-ghost use Rattle.mcs_book.specs.Standing.{status_of, mail_of, is_on_core};
+ghost use Rattle.mcs_book.specs.Statuses.{status_of, mail_of, is_on_core};
 ghost use Rattle.mcs_book.specs.Lookup.{radix_kept, capability, slot_named};
 ghost use Rattle.mcs_cspace.specs.Spaces.{named_by};
 ghost use Rattle.mcs_book.specs.Sound.{Sound, IsThere};

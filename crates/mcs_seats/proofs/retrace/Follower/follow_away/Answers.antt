@@ -1,6 +1,5 @@
-use Rattle.std.proofs.Common.{ℕ, ◌≡◌, ◌≤◌, ◌<◌, ◌-◌, true, Option, Some, List, length, get_or, ap, sym, subst, ◌∙◌, arith}
+use Rattle.std.proofs.Common.{ℕ, ◌≡◌, ◌-◌, true, Option, Some, List, length, get_or, ap, sym, ◌∙◌, arith}
 use Rattle.mcs_book.specs.History.{Book}
-use Rattle.mcs_types.specs.declared.id.CoreId.{CoreId}
 use Rattle.mcs_kernel.specs.Faults.{fault_of}
 use Rattle.mcs_kernel.specs.declared.fault.EnterFault.{EnterFault}
 use Rattle.mcs_seats.specs.declared.call.Call.{Call}

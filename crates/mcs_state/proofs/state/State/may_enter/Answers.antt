@@ -2,7 +2,7 @@ use Rattle.std.proofs.Common.{◌≡◌, ◌∙◌, ◌&&◌, ap, sym, true, fal
 use Rattle.mcs_book.specs.Logs.{Log}
 use Rattle.mcs_book.specs.Objects.{form_of}
 use Rattle.mcs_book.specs.Contexts.{context_of}
-use Rattle.mcs_book.specs.Standing.{is_ready, is_on_core, status_of}
+use Rattle.mcs_book.specs.Statuses.{is_ready, is_on_core, status_of}
 use Rattle.mcs_state.specs.Now.{so_far}
 use Rattle.mcs_state.proofs.Picking.{entrant}
 use Rattle.mcs_state.proofs.state.State.may_enter.Goals as goal
