@@ -3,3 +3,4 @@
 mod books;
 mod boots;
 mod queries;
+mod questions;

@@ -8,25 +8,25 @@ use mcs_types::{
 use std::alloc::Global;
 use std::test::Fail;
 
-fn object(kind: Kind, serial: u32) -> ObjId {
+pub(super) fn object(kind: Kind, serial: u32) -> ObjId {
     ObjId { kind, serial }
 }
 
-fn thread(serial: u32) -> ObjId {
+pub(super) fn thread(serial: u32) -> ObjId {
     object(Kind::Thread, serial)
 }
 
-const ENDPOINT: ObjId = ObjId {
+pub(super) const ENDPOINT: ObjId = ObjId {
     kind: Kind::Endpoint,
     serial: 1,
 };
 
-const NOTIFICATION: ObjId = ObjId {
+pub(super) const NOTIFICATION: ObjId = ObjId {
     kind: Kind::Notification,
     serial: 1,
 };
 
-const REPLY: ObjId = ObjId {
+pub(super) const REPLY: ObjId = ObjId {
     kind: Kind::Reply,
     serial: 1,
 };
@@ -59,7 +59,7 @@ fn runner(priority: u8, runs: bool, context: Option<u32>) -> BootLine {
 }
 
 /// A CNode, an endpoint, a reply object, a notification, and five threads with a context each.
-fn five_threads(alloc: Global) -> Result<Boot, BootFault> {
+pub(super) fn five_threads(alloc: Global) -> Result<Boot, BootFault> {
     let mut boot = Boot::new(alloc, 1)?;
     let objects = [
         BootLine::CNode { radix: 5 },
@@ -80,6 +80,7 @@ fn five_threads(alloc: Global) -> Result<Boot, BootFault> {
         slot(4, NOTIFICATION, 3, 5),
         slot(8, REPLY, 0, 0),
         slot(12, thread(2), 0, 0),
+        slot(13, object(Kind::Context, 2), 0, 0),
     ];
     for line in slots.into_iter().flatten() {
         boot.add(line)?;
@@ -108,7 +109,7 @@ fn two_cores(alloc: Global) -> Result<Boot, BootFault> {
 }
 
 /// The kernel over a boot.
-fn booted(alloc: Global, boot: Result<Boot, BootFault>) -> Result<Kernel<LinkedLines>, Fail> {
+pub(super) fn booted(alloc: Global, boot: Result<Boot, BootFault>) -> Result<Kernel<LinkedLines>, Fail> {
     Ok(Kernel::new(alloc, &boot?)?)
 }
 
@@ -152,13 +153,15 @@ fn those_that_may_enter_are_picked_in_order(rt: HostRuntime) -> Result<(), Fail>
 
 /// An entry of these tests; the messages of its sends have a label and words.
 #[derive(Clone, Copy)]
-enum Call {
+pub(super) enum Call {
     Send(u64, u64, &'static [u64]),
     Call(u64, u64, &'static [u64]),
     Recv(u64, u64),
     Wait(u64),
     Signal(u64),
     BindNtfn(u64, u64),
+    BindCtx(u64, u64),
+    UnbindCtx(u64),
     UnbindNtfn(u64),
     CancelBadged(u64),
     SetPriority(u64, u8),
@@ -189,6 +192,8 @@ impl Call {
                 notification,
             },
             Call::UnbindNtfn(thread) => Entry::UnbindNtfn { thread },
+            Call::BindCtx(context, thread) => Entry::BindCtx { context, thread },
+            Call::UnbindCtx(context) => Entry::UnbindCtx { context },
             Call::CancelBadged(endpoint) => Entry::CancelBadged { endpoint },
             Call::SetPriority(thread, priority) => Entry::SetPriority {
                 thread,
@@ -203,7 +208,7 @@ impl Call {
 
 /// What an entry is answered, as far as these tests ask.
 #[derive(Clone, Copy, PartialEq, Eq, Debug)]
-enum Told {
+pub(super) enum Told {
     Done,
     Got,
     Waits,
@@ -224,7 +229,7 @@ fn kind_of(answer: Result<Answer, EnterFault>) -> Told {
 }
 
 /// Enters, and tells no more of the kernel than these tests ask for.
-fn enter(
+pub(super) fn enter(
     alloc: Global,
     kernel: &mut Kernel<LinkedLines>,
     core: u8,
@@ -260,7 +265,7 @@ const RECEIVES: Status = Status::Queued(Queue::Receivers(ENDPOINT));
 
 const WAITS: Status = Status::Queued(Queue::Waiters(NOTIFICATION));
 
-const WORDS: &[u64] = &[5, 6];
+pub(super) const WORDS: &[u64] = &[5, 6];
 
 /// A thread's entry, its answer, and then what the first two threads do and what last reached them.
 type Row = (u32, Call, Told, [Status; 2], Reached, Reached);
