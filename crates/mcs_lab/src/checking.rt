@@ -1,0 +1,228 @@
+//! Whether what stands behind each step of a script holds, told as TAP.
+use crate::fault::LabFault;
+use crate::judging::Judge;
+use crate::last::{Last, Told};
+use crate::names::Names;
+use crate::reading::{TakesLines, take_lines};
+use crate::tap::{bare, is_plain, put_description, put_quoted};
+use crate::text::Text;
+use mcs_sim::Source;
+use mcs_text::Token;
+use mcs_trace::{Line, spell_answer, spell_record};
+use std::alloc::Global;
+use std::io::{self, Read, Write};
+
+/// A script that is checked, and how many of the lines that say what is wanted hold or do not.
+#[derive(Drop)]
+struct Checker<W> {
+    judge: Judge,
+    names: Names,
+    spelled: Box<Line>,
+    verdict: Text,
+    told: u64,
+    failed: u64,
+    to: W,
+}
+
+/// What a verdict is about.
+#[derive(Clone, Copy, PartialEq, Eq)]
+enum About {
+    Answer,
+    Record,
+    State,
+}
+
+/// What stands on a line of a question behind its sign.
+fn asked(line: &[u8]) -> &[u8] {
+    match line {
+        [b'#', b'?', b' ', rest @ ..] => rest,
+        _ => line,
+    }
+}
+
+impl<W: Write + Drop> Checker<W> {
+    /// Before the first line.
+    fn new(alloc: Global, to: W) -> Result<Checker<W>, LabFault> {
+        Ok(Checker {
+            judge: Judge::new(alloc)?,
+            names: Names::new(alloc),
+            spelled: Box::new(alloc, Line::new())?,
+            verdict: Text::new(alloc)?,
+            told: 0,
+            failed: 0,
+            to,
+        })
+    }
+
+    /// Writes the first line of a verdict.
+    fn put_verdict(&mut self, holds: bool, said: &[u8]) -> Result<(), LabFault> {
+        self.told = self.told.saturating_add(1);
+        self.verdict.clear();
+        if !holds {
+            self.failed = self.failed.saturating_add(1);
+            self.verdict.put(b"not ")?;
+        }
+        self.verdict.put(b"ok ")?;
+        self.verdict.word(&Token::Number(self.told))?;
+        self.verdict.put(b" - line ")?;
+        self.verdict.word(&Token::Number(self.judge.line()))?;
+        self.verdict.put(b": ")?;
+        // most descriptions stand for themselves, and the whole line is written at once
+        if is_plain(said) {
+            self.verdict.put(said)?;
+            self.verdict.put(b"\n")?;
+            self.to.write_all(self.verdict.text())?;
+            return Ok(());
+        }
+        self.to.write_all(self.verdict.text())?;
+        put_description(&mut self.to, said)?;
+        self.to.write_all(b"\n")?;
+        Ok(())
+    }
+
+    /// Writes the answer of the last step, which was let in.
+    fn put_answer(&mut self) -> io::Result<()> {
+        let Some((line, _)) = self.judge.entered() else {
+            return self.to.write_all(b" ''\n");
+        };
+        spell_answer(&mut self.spelled, &line.kept_answer());
+        self.to.write_all(b" ")?;
+        put_quoted(&mut self.to, &self.names, bare(self.spelled.text()))
+    }
+
+    /// Writes the records of the last step, which was let in.
+    fn put_records(&mut self) -> io::Result<()> {
+        let Some((line, before)) = self.judge.entered() else {
+            return self.to.write_all(b" []\n");
+        };
+        self.to.write_all(b"\n")?;
+        let mut sent = before;
+        for i in 0..line.record_count() {
+            let Some(fact) = line.kept_record(i) else {
+                return Ok(());
+            };
+            spell_record(&mut self.spelled, sent, &fact);
+            if fact.is_sent() {
+                sent = sent.saturating_add(1);
+            }
+            self.to.write_all(b"    - ")?;
+            put_quoted(&mut self.to, &self.names, bare(self.spelled.text()))?;
+        }
+        Ok(())
+    }
+
+    /// Writes what was seen in the place of what is wanted.
+    fn put_seen(&mut self, about: About) -> io::Result<()> {
+        self.to.write_all(b"  seen:")?;
+        match (self.judge.last(), about) {
+            (Last::NoStep, _) => self.to.write_all(b" 'no step stands before this line'\n"),
+            (Last::Away, About::Answer | About::Record) => {
+                self.to.write_all(b" 'the step was turned away'\n")
+            }
+            (Last::LetIn { .. }, About::Answer) => self.put_answer(),
+            (Last::LetIn { .. }, About::Record) => self.put_records(),
+            _ => {
+                self.to.write_all(b" ")?;
+                match bare(self.judge.seen()) {
+                    b"" => self.to.write_all(b"'the step was let in'\n"),
+                    seen => put_quoted(&mut self.to, &self.names, seen),
+                }
+            }
+        }
+    }
+
+    /// Writes behind which step that was.
+    fn put_step(&mut self) -> io::Result<()> {
+        let (line, step) = self.judge.step();
+        if line == 0 {
+            return Ok(());
+        }
+        write!(self.to, "  line: {line}\n  behind: ")?;
+        put_quoted(&mut self.to, &self.names, bare(step))
+    }
+
+    /// Tells a verdict, and of what does not hold what was wanted, what was seen, and behind which step.
+    fn tell(&mut self, holds: bool, about: About, said: &[u8]) -> Result<(), LabFault> {
+        self.put_verdict(holds, said)?;
+        if holds {
+            return Ok(());
+        }
+        self.to.write_all(b"  ---\n  wanted: ")?;
+        put_quoted(&mut self.to, &self.names, said)?;
+        self.put_seen(about)?;
+        self.put_step()?;
+        self.to.write_all(b"  ...\n")?;
+        Ok(())
+    }
+
+    /// Writes how many verdicts there were.
+    fn put_plan(&mut self) -> io::Result<()> {
+        let told = self.told;
+        if told == 0 {
+            return self
+                .to
+                .write_all(b"1..0 # SKIP nothing is said of any step\n");
+        }
+        writeln!(self.to, "1..{told}")
+    }
+
+    /// Ends the input.
+    fn end(&mut self, alloc: Global) -> Result<bool, LabFault> {
+        self.judge.end(alloc)?;
+        self.put_plan()?;
+        Ok(self.failed == 0)
+    }
+
+    /// Tells that the script could not be read on.
+    fn bail(&mut self, fault: LabFault) -> io::Result<()> {
+        match fault {
+            LabFault::Script { line, why } => writeln!(self.to, "Bail out! line {line}: {why}"),
+            LabFault::Form { line } => writeln!(
+                self.to,
+                "Bail out! line {line}: no question and no name has this form"
+            ),
+            _ => Ok(()),
+        }
+    }
+}
+
+impl<W: Write + Drop> TakesLines for Checker<W> {
+    fn take_line(&mut self, alloc: Global, line: &[u8]) -> Result<(), LabFault> {
+        let said = bare(line);
+        match self.judge.take(alloc, line)? {
+            Told::Step => {}
+            Told::Nothing => self.names.hear(alloc, self.judge.line(), line)?,
+            Told::Answer { holds } => self.tell(holds, About::Answer, said)?,
+            Told::Record { holds } => self.tell(holds, About::Record, said)?,
+            Told::Asked { holds } => self.tell(holds, About::State, asked(said))?,
+            Told::NoQuestion => {
+                return Err(LabFault::Form {
+                    line: self.judge.line(),
+                });
+            }
+        }
+        Ok(())
+    }
+
+    fn taken(&self) -> u64 {
+        self.judge.line()
+    }
+}
+
+/// Checks a script, and writes a verdict for each line that says what is wanted, as TAP. True where all hold.
+pub fn check<R: Read, W: Write + Drop>(
+    alloc: Global,
+    from: &mut Source<R>,
+    to: W,
+) -> Result<bool, LabFault> {
+    let mut checker = Checker::new(alloc, to)?;
+    let ended = match take_lines(alloc, from, &mut checker) {
+        Ok(()) => checker.end(alloc),
+        Err(fault) => Err(fault),
+    };
+    if let Err(fault) = ended {
+        checker.bail(fault)?;
+        return Err(fault);
+    }
+    ended
+}

@@ -1,0 +1,23 @@
+//! Scripts that test themselves: whether what stands behind each step holds, by questions to the kernel.
+#![tactic(auto)]
+
+mod asking;
+mod checking;
+mod fault;
+mod judging;
+mod last;
+mod names;
+mod reading;
+mod seeing;
+mod tap;
+mod text;
+mod words;
+
+pub use checking::check;
+pub use fault::LabFault;
+pub use judging::{Judge, entrant_of};
+pub use last::{Last, Told};
+pub use names::Names;
+pub use reading::{TakesLines, take_lines};
+pub use tap::bare;
+pub use words::object_of;

@@ -1,0 +1,83 @@
+//! The program: `mcslab check` compares what a script says of its steps with what they do.
+#![tactic(auto)]
+
+mod command_line;
+
+use clap::Error;
+use clap::error::ErrorKind;
+use command_line::{Request, requested};
+use mcs_lab::{LabFault, check};
+use mcs_sim::{Source, arguments};
+use std::alloc::{AllocError, Global};
+use std::fs;
+use std::io::{self, BufWriter, Read, Write};
+use std::process::ExitCode;
+
+/// The exit status for a command line that asks for nothing, and for a file that cannot be opened.
+const USAGE: u8 = 64;
+
+/// The exit status where something that is wanted does not hold.
+const UNMET: u8 = 1;
+
+/// Tells a fault, and gives its exit status.
+fn tell(rt: &HostRuntime, fault: LabFault) -> ExitCode {
+    let _ = rt.eprintln(fault);
+    ExitCode::from(fault.status())
+}
+
+/// Tells what `clap` answers in place of a command.
+fn tell_answer(rt: &HostRuntime, answer: &Error) -> ExitCode {
+    let _ = answer.print(rt);
+    match answer.kind() {
+        ErrorKind::DisplayHelp | ErrorKind::DisplayVersion => ExitCode::SUCCESS,
+        ErrorKind::OutOfMemory => ExitCode::from(LabFault::OutOfMemory.status()),
+        _ => ExitCode::from(USAGE),
+    }
+}
+
+/// Checks a script that is read.
+fn check_script<R: Read + Drop>(rt: &HostRuntime, from: R) -> Result<bool, LabFault> {
+    let mut source = Source::new(from);
+    let mut to = BufWriter::new(rt.alloc(), io::writer(rt))?;
+    let done = check(rt.alloc(), &mut source, &mut to);
+    to.flush()?;
+    done
+}
+
+/// Does what is asked, with its file or the standard input.
+fn carry_out(rt: &HostRuntime, request: &Request<'_>) -> ExitCode {
+    let done = match request.file {
+        None => check_script(rt, rt.reader()),
+        Some(path) => match fs::open(rt, path) {
+            Ok(file) => check_script(rt, file),
+            Err(error) => {
+                let _ = eprintln!(rt; "mcslab: {path}: {error}");
+                return ExitCode::from(USAGE);
+            }
+        },
+    };
+    match done {
+        Ok(true) => ExitCode::SUCCESS,
+        Ok(false) => ExitCode::from(UNMET),
+        Err(fault) => tell(rt, fault),
+    }
+}
+
+/// The words as texts.
+fn texts<'a>(alloc: Global, words: &'a [String]) -> Result<Vec<&'a str>, AllocError> {
+    words.iter().map(|word| word.as_str()).collect(alloc)
+}
+
+fn main(rt: HostRuntime) -> ExitCode {
+    let Ok(words) = arguments(&rt) else {
+        let _ = rt.eprintln("mcslab: an argument is not UTF-8");
+        return ExitCode::from(USAGE);
+    };
+    let Ok(texts) = texts(rt.alloc(), &words) else {
+        return tell(&rt, LabFault::OutOfMemory);
+    };
+    match requested(rt.alloc(), &texts) {
+        Ok(request) => carry_out(&rt, &request),
+        Err(answer) => tell_answer(&rt, &answer),
+    }
+}
