@@ -1,13 +1,28 @@
 //! What the command line asks for.
-use clap::{Arg, Command, Error};
+use clap::{Arg, ArgAction, Command as Words, Error, value_parser};
+use mcs_told::{FORMS, Wanted};
 use std::alloc::Global;
 
 /// The version of the program (own).
 const VERSION: &str = "0.1.0";
 
-/// The file of a script that is checked; None for the standard input.
+/// What the program does with a script.
+#[derive(Clone, Copy)]
+pub enum Command {
+    /// Compares what stands behind each step with what it did.
+    Check,
+    /// Tells why steps did nothing, and what is stuck at the end.
+    Why,
+    /// Shows who stands where.
+    State(Wanted),
+    /// Writes the lines of the book as JSON.
+    Json,
+}
+
+/// A command and the file of its script; None for the standard input.
 #[derive(Drop)]
 pub struct Request<'a> {
+    pub command: Command,
     pub file: Option<&'a str>,
 }
 
@@ -26,7 +41,9 @@ Lines behind a step say what is wanted of it:
      e1.recv t2 t4 | c1 3 holds e1 rw 9         (`-` for nothing)
   #@ t1 client         a name for an object: letters, digits, `-`, `_` and `.`
 
-Exit status: 0; 1 what is wanted does not hold; 2 a fault of the script; 3 a read fault; 4 a write
+`mcslab COMMAND --help` shows the options of a command, and `mcslab json --help` the forms of all lines.
+
+Exit status: 0; 1 what is wanted does not hold, or a thread is stuck; 2 a fault of the script; 3 a read fault; 4 a write
 fault; 5 the book is full; 6 out of memory; 64 the command line.";
 
 /// The file of a script.
@@ -34,28 +51,104 @@ fn file<'a>(alloc: Global) -> Arg<'a> {
     Arg::new(alloc, "FILE").help("The script [default: standard input]")
 }
 
+/// The option that says behind which line.
+fn at<'a>(alloc: Global) -> Arg<'a> {
+    Arg::new(alloc, "at")
+        .long("at")
+        .value_name("LINE")
+        .help("Behind which line of the script [default: its end]")
+        .value_parser(value_parser!(u64))
+}
+
+/// The option for what is stuck alone.
+fn stuck<'a>(alloc: Global) -> Arg<'a> {
+    Arg::new(alloc, "stuck")
+        .long("stuck")
+        .help("Tells only which threads are stuck, and on whom; status 1 where some are")
+        .action(ArgAction::SetTrue)
+}
+
+/// The option for programs.
+fn json<'a>(alloc: Global) -> Arg<'a> {
+    Arg::new(alloc, "json")
+        .long("json")
+        .help("Writes JSON, one object")
+        .action(ArgAction::SetTrue)
+}
+
+/// The command that shows who stands where.
+fn state<'a>(alloc: Global) -> Result<Words<'a>, Error> {
+    let words = Words::new(alloc, "state")
+        .about("Shows who stands where")
+        .arg(at(alloc))?
+        .arg(stuck(alloc))?
+        .arg(json(alloc))?
+        .arg(file(alloc))?;
+    Ok(words)
+}
+
 /// The program's commands.
-fn commands<'a>(alloc: Global) -> Result<Command<'a>, Error> {
-    let check = Command::new(alloc, "check")
+fn commands<'a>(alloc: Global) -> Result<Words<'a>, Error> {
+    let check = Words::new(alloc, "check")
         .about("Compares what a script says of its steps with what they do, and writes TAP")
         .after_help(QUESTIONS)
         .arg(file(alloc))?;
+    let why = Words::new(alloc, "why")
+        .about(
+            "Tells why a step was turned away or refused, and at the end which threads are stuck",
+        )
+        .arg(file(alloc))?;
+    let json = Words::new(alloc, "json")
+        .about(
+            "Writes the lines of the book as JSON, an object for each, by the words of the forms",
+        )
+        .after_help(FORMS)
+        .arg(file(alloc))?;
     Ok(
-        Command::new(alloc, "mcslab")
+        Words::new(alloc, "mcslab")
             .version(VERSION)
-            .about("Tests scripts of mcssim")
+            .about("Tests scripts of mcssim, and says why a step did nothing and who stands where")
             .after_help(QUESTIONS)
             .subcommand_required(true)
-            .subcommand(check)?,
+            .subcommand(check)?
+            .subcommand(why)?
+            .subcommand(state(alloc)?)?
+            .subcommand(json)?,
     )
 }
 
 /// What the words of the command line ask for; the first is the program's name.
 pub fn requested<'a>(alloc: Global, words: &'a [&'a str]) -> Result<Request<'a>, Error> {
     let matches = commands(alloc)?.try_get_matches_from(words)?;
+    if let Some(found) = matches.subcommand_matches("why") {
+        return Ok(Request {
+            command: Command::Why,
+            file: found.get_str("FILE"),
+        });
+    }
+    if let Some(found) = matches.subcommand_matches("json") {
+        return Ok(Request {
+            command: Command::Json,
+            file: found.get_str("FILE"),
+        });
+    }
+    if let Some(found) = matches.subcommand_matches("state") {
+        let wanted = Wanted {
+            at: found.get_one("at"),
+            stuck: found.get_flag("stuck"),
+            json: found.get_flag("json"),
+        };
+        return Ok(Request {
+            command: Command::State(wanted),
+            file: found.get_str("FILE"),
+        });
+    }
     let file = match matches.subcommand_matches("check") {
         Some(found) => found.get_str("FILE"),
         None => None,
     };
-    Ok(Request { file })
+    Ok(Request {
+        command: Command::Check,
+        file,
+    })
 }

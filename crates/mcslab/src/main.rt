@@ -1,13 +1,15 @@
-//! The program: `mcslab check` compares what a script says of its steps with what they do.
+//! The program: `mcslab check` compares what a script says of its steps with what they do, and `mcslab why` tells why a step did
+//! nothing.
 #![tactic(auto)]
 
 mod command_line;
 
 use clap::Error;
 use clap::error::ErrorKind;
-use command_line::{Request, requested};
+use command_line::{Command, Request, requested};
 use mcs_lab::{LabFault, check};
 use mcs_sim::{Source, arguments};
+use mcs_told::{explain, show_state, write_json};
 use std::alloc::{AllocError, Global};
 use std::fs;
 use std::io::{self, BufWriter, Read, Write};
@@ -16,7 +18,7 @@ use std::process::ExitCode;
 /// The exit status for a command line that asks for nothing, and for a file that cannot be opened.
 const USAGE: u8 = 64;
 
-/// The exit status where something that is wanted does not hold.
+/// The exit status where something that is wanted does not hold, or a thread is stuck.
 const UNMET: u8 = 1;
 
 /// Tells a fault, and gives its exit status.
@@ -35,11 +37,20 @@ fn tell_answer(rt: &HostRuntime, answer: &Error) -> ExitCode {
     }
 }
 
-/// Checks a script that is read.
-fn check_script<R: Read + Drop>(rt: &HostRuntime, from: R) -> Result<bool, LabFault> {
+/// Does what is asked with a script that is read.
+fn read_script<R: Read + Drop>(
+    rt: &HostRuntime,
+    request: &Request<'_>,
+    from: R,
+) -> Result<bool, LabFault> {
     let mut source = Source::new(from);
     let mut to = BufWriter::new(rt.alloc(), io::writer(rt))?;
-    let done = check(rt.alloc(), &mut source, &mut to);
+    let done = match request.command {
+        Command::Check => check(rt.alloc(), &mut source, &mut to),
+        Command::Why => explain(rt.alloc(), &mut source, &mut to),
+        Command::State(wanted) => show_state(rt.alloc(), &mut source, &mut to, wanted),
+        Command::Json => write_json(rt.alloc(), &mut source, &mut to),
+    };
     to.flush()?;
     done
 }
@@ -47,9 +58,9 @@ fn check_script<R: Read + Drop>(rt: &HostRuntime, from: R) -> Result<bool, LabFa
 /// Does what is asked, with its file or the standard input.
 fn carry_out(rt: &HostRuntime, request: &Request<'_>) -> ExitCode {
     let done = match request.file {
-        None => check_script(rt, rt.reader()),
+        None => read_script(rt, request, rt.reader()),
         Some(path) => match fs::open(rt, path) {
-            Ok(file) => check_script(rt, file),
+            Ok(file) => read_script(rt, request, file),
             Err(error) => {
                 let _ = eprintln!(rt; "mcslab: {path}: {error}");
                 return ExitCode::from(USAGE);

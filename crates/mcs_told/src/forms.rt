@@ -1,0 +1,233 @@
+//! The forms of the lines, as they are shown, and by which their words are named.
+use mcs_text::{Lines, Words};
+
+/// The forms of the lines of scripts and traces. Of a step it marks what names a capability of the thread's space: `@` an address,
+/// `%` an index that stands before its depth. Words that end in `..` stand for all that follow.
+pub const FORMS: &str = "\
+The boot:
+  cores count
+  cnode radix
+  endpoint
+  notification
+  reply
+  context core
+  thread priority maximum cnode guard_bits guard mode context
+  slot cnode index capability..
+  tie thread notification
+
+Steps, each behind a core and a thread:
+  send @address label words..
+  nbsend @address label words..
+  call @address label words..
+  recv @address @reply
+  nbrecv @address @reply
+  wait @address
+  nbwait @address
+  replyrecv @address @reply label words..
+  nbsendrecv @address @source @reply label words..
+  nbsendwait @address @source label words..
+  signal @address
+  setprio @thread @authority priority
+  suspend @thread
+  resume @thread
+  bindntfn @thread @notification
+  unbindntfn @thread
+  bind @context @thread
+  unbind @context
+  cancel @endpoint
+  copy %source source_depth %destination destination_depth rights
+  mint %source source_depth %destination destination_depth rights badge
+  move %source source_depth %destination destination_depth
+  delete %place depth
+  make kind %place depth
+
+Answers:
+  = done
+  = got badge label words..
+  = heard word
+  = empty
+  = waits
+  = refused reason
+
+Records:
+  + made object
+  + closed object
+  + slot cnode index capability..
+  + prio thread priority
+  + turns thread mode
+  + joins thread queue reply
+  + parts thread queue
+  + sent message thread endpoint mode badge label words..
+  + took message thread
+  + dropped message
+  + owes reply thread context
+  + paid reply thread label words..
+  + void reply thread ending
+  + holds context thread
+  + raised notification badge
+  + heard thread notification word
+  + tied thread notification
+  + homed context notification
+";
+
+/// The name of a word of a form.
+#[derive(Clone, Copy)]
+pub struct Field<'a> {
+    /// What it names in the thread's space.
+    pub looks_up: LooksUp,
+    /// Whether it stands for all words that follow.
+    pub is_last: bool,
+    pub name: &'a [u8],
+}
+
+impl<'a> Field<'a> {
+    /// Whether it names something in the thread's space.
+    pub fn is_looked_up(&self) -> bool {
+        self.looks_up != LooksUp::Nothing
+    }
+}
+
+/// What a number of a step names.
+#[derive(Clone, Copy, PartialEq, Eq)]
+pub enum LooksUp {
+    Nothing,
+    Address,
+    /// An index; the next number is its depth.
+    Place,
+}
+
+/// The words of a form that are left.
+#[derive(Drop)]
+pub struct Fields<'a> {
+    words: Words<'a>,
+}
+
+impl<'a> Fields<'a> {
+    /// No words.
+    pub fn none() -> Fields<'a> {
+        let mut words = Words::new(b"");
+        words.next_word();
+        Fields { words }
+    }
+
+    /// The next, if there is one.
+    pub fn next_field(&mut self) -> Option<Field<'a>> {
+        let word = self.words.next_word()?;
+        let (looks_up, word) = match word {
+            [b'@', rest @ ..] => (LooksUp::Address, rest),
+            [b'%', rest @ ..] => (LooksUp::Place, rest),
+            _ => (LooksUp::Nothing, word),
+        };
+        let (is_last, name) = match word {
+            [rest @ .., b'.', b'.'] => (true, rest),
+            _ => (false, word),
+        };
+        Some(Field {
+            looks_up,
+            is_last,
+            name,
+        })
+    }
+}
+
+/// The lines of the forms, behind the two spaces with which each begins.
+#[derive(Drop)]
+struct Forms {
+    lines: Lines<'static>,
+}
+
+impl Forms {
+    /// All of them.
+    fn new() -> Forms {
+        Forms {
+            lines: Lines::new(FORMS.as_bytes()),
+        }
+    }
+
+    /// The next, if there is one.
+    fn next_form(&mut self) -> Option<&'static [u8]> {
+        for _ in 0..FORMS.len() {
+            if let [b' ', b' ', form @ ..] = self.lines.next_line()? {
+                return Some(form);
+            }
+        }
+        None
+    }
+}
+
+/// The form that begins with a sign, if it has one, and a key.
+pub fn form_of(sign: Option<u8>, key: &[u8]) -> Option<Fields<'static>> {
+    let mut forms = Forms::new();
+    for _ in 0..FORMS.len() {
+        let mut words = Words::new(forms.next_form()?);
+        let first = words.next_word()?;
+        let word = match (sign, first) {
+            (None, _) => first,
+            (Some(sign), [byte]) if *byte == sign => words.next_word()?,
+            _ => continue,
+        };
+        if word == key {
+            return Some(Fields { words });
+        }
+    }
+    None
+}
+
+/// What two texts have behind the bytes that are common at their front.
+fn behind_common<'a>(first: &'a [u8], second: &'a [u8]) -> (&'a [u8], &'a [u8]) {
+    let mut a = first;
+    let mut b = second;
+    for _ in 0..first.len() {
+        let ([from_a, rest_a @ ..], [from_b, rest_b @ ..]) = (a, b) else {
+            break;
+        };
+        if *from_a != *from_b {
+            break;
+        }
+        a = rest_a;
+        b = rest_b;
+    }
+    (a, b)
+}
+
+/// What two texts have before the bytes that are common at their end.
+fn before_common<'a>(first: &'a [u8], second: &'a [u8]) -> (&'a [u8], &'a [u8]) {
+    let mut a = first;
+    let mut b = second;
+    for _ in 0..first.len() {
+        let ([rest_a @ .., from_a], [rest_b @ .., from_b]) = (a, b) else {
+            break;
+        };
+        if *from_a != *from_b {
+            break;
+        }
+        a = rest_a;
+        b = rest_b;
+    }
+    (a, b)
+}
+
+/// Whether two words differ in one letter that is other, missing or more, or in two that are exchanged.
+fn is_near(a: &[u8], b: &[u8]) -> bool {
+    let (a, b) = behind_common(a, b);
+    match before_common(a, b) {
+        ([_], [_]) | ([], [_]) | ([_], []) => true,
+        ([first, second], [other, last]) => *first == *last && *second == *other,
+        _ => false,
+    }
+}
+
+/// The key of a step or of a line of the boot that a word was meant to be; None where it is a key.
+pub fn meant_by(word: &[u8]) -> Option<&'static [u8]> {
+    if word.len() < 3 || form_of(None, word).is_some() {
+        return None;
+    }
+    let mut forms = Forms::new();
+    for _ in 0..FORMS.len() {
+        let key = Words::new(forms.next_form()?).next_word()?;
+        if key.len() > 1 && is_near(key, word) {
+            return Some(key);
+        }
+    }
+    None
+}

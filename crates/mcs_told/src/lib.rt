@@ -1,0 +1,18 @@
+//! What is told of a script: why a step did nothing, what is stuck, who stands where, and its book as JSON. It only writes.
+#![tactic(auto)]
+
+mod forms;
+mod hints;
+mod json;
+mod numbers;
+mod path;
+mod state;
+mod stuck;
+mod tables;
+mod values;
+mod why;
+
+pub use forms::FORMS;
+pub use json::write_json;
+pub use state::{Wanted, show_state};
+pub use why::explain;
