@@ -67,8 +67,8 @@ impl<W: Write + Drop> Checker<W> {
         self.verdict.put(b" - line ")?;
         self.verdict.word(&Token::Number(self.judge.line()))?;
         self.verdict.put(b": ")?;
-        // most descriptions stand for themselves, and the whole line is written at once
-        if is_plain(said) {
+        // What holds is spelled as the trace spells it, and most of the rest is plain: the whole line is written at once.
+        if holds || is_plain(said) {
             self.verdict.put(said)?;
             self.verdict.put(b"\n")?;
             self.to.write_all(self.verdict.text())?;
