@@ -1,0 +1,5 @@
+use Rattle.mcs_explore.specs.Search.{IsSearch}
+use Rattle.mcs_explore.proofs.search.explore.Given as goal
+
+abbrev pub invariant-loop-place : goal.invariant-loop-place
+invariant-loop-place g l = IsSearch (g.M.System.keys_after l.fn.system) l.fn.start l.place l.map.entries
