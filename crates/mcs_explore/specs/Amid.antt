@@ -4,7 +4,7 @@ use Rattle.mcs_explore.specs.declared.search.Reached.{Reached}
 use Rattle.mcs_explore.specs.Search.{Entries, At, IsFound, IsSearch}
 
 -- the first n of the keys after the one in the place d are found
-pub record IsAmid (next : ℕ → List ℕ) (s d : ℕ) (E : Entries) (k : ℕ) (r : Reached) (keys : List ℕ) (n : ℕ) : Type 0 where
+pub record IsAmid {K : Type 0} (next : K → List K) (s : K) (d : ℕ) (E : Entries K) (k : K) (r : Reached) (keys : List K) (n : ℕ) : Type 0 where
   pub search : IsSearch next s d E
   pub at : At E d k r
-  pub found : (i c : ℕ) → i < n → slice_get keys i ≡ Some c → IsFound E c (r.depth + 1)
+  pub found : (i : ℕ) (c : K) → i < n → slice_get keys i ≡ Some c → IsFound E c (r.depth + 1)

@@ -8,7 +8,7 @@ pub struct Ring {
     pub n: u32,
 }
 
-impl System for Ring {
+impl System<u64> for Ring {
     ghost use Rattle.std.specs.Prelude.{◌≡◌, ◌+◌, ◌%◌, ℕ, [], ◌∷◌, cond, ◌==◌, refl};
     ghost use Rattle.std.specs.List.{Contains};
     ghost use Rattle.mcs_explore.specs.Rings.{turns};
@@ -21,11 +21,11 @@ impl System for Ring {
 
     ghost keys_after = { λ m k. turns m.n k };
 
-    fn nexts(&self, alloc: Global, key: u64) -> Result<Vec<u64>, AllocError> {
+    fn nexts(&mut self, alloc: Global, key: &u64) -> Result<Vec<u64>, AllocError> {
         let mut keys = Vec::new(alloc);
         if self.n != 0 {
             let n = self.n as u64;
-            let at = key % n;
+            let at = *key % n;
             keys.push((at + 1) % n)?;
             keys.push((at + at) % n)?;
         }
@@ -40,7 +40,7 @@ impl System for Ring {
 /// All places of a ring of 1,000, with the fewest steps to each.
 #[test]
 fn ring_of_1000(rt: HostRuntime) -> Result<(), AllocError> {
-    let found = explore(rt.alloc(), &Ring { n: 1000 }, 0, 2000)?;
+    let found = explore(rt.alloc(), &mut Ring { n: 1000 }, 0, 2000)?;
     assert!(rt; found.map.len() == 1000);
     assert!(rt; found.done == 1000);
     Ok(())
