@@ -56,3 +56,15 @@ AreBehind {K = K} next E place keys depth = (k : K) × ((r : Reached) × (At E p
 -- a search that is behind one place more
 abbrev pub Goes : {K : Type 0} → Entries K → Entries K → ℕ → List K → ℕ → Type 0
 Goes {K = K} E F place keys depth = (next : K → List K) (s : K) → IsSearch next s place E → AreBehind next E place keys depth → IsSearch next s (place + 1) F
+
+-- each key that was found is that of a run of its depth from s
+abbrev pub AreReached : {A K : Type 0} → (A → A → Type 0) → (A → K) → A → Entries K → Type 0
+AreReached {K = K} Step key s E = (i : ℕ) (k : K) (r : Reached) → At E i k r → EndsAt Step key s r.depth k
+
+-- no run from s that ends in a state with the key is shorter
+abbrev pub AreLeast : {A K : Type 0} → (A → A → Type 0) → (A → K) → A → Entries K → Type 0
+AreLeast {K = K} Step key s E = (i : ℕ) (k : K) (r : Reached) → At E i k r → (n : ℕ) → EndsAt Step key s n k → r.depth ≤ n
+
+-- every run from s ends in a state with a key that was found, by no more steps
+abbrev pub IsWhole : {A K : Type 0} → (A → A → Type 0) → (A → K) → A → Entries K → Type 0
+IsWhole {A = A} Step key s E = (n : ℕ) (t : A) → Run Step s n t → IsFound E (key t) n

@@ -12,6 +12,7 @@ impl System<u64> for Ring {
     ghost use Rattle.std.specs.Prelude.{◌≡◌, ◌+◌, ◌%◌, ℕ, [], ◌∷◌, cond, ◌==◌, refl};
     ghost use Rattle.std.specs.List.{Contains};
     ghost use Rattle.mcs_explore.specs.Rings.{turns};
+    ghost use Rattle.std.proofs.lemmas.Bool.{eqb-true, eq-eqb};
 
     ghost State = { ℕ × ℕ };
 
@@ -31,6 +32,8 @@ impl System<u64> for Ring {
         }
         Ok(keys)
     }
+
+    ghost exact = { λ a b. (eqb-true a b, eq-eqb a a refl) };
 
     ghost leads = { λ m s t h. h.0 };
 

@@ -1,7 +1,7 @@
 //! The search, breadth first (own).
-ghost use Rattle.std.specs.Prelude.{◌≡◌, ◌+◌, ◌≤◌, ◌<◌, ◌^◌, ℕ, List, [], IfOk, OnOk, IfSome, IfNone, length};
+ghost use Rattle.std.specs.Prelude.{◌≡◌, ◌+◌, ◌≤◌, ◌<◌, ◌^◌, List, IfOk, OnOk, IfSome, IfNone, length};
 ghost use Rattle.std.specs.List.{Contains};
-ghost use Rattle.mcs_explore.specs.Search.{Run, At, Adds, AreBehind, Goes, IsExact, IsFound, EndsAt};
+ghost use Rattle.mcs_explore.specs.Search.{Adds, AreBehind, AreLeast, AreReached, Goes, IsExact, IsWhole};
 
 use indexmap::IndexMap;
 use std::alloc::{AllocError, Global};
@@ -119,11 +119,12 @@ pub fn explore<K: Eq + Hash + Drop, M: System<K>>(
     ghost from: { M.State }
     requires { M.key_of from ≡ start }
     ensures same { system.new ≡ system.old }
-    // a run of this depth ends in a state with the key, and no shorter run does
-    ensures reached { IfOk result (λ f. (i : ℕ) (k : K) (r : Reached) → At f.map.entries i k r → EndsAt (M.Step system.old) M.key_of from r.depth k) }
-    ensures least { IfOk result (λ f. (i : ℕ) (k : K) (r : Reached) → At f.map.entries i k r → (n : ℕ) → EndsAt (M.Step system.old) M.key_of from n k → r.depth ≤ n) }
+    // each key that was found is that of a run of its depth, and no shorter run has it
+    ensures reached { IfOk result (λ f. AreReached (M.Step system.old) M.key_of from f.map.entries) }
+    ensures least { IfOk result (λ f. AreLeast (M.Step system.old) M.key_of from f.map.entries) }
     // once all keys were looked behind, every run ends in a state with a key that was found
-    ensures whole { IfOk result (λ f. length f.map.entries ≤ f.done → (n : ℕ) (t : M.State) → Run (M.Step system.old) from n t → IsFound f.map.entries (M.key_of t) n) }
+    ensures whole { IfOk result (λ f. length f.map.entries ≤ f.done
+        → IsWhole (M.Step system.old) M.key_of from f.map.entries) }
     // so many were looked behind, if there are so many
     ensures budget { IfOk result (λ f. f.done < budget → length f.map.entries ≤ f.done) }
 {

@@ -1,4 +1,4 @@
-use Rattle.std.specs.Prelude.{◌≡◌, ◌+◌, ◌++◌, ℕ, List, length}
+use Rattle.std.specs.Prelude.{◌≡◌, ◌+◌, ◌++◌, List, length}
 use Rattle.mcs_explore.specs.declared.search.Reached.{Reached}
 use Rattle.mcs_explore.specs.Search.{At, IsSearch}
 use Rattle.mcs_explore.specs.Amid.{IsAmid}

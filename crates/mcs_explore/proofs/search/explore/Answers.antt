@@ -1,4 +1,3 @@
-use Rattle.std.specs.Prelude.{ℕ}
 use Rattle.std.specs.Option.{IfSome}
 use Rattle.std.proofs.Common.{refl, sym, arith, ◌∙◌, subst}
 use Rattle.mcs_explore.specs.Search.{AreBehind, IsSearch}
