@@ -1,0 +1,16 @@
+-- One line more: behind a log, and behind a book.
+use Rattle.std.specs.Prelude.{◌∷◌}
+use Rattle.mcs_types.specs.declared.id.CoreId.{CoreId}
+use Rattle.mcs_types.specs.declared.id.ObjId.{ObjId}
+use Rattle.mcs_types.specs.declared.entry.Entry.{Entry}
+use Rattle.mcs_book.specs.Logs.{Log, onto}
+use Rattle.mcs_book.specs.Table.{does}
+use Rattle.mcs_book.specs.History.{Line, Book}
+
+-- the log behind an entry of a thread on a core
+abbrev pub after_entry : Log → CoreId → ObjId → Entry → Log
+after_entry R core t entry = onto (does R core t entry).records R
+
+-- a book with one line more
+abbrev pub with_one : Line → Book → Book
+with_one l b = record b { lines = l ∷ b.lines }

@@ -1,0 +1,110 @@
+//! Logs that no later entry tells apart: what an entry asks of one has the same answer of the other (own). Each law is one of
+//! definitions, and its function does nothing.
+#![tactic(auto)]
+
+ghost use Rattle.std.specs.Prelude.{◌≡◌, ◌∷◌, Bool, List, Option};
+ghost use Rattle.mcs_types.specs.declared.entry.Entry.{Entry};
+ghost use Rattle.mcs_types.specs.declared.id.CoreId.{CoreId};
+ghost use Rattle.mcs_types.specs.declared.id.Kind.{Kind};
+ghost use Rattle.mcs_types.specs.declared.id.ObjId.{ObjId};
+ghost use Rattle.mcs_types.specs.declared.record.Rec.{Rec};
+ghost use Rattle.mcs_book.specs.Logs.{Log, onto};
+ghost use Rattle.mcs_book.specs.Sound.{Allowed, Sound, IsThere};
+ghost use Rattle.mcs_book.specs.Picking.{IsPick};
+ghost use Rattle.mcs_book.specs.Statuses.{status_of};
+ghost use Rattle.mcs_book.specs.Table.{does};
+ghost use Rattle.mcs_state.specs.Tables.{Tables};
+ghost use Rattle.mcs_alike.specs.Alike.{Alike};
+ghost use Rattle.mcs_alike.specs.Looks.{LookAlike};
+ghost use Rattle.mcs_alike.specs.Shows.{Shows};
+ghost use Rattle.mcs_alike.specs.Books.{with_one, after_entry};
+ghost use Rattle.mcs_book.specs.History.{Book, Line, IsLegal, log_of};
+
+/// Two alike logs (at.1, at.2) are alike after the same record (at.0), where it is allowed in both (own).
+pub fn alike_after()
+    ghost at: { Rec × Log × Log }
+    requires alike { Alike at.1 at.2 }
+    requires left { Allowed at.1 at.0 }
+    requires right { Allowed at.2 at.0 }
+    ensures { Alike (at.0 ∷ at.1) (at.0 ∷ at.2) }
+{}
+
+/// They are alike after the same list of records (at.0), the earliest first, where what it leaves is sound (own).
+pub fn alike_onto()
+    ghost at: { List Rec × Log × Log }
+    requires alike { Alike at.1 at.2 }
+    requires left { Sound (onto at.0 at.1) }
+    requires right { Sound (onto at.0 at.2) }
+    ensures { Alike (onto at.0 at.1) (onto at.0 at.2) }
+{}
+
+/// Two logs (at.2, at.3) are alike if tables that look alike (at.0, at.1) show them (own).
+pub fn shown_alike()
+    ghost at: { Tables × Tables × Log × Log }
+    requires left { Shows at.0 at.2 }
+    requires right { Shows at.1 at.3 }
+    requires looks { LookAlike at.0 at.1 }
+    ensures { Alike at.2 at.3 }
+{}
+
+/// An entry (at.4) of a thread that is there (at.3), on a core (at.2), has the same answer and the same records in two alike
+/// logs (at.0, at.1): each of the 27 entries, also the first one after a restart (own).
+pub fn same_entry()
+    ghost at: { Log × Log × CoreId × ObjId × Entry }
+    requires alike { Alike at.0 at.1 }
+    requires there { IsThere at.0 Kind.Thread at.3 }
+    requires left { Sound (after_entry at.0 at.2 at.3 at.4) }
+    requires right { Sound (after_entry at.1 at.2 at.3 at.4) }
+    ensures { does at.0 at.2 at.3 at.4 ≡ does at.1 at.2 at.3 at.4 }
+{}
+
+/// It leaves alike logs (own).
+pub fn alike_entry()
+    ghost at: { Log × Log × CoreId × ObjId × Entry }
+    requires alike { Alike at.0 at.1 }
+    requires there { IsThere at.0 Kind.Thread at.3 }
+    requires left { Sound (after_entry at.0 at.2 at.3 at.4) }
+    requires right { Sound (after_entry at.1 at.2 at.3 at.4) }
+    ensures { Alike (after_entry at.0 at.2 at.3 at.4) (after_entry at.1 at.2 at.3 at.4) }
+{}
+
+/// A core (at.2) picks the same thread, or none (at.4), in two alike logs, whatever threads are passed over (at.3; own).
+pub fn same_pick()
+    ghost at: { Log × Log × CoreId × List Bool × Option ObjId }
+    requires alike { Alike at.0 at.1 }
+    requires pick { IsPick at.0 at.2 at.3 at.4 }
+    ensures { IsPick at.1 at.2 at.3 at.4 }
+{}
+
+/// A thread (at.2) has the same status in two alike logs (own).
+pub fn same_status()
+    ghost at: { Log × Log × ObjId }
+    requires { Alike at.0 at.1 }
+    ensures { status_of at.0 at.2 ≡ status_of at.1 at.2 }
+{}
+
+/// A line (at.2) that may follow one of two legal books (at.0, at.1) whose logs are alike may follow the other (own).
+pub fn same_line()
+    ghost at: { Book × Book × Line }
+    requires left { IsLegal (with_one at.2 at.0) }
+    requires right { IsLegal at.1 }
+    requires alike { Alike (log_of at.0) (log_of at.1) }
+    ensures { IsLegal (with_one at.2 at.1) }
+{}
+
+/// It leaves alike logs (own).
+pub fn alike_line()
+    ghost at: { Book × Book × Line }
+    requires left { IsLegal (with_one at.2 at.0) }
+    requires right { IsLegal at.1 }
+    requires alike { Alike (log_of at.0) (log_of at.1) }
+    ensures { Alike (log_of (with_one at.2 at.0)) (log_of (with_one at.2 at.1)) }
+{}
+
+/// Likeness goes on: a log that is alike to a second, which is alike to a third, is alike to the third (own).
+pub fn alike_on()
+    ghost at: { Log × Log × Log }
+    requires first { Alike at.0 at.1 }
+    requires second { Alike at.1 at.2 }
+    ensures { Alike at.0 at.2 }
+{}

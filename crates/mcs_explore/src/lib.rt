@@ -1,0 +1,11 @@
+//! All orders at once: a search through the states of a system, the nearest first, which looks behind one state of all that
+//! have the same future (own).
+#![tactic(auto)]
+
+mod likeness;
+#[cfg(test)]
+mod rings;
+mod search;
+
+pub use likeness::{Likeness, every_run};
+pub use search::{Reached, Search, System, explore};

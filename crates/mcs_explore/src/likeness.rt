@@ -1,0 +1,26 @@
+//! Which visits reach all that runs reach (own).
+ghost use Rattle.std.specs.Prelude.{ℕ, List};
+ghost use Rattle.mcs_explore.specs.Closure.{Visit, IsLikeness, IsVisited, IsClosed};
+ghost use Rattle.mcs_explore.specs.Search.{Run};
+
+/// Steps between states, and which states are alike.
+pub trait Likeness {
+    ghost State: { Type 0 };
+
+    ghost Step: { State → State → Type 0 };
+
+    ghost Like: { State → State → Type 0 };
+
+    fn is_likeness()
+        ensures { IsLikeness Step Like };
+}
+
+/// Where steps from what was visited lead to states that are like visited ones, every run ends in a state that is like one
+/// that was visited, in no more steps.
+pub fn every_run<L: Likeness>()
+    ghost at: { L.State × List (Visit L.State) }
+    requires { IsClosed L.Step L.Like at.0 at.1 }
+    ensures { (n : ℕ) (t : L.State) → Run L.Step at.0 n t → IsVisited L.Like at.1 t n }
+{
+    L::is_likeness();
+}

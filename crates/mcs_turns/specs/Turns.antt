@@ -1,0 +1,121 @@
+-- Runs of users: each turn enters what a core picks, or what it picked since its last line and whose user has not moved (own).
+use Rattle.std.specs.Prelude.{ℕ, zero, suc, ◌≡◌, ◌<◌, ◌⊎◌, true, map, length, List, [], ◌∷◌, Option, Some, None, slice_get}
+use Rattle.std.specs.List.{Contains}
+use Rattle.mcs_types.specs.declared.id.ObjId.{ObjId}
+use Rattle.mcs_types.specs.declared.id.CoreId.{CoreId}
+use Rattle.mcs_types.specs.declared.entry.Entry.{Entry}
+use Rattle.mcs_types.specs.declared.entry.Step.{Step}
+use Rattle.mcs_types.specs.Ranges.{InRange}
+use Rattle.mcs_book.specs.Boots.{Boot}
+use Rattle.mcs_book.specs.History.{Book, log_of, line_for}
+use Rattle.mcs_book.specs.Logs.{Log}
+use Rattle.mcs_book.specs.Pieces.{Outcome}
+use Rattle.mcs_book.specs.Picking.{GoesBefore}
+use Rattle.mcs_book.specs.Statuses.{status_of, may_enter}
+use Rattle.mcs_book.specs.Table.{does}
+use Rattle.mcs_turns.specs.declared.position.Position.{Position}
+use Rattle.mcs_turns.specs.declared.position.Pick.{Pick}
+use Rattle.mcs_turns.specs.Due.{due_by, begun, moved_past, stale_after, none_stale}
+
+-- a thread, and its entries in the order in which it gives them
+pub record User : Type 0 where
+  pub thread : ObjId
+  pub entries : List Entry
+
+-- how far a run is: its book, the position of each user, and the stale picks of each core
+pub record Going : Type 0 where
+  pub book : Book
+  pub places : List Position
+  pub stale : List (List Pick)
+
+-- the number of the entry that a user gives now
+abbrev pub due : Log → User → Position → ℕ
+due R u p = due_by (status_of R u.thread) p
+
+-- the user of the number i has an entry left, and its thread may enter on the core
+pub record CanGive (users : List User) (g : Going) (core : CoreId) (i : ℕ) (u : User) (p : Position) : Type 0 where
+  pub user : slice_get users i ≡ Some u
+  pub place : slice_get g.places i ≡ Some p
+  pub left : due (log_of g.book) u p < length u.entries
+  pub enters : may_enter (log_of g.book) core u.thread ≡ true
+
+-- it is the due entry of a user who can give one, and whose thread goes before those of all others who can
+pub record IsBest (users : List User) (g : Going) (core : CoreId) (k : Pick) : Type 0 where
+  pub user : User
+  pub place : Position
+  pub can : CanGive users g core k.user user place
+  pub number : k.number ≡ due (log_of g.book) user place
+  pub best : (i : ℕ) (v : User) (q : Position) → CanGive users g core i v q → GoesBefore (log_of g.book) user.thread v.thread
+
+-- what a core picks; none where nobody can give an entry there
+abbrev pub IsPickOf : List User → Going → CoreId → Option Pick → Type 0
+IsPickOf users g core None = (i : ℕ) (u : User) (p : Position) → CanGive users g core i u p → ⊥
+IsPickOf users g core (Some k) = IsBest users g core k
+
+-- the picks of all cores
+pub record ArePicks (users : List User) (g : Going) (picks : List (Option Pick)) : Type 0 where
+  pub cores : length picks ≡ g.book.boot.cores
+  pub each : (core : CoreId) (k : Option Pick) → slice_get picks core.0 ≡ Some k → IsPickOf users g core k
+
+-- it is a stale pick of the core
+pub record IsStale (g : Going) (core : CoreId) (k : Pick) : Type 0 where
+  pub picks : List Pick
+  pub stale : slice_get g.stale core.0 ≡ Some picks
+  pub among : Contains picks k
+
+-- a list with another element in a place, if it has the place
+abbrev pub put_at : {A : Type 0} → ℕ → A → List A → List A
+put_at i x [] = []
+put_at zero x (y ∷ ys) = x ∷ ys
+put_at (suc i) x (y ∷ ys) = y ∷ put_at i x ys
+
+-- what a step does
+abbrev pub outcome : Book → Step → Outcome
+outcome b s = does (log_of b) s.core s.thread s.entry
+
+-- how far a run is after an entry of a user on a core, where the cores had these picks
+abbrev pub entered : List (Option Pick) → Step → Pick → Going → Going
+entered picks s k g = record {
+  book = record g.book { lines = line_for s (outcome g.book s) ∷ g.book.lines };
+  places = put_at k.user (moved_past k.number (outcome g.book s).answer) g.places;
+  stale = stale_after s.core.0 k.user 0 picks g.stale;
+}
+
+-- one turn: a core enters its pick, or a stale one of its own
+pub record IsTurn (users : List User) (core : CoreId) (k : Pick) (g h : Going) : Type 0 where
+  pub user : User
+  pub entry : Entry
+  pub picks : List (Option Pick)
+  pub is_user : slice_get users k.user ≡ Some user
+  pub is_entry : slice_get user.entries k.number ≡ Some entry
+  pub are_picks : ArePicks users g picks
+  pub picked : (slice_get picks core.0 ≡ Some (Some k)) ⊎ IsStale g core k
+  pub enters : may_enter (log_of g.book) core user.thread ≡ true
+  pub after : h ≡ entered picks (record { core = core; thread = user.thread; entry = entry }) k g
+
+-- the beginning of a run
+abbrev pub beginning : List User → Boot → Going
+beginning users boot = record {
+  book = record { boot = boot; lines = [] };
+  places = map (λ (u : User). begun) users;
+  stale = none_stale boot.cores;
+}
+
+-- some core makes a turn
+pub record Follows (users : List User) (g h : Going) : Type 0 where
+  pub core : CoreId
+  pub pick : Pick
+  pub turn : IsTurn users core pick g h
+
+-- a run of n turns after a boot
+abbrev pub IsRun : List User → Boot → ℕ → Going → Type 0
+IsRun users boot zero g = g ≡ beginning users boot
+IsRun users boot (suc n) h = (g : Going) × (IsRun users boot n g × Follows users g h)
+
+-- no core has a pick
+abbrev pub IsOver : List User → Going → Type 0
+IsOver users g = (core : CoreId) → core.0 < g.book.boot.cores → IsPickOf users g core None
+
+-- the numbers of all entries are in their ranges
+abbrev pub AreInRange : List User → Type 0
+AreInRange users = (i j : ℕ) (u : User) (e : Entry) → slice_get users i ≡ Some u → slice_get u.entries j ≡ Some e → InRange e

@@ -1,0 +1,25 @@
+//! What holds of every run (own). Each law is one of definitions, and its function does nothing.
+ghost use Rattle.std.specs.Prelude.{◌≡◌, ℕ, List, length};
+ghost use Rattle.mcs_book.specs.Boots.{Boot, IsFaultless};
+ghost use Rattle.mcs_book.specs.History.{IsLegal};
+ghost use Rattle.mcs_turns.specs.Turns.{User, Going, AreInRange, IsRun};
+
+/// The book of a run of users (at.0) after a boot without fault (at.1), by so many turns (at.2), is legal, where the numbers
+/// of all their entries are in their ranges.
+pub fn run_legal()
+    ghost at: { List User × Boot × ℕ × Going }
+    requires boot { IsFaultless at.1 }
+    requires in_range { AreInRange at.0 }
+    requires run { IsRun at.0 at.1 at.2 at.3 }
+    ensures { IsLegal at.3.book }
+{}
+
+/// A run of so many turns has as many lines after its boot, and each user has one position.
+pub fn run_long()
+    ghost at: { List User × Boot × ℕ × Going }
+    requires run { IsRun at.0 at.1 at.2 at.3 }
+    ensures boot { at.3.book.boot ≡ at.1 }
+    ensures lines { length at.3.book.lines ≡ at.2 }
+    ensures places { length at.3.places ≡ length at.0 }
+    ensures stale { length at.3.stale ≡ at.1.cores }
+{}

@@ -1,0 +1,9 @@
+//! The rule of a turn: which entry a user gives now, what a core may enter, and what moves with a line (own). A machine whose
+//! cores work off lists of entries goes by it, and so does a search through all orders of their turns.
+#![tactic(auto)]
+
+mod laws;
+mod position;
+
+pub use laws::{run_legal, run_long};
+pub use position::{Pick, Position};
