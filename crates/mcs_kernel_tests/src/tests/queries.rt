@@ -109,7 +109,10 @@ fn two_cores(alloc: Global) -> Result<Boot, BootFault> {
 }
 
 /// The kernel over a boot.
-pub(super) fn booted(alloc: Global, boot: Result<Boot, BootFault>) -> Result<Kernel<LinkedLines>, Fail> {
+pub(super) fn booted(
+    alloc: Global,
+    boot: Result<Boot, BootFault>,
+) -> Result<Kernel<LinkedLines>, Fail> {
     Ok(Kernel::new(alloc, &boot?)?)
 }
 
