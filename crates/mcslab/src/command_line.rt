@@ -1,4 +1,5 @@
 //! What the command line asks for.
+use crate::drawing::{self, Drawn};
 use clap::{Arg, ArgAction, Command as Words, Error, value_parser};
 use mcs_told::{FORMS, Wanted};
 use std::alloc::Global;
@@ -17,6 +18,8 @@ pub enum Command {
     State(Wanted),
     /// Writes the lines of the book as JSON.
     Json,
+    /// Draws the run.
+    Draw(Drawn),
 }
 
 /// A command and the file of its script; None for the standard input.
@@ -113,7 +116,8 @@ fn commands<'a>(alloc: Global) -> Result<Words<'a>, Error> {
             .subcommand(check)?
             .subcommand(why)?
             .subcommand(state(alloc)?)?
-            .subcommand(json)?,
+            .subcommand(json)?
+            .subcommand(drawing::command(alloc, file(alloc))?)?,
     )
 }
 
@@ -131,6 +135,14 @@ pub fn requested<'a>(alloc: Global, words: &'a [&'a str]) -> Result<Request<'a>,
             command: Command::Json,
             file: found.get_str("FILE"),
         });
+    }
+    if let Some(found) = matches.subcommand_matches("draw") {
+        if let Some(drawn) = drawing::asked(found) {
+            return Ok(Request {
+                command: Command::Draw(drawn),
+                file: found.get_str("FILE"),
+            });
+        }
     }
     if let Some(found) = matches.subcommand_matches("state") {
         let wanted = Wanted {

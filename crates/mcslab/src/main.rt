@@ -3,11 +3,13 @@
 #![tactic(auto)]
 
 mod command_line;
+mod drawing;
 
 use clap::Error;
 use clap::error::ErrorKind;
 use command_line::{Command, Request, requested};
 use mcs_lab::{LabFault, check};
+use mcs_pictures::draw_script;
 use mcs_sim::{Source, arguments};
 use mcs_told::{explain, show_state, write_json};
 use std::alloc::{AllocError, Global};
@@ -50,6 +52,12 @@ fn read_script<R: Read + Drop>(
         Command::Why => explain(rt.alloc(), &mut source, &mut to),
         Command::State(wanted) => show_state(rt.alloc(), &mut source, &mut to, wanted),
         Command::Json => write_json(rt.alloc(), &mut source, &mut to),
+        Command::Draw(drawn) => {
+            match draw_script(rt.alloc(), &mut source, &mut to, drawn.format, drawn.window) {
+                Ok(()) => Ok(true),
+                Err(fault) => Err(LabFault::from(fault.0)),
+            }
+        }
     };
     to.flush()?;
     done

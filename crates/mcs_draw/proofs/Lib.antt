@@ -1,0 +1,4 @@
+pub mod StrokeLaws
+pub mod EndLaws
+pub mod LookLaws
+pub mod DrawnLaws

@@ -1,0 +1,4 @@
+pub mod Arrows
+pub mod Ends
+pub mod Looks
+pub mod Drawn

@@ -1,0 +1,10 @@
+//! What is drawn of a run: its arrows and its bars, as functions of the book.
+#![tactic(auto)]
+
+mod arrows;
+mod drawn;
+mod looks;
+
+pub use arrows::{Arrow, Point, Shown, Strokes};
+pub use drawn::{Away, DrawFault, Drawing, Window};
+pub use looks::Look;

@@ -1,0 +1,106 @@
+//! The marks of an SVG page.
+use crate::texts::put_escaped;
+use std::alloc::AllocError;
+use std::fmt::Write;
+
+/// A box on the page.
+#[derive(Clone, Copy)]
+pub struct Area {
+    pub x: u64,
+    pub y: u64,
+    pub width: u64,
+    pub height: u64,
+}
+
+/// Adds a text whose baseline begins, stands in the middle or ends at a place, as its class says.
+pub fn put_text(
+    to: &mut String,
+    class: &str,
+    x: u64,
+    y: u64,
+    text: &str,
+) -> Result<(), AllocError> {
+    write!(to, "<text class=\"{class}\" x=\"{x}\" y=\"{y}\">")?;
+    put_escaped(to, text)?;
+    to.push_str("</text>\n")
+}
+
+/// Adds a box, over which a pointer shows the title.
+pub fn put_area(to: &mut String, class: &str, area: Area, title: &str) -> Result<(), AllocError> {
+    let Area {
+        x,
+        y,
+        width,
+        height,
+    } = area;
+    write!(
+        to,
+        "<rect class=\"{class}\" x=\"{x}\" y=\"{y}\" width=\"{width}\" height=\"{height}\""
+    )?;
+    if title.is_empty() {
+        return to.push_str("/>\n");
+    }
+    to.push_str("><title>")?;
+    put_escaped(to, title)?;
+    to.push_str("</title></rect>\n")
+}
+
+/// The page's styles: colours that most readers tell apart, by Okabe and Ito, on a light and on a dark ground.
+pub const STYLE: &str = "<style>
+text{font:11px 'DejaVu Sans Mono',Menlo,Consolas,monospace;fill:#111;paint-order:stroke;stroke:#fff;stroke-width:3px;stroke-linejoin:round}
+.ground{fill:#fff}
+.head{fill:#f2f2f2;stroke:#555}
+.head-text{font-weight:bold;text-anchor:middle;stroke:none}
+.head-more{text-anchor:middle;stroke:none}
+.number{text-anchor:end;fill:#767676}
+.told{fill:#00664a}
+.refused{fill:#a63c00;font-weight:bold}
+.away{fill:#767676;font-style:italic}
+.note{fill:#444}
+.mark{fill:#a63c00}
+.label{text-anchor:middle}
+.strong{font-weight:bold}
+.rule{stroke:#ddd}
+.dot{fill:#111}
+.idle-dot{fill:#fff;stroke:#555}
+.arrow{fill:none;stroke:#111;stroke-width:1.4}
+.answer{stroke-dasharray:7 3}
+.word{stroke-dasharray:2 3}
+.tip{fill:#111}
+.k0{fill:#0072b2;stroke:#0072b2}
+.k1{fill:#e69f00;stroke:#e69f00}
+.k2{fill:#009e73;stroke:#009e73}
+.k3{fill:#d55e00;stroke:#d55e00}
+.k4{fill:#56b4e9;stroke:#56b4e9}
+.k5{fill:#cc79a7;stroke:#cc79a7}
+.k6{fill:#f0e442;stroke:#b5a800}
+.run{stroke-width:1}
+.ready{fill-opacity:.3;stroke-width:1}
+.again{fill:#fff;fill-opacity:.8}
+.bare{fill:#555}
+.wait{fill:url(#hatch);stroke:#999}
+.idle{fill:none;stroke:#999;stroke-dasharray:4 3}
+.hatch{fill:#eee}
+.hatch-line{fill:#aaa}
+@media (prefers-color-scheme:dark){
+text{fill:#eee;stroke:#161616}
+.ground{fill:#161616}
+.head{fill:#2a2a2a;stroke:#999}
+.number,.away{fill:#9a9a9a}
+.told{fill:#4fd1a5}
+.refused,.mark{fill:#ff9a5c}
+.note{fill:#bbb}
+.rule{stroke:#333}
+.dot,.tip{fill:#eee}
+.arrow{stroke:#eee}
+.k0{fill:#3d9be0;stroke:#3d9be0}
+.bare{fill:#aaa}
+.hatch{fill:#2a2a2a}
+.hatch-line{fill:#666}
+}
+</style>
+<defs>
+<marker id=\"tip\" markerWidth=\"10\" markerHeight=\"8\" refX=\"9\" refY=\"4\" orient=\"auto\" markerUnits=\"userSpaceOnUse\"><path class=\"tip\" d=\"M0,0L10,4L0,8z\"/></marker>
+<pattern id=\"hatch\" width=\"6\" height=\"6\" patternUnits=\"userSpaceOnUse\" patternTransform=\"rotate(45)\"><rect class=\"hatch\" width=\"6\" height=\"6\"/><rect class=\"hatch-line\" width=\"2\" height=\"6\"/></pattern>
+</defs>
+";

@@ -1,0 +1,8 @@
+//! The picture of a script.
+#![tactic(auto)]
+
+mod naming;
+mod scripts;
+
+pub use mcs_draw::Window;
+pub use scripts::{Format, PictureFault, draw_script};
