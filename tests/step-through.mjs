@@ -84,5 +84,5 @@ try {
 socket.close();
 browser.kill();
 await new Promise(done => browser.on('exit', done));
-rmSync(folder, { recursive: true, force: true });
+rmSync(folder, { recursive: true, force: true, maxRetries: 20, retryDelay: 100 });
 process.exit(status);
