@@ -6,7 +6,7 @@ ghost use Rattle.mcs_book.specs.History.{with_boot_line, with_line, line_of_numb
 ghost use Rattle.mcs_book.specs.Pages.{EndsWithin, facts, line_head, lines_of, start_at};
 
 use mcs_packing::{
-    Arena, Head, KeptAnswer, KeptRecord, KeptStep, Packed, PackedAnswer, PackedEntry,
+    Arena, Fact, Head, KeptAnswer, KeptRecord, KeptStep, Packed, PackedAnswer, PackedEntry,
 };
 use mcs_types::{Answer, BootLine, ObjId, OutOfMemory, Rec, Step};
 use std::alloc::Global;
@@ -256,13 +256,13 @@ fn push_packed(
     packed: &mut Vec<Packed>,
     sent: &mut Vec<u32>,
     place: &mut u32,
-    fact: Rec,
+    fact: Fact<'_>,
 )
     requires room { HasRoom arena.old 1 }
     requires packed { vec_len packed.old < vec_capacity packed.old }
     requires fit { AllFit packed.old.items arena.old.words.items arena.old.wide.items }
     ensures value { facts packed.new.items arena.new
-        ≡ facts packed.old.items arena.old ++ fact ∷ [] }
+        ≡ facts packed.old.items arena.old ++ fact.entry ∷ [] }
     ensures fit { AllFit packed.new.items arena.new.words.items arena.new.wide.items }
     ensures grew { Grew arena.old arena.new }
     ensures len { vec_len packed.new ≡ vec_len packed.old + 1 }
@@ -451,6 +451,20 @@ impl Book {
     pub fn note(&mut self, fact: Rec)
         requires { 1 < self.old.room }
         ensures hand { self.new.hand ≡ fact ∷ self.old.hand }
+        ensures book { self.new.book ≡ self.old.book }
+        ensures boot_room { self.new.boot_room ≡ self.old.boot_room }
+        ensures room { self.new.room + 1 ≡ self.old.room }
+        ensures whole { self.new.room + length self.new.hand
+            ≡ self.old.room + length self.old.hand }
+    {
+        self.note_fact(Fact::whole(fact));
+    }
+
+    /// Notes a record like `note`; its message, if it has one, may be lent.
+    #[inline(always)]
+    pub fn note_fact(&mut self, fact: Fact<'_>)
+        requires { 1 < self.old.room }
+        ensures hand { self.new.hand ≡ fact.entry ∷ self.old.hand }
         ensures book { self.new.book ≡ self.old.book }
         ensures boot_room { self.new.boot_room ≡ self.old.boot_room }
         ensures room { self.new.room + 1 ≡ self.old.room }

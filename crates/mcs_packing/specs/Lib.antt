@@ -2,3 +2,4 @@ pub mod Packing
 pub mod Entries
 pub mod Heads
 pub mod Kept
+pub mod Facts

@@ -4,6 +4,7 @@
 
 mod arena;
 mod entries;
+mod fact;
 mod heads;
 mod kept;
 mod laws;
@@ -12,6 +13,7 @@ mod unpacking;
 
 pub use arena::Arena;
 pub use entries::{OverAddress, OverPair, OverPlace, PackedEntry, Sending, unpack_entry};
+pub use fact::{Fact, Lent};
 pub use heads::{Head, PackedAnswer, unpack_answer};
 pub use kept::{KeptAnswer, KeptRecord, KeptStep};
 pub use laws::{answers_kept, entries_kept, records_kept};

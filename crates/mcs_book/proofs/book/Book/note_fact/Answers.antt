@@ -5,7 +5,7 @@ use Rattle.mcs_book.specs.Pages.{Written}
 use Rattle.mcs_packing.proofs.Packings.{length-record_of}
 use Rattle.mcs_packing.proofs.HeadLaws.{AllHeadsFit-grows, all_entered-grows}
 use Rattle.mcs_book.proofs.Books.Appending.{HasRoom-fewer, hand-noted, lines-noted}
-use Rattle.mcs_book.proofs.book.Book.note.Goals as goal
+use Rattle.mcs_book.proofs.book.Book.note_fact.Goals as goal
 
 pub invariant_of-self : goal.invariant_of-self
 invariant_of-self c =
