@@ -2,4 +2,3 @@ pub mod Packing
 pub mod Entries
 pub mod Heads
 pub mod Kept
-pub mod Facts

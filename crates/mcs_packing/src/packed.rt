@@ -4,7 +4,7 @@ ghost use Rattle.mcs_types.specs.declared.record.Rec.{Rec};
 ghost use Rattle.mcs_packing.specs.Packing.{FitsIn, Grew, HasRoom, IsPlain, Packs, queue_on, record_in};
 
 use crate::arena::{Arena, length_of};
-use crate::fact::{Fact, FactForm, Lent};
+use crate::lent::Lent;
 use mcs_types::{
     Badge, Cap, CoreId, Ending, Form, Kind, Message, Mode, ObjId, Prio, Queue, Rec, Rights,
     SendMode,
@@ -559,23 +559,6 @@ impl Arena {
         }
     }
 
-    /// Packs a record as it is.
-    #[inline(always)]
-    fn pack_whole(&mut self, fact: Rec) -> Packed
-        requires { HasRoom self.old 1 }
-        ensures value { record_in result self.new ≡ fact }
-        ensures fits { FitsIn result self.new }
-        ensures grew { Grew self.old self.new }
-    {
-        if let Some(packed) = pack_small(&fact) {
-            return packed;
-        }
-        match self.pack_large(&fact) {
-            Some(packed) => packed,
-            None => self.keep_wide(fact),
-        }
-    }
-
     /// Keeps the record of a message that was sent as it is.
     // out of line, as that of `keep_paid`: so that a record that is packed never stands in memory
     #[cold]
@@ -618,9 +601,9 @@ impl Arena {
         })
     }
 
-    /// Packs the record of a message that was sent.
+    /// Packs the record of a message that was sent, as `pack` does: its words go to the arena once.
     #[inline(always)]
-    fn pack_any_sent(
+    pub fn pack_lent_sent(
         &mut self,
         sender: ObjId,
         endpoint: ObjId,
@@ -640,9 +623,9 @@ impl Arena {
         }
     }
 
-    /// Packs the record of an answer to a caller.
+    /// Packs the record of an answer to a caller, likewise.
     #[inline(always)]
-    fn pack_any_paid(&mut self, reply: ObjId, caller: ObjId, message: Lent<'_>) -> Packed
+    pub fn pack_lent_paid(&mut self, reply: ObjId, caller: ObjId, message: Lent<'_>) -> Packed
         requires { HasRoom self.old 1 }
         ensures value { record_in result self.new ≡ Rec.Paid reply caller message.entry }
         ensures fits { FitsIn result self.new }
@@ -655,28 +638,20 @@ impl Arena {
     }
 
     /// Packs a record, for which there is room. What was packed before stands for what it stood for. Where the kind of the record
-    /// is known, its part alone is left here. The words of a message that is lent go to the arena once.
+    /// is known, its part alone is left here.
     #[inline(always)]
-    pub fn pack(&mut self, fact: Fact<'_>) -> Packed
+    pub fn pack(&mut self, fact: Rec) -> Packed
         requires { HasRoom self.old 1 }
-        ensures value { record_in result self.new ≡ fact.entry }
+        ensures value { record_in result self.new ≡ fact }
         ensures fits { FitsIn result self.new }
         ensures grew { Grew self.old self.new }
     {
-        match fact.form {
-            FactForm::Whole(fact) => self.pack_whole(fact),
-            FactForm::Sent {
-                sender,
-                endpoint,
-                mode,
-                badge,
-                message,
-            } => self.pack_any_sent(sender, endpoint, mode, badge, message),
-            FactForm::Paid {
-                reply,
-                caller,
-                message,
-            } => self.pack_any_paid(reply, caller, message),
+        if let Some(packed) = pack_small(&fact) {
+            return packed;
+        }
+        match self.pack_large(&fact) {
+            Some(packed) => packed,
+            None => self.keep_wide(fact),
         }
     }
 }

@@ -24,7 +24,7 @@ use mcs_contexts::Contexts;
 use mcs_notifications::Notifications;
 use mcs_object_queues::Waiting;
 use mcs_objects::{empty_places, keep, take};
-use mcs_packing::{Fact, Lent};
+use mcs_packing::Lent;
 use mcs_replies::Replies;
 use mcs_slots::{SlotId, Slots};
 use mcs_threads::{Block, Threads};
@@ -254,8 +254,7 @@ impl<W: Waiting> State<W> {
             message: given,
             spare: noted,
         };
-        self.book
-            .note_fact(Fact::sent(sender, endpoint, mode, badge, lent));
+        self.book.note_sent(sender, endpoint, mode, badge, lent);
         let letter = OpenLetter {
             letter: Letter {
                 number: self.sent,

@@ -11,7 +11,7 @@ ghost use Rattle.mcs_state.specs.Now.{so_far, adds};
 
 use super::State;
 use mcs_object_queues::Waiting;
-use mcs_packing::{Fact, Lent};
+use mcs_packing::Lent;
 use mcs_replies::{Ended, Replies};
 use mcs_threads::{Block, Threads};
 use mcs_types::{Badge, Copied, Copies, Ending, Mail, Message, ObjId, Rec};
@@ -76,7 +76,7 @@ impl<W: Waiting> State<W> {
             message: given,
             spare: noted,
         };
-        self.book.note_fact(Fact::paid(reply, caller, lent));
+        self.book.note_paid(reply, caller, lent);
         answers(&mut self.threads, caller, mail);
         topped(self.replies.pay(reply))
     }
