@@ -33,6 +33,8 @@ pub enum Why {
     },
     #[error("more than {limit} {what}")]
     Limit { what: &'static str, limit: u32 },
+    #[error("\"cores\" stands behind a thread or a context")]
+    LateCores,
     #[error("\"{word}\" is bound already")]
     Bound { word: String },
     #[error("this line stands behind the first step")]

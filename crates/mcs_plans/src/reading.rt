@@ -307,7 +307,7 @@ impl Plan {
             });
         }
         if !self.contexts.is_empty() || !self.threads.is_empty() {
-            return Err(not(alloc, "cores", "behind a thread or a context"));
+            return Err(Why::LateCores);
         }
         self.cores = Some(cores);
         Ok(())
