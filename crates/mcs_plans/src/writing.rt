@@ -1,4 +1,8 @@
 //! The text of a script.
+ghost use Rattle.std.specs.Prelude.{◌≡◌, ◌++◌, [], OnOk};
+ghost use Rattle.mcs_text.specs.Table.{step_by, step_text};
+ghost use Rattle.mcs_plans.specs.Scripts.{boot_lines_text, user_text};
+
 use crate::script::{Line, Script};
 use crate::wanting::object_text;
 use mcs_text::{Entrant, Key, UserEntry};
@@ -6,8 +10,12 @@ use mcs_trace::Line as Text;
 use mcs_types::{CoreId, Entry, Step};
 use std::alloc::{AllocError, Global};
 
-/// The line of an entry that sends a message. False for another.
-fn write_sending(text: &mut Text, from: Entrant, entry: &Entry) -> bool {
+/// The line of a step, on an empty line: a table, with an arm for each entry.
+fn write_step(text: &mut Text, from: Entrant, entry: &Entry)
+    requires { text.old ≡ [] }
+    ensures { text.new ≡ step_text (step_by from entry.now) }
+{
+    entry.is_in_range();
     match entry {
         Entry::Send { cap, message } => {
             text.send(from, Key::Send, *cap, message.label(), message.words())
@@ -22,47 +30,27 @@ fn write_sending(text: &mut Text, from: Entrant, entry: &Entry) -> bool {
             cap,
             reply,
             message,
-        } => text.send_receive(
-            from,
-            Key::ReplyRecv,
-            *cap,
-            *reply,
-            message.label(),
-            message.words(),
-        ),
+        } => {
+            let (label, words) = (message.label(), message.words());
+            text.send_receive(from, Key::ReplyRecv, *cap, *reply, label, words)
+        }
         Entry::NbSendWait {
             cap,
             source,
             message,
-        } => text.send_receive(
-            from,
-            Key::NbSendWait,
-            *cap,
-            *source,
-            message.label(),
-            message.words(),
-        ),
+        } => {
+            let (label, words) = (message.label(), message.words());
+            text.send_receive(from, Key::NbSendWait, *cap, *source, label, words)
+        }
         Entry::NbSendRecv {
             cap,
             source,
             reply,
             message,
-        } => text.exchange(
-            from,
-            *cap,
-            *source,
-            *reply,
-            message.label(),
-            message.words(),
-        ),
-        _ => return false,
-    }
-    true
-}
-
-/// The line of an entry that names addresses alone. False for another.
-fn write_addressing(text: &mut Text, from: Entrant, entry: &Entry) -> bool {
-    match entry {
+        } => {
+            let (label, words) = (message.label(), message.words());
+            text.exchange(from, *cap, *source, *reply, label, words)
+        }
         Entry::Recv { cap, reply } => text.addresses(from, Key::Recv, *cap, *reply),
         Entry::NbRecv { cap, reply } => text.addresses(from, Key::NbRecv, *cap, *reply),
         Entry::Wait { cap } => text.address(from, Key::Wait, *cap),
@@ -78,14 +66,6 @@ fn write_addressing(text: &mut Text, from: Entrant, entry: &Entry) -> bool {
         Entry::BindCtx { context, thread } => text.addresses(from, Key::Bind, *context, *thread),
         Entry::UnbindCtx { context } => text.address(from, Key::Unbind, *context),
         Entry::CancelBadged { endpoint } => text.address(from, Key::Cancel, *endpoint),
-        _ => return false,
-    }
-    true
-}
-
-/// The line of an entry that names places, or sets a priority.
-fn write_placing(text: &mut Text, from: Entrant, entry: &Entry) {
-    match entry {
         Entry::SetPriority {
             thread,
             authority,
@@ -108,17 +88,7 @@ fn write_placing(text: &mut Text, from: Entrant, entry: &Entry) {
         Entry::MakeNotification { place } => text.make(from, Key::Notification, *place),
         Entry::MakeReply { place } => text.make(from, Key::Reply, *place),
         Entry::MakeContext { place } => text.make(from, Key::Context, *place),
-        _ => {}
     }
-}
-
-/// The line of a step.
-fn write_step(text: &mut Text, from: Entrant, entry: &Entry) {
-    text.clear();
-    if write_sending(text, from, entry) || write_addressing(text, from, entry) {
-        return;
-    }
-    write_placing(text, from, entry);
 }
 
 /// A word and a text behind it, as a line.
@@ -138,21 +108,27 @@ fn add_comment(to: &mut Vec<u8>, comment: &str) -> Result<(), AllocError> {
 }
 
 /// The line of a step.
-fn add_step(to: &mut Vec<u8>, text: &mut Text, step: &Step) -> Result<(), AllocError> {
+fn add_step(to: &mut Vec<u8>, text: &mut Text, step: &Step) -> Result<(), AllocError>
+    ensures { OnOk result (to.new.items ≡ to.old.items ++ step_text step.now) }
+{
     let from = Entrant {
         core: step.core,
         thread: step.thread,
     };
+    text.clear();
     write_step(text, from, &step.entry);
     to.extend_from_slice(text.text())
 }
 
 /// The line of a user: that of a step, with `user` in the place of its core, which is 0.
-fn add_user(to: &mut Vec<u8>, text: &mut Text, user: &UserEntry) -> Result<(), AllocError> {
+fn add_user(to: &mut Vec<u8>, text: &mut Text, user: &UserEntry) -> Result<(), AllocError>
+    ensures { OnOk result (to.new.items ≡ to.old.items ++ user_text user.now.thread user.now.entry) }
+{
     let from = Entrant {
         core: CoreId(0),
         thread: user.thread,
     };
+    text.clear();
     write_step(text, from, &user.entry);
     to.extend_from_slice(Key::User.text())?;
     match text.text() {
@@ -162,7 +138,9 @@ fn add_user(to: &mut Vec<u8>, text: &mut Text, user: &UserEntry) -> Result<(), A
 }
 
 /// The lines of the boot.
-fn add_boot(to: &mut Vec<u8>, text: &mut Text, script: &Script) -> Result<(), AllocError> {
+fn add_boot(to: &mut Vec<u8>, text: &mut Text, script: &Script) -> Result<(), AllocError>
+    ensures { OnOk result (to.new.items ≡ to.old.items ++ boot_lines_text script.now.boot) }
+{
     text.clear();
     text.numbered(Key::Cores, script.boot.cores() as u64);
     to.extend_from_slice(text.text())?;

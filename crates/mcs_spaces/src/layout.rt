@@ -1,6 +1,7 @@
 //! The layout of a space (manual: Capability Spaces).
 ghost use Rattle.std.specs.Prelude.{◌≡◌, ◌<◌, ◌≤◌, ◌+◌, ◌-◌, ◌*◌, ◌^◌, ◌↔◌, IsSome, IfSome};
-ghost use Rattle.mcs_spaces.specs.Layouts.{bits_of_layout, IsLaidOut};
+ghost use Rattle.mcs_spaces.specs.Layouts.{bits_behind, IsLaidOut, zero_guard};
+ghost use Rattle.mcs_spaces.specs.Holding.{IsAddressOf};
 
 use mcs_types::{Guard, Place};
 
@@ -18,41 +19,50 @@ pub struct Layout {
     pub within: u8,
 }
 
-/// How many bits name one of so many things.
+/// How many bits name one of so many things, at least one: a table of powers of 2.
 fn bits_for(count: u32) -> u8
-    ensures few { result ≤ 32 }
+    ensures some { 1 ≤ result }
+    ensures few { result ≤ 8 }
+    ensures enough { count ≤ 256 → count ≤ 2 ^ result }
 {
-    let mut bits = 0;
-    let mut left = count.saturating_sub(1);
-    for _ in 0..32u8 {
-        if left == 0 {
-            return bits;
-        }
-        left /= 2;
-        bits += 1;
+    match count {
+        0..=2 => 1,
+        3..=4 => 2,
+        5..=8 => 3,
+        9..=16 => 4,
+        17..=32 => 5,
+        33..=64 => 6,
+        65..=128 => 7,
+        _ => 8,
     }
-    bits
 }
 
 impl Layout {
-    /// The layout of a space with so many slots, 1 to 65,536: one CNode for up to 256.
-    pub fn of_slots(slots: u32) -> Layout {
+    /// The layout of a space with so many slots, up to 65,536: one CNode for up to 256. No slot of it leads further.
+    #[tactic(auto, using(crate::proofs::Walks::larger_enough))]
+    pub fn of_slots(slots: u32) -> Layout
+        ensures laid_out { IsLaidOut result }
+        ensures enough { slots ≤ 65536 → slots ≤ 2 ^ (result.root + result.leaf) }
+        ensures within { result.within ≡ 0 }
+    {
         if slots <= 256 {
             return Layout {
-                root: bits_for(slots).max(1),
+                root: bits_for(slots),
                 leaf: 0,
                 within: 0,
             };
         }
         Layout {
-            root: bits_for(slots.div_ceil(256)).clamp(1, 8),
+            root: bits_for(1 + (slots - 1) / 256),
             leaf: LEAF,
             within: 0,
         }
     }
 
     /// The layout of a space that is one CNode.
-    pub fn of_radix(radix: u8) -> Layout {
+    pub fn of_radix(radix: u8) -> Layout
+        ensures { result ≡ record { root = radix; leaf = 0; within = 0 } }
+    {
         Layout {
             root: radix,
             leaf: 0,
@@ -71,7 +81,7 @@ impl Layout {
     /// The guard of its root: it takes all bits in front of the index, and is 0.
     pub fn guard(&self) -> Guard
         requires { IsLaidOut self.now }
-        ensures { result ≡ record { bits = 64 - bits_of_layout self.now; value = 0 } }
+        ensures { result ≡ zero_guard (64 - bits_behind self.now) }
     {
         Guard {
             bits: 64 - self.root - self.leaf - self.within,
@@ -85,7 +95,7 @@ impl Layout {
         requires here { IsLaidOut self.now }
         requires there { IsLaidOut other.now }
         requires fits { other.now.root + other.now.leaf ≤ self.now.within }
-        ensures { result ≡ record { bits = self.now.within - (other.now.root + other.now.leaf); value = 0 } }
+        ensures { result ≡ zero_guard (self.now.within - (other.now.root + other.now.leaf)) }
     {
         Guard {
             bits: self.within - other.bits(),
@@ -93,11 +103,14 @@ impl Layout {
         }
     }
 
-    /// The address of a slot.
+    /// The address of a slot: what stands there is what it names, in every space that is laid out so (manual: Capability
+    /// Spaces).
+    #[tactic(auto, using(crate::proofs::Walks::own_is_named))]
     pub fn address(&self, slot: u32) -> u64
         requires laid_out { IsLaidOut self.now }
         requires within { slot < 2 ^ (self.now.root + self.now.leaf) }
-        ensures { result ≡ slot * 2 ^ self.now.within }
+        ensures value { result ≡ slot * 2 ^ self.now.within }
+        ensures named { IsAddressOf self.now slot result }
     {
         (slot as u64) << self.within
     }

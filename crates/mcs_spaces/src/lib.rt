@@ -9,7 +9,5 @@
 #![tactic(auto)]
 
 mod layout;
-#[cfg(test)]
-mod tests;
 
 pub use layout::{Layout, LEAF};
