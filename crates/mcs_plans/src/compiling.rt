@@ -8,6 +8,34 @@ use crate::words::{split_comment, split_words};
 use mcs_types::{Kind, ObjId};
 use std::alloc::{AllocError, Global};
 
+/// How many bytes a line of a plan, or one that is made of it, may have (own): a script's may have 4,096.
+const LINE_BYTES: usize = 4_000;
+
+/// How many lines a plan may have (own): a script's may have 2,000,000.
+const LINES: u64 = 900_000;
+
+/// Limit for a line that is too long.
+fn is_short(line: &str) -> Result<(), Why> {
+    if line.len() <= LINE_BYTES {
+        return Ok(());
+    }
+    Err(Why::Limit {
+        what: "bytes in a line",
+        limit: LINE_BYTES as u32,
+    })
+}
+
+/// Limit for a line that is too long, or behind as many as there may be.
+fn is_within(line: u64, code: &str) -> Result<(), Why> {
+    if line > LINES {
+        return Err(Why::Limit {
+            what: "lines",
+            limit: LINES as u32,
+        });
+    }
+    is_short(code)
+}
+
 /// How far a plan is read.
 #[derive(Drop)]
 enum Phase {
@@ -157,6 +185,7 @@ impl Compiler {
             return Err(Why::NoStep);
         }
         let wanted = laid.wanted(alloc, words)?;
+        is_short(wanted.as_str())?;
         self.lines.push(Line::Wanted(wanted))?;
         Ok(())
     }
@@ -266,6 +295,9 @@ pub fn compile(alloc: Global, bytes: &[u8]) -> Result<Script, PlanFault> {
     let mut line: u64 = 0;
     for code in text.lines() {
         line = line.saturating_add(1);
+        if let Err(why) = is_within(line, code) {
+            return Err(PlanFault { line, why });
+        }
         phase = take(alloc, &mut compiler, phase, line, code)?;
     }
     let laid = match phase {

@@ -3,7 +3,7 @@ use Rattle.std.specs.Prelude.{ℕ, zero, suc, ◌≡◌, ◌<◌, ◌≤◌, ◌
 use Rattle.std.proofs.Common.{refl, ap, sym, ◌∙◌, arith, subst, ◌⊎◌, inl, inr}
 use Rattle.std.proofs.lemmas.Grind.{common_steps}
 use Rattle.std.proofs.lemmas.Bool.{eq-eqb}
-use Rattle.std.proofs.lemmas.Nat.{pow-add, pow_pos, div-mul-add}
+use Rattle.std.proofs.lemmas.Nat.{pow-add, pow_pos, div-mul-add, div-add-mod'}
 use Rattle.std.proofs.Math.Nat.{div-eq_of_lt, mod-eq_of_lt, mod-lt, mod-one, add-mul, mul_assoc, mul-le-mul_right, lt-div-mul-add, div-mul-le_self}
 use Rattle.mcs_types.specs.declared.id.ObjId.{ObjId}
 use Rattle.mcs_types.specs.declared.cap.Cap.{Cap}
@@ -83,7 +83,7 @@ leaf-level S next w slot j unguarded radix hj =
 -- an index of two levels: the first of them, and the rest
 two-parts : (w slot j : ℕ) → slot * 2 ^ w + j ≡ slot / 2 ^ 8 * 2 ^ (8 + w) + (slot % 2 ^ 8 * 2 ^ w + j)
 two-parts w slot j =
-    let parts : slot ≡ slot / 2 ^ 8 * 2 ^ 8 + slot % 2 ^ 8 = grind (arith, common_steps) in
+    let parts : slot ≡ slot / 2 ^ 8 * 2 ^ 8 + slot % 2 ^ 8 = sym (div-add-mod' slot (2 ^ 8)) in
     let split : (slot / 2 ^ 8 * 2 ^ 8 + slot % 2 ^ 8) * 2 ^ w ≡ slot / 2 ^ 8 * 2 ^ 8 * 2 ^ w + slot % 2 ^ 8 * 2 ^ w = add-mul (slot / 2 ^ 8 * 2 ^ 8) (slot % 2 ^ 8) (2 ^ w) in
     let whole : slot * 2 ^ w ≡ (slot / 2 ^ 8 * 2 ^ 8 + slot % 2 ^ 8) * 2 ^ w = ap (λ k. k * 2 ^ w) parts in
     let power : slot / 2 ^ 8 * 2 ^ 8 * 2 ^ w ≡ slot / 2 ^ 8 * 2 ^ (8 + w) = mul_assoc (slot / 2 ^ 8) (2 ^ 8) (2 ^ w) ∙ ap (λ p. slot / 2 ^ 8 * p) (sym (pow-add 2 8 w)) in
@@ -97,14 +97,15 @@ first-below r slot h =
     let below : slot / 256 * 256 ≤ slot = div-mul-le_self slot 256 in
     omega (arith, h, power, below)
 
+-- a choice between a thing and itself
+both-ways : (b : Bool) (o : Option Cap) → cond b o o ≡ o
+both-ways true o = refl
+both-ways false o = refl
+
 -- where lookup ends: no bits are left, or the slot holds no capability to a CNode
 ends-none : (w : ℕ) (o : Option Cap) → (w ≡ 0) ⊎ (cnode_cap o ≡ None) → cond (w == 0) None (cnode_cap o) ≡ None
 ends-none w o (inl e) = ap (λ b. cond b None (cnode_cap o)) (eq-eqb w 0 e)
-ends-none w o (inr e) = ap (λ x. cond (w == 0) None x) e ∙ both (w == 0)
-  where
-    both : (b : Bool) → cond b None None ≡ None
-    both true = refl
-    both false = refl
+ends-none w o (inr e) = ap (λ x. cond (w == 0) None x) e ∙ both-ways (w == 0) None
 
 -- the capability at the end of a walk
 found : (S : Space) (root cap : Cap) (a w i : ℕ) (c : ObjId) → walk 64 S root (bits_of 64 a) ≡ Ok (record { cnode = c; index = i; left = bits_of w a })

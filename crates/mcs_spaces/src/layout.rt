@@ -103,16 +103,24 @@ impl Layout {
         }
     }
 
+    /// The index of a slot, in front of the bits within.
+    fn scaled(&self, slot: u32) -> u64
+        requires laid_out { IsLaidOut self.now }
+        requires within { slot < 2 ^ (self.now.root + self.now.leaf) }
+        ensures { result ≡ slot * 2 ^ self.now.within }
+    {
+        (slot as u64) << self.within
+    }
+
     /// The address of a slot: what stands there is what it names, in every space that is laid out so (manual: Capability
     /// Spaces).
-    #[tactic(auto, using(crate::proofs::Walks::own_is_named))]
     pub fn address(&self, slot: u32) -> u64
         requires laid_out { IsLaidOut self.now }
         requires within { slot < 2 ^ (self.now.root + self.now.leaf) }
         ensures value { result ≡ slot * 2 ^ self.now.within }
         ensures named { IsAddressOf self.now slot result }
     {
-        (slot as u64) << self.within
+        self.scaled(slot)
     }
 
     /// The place of a slot: its index, and the bits of an address as far as that.
