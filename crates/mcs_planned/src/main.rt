@@ -9,7 +9,7 @@ use rand_pcg::Pcg32;
 use std::{fs, io};
 
 /// How many times a byte of each plan is changed.
-const CHANGES: usize = 1_000;
+const CHANGES: usize = 100;
 
 /// The plans.
 const PLANS: [&str; 10] = [
