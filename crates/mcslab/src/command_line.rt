@@ -1,4 +1,5 @@
 //! What the command line asks for.
+use crate::compiling::{self, Made};
 use crate::drawing::{self, Drawn};
 use clap::{Arg, ArgAction, Command as Words, Error, value_parser};
 use mcs_lab::{FORMS, Wanted};
@@ -20,6 +21,10 @@ pub enum Command {
     Json,
     /// Draws the run.
     Draw(Drawn),
+    /// Makes a script of a plan.
+    Compile(Made),
+    /// Puts names into a trace.
+    Names,
 }
 
 /// A command and the file of its script; None for the standard input.
@@ -117,7 +122,9 @@ fn commands<'a>(alloc: Global) -> Result<Words<'a>, Error> {
             .subcommand(why)?
             .subcommand(state(alloc)?)?
             .subcommand(json)?
-            .subcommand(drawing::command(alloc, file(alloc))?)?,
+            .subcommand(drawing::command(alloc, file(alloc))?)?
+            .subcommand(compiling::command(alloc)?)?
+            .subcommand(compiling::names_command(alloc)?)?,
     )
 }
 
@@ -144,6 +151,18 @@ pub fn requested<'a>(alloc: Global, words: &'a [&'a str]) -> Result<Request<'a>,
         };
         return Ok(Request {
             command: Command::State(wanted),
+            file: found.get_str("FILE"),
+        });
+    }
+    if let Some(found) = matches.subcommand_matches("compile") {
+        return Ok(Request {
+            command: Command::Compile(compiling::asked(found)),
+            file: found.get_str("FILE"),
+        });
+    }
+    if let Some(found) = matches.subcommand_matches("names") {
+        return Ok(Request {
+            command: Command::Names,
             file: found.get_str("FILE"),
         });
     }

@@ -3,6 +3,7 @@
 #![tactic(auto)]
 
 mod command_line;
+mod compiling;
 mod drawing;
 
 use clap::Error;
@@ -57,6 +58,7 @@ fn read_script<R: Read + Drop>(
                 Err(fault) => Err(LabFault::from(fault.0)),
             }
         }
+        Command::Compile(_) | Command::Names => Ok(true),
     };
     to.flush()?;
     done
@@ -64,6 +66,11 @@ fn read_script<R: Read + Drop>(
 
 /// Does what is asked, with its file or the standard input.
 fn carry_out(rt: &HostRuntime, request: &Request<'_>) -> ExitCode {
+    match request.command {
+        Command::Compile(made) => return compiling::compile_plan(rt, request.file, made),
+        Command::Names => return compiling::tell_trace(rt, request.file),
+        _ => {}
+    }
     let done = match request.file {
         None => read_script(rt, request, rt.reader()),
         Some(path) => match fs::open(rt, path) {
