@@ -1,14 +1,15 @@
 //! The book: all lines, kept packed, with their records side by side.
 ghost use Rattle.std.specs.Prelude.{◌≡◌, ◌<◌, ◌≤◌, ◌∷◌, ◌++◌, [], ◌+◌, ◌-◌, take, drop, IsTrue, false, IfOk, OnOk, OnErr, max, reverse, length, slice_get, vec_len, vec_capacity};
+ghost use Rattle.mcs_types.specs.declared.record.Rec.{Rec};
 ghost use Rattle.mcs_packing.specs.Packing.{AllFit, Grew, HasRoom, records_of};
 ghost use Rattle.mcs_packing.specs.Heads.{AllHeadsFit, all_entered};
 ghost use Rattle.mcs_book.specs.History.{with_boot_line, with_line, line_of_number};
 ghost use Rattle.mcs_book.specs.Pages.{EndsWithin, facts, line_head, lines_of, start_at};
 
 use mcs_packing::{
-    Arena, Head, KeptAnswer, KeptRecord, KeptStep, Packed, PackedAnswer, PackedEntry,
+    Arena, Head, KeptAnswer, KeptRecord, KeptStep, Lent, Packed, PackedAnswer, PackedEntry,
 };
-use mcs_types::{Answer, BootLine, ObjId, OutOfMemory, Rec, Step};
+use mcs_types::{Answer, Badge, BootLine, ObjId, OutOfMemory, Rec, SendMode, Step};
 use std::alloc::Global;
 use std::marker::Model;
 use std::mem;
@@ -273,6 +274,61 @@ fn push_packed(
     packed.push_reserved(one);
 }
 
+/// Packs the record of a message that was sent likewise.
+#[inline(always)]
+fn push_sent(
+    arena: &mut Arena,
+    packed: &mut Vec<Packed>,
+    sent: &mut Vec<u32>,
+    place: &mut u32,
+    sender: ObjId,
+    endpoint: ObjId,
+    mode: SendMode,
+    badge: Badge,
+    message: Lent<'_>,
+)
+    requires room { HasRoom arena.old 1 }
+    requires packed { vec_len packed.old < vec_capacity packed.old }
+    requires fit { AllFit packed.old.items arena.old.words.items arena.old.wide.items }
+    ensures value { facts packed.new.items arena.new
+        ≡ facts packed.old.items arena.old
+        ++ Rec.Sent sender endpoint mode badge message.entry ∷ [] }
+    ensures fit { AllFit packed.new.items arena.new.words.items arena.new.wide.items }
+    ensures grew { Grew arena.old arena.new }
+    ensures len { vec_len packed.new ≡ vec_len packed.old + 1 }
+    ensures capacity { vec_capacity packed.old ≤ vec_capacity packed.new }
+{
+    let one = arena.pack_lent_sent(sender, endpoint, mode, badge, message);
+    note_place(sent, place, &one);
+    packed.push_reserved(one);
+}
+
+/// Packs the record of an answer to a caller likewise.
+#[inline(always)]
+fn push_paid(
+    arena: &mut Arena,
+    packed: &mut Vec<Packed>,
+    sent: &mut Vec<u32>,
+    place: &mut u32,
+    reply: ObjId,
+    caller: ObjId,
+    message: Lent<'_>,
+)
+    requires room { HasRoom arena.old 1 }
+    requires packed { vec_len packed.old < vec_capacity packed.old }
+    requires fit { AllFit packed.old.items arena.old.words.items arena.old.wide.items }
+    ensures value { facts packed.new.items arena.new
+        ≡ facts packed.old.items arena.old ++ Rec.Paid reply caller message.entry ∷ [] }
+    ensures fit { AllFit packed.new.items arena.new.words.items arena.new.wide.items }
+    ensures grew { Grew arena.old arena.new }
+    ensures len { vec_len packed.new ≡ vec_len packed.old + 1 }
+    ensures capacity { vec_capacity packed.old ≤ vec_capacity packed.new }
+{
+    let one = arena.pack_lent_paid(reply, caller, message);
+    note_place(sent, place, &one);
+    packed.push_reserved(one);
+}
+
 /// The first packed records alone are left.
 fn keep_first(packed: &mut Vec<Packed>, count: usize)
     ensures items { packed.new.items ≡ take count packed.old.items }
@@ -463,6 +519,62 @@ impl Book {
             &mut self.sent,
             &mut self.place,
             fact,
+        );
+        self.room -= 1;
+    }
+
+    /// Notes like `note` that a message was sent, which is lent.
+    #[inline(always)]
+    pub fn note_sent(
+        &mut self,
+        sender: ObjId,
+        endpoint: ObjId,
+        mode: SendMode,
+        badge: Badge,
+        message: Lent<'_>,
+    )
+        requires { 1 < self.old.room }
+        ensures hand { self.new.hand
+            ≡ Rec.Sent sender endpoint mode badge message.entry ∷ self.old.hand }
+        ensures book { self.new.book ≡ self.old.book }
+        ensures boot_room { self.new.boot_room ≡ self.old.boot_room }
+        ensures room { self.new.room + 1 ≡ self.old.room }
+        ensures whole { self.new.room + length self.new.hand
+            ≡ self.old.room + length self.old.hand }
+    {
+        push_sent(
+            &mut self.arena,
+            &mut self.packed,
+            &mut self.sent,
+            &mut self.place,
+            sender,
+            endpoint,
+            mode,
+            badge,
+            message,
+        );
+        self.room -= 1;
+    }
+
+    /// Notes like `note` that a caller was answered, with a message that is lent.
+    #[inline(always)]
+    pub fn note_paid(&mut self, reply: ObjId, caller: ObjId, message: Lent<'_>)
+        requires { 1 < self.old.room }
+        ensures hand { self.new.hand ≡ Rec.Paid reply caller message.entry ∷ self.old.hand }
+        ensures book { self.new.book ≡ self.old.book }
+        ensures boot_room { self.new.boot_room ≡ self.old.boot_room }
+        ensures room { self.new.room + 1 ≡ self.old.room }
+        ensures whole { self.new.room + length self.new.hand
+            ≡ self.old.room + length self.old.hand }
+    {
+        push_paid(
+            &mut self.arena,
+            &mut self.packed,
+            &mut self.sent,
+            &mut self.place,
+            reply,
+            caller,
+            message,
         );
         self.room -= 1;
     }

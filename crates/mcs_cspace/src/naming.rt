@@ -10,15 +10,35 @@ ghost use Rattle.mcs_cspace.specs.Spaces.{slots_space, IsWithin, IsThereWithCNod
 
 use crate::paths::{End, find};
 use mcs_slots::{SlotId, Slots};
-use mcs_types::{Cap, ObjId, Place, Refusal};
+use mcs_types::{Cap, Guard, ObjId, Place, Refusal};
+
+/// An equal capability, put together by its fields: so the compiler need not keep the bytes between them.
+#[inline(always)]
+fn by_fields(cap: &Cap) -> Cap
+    ensures { result ≡ cap.now }
+{
+    Cap {
+        obj: ObjId {
+            kind: cap.obj.kind,
+            serial: cap.obj.serial,
+        },
+        rights: cap.rights,
+        badge: cap.badge,
+        guard: Guard {
+            bits: cap.guard.bits,
+            value: cap.guard.value,
+        },
+    }
+}
 
 /// The capability in a slot, which is Missing where the slot is empty.
+#[inline(always)]
 fn held(slots: &Slots, slot: SlotId) -> Result<Cap, Refusal>
     ensures { result ≡ needed (slot_at slots.now slot.cnode slot.index) Missing }
 {
     match slots.get(slot) {
         None => Err(Refusal::Missing),
-        Some(cap) => Ok(cap),
+        Some(cap) => Ok(by_fields(&cap)),
     }
 }
 
@@ -54,6 +74,7 @@ pub fn in_range(depth: u8) -> bool
     depth != 0 && depth <= 64
 }
 
+#[inline(always)]
 fn cap_from(slots: &Slots, root: &Cap, address: u64) -> Result<Cap, Refusal>
     ensures { result ≡ capability_from (slots_space slots.now) root.now address }
 {
@@ -80,6 +101,8 @@ fn place_from(slots: &Slots, root: &Cap, place: Place) -> Result<SlotId, Refusal
 /// the complete path; refused with Missing where that slot is empty, and else as the longest path says: GuardMismatch, or
 /// DepthMismatch. Any root may be given: of a guard's value the low bits count, as many as the guard has, and a CNode that is not
 /// there has a radix of 0 and empty slots (own).
+// a part of its caller, so that the answer of 48 bytes is not put together and read again
+#[inline(always)]
 pub fn lookup(slots: &Slots, root: &Cap, address: u64) -> Result<Cap, Refusal>
     ensures value { result ≡ capability_from (slots_space slots.now) root.now address }
     ensures named { IfOk result (IsNamedFrom (slots_space slots.now) root.now address) }

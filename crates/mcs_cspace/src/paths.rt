@@ -71,6 +71,7 @@ fn end_at(cnode: ObjId, step: Step) -> End
 }
 
 /// The slot at the end of the path from a root that spells the low `depth` bits of an address, and how many of them are left.
+#[inline(always)]
 pub(crate) fn find(slots: &Slots, root: &Cap, depth: u32, address: u64) -> Result<End, Refusal>
     requires { depth ≤ 64 }
     ensures value { walked_by address result ≡ walk_from slots.now root.now depth address }

@@ -181,6 +181,7 @@ impl<L: Lines> Kernel<L> {
     }
 
     /// Why an entry of a thread on a core would be turned away now, memory aside.
+    #[inline(always)]
     #[tactic(auto, unfolding(crate::specs::Faults::fault_of))]
     pub fn fault(&self, core: CoreId, thread: ObjId) -> Option<EnterFault>
         ensures { result ≡ fault_of self.now core thread }
@@ -225,6 +226,8 @@ impl<L: Lines> Kernel<L> {
     /// Lets in the entry of a step, and adds its line to the book, also where the answer is a refusal; or turns it away for
     /// the first of EnterFault's reasons, and then nothing has changed. OutOfMemory comes only where the others do not.
     /// The thread need not be the one of greatest priority.
+    // the answer of 72 bytes is not moved where this is a part of its caller
+    #[inline(always)]
     pub fn admit(&mut self, alloc: Global, step: &Step) -> Result<Answer, EnterFault>
         ensures turned { IfSome (fault_of self.old step.now.core step.now.thread)
             (λ f. result ≡ Err f) }

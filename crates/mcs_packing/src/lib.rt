@@ -7,6 +7,7 @@ mod entries;
 mod heads;
 mod kept;
 mod laws;
+mod lent;
 mod packed;
 mod unpacking;
 
@@ -15,5 +16,6 @@ pub use entries::{OverAddress, OverPair, OverPlace, PackedEntry, Sending, unpack
 pub use heads::{Head, PackedAnswer, unpack_answer};
 pub use kept::{KeptAnswer, KeptRecord, KeptStep};
 pub use laws::{answers_kept, entries_kept, records_kept};
+pub use lent::Lent;
 pub use packed::{Packed, Side};
 pub use unpacking::{guarded, id_of, plain, queue_of, unpack};

@@ -1,8 +1,10 @@
 //! Records in 16 bytes each: objects by their serials, the words of messages by their place.
 ghost use Rattle.std.specs.Prelude.{◌≡◌, IfSome, Some};
+ghost use Rattle.mcs_types.specs.declared.record.Rec.{Rec};
 ghost use Rattle.mcs_packing.specs.Packing.{FitsIn, Grew, HasRoom, IsPlain, Packs, queue_on, record_in};
 
 use crate::arena::{Arena, length_of};
+use crate::lent::Lent;
 use mcs_types::{
     Badge, Cap, CoreId, Ending, Form, Kind, Message, Mode, ObjId, Prio, Queue, Rec, Rights,
     SendMode,
@@ -554,6 +556,84 @@ impl Arena {
                 cap: Some(cap),
             } => self.pack_marked(cnode, *index, cap),
             _ => None,
+        }
+    }
+
+    /// Keeps the record of a message that was sent as it is.
+    // out of line, as that of `keep_paid`: so that a record that is packed never stands in memory
+    #[cold]
+    #[inline(never)]
+    fn keep_sent(
+        &mut self,
+        sender: ObjId,
+        endpoint: ObjId,
+        mode: SendMode,
+        badge: Badge,
+        message: Message,
+    ) -> Packed
+        requires { HasRoom self.old 1 }
+        ensures value { record_in result self.new ≡ Rec.Sent sender endpoint mode badge message }
+        ensures fits { FitsIn result self.new }
+        ensures grew { Grew self.old self.new }
+    {
+        self.keep_wide(Rec::Sent {
+            sender,
+            endpoint,
+            mode,
+            badge,
+            message,
+        })
+    }
+
+    /// Keeps the record of an answer to a caller as it is.
+    #[cold]
+    #[inline(never)]
+    fn keep_paid(&mut self, reply: ObjId, caller: ObjId, message: Message) -> Packed
+        requires { HasRoom self.old 1 }
+        ensures value { record_in result self.new ≡ Rec.Paid reply caller message }
+        ensures fits { FitsIn result self.new }
+        ensures grew { Grew self.old self.new }
+    {
+        self.keep_wide(Rec::Paid {
+            reply,
+            caller,
+            message,
+        })
+    }
+
+    /// Packs the record of a message that was sent, as `pack` does: its words go to the arena once.
+    #[inline(always)]
+    pub fn pack_lent_sent(
+        &mut self,
+        sender: ObjId,
+        endpoint: ObjId,
+        mode: SendMode,
+        badge: Badge,
+        message: Lent<'_>,
+    ) -> Packed
+        requires { HasRoom self.old 1 }
+        ensures value { record_in result self.new
+            ≡ Rec.Sent sender endpoint mode badge message.entry }
+        ensures fits { FitsIn result self.new }
+        ensures grew { Grew self.old self.new }
+    {
+        match self.pack_sent(&sender, &endpoint, mode, badge, message.message) {
+            Some(packed) => packed,
+            None => self.keep_sent(sender, endpoint, mode, badge, message.into_message()),
+        }
+    }
+
+    /// Packs the record of an answer to a caller, likewise.
+    #[inline(always)]
+    pub fn pack_lent_paid(&mut self, reply: ObjId, caller: ObjId, message: Lent<'_>) -> Packed
+        requires { HasRoom self.old 1 }
+        ensures value { record_in result self.new ≡ Rec.Paid reply caller message.entry }
+        ensures fits { FitsIn result self.new }
+        ensures grew { Grew self.old self.new }
+    {
+        match self.pack_paid(&reply, &caller, message.message) {
+            Some(packed) => packed,
+            None => self.keep_paid(reply, caller, message.into_message()),
         }
     }
 

@@ -179,7 +179,7 @@ homed-made R o n f sound never = go (same_kind o.kind kind.Context)
     go true = ap (λ d. cond (is_just d n) (Some o) (find (λ s. is_just (home_of R s) n) (contexts R))) (never-homed R o sound never)
 
 -- no badge was raised of what was never made
-unraised : (R : Log) (n : ObjId) → Sound R → was_made R n ≡ false → growing_word R n ≡ None
+pub unraised : (R : Log) (n : ObjId) → Sound R → was_made R n ≡ false → growing_word R n ≡ None
 unraised [] n sound h = refl
 unraised (rec.Made o f ∷ R) n sound h = go (same n o) h (unraised R n sound.1)
   where

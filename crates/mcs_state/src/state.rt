@@ -24,6 +24,7 @@ use mcs_contexts::Contexts;
 use mcs_notifications::Notifications;
 use mcs_object_queues::Waiting;
 use mcs_objects::{empty_places, keep, take};
+use mcs_packing::Lent;
 use mcs_replies::Replies;
 use mcs_slots::{SlotId, Slots};
 use mcs_threads::{Block, Threads};
@@ -243,11 +244,17 @@ impl<W: Waiting> State<W> {
         ensures { self.new ≡ adds (Rec.Sent sender endpoint mode badge message.entry) self.old }
     {
         self.threads.are_few();
+        let given = message.message;
         let Copied {
             noted,
             mail,
             answer,
         } = message.made();
+        let lent = Lent {
+            message: given,
+            spare: noted,
+        };
+        self.book.note_sent(sender, endpoint, mode, badge, lent);
         let letter = OpenLetter {
             letter: Letter {
                 number: self.sent,
@@ -259,13 +266,6 @@ impl<W: Waiting> State<W> {
             },
             answer,
         };
-        self.book.note(Rec::Sent {
-            sender,
-            endpoint,
-            mode,
-            badge,
-            message: noted,
-        });
         self.sent += 1;
         keep(Kind::Thread, &mut self.letters, sender, Some(letter));
     }

@@ -11,6 +11,7 @@ ghost use Rattle.mcs_state.specs.Now.{so_far, adds};
 
 use super::State;
 use mcs_object_queues::Waiting;
+use mcs_packing::Lent;
 use mcs_replies::{Ended, Replies};
 use mcs_threads::{Block, Threads};
 use mcs_types::{Badge, Copied, Copies, Ending, Mail, Message, ObjId, Rec};
@@ -65,16 +66,17 @@ impl<W: Waiting> State<W> {
         ensures paid { self.new ≡ adds (Rec.Paid reply caller message.entry) self.old }
         ensures topped { result ≡ topped_by (so_far self.old) reply }
     {
+        let given = message.message;
         let Copied {
             noted,
             mail,
             answer: _,
         } = message.made();
-        self.book.note(Rec::Paid {
-            reply,
-            caller,
-            message: noted,
-        });
+        let lent = Lent {
+            message: given,
+            spare: noted,
+        };
+        self.book.note_paid(reply, caller, lent);
         answers(&mut self.threads, caller, mail);
         topped(self.replies.pay(reply))
     }

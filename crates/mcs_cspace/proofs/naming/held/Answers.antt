@@ -1,4 +1,5 @@
 use Rattle.std.proofs.Common.{ap, sym, ◌∙◌}
+use Rattle.std.specs.Prelude.{Ok}
 use Rattle.mcs_types.specs.declared.entry.Refusal.TheVariants.{Missing}
 use Rattle.mcs_book.specs.Checks.{needed}
 use Rattle.mcs_cspace.proofs.naming.held.Goals as goal
@@ -9,4 +10,5 @@ returns-in-None c = ap (λ o. needed o Missing) (sym c.in-None.is ∙ c.get.ensu
 
 pub returns-in-Some : goal.returns-in-Some
 unfolding needed
-returns-in-Some c = ap (λ o. needed o Missing) (sym c.in-Some.is ∙ c.get.ensures)
+returns-in-Some c =
+    ap Ok c.by_fields.ensures ∙ ap (λ o. needed o Missing) (sym c.in-Some.is ∙ c.get.ensures)

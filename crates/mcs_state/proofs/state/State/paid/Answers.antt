@@ -17,10 +17,10 @@ pub invariant_of-self : goal.invariant_of-self
 invariant_of-self g c =
     let pay = c.pay.ensures in
     let replies : DropsDebt c.args.reply Deleted c.self.inside.replies c.pay.new.self = record { same = record { objects = record { counts = pay.counts; there = pay.there }; receivers = pay.receivers }; owed = pay.owed; chains = pay.chains } in
-    let threads = rw (c.noted.invariant.0, c.noted.view_is ∙ c.made.ensures) at c.answers.ensures in
-    let items = rw (c.noted.view_is ∙ c.made.ensures) at c.note.ensures.hand in (
-      omega (arith, c.self.invariant.0, c.note.ensures.whole),
-      follows (rec.Paid c.args.reply c.args.caller c.args.message) _ _ _ _ _ _ c.note.ensures.book items (inside-room c.self.view_is c.requires.room c.self.invariant.0) (inside (rec.Paid c.args.reply c.args.caller c.args.message) c.self.view_is c.requires.allowed)
+    let threads = rw (c.noted.view_is ∙ c.made.ensures) at c.answers.ensures in
+    let items = rw c.message.view_is at c.note_paid.ensures.hand in (
+      omega (arith, c.self.invariant.0, c.note_paid.ensures.whole),
+      follows (rec.Paid c.args.reply c.args.caller c.args.message) _ _ _ _ _ _ c.note_paid.ensures.book items (inside-room c.self.view_is c.requires.room c.self.invariant.0) (inside (rec.Paid c.args.reply c.args.caller c.args.message) c.self.view_is c.requires.allowed)
           (record { threads = threads; letters = refl; contexts = refl; queues = refl; replies = replies; notifications = refl; slots = refl; sent = refl }) c.self.invariant.1,
     )
 
