@@ -1,6 +1,6 @@
 #!/bin/sh
-# Draws each script of the gallery and of examples/ with PROGRAM (a built mcslab): each SVG must be accepted by xmllint and become
-# a PNG, and each page is stepped through in Chromium. The pictures that are kept are written anew with --keep.
+# Draws each script of steps of the gallery and of examples/ with PROGRAM (a built mcslab): each SVG must be accepted by xmllint and
+# become a PNG, and each page is stepped through in Chromium. The pictures that are kept are written anew with --keep.
 # Packages: libxml2-utils, librsvg2-bin, chromium, nodejs.
 #
 #     tests/pictures.sh PROGRAM FOLDER [--keep]
@@ -20,7 +20,7 @@ for script in "$data"/*.mcs "$tests"/../examples/*.mcs; do
     node --experimental-websocket "$tests/step-through.mjs" "$folder/$name.html"
 done
 if [ "$keep" = --keep ]; then
-    for kept in "$data"/*.svg "$data"/*.mmd "$data"/*.html; do
+    for kept in "$data"/*.svg "$data"/*.mmd "$data"/*.html "$tests"/../examples/*.svg; do
         cp "$folder/$(basename "$kept")" "$kept"
     done
 fi

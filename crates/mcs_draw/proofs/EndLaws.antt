@@ -18,7 +18,7 @@ use Rattle.mcs_book.proofs.SoundLogs.Keeping.{is_aside}
 use Rattle.mcs_draw.specs.declared.arrows.Point.{Point}
 use Rattle.mcs_draw.specs.declared.arrows.Shown.TheVariants.{Message}
 use Rattle.mcs_draw.specs.Arrows.{Strokes, beside, start_of, with_record, with_records, strokes_of, row_of}
-use Rattle.mcs_draw.specs.Ends.{Ends, ends_of, sender_of, ends_made, ends_of_records, ends_in}
+use Rattle.mcs_draw.specs.Ends.{ends_of, sender_of, ends_made, ends_of_records, ends_in}
 
 -- the senders of all messages, the first first
 abbrev senders : Log → List ObjId

@@ -2,3 +2,6 @@ pub mod StrokeLaws
 pub mod EndLaws
 pub mod LookLaws
 pub mod DrawnLaws
+pub mod PickLaws
+pub mod SenderLaws
+pub mod TurnedLaws

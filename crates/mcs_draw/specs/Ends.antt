@@ -1,5 +1,5 @@
 -- Which threads the arrows join, by the questions about the log alone.
-use Rattle.std.specs.Prelude.{ℕ, List, [], ◌∷◌, ◌++◌, Option, option_map, unwrap_or}
+use Rattle.std.specs.Prelude.{ℕ, List, [], ◌∷◌, ◌++◌, Option, option_map, unwrap_or, is_some, IsTrue}
 use Rattle.mcs_types.specs.declared.id.ObjId.{ObjId}
 use Rattle.mcs_types.specs.declared.record.Letter.{Letter}
 use Rattle.mcs_types.specs.declared.record.Rec.{Rec}
@@ -42,3 +42,8 @@ ends_of_records t R (rec ∷ recs) = ends_made t R rec ++ ends_of_records t (rec
 abbrev pub ends_in : Log → List Line → List Ends
 ends_in B [] = []
 ends_in B (l ∷ ls) = ends_in B ls ++ ends_of_records l.step.thread (past B ls) l.records
+
+-- a message that is taken has a sender: `ends_made` needs nobody in its place
+abbrev pub HasSender : Log → Rec → Type 0
+HasSender R (Took m p) = IsTrue (is_some (sender_of R m))
+HasSender R _ = Unit {0}

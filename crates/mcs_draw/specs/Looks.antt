@@ -1,5 +1,5 @@
 -- The bars of a picture: in each row, of each thread, what it does and which context it holds.
-use Rattle.std.specs.Prelude.{ℕ, zero, suc, List, [], ◌∷◌, ◌++◌, Option}
+use Rattle.std.specs.Prelude.{ℕ, zero, suc, List, [], ◌∷◌, ◌++◌}
 use Rattle.mcs_types.specs.declared.id.ObjId.{ObjId}
 use Rattle.mcs_types.specs.declared.id.Kind.TheVariants.{Thread}
 use Rattle.mcs_book.specs.Logs.{Log, counted}

@@ -1,11 +1,15 @@
 //! What is drawn of a run, step by step.
 ghost use Rattle.std.specs.Prelude.{◌≡◌, ℕ, IfOk, OnOk, Some, None, [], map, option_map, slice_get};
+ghost use Rattle.std.specs.String.{string_bytes};
 ghost use Rattle.mcs_book.specs.Boots.{boot_log};
 ghost use Rattle.mcs_book.specs.History.{log_of, with_step};
 ghost use Rattle.mcs_kernel.specs.Faults.{fault_of};
 ghost use Rattle.mcs_kernel.specs.Runs.{is_book_full};
 ghost use Rattle.mcs_draw.specs.Arrows.{strokes_of};
-ghost use Rattle.mcs_draw.specs.Ends.{ends_of, ends_in, sender_of};
+ghost use Rattle.mcs_book.specs.Each.{EachRecord};
+ghost use Rattle.mcs_draw.specs.Ends.{ends_of, ends_in, sender_of, HasSender};
+ghost use Rattle.mcs_draw.specs.Picks.{AddsPicks};
+ghost use Rattle.mcs_draw.specs.Turned.{noted, with_away};
 ghost use Rattle.mcs_draw.specs.Drawn.{AreDrawn, AreDrawnBefore, IsDrawnBefore};
 
 use crate::arrows::{Point, Strokes};
@@ -68,11 +72,21 @@ fn is_full(why: EnterFault) -> bool
     matches!(why, EnterFault::BookFull)
 }
 
+/// A text of its own.
+fn kept(alloc: Global, text: &str) -> Result<String, AllocError>
+    ensures { IfOk result (λ s. string_bytes s ≡ text.now) }
+{
+    let mut kept = String::new(alloc);
+    kept.push_str(text)?;
+    Ok(kept)
+}
+
 /// Adds a row: which thread each core picks now.
-fn add_picks(
-    picks: &mut Vec<Option<ObjId>>,
-    kernel: &Kernel<LinkedLines>,
-) -> Result<(), AllocError> {
+#[tactic(auto, using(crate::proofs::PickLaws::picks_none, crate::proofs::PickLaws::picks_next))]
+fn add_picks(picks: &mut Vec<Option<ObjId>>, kernel: &Kernel<LinkedLines>) -> Result<(), AllocError>
+    ensures { OnOk result (AddsPicks (log_of kernel.now) kernel.now.boot.cores picks.old.items
+        picks.new.items) }
+{
     let passed = ThreadSet::new();
     for core in 0..kernel.book().cores() {
         picks.push(kernel.pick(CoreId(core), &passed))?;
@@ -103,7 +117,8 @@ impl Drawing {
     #[tactic(auto, using(crate::proofs::DrawnLaws::drawn_boot))]
     pub fn new(alloc: Global, boot: &Boot) -> Result<Drawing, AllocError>
         ensures book { IfOk result (λ d. d.kernel ≡ record { boot = boot.now; lines = [] }) }
-        ensures drawn { IfOk result (λ d. AreDrawn d.strokes d.looks.items d.kernel) }
+        ensures drawn { IfOk result
+            (λ d. AreDrawn d.strokes d.looks.items d.picks.items d.kernel) }
     {
         let Ok(kernel) = Kernel::new(alloc, boot) else {
             return Err(AllocError);
@@ -124,11 +139,12 @@ impl Drawing {
     /// Draws the last line of the book, in which this thread enters; what stands before it is drawn.
     #[tactic(auto, using(crate::proofs::DrawnLaws::drawn_row))]
     fn add_row(&mut self, alloc: Global, thread: ObjId) -> Result<(), AllocError>
-        requires before { AreDrawnBefore self.old.strokes self.old.looks.items thread
-            self.old.kernel }
+        requires before { AreDrawnBefore self.old.strokes self.old.looks.items self.old.picks.items
+            thread self.old.kernel }
         ensures book { OnOk result (self.new.kernel ≡ self.old.kernel) }
+        ensures away { OnOk result (self.new.away.items ≡ self.old.away.items) }
         ensures drawn { OnOk result
-            (AreDrawn self.new.strokes self.new.looks.items self.new.kernel) }
+            (AreDrawn self.new.strokes self.new.looks.items self.new.picks.items self.new.kernel) }
     {
         add_last(alloc, &mut self.strokes, &self.kernel, thread)?;
         add_looks(&mut self.looks, &self.kernel)?;
@@ -136,6 +152,7 @@ impl Drawing {
     }
 
     /// Notes a step that was turned away.
+    #[tactic(auto, using(crate::proofs::TurnedLaws::away_more))]
     fn turn_away(
         &mut self,
         alloc: Global,
@@ -143,17 +160,18 @@ impl Drawing {
         text: &str,
         why: EnterFault,
     ) -> Result<(), AllocError>
+        ensures away { OnOk result (map noted self.new.away.items ≡ with_away
+            (map noted self.old.away.items) self.old.kernel step.now text.now (Some why)) }
         ensures book { OnOk result (self.new.kernel ≡ self.old.kernel) }
         ensures strokes { OnOk result (self.new.strokes ≡ self.old.strokes) }
         ensures looks { OnOk result (self.new.looks.items ≡ self.old.looks.items) }
+        ensures picks { OnOk result (self.new.picks.items ≡ self.old.picks.items) }
     {
-        let mut kept = String::new(alloc);
-        kept.push_str(text)?;
         self.away.push(Away {
             behind: self.kernel.book().lines() - 1,
             core: step.core,
             thread: step.thread,
-            text: kept,
+            text: kept(alloc, text)?,
             why,
         })?;
         Ok(())
@@ -162,11 +180,13 @@ impl Drawing {
     /// Draws a step that may enter: OutOfMemory where memory is refused.
     #[tactic(auto, using(crate::proofs::DrawnLaws::drawn_before, crate::proofs::DrawnLaws::step_let_in))]
     fn let_in(&mut self, alloc: Global, step: &Step) -> Result<(), AllocError>
-        requires drawn { AreDrawn self.old.strokes self.old.looks.items self.old.kernel }
+        requires drawn { AreDrawn self.old.strokes self.old.looks.items self.old.picks.items
+            self.old.kernel }
         requires let_in { fault_of self.old.kernel step.now.core step.now.thread ≡ None }
         ensures book { OnOk result (self.new.kernel ≡ with_step self.old.kernel step.now) }
+        ensures away { OnOk result (self.new.away.items ≡ self.old.away.items) }
         ensures drawn { OnOk result
-            (AreDrawn self.new.strokes self.new.looks.items self.new.kernel) }
+            (AreDrawn self.new.strokes self.new.looks.items self.new.picks.items self.new.kernel) }
     {
         match self.kernel.admit(alloc, step) {
             Ok(_) => self.add_row(alloc, step.thread),
@@ -187,8 +207,11 @@ impl Drawing {
         requires turned { fault_of self.old.kernel step.now.core step.now.thread ≡ Some why }
         ensures book { OnOk result (self.new.kernel ≡ with_step self.old.kernel step.now) }
         ensures same { OnOk result (self.new.kernel ≡ self.old.kernel) }
+        ensures away { OnOk result (map noted self.new.away.items ≡ with_away
+            (map noted self.old.away.items) self.old.kernel step.now text.now (Some why)) }
         ensures strokes { OnOk result (self.new.strokes ≡ self.old.strokes) }
         ensures looks { OnOk result (self.new.looks.items ≡ self.old.looks.items) }
+        ensures picks { OnOk result (self.new.picks.items ≡ self.old.picks.items) }
     {
         if is_full(why) {
             return Err(DrawFault::BookFull);
@@ -201,10 +224,14 @@ impl Drawing {
     /// the book is full for it, and OutOfMemory where memory is refused; then the drawing is of no use.
     #[tactic(auto, using(crate::proofs::DrawnLaws::drawn_same))]
     pub fn enter(&mut self, alloc: Global, step: &Step, text: &str) -> Result<(), DrawFault>
-        requires drawn { AreDrawn self.old.strokes self.old.looks.items self.old.kernel }
+        requires drawn { AreDrawn self.old.strokes self.old.looks.items self.old.picks.items
+            self.old.kernel }
         ensures book { OnOk result (self.new.kernel ≡ with_step self.old.kernel step.now) }
+        ensures away { OnOk result (map noted self.new.away.items ≡ with_away
+            (map noted self.old.away.items) self.old.kernel step.now text.now
+            (fault_of self.old.kernel step.now.core step.now.thread)) }
         ensures drawn { OnOk result
-            (AreDrawn self.new.strokes self.new.looks.items self.new.kernel) }
+            (AreDrawn self.new.strokes self.new.looks.items self.new.picks.items self.new.kernel) }
     {
         match self.kernel.fault(step.core, step.thread) {
             Some(why) => self.keep_out(alloc, step, text, why),
@@ -218,13 +245,22 @@ impl Drawing {
     /// The arrows join the threads that the questions about the book name, and each message was sent from where its sender stands.
     #[tactic(auto, using(crate::proofs::EndLaws::drawn_ends, crate::proofs::EndLaws::drawn_sender))]
     pub fn joins_as_asked(&self)
-        requires drawn { AreDrawn self.now.strokes self.now.looks.items self.now.kernel }
+        requires drawn { AreDrawn self.now.strokes self.now.looks.items self.now.picks.items
+            self.now.kernel }
         ensures ends { map ends_of self.now.strokes.arrows
             ≡ ends_in (boot_log self.now.kernel.boot.lines) self.now.kernel.lines }
         ensures senders { (m : ℕ) → option_map (λ (p : Point). p.thread)
             (slice_get self.now.strokes.sent m) ≡ sender_of (log_of self.now.kernel) m }
     {
         let _ = &self.strokes;
+    }
+
+    /// Each message that was taken has a sender, so that nobody stands in for one in what `joins_as_asked` says.
+    #[tactic(auto, using(crate::proofs::SenderLaws::senders_there))]
+    pub fn senders_known(&self)
+        ensures { EachRecord HasSender self.now.kernel }
+    {
+        self.kernel.is_fair();
     }
 
     /// How many threads there are.

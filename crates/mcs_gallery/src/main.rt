@@ -1,8 +1,8 @@
 //! Draws each script of the gallery, and compares the picture with the one that is kept beside it.
 #![tactic(auto)]
 
-use mcs_pictures::{Format, Window, draw_script};
-use mcs_sim::Source;
+use mcs_picture_tests::look_at;
+use mcs_pictures::Format;
 use std::{fs, io};
 
 /// The scripts, and for each what is made of it.
@@ -22,30 +22,15 @@ const PICTURES: [(&str, &str, Format); 13] = [
     ("server-dies.mcs", "server-dies.mmd", Format::Mermaid),
 ];
 
-/// All lines of a book.
-const WHOLE: Window = Window {
-    first: 1,
-    last: usize::MAX,
-};
-
-/// Whether a script is drawn as is kept.
-fn is_as_kept(rt: &HostRuntime, script: &str, picture: &str, format: Format) -> io::Result<bool> {
-    let mut source = Source::new(fs::open(rt, script)?);
-    let mut drawn = Vec::new(rt.alloc());
-    if draw_script(rt.alloc(), &mut source, &mut drawn, format, WHOLE).is_err() {
-        return Ok(false);
-    }
+/// What is told of a picture.
+fn told(rt: &HostRuntime, script: &str, picture: &str, format: Format) -> io::Result<&'static str> {
     let kept = fs::read(rt, picture)?;
-    Ok(drawn.as_slice() == kept.as_slice())
+    Ok(look_at(rt.alloc(), fs::open(rt, script)?, kept.as_slice(), format))
 }
 
 fn main(rt: HostRuntime) -> io::Result<()> {
     for (script, picture, format) in PICTURES {
-        let told = match is_as_kept(&rt, script, picture, format) {
-            Ok(true) => "as kept",
-            Ok(false) => "NOT AS KEPT",
-            Err(_) => "NOT READ",
-        };
+        let told = told(&rt, script, picture, format).unwrap_or("NOT READ");
         println!(rt; "{picture}: {told}")?;
     }
     Ok(())

@@ -1,5 +1,5 @@
 -- Records that are looked for by their text.
-use Rattle.std.proofs.Common.{◌≡◌, ℕ, ◌+◌, ◌≤◌, zero, suc, List, [], ◌∷◌, drop, Option, Some, true, false, Bool, cond, refl, ap, sym, ◌∙◌, arith}
+use Rattle.std.proofs.Common.{◌≡◌, ℕ, ◌+◌, ◌≤◌, zero, suc, List, [], ◌∷◌, drop, Some, true, false, refl, ap, arith}
 use native.Mathlib.Numerals.{unary_clauses}
 use Rattle.std.specs.Prelude.{bytes_eq, slice_get}
 use Rattle.mcs_types.specs.declared.record.Rec.{Rec}

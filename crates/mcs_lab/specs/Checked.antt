@@ -1,5 +1,5 @@
 -- The verdicts on a script, line by line: a definition over its text and the book that its steps make.
-use Rattle.std.specs.Prelude.{ℕ, ◌-◌, Bool, true, false, cond, List, [], ◌∷◌, ◌++◌, ◌==◌, ◌&&◌, take, length, Option, Some, None}
+use Rattle.std.specs.Prelude.{ℕ, ◌-◌, Bool, true, false, cond, List, [], ◌∷◌, ◌==◌, ◌&&◌, take, length, Option, Some, None}
 use Rattle.mcs_book.specs.History.{Book}
 use Rattle.mcs_sim.specs.Going.{Going, no_line, at_line, fed}
 use Rattle.mcs_lab.specs.Asking.{asked_of}

@@ -2,7 +2,7 @@
 use crate::naming::{Names, put_full_name, put_name};
 use crate::notes::{is_ready, put_look};
 use crate::paper::{Area, put_area};
-use crate::plans::{HEAD, Plan, Row, RowKind, SLOT};
+use crate::plans::{ARROW_AT, HEAD, Plan, Row, RowKind};
 use mcs_draw::{Drawing, Look};
 use mcs_types::{ObjId, Status};
 use std::alloc::{AllocError, Global};
@@ -31,7 +31,7 @@ pub fn event_of(row: &Row) -> u64 {
     if row.kind == RowKind::Start {
         HEAD.saturating_add(8)
     } else {
-        row.top.saturating_add(SLOT - 2)
+        row.top.saturating_add(ARROW_AT)
     }
 }
 

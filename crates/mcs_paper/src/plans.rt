@@ -1,5 +1,6 @@
-//! Where everything stands on the page. Each row has as many slots as its texts need: arrows have one each, and below them what is
-//! written beside a lane stands in the gap to its right. So no text stands on another, nor on a lane.
+//! Where everything stands on the page. Each row has as many slots as its texts need: arrows have one each, with its label above it, and
+//! below them what is written beside a lane stands in the gap to its right. An arrow that waited runs down beside its lane, nearer than
+//! any text stands, and crosses over within its slot. So no text stands on another, on a lane, or on an arrow.
 use crate::naming::{Names, put_name};
 use crate::notes::{has_note, marked, put_label, put_look, put_mark};
 use crate::texts::{columns, cut};
@@ -25,10 +26,20 @@ const NOTE_COLUMNS: u64 = 36;
 
 const STEP_COLUMNS: u64 = 48;
 
-/// The least distance of two lanes, and how far a text keeps off a lane.
+/// The least distance of two lanes, how far a text keeps off a lane, and at which distance from it an arrow that waits runs down.
 const LANE_GAP: u64 = 84;
 
 pub const CLEAR: u64 = 13;
+
+pub const BESIDE: u64 = 9;
+
+/// Within its slot, where an arrow crosses over, and the baselines of its label and of a text beside a lane. The tip of an arrow is
+/// eight high, and a text goes up by nine and down by three.
+pub const ARROW_AT: u64 = 13;
+
+pub const LABEL_AT: u64 = 9;
+
+pub const TEXT_AT: u64 = 11;
 
 /// What a row shows.
 #[derive(Clone, Copy, PartialEq, Eq, Debug)]
@@ -573,7 +584,7 @@ pub fn gap_of(arrow: &Arrow) -> usize {
 fn widen(gaps: &mut Vec<u64>, gap: usize, text: &str) {
     let needed = columns(text)
         .saturating_mul(COLUMN)
-        .saturating_add(2 * CLEAR + 6);
+        .saturating_add(2 * CLEAR + 10);
     if let Some(width) = gaps.get_mut(gap) {
         *width = needed.max(*width);
     }

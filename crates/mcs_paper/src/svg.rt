@@ -4,13 +4,20 @@ use crate::legend::{put_end, put_legend};
 use crate::naming::{Names, put_full_name};
 use crate::paper::{Area, STYLE, put_area, put_text};
 use crate::plans::{
-    CLEAR, HEAD, NUMBERS_AT, NoteKind, Plan, Row, RowKind, SLOT, STEPS_AT, Stroke, gap_of, lane_of,
-    plan_of,
+    ARROW_AT, BESIDE, CLEAR, HEAD, LABEL_AT, NUMBERS_AT, NoteKind, Plan, Row, RowKind, SLOT,
+    STEPS_AT, Stroke, TEXT_AT, gap_of, lane_of, plan_of,
 };
 use crate::texts::{columns, put_escaped};
 use mcs_draw::{Drawing, Shown, Window};
 use std::alloc::{AllocError, Global};
 use std::fmt::Write;
+
+/// How far from a lane an arrow begins, how far from it its tip stands, and where one to its own lane turns back.
+const EDGE: u64 = 6;
+
+const TIP: u64 = 7;
+
+const TURN: u64 = 23;
 
 /// The place of a lane.
 fn lane_at(plan: &Plan, lane: usize) -> u64 {
@@ -44,7 +51,7 @@ fn put_heads(to: &mut String, plan: &Plan) -> Result<(), AllocError> {
 fn put_margin(to: &mut String, plan: &Plan, row: &Row) -> Result<(), AllocError> {
     let (top, width) = (row.top.saturating_sub(5), plan.width.saturating_sub(8));
     write!(to, "<path class=\"rule\" d=\"M8,{top}H{width}\"/>\n")?;
-    let first = row.top.saturating_add(SLOT - 5);
+    let first = row.top.saturating_add(TEXT_AT);
     let second = first.saturating_add(SLOT);
     let number = row.number;
     match row.kind {
@@ -91,32 +98,43 @@ fn put_dot(to: &mut String, plan: &Plan, row: &Row) -> Result<(), AllocError> {
     )
 }
 
-/// Adds the line of an arrow.
-fn put_path(to: &mut String, plan: &Plan, stroke: &Stroke) -> Result<(), AllocError> {
-    let (from, end) = (stroke.arrow.from.thread, stroke.arrow.to.thread);
-    let (a, b) = (lane_at(plan, lane_of(from)), lane_at(plan, lane_of(end)));
-    let slot = stroke.slot as u64;
-    let top = match plan.rows.get(stroke.row) {
+/// The top of a slot of a row.
+fn slot_top(plan: &Plan, row: usize, slot: usize) -> u64 {
+    let top = match plan.rows.get(row) {
         Some(row) => row.top,
         None => 0,
     };
-    let y = top
-        .saturating_add(slot.saturating_mul(SLOT))
-        .saturating_add(SLOT - 2);
-    let start = match plan.rows.get(stroke.from_row) {
-        Some(row) if stroke.from_row != stroke.row => event_of(row),
-        _ => y,
-    };
-    if from.is_same(end) {
-        let (x, up) = (a.saturating_add(7), y.saturating_sub(8));
-        return write!(to, "M{x},{up}h16v8H{x}");
-    }
-    if a < b {
-        let (x, tip) = (a.saturating_add(6), b.saturating_sub(7));
-        write!(to, "M{x},{start}L{tip},{y}")
+    top.saturating_add((slot as u64).saturating_mul(SLOT))
+}
+
+/// A place so far from a lane, on the side of the lane to which an arrow leads.
+fn aside(x: u64, is_right: bool, far: u64) -> u64 {
+    if is_right {
+        x.saturating_add(far)
     } else {
-        let (x, tip) = (a.saturating_sub(6), b.saturating_add(7));
-        write!(to, "M{x},{start}L{tip},{y}")
+        x.saturating_sub(far)
+    }
+}
+
+/// Adds the line of an arrow. One that waited runs down beside its lane to the slot in which it crosses over.
+fn put_path(to: &mut String, plan: &Plan, stroke: &Stroke) -> Result<(), AllocError> {
+    let (from, end) = (stroke.arrow.from.thread, stroke.arrow.to.thread);
+    let (a, b) = (lane_at(plan, lane_of(from)), lane_at(plan, lane_of(end)));
+    let top = slot_top(plan, stroke.row, stroke.slot);
+    let y = top.saturating_add(ARROW_AT);
+    if from.is_same(end) {
+        let (x, far) = (aside(a, true, TIP), aside(a, true, TURN));
+        let (up, back) = (top.saturating_add(1), top.saturating_add(LABEL_AT));
+        return write!(to, "M{x},{up}H{far}V{back}H{x}");
+    }
+    let is_right = a < b;
+    let (x, tip) = (aside(a, is_right, EDGE), aside(b, !is_right, TIP));
+    match plan.rows.get(stroke.from_row) {
+        Some(row) if stroke.from_row != stroke.row => {
+            let (start, down) = (event_of(row), aside(a, is_right, BESIDE));
+            write!(to, "M{x},{start}H{down}V{top}L{tip},{y}")
+        }
+        _ => write!(to, "M{x},{y}L{tip},{y}"),
     }
 }
 
@@ -160,14 +178,7 @@ fn put_label(to: &mut String, plan: &Plan, stroke: &Stroke) -> Result<(), AllocE
         Some(x) => *x,
         None => plan.width,
     };
-    let slot = stroke.slot as u64;
-    let top = match plan.rows.get(stroke.row) {
-        Some(row) => row.top,
-        None => 0,
-    };
-    let y = top
-        .saturating_add(slot.saturating_mul(SLOT))
-        .saturating_add(SLOT - 6);
+    let y = slot_top(plan, stroke.row, stroke.slot).saturating_add(LABEL_AT);
     put_text(
         to,
         "label",
@@ -180,14 +191,7 @@ fn put_label(to: &mut String, plan: &Plan, stroke: &Stroke) -> Result<(), AllocE
 /// Adds what is written beside the lanes.
 fn put_notes(to: &mut String, plan: &Plan) -> Result<(), AllocError> {
     for note in plan.notes.iter() {
-        let Some(row) = plan.rows.get(note.row) else {
-            continue;
-        };
-        let slot = note.slot as u64;
-        let y = row
-            .top
-            .saturating_add(slot.saturating_mul(SLOT))
-            .saturating_add(SLOT - 5);
+        let y = slot_top(plan, note.row, note.slot).saturating_add(TEXT_AT);
         let x = lane_at(plan, note.lane).saturating_add(CLEAR);
         let class = if note.kind == NoteKind::Mark {
             "mark"

@@ -5,4 +5,4 @@ mod naming;
 mod scripts;
 
 pub use mcs_draw::Window;
-pub use scripts::{Format, PictureFault, draw_script};
+pub use scripts::{Format, draw_script};

@@ -1,14 +1,16 @@
 //! The picture of a script.
-use crate::naming::names_of;
+use crate::naming::ScriptNames;
 use mcs_book::Book;
 use mcs_draw::{DrawFault, Drawing, Window};
 use mcs_kernel::Boot;
+use mcs_lab::{Judge, LabFault, Names, TakesLines, Told, take_lines};
 use mcs_paper::{html_of, mermaid_of, svg_of};
-use mcs_sim::{ReplayRun, SimFault, Source};
+use mcs_sim::Source;
 use mcs_text::{Lines, read_step};
-use mcs_types::{Kind, OutOfMemory, Room};
-use std::alloc::{AllocError, Global};
+use mcs_types::{Kind, Room, Step};
+use std::alloc::Global;
 use std::io::{Read, Write};
+use std::marker::Model;
 use std::str;
 
 /// What is made of a run.
@@ -22,69 +24,88 @@ pub enum Format {
     Html,
 }
 
-/// Why a script is not drawn: as a replay of it would end, or for memory.
-#[derive(Clone, Copy, PartialEq, Eq, Debug)]
-pub struct PictureFault(pub SimFault);
-
-impl From<SimFault> for PictureFault {
-    fn from(fault: SimFault) -> PictureFault {
-        PictureFault(fault)
-    }
+/// A script that is read: its replay, its names, and its lines.
+#[derive(Drop)]
+struct Script {
+    judge: Judge,
+    names: Names,
+    text: Vec<u8>,
 }
 
-impl From<AllocError> for PictureFault {
-    fn from(_error: AllocError) -> PictureFault {
-        PictureFault(SimFault::OutOfMemory)
-    }
-}
-
-impl From<OutOfMemory> for PictureFault {
-    fn from(_error: OutOfMemory) -> PictureFault {
-        PictureFault(SimFault::OutOfMemory)
-    }
-}
-
-impl From<DrawFault> for PictureFault {
-    fn from(fault: DrawFault) -> PictureFault {
-        PictureFault(match fault {
-            DrawFault::BookFull => SimFault::BookFull,
-            DrawFault::OutOfMemory => SimFault::OutOfMemory,
-        })
-    }
-}
-
-/// All that a source gives.
-fn read_all<R: Read>(alloc: Global, from: &mut Source<R>) -> Result<Vec<u8>, PictureFault> {
-    let mut text = Vec::new(alloc);
-    let mut piece = [0; 4_096];
-    for _ in 0..u64::MAX {
-        let Ok(count) = from.read_piece(&mut piece) else {
-            return Err(PictureFault(SimFault::Read));
-        };
-        if count == 0 {
-            break;
+impl TakesLines for Script {
+    fn take_line(&mut self, alloc: Global, line: &[u8]) -> Result<(), LabFault> {
+        self.text.extend_from_slice(line)?;
+        match self.judge.take(alloc, line)? {
+            Told::Nothing => self.names.hear(alloc, self.judge.line(), line),
+            _ => Ok(()),
         }
-        text.extend_from_slice(&piece[..count])?;
     }
-    Ok(text)
+
+    fn taken(&self) -> u64 {
+        self.judge.line()
+    }
+}
+
+/// A drawing of all lines of its book.
+#[derive(Drop)]
+struct Drawn {
+    drawing: Drawing,
+}
+
+impl Model for Drawn {
+    ghost use Rattle.mcs_book.specs.History.{Book};
+    ghost use Rattle.mcs_draw.specs.Drawn.{AreDrawn};
+
+    ghost Value = { Book };
+
+    ghost view = { λ d. d.drawing.kernel };
+
+    ghost invariant = { λ d. AreDrawn d.drawing.strokes d.drawing.looks.items
+        d.drawing.picks.items d.drawing.kernel };
+}
+
+impl Drawn {
+    /// Of the boot.
+    fn new(alloc: Global, boot: &Boot) -> Result<Drawn, LabFault> {
+        let drawing = Drawing::new(alloc, boot)?;
+        Ok(Drawn { drawing })
+    }
+
+    /// With a step more, whose line is this. The faults of a drawing are told as those of a script.
+    fn with_step(self, alloc: Global, step: &Step, line: &str) -> Result<Drawn, LabFault> {
+        let Drawn { mut drawing } = self;
+        match drawing.enter(alloc, step, line) {
+            Ok(()) => Ok(Drawn { drawing }),
+            Err(DrawFault::BookFull) => Err(LabFault::BookFull),
+            Err(DrawFault::OutOfMemory) => Err(LabFault::OutOfMemory),
+        }
+    }
+}
+
+/// The room for a message.
+fn new_room(alloc: Global) -> Result<Room, LabFault> {
+    match Room::new(alloc) {
+        Ok(room) => Ok(room),
+        Err(_) => Err(LabFault::OutOfMemory),
+    }
 }
 
 /// The boot of a book.
-fn boot_of(alloc: Global, book: &Book) -> Result<Boot, PictureFault> {
+fn boot_of(alloc: Global, book: &Book) -> Result<Boot, LabFault> {
     let Ok(mut boot) = Boot::new(alloc, book.cores()) else {
-        return Err(PictureFault(SimFault::OutOfMemory));
+        return Err(LabFault::OutOfMemory);
     };
     for line in book.boot() {
         if boot.add(*line).is_err() {
-            return Err(PictureFault(SimFault::OutOfMemory));
+            return Err(LabFault::OutOfMemory);
         }
     }
     Ok(boot)
 }
 
 /// Draws the steps of a script that has no fault.
-fn drawn(alloc: Global, boot: &Boot, text: &[u8]) -> Result<Drawing, PictureFault> {
-    let mut drawing = Drawing::new(alloc, boot)?;
+fn drawing_of(alloc: Global, boot: &Boot, text: &[u8]) -> Result<Drawn, LabFault> {
+    let mut drawn = Drawn::new(alloc, boot)?;
     let mut lines = Lines::new(text);
     let mut room = None;
     for _ in 0..=text.len() {
@@ -95,7 +116,7 @@ fn drawn(alloc: Global, boot: &Boot, text: &[u8]) -> Result<Drawing, PictureFaul
             continue;
         }
         if room.is_none() {
-            room = Some(Room::new(alloc)?);
+            room = Some(new_room(alloc)?);
         }
         let read = read_step(
             alloc,
@@ -105,37 +126,39 @@ fn drawn(alloc: Global, boot: &Boot, text: &[u8]) -> Result<Drawing, PictureFaul
             &mut room,
         );
         if let (Ok(step), Ok(said)) = (read, str::from_utf8(line)) {
-            drawing.enter(alloc, &step, said)?;
+            drawn = drawn.with_step(alloc, &step, said)?;
         }
     }
-    Ok(drawing)
+    Ok(drawn)
 }
 
-/// Draws a script of steps, or a trace: the lines of the book in a window. Its faults are those of a replay.
+/// Draws a script of steps, or a trace: the lines of the book in a window. Its faults are those of `mcs_lab`: a line that is refused,
+/// a name without its form, a read, a write, a full book, or memory that is refused.
 pub fn draw_script<R: Read, W: Write>(
     alloc: Global,
     from: &mut Source<R>,
     to: &mut W,
     format: Format,
     window: Window,
-) -> Result<(), PictureFault> {
-    let text = read_all(alloc, from)?;
-    let mut run = ReplayRun::new(alloc)?;
-    run.feed(alloc, &text)?;
-    run.end(alloc)?;
-    let Some(book) = run.book() else {
+) -> Result<(), LabFault> {
+    let mut script = Script {
+        judge: Judge::new(alloc)?,
+        names: Names::new(alloc),
+        text: Vec::new(alloc),
+    };
+    take_lines(alloc, from, &mut script)?;
+    script.judge.end(alloc)?;
+    let Some(kernel) = script.judge.kernel() else {
         return Ok(());
     };
-    let boot = boot_of(alloc, book)?;
-    let drawing = drawn(alloc, &boot, &text)?;
-    let names = names_of(alloc, &text)?;
+    let boot = boot_of(alloc, kernel.book())?;
+    let Drawn { drawing } = drawing_of(alloc, &boot, &script.text)?;
+    let names = ScriptNames(&script.names);
     let page = match format {
         Format::Svg => svg_of(alloc, &drawing, &names, window)?,
         Format::Mermaid => mermaid_of(alloc, &drawing, &names, window)?,
         Format::Html => html_of(alloc, &drawing, &names, window)?,
     };
-    match to.write_all(page.as_bytes()) {
-        Ok(()) => Ok(()),
-        Err(_) => Err(PictureFault(SimFault::Write)),
-    }
+    to.write_all(page.as_bytes())?;
+    Ok(())
 }

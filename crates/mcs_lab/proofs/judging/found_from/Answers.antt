@@ -1,4 +1,4 @@
-use Rattle.std.proofs.Common.{◌≡◌, Some, true, false, sym, ◌∙◌, arith}
+use Rattle.std.proofs.Common.{◌≡◌, Some, true, false, arith}
 use Rattle.std.specs.Prelude.{bytes_eq, slice_get}
 use Rattle.mcs_text.specs.Table.{record_text}
 use Rattle.mcs_lab.proofs.Finding.{found-here, found-later, sends-one}
