@@ -4,7 +4,9 @@
 mod forms;
 mod hints;
 mod json;
+mod members;
 mod numbers;
+mod page;
 mod path;
 mod state;
 mod stuck;

@@ -1,11 +1,11 @@
 //! Who waits for whom, and which threads nobody lets go on: by the book and by questions to the kernel.
+use crate::page::Page;
 use mcs_book::Book;
 use mcs_kernel::Kernel;
 use mcs_lab::{LabFault, Names};
 use mcs_queues::LinkedLines;
 use mcs_types::{Kind, ObjId, OutOfMemory, Queue, Rec, Status, ThreadSet};
 use std::alloc::Global;
-use std::io::Write;
 
 /// The thread that took the call for which a reply object owed last: the one that received in the same line.
 pub fn taker_of(alloc: Global, book: &Book, reply: ObjId) -> Result<Option<ObjId>, OutOfMemory> {
@@ -29,6 +29,20 @@ pub fn taker_of(alloc: Global, book: &Book, reply: ObjId) -> Result<Option<ObjId
     Ok(None)
 }
 
+/// Who begins to receive on an endpoint by a record.
+fn receiver_of(record: Option<Rec>, endpoint: ObjId) -> Option<ObjId> {
+    match record {
+        Some(
+            Rec::Joins {
+                thread,
+                queue: Queue::Receivers(place),
+                ..
+            },
+        ) if place.is_same(endpoint) => Some(thread),
+        _ => None,
+    }
+}
+
 /// Adds the threads that received on an endpoint in some line, but for one.
 fn add_receivers(
     alloc: Global,
@@ -42,14 +56,7 @@ fn add_receivers(
             return Ok(());
         };
         for i in 0..line.record_count() {
-            if let Some(
-                Rec::Joins {
-                    thread,
-                    queue: Queue::Receivers(place),
-                    ..
-                },
-            ) = line.record(alloc, i)?
-                && place.is_same(endpoint)
+            if let Some(thread) = receiver_of(line.record(alloc, i)?, endpoint)
                 && !thread.is_same(but)
             {
                 to.insert(thread);
@@ -220,51 +227,50 @@ impl Waits {
         }
     }
 
-    /// Writes what is stuck, a line for each thread. True where nothing is.
-    pub fn put<W: Write>(
-        &self,
-        to: &mut W,
-        kernel: &Kernel<LinkedLines>,
-        names: &Names,
-    ) -> Result<bool, LabFault> {
+    /// Puts why a thread waits, as far as it is known.
+    fn put_cause(page: &mut Page, kernel: &Kernel<LinkedLines>, names: &Names, thread: ObjId) {
+        match kernel.status(thread) {
+            Some(Status::OnReply(reply)) => {
+                page.put(b" waits for the answer that ");
+                page.object(names, reply);
+                page.put(b" owes, and so for ");
+            }
+            Some(Status::Queued(queue)) => {
+                page.put(b" stands in ");
+                page.queue(names, queue);
+                page.put(b", and so waits for ");
+            }
+            _ => {}
+        }
+    }
+
+    /// Puts what is stuck, a line for each thread. True where nothing is.
+    pub fn put(&self, page: &mut Page, kernel: &Kernel<LinkedLines>, names: &Names) -> bool {
         let mut is_free = true;
-        let count = self.count;
-        for serial in 1..=count {
+        for serial in 1..=self.count {
             let thread = thread_of(serial);
             if !self.is_stuck(thread) {
                 continue;
             }
             is_free = false;
-            let kind = self.kind(thread);
-            write!(to, "{kind}: ")?;
-            names.put(to, thread)?;
-            match kernel.status(thread) {
-                Some(Status::OnReply(reply)) => {
-                    to.write_all(b" waits for the answer that ")?;
-                    names.put(to, reply)?;
-                    to.write_all(b" owes, and so for ")?;
-                }
-                Some(Status::Queued(queue)) => {
-                    to.write_all(b" stands in ")?;
-                    names.put_queue(to, queue)?;
-                    to.write_all(b", and so waits for ")?;
-                }
-                _ => {}
-            }
-            self.put_waited(to, kernel, names, thread)?;
-            to.write_all(b"\n")?;
+            page.put(self.kind(thread).as_bytes());
+            page.put(b": ");
+            page.object(names, thread);
+            Waits::put_cause(page, kernel, names, thread);
+            self.put_waited(page, kernel, names, thread);
+            page.put(b"\n");
         }
-        Ok(is_free)
+        is_free
     }
 
-    /// Writes for whom a thread waits.
-    fn put_waited<W: Write>(
+    /// Puts for whom a thread waits.
+    fn put_waited(
         &self,
-        to: &mut W,
+        page: &mut Page,
         kernel: &Kernel<LinkedLines>,
         names: &Names,
         thread: ObjId,
-    ) -> Result<(), LabFault> {
+    ) {
         let mut is_first = true;
         for serial in 1..=self.count {
             let other = thread_of(serial);
@@ -272,16 +278,15 @@ impl Waits {
                 continue;
             }
             if !is_first {
-                to.write_all(b" or ")?;
+                page.put(b" or ");
             }
             is_first = false;
-            names.put(to, other)?;
+            page.object(names, other);
             match kernel.status(other) {
-                Some(Status::Inactive) => to.write_all(b", which is inactive")?,
-                Some(Status::Closed) => to.write_all(b", which is closed")?,
+                Some(Status::Inactive) => page.put(b", which is inactive"),
+                Some(Status::Closed) => page.put(b", which is closed"),
                 _ => {}
             }
         }
-        Ok(())
     }
 }

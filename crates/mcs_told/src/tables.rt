@@ -1,249 +1,240 @@
 //! Who stands where, as text.
+use crate::page::Page;
 use mcs_kernel::Kernel;
-use mcs_lab::{LabFault, Names};
+use mcs_lab::Names;
 use mcs_queues::LinkedLines;
 use mcs_text::Token;
-use mcs_trace::{Line, spell};
 use mcs_types::{Kind, Mail, Message, ObjId, Queue, Status};
-use std::alloc::Global;
-use std::io::{self, Write};
 
 /// The object of a kind and a serial.
 pub fn object(kind: Kind, serial: u32) -> ObjId {
     ObjId { kind, serial }
 }
 
-/// Writes the tables of a kernel.
+/// Puts the tables of a kernel.
 #[derive(Drop)]
-struct Tables<'a, W> {
+struct Tables<'a> {
     kernel: &'a Kernel<LinkedLines>,
     names: &'a Names,
-    text: Box<Line>,
-    to: &'a mut W,
 }
 
-impl<'a, W: Write> Tables<'a, W> {
-    /// What a thread does.
-    fn put_status(&mut self, status: Option<Status>) -> io::Result<()> {
+/// Puts the label and the words of a message.
+fn put_message(page: &mut Page, message: &Message) {
+    page.put(b" ");
+    page.number(message.label());
+    for word in message.words() {
+        page.put(b" ");
+        page.number(*word);
+    }
+}
+
+impl<'a> Tables<'a> {
+    /// Puts an object behind some words, where there is one.
+    fn put_some(&self, page: &mut Page, before: &[u8], object: Option<ObjId>) {
+        if let Some(object) = object {
+            page.put(before);
+            page.object(self.names, object);
+        }
+    }
+
+    /// Puts what a thread does.
+    fn put_status(&self, page: &mut Page, status: Option<Status>) {
         match status {
-            Some(Status::Running) => self.to.write_all(b"running"),
-            Some(Status::Restart) => self.to.write_all(b"restart"),
-            Some(Status::Inactive) => self.to.write_all(b"inactive"),
-            Some(Status::Closed) | None => self.to.write_all(b"closed"),
+            Some(Status::Running) => page.put(b"running"),
+            Some(Status::Restart) => page.put(b"restart"),
+            Some(Status::Inactive) => page.put(b"inactive"),
+            Some(Status::Closed) | None => page.put(b"closed"),
             Some(Status::Queued(queue)) => {
-                self.to.write_all(b"waits in ")?;
-                self.names.put_queue(self.to, queue)
+                page.put(b"waits in ");
+                page.queue(self.names, queue);
             }
             Some(Status::OnReply(reply)) => {
-                self.to.write_all(b"waits for the answer that ")?;
-                self.names.put(self.to, reply)?;
-                self.to.write_all(b" owes")
+                page.put(b"waits for the answer that ");
+                page.object(self.names, reply);
+                page.put(b" owes");
             }
         }
     }
 
-    /// The label and the words of a message.
-    fn put_message(&mut self, message: &Message) -> io::Result<()> {
-        let label = message.label();
-        write!(self.to, " {label}")?;
-        for word in message.words() {
-            write!(self.to, " {word}")?;
-        }
-        Ok(())
-    }
-
-    /// What last reached a thread.
-    fn put_mail(&mut self, thread: ObjId) -> io::Result<()> {
+    /// Puts what last reached a thread.
+    fn put_mail(&self, page: &mut Page, thread: ObjId) {
         match self.kernel.mail(thread) {
-            None => Ok(()),
-            Some(Mail::Word { word }) => write!(self.to, "; heard {word}"),
+            None => {}
+            Some(Mail::Word { word }) => {
+                page.put(b"; heard ");
+                page.number(*word);
+            }
             Some(Mail::Message { badge, message }) => {
-                let badge = badge.0;
-                write!(self.to, "; got {badge}")?;
-                self.put_message(message)
+                page.put(b"; got ");
+                page.number(badge.0);
+                put_message(page, message);
             }
         }
     }
 
-    /// A thread.
-    fn put_thread(&mut self, thread: ObjId) -> io::Result<()> {
-        self.to.write_all(b"  ")?;
-        self.names.put(self.to, thread)?;
+    /// Puts a thread.
+    fn put_thread(&self, page: &mut Page, thread: ObjId) {
+        page.put(b"  ");
+        page.object(self.names, thread);
         if let Some(priority) = self.kernel.priority(thread) {
-            let priority = priority.0;
-            write!(self.to, " (priority {priority})")?;
+            page.put(b" (priority ");
+            page.number(priority.0 as u64);
+            page.put(b")");
         }
-        self.to.write_all(b": ")?;
-        self.put_status(self.kernel.status(thread))?;
+        page.put(b": ");
+        self.put_status(page, self.kernel.status(thread));
         match self.kernel.context(thread) {
-            None => self.to.write_all(b"; holds no context")?,
-            Some(context) => {
-                self.to.write_all(b"; holds ")?;
-                self.names.put(self.to, context)?;
-            }
+            None => page.put(b"; holds no context"),
+            context => self.put_some(page, b"; holds ", context),
         }
-        if let Some(notification) = self.kernel.bound(thread) {
-            self.to.write_all(b"; bound to ")?;
-            self.names.put(self.to, notification)?;
-        }
-        self.put_mail(thread)?;
-        self.to.write_all(b"\n")
+        self.put_some(page, b"; bound to ", self.kernel.bound(thread));
+        self.put_mail(page, thread);
+        page.put(b"\n");
     }
 
-    /// A queue with its threads and their messages, where some stand there.
-    fn put_queue(&mut self, queue: Queue) -> io::Result<()> {
+    /// Puts who stands in a queue, with the message that it sent there.
+    fn put_standing(&self, page: &mut Page, thread: ObjId) {
+        page.put(b" ");
+        page.object(self.names, thread);
+        if let Some(letter) = self.kernel.open(thread) {
+            page.put(b" [m");
+            page.number(letter.number as u64);
+            page.put(b": ");
+            page.number(letter.badge.0);
+            put_message(page, &letter.message);
+            page.put(b"]");
+        }
+    }
+
+    /// Puts a queue with its threads and their messages, where some stand there.
+    fn put_queue(&self, page: &mut Page, queue: Queue) {
         let mut is_first = true;
         for thread in self.kernel.queue(queue) {
             if is_first {
-                self.to.write_all(b"  ")?;
-                self.names.put_queue(self.to, queue)?;
-                self.to.write_all(b":")?;
+                page.put(b"  ");
+                page.queue(self.names, queue);
+                page.put(b":");
                 is_first = false;
             }
-            self.to.write_all(b" ")?;
-            self.names.put(self.to, thread)?;
-            if let Some(letter) = self.kernel.open(thread) {
-                let number = letter.number;
-                let badge = letter.badge.0;
-                write!(self.to, " [m{number}: {badge}")?;
-                self.put_message(&letter.message)?;
-                self.to.write_all(b"]")?;
-            }
+            self.put_standing(page, thread);
         }
         if !is_first {
-            self.to.write_all(b"\n")?;
+            page.put(b"\n");
         }
-        Ok(())
     }
 
-    /// A context, where it is there.
-    fn put_context(&mut self, context: ObjId) -> io::Result<()> {
-        let Some(core) = self.kernel.core(context) else {
-            return Ok(());
-        };
-        let core = core.0;
-        self.to.write_all(b"  ")?;
-        self.names.put(self.to, context)?;
-        write!(self.to, ": core {core}; held by ")?;
-        self.names.put_maybe(self.to, self.kernel.holder(context))?;
-        if let Some(home) = self.kernel.home(context) {
-            self.to.write_all(b"; homed at ")?;
-            self.names.put(self.to, home)?;
-        }
+    /// Puts the chain of a context.
+    fn put_chain(&self, page: &mut Page, context: ObjId) {
         let mut is_first = true;
         for reply in self.kernel.chain(context) {
-            self.to.write_all(if is_first {
-                b"; chain ".as_slice()
+            if is_first {
+                page.put(b"; chain ");
             } else {
-                b" ".as_slice()
-            })?;
-            self.names.put(self.to, reply)?;
+                page.put(b" ");
+            }
+            page.object(self.names, reply);
             is_first = false;
         }
-        self.to.write_all(b"\n")
     }
 
-    /// A reply object, where it is used.
-    fn put_reply(&mut self, reply: ObjId) -> io::Result<()> {
-        if let Some(caller) = self.kernel.owed(reply) {
-            self.to.write_all(b"  ")?;
-            self.names.put(self.to, reply)?;
-            self.to.write_all(b" owes ")?;
-            self.names.put(self.to, caller)?;
-            self.to.write_all(b"\n")?;
+    /// Puts a context, where it is there.
+    fn put_context(&self, page: &mut Page, context: ObjId) {
+        let Some(core) = self.kernel.core(context) else {
+            return;
+        };
+        page.put(b"  ");
+        page.object(self.names, context);
+        page.put(b": core ");
+        page.number(core.0 as u64);
+        match self.kernel.holder(context) {
+            None => page.put(b"; held by -"),
+            holder => self.put_some(page, b"; held by ", holder),
         }
-        if let Some(receiver) = self.kernel.receiver(reply) {
-            self.to.write_all(b"  ")?;
-            self.names.put(self.to, reply)?;
-            self.to.write_all(b" with ")?;
-            self.names.put(self.to, receiver)?;
-            self.to.write_all(b"\n")?;
-        }
-        Ok(())
+        self.put_some(page, b"; homed at ", self.kernel.home(context));
+        self.put_chain(page, context);
+        page.put(b"\n");
     }
 
-    /// A notification, where something is pending there or a thread is bound to it.
-    fn put_notification(&mut self, notification: ObjId) -> io::Result<()> {
+    /// Puts what a reply object has with a thread, where there is one.
+    fn put_user(&self, page: &mut Page, reply: ObjId, words: &[u8], thread: Option<ObjId>) {
+        if thread.is_some() {
+            page.put(b"  ");
+            page.object(self.names, reply);
+            self.put_some(page, words, thread);
+            page.put(b"\n");
+        }
+    }
+
+    /// Puts a notification, where something is pending there or a thread is bound to it.
+    fn put_notification(&self, page: &mut Page, notification: ObjId) {
         let word = self.kernel.word(notification);
         let tied = self.kernel.tied(notification);
         if word.is_none() && tied.is_none() {
-            return Ok(());
+            return;
         }
-        self.to.write_all(b"  ")?;
-        self.names.put(self.to, notification)?;
-        self.to.write_all(b":")?;
+        page.put(b"  ");
+        page.object(self.names, notification);
+        page.put(b":");
         if let Some(word) = word {
-            write!(self.to, " pending {word}")?;
+            page.put(b" pending ");
+            page.number(word);
         }
-        if let Some(thread) = tied {
-            self.to.write_all(b" bound to ")?;
-            self.names.put(self.to, thread)?;
-        }
-        self.to.write_all(b"\n")
+        self.put_some(page, b" bound to ", tied);
+        page.put(b"\n");
     }
 
-    /// The slots of a CNode that are filled.
-    fn put_slots(&mut self, cnode: ObjId) -> io::Result<()> {
+    /// Puts the slots of a CNode that are filled.
+    fn put_slots(&self, page: &mut Page, cnode: ObjId) {
         for index in 0..=u8::MAX {
             if let Some(cap) = self.kernel.capability(cnode, index) {
-                self.to.write_all(b"  ")?;
-                self.names.put(self.to, cnode)?;
-                write!(self.to, " {index}: ")?;
-                spell(&mut self.text, &Token::Cap(cap));
-                self.to.write_all(self.text.text())?;
-                self.to.write_all(b"\n")?;
+                page.put(b"  ");
+                page.object(self.names, cnode);
+                page.put(b" ");
+                page.number(index as u64);
+                page.put(b": ");
+                page.word(&Token::Cap(cap));
+                page.put(b"\n");
             }
         }
-        Ok(())
     }
 
-    /// All tables.
-    fn put_all(&mut self) -> io::Result<()> {
-        self.to.write_all(b"threads\n")?;
-        for serial in 1..=self.kernel.made(Kind::Thread) {
-            self.put_thread(object(Kind::Thread, serial))?;
+    /// Puts an object of a kind.
+    fn put_object(&self, page: &mut Page, object: ObjId) {
+        match object.kind {
+            Kind::Thread => self.put_thread(page, object),
+            Kind::Endpoint => {
+                self.put_queue(page, Queue::Senders(object));
+                self.put_queue(page, Queue::Receivers(object));
+            }
+            Kind::Context => self.put_context(page, object),
+            Kind::Reply => {
+                self.put_user(page, object, b" owes ", self.kernel.owed(object));
+                self.put_user(page, object, b" with ", self.kernel.receiver(object));
+            }
+            Kind::Notification => self.put_notification(page, object),
+            Kind::CNode => self.put_slots(page, object),
         }
-        self.to.write_all(b"queues\n")?;
-        for serial in 1..=self.kernel.made(Kind::Endpoint) {
-            self.put_queue(Queue::Senders(object(Kind::Endpoint, serial)))?;
-            self.put_queue(Queue::Receivers(object(Kind::Endpoint, serial)))?;
+    }
+
+    /// Puts all objects of a kind, under a title.
+    fn put_kind(&self, page: &mut Page, title: &[u8], kind: Kind) {
+        page.put(title);
+        for serial in 1..=self.kernel.made(kind) {
+            self.put_object(page, object(kind, serial));
         }
-        for serial in 1..=self.kernel.made(Kind::Notification) {
-            self.put_queue(Queue::Waiters(object(Kind::Notification, serial)))?;
-        }
-        self.to.write_all(b"contexts\n")?;
-        for serial in 1..=self.kernel.made(Kind::Context) {
-            self.put_context(object(Kind::Context, serial))?;
-        }
-        self.to.write_all(b"reply objects\n")?;
-        for serial in 1..=self.kernel.made(Kind::Reply) {
-            self.put_reply(object(Kind::Reply, serial))?;
-        }
-        self.to.write_all(b"notifications\n")?;
-        for serial in 1..=self.kernel.made(Kind::Notification) {
-            self.put_notification(object(Kind::Notification, serial))?;
-        }
-        self.to.write_all(b"slots\n")?;
-        for serial in 1..=self.kernel.made(Kind::CNode) {
-            self.put_slots(object(Kind::CNode, serial))?;
-        }
-        Ok(())
     }
 }
 
-/// Writes who stands where.
-pub fn put_tables<W: Write>(
-    alloc: Global,
-    to: &mut W,
-    kernel: &Kernel<LinkedLines>,
-    names: &Names,
-) -> Result<(), LabFault> {
-    let mut tables = Tables {
-        kernel,
-        names,
-        text: Box::new(alloc, Line::new())?,
-        to,
-    };
-    tables.put_all()?;
-    Ok(())
+/// Puts who stands where.
+pub fn put_tables(page: &mut Page, kernel: &Kernel<LinkedLines>, names: &Names) {
+    let tables = Tables { kernel, names };
+    tables.put_kind(page, b"threads\n", Kind::Thread);
+    tables.put_kind(page, b"queues\n", Kind::Endpoint);
+    for serial in 1..=kernel.made(Kind::Notification) {
+        tables.put_queue(page, Queue::Waiters(object(Kind::Notification, serial)));
+    }
+    tables.put_kind(page, b"contexts\n", Kind::Context);
+    tables.put_kind(page, b"reply objects\n", Kind::Reply);
+    tables.put_kind(page, b"notifications\n", Kind::Notification);
+    tables.put_kind(page, b"slots\n", Kind::CNode);
 }

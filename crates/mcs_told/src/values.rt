@@ -1,322 +1,331 @@
-//! Who stands where, as JSON.
-use crate::json::{put_name, text_value};
+//! Who stands where, as JSON. The members of an object stand in the order of their names.
+use crate::page::Page;
 use crate::stuck::Waits;
 use crate::tables::object;
 use mcs_kernel::Kernel;
-use mcs_lab::{LabFault, Names};
+use mcs_lab::Names;
 use mcs_queues::LinkedLines;
 use mcs_text::Token;
-use mcs_trace::{Line, spell};
-use mcs_types::{Kind, Mail, Message, ObjId, Queue, Status};
-use serde_json::{Map, Value, push, put};
-use std::alloc::{AllocError, Global};
-use std::io::Write;
+use mcs_types::{Kind, Letter, Mail, Message, ObjId, Queue, Status};
 
-/// Makes the values of a kernel.
+/// Puts the values of a kernel.
 #[derive(Drop)]
 struct Values<'a> {
-    alloc: Global,
     kernel: &'a Kernel<LinkedLines>,
     names: &'a Names,
-    text: Box<Line>,
+}
+
+/// Puts the words of a message.
+fn put_words(page: &mut Page, message: &Message) {
+    page.put(b"\"words\":[");
+    let mut is_first = true;
+    for word in message.words() {
+        page.between(is_first);
+        is_first = false;
+        page.number(*word);
+    }
+    page.put(b"]");
+}
+
+/// Puts what a thread waits in or for, and what it does: the last members of an object.
+fn put_status(page: &mut Page, status: Option<Status>) {
+    let word = match status {
+        Some(Status::Running) => b"running".as_slice(),
+        Some(Status::Restart) => b"restart".as_slice(),
+        Some(Status::Inactive) => b"inactive".as_slice(),
+        Some(Status::Closed) | None => b"closed".as_slice(),
+        Some(Status::Queued(queue)) => {
+            page.put(b",\"queue\":");
+            page.quoted_word(&Token::Line(queue));
+            b"waits".as_slice()
+        }
+        Some(Status::OnReply(reply)) => {
+            page.put(b",\"reply\":");
+            page.quoted_word(&Token::Name(reply));
+            b"owed".as_slice()
+        }
+    };
+    page.put(b",\"status\":");
+    page.quoted(word);
 }
 
 impl<'a> Values<'a> {
-    /// The text of a word.
-    fn word(&mut self, token: &Token) -> Result<Value, AllocError> {
-        spell(&mut self.text, token);
-        text_value(self.alloc, self.text.text())
-    }
-
-    /// An object, or null.
-    fn maybe(&mut self, object: Option<ObjId>) -> Result<Value, AllocError> {
-        match object {
-            Some(object) => self.word(&Token::Name(object)),
-            None => Ok(Value::Null),
-        }
-    }
-
-    /// An object with its name, to which more is put.
-    fn begin(&mut self, object: ObjId) -> Result<Map<String, Value>, AllocError> {
-        let mut map = Map::new(self.alloc);
-        let id = self.word(&Token::Name(object))?;
-        put(&mut map, self.alloc, "id", id)?;
-        put_name(&mut map, self.alloc, self.names, self.text.text())?;
-        Ok(map)
-    }
-
-    /// What is put under a name: an object, or null.
-    fn put_maybe(
-        &mut self,
-        map: &mut Map<String, Value>,
-        name: &str,
-        object: Option<ObjId>,
-    ) -> Result<(), AllocError> {
-        let value = self.maybe(object)?;
-        put(map, self.alloc, name, value)
-    }
-
-    /// A text that is put under a name.
-    fn put_text(
-        &self,
-        map: &mut Map<String, Value>,
-        name: &str,
-        text: &[u8],
-    ) -> Result<(), AllocError> {
-        put(map, self.alloc, name, text_value(self.alloc, text)?)
-    }
-
-    /// The label and the words of a message.
-    fn put_message(
-        &self,
-        map: &mut Map<String, Value>,
-        badge: u64,
-        message: &Message,
-    ) -> Result<(), AllocError> {
-        put(map, self.alloc, "badge", Value::from(badge))?;
-        put(map, self.alloc, "label", Value::from(message.label()))?;
-        let mut words = Vec::new(self.alloc);
-        for word in message.words() {
-            push(&mut words, Value::from(*word))?;
-        }
-        put(map, self.alloc, "words", Value::Array(words))
-    }
-
-    /// What last reached a thread.
-    fn mail(&self, thread: ObjId) -> Result<Value, AllocError> {
-        let mut map = Map::new(self.alloc);
+    /// Puts what last reached a thread.
+    fn put_mail(&self, page: &mut Page, thread: ObjId) {
         match self.kernel.mail(thread) {
-            None => return Ok(Value::Null),
-            Some(Mail::Word { word }) => put(&mut map, self.alloc, "heard", Value::from(*word))?,
-            Some(Mail::Message { badge, message }) => self.put_message(&mut map, badge.0, message)?,
-        }
-        Ok(Value::Object(map))
-    }
-
-    /// What a thread does.
-    fn put_status(
-        &mut self,
-        map: &mut Map<String, Value>,
-        status: Option<Status>,
-    ) -> Result<(), AllocError> {
-        match status {
-            Some(Status::Running) => self.put_text(map, "status", b"running"),
-            Some(Status::Restart) => self.put_text(map, "status", b"restart"),
-            Some(Status::Inactive) => self.put_text(map, "status", b"inactive"),
-            Some(Status::Closed) | None => self.put_text(map, "status", b"closed"),
-            Some(Status::Queued(queue)) => {
-                self.put_text(map, "status", b"waits")?;
-                let value = self.word(&Token::Line(queue))?;
-                put(map, self.alloc, "queue", value)
+            None => page.put(b"null"),
+            Some(Mail::Word { word }) => {
+                page.put(b"{\"heard\":");
+                page.number(*word);
+                page.put(b"}");
             }
-            Some(Status::OnReply(reply)) => {
-                self.put_text(map, "status", b"owed")?;
-                self.put_maybe(map, "reply", Some(reply))
+            Some(Mail::Message { badge, message }) => {
+                page.put(b"{\"badge\":");
+                page.number(badge.0);
+                page.put(b",\"label\":");
+                page.number(message.label());
+                page.put(b",");
+                put_words(page, message);
+                page.put(b"}");
             }
         }
     }
 
-    /// A thread.
-    fn thread(&mut self, thread: ObjId) -> Result<Value, AllocError> {
-        let mut map = self.begin(thread)?;
+    /// Puts a thread.
+    fn put_thread(&self, page: &mut Page, thread: ObjId) {
+        page.put(b"{\"bound\":");
+        page.maybe(self.kernel.bound(thread));
+        page.put(b",\"context\":");
+        page.maybe(self.kernel.context(thread));
+        page.put(b",\"id\":");
+        page.quoted_word(&Token::Name(thread));
+        page.put(b",\"mail\":");
+        self.put_mail(page, thread);
+        page.name_member(self.names, thread);
         if let Some(priority) = self.kernel.priority(thread) {
-            put(&mut map, self.alloc, "priority", Value::from(priority.0))?;
+            page.put(b",\"priority\":");
+            page.number(priority.0 as u64);
         }
-        self.put_status(&mut map, self.kernel.status(thread))?;
-        self.put_maybe(&mut map, "context", self.kernel.context(thread))?;
-        self.put_maybe(&mut map, "bound", self.kernel.bound(thread))?;
-        let mail = self.mail(thread)?;
-        put(&mut map, self.alloc, "mail", mail)?;
-        Ok(Value::Object(map))
+        put_status(page, self.kernel.status(thread));
+        page.put(b"}");
     }
 
-    /// Who stands in a queue, with the message that it sent there.
-    fn standing(&mut self, thread: ObjId) -> Result<Value, AllocError> {
-        let mut map = self.begin(thread)?;
-        if let Some(letter) = self.kernel.open(thread) {
-            let name = self.word(&Token::Message(letter.number as u128))?;
-            put(&mut map, self.alloc, "message", name)?;
-            self.put_message(&mut map, letter.badge.0, &letter.message)?;
-        }
-        Ok(Value::Object(map))
+    /// Puts who stands in a queue, with the message that it sent there.
+    fn put_letter(&self, page: &mut Page, thread: ObjId, letter: &Letter) {
+        page.put(b"{\"badge\":");
+        page.number(letter.badge.0);
+        page.put(b",\"id\":");
+        page.quoted_word(&Token::Name(thread));
+        page.put(b",\"label\":");
+        page.number(letter.message.label());
+        page.put(b",\"message\":");
+        page.quoted_word(&Token::Message(letter.number as u128));
+        page.name_member(self.names, thread);
+        page.put(b",");
+        put_words(page, &letter.message);
+        page.put(b"}");
     }
 
-    /// Adds a queue, where some stand there.
-    fn add_queue(&mut self, to: &mut Vec<Value>, queue: Queue) -> Result<(), AllocError> {
-        let mut threads = Vec::new(self.alloc);
-        let kernel = self.kernel;
-        for thread in kernel.queue(queue) {
-            push(&mut threads, self.standing(thread)?)?;
+    /// Puts who stands in a queue.
+    fn put_standing(&self, page: &mut Page, thread: ObjId) {
+        match self.kernel.open(thread) {
+            Some(letter) => self.put_letter(page, thread, letter),
+            None => {
+                page.put(b"{\"id\":");
+                page.quoted_word(&Token::Name(thread));
+                page.name_member(self.names, thread);
+                page.put(b"}");
+            }
         }
-        if threads.is_empty() {
-            return Ok(());
-        }
-        let mut map = Map::new(self.alloc);
-        let name = self.word(&Token::Line(queue))?;
-        put(&mut map, self.alloc, "queue", name)?;
-        put(&mut map, self.alloc, "threads", Value::Array(threads))?;
-        push(to, Value::Object(map))
     }
 
-    /// All queues in which some stand.
-    fn queues(&mut self) -> Result<Value, AllocError> {
-        let mut list = Vec::new(self.alloc);
+    /// Puts a queue, where some stand there, behind others or as the first. False where none stand there.
+    fn put_queue(&self, page: &mut Page, queue: Queue, is_first: bool) -> bool {
+        let mut is_empty = true;
+        for thread in self.kernel.queue(queue) {
+            if is_empty {
+                page.between(is_first);
+                page.put(b"{\"queue\":");
+                page.quoted_word(&Token::Line(queue));
+                page.put(b",\"threads\":[");
+            } else {
+                page.put(b",");
+            }
+            is_empty = false;
+            self.put_standing(page, thread);
+        }
+        if !is_empty {
+            page.put(b"]}");
+        }
+        !is_empty
+    }
+
+    /// Puts all queues in which some stand.
+    fn put_queues(&self, page: &mut Page) {
+        let mut is_first = true;
         for serial in 1..=self.kernel.made(Kind::Endpoint) {
-            self.add_queue(&mut list, Queue::Senders(object(Kind::Endpoint, serial)))?;
-            self.add_queue(&mut list, Queue::Receivers(object(Kind::Endpoint, serial)))?;
+            let endpoint = object(Kind::Endpoint, serial);
+            if self.put_queue(page, Queue::Senders(endpoint), is_first) {
+                is_first = false;
+            }
+            if self.put_queue(page, Queue::Receivers(endpoint), is_first) {
+                is_first = false;
+            }
         }
         for serial in 1..=self.kernel.made(Kind::Notification) {
-            self.add_queue(
-                &mut list,
-                Queue::Waiters(object(Kind::Notification, serial)),
-            )?;
+            let notification = object(Kind::Notification, serial);
+            if self.put_queue(page, Queue::Waiters(notification), is_first) {
+                is_first = false;
+            }
         }
-        Ok(Value::Array(list))
     }
 
-    /// A context; null where it is not there.
-    fn context(&mut self, context: ObjId) -> Result<Value, AllocError> {
+    /// Puts the chain of a context.
+    fn put_chain(&self, page: &mut Page, context: ObjId) {
+        let mut is_first = true;
+        for reply in self.kernel.chain(context) {
+            page.between(is_first);
+            is_first = false;
+            page.quoted_word(&Token::Name(reply));
+        }
+    }
+
+    /// Puts a context; `null` where it is not there.
+    fn put_context(&self, page: &mut Page, context: ObjId) {
         let Some(core) = self.kernel.core(context) else {
-            return Ok(Value::Null);
+            return page.put(b"null");
         };
-        let mut map = self.begin(context)?;
-        put(&mut map, self.alloc, "core", Value::from(core.0))?;
-        self.put_maybe(&mut map, "holder", self.kernel.holder(context))?;
-        self.put_maybe(&mut map, "home", self.kernel.home(context))?;
-        let mut chain = Vec::new(self.alloc);
-        let kernel = self.kernel;
-        for reply in kernel.chain(context) {
-            push(&mut chain, self.maybe(Some(reply))?)?;
+        page.put(b"{\"chain\":[");
+        self.put_chain(page, context);
+        page.put(b"],\"core\":");
+        page.number(core.0 as u64);
+        page.put(b",\"holder\":");
+        page.maybe(self.kernel.holder(context));
+        page.put(b",\"home\":");
+        page.maybe(self.kernel.home(context));
+        page.put(b",\"id\":");
+        page.quoted_word(&Token::Name(context));
+        page.name_member(self.names, context);
+        page.put(b"}");
+    }
+
+    /// Puts a reply object.
+    fn put_reply(&self, page: &mut Page, reply: ObjId) {
+        page.put(b"{\"id\":");
+        page.quoted_word(&Token::Name(reply));
+        page.name_member(self.names, reply);
+        page.put(b",\"owes\":");
+        page.maybe(self.kernel.owed(reply));
+        page.put(b",\"receiver\":");
+        page.maybe(self.kernel.receiver(reply));
+        page.put(b"}");
+    }
+
+    /// Puts a notification.
+    fn put_notification(&self, page: &mut Page, notification: ObjId) {
+        page.put(b"{\"bound\":");
+        page.maybe(self.kernel.tied(notification));
+        page.put(b",\"id\":");
+        page.quoted_word(&Token::Name(notification));
+        page.name_member(self.names, notification);
+        page.put(b",\"pending\":");
+        match self.kernel.word(notification) {
+            Some(word) => page.number(word),
+            None => page.put(b"null"),
         }
-        put(&mut map, self.alloc, "chain", Value::Array(chain))?;
-        Ok(Value::Object(map))
+        page.put(b"}");
     }
 
-    /// A reply object.
-    fn reply(&mut self, reply: ObjId) -> Result<Value, AllocError> {
-        let mut map = self.begin(reply)?;
-        self.put_maybe(&mut map, "owes", self.kernel.owed(reply))?;
-        self.put_maybe(&mut map, "receiver", self.kernel.receiver(reply))?;
-        Ok(Value::Object(map))
-    }
-
-    /// A notification.
-    fn notification(&mut self, notification: ObjId) -> Result<Value, AllocError> {
-        let mut map = self.begin(notification)?;
-        let pending = match self.kernel.word(notification) {
-            Some(word) => Value::from(word),
-            None => Value::Null,
-        };
-        put(&mut map, self.alloc, "pending", pending)?;
-        self.put_maybe(&mut map, "bound", self.kernel.tied(notification))?;
-        Ok(Value::Object(map))
-    }
-
-    /// The slots of a CNode that are filled.
-    fn cnode(&mut self, cnode: ObjId) -> Result<Value, AllocError> {
-        let mut map = self.begin(cnode)?;
-        let mut slots = Vec::new(self.alloc);
+    /// Puts the slots of a CNode that are filled.
+    fn put_cnode(&self, page: &mut Page, cnode: ObjId) {
+        page.put(b"{\"id\":");
+        page.quoted_word(&Token::Name(cnode));
+        page.name_member(self.names, cnode);
+        page.put(b",\"slots\":[");
+        let mut is_first = true;
         for index in 0..=u8::MAX {
             let Some(cap) = self.kernel.capability(cnode, index) else {
                 continue;
             };
-            let mut slot = Map::new(self.alloc);
-            put(&mut slot, self.alloc, "index", Value::from(index))?;
-            let held = self.word(&Token::Cap(cap))?;
-            put(&mut slot, self.alloc, "capability", held)?;
-            push(&mut slots, Value::Object(slot))?;
+            page.between(is_first);
+            is_first = false;
+            page.put(b"{\"capability\":");
+            page.quoted_word(&Token::Cap(cap));
+            page.put(b",\"index\":");
+            page.number(index as u64);
+            page.put(b"}");
         }
-        put(&mut map, self.alloc, "slots", Value::Array(slots))?;
-        Ok(Value::Object(map))
+        page.put(b"]}");
     }
 
-    /// An object of a kind.
-    fn of_kind(&mut self, object: ObjId) -> Result<Value, AllocError> {
+    /// Puts an object of a kind.
+    fn put_object(&self, page: &mut Page, object: ObjId) {
         match object.kind {
-            Kind::Thread => self.thread(object),
-            Kind::Context => self.context(object),
-            Kind::Reply => self.reply(object),
-            Kind::Notification => self.notification(object),
-            Kind::CNode => self.cnode(object),
-            Kind::Endpoint => Ok(Value::Null),
+            Kind::Thread => self.put_thread(page, object),
+            Kind::Context => self.put_context(page, object),
+            Kind::Reply => self.put_reply(page, object),
+            Kind::Notification => self.put_notification(page, object),
+            Kind::CNode => self.put_cnode(page, object),
+            Kind::Endpoint => page.put(b"null"),
         }
     }
 
-    /// All objects of a kind, put under a name.
-    fn put_all(
-        &mut self,
-        map: &mut Map<String, Value>,
-        name: &str,
-        kind: Kind,
-    ) -> Result<(), AllocError> {
-        let mut list = Vec::new(self.alloc);
+    /// Puts all objects of a kind, behind the name of the list.
+    fn put_all(&self, page: &mut Page, name: &[u8], kind: Kind) {
+        page.put(name);
         for serial in 1..=self.kernel.made(kind) {
-            push(&mut list, self.of_kind(object(kind, serial))?)?;
+            page.between(serial == 1);
+            self.put_object(page, object(kind, serial));
         }
-        put(map, self.alloc, name, Value::Array(list))
+        page.put(b"],");
     }
 
-    /// The threads that are stuck, and for whom each waits.
-    fn stuck(&mut self, waits: &Waits) -> Result<Value, AllocError> {
-        let mut list = Vec::new(self.alloc);
-        let count = self.kernel.made(Kind::Thread);
-        for serial in 1..=count {
+    /// Puts the threads for which a thread waits.
+    fn put_waited(&self, page: &mut Page, waits: &Waits, thread: ObjId) {
+        let mut is_first = true;
+        for serial in 1..=self.kernel.made(Kind::Thread) {
+            let other = object(Kind::Thread, serial);
+            if waits.is_waited(thread, other) {
+                page.between(is_first);
+                is_first = false;
+                page.quoted_word(&Token::Name(other));
+            }
+        }
+    }
+
+    /// Puts the threads that are stuck, and for whom each waits.
+    fn put_stuck(&self, page: &mut Page, waits: &Waits) {
+        page.put(b"\"stuck\":[");
+        let mut is_first = true;
+        for serial in 1..=self.kernel.made(Kind::Thread) {
             let thread = object(Kind::Thread, serial);
             if !waits.is_stuck(thread) {
                 continue;
             }
-            let mut map = self.begin(thread)?;
-            let kind = waits.kind(thread).as_bytes();
-            self.put_text(&mut map, "kind", kind)?;
-            self.put_status(&mut map, self.kernel.status(thread))?;
-            let mut others = Vec::new(self.alloc);
-            for serial in 1..=count {
-                let other = object(Kind::Thread, serial);
-                if waits.is_waited(thread, other) {
-                    push(&mut others, self.maybe(Some(other))?)?;
-                }
-            }
-            put(&mut map, self.alloc, "waits_for", Value::Array(others))?;
-            push(&mut list, Value::Object(map))?;
+            page.between(is_first);
+            is_first = false;
+            page.put(b"{\"id\":");
+            page.quoted_word(&Token::Name(thread));
+            page.put(b",\"kind\":");
+            page.quoted(waits.kind(thread).as_bytes());
+            page.name_member(self.names, thread);
+            put_status(page, self.kernel.status(thread));
+            page.put(b",\"waits_for\":[");
+            self.put_waited(page, waits, thread);
+            page.put(b"]}");
         }
-        Ok(Value::Array(list))
-    }
-
-    /// All of the state, or only what is stuck.
-    fn state(&mut self, waits: &Waits, only_stuck: bool) -> Result<Value, AllocError> {
-        let mut map = Map::new(self.alloc);
-        if !only_stuck {
-            self.put_all(&mut map, "threads", Kind::Thread)?;
-            let queues = self.queues()?;
-            put(&mut map, self.alloc, "queues", queues)?;
-            self.put_all(&mut map, "contexts", Kind::Context)?;
-            self.put_all(&mut map, "replies", Kind::Reply)?;
-            self.put_all(&mut map, "notifications", Kind::Notification)?;
-            self.put_all(&mut map, "cnodes", Kind::CNode)?;
-        }
-        let stuck = self.stuck(waits)?;
-        put(&mut map, self.alloc, "stuck", stuck)?;
-        Ok(Value::Object(map))
+        page.put(b"]");
     }
 }
 
-/// Writes who stands where as one object, or only what is stuck.
-pub fn put_values<W: Write>(
-    alloc: Global,
-    to: &mut W,
+/// Puts who stands where as one object, or only what is stuck.
+pub fn put_values(
+    page: &mut Page,
     kernel: &Kernel<LinkedLines>,
     names: &Names,
     waits: &Waits,
     only_stuck: bool,
-) -> Result<(), LabFault> {
-    let mut values = Values {
-        alloc,
-        kernel,
-        names,
-        text: Box::new(alloc, Line::new())?,
-    };
-    let text = values.state(waits, only_stuck)?.to_string(alloc)?;
-    to.write_all(text.as_bytes())?;
-    to.write_all(b"\n")?;
-    Ok(())
+) {
+    let values = Values { kernel, names };
+    page.put(b"{");
+    if !only_stuck {
+        values.put_all(page, b"\"cnodes\":[", Kind::CNode);
+        values.put_all(page, b"\"contexts\":[", Kind::Context);
+        values.put_all(page, b"\"notifications\":[", Kind::Notification);
+        page.put(b"\"queues\":[");
+        values.put_queues(page);
+        page.put(b"],");
+        values.put_all(page, b"\"replies\":[", Kind::Reply);
+    }
+    values.put_stuck(page, waits);
+    if !only_stuck {
+        page.put(b",");
+        page.put(b"\"threads\":[");
+        for serial in 1..=kernel.made(Kind::Thread) {
+            page.between(serial == 1);
+            values.put_thread(page, object(Kind::Thread, serial));
+        }
+        page.put(b"]");
+    }
+    page.put(b"}\n");
 }

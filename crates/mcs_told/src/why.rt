@@ -1,7 +1,8 @@
 //! Why a step did nothing, in words.
-use crate::forms::{LooksUp, form_of};
+use crate::forms::{Fields, LooksUp, form_of};
 use crate::hints::put_hints;
 use crate::numbers::address_of;
+use crate::page::Page;
 use crate::path::put_path;
 use crate::stuck::{Waits, taker_of};
 use mcs_kernel::{EnterFault, Kernel};
@@ -13,15 +14,7 @@ use mcs_types::{
     Answer, CoreId, Ending, Mode, ObjId, OutOfMemory, Place, Rec, Refusal, SendMode, Status,
 };
 use std::alloc::Global;
-use std::io::{self, Read, Write};
-
-/// A script that is explained.
-#[derive(Drop)]
-struct Explainer<W> {
-    judge: Judge,
-    names: Names,
-    to: W,
-}
+use std::io::{Read, Write};
 
 /// What is easily overlooked of a line of the book.
 #[derive(Drop)]
@@ -49,215 +42,224 @@ fn unanswerable(records: &[Rec]) -> Option<(ObjId, ObjId)> {
     None
 }
 
-/// Whether lookup refuses an address so.
-fn refuses_address(
-    kernel: &Kernel<LinkedLines>,
-    thread: ObjId,
-    address: u64,
-    refusal: Refusal,
-) -> bool {
-    match kernel.named(thread, address) {
+/// Whether lookup refuses so.
+fn refuses<T: Drop>(found: Option<Result<T, Refusal>>, refusal: Refusal) -> bool {
+    match found {
         Some(Err(why)) => why == refusal,
         _ => false,
     }
 }
 
-/// Whether lookup refuses a place so.
-fn refuses_place(
-    kernel: &Kernel<LinkedLines>,
+/// Of a step: who entered, and how lookup refused it.
+#[derive(Clone, Copy)]
+struct Refused {
     thread: ObjId,
-    place: Place,
     refusal: Refusal,
-) -> bool {
-    match kernel.placed(thread, place) {
-        Some(Err(why)) => why == refusal,
-        _ => false,
-    }
 }
 
-/// Writes that an address is refused so, and where it leads. False where it is not.
-fn put_address<W: Write>(
-    to: &mut W,
+/// Puts that an address is refused so, and where it leads. False where it is not.
+fn put_address(
+    page: &mut Page,
     names: &Names,
     kernel: &Kernel<LinkedLines>,
-    thread: ObjId,
+    step: Refused,
     address: u64,
-    refusal: Refusal,
-) -> io::Result<bool> {
-    if !refuses_address(kernel, thread, address, refusal) {
-        return Ok(false);
+) -> bool {
+    if !refuses(kernel.named(step.thread, address), step.refusal) {
+        return false;
     }
-    write!(to, "address {address}")?;
-    if let Some(root) = kernel.root(thread) {
-        put_path(to, kernel, names, root, address, 64)?;
+    page.put(b"address ");
+    page.number(address);
+    if let Some(root) = kernel.root(step.thread) {
+        put_path(page, kernel, names, root, address, 64);
     }
-    Ok(true)
+    true
 }
 
-/// Writes that a place is refused so, and where it leads. False where it is not.
-fn put_place<W: Write>(
-    to: &mut W,
+/// Puts that a place is refused so, and where it leads. False where it is not.
+fn put_place(
+    page: &mut Page,
     names: &Names,
     kernel: &Kernel<LinkedLines>,
-    thread: ObjId,
+    step: Refused,
     place: Place,
-    refusal: Refusal,
-) -> io::Result<bool> {
-    if !refuses_place(kernel, thread, place, refusal) {
-        return Ok(false);
+) -> bool {
+    if !refuses(kernel.placed(step.thread, place), step.refusal) {
+        return false;
     }
     let Place { index, depth } = place;
-    write!(to, "index {index} at depth {depth}")?;
+    page.put(b"index ");
+    page.number(index);
+    page.put(b" at depth ");
+    page.number(depth as u64);
     if depth >= 1
         && depth <= 64
-        && let Some(root) = kernel.root(thread)
+        && let Some(root) = kernel.root(step.thread)
     {
-        put_path(to, kernel, names, root, index, depth as u32)?;
+        put_path(page, kernel, names, root, index, depth as u32);
     }
-    Ok(true)
+    true
 }
 
-/// Writes which address or place of a step lookup refuses so, if one.
-fn put_refused<W: Write>(
-    to: &mut W,
+/// The place of an index and the depth that stands behind it.
+fn place_of(index: u64, fields: &mut Fields<'_>, words: &mut Words<'_>) -> Option<Place> {
+    fields.next_field()?;
+    let depth = u8::try_from(address_of(words.next_word()?)?).ok()?;
+    Some(Place { index, depth })
+}
+
+/// Puts which address or place lookup refuses so, of the words of a step behind its key, if one.
+fn put_first_refused(
+    page: &mut Page,
     names: &Names,
     kernel: &Kernel<LinkedLines>,
-    step: &[u8],
-    refusal: Refusal,
-) -> io::Result<bool> {
-    let mut words = Words::new(step);
-    let (Some(_), Some(_), Some(key)) = (words.next_word(), words.next_word(), words.next_word())
-    else {
-        return Ok(false);
-    };
-    let (Some((_, thread)), Some(mut fields)) = (entrant_of(step), form_of(None, key)) else {
-        return Ok(false);
-    };
-    for _ in 0..step.len() {
+    step: Refused,
+    fields: &mut Fields<'_>,
+    words: &mut Words<'_>,
+    most: usize,
+) -> bool {
+    for _ in 0..most {
         let (Some(field), Some(word)) = (fields.next_field(), words.next_word()) else {
-            return Ok(false);
+            return false;
         };
         let Some(number) = address_of(word) else {
             continue;
         };
-        let told = match field.looks_up {
+        let is_told = match field.looks_up {
             LooksUp::Nothing => false,
-            LooksUp::Address => put_address(to, names, kernel, thread, number, refusal)?,
-            LooksUp::Place => {
-                let (Some(_), Some(depth)) = (fields.next_field(), words.next_word()) else {
-                    return Ok(false);
-                };
-                match address_of(depth) {
-                    Some(depth) if depth <= u8::MAX as u64 => {
-                        let place = Place {
-                            index: number,
-                            depth: depth as u8,
-                        };
-                        put_place(to, names, kernel, thread, place, refusal)?
-                    }
-                    _ => false,
-                }
-            }
+            LooksUp::Address => put_address(page, names, kernel, step, number),
+            LooksUp::Place => match place_of(number, fields, words) {
+                Some(place) => put_place(page, names, kernel, step, place),
+                None => false,
+            },
         };
-        if told {
-            return Ok(true);
+        if is_told {
+            return true;
         }
     }
-    Ok(false)
+    false
 }
 
-/// Writes who took the call for which a reply object owes.
-fn put_taker<W: Write>(
+/// Puts which address or place of a step lookup refuses so, if one.
+fn put_refused(
+    page: &mut Page,
+    names: &Names,
+    kernel: &Kernel<LinkedLines>,
+    step: &[u8],
+    refusal: Refusal,
+) -> bool {
+    let mut words = Words::new(step);
+    let (Some(_), Some(_), Some(key)) = (words.next_word(), words.next_word(), words.next_word())
+    else {
+        return false;
+    };
+    let (Some((_, thread)), Some(mut fields)) = (entrant_of(step), form_of(None, key)) else {
+        return false;
+    };
+    let refused = Refused { thread, refusal };
+    put_first_refused(
+        page,
+        names,
+        kernel,
+        refused,
+        &mut fields,
+        &mut words,
+        step.len(),
+    )
+}
+
+/// Puts who took the call for which a reply object owes.
+fn put_taker(
     alloc: Global,
-    to: &mut W,
+    page: &mut Page,
     names: &Names,
     kernel: &Kernel<LinkedLines>,
     reply: ObjId,
-) -> Result<(), LabFault> {
-    let Ok(taker) = taker_of(alloc, kernel.book(), reply) else {
-        return Err(LabFault::OutOfMemory);
-    };
-    if let Some(taker) = taker {
-        to.write_all(b" (")?;
-        names.put(to, taker)?;
-        to.write_all(b" took its call)")?;
+) {
+    match taker_of(alloc, kernel.book(), reply) {
+        Err(_) => page.cut(),
+        Ok(None) => {}
+        Ok(Some(taker)) => {
+            page.put(b" (");
+            page.object(names, taker);
+            page.put(b" took its call)");
+        }
     }
-    Ok(())
 }
 
-/// Writes why a thread does not run.
-fn put_status<W: Write>(
+/// Puts why a thread does not run.
+fn put_status(
     alloc: Global,
-    to: &mut W,
+    page: &mut Page,
     names: &Names,
     kernel: &Kernel<LinkedLines>,
     thread: ObjId,
-) -> Result<(), LabFault> {
-    names.put(to, thread)?;
+) {
+    page.object(names, thread);
     match kernel.status(thread) {
         Some(Status::Queued(queue)) => {
-            to.write_all(b" stands in ")?;
-            names.put_queue(to, queue)?;
+            page.put(b" stands in ");
+            page.queue(names, queue);
         }
         Some(Status::OnReply(reply)) => {
-            to.write_all(b" waits for the answer that ")?;
-            names.put(to, reply)?;
-            to.write_all(b" owes")?;
-            put_taker(alloc, to, names, kernel, reply)?;
+            page.put(b" waits for the answer that ");
+            page.object(names, reply);
+            page.put(b" owes");
+            put_taker(alloc, page, names, kernel, reply);
         }
-        Some(Status::Inactive) => to.write_all(b" is inactive")?,
-        Some(Status::Closed) => to.write_all(b" is closed")?,
-        Some(Status::Running | Status::Restart) | None => to.write_all(b" does not run")?,
+        Some(Status::Inactive) => page.put(b" is inactive"),
+        Some(Status::Closed) => page.put(b" is closed"),
+        Some(Status::Running | Status::Restart) | None => page.put(b" does not run"),
     }
-    Ok(())
 }
 
-/// Writes of which core the context of a thread is.
-fn put_other_core<W: Write>(
-    to: &mut W,
-    names: &Names,
-    kernel: &Kernel<LinkedLines>,
-    thread: ObjId,
-) -> Result<(), LabFault> {
-    names.put(to, thread)?;
-    to.write_all(b" holds ")?;
-    let context = kernel.context(thread);
-    names.put_maybe(to, context)?;
-    if let Some(context) = context
-        && let Some(core) = kernel.core(context)
-    {
-        let core = core.0;
-        write!(to, ", which is of core {core}")?;
+/// Puts of which core the context of a thread is.
+fn put_other_core(page: &mut Page, names: &Names, kernel: &Kernel<LinkedLines>, thread: ObjId) {
+    page.object(names, thread);
+    page.put(b" holds ");
+    let Some(context) = kernel.context(thread) else {
+        return page.put(b"-");
+    };
+    page.object(names, context);
+    if let Some(core) = kernel.core(context) {
+        page.put(b", which is of core ");
+        page.number(core.0 as u64);
     }
-    Ok(())
 }
 
-/// Writes why a thread may not enter on a core.
-fn put_reason<W: Write>(
+/// Puts why a thread may not enter on a core.
+fn put_reason(
     alloc: Global,
-    to: &mut W,
+    page: &mut Page,
     names: &Names,
     kernel: &Kernel<LinkedLines>,
     core: CoreId,
     thread: ObjId,
-) -> Result<(), LabFault> {
+) {
     match kernel.fault(core, thread) {
-        Some(EnterFault::NotRunning) => put_status(alloc, to, names, kernel, thread),
+        Some(EnterFault::NotRunning) => put_status(alloc, page, names, kernel, thread),
         Some(EnterFault::NoContext) => {
-            names.put(to, thread)?;
-            to.write_all(b" holds no scheduling context")?;
-            Ok(())
+            page.object(names, thread);
+            page.put(b" holds no scheduling context");
         }
-        Some(EnterFault::WrongCore) => put_other_core(to, names, kernel, thread),
-        _ => {
-            to.write_all(b"it may not enter")?;
-            Ok(())
-        }
+        Some(EnterFault::WrongCore) => put_other_core(page, names, kernel, thread),
+        _ => page.put(b"it may not enter"),
     }
 }
 
-/// Writes what a record means for who waits for an answer.
-fn put_record<W: Write>(to: &mut W, names: &Names, record: &Rec) -> io::Result<()> {
+/// Puts that a debt ended without an answer.
+fn put_void(page: &mut Page, names: &Names, reply: ObjId, caller: ObjId, ending: Ending) {
+    page.object(names, reply);
+    page.put(b" owed ");
+    page.object(names, caller);
+    match ending {
+        Ending::Deleted => page.put(b" an answer, which never comes: it was deleted\n"),
+        Ending::Cancelled => page.put(b" an answer, which never comes: the debt was cancelled\n"),
+    }
+}
+
+/// Puts what a record means for who waits for an answer.
+fn put_record(page: &mut Page, names: &Names, record: &Rec) {
     match record {
         Rec::Sent {
             sender,
@@ -265,29 +267,23 @@ fn put_record<W: Write>(to: &mut W, names: &Names, record: &Rec) -> io::Result<(
             mode: SendMode::Mute,
             ..
         } => {
-            to.write_all(b"nobody can answer the call of ")?;
-            names.put(to, *sender)?;
-            to.write_all(b" on ")?;
-            names.put(to, *endpoint)?;
-            to.write_all(b": its capability has neither g nor p\n")
+            page.put(b"nobody can answer the call of ");
+            page.object(names, *sender);
+            page.put(b" on ");
+            page.object(names, *endpoint);
+            page.put(b": its capability has neither g nor p\n");
         }
         Rec::Void {
             reply,
             caller,
             ending,
-        } => {
-            names.put(to, *reply)?;
-            to.write_all(b" owed ")?;
-            names.put(to, *caller)?;
-            to.write_all(match ending {
-                Ending::Deleted => b" an answer, which never comes: it was deleted\n".as_slice(),
-                Ending::Cancelled => {
-                    b" an answer, which never comes: the debt was cancelled\n".as_slice()
-                }
-            })
+        } => put_void(page, names, *reply, *caller, *ending),
+        Rec::Dropped { message } => {
+            page.put(b"m");
+            page.number(*message as u64);
+            page.put(b" was dropped: nobody receives it\n");
         }
-        Rec::Dropped { message } => { writeln!(to, "m{message} was dropped: nobody receives it") }
-        _ => Ok(()),
+        _ => {}
     }
 }
 
@@ -303,53 +299,78 @@ fn is_told(record: &Rec) -> bool {
     )
 }
 
-impl<W: Write> Explainer<W> {
-    /// Writes the line of the last step, and a colon.
-    fn put_step(&mut self) -> io::Result<()> {
+/// A script of which is told what is easily overlooked.
+#[derive(Drop)]
+struct Teller {
+    judge: Judge,
+    names: Names,
+    page: Page,
+}
+
+impl Teller {
+    /// Of a script of which nothing is read. The judge is made last, so that no fault lets it go.
+    fn new(alloc: Global) -> Result<Teller, LabFault> {
+        let page = Page::new(alloc)?;
+        let names = Names::new(alloc);
+        let judge = Judge::new(alloc)?;
+        Ok(Teller { judge, names, page })
+    }
+
+    /// Puts the line of the last step, and a colon.
+    fn put_step(&mut self) {
         let (number, step) = self.judge.step();
-        write!(self.to, "line {number}: ")?;
-        self.to.write_all(bare(step))?;
-        self.to.write_all(b": ")
+        self.page.put(b"line ");
+        self.page.number(number);
+        self.page.put(b": ");
+        self.page.put(bare(step));
+        self.page.put(b": ");
     }
 
     /// Tells why the last step was turned away.
-    fn tell_away(&mut self, alloc: Global) -> Result<(), LabFault> {
-        self.put_step()?;
-        self.to.write_all(b"turned away: ")?;
+    fn tell_away(&mut self, alloc: Global) {
+        self.put_step();
+        self.page.put(b"turned away: ");
         let (_, step) = self.judge.step();
         if let (Some(kernel), Some((core, thread))) = (self.judge.kernel(), entrant_of(step)) {
-            put_reason(alloc, &mut self.to, &self.names, kernel, core, thread)?;
+            put_reason(alloc, &mut self.page, &self.names, kernel, core, thread);
         }
-        self.to.write_all(b"\n")?;
-        Ok(())
+        self.page.put(b"\n");
     }
 
     /// Tells a fault of the script, and what may have been meant.
-    fn tell_fault(&mut self, line: &[u8], fault: LabFault) -> io::Result<()> {
-        if let LabFault::Script { line: number, why } = fault {
-            let told = why.number();
-            write!(self.to, "line {number}: fault {told}: {why}: ")?;
-            self.to.write_all(bare(line))?;
-            self.to.write_all(b"\n")?;
-            if why == LineFault::Form || why == LineFault::Number {
-                put_hints(&mut self.to, bare(line))?;
-            }
+    fn tell_fault(&mut self, alloc: Global, line: &[u8], fault: LabFault) {
+        let LabFault::Script { line: number, why } = fault else {
+            return;
+        };
+        let page = &mut self.page;
+        page.put(b"line ");
+        page.number(number);
+        page.put(b": fault ");
+        page.number(why.number() as u64);
+        page.put(b": ");
+        page.made(why.to_string(alloc));
+        page.put(b": ");
+        page.put(bare(line));
+        page.put(b"\n");
+        if why == LineFault::Form || why == LineFault::Number {
+            put_hints(page, bare(line));
         }
-        Ok(())
     }
 
     /// Tells why the last step was refused.
-    fn tell_refused(&mut self, refusal: Refusal) -> io::Result<()> {
-        let number = refusal as u8;
-        self.put_step()?;
-        write!(self.to, "refused {number}: ")?;
+    fn tell_refused(&mut self, alloc: Global, refusal: Refusal) {
+        self.put_step();
+        self.page.put(b"refused ");
+        self.page.number(refusal as u64);
+        self.page.put(b": ");
         let (_, step) = self.judge.step();
         if let Some(kernel) = self.judge.kernel()
-            && put_refused(&mut self.to, &self.names, kernel, bare(step), refusal)?
+            && put_refused(&mut self.page, &self.names, kernel, bare(step), refusal)
         {
-            self.to.write_all(b": ")?;
+            self.page.put(b": ");
         }
-        writeln!(self.to, "{refusal}")
+        self.page.made(refusal.to_string(alloc));
+        self.page.put(b"\n");
     }
 
     /// The answer and the records of the last step, where it was let in.
@@ -371,55 +392,102 @@ impl<W: Write> Explainer<W> {
         }))
     }
 
-    /// Tells of the last step, which was let in, what is easily overlooked.
-    fn tell_entered(&mut self, alloc: Global) -> Result<(), LabFault> {
-        let entered = match self.entered(alloc) {
-            Ok(Some(entered)) => entered,
-            Ok(None) => return Ok(()),
-            Err(OutOfMemory) => return Err(LabFault::OutOfMemory),
-        };
-        if let Answer::Refused(refusal) = &entered.answer {
-            self.tell_refused(*refusal)?;
-        }
-        for record in entered.records.iter() {
+    /// Tells who took a call that nobody can answer.
+    fn tell_unanswerable(&mut self, taker: ObjId, caller: ObjId) {
+        self.put_step();
+        self.page.object(&self.names, taker);
+        self.page.put(b" took the call of ");
+        self.page.object(&self.names, caller);
+        self.page.put(b", which nobody can answer: no reply object owes for it\n");
+    }
+
+    /// Tells of records what is easily overlooked.
+    fn tell_records(&mut self, records: &[Rec]) {
+        let mut tells = false;
+        for record in records {
             if is_told(record) {
-                self.put_step()?;
-                put_record(&mut self.to, &self.names, record)?;
+                self.put_step();
+                put_record(&mut self.page, &self.names, record);
+                tells = true;
             }
         }
-        if let Some((taker, caller)) = unanswerable(&entered.records)
-            && !entered.records.iter().any(is_told)
-        {
-            self.put_step()?;
-            self.names.put(&mut self.to, taker)?;
-            self.to.write_all(b" took the call of ")?;
-            self.names.put(&mut self.to, caller)?;
-            self.to.write_all(b", which nobody can answer: no reply object owes for it\n")?;
+        if !tells && let Some((taker, caller)) = unanswerable(records) {
+            self.tell_unanswerable(taker, caller);
         }
-        Ok(())
     }
-}
 
-impl<W: Write> TakesLines for Explainer<W> {
-    fn take_line(&mut self, alloc: Global, line: &[u8]) -> Result<(), LabFault> {
+    /// Tells of the last step, which was let in, what is easily overlooked.
+    fn tell_entered(&mut self, alloc: Global) {
+        match self.entered(alloc) {
+            Ok(None) => {}
+            Err(OutOfMemory) => self.page.cut(),
+            Ok(Some(entered)) => {
+                if let Answer::Refused(refusal) = &entered.answer {
+                    self.tell_refused(alloc, *refusal);
+                }
+                self.tell_records(entered.records.as_slice());
+            }
+        }
+    }
+
+    /// Takes a line of the script.
+    fn take(&mut self, alloc: Global, line: &[u8]) -> Result<(), LabFault> {
         let told = match self.judge.take(alloc, line) {
             Ok(told) => told,
             Err(fault) => {
-                self.tell_fault(line, fault)?;
+                self.tell_fault(alloc, line, fault);
                 return Err(fault);
             }
         };
         match (told, self.judge.last()) {
-            (Told::Nothing, _) => self.names.hear(alloc, self.judge.line(), line),
+            (Told::Nothing, _) => return self.names.hear(alloc, self.judge.line(), line),
             (Told::Step, Last::Away) => self.tell_away(alloc),
             (Told::Step, Last::LetIn { .. }) => self.tell_entered(alloc),
-            _ => Ok(()),
+            _ => {}
         }
+        Ok(())
+    }
+
+    /// Tells at the end what is stuck. True where nothing is.
+    fn tell_stuck(&mut self, alloc: Global) -> Result<bool, LabFault> {
+        self.judge.end(alloc)?;
+        let Some(kernel) = self.judge.kernel() else {
+            return Ok(true);
+        };
+        let waits = Waits::new(alloc, kernel)?;
+        Ok(waits.put(&mut self.page, kernel, &self.names))
+    }
+}
+
+/// A script that is explained.
+#[derive(Drop)]
+struct Explainer<W> {
+    teller: Teller,
+    to: W,
+}
+
+impl<W: Write> TakesLines for Explainer<W> {
+    fn take_line(&mut self, alloc: Global, line: &[u8]) -> Result<(), LabFault> {
+        let taken = self.teller.take(alloc, line);
+        self.teller.page.write(&mut self.to)?;
+        taken
     }
 
     fn taken(&self) -> u64 {
-        self.judge.line()
+        self.teller.judge.line()
     }
+}
+
+/// Explains a script, and what is stuck at its end. True where nothing is.
+fn explain_all<R: Read, W: Write>(
+    alloc: Global,
+    from: &mut Source<R>,
+    explainer: &mut Explainer<W>,
+) -> Result<bool, LabFault> {
+    take_lines(alloc, from, explainer)?;
+    let is_free = explainer.teller.tell_stuck(alloc)?;
+    explainer.teller.page.write(&mut explainer.to)?;
+    Ok(is_free)
 }
 
 /// Explains a script: each step that was turned away or refused, each call that nobody can answer, each debt that became void,
@@ -429,21 +497,7 @@ pub fn explain<R: Read, W: Write + Drop>(
     from: &mut Source<R>,
     to: W,
 ) -> Result<bool, LabFault> {
-    let mut explainer = Explainer {
-        judge: Judge::new(alloc)?,
-        names: Names::new(alloc),
-        to,
-    };
-    take_lines(alloc, from, &mut explainer)?;
-    let Explainer {
-        mut judge,
-        names,
-        mut to,
-    } = explainer;
-    judge.end(alloc)?;
-    let Some(kernel) = judge.kernel() else {
-        return Ok(true);
-    };
-    let waits = Waits::new(alloc, kernel)?;
-    waits.put(&mut to, kernel, &names)
+    let teller = Teller::new(alloc)?;
+    let mut explainer = Explainer { teller, to };
+    explain_all(alloc, from, &mut explainer)
 }

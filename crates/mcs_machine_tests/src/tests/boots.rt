@@ -7,18 +7,39 @@ use mcs_types::{Kind, ObjId};
 use std::alloc::Global;
 use std::test::Fail;
 
-/// A CNode, two endpoints, a notification and two reply objects.
-const FIRST_OBJECTS: &str = "\
+/// One core, a CNode, two endpoints, of which one has a badged capability to send, and two threads of priorities 10 and 20 with
+/// capabilities to each other.
+pub const ONE_CORE: &str = "\
+cores 1
 cnode 5
 endpoint
 endpoint
-notification
 reply
 reply
+context 0
+context 0
+thread 10 255 c1 59 0 run s1
+thread 20 255 c1 59 0 run s2
+slot c1 1 e1 w 9
+slot c1 2 e1 rwgp 0
+slot c1 3 e2 rwgp 0
+slot c1 8 r1
+slot c1 9 r2
+slot c1 11 t1
+slot c1 12 t2
 ";
 
-/// Five threads with a context each, and capabilities to all.
-const THREADS_AND_SLOTS: &str = "\
+/// Five threads on a core each, and an endpoint.
+pub const FIVE_CORES: &str = "\
+cores 5
+cnode 5
+endpoint
+reply
+context 0
+context 1
+context 2
+context 3
+context 4
 thread 10 255 c1 59 0 run s1
 thread 20 255 c1 59 0 run s2
 thread 10 255 c1 59 0 run s3
@@ -26,36 +47,8 @@ thread 20 255 c1 59 0 run s4
 thread 30 255 c1 59 0 run s5
 slot c1 1 e1 w 9
 slot c1 2 e1 rwgp 0
-slot c1 3 e2 rwgp 0
-slot c1 4 n1 rw 0
-slot c1 5 n1 w 1
-slot c1 6 n1 w 2
-slot c1 7 n1 w 4
 slot c1 8 r1
-slot c1 9 r2
-slot c1 11 t1
-slot c1 12 t2
-slot c1 13 t3
-slot c1 14 t4
-slot c1 15 t5
-slot c1 21 s1
-slot c1 22 s2
-slot c1 23 s3
-slot c1 24 s4
-slot c1 25 s5
 ";
-
-/// Five threads on one core.
-pub fn one_core(alloc: Global) -> Result<String, Fail> {
-    let contexts = "context 0\ncontext 0\ncontext 0\ncontext 0\ncontext 0\n";
-    Ok(format!(in alloc; "cores 1\n{FIRST_OBJECTS}{contexts}{THREADS_AND_SLOTS}")?)
-}
-
-/// The same on a core each.
-pub fn five_cores(alloc: Global) -> Result<String, Fail> {
-    let contexts = "context 0\ncontext 1\ncontext 2\ncontext 3\ncontext 4\n";
-    Ok(format!(in alloc; "cores 5\n{FIRST_OBJECTS}{contexts}{THREADS_AND_SLOTS}")?)
-}
 
 /// A thread on each of two cores, and a capability to the first.
 pub const TWO_CORES: &str = "\

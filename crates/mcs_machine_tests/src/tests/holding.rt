@@ -1,5 +1,5 @@
 //! Five cores of which one is held at a pick.
-use crate::tests::boots::{five_cores, replayed};
+use crate::tests::boots::{FIVE_CORES, replayed};
 use mcs_sim::{Gate, SimFault, Sink, Source, run_text};
 use mcs_types::{CoreId, ObjId};
 use std::alloc::AllocGlobal;
@@ -85,8 +85,7 @@ fn entries(written: &[u8]) -> usize {
 
 #[test]
 fn held_picks_settle(rt: HostRuntime) -> Result<(), Fail> {
-    let boot = five_cores(rt.alloc())?;
-    let script = format!(in rt.alloc(); "{boot}{USERS}")?;
+    let script = format!(in rt.alloc(); "{FIVE_CORES}{USERS}")?;
     for core in 0..5u8 {
         for pick in 1..5u64 {
             let written = held(&rt, script.as_bytes(), core, pick)?;

@@ -1,38 +1,24 @@
 //! Users on one core.
-use crate::tests::boots::{one_core, trace_of};
+use crate::tests::boots::{ONE_CORE, trace_of};
 use crate::tests::runs::run_users;
 use mcs_cores::Open;
 use std::test::Fail;
 
-/// The entries of threads, in an order in which each is let in, and the trace that a run of them has behind the boot.
-const COURSES: [(&str, &str); 3] = [
-    // The receiver comes first.
-    (
-        "\
-0 t1 send 1 7
-0 t5 recv 2 8
-",
-        "\
-0 t5 recv 2 8
+/// The trace of a send whose receiver comes first.
+pub const RECEIVER_FIRST: &str = "\
+0 t2 recv 2 8
 = waits
-+ joins t5 e1.recv r1
++ joins t2 e1.recv r1
 0 t1 send 1 7
 = done
 + sent m0 t1 e1 send 9 7
-+ took m0 t5
-+ parts t5 e1.recv
-+ turns t5 running
-",
-    ),
-    // A restarted thread gives its entry again.
-    (
-        "\
-0 t2 send 1 7
-0 t1 resume 12
-0 t2 nbsend 1 8
-0 t1 nbrecv 2 8
-",
-        "\
++ took m0 t2
++ parts t2 e1.recv
++ turns t2 running
+";
+
+/// The trace of a send that waits, and is given again after its thread was restarted.
+pub const GIVEN_AGAIN: &str = "\
 0 t2 send 1 7
 = waits
 + sent m0 t2 e1 send 9 7
@@ -54,7 +40,25 @@ const COURSES: [(&str, &str); 3] = [
 + turns t2 running
 0 t2 nbsend 1 8
 = done
+";
+
+/// The entries of threads, in an order in which each is let in, and the trace that a run of them has behind the boot.
+const COURSES: [(&str, &str); 3] = [
+    (
+        "\
+0 t1 send 1 7
+0 t2 recv 2 8
 ",
+        RECEIVER_FIRST,
+    ),
+    (
+        "\
+0 t2 send 1 7
+0 t1 resume 12
+0 t2 nbsend 1 8
+0 t1 nbrecv 2 8
+",
+        GIVEN_AGAIN,
     ),
     // A restarted exchange sends again.
     (
@@ -94,12 +98,11 @@ const COURSES: [(&str, &str); 3] = [
 
 #[test]
 fn users_on_one_core_are_let_in(rt: HostRuntime) -> Result<(), Fail> {
-    let boot = one_core(rt.alloc())?;
     for (steps, trace) in COURSES {
-        let script = format!(in rt.alloc(); "{boot}{steps}")?;
+        let script = format!(in rt.alloc(); "{ONE_CORE}{steps}")?;
         let ran = run_users(&rt, rt.alloc(), script.as_str(), &Open)?;
         assert!(rt; ran.away.is_empty(), "{steps}");
-        let want = format!(in rt.alloc(); "{boot}{trace}")?;
+        let want = format!(in rt.alloc(); "{ONE_CORE}{trace}")?;
         let written = trace_of(rt.alloc(), ran.settled.book())?;
         assert!(rt; written.as_slice() == want.as_bytes(), "{steps}");
     }

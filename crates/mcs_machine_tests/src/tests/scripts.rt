@@ -1,7 +1,8 @@
 //! Scripts of users.
 ghost use Rattle.std.specs.Prelude.{◌<◌, length};
 
-use crate::tests::boots::{one_core, replayed};
+use crate::tests::boots::{ONE_CORE, replayed};
+use crate::tests::running::{GIVEN_AGAIN, RECEIVER_FIRST};
 use mcs_sim::{Open, SimFault, Sink, Source, run_text, simulate};
 use mcs_text::LineFault;
 use std::alloc::AllocGlobal;
@@ -9,24 +10,6 @@ use std::io::{self, ErrorKind, Read, Write};
 use std::sync::Wait;
 use std::test::Fail;
 use std::thread::Threads;
-
-/// One core, a CNode, an endpoint with a badged capability to send, and two threads of priorities 10 and 20 with capabilities
-/// to each other.
-const BOOT: &str = "\
-cores 1
-cnode 5
-endpoint
-reply
-context 0
-context 0
-thread 10 255 c1 59 0 run s1
-thread 20 255 c1 59 0 run s2
-slot c1 1 e1 w 9
-slot c1 2 e1 rwgp 0
-slot c1 8 r1
-slot c1 11 t1
-slot c1 12 t2
-";
 
 /// What users say after the boot, and what the trace has after it.
 const RUNS: [(&str, &str); 3] = [
@@ -37,19 +20,8 @@ const RUNS: [(&str, &str); 3] = [
 user t1 send 1 7
 user t2 recv 2 8
 ",
-        "\
-0 t2 recv 2 8
-= waits
-+ joins t2 e1.recv r1
-0 t1 send 1 7
-= done
-+ sent m0 t1 e1 send 9 7
-+ took m0 t2
-+ parts t2 e1.recv
-+ turns t2 running
-",
+        RECEIVER_FIRST,
     ),
-    // An entry that waited is given again after the restart.
     (
         "\
 user t2 send 1 7
@@ -57,29 +29,7 @@ user t2 nbsend 1 8
 user t1 resume 12
 user t1 nbrecv 2 8
 ",
-        "\
-0 t2 send 1 7
-= waits
-+ sent m0 t2 e1 send 9 7
-+ joins t2 e1.send
-0 t1 resume 12
-= done
-+ dropped m0
-+ parts t2 e1.send
-+ turns t2 restart
-0 t2 send 1 7
-= waits
-+ turns t2 running
-+ sent m1 t2 e1 send 9 7
-+ joins t2 e1.send
-0 t1 nbrecv 2 8
-= got 9 7
-+ took m1 t1
-+ parts t2 e1.send
-+ turns t2 running
-0 t2 nbsend 1 8
-= done
-",
+        GIVEN_AGAIN,
     ),
 ];
 
@@ -124,8 +74,8 @@ fn run_users<R: AllocGlobal + Threads + Wait + Sync>(
 #[test]
 fn users_on_one_core_give_their_traces(rt: HostRuntime) -> Result<(), Fail> {
     for (users, trace) in RUNS {
-        let script = format!(in rt.alloc(); "{BOOT}{users}")?;
-        let want = format!(in rt.alloc(); "{BOOT}{trace}")?;
+        let script = format!(in rt.alloc(); "{ONE_CORE}{users}")?;
+        let want = format!(in rt.alloc(); "{ONE_CORE}{trace}")?;
         for cores in [None, Some(1)] {
             let (result, written) = run_users(&rt, script.as_bytes(), cores);
             assert!(rt;
@@ -221,9 +171,9 @@ const FAULTS: [(&str, LineFault); 8] = [
 #[test]
 fn faulty_lines_of_users_are_told(rt: HostRuntime) -> Result<(), Fail> {
     for (lines, why) in FAULTS {
-        let script = format!(in rt.alloc(); "{BOOT}{lines}\n")?;
+        let script = format!(in rt.alloc(); "{ONE_CORE}{lines}\n")?;
         let (result, written) = run_users(&rt, script.as_bytes(), None);
-        let line = if why == LineFault::LateBoot { 15 } else { 14 };
+        let line = if why == LineFault::LateBoot { 19 } else { 18 };
         assert!(rt; result == Err(SimFault::Script { line, why }), "{lines}");
         assert!(rt; written.is_empty(), "{lines}");
     }
@@ -236,9 +186,8 @@ fn faulty_lines_of_users_are_told(rt: HostRuntime) -> Result<(), Fail> {
 
 #[test]
 fn a_run_fills_the_book(rt: HostRuntime) -> Result<(), Fail> {
-    let boot = one_core(rt.alloc())?;
     let mut script = Vec::new(rt.alloc());
-    script.extend_from_slice(boot.as_bytes())?;
+    script.extend_from_slice(ONE_CORE.as_bytes())?;
     // one more than the book has room for
     for _ in 0..1_000_000u32 {
         script.extend_from_slice(b"user t1 recv 1 8\n")?;
@@ -251,7 +200,7 @@ fn a_run_fills_the_book(rt: HostRuntime) -> Result<(), Fail> {
 
 #[test]
 fn a_users_line_is_no_step(rt: HostRuntime) -> Result<(), Fail> {
-    let script = format!(in rt.alloc(); "{BOOT}user t1 nbsend 1 7\n")?;
+    let script = format!(in rt.alloc(); "{ONE_CORE}user t1 nbsend 1 7\n")?;
     let mut written = Vec::new(rt.alloc());
     let result = simulate(
         rt.alloc(),
@@ -259,14 +208,14 @@ fn a_users_line_is_no_step(rt: HostRuntime) -> Result<(), Fail> {
         &mut Sink::new(rt.alloc(), &mut written)?,
     );
     let why = LineFault::Form;
-    assert!(rt; result == Err(SimFault::Script { line: 14, why }));
+    assert!(rt; result == Err(SimFault::Script { line: 18, why }));
     assert!(rt; written.is_empty());
     Ok(())
 }
 
 #[test]
 fn another_number_of_cores_is_a_fault(rt: HostRuntime) -> Result<(), Fail> {
-    let script = format!(in rt.alloc(); "# users\n{BOOT}user t1 nbsend 1 7\nnonsense\n")?;
+    let script = format!(in rt.alloc(); "# users\n{ONE_CORE}user t1 nbsend 1 7\nnonsense\n")?;
     for cores in [2, 16] {
         let (result, written) = run_users(&rt, script.as_bytes(), Some(cores));
         let why = LineFault::Number;

@@ -1,7 +1,7 @@
 //! Machines whose entries are made by hand.
 ghost use Rattle.std.specs.Prelude.{◌≡◌};
 
-use crate::tests::boots::{TWO_CORES, boot_of, one_core, replay_of, thread, trace_of};
+use crate::tests::boots::{ONE_CORE, TWO_CORES, boot_of, replay_of, thread, trace_of};
 use mcs_book::Book;
 use mcs_cores::{CoreSeat, FinishFault, Machine, Settled};
 use mcs_kernel::{Boot, Kernel};
@@ -101,8 +101,7 @@ fn finished<R: Wait>(
     script: &str,
     kept: Seats,
 ) -> Result<Result<Settled<LinkedLines>, FinishFault>, Fail> {
-    let own = one_core(alloc)?;
-    let replay = replay_of(alloc, format!(in alloc; "{own}{STEPS}")?.as_str())?;
+    let replay = replay_of(alloc, format!(in alloc; "{ONE_CORE}{STEPS}")?.as_str())?;
     let other = replay_of(alloc, script)?;
     let book = replay.book().ok_or("a book")?;
     let boot = boot_of(alloc, other.book().ok_or("a book")?)?;
@@ -121,11 +120,10 @@ fn is_mail(mail: Option<&Mail>) -> bool {
 
 #[test]
 fn settles(rt: HostRuntime) -> Result<(), Fail> {
-    let own = one_core(rt.alloc())?;
-    let Ok(settled) = finished(&rt, rt.alloc(), own.as_str(), Seats::All)? else {
+    let Ok(settled) = finished(&rt, rt.alloc(), ONE_CORE, Seats::All)? else {
         return Err(Fail::from("the machine settles"));
     };
-    let want = format!(in rt.alloc(); "{own}{TRACE}")?;
+    let want = format!(in rt.alloc(); "{ONE_CORE}{TRACE}")?;
     assert!(rt; trace_of(rt.alloc(), settled.book())?.as_slice() == want.as_bytes());
     assert!(rt; is_mail(settled.kernel().mail(thread(2))));
     Ok(())
@@ -133,10 +131,9 @@ fn settles(rt: HostRuntime) -> Result<(), Fail> {
 
 #[test]
 fn others_do_not_settle(rt: HostRuntime) -> Result<(), Fail> {
-    let own = one_core(rt.alloc())?;
     let faults = [
-        (own.as_str(), Seats::NotOne, FinishFault::MissingSeat),
-        (own.as_str(), Seats::NeverGiven, FinishFault::MissingSeat),
+        (ONE_CORE, Seats::NotOne, FinishFault::MissingSeat),
+        (ONE_CORE, Seats::NeverGiven, FinishFault::MissingSeat),
         (TWO_CORES, Seats::NotOne, FinishFault::MissingSeat),
         (TWO_CORES, Seats::All, FinishFault::OtherBoot),
     ];

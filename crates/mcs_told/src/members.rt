@@ -1,0 +1,157 @@
+//! The words of a line as the members of an object of JSON, in the order of their names.
+use crate::forms::Fields;
+use crate::numbers::address_of;
+use crate::page::Page;
+use mcs_text::Words;
+use std::alloc::Global;
+
+/// A member: its name, and the words of its value.
+#[derive(Clone, Copy)]
+pub struct Member<'a> {
+    pub name: &'static [u8],
+    pub value: &'a [u8],
+    /// Whether each word of its value is an item of a list.
+    pub is_list: bool,
+}
+
+/// Whether a name stands before another.
+fn is_before(name: &[u8], other: &[u8]) -> bool {
+    for i in 0..name.len().min(other.len()) {
+        if name[i] != other[i] {
+            return name[i] < other[i];
+        }
+    }
+    name.len() < other.len()
+}
+
+/// The member whose name comes next behind a name.
+fn next_behind<'a>(members: &[Member<'a>], name: &[u8]) -> Option<Member<'a>> {
+    let mut next: Option<Member<'a>> = None;
+    for member in members {
+        if !is_before(name, member.name) {
+            continue;
+        }
+        next = match next {
+            Some(found) if !is_before(member.name, found.name) => Some(found),
+            _ => Some(*member),
+        };
+    }
+    next
+}
+
+/// Puts a word, or words that are one: a number, `null` for a dash, or a text.
+pub fn put_value(page: &mut Page, text: &[u8]) {
+    if text == b"-".as_slice() {
+        page.put(b"null");
+    } else if address_of(text).is_some() {
+        page.put(text);
+    } else {
+        page.quoted(text);
+    }
+}
+
+/// Puts words as a list.
+fn put_list(page: &mut Page, text: &[u8]) {
+    page.put(b"[");
+    let mut words = Words::new(text);
+    for i in 0..=text.len() {
+        let Some(word) = words.next_word() else {
+            break;
+        };
+        page.between(i == 0);
+        put_value(page, word);
+    }
+    page.put(b"]");
+}
+
+/// Puts a member, behind others or as the first.
+fn put_member(page: &mut Page, member: Member<'_>, is_first: bool) {
+    page.between(is_first);
+    page.quoted(member.name);
+    page.put(b":");
+    if member.is_list {
+        put_list(page, member.value);
+    } else {
+        put_value(page, member.value);
+    }
+}
+
+/// Puts an object of these members.
+pub fn put_members(page: &mut Page, members: &[Member<'_>]) {
+    page.put(b"{");
+    let mut before = b"".as_slice();
+    for i in 0..members.len() {
+        let Some(member) = next_behind(members, before) else {
+            break;
+        };
+        put_member(page, member, i == 0);
+        before = member.name;
+    }
+    page.put(b"}");
+}
+
+/// The words of a text as members under the names of a form, and those that have none under `more`. None where memory is refused.
+pub fn members_of<'a>(
+    alloc: Global,
+    kind: Option<Member<'a>>,
+    fields: &mut Fields<'static>,
+    text: Option<&'a [u8]>,
+) -> Option<Vec<Member<'a>>> {
+    let mut members = Vec::new(alloc);
+    if let Some(kind) = kind
+        && members.push(kind).is_err()
+    {
+        return None;
+    }
+    let Some(text) = text else {
+        return Some(members);
+    };
+    let mut rest = text;
+    // each turn but the last takes a word
+    for _ in 0..=text.len() {
+        let (member, behind) = member_of(fields, rest);
+        if members.push(member).is_err() {
+            return None;
+        }
+        match behind {
+            Some(behind) => rest = behind,
+            None => break,
+        }
+    }
+    Some(members)
+}
+
+/// The word with which a text begins, and what stands behind the space behind it.
+pub fn split_word(text: &[u8]) -> (&[u8], Option<&[u8]>) {
+    for (i, byte) in text.iter().enumerate() {
+        if *byte == b' '
+            && let Some((word, [_, behind @ ..])) = text.split_at_checked(i)
+        {
+            return (word, Some(behind));
+        }
+    }
+    (text, None)
+}
+
+/// The member with which a text begins, and what stands behind it.
+fn member_of<'a>(fields: &mut Fields<'static>, text: &'a [u8]) -> (Member<'a>, Option<&'a [u8]>) {
+    let Some(field) = fields.next_field() else {
+        let more = Member {
+            name: b"more".as_slice(),
+            value: text,
+            is_list: true,
+        };
+        return (more, None);
+    };
+    let (value, behind) = if field.is_last {
+        (text, None)
+    } else {
+        split_word(text)
+    };
+    let member = Member {
+        name: field.name,
+        value,
+        is_list: field.is_last && field.name == b"words".as_slice(),
+    };
+    (member, behind)
+}
