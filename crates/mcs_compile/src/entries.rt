@@ -1,0 +1,160 @@
+//! The entry that a line of a plan spells, as a script spells it.
+use crate::fields::{Field, fields_of};
+use mcs_laying::Laid;
+use mcs_names::{Why, Words, add_word, not, number};
+use mcs_plans::rights_of;
+use mcs_types::{LABEL_BITS, MESSAGE_WORDS, ObjId, Place, Rights};
+use std::alloc::{AllocError, Global};
+
+/// The greatest number of 52 bits.
+const LABEL: u64 = (1 << LABEL_BITS) - 1;
+
+/// A thread, which names what it has.
+#[derive(Drop)]
+pub struct Speaker<'a> {
+    pub laid: &'a Laid,
+    pub thread: ObjId,
+}
+
+/// A number behind what stands.
+pub fn add_number(alloc: Global, to: &mut String, n: u64) -> Result<(), AllocError> {
+    let digits = format!(in alloc; "{n}")?;
+    add_word(to, digits.as_str())
+}
+
+/// The text of rights: `-`, or letters of `rwgp` in this order.
+fn add_rights(to: &mut String, rights: Rights) -> Result<(), AllocError> {
+    let bits = rights.bits();
+    if bits == 0 {
+        return add_word(to, "-");
+    }
+    to.push_str(" ")?;
+    to.push_str(if bits & 2 == 0 { "" } else { "r" })?;
+    to.push_str(if bits & 1 == 0 { "" } else { "w" })?;
+    to.push_str(if bits & 4 == 0 { "" } else { "g" })?;
+    to.push_str(if bits & 8 == 0 { "" } else { "p" })
+}
+
+/// Rights.
+fn read_rights(alloc: Global, to: &mut String, words: &mut Words<'_>) -> Result<(), Why> {
+    let wanted = "rights, some of rwgp, or -";
+    let word = words.need(wanted)?;
+    match rights_of(word) {
+        Some(rights) => Ok(add_rights(to, rights)?),
+        None => Err(not(alloc, word, wanted)),
+    }
+}
+
+/// The kind of what is made.
+fn read_kind(alloc: Global, to: &mut String, words: &mut Words<'_>) -> Result<(), Why> {
+    let wanted = "endpoint, notification, reply or context";
+    let word = words.need(wanted)?;
+    match word {
+        "endpoint" | "notification" | "reply" | "context" => Ok(add_word(to, word)?),
+        _ => Err(not(alloc, word, wanted)),
+    }
+}
+
+/// A number up to a limit.
+fn read_number(
+    alloc: Global,
+    to: &mut String,
+    words: &mut Words<'_>,
+    wanted: &'static str,
+    limit: u64,
+) -> Result<(), Why> {
+    let n = words.number(alloc, wanted, limit)?;
+    Ok(add_number(alloc, to, n)?)
+}
+
+/// A label and words, as far as the line goes.
+fn read_message(alloc: Global, to: &mut String, words: &mut Words<'_>) -> Result<(), Why> {
+    read_number(alloc, to, words, "a label, a number of 52 bits", LABEL)?;
+    if words.len() > MESSAGE_WORDS {
+        return Err(Why::Limit {
+            what: "words of a message",
+            limit: MESSAGE_WORDS as u32,
+        });
+    }
+    for _ in 0..words.len() {
+        read_number(alloc, to, words, "a word of 64 bits", u64::MAX)?;
+    }
+    Ok(())
+}
+
+impl<'a> Speaker<'a> {
+    /// An address: a name, or a number.
+    fn address(&self, alloc: Global, word: &str) -> Result<u64, Why> {
+        if let Some(n) = number(word) {
+            return Ok(n);
+        }
+        let named = self.laid.named(alloc, self.thread, word)?;
+        Ok(named.address)
+    }
+
+    /// A place: a name, or an index and a depth.
+    fn place(&self, alloc: Global, words: &mut Words<'_>) -> Result<Place, Why> {
+        let word = words.need("a slot")?;
+        if let Some(index) = number(word) {
+            let depth = words.number(alloc, "a depth, 0 to 255", 255)?;
+            let depth = depth.min(255) as u8;
+            return Ok(Place { index, depth });
+        }
+        let named = self.laid.named(alloc, self.thread, word)?;
+        Ok(named.place)
+    }
+
+    /// An address, as a number.
+    fn read_address(
+        &self,
+        alloc: Global,
+        to: &mut String,
+        words: &mut Words<'_>,
+    ) -> Result<(), Why> {
+        let word = words.need("a capability")?;
+        let address = self.address(alloc, word)?;
+        Ok(add_number(alloc, to, address)?)
+    }
+
+    /// A place, as two numbers.
+    fn read_place(&self, alloc: Global, to: &mut String, words: &mut Words<'_>) -> Result<(), Why> {
+        let place = self.place(alloc, words)?;
+        add_number(alloc, to, place.index)?;
+        Ok(add_number(alloc, to, place.depth as u64)?)
+    }
+
+    /// A field.
+    fn read_field(
+        &self,
+        alloc: Global,
+        to: &mut String,
+        words: &mut Words<'_>,
+        field: Field,
+    ) -> Result<(), Why> {
+        match field {
+            Field::Address => self.read_address(alloc, to, words),
+            Field::Place => self.read_place(alloc, to, words),
+            Field::Priority => read_number(alloc, to, words, "a priority, 0 to 255", 255),
+            Field::Rights => read_rights(alloc, to, words),
+            Field::Badge => read_number(alloc, to, words, "a badge of 64 bits", u64::MAX),
+            Field::Kind => read_kind(alloc, to, words),
+            Field::Message => read_message(alloc, to, words),
+            Field::End => Ok(()),
+        }
+    }
+
+    /// Writes the entry that words spell, behind which no word may be left.
+    pub fn read(&self, alloc: Global, to: &mut String, words: &mut Words<'_>) -> Result<(), Why> {
+        let key = words.need("an entry")?;
+        let Some(fields) = fields_of(key) else {
+            return Err(not(alloc, key, "an entry"));
+        };
+        let [first, second, third, fourth] = fields;
+        add_word(to, key)?;
+        self.read_field(alloc, to, words, first)?;
+        self.read_field(alloc, to, words, second)?;
+        self.read_field(alloc, to, words, third)?;
+        self.read_field(alloc, to, words, fourth)?;
+        words.end(alloc)
+    }
+}

@@ -1,0 +1,25 @@
+//! From a plan to a script, line by line.
+//!
+//! ```text
+//! lines before the first step ── mcs_plans ──> Plan ── mcs_laying ──> Laid: the boot, and what each thread names
+//! lines of steps and of users ── steps, entries ──> the same lines, with addresses in the place of names
+//! lines that begin with `?`   ── wanting ──> what `mcslab check` reads
+//! all of these are a Script   ── writing ──> the text; mapping ──> the table of names and addresses
+//! ```
+#![tactic(auto)]
+
+mod compiling;
+mod entries;
+mod fields;
+mod mapping;
+mod script;
+mod steps;
+#[cfg(test)]
+mod tests;
+mod wanting;
+mod writing;
+
+pub use compiling::compile;
+pub use mapping::write_map;
+pub use script::Script;
+pub use writing::{write_boot, write_lines, write_script};

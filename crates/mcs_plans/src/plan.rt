@@ -1,0 +1,189 @@
+//! What a plan says before its first step.
+use indexmap::IndexMap;
+use mcs_names::{Names, Why, add_word, limit_of, plural};
+use mcs_types::{Cap, CoreId, Kind, ObjId, Prio};
+use std::alloc::{AllocError, Global};
+
+/// A slot of a space: a capability, or none; and how the plan wrote it.
+#[derive(Drop)]
+pub struct Slot {
+    pub cap: Option<Cap>,
+    pub written: String,
+}
+
+/// A capability space: its slots by their names, from index 1 on. Slot 0 stays empty.
+#[derive(Drop)]
+pub struct Space {
+    /// The radix of its CNode, where the plan says one.
+    pub radix: Option<u8>,
+    pub slots: IndexMap<String, Slot>,
+}
+
+/// A thread. Its number is its place in the list, from 1.
+#[derive(Drop)]
+pub struct Thread {
+    pub priority: Prio,
+    pub maximum: Prio,
+    /// The place of its space in the list of spaces.
+    pub space: usize,
+    pub runs: bool,
+    pub context: Option<ObjId>,
+    /// The core of its steps.
+    pub core: CoreId,
+}
+
+/// A thread that receives before the first step, and whose context is then taken away.
+#[derive(Drop)]
+pub struct Passive {
+    /// The line that says so.
+    pub line: u64,
+    pub thread: ObjId,
+    /// The names of two capabilities in its space.
+    pub endpoint: String,
+    pub reply: String,
+}
+
+/// A notification that is bound to a thread.
+#[derive(Clone, Copy)]
+pub struct Tie {
+    pub thread: ObjId,
+    pub notification: ObjId,
+}
+
+/// What a plan says before its first step. An object's serial is counted in the order of the lines.
+#[derive(Drop)]
+pub struct Plan {
+    /// The number of cores, where the plan says one.
+    pub cores: Option<u8>,
+    pub names: Names,
+    /// The core of each context.
+    pub contexts: Vec<CoreId>,
+    pub threads: Vec<Thread>,
+    /// The spaces, each a CNode.
+    pub spaces: Vec<Space>,
+    pub passives: Vec<Passive>,
+    pub ties: Vec<Tie>,
+}
+
+/// The thread that takes away the contexts of passive threads.
+pub const STARTER: &str = "starter";
+
+impl Space {
+    /// No slots.
+    pub fn new(alloc: Global, radix: Option<u8>) -> Space {
+        Space {
+            radix,
+            slots: IndexMap::new(alloc),
+        }
+    }
+
+    /// How many slots it has, with slot 0, up to 65,536.
+    pub fn slots(&self) -> u32 {
+        self.slots.len().min(65_535) as u32 + 1
+    }
+
+    /// How many CNodes it takes beside its root: none where that has all slots.
+    pub fn leaves(&self) -> u32 {
+        let slots = self.slots();
+        if self.radix.is_some() || slots <= 256 {
+            return 0;
+        }
+        (slots - 1) / 256 + 1
+    }
+
+    /// All its slots, as the plan wrote them.
+    pub fn listed(&self, alloc: Global) -> Result<String, AllocError> {
+        let mut there = String::new(alloc);
+        for slot in self.slots.values() {
+            add_word(&mut there, slot.written.as_str())?;
+        }
+        Ok(there)
+    }
+
+    /// NoCapability: it has no slot of this name.
+    pub fn no_capability(
+        &self,
+        alloc: Global,
+        holder: &str,
+        word: &str,
+    ) -> Result<Why, AllocError> {
+        Ok(Why::NoCapability {
+            holder: String::from_str(alloc, holder)?,
+            word: String::from_str(alloc, word)?,
+            there: self.listed(alloc)?,
+        })
+    }
+}
+
+impl Plan {
+    /// An empty plan.
+    pub fn new(alloc: Global) -> Plan {
+        Plan {
+            cores: None,
+            names: Names::new(alloc),
+            contexts: Vec::new(alloc),
+            threads: Vec::new(alloc),
+            spaces: Vec::new(alloc),
+            passives: Vec::new(alloc),
+            ties: Vec::new(alloc),
+        }
+    }
+
+    /// How many objects of a kind the script makes: those of the plan, the thread that makes others
+    /// passive with its context and its space, and the CNodes of larger spaces.
+    pub fn made(&self, kind: Kind) -> u32 {
+        let mut count = self.names.count(kind);
+        if !self.passives.is_empty() && is_of_thread(kind) {
+            count = count.saturating_add(1);
+        }
+        if kind == Kind::CNode {
+            for space in &self.spaces {
+                count = count.saturating_add(space.leaves());
+            }
+        }
+        count
+    }
+
+    /// Limit where the script would make more objects of a kind than there may be.
+    pub fn keeps_limit(&self, kind: Kind) -> Result<(), Why> {
+        let limit = limit_of(kind);
+        if self.made(kind) <= limit {
+            return Ok(());
+        }
+        Err(Why::Limit {
+            what: plural(kind),
+            limit,
+        })
+    }
+
+    /// The space of a thread.
+    pub fn space_of(&self, thread: ObjId) -> usize {
+        match self.thread(thread) {
+            Some(thread) => thread.space,
+            None => 0,
+        }
+    }
+
+    /// A thread.
+    pub fn thread(&self, thread: ObjId) -> Option<&Thread> {
+        self.threads.get(thread.place(Kind::Thread)?)
+    }
+
+    /// The context that a thread has at the boot.
+    pub fn context_of(&self, thread: ObjId) -> Option<ObjId> {
+        self.thread(thread)?.context
+    }
+
+    /// The core of a thread's steps.
+    pub fn core_of(&self, thread: ObjId) -> CoreId {
+        match self.thread(thread) {
+            Some(thread) => thread.core,
+            None => CoreId(0),
+        }
+    }
+}
+
+/// Whether each thread has one of this kind.
+fn is_of_thread(kind: Kind) -> bool {
+    matches!(kind, Kind::Thread | Kind::Context | Kind::CNode)
+}

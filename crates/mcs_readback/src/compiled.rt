@@ -1,0 +1,95 @@
+//! The script of a plan, which was read back.
+ghost use Rattle.std.specs.Prelude.{IfOk, OnOk};
+ghost use Rattle.mcs_readback.specs.Reading.{IsVouched};
+
+use crate::fault::CompileFault;
+use crate::leading::astray;
+use crate::reading::{booted, take_script};
+use mcs_compile::{Script, compile, write_boot, write_lines, write_script};
+use mcs_laying::Named;
+use mcs_text::read_user;
+use mcs_types::{OutOfMemory, Room};
+use std::alloc::Global;
+
+/// How many threads there may be.
+const THREADS: usize = 256;
+
+/// The script of a plan, and its text.
+#[derive(Drop)]
+pub struct Compiled {
+    pub script: Script,
+    /// What of the text was read back: all of it, or its boot where users' lines follow.
+    pub read: Vec<u8>,
+    /// The users' lines; none where the script is one of steps.
+    pub users: Vec<u8>,
+}
+
+/// Reads a text as a script, and tries each name behind its boot.
+fn vouch(alloc: Global, text: &[u8], tables: &Vec<Vec<Named>>) -> Result<(), CompileFault>
+    ensures { OnOk result (IsVouched text.now tables.now.items) }
+{
+    if tables.len() > THREADS {
+        return Err(CompileFault::OutOfMemory);
+    }
+    let run = take_script(alloc, text)?;
+    let Some(book) = run.book() else {
+        return Err(CompileFault::OutOfMemory);
+    };
+    let kernel = booted(alloc, book)?;
+    match astray(&kernel, tables) {
+        None => Ok(()),
+        Some(named) => Err(CompileFault::Astray(named.name.clone()?)),
+    }
+}
+
+/// Whether a line behind the boot is skipped, or one of a user.
+fn is_user(alloc: Global, threads: u32, line: &[u8]) -> Result<bool, OutOfMemory> {
+    if matches!(line, [] | [b'#', ..]) {
+        return Ok(true);
+    }
+    let mut room = Some(Room::new(alloc)?);
+    Ok(read_user(alloc, threads, line, &mut room).is_ok())
+}
+
+/// Reads the lines behind a boot as those of users.
+fn vouch_users(alloc: Global, threads: u32, lines: &[String]) -> Result<(), CompileFault> {
+    for line in lines {
+        if !is_user(alloc, threads, line.as_bytes())? {
+            return Err(CompileFault::User(line.clone()?));
+        }
+    }
+    Ok(())
+}
+
+/// The script of a plan, with what of its text was read back.
+fn read_back(alloc: Global, script: Script) -> Result<Compiled, CompileFault>
+    ensures { IfOk result (λ c. IsVouched c.read.items c.script.laid.tables.items) }
+{
+    let (read, users) = if script.is_users {
+        (write_boot(alloc, &script)?, write_lines(alloc, &script)?)
+    } else {
+        (write_script(alloc, &script)?, Vec::new(alloc))
+    };
+    vouch(alloc, &read, &script.laid.tables)?;
+    Ok(Compiled {
+        script,
+        read,
+        users,
+    })
+}
+
+/// The script of a plan (own), which was read back: what was read of its text is a script of steps
+/// without a fault, and behind its boot each name of each thread leads to what its slot holds. Of a
+/// plan of users that is the boot, and each line behind it was read as that of a user. Fault Plan
+/// tells the first line of the plan that is refused; Script, Boot, Astray and User come only where this
+/// program is wrong.
+pub fn compile_text(alloc: Global, plan: &[u8]) -> Result<Compiled, CompileFault>
+    ensures { IfOk result (λ c. IsVouched c.read.items c.script.laid.tables.items) }
+{
+    let script = compile(alloc, plan)?;
+    if script.is_users {
+        let threads = script.laid.tables.len().min(THREADS) as u32;
+        vouch_users(alloc, threads, &script.lines)?;
+    }
+    read_back(alloc, script)
+}
