@@ -1,8 +1,9 @@
 -- Runs of users: each turn enters what a core picks, or what it picked since its last line and whose user has not moved (own).
-use Rattle.std.specs.Prelude.{ℕ, zero, suc, ◌≡◌, ◌<◌, ◌⊎◌, true, map, length, List, [], ◌∷◌, Option, Some, None, slice_get}
+use Rattle.std.specs.Prelude.{ℕ, zero, suc, ◌≡◌, ◌<◌, ◌+◌, ◌⊎◌, true, cond, nat_lt, map, length, List, [], ◌∷◌, Option, Some, None, slice_get}
 use Rattle.std.specs.List.{Contains}
 use Rattle.mcs_types.specs.declared.id.ObjId.{ObjId}
 use Rattle.mcs_types.specs.declared.id.CoreId.{CoreId}
+use Rattle.mcs_types.specs.declared.entry.Answer.{Answer}
 use Rattle.mcs_types.specs.declared.entry.Entry.{Entry}
 use Rattle.mcs_types.specs.declared.entry.Step.{Step}
 use Rattle.mcs_types.specs.Ranges.{InRange}
@@ -17,10 +18,12 @@ use Rattle.mcs_turns.specs.declared.position.Position.{Position}
 use Rattle.mcs_turns.specs.declared.position.Pick.{Pick}
 use Rattle.mcs_turns.specs.Due.{due_by, begun, moved_past, stale_after, none_stale}
 
--- a thread, and its entries in the order in which it gives them
+-- a thread, its entries in the order in which it gives them, and the number of the entry with which it goes on after the last;
+-- none where the last is its last
 pub record User : Type 0 where
   pub thread : ObjId
   pub entries : List Entry
+  pub again : Option ℕ
 
 -- how far a run is: its book, the position of each user, and the stale picks of each core
 pub record Going : Type 0 where
@@ -73,11 +76,20 @@ put_at (suc i) x (y ∷ ys) = y ∷ put_at i x ys
 abbrev pub outcome : Book → Step → Outcome
 outcome b s = does (log_of b) s.core s.thread s.entry
 
+-- the number of the entry behind one that is not the last: the next, and behind the last that with which the user goes on
+abbrev pub again_by : Option ℕ → ℕ → ℕ → ℕ
+again_by None entries next = next
+again_by (Some first) entries next = cond (nat_lt next entries) next first
+
+-- the position of a user behind an entry that was let in with an answer
+abbrev pub behind : User → ℕ → Answer → Position
+behind u number a = record (moved_past number a) { next = again_by u.again (length u.entries) (number + 1) }
+
 -- how far a run is after an entry of a user on a core, where the cores had these picks
-abbrev pub entered : List (Option Pick) → Step → Pick → Going → Going
-entered picks s k g = record {
+abbrev pub entered : List (Option Pick) → User → Step → Pick → Going → Going
+entered picks u s k g = record {
   book = record g.book { lines = line_for s (outcome g.book s) ∷ g.book.lines };
-  places = put_at k.user (moved_past k.number (outcome g.book s).answer) g.places;
+  places = put_at k.user (behind u k.number (outcome g.book s).answer) g.places;
   stale = stale_after s.core.0 k.user 0 picks g.stale;
 }
 
@@ -91,7 +103,7 @@ pub record IsTurn (users : List User) (core : CoreId) (k : Pick) (g h : Going) :
   pub are_picks : ArePicks users g picks
   pub picked : (slice_get picks core.0 ≡ Some (Some k)) ⊎ IsStale g core k
   pub enters : may_enter (log_of g.book) core user.thread ≡ true
-  pub after : h ≡ entered picks (record { core = core; thread = user.thread; entry = entry }) k g
+  pub after : h ≡ entered picks user (record { core = core; thread = user.thread; entry = entry }) k g
 
 -- the beginning of a run
 abbrev pub beginning : List User → Boot → Going

@@ -1,0 +1,130 @@
+//! Goes through all orders of each script of users in `data/`, writes what is told of it, and replays the scripts that show it.
+#![tactic(auto)]
+
+use mcs_lab::LabFault;
+use mcs_sim::{ReplayRun, Source};
+use mcs_ways::{Explored, Saves, Wanted, explore_script};
+use std::alloc::Global;
+use std::fs;
+use std::io::{self, BufWriter, Write};
+use std::process::ExitCode;
+
+/// The scripts.
+const SCRIPTS: [&str; 7] = [
+    "late-pick.mcs",
+    "suspended-calls.mcs",
+    "lost-signal.mcs",
+    "mutex.mcs",
+    "no-mutex.mcs",
+    "dining.mcs",
+    "dining-mended.mcs",
+];
+
+/// How many scripts were kept, of how many each step is let in, and how many steps they have in all.
+#[derive(Drop)]
+struct Replayed {
+    count: u64,
+    whole: u64,
+    steps: usize,
+}
+
+/// How many steps a script has: lines that begin with a digit.
+fn count_steps(text: &[u8]) -> usize {
+    let mut count: usize = 0;
+    let mut is_first = true;
+    for byte in text {
+        if is_first && byte.is_ascii_digit() {
+            count = count.saturating_add(1);
+        }
+        is_first = *byte == b'\n';
+    }
+    count
+}
+
+/// Whether a replay of a script lets in each of its steps.
+fn is_whole(alloc: Global, text: &[u8]) -> bool {
+    let Ok(mut run) = ReplayRun::new(alloc) else {
+        return false;
+    };
+    if run.feed(alloc, text).is_err() || run.end(alloc).is_err() {
+        return false;
+    }
+    match run.book() {
+        Some(book) => book.lines() == count_steps(text).saturating_add(1),
+        None => false,
+    }
+}
+
+impl Saves for Replayed {
+    fn save(&mut self, alloc: Global, _name: &str, text: &[u8]) -> Result<(), LabFault> {
+        self.count = self.count.saturating_add(1);
+        self.steps = self.steps.saturating_add(count_steps(text));
+        if is_whole(alloc, text) {
+            self.whole = self.whole.saturating_add(1);
+        }
+        Ok(())
+    }
+}
+
+/// The word for what came of a search.
+fn word_of(explored: Explored) -> &'static str {
+    match explored {
+        Explored::Holds => "holds",
+        Explored::Fails => "fails",
+        Explored::Stopped => "stopped",
+    }
+}
+
+/// Explores the script of a file.
+fn explore_file<W: Write + Drop>(rt: &HostRuntime, to: &mut W, path: &str) -> Result<(), LabFault> {
+    writeln!(to, "# {path}")?;
+    let Ok(file) = fs::open(rt, path) else {
+        return Err(LabFault::Read);
+    };
+    let mut replayed = Replayed {
+        count: 0,
+        whole: 0,
+        steps: 0,
+    };
+    let wanted = Wanted {
+        states: 10_000,
+        depth: 1_000,
+        is_exact: false,
+    };
+    let explored = explore_script(
+        rt.alloc(),
+        &mut Source::new(file),
+        &mut *to,
+        wanted,
+        &mut replayed,
+    )?;
+    let word = word_of(explored);
+    let count = replayed.count;
+    let whole = replayed.whole;
+    let steps = replayed.steps;
+    writeln!(
+        to,
+        "{word}; {whole} of {count} scripts of {steps} steps replayed whole"
+    )?;
+    Ok(())
+}
+
+/// Explores all scripts.
+fn explore_all(rt: &HostRuntime) -> Result<(), LabFault> {
+    let mut to = BufWriter::new(rt.alloc(), io::writer(rt))?;
+    for path in SCRIPTS {
+        explore_file(rt, &mut to, path)?;
+    }
+    to.flush()?;
+    Ok(())
+}
+
+fn main(rt: HostRuntime) -> ExitCode {
+    match explore_all(&rt) {
+        Ok(()) => ExitCode::SUCCESS,
+        Err(fault) => {
+            let _ = rt.eprintln(fault);
+            ExitCode::from(fault.status())
+        }
+    }
+}

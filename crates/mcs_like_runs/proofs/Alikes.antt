@@ -1,0 +1,158 @@
+-- Turns respect the likeness of runs.
+use Rattle.std.specs.Prelude.{ℕ, suc, ◌≡◌, ◌≤◌, ◌<◌, ◌⊎◌, true, length, List, ◌∷◌, Option, Some, None, slice_get}
+use Rattle.std.proofs.Common.{refl, ap, sym, ◌∙◌, subst, inl, inr}
+use Rattle.mcs_types.specs.declared.id.ObjId.{ObjId}
+use Rattle.mcs_types.specs.declared.id.CoreId.{CoreId}
+use Rattle.mcs_types.specs.declared.entry.Step.{Step}
+use Rattle.mcs_book.specs.Boots.{Boot, IsFaultless}
+use Rattle.mcs_book.specs.History.{IsLegal, log_of, line_for}
+use Rattle.mcs_book.specs.Logs.{Log}
+use Rattle.mcs_book.specs.Pieces.{Outcome}
+use Rattle.mcs_book.specs.Picking.{GoesBefore}
+use Rattle.mcs_book.specs.Statuses.{may_enter}
+use Rattle.mcs_book.specs.Threads.{prio_of}
+use Rattle.mcs_book.proofs.SoundLogs.SoundBooks.{legal-sound}
+use Rattle.mcs_state.proofs.Picking.{entrant-there}
+use Rattle.mcs_turns.specs.declared.position.Position.{Position}
+use Rattle.mcs_turns.specs.declared.position.Pick.{Pick}
+use Rattle.mcs_turns.specs.Due.{due_by, stale_after}
+use Rattle.mcs_turns.specs.Turns.{User, Going, CanGive, IsBest, IsPickOf, ArePicks, IsStale, IsTurn, Follows, IsOver, AreInRange, outcome, behind, entered, put_at}
+use Rattle.mcs_turns.proofs.RunLaws.{run-legal, run-long}
+use Rattle.mcs_alike.specs.Alike.{Alike}
+use Rattle.mcs_alike.proofs.Asking.{status-same}
+use Rattle.mcs_alike.proofs.Picking.{may_enter-same}
+use Rattle.mcs_alike.proofs.Entries.{entry-same}
+use Rattle.mcs_alike.proofs.Books.{line-alike}
+use Rattle.mcs_alike.proofs.Going.{alike-on}
+use Rattle.mcs_explore.specs.Closure.{IsLikeness}
+use Rattle.mcs_like_runs.specs.Runs.{IsReached, AreAlike}
+
+module _ (users : List User) (boot : Boot) (g h : Going) (a : AreAlike users boot g h) where
+  R : Log
+  R = log_of g.book
+
+  can-there : (core : CoreId) (i : ℕ) (u : User) (p : Position) → CanGive users g core i u p → CanGive users h core i u p
+  can-there core i u p c = record {
+    user = c.user;
+    place = subst (λ ps. slice_get ps i ≡ Some p) a.places c.place;
+    left = subst (λ s. due_by s p < length u.entries) (status-same (log_of g.book) (log_of h.book) a.logs u.thread) c.left;
+    enters = sym (may_enter-same (log_of g.book) (log_of h.book) a.logs core u.thread) ∙ c.enters;
+  }
+
+  can-back : (core : CoreId) (i : ℕ) (u : User) (p : Position) → CanGive users h core i u p → CanGive users g core i u p
+  can-back core i u p c = record {
+    user = c.user;
+    place = subst (λ ps. slice_get ps i ≡ Some p) (sym a.places) c.place;
+    left = subst (λ s. due_by s p < length u.entries) (sym (status-same (log_of g.book) (log_of h.book) a.logs u.thread)) c.left;
+    enters = may_enter-same (log_of g.book) (log_of h.book) a.logs core u.thread ∙ c.enters;
+  }
+
+  rank : (core : CoreId) (t : ObjId) → may_enter (log_of g.book) core t ≡ true → prio_of (log_of g.book) t ≡ prio_of (log_of h.book) t
+  rank core t e = a.logs.prios t (entrant-there (log_of g.book) core t e)
+
+  before-there : (core : CoreId) (t u : ObjId) → may_enter (log_of g.book) core t ≡ true → may_enter (log_of g.book) core u ≡ true → GoesBefore (log_of g.book) t u → GoesBefore (log_of h.book) t u
+  before-there core t u e f b = record {
+    priority = subst (λ n. n ≤ prio_of (log_of h.book) t) (rank core u f) (subst (λ n. prio_of (log_of g.book) u ≤ n) (rank core t e) b.priority);
+    serial = λ same. b.serial (rank core u f ∙ same ∙ sym (rank core t e));
+  }
+
+  best-there : (core : CoreId) (k : Pick) → IsBest users g core k → IsBest users h core k
+  best-there core k b = record {
+    user = b.user;
+    place = b.place;
+    can = can-there core k.user b.user b.place b.can;
+    number = b.number ∙ ap (λ s. due_by s b.place) (status-same (log_of g.book) (log_of h.book) a.logs b.user.thread);
+    best = λ i v q c.
+        let d : CanGive users g core i v q = can-back core i v q c in
+        before-there core b.user.thread v.thread b.can.enters d.enters (b.best i v q d);
+  }
+
+  pub pick-there : (core : CoreId) (k : Option Pick) → IsPickOf users g core k → IsPickOf users h core k
+  pick-there core None none = λ i u p c. none i u p (can-back core i u p c)
+  pick-there core (Some k) best = best-there core k best
+
+  cores : g.book.boot.cores ≡ h.book.boot.cores
+  cores = ap (λ (b : Boot). b.cores) ((run-long users boot a.left.turns g a.left.run).kept ∙ sym (run-long users boot a.right.turns h a.right.run).kept)
+
+  pub picks-there : (picks : List (Option Pick)) → ArePicks users g picks → ArePicks users h picks
+  picks-there picks ps = record {
+    cores = ps.cores ∙ cores;
+    each = λ core k at. pick-there core k (ps.each core k at);
+  }
+
+  stale-there : (core : CoreId) (k : Pick) → IsStale g core k → IsStale h core k
+  stale-there core k s = record {
+    picks = s.picks;
+    stale = subst (λ ss. slice_get ss core.0 ≡ Some s.picks) a.stale s.stale;
+    among = s.among;
+  }
+
+  pub over-there : IsOver users g → IsOver users h
+  over-there over = λ core few. pick-there core None (over core (subst (λ n. core.0 < n) (sym cores) few))
+
+module _ (users : List User) (boot : Boot) (whole : IsFaultless boot) (range : AreInRange users) where
+  legal : (g : Going) → IsReached users boot g → IsLegal g.book
+  legal g r = run-legal users boot whole range r.turns g r.run
+
+  module _ (g h : Going) (a : AreAlike users boot g h) (core : CoreId) (k : Pick) (t : Going) (turn : IsTurn users core k g t) where
+    abbrev step : Step
+    step = record { core = core; thread = turn.user.thread; entry = turn.entry }
+
+    -- the same turn in the other run
+    abbrev then_h : Going
+    then_h = entered turn.picks turn.user step k h
+
+    other : IsTurn users core k h then_h
+    other = record {
+      user = turn.user;
+      entry = turn.entry;
+      picks = turn.picks;
+      is_user = turn.is_user;
+      is_entry = turn.is_entry;
+      are_picks = picks-there users boot g h a turn.picks turn.are_picks;
+      picked = go turn.picked;
+      enters = sym (may_enter-same (log_of g.book) (log_of h.book) a.logs core turn.user.thread) ∙ turn.enters;
+      after = refl;
+    }
+      where
+        go : (slice_get turn.picks core.0 ≡ Some (Some k)) ⊎ IsStale g core k → (slice_get turn.picks core.0 ≡ Some (Some k)) ⊎ IsStale h core k
+        go (inl own) = inl own
+        go (inr old) = inr (stale-there users boot g h a core k old)
+
+    left : IsReached users boot (entered turn.picks turn.user step k g)
+    left = subst (λ x. IsReached users boot x) turn.after (record { turns = suc a.left.turns; run = (g, (a.left.run, record { core = core; pick = k; turn = turn })) })
+
+    right : IsReached users boot then_h
+    right = record { turns = suc a.right.turns; run = (h, (a.right.run, record { core = core; pick = k; turn = other })) }
+
+    same : outcome g.book step ≡ outcome h.book step
+    same = entry-same (log_of g.book) (log_of h.book) core turn.user.thread turn.entry a.logs (entrant-there (log_of g.book) core turn.user.thread turn.enters)
+        (legal-sound _ (legal _ left)) (legal-sound _ (legal _ right))
+
+    logs : Alike (log_of (entered turn.picks turn.user step k g).book) (log_of then_h.book)
+    logs = subst (λ (o : Outcome). Alike (log_of (entered turn.picks turn.user step k g).book) (log_of (record h.book { lines = record { step = step; answer = o.answer; records = o.records } ∷ h.book.lines }))) same
+        (line-alike g.book h.book (line_for step (outcome g.book step)) (legal _ left) (legal h a.right) a.logs)
+
+    after : AreAlike users boot (entered turn.picks turn.user step k g) then_h
+    after = record {
+      left = left;
+      right = right;
+      logs = logs;
+      places = ap (λ ps. put_at k.user (behind turn.user k.number (outcome g.book step).answer) ps) a.places ∙ ap (λ (o : Outcome). put_at k.user (behind turn.user k.number o.answer) h.places) same;
+      stale = ap (λ ss. stale_after core.0 k.user 0 turn.picks ss) a.stale;
+    }
+
+    pub respected : (w : Going) × (Follows users h w × AreAlike users boot t w)
+    respected = (then_h, (record { core = core; pick = k; turn = other }, subst (λ x. AreAlike users boot x then_h) (sym turn.after) after))
+
+  pub likeness : IsLikeness (Follows users) (AreAlike users boot)
+  likeness = record {
+    trans = λ s t u a b. record {
+      left = a.left;
+      right = b.right;
+      logs = alike-on (log_of s.book) (log_of t.book) (log_of u.book) a.logs b.logs;
+      places = a.places ∙ b.places;
+      stale = a.stale ∙ b.stale;
+    };
+    respects = λ s v t a f. respected s v a f.core f.pick t f.turn;
+  }

@@ -1,0 +1,3 @@
+mod Adding
+mod Walking
+mod Picking

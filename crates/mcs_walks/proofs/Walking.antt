@@ -1,0 +1,43 @@
+-- Who may enter, and what is known of him.
+use Rattle.std.specs.Prelude.{Bool, true, false, cond, ◌≡◌, ◌&&◌, Option, Some, None, option_and_then}
+use Rattle.std.proofs.Common.{refl, ap, ◌∙◌}
+use Rattle.mcs_types.specs.declared.id.ObjId.{ObjId}
+use Rattle.mcs_types.specs.declared.id.CoreId.{CoreId}
+use Rattle.mcs_types.specs.declared.id.Kind.TheVariants as kind
+use Rattle.mcs_types.specs.Ids.{same_kind}
+use Rattle.mcs_book.specs.Logs.{Log}
+use Rattle.mcs_book.specs.Objects.{form_of, is_alive}
+use Rattle.mcs_book.specs.Threads.{prio_of}
+use Rattle.mcs_book.specs.Contexts.{context_of}
+use Rattle.mcs_book.specs.Statuses.{status_of, may_enter, is_ready, is_on_core}
+use Rattle.mcs_book.specs.History.{Book, log_of}
+use Rattle.mcs_book.specs.Sound.{IsThere}
+use Rattle.mcs_state.specs.Questions.{priority_of}
+use Rattle.mcs_state.specs.Tables.{is_there}
+use Rattle.mcs_state.proofs.Picking.{entrant, entrant-there}
+use Rattle.mcs_kernel.specs.Faults.{fault_of, context_fault, has_room}
+use Rattle.mcs_kernel.specs.declared.fault.EnterFault.TheVariants.{NotRunning, WrongCore, BookFull}
+use Rattle.mcs_walks.specs.Walks.{is_let_in}
+
+pub let-in : (b : Book) (core : CoreId) (t : ObjId) → is_let_in (fault_of b core t) ≡ may_enter (log_of b) core t
+unfolding fault_of
+let-in b core t = go (is_ready (status_of (log_of b) t)) (context_of (log_of b) t) ∙ entrant (log_of b) core t
+  where
+    by_core : (y z : Bool) → is_let_in (cond y (cond z None (Some BookFull)) (Some WrongCore)) ≡ y
+    by_core true true = refl
+    by_core true false = refl
+    by_core false z = refl
+
+    go : (r : Bool) (o : Option ObjId) → is_let_in (cond r (context_fault b core o) (Some NotRunning)) ≡ (r && is_on_core core (option_and_then (λ s. form_of (log_of b) s) o))
+    go false o = refl
+    go true None = refl
+    go true (Some s) = by_core (is_on_core core (form_of (log_of b) s)) (has_room b)
+
+pub ranked : (R : Log) (core : CoreId) (t : ObjId) → may_enter R core t ≡ true → priority_of R t ≡ Some (record { 0 = prio_of R t })
+ranked R core t enters = ap (λ b. cond b (Some (record { 0 = prio_of R t })) None) there
+  where
+    it : IsThere R kind.Thread t
+    it = entrant-there R core t enters
+
+    there : is_there R kind.Thread t ≡ true
+    there = ap (λ k. same_kind k kind.Thread && is_alive R t) it.0 ∙ it.1

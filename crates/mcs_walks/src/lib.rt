@@ -1,0 +1,14 @@
+//! One way through the orders in which the entries of users can come: a kernel, how far each user is, and what each core may
+//! enter. Each turn is one that the rule of a turn has, so what is reached is a run (own).
+#![tactic(auto)]
+
+mod fault;
+mod picks;
+mod users;
+mod walk;
+
+pub use fault::{OrdersFault, ends_search};
+pub use mcs_turns::{Pick, Position};
+pub use picks::Picks;
+pub use users::{UserList, Users};
+pub use walk::{Turn, Walk};

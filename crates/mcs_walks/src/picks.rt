@@ -1,0 +1,98 @@
+//! What a core picked since its last line and whose user has not moved.
+ghost use Rattle.std.specs.Prelude.{◌≡◌, ◌∷◌, ◌++◌, [], IfOk, OnOk};
+ghost use Rattle.std.specs.List.{list_any};
+ghost use Rattle.mcs_turns.specs.Due.{is_same, with_any_pick, without_user};
+
+use mcs_turns::Pick;
+use mcs_types::OutOfMemory;
+use std::alloc::Global;
+use std::marker::Model;
+
+/// Some picks, each once, the lower user first, and then the lower entry. Clauses see a list.
+#[derive(Drop)]
+pub struct Picks {
+    picks: Vec<Pick>,
+}
+
+impl Model for Picks {
+    ghost use Rattle.std.specs.Prelude.{List};
+    ghost use Rattle.mcs_turns.specs.declared.position.Pick.{Pick};
+
+    ghost Value = { List Pick };
+
+    ghost view = { λ p. p.picks.items };
+}
+
+/// Adds an element to the end. OutOfMemory where a growth was refused.
+pub(crate) fn push<T: Drop>(items: &mut Vec<T>, item: T) -> Result<(), OutOfMemory>
+    ensures { OnOk result (items.new.items ≡ items.old.items ++ item ∷ []) }
+{
+    match items.push(item) {
+        Ok(()) => Ok(()),
+        Err(_) => Err(OutOfMemory),
+    }
+}
+
+/// Adds a pick to the end, unless it is one of this user.
+fn push_other(picks: &mut Vec<Pick>, pick: Pick, user: usize) -> Result<(), OutOfMemory>
+    ensures { OnOk result (picks.new.items ≡ picks.old.items ++ without_user user (pick ∷ [])) }
+{
+    if pick.user != user {
+        push(picks, pick)?;
+    }
+    Ok(())
+}
+
+impl Picks {
+    /// None.
+    pub fn new(alloc: Global) -> Picks
+        ensures { result ≡ [] }
+    {
+        Picks {
+            picks: Vec::new(alloc),
+        }
+    }
+
+    /// The picks, the lower user first, and then the lower entry.
+    pub fn as_slice(&self) -> &[Pick]
+        ensures { result.now ≡ self.now }
+    {
+        self.picks.as_slice()
+    }
+
+    /// Whether a pick is among them.
+    pub fn has(&self, pick: Pick) -> bool
+        ensures { result ≡ list_any (is_same pick) self.now }
+    {
+        self.picks.iter().any(|other| pick.is_same(*other))
+    }
+
+    /// These and one more, if there is one and it is not among them, without those of a user.
+    pub fn after(
+        &self,
+        alloc: Global,
+        pick: Option<Pick>,
+        user: usize,
+    ) -> Result<Picks, OutOfMemory>
+        ensures { IfOk result (λ p. p ≡ without_user user (with_any_pick pick self.now)) }
+    {
+        let mut picks = Vec::new(alloc);
+        let mut more = pick;
+        for other in self.picks.iter() {
+            let other = *other;
+            if let Some(one) = more {
+                if one.is_same(other) {
+                    more = None;
+                } else if one.is_ahead(other) {
+                    push_other(&mut picks, one, user)?;
+                    more = None;
+                }
+            }
+            push_other(&mut picks, other, user)?;
+        }
+        if let Some(one) = more {
+            push_other(&mut picks, one, user)?;
+        }
+        Ok(Picks { picks })
+    }
+}

@@ -1,0 +1,385 @@
+//! A kernel, how far each user is, and what each core may enter.
+ghost use Rattle.std.specs.Prelude.{◌≡◌, ◌≤◌, ◌<◌, ◌+◌, ◌^◌, ℕ, true, false, [], IfOk, IfSome, IfNone, OnErr, Some, length, map, slice_get, option_copied};
+ghost use Rattle.mcs_types.specs.declared.id.ObjId.{ObjId};
+ghost use Rattle.mcs_book.specs.History.{IsLegal, log_of};
+ghost use Rattle.mcs_book.specs.Picking.{GoesBefore};
+ghost use Rattle.mcs_book.specs.Statuses.{may_enter};
+ghost use Rattle.mcs_book.specs.Threads.{prio_of};
+ghost use Rattle.mcs_turns.specs.declared.position.Position.{Position};
+ghost use Rattle.mcs_turns.specs.Due.{begun, none_stale, stale_after};
+ghost use Rattle.mcs_turns.specs.Turns.{User, CanGive, IsPickOf, IsStale, ArePicks, IsTurn, beginning, behind, entered, put_at};
+ghost use Rattle.mcs_walks.specs.Walks.{EntersSomewhere, Gives, IsPickBelow, IsPicked, is_let_in, last_answer, left_stale, picked_of, step_of};
+
+use crate::fault::{OrdersFault, ends_search};
+use crate::picks::{Picks, push};
+use crate::users::{UserList, Users};
+use mcs_kernel::{Boot, EnterFault, Kernel};
+use mcs_queues::Lines;
+use mcs_turns::{Pick, Position};
+use mcs_types::{Answer, CoreId, Entry, ObjId, OutOfMemory};
+use std::alloc::Global;
+use std::marker::Model;
+
+/// An entry of a user on a core.
+#[derive(Clone, Copy, Drop)]
+pub struct Turn {
+    pub core: CoreId,
+    pub pick: Pick,
+}
+
+/// A pick, and the thread of its user.
+#[derive(Clone, Copy, Drop)]
+struct Candidate {
+    pick: Pick,
+    thread: ObjId,
+}
+
+/// A kernel, the positions of its users, and for each core what it picked since its last line and whose user has not moved.
+/// Clauses see how far a run is.
+#[derive(Drop)]
+pub struct Walk<L: Lines> {
+    kernel: Kernel<L>,
+    places: Vec<Position>,
+    stale: Vec<Picks>,
+}
+
+impl<L: Lines> Model for Walk<L> {
+    ghost use Rattle.mcs_turns.specs.Turns.{Going};
+
+    ghost Value = { Going };
+
+    ghost view = { λ w. record {
+      book = w.kernel;
+      places = w.places.items;
+      stale = w.stale.items;
+    } };
+}
+
+/// Whether an entry that would be turned away for this is one of a thread that may enter.
+fn is_let_in(fault: Option<EnterFault>) -> bool
+    ensures { result ≡ is_let_in fault }
+{
+    match fault {
+        None | Some(EnterFault::BookFull) => true,
+        Some(_) => false,
+    }
+}
+
+/// Whether a thread may enter on a core.
+fn may_enter<L: Lines>(kernel: &Kernel<L>, core: CoreId, thread: ObjId) -> bool
+    ensures { result ≡ may_enter (log_of kernel.now) core thread }
+{
+    is_let_in(kernel.fault(core, thread))
+}
+
+/// The priority of a thread that may enter.
+fn priority_of<L: Lines>(kernel: &Kernel<L>, thread: ObjId) -> u8
+    requires { EntersSomewhere (log_of kernel.now) thread }
+    ensures { result ≡ prio_of (log_of kernel.now) thread }
+{
+    match kernel.priority(thread) {
+        Some(priority) => priority.0,
+        None => 0,
+    }
+}
+
+/// Whether a thread that may enter on a core goes before another one.
+fn goes_before<L: Lines>(kernel: &Kernel<L>, thread: ObjId, other: ObjId) -> bool
+    requires thread { EntersSomewhere (log_of kernel.now) thread }
+    requires other { EntersSomewhere (log_of kernel.now) other }
+    ensures yes { result ≡ true → GoesBefore (log_of kernel.now) thread other }
+    ensures no { result ≡ false → GoesBefore (log_of kernel.now) other thread }
+{
+    let one = priority_of(kernel, thread);
+    let two = priority_of(kernel, other);
+    two < one || (one == two && thread.serial < other.serial)
+}
+
+/// The positions of so many users before the first turn.
+fn first_places(alloc: Global, users: &[UserList]) -> Result<Vec<Position>, OutOfMemory>
+    ensures { IfOk result (λ v. v.items ≡ map (λ u. begun) users.now) }
+{
+    let mut places = Vec::with_capacity(alloc, users.len())?;
+    for user in users {
+        let _ = user;
+        push(&mut places, Position::start())?;
+    }
+    Ok(places)
+}
+
+/// No stale pick of so many cores.
+fn no_stale(alloc: Global, cores: u8) -> Result<Vec<Picks>, OutOfMemory>
+    ensures { IfOk result (λ v. v.items ≡ none_stale cores) }
+{
+    let mut stale = Vec::with_capacity(alloc, cores as usize)?;
+    for core in 0..cores {
+        push(&mut stale, Picks::new(alloc))?;
+    }
+    Ok(stale)
+}
+
+/// The position of a user behind an entry that was let in with this answer.
+fn position_behind(user: &UserList, number: usize, answer: &Answer) -> Position
+    requires { number < length user.now.entries }
+    ensures { result ≡ behind user.now number answer.now }
+{
+    let count = user.entries.len();
+    let mut place = Position::past(number, answer);
+    if let Some(first) = user.again
+        && place.next >= count
+    {
+        place.next = first;
+    }
+    place
+}
+
+/// Puts a position into a place, if there is such a place.
+fn put(places: &mut Vec<Position>, user: usize, place: Position)
+    ensures { places.new.items ≡ put_at user place places.old.items }
+{
+    if user < places.len() {
+        places[user] = place;
+    }
+}
+
+/// The pick of a core among those of all.
+fn picked(picks: &[Option<Pick>], core: usize) -> Option<Pick>
+    ensures { result ≡ picked_of picks.now core }
+{
+    match picks.get(core) {
+        Some(pick) => *pick,
+        None => None,
+    }
+}
+
+/// Whether a core picks this, where the cores have these picks.
+fn is_picked(picks: &[Option<Pick>], turn: Turn) -> bool
+    ensures { result ≡ true → slice_get picks.now turn.core.0 ≡ Some (Some turn.pick) }
+{
+    match picks.get(turn.core.0 as usize) {
+        Some(Some(pick)) => turn.pick.is_same(*pick),
+        _ => false,
+    }
+}
+
+impl<L: Lines> Walk<L> {
+    /// Before the first turn.
+    pub fn new(alloc: Global, boot: &Boot, users: &Users) -> Result<Walk<L>, OutOfMemory>
+        ensures { IfOk result (λ w. w ≡ beginning users.now boot.now) }
+    {
+        let kernel = Kernel::new(alloc, boot)?;
+        let places = first_places(alloc, users.lists())?;
+        let stale = no_stale(alloc, boot.cores())?;
+        Ok(Walk {
+            kernel,
+            places,
+            stale,
+        })
+    }
+
+    /// The kernel.
+    pub fn kernel(&self) -> &Kernel<L>
+        ensures { result.now ≡ self.now.book }
+    {
+        &self.kernel
+    }
+
+    /// How far the user in a place is.
+    pub fn place(&self, user: usize) -> Option<Position>
+        ensures { result ≡ slice_get self.now.places user }
+    {
+        self.places.get(user).copied()
+    }
+
+    /// What a core picked since its last line and whose user has not moved; none where there is no such core.
+    pub fn stale(&self, core: CoreId) -> Option<&Picks>
+        ensures { option_copied result ≡ slice_get self.now.stale core.0 }
+    {
+        self.stale.get(core.0 as usize)
+    }
+
+    /// The number of the entry that a user may give now on a core; None where it has none left, or its thread may not enter there.
+    fn given(&self, users: &Users, core: CoreId, user: usize) -> Option<Candidate>
+        ensures some { IfSome result (λ c. Gives users.now self.now core user c.pick c.thread) }
+        ensures none { IfNone result ((u : User) (p : Position)
+            → CanGive users.now self.now core user u p → ⊥) }
+    {
+        let list = users.at(user)?;
+        let place = self.place(user)?;
+        let number = place.due(self.kernel.status(list.thread));
+        if number < list.entries.len() && may_enter(&self.kernel, core, list.thread) {
+            Some(Candidate {
+                pick: Pick { user, number },
+                thread: list.thread,
+            })
+        } else {
+            None
+        }
+    }
+
+    /// The better of a user and of the best of those before it.
+    fn better(
+        &self,
+        users: &Users,
+        core: CoreId,
+        user: usize,
+        best: Option<Candidate>,
+    ) -> Option<Candidate>
+        requires { IsPickBelow users.now self.now core user best }
+        ensures { IsPickBelow users.now self.now core (user + 1) result }
+    {
+        let Some(one) = self.given(users, core, user) else {
+            return best;
+        };
+        match best {
+            Some(before) if !goes_before(&self.kernel, one.thread, before.thread) => best,
+            _ => Some(one),
+        }
+    }
+
+    /// What a core picks: the due entry of the user who can give one and whose thread goes before those of all others who can.
+    pub fn pick(&self, users: &Users, core: CoreId) -> Option<Pick>
+        ensures { IsPickOf users.now self.now core result }
+    {
+        let mut best = None;
+        for user in 0..users.lists().len() {
+            best = self.better(users, core, user, best);
+        }
+        match best {
+            Some(candidate) => Some(candidate.pick),
+            None => None,
+        }
+    }
+
+    /// What each core picks.
+    pub fn picks(&self, alloc: Global, users: &Users) -> Result<Vec<Option<Pick>>, OutOfMemory>
+        ensures { IfOk result (λ v. ArePicks users.now self.now v.items) }
+    {
+        let cores = self.kernel.book().cores();
+        let mut picks = Vec::with_capacity(alloc, cores as usize)?;
+        for core in 0..cores {
+            let pick = self.pick(users, CoreId(core));
+            push(&mut picks, pick)?;
+        }
+        Ok(picks)
+    }
+
+    /// The stale picks of the core in a place after a line by a user on a core, where the cores had these picks before it.
+    fn left_of(
+        &self,
+        alloc: Global,
+        place: usize,
+        core: CoreId,
+        user: usize,
+        picks: &[Option<Pick>],
+    ) -> Result<Picks, OutOfMemory>
+        ensures { IfOk result (λ p. IfSome (slice_get self.now.stale place) (λ stale.
+            p ≡ left_stale core.0 user picks.now place stale)) }
+    {
+        let Some(stale) = self.stale.get(place) else {
+            return Ok(Picks::new(alloc));
+        };
+        if place == core.0 as usize {
+            Ok(Picks::new(alloc))
+        } else {
+            stale.after(alloc, picked(picks, place), user)
+        }
+    }
+
+    /// The stale picks of all cores after a line by a user on a core, where the cores had these picks before it.
+    fn stale_after(
+        &self,
+        alloc: Global,
+        core: CoreId,
+        user: usize,
+        picks: &[Option<Pick>],
+    ) -> Result<Vec<Picks>, OutOfMemory>
+        ensures { IfOk result (λ v.
+            v.items ≡ stale_after core.0 user 0 picks.now self.now.stale) }
+    {
+        let mut after = Vec::with_capacity(alloc, self.stale.len())?;
+        for other in 0..self.stale.len() {
+            let left = self.left_of(alloc, other, core, user, picks)?;
+            push(&mut after, left)?;
+        }
+        Ok(after)
+    }
+
+    /// Whether a core picked this before.
+    fn was_picked(&self, turn: Turn) -> bool
+        ensures { result ≡ true → IsStale self.now turn.core turn.pick }
+    {
+        match self.stale(turn.core) {
+            Some(stale) => stale.has(turn.pick),
+            None => false,
+        }
+    }
+
+    /// Whether a turn enters what its core picks, where the cores have these picks, or what it picked before.
+    fn may_take(&self, picks: &[Option<Pick>], turn: Turn) -> bool
+        ensures { result ≡ true → IsPicked self.now picks.now turn.core turn.pick }
+    {
+        is_picked(picks, turn) || self.was_picked(turn)
+    }
+
+    /// Lets in an entry of a user, which has this number in its list, on the core of a turn, where the cores have these picks, and
+    /// moves on; None where it is turned away. Then, and after an error, nothing has changed.
+    fn enter(
+        &mut self,
+        alloc: Global,
+        list: &UserList,
+        entry: Entry,
+        picks: &[Option<Pick>],
+        turn: Turn,
+    ) -> Result<Option<Answer>, OrdersFault>
+        requires { turn.pick.number < length list.now.entries }
+        ensures entered { IfOk result (λ o. IfSome o (λ a. self.new
+            ≡ entered picks.now list.now (step_of turn.core list.now.thread entry) turn.pick self.old)) }
+        ensures answer { IfOk result (λ o. IfSome o (λ a. last_answer self.new.book ≡ Some a)) }
+        ensures none { IfOk result (λ o. IfNone o (self.new ≡ self.old)) }
+        ensures err { OnErr result (self.new ≡ self.old) }
+    {
+        let stale = self.stale_after(alloc, turn.core, turn.pick.user, picks)?;
+        match self.kernel.enter(alloc, turn.core, list.thread, entry) {
+            Ok(answer) => {
+                let place = position_behind(list, turn.pick.number, &answer);
+                put(&mut self.places, turn.pick.user, place);
+                self.stale = stale;
+                Ok(Some(answer))
+            }
+            Err(fault) => match ends_search(fault) {
+                Some(fault) => Err(fault),
+                None => Ok(None),
+            },
+        }
+    }
+
+    /// Makes a turn, where the cores have these picks, and gives what it was answered; None where the rule has no such turn. Then,
+    /// and after an error, nothing has changed. BookFull where the book has 1,000,000 lines, OutOfMemory where memory was refused.
+    pub fn turn(
+        &mut self,
+        alloc: Global,
+        users: &Users,
+        picks: &[Option<Pick>],
+        turn: Turn,
+    ) -> Result<Option<Answer>, OrdersFault>
+        requires { ArePicks users.now self.old picks.now }
+        ensures turn { IfOk result (λ o. IfSome o (λ a.
+            IsTurn users.now turn.core turn.pick self.old self.new)) }
+        ensures answer { IfOk result (λ o. IfSome o (λ a. last_answer self.new.book ≡ Some a)) }
+        ensures none { IfOk result (λ o. IfNone o (self.new ≡ self.old)) }
+        ensures err { OnErr result (self.new ≡ self.old) }
+    {
+        let Some(list) = users.at(turn.pick.user) else {
+            return Ok(None);
+        };
+        let Some(entry) = list.at(turn.pick.number) else {
+            return Ok(None);
+        };
+        if !self.may_take(picks, turn) || !may_enter(&self.kernel, turn.core, list.thread) {
+            return Ok(None);
+        }
+        let entry = entry.copy(alloc)?;
+        self.enter(alloc, list, entry, picks, turn)
+    }
+}

@@ -1,0 +1,19 @@
+//! What is told of all orders of a script of users: its ends, the answers of its entries, and what is asked of them.
+//!
+//! ```text
+//! source ── reading ──> the boot, the users, the texts of their entries, the questions (`#!`)
+//!     ── mcs_orders ──> each state and each turn, told to `watching`: ends, answers, and where a question fails
+//!     ── report ──> text, and scripts of steps
+//! ```
+#![tactic(auto)]
+
+mod answers;
+mod asking;
+mod ends;
+mod patterns;
+mod reading;
+mod report;
+mod scripts;
+mod watching;
+
+pub use report::{Explored, Saves, Wanted, explore_script};

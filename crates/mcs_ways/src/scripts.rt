@@ -1,0 +1,70 @@
+//! Scripts of steps, which show what is told.
+use crate::reading::UserScript;
+use crate::watching::Sighting;
+use mcs_book::Book;
+use mcs_lab::LabFault;
+use mcs_orders::{Orders, OrdersFault, Turn, Walk, retrace};
+use mcs_queues::PlainLines;
+use mcs_trace::{Sink, put_boot_line, put_cores, put_kept_step};
+use std::alloc::Global;
+use std::io::Write;
+
+/// The fault of the program where a search ended so.
+pub fn fault_of(fault: OrdersFault) -> LabFault {
+    match fault {
+        OrdersFault::BookFull => LabFault::BookFull,
+        OrdersFault::OutOfMemory => LabFault::OutOfMemory,
+    }
+}
+
+/// The turns that lead to a state, and the one from it that shows something, where it is one.
+pub fn turns_of(orders: &Orders, seen: Sighting) -> Result<Vec<Turn>, LabFault> {
+    let mut turns = match orders.path(seen.place) {
+        Ok(turns) => turns,
+        Err(fault) => return Err(fault_of(fault)),
+    };
+    if let Some(turn) = seen.turn {
+        turns.push(turn)?;
+    }
+    Ok(turns)
+}
+
+/// Puts the boot and the steps of a book.
+fn put_script<W: Write>(sink: &mut Sink<W>, book: &Book) {
+    put_cores(sink, book.cores());
+    for line in book.boot() {
+        put_boot_line(sink, line);
+    }
+    for number in 1..book.lines() {
+        if let Some(line) = book.line(number) {
+            put_kept_step(sink, &line.kept_step());
+        }
+    }
+    sink.flush();
+}
+
+/// Writes the boot and the steps of a book, as a script.
+fn write_script<W: Write + Drop>(alloc: Global, to: W, book: &Book) -> Result<(), LabFault> {
+    let mut sink = Sink::new(alloc, to)?;
+    put_script(&mut sink, book);
+    if sink.is_broken() {
+        return Err(LabFault::OutOfMemory);
+    }
+    Ok(())
+}
+
+/// The boot and the steps of a book, as a script.
+fn script_of(alloc: Global, book: &Book) -> Result<Vec<u8>, LabFault> {
+    let mut text = Vec::new(alloc);
+    write_script(alloc, &mut text, book)?;
+    Ok(text)
+}
+
+/// The script of these turns, which are made anew from the boot.
+pub fn script_by(alloc: Global, script: &UserScript, turns: &[Turn]) -> Result<Vec<u8>, LabFault> {
+    let walk: Walk<PlainLines> = match retrace(alloc, &script.boot, &script.users, turns) {
+        Ok(walk) => walk,
+        Err(fault) => return Err(fault_of(fault)),
+    };
+    script_of(alloc, walk.kernel().book())
+}
