@@ -1,6 +1,8 @@
 //! What the command line asks for.
+use crate::compiling::{self, Made};
 use crate::drawing::{self, Drawn};
-use clap::{Arg, ArgAction, Command as Words, Error, value_parser};
+use crate::exploring::{self, Sought};
+use clap::{Arg, ArgAction, ArgMatches, Command as Words, Error, value_parser};
 use mcs_told::{FORMS, Wanted};
 use std::alloc::Global;
 
@@ -9,7 +11,7 @@ const VERSION: &str = "0.1.0";
 
 /// What the program does with a script.
 #[derive(Clone, Copy)]
-pub enum Command {
+pub enum Command<'a> {
     /// Compares what stands behind each step with what it did.
     Check,
     /// Tells why steps did nothing, and what is stuck at the end.
@@ -20,12 +22,18 @@ pub enum Command {
     Json,
     /// Draws the run.
     Draw(Drawn),
+    /// Goes through all orders of the users.
+    Explore(Sought<'a>),
+    /// Makes a script of a plan.
+    Compile(Made),
+    /// Puts names into a trace.
+    Names,
 }
 
 /// A command and the file of its script; None for the standard input.
 #[derive(Drop)]
 pub struct Request<'a> {
-    pub command: Command,
+    pub command: Command<'a>,
     pub file: Option<&'a str>,
 }
 
@@ -52,6 +60,11 @@ fault; 5 the book is full; 6 out of memory; 64 the command line.";
 /// The file of a script.
 fn file<'a>(alloc: Global) -> Arg<'a> {
     Arg::new(alloc, "FILE").help("The script [default: standard input]")
+}
+
+/// The file of a plan.
+fn plan<'a>(alloc: Global) -> Arg<'a> {
+    Arg::new(alloc, "FILE").help("The plan [default: standard input]")
 }
 
 /// The option that says behind which line.
@@ -117,13 +130,34 @@ fn commands<'a>(alloc: Global) -> Result<Words<'a>, Error> {
             .subcommand(why)?
             .subcommand(state(alloc)?)?
             .subcommand(json)?
-            .subcommand(drawing::command(alloc, file(alloc))?)?,
+            .subcommand(drawing::command(alloc, file(alloc))?)?
+            .subcommand(exploring::command(alloc, file(alloc))?)?
+            .subcommand(compiling::command(alloc, plan(alloc))?)?
+            .subcommand(compiling::names_command(alloc)?)?,
     )
+}
+
+/// What is asked of a plan or of the names of a script, if something is.
+fn requested_of_names<'a>(matches: &ArgMatches<'a>) -> Option<Request<'a>> {
+    if let Some(found) = matches.subcommand_matches("compile") {
+        return Some(Request {
+            command: Command::Compile(compiling::asked(found)),
+            file: found.get_str("FILE"),
+        });
+    }
+    let found = matches.subcommand_matches("names")?;
+    Some(Request {
+        command: Command::Names,
+        file: found.get_str("FILE"),
+    })
 }
 
 /// What the words of the command line ask for; the first is the program's name.
 pub fn requested<'a>(alloc: Global, words: &'a [&'a str]) -> Result<Request<'a>, Error> {
     let matches = commands(alloc)?.try_get_matches_from(words)?;
+    if let Some(request) = requested_of_names(&matches) {
+        return Ok(request);
+    }
     if let Some(found) = matches.subcommand_matches("why") {
         return Ok(Request {
             command: Command::Why,
@@ -143,6 +177,12 @@ pub fn requested<'a>(alloc: Global, words: &'a [&'a str]) -> Result<Request<'a>,
                 file: found.get_str("FILE"),
             });
         }
+    }
+    if let Some(found) = matches.subcommand_matches("explore") {
+        return Ok(Request {
+            command: Command::Explore(exploring::asked(found)),
+            file: found.get_str("FILE"),
+        });
     }
     if let Some(found) = matches.subcommand_matches("state") {
         let wanted = Wanted {

@@ -1,13 +1,16 @@
-//! The program: `mcslab check` compares what a script says of its steps with what they do, and `mcslab why` tells why a step did
-//! nothing.
+//! The program: `mcslab check` compares what a script says of its steps with what they do, `mcslab why` tells why a step did
+//! nothing, and `mcslab compile` makes a script of a plan.
 #![tactic(auto)]
 
 mod command_line;
+mod compiling;
 mod drawing;
+mod exploring;
 
 use clap::Error;
 use clap::error::ErrorKind;
 use command_line::{Command, Request, requested};
+use exploring::explore;
 use mcs_lab::{LabFault, check};
 use mcs_pictures::draw_script;
 use mcs_sim::{Source, arguments};
@@ -39,25 +42,35 @@ fn tell_answer(rt: &HostRuntime, answer: &Error) -> ExitCode {
     }
 }
 
-/// Does what is asked with a script that is read.
+/// The exit status where what is wanted holds, or does not.
+fn status_if(holds: bool) -> u8 {
+    if holds { 0 } else { UNMET }
+}
+
+/// Does what is asked with a script that is read, and gives the exit status.
 fn read_script<R: Read + Drop>(
     rt: &HostRuntime,
     request: &Request<'_>,
     from: R,
-) -> Result<bool, LabFault> {
+) -> Result<u8, LabFault> {
     let mut source = Source::new(from);
     let mut to = BufWriter::new(rt.alloc(), io::writer(rt))?;
     let done = match request.command {
-        Command::Check => check(rt.alloc(), &mut source, &mut to),
-        Command::Why => explain(rt.alloc(), &mut source, &mut to),
-        Command::State(wanted) => show_state(rt.alloc(), &mut source, &mut to, wanted),
-        Command::Json => write_json(rt.alloc(), &mut source, &mut to),
+        Command::Check => check(rt.alloc(), &mut source, &mut to).map(status_if),
+        Command::Why => explain(rt.alloc(), &mut source, &mut to).map(status_if),
+        Command::State(wanted) => {
+            show_state(rt.alloc(), &mut source, &mut to, wanted).map(status_if)
+        }
+        Command::Json => write_json(rt.alloc(), &mut source, &mut to).map(status_if),
         Command::Draw(drawn) => {
             match draw_script(rt.alloc(), &mut source, &mut to, drawn.format, drawn.window) {
-                Ok(()) => Ok(true),
-                Err(fault) => Err(LabFault::from(fault.0)),
+                Ok(()) => Ok(0),
+                Err(fault) => Err(fault),
             }
         }
+        Command::Explore(sought) => explore(rt, &mut source, &mut to, sought),
+        // these read no script of steps
+        Command::Compile(_) | Command::Names => Ok(0),
     };
     to.flush()?;
     done
@@ -65,6 +78,11 @@ fn read_script<R: Read + Drop>(
 
 /// Does what is asked, with its file or the standard input.
 fn carry_out(rt: &HostRuntime, request: &Request<'_>) -> ExitCode {
+    match request.command {
+        Command::Compile(made) => return compiling::compile_plan(rt, request.file, made),
+        Command::Names => return compiling::tell_trace(rt, request.file),
+        _ => {}
+    }
     let done = match request.file {
         None => read_script(rt, request, rt.reader()),
         Some(path) => match fs::open(rt, path) {
@@ -76,8 +94,7 @@ fn carry_out(rt: &HostRuntime, request: &Request<'_>) -> ExitCode {
         },
     };
     match done {
-        Ok(true) => ExitCode::SUCCESS,
-        Ok(false) => ExitCode::from(UNMET),
+        Ok(status) => ExitCode::from(status),
         Err(fault) => tell(rt, fault),
     }
 }

@@ -1,0 +1,153 @@
+//! Plans and names, as the command line asks for them.
+use clap::{Arg, ArgAction, ArgMatches, Command as Words, Error};
+use mcs_compile::write_map;
+use mcs_lab::LabFault;
+use mcs_names::tell_names;
+use mcs_readback::{CompileFault, Compiled, compile_text};
+use std::alloc::Global;
+use std::fs;
+use std::io::{self, Read, Write};
+use std::process::ExitCode;
+
+/// What is made of a plan.
+#[derive(Clone, Copy)]
+pub enum Made {
+    Script,
+    /// The table of its names and addresses.
+    Map,
+}
+
+/// The exit status for a file that cannot be opened.
+const USAGE: u8 = 64;
+
+/// The command that makes a script of a plan.
+pub fn command<'a>(alloc: Global, file: Arg<'a>) -> Result<Words<'a>, Error> {
+    let map = Arg::new(alloc, "map")
+        .long("map")
+        .help("Writes the names and their addresses in place of the script")
+        .action(ArgAction::SetTrue);
+    Ok(
+        Words::new(alloc, "compile")
+            .about("Makes a script of a plan, which says a protocol by names")
+            .arg(map)?
+            .arg(file)?,
+    )
+}
+
+/// The command that puts names into a trace.
+pub fn names_command<'a>(alloc: Global) -> Result<Words<'a>, Error> {
+    let file = Arg::new(alloc, "FILE").help("The script").required(true);
+    Ok(
+        Words::new(alloc, "names")
+            .about("Puts the names that a script gives into a trace, which is the standard input")
+            .arg(file)?,
+    )
+}
+
+/// What is asked.
+pub fn asked(found: &ArgMatches<'_>) -> Made {
+    if found.get_flag("map") {
+        Made::Map
+    } else {
+        Made::Script
+    }
+}
+
+/// All bytes of the standard input.
+fn read_input(rt: &HostRuntime) -> io::Result<Vec<u8>> {
+    let mut bytes = Vec::new(rt.alloc());
+    rt.reader().read_to_end(&mut bytes)?;
+    Ok(bytes)
+}
+
+/// The bytes of a file, or of the standard input; or the exit status, where they can't be read, which
+/// is told.
+fn read_bytes(rt: &HostRuntime, file: Option<&str>) -> Result<Vec<u8>, u8> {
+    let read = match file {
+        Some(path) => match fs::read(rt, path) {
+            Ok(bytes) => return Ok(bytes),
+            Err(error) => {
+                let _ = eprintln!(rt; "mcslab: {path}: {error}");
+                return Err(USAGE);
+            }
+        },
+        None => read_input(rt),
+    };
+    match read {
+        Ok(bytes) => Ok(bytes),
+        Err(_) => {
+            let _ = rt.eprintln(LabFault::Read);
+            Err(LabFault::Read.status())
+        }
+    }
+}
+
+/// The exit status of a write.
+fn written(rt: &HostRuntime, done: io::Result<()>) -> ExitCode {
+    match done {
+        Ok(()) => ExitCode::SUCCESS,
+        Err(_) => {
+            let _ = rt.eprintln(LabFault::Write);
+            ExitCode::from(LabFault::Write.status())
+        }
+    }
+}
+
+/// Writes bytes to the standard output.
+fn write_out(rt: &HostRuntime, first: &[u8], rest: &[u8]) -> io::Result<()> {
+    let mut to = io::writer(rt);
+    to.write_all(first)?;
+    to.write_all(rest)
+}
+
+/// Writes what is made of a plan.
+fn write_made(rt: &HostRuntime, compiled: &Compiled, made: Made) -> Result<ExitCode, CompileFault> {
+    let done = match made {
+        Made::Script => write_out(rt, &compiled.read, &compiled.users),
+        Made::Map => {
+            let map = write_map(rt.alloc(), &compiled.script)?;
+            write_out(rt, map.as_bytes(), &[])
+        }
+    };
+    Ok(written(rt, done))
+}
+
+/// Compiles a plan, and writes what is made of it.
+fn make(rt: &HostRuntime, plan: &[u8], made: Made) -> Result<ExitCode, CompileFault> {
+    let compiled = compile_text(rt.alloc(), plan)?;
+    write_made(rt, &compiled, made)
+}
+
+/// Makes what is asked of a plan.
+pub fn compile_plan(rt: &HostRuntime, file: Option<&str>, made: Made) -> ExitCode {
+    let plan = match read_bytes(rt, file) {
+        Ok(plan) => plan,
+        Err(status) => return ExitCode::from(status),
+    };
+    match make(rt, &plan, made) {
+        Ok(status) => status,
+        Err(fault) => {
+            let _ = eprintln!(rt; "mcslab: {fault}");
+            ExitCode::from(fault.status())
+        }
+    }
+}
+
+/// Puts the names of a script into the trace that is read.
+pub fn tell_trace(rt: &HostRuntime, file: Option<&str>) -> ExitCode {
+    let script = match read_bytes(rt, file) {
+        Ok(script) => script,
+        Err(status) => return ExitCode::from(status),
+    };
+    let trace = match read_bytes(rt, None) {
+        Ok(trace) => trace,
+        Err(status) => return ExitCode::from(status),
+    };
+    match tell_names(rt.alloc(), &script, &trace) {
+        Ok(bytes) => written(rt, write_out(rt, &bytes, &[])),
+        Err(_) => {
+            let _ = rt.eprintln(LabFault::OutOfMemory);
+            ExitCode::from(LabFault::OutOfMemory.status())
+        }
+    }
+}
