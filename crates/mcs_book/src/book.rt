@@ -8,6 +8,7 @@ ghost use Rattle.mcs_book.specs.Pages.{EndsWithin, facts, line_head, lines_of, s
 
 use mcs_packing::{
     Arena, Head, KeptAnswer, KeptRecord, KeptStep, Lent, Packed, PackedAnswer, PackedEntry,
+    copy_items,
 };
 use mcs_types::{Answer, Badge, BootLine, ObjId, OutOfMemory, Rec, SendMode, Step};
 use std::alloc::Global;
@@ -329,6 +330,20 @@ fn push_paid(
     packed.push_reserved(one);
 }
 
+/// The same lines of a boot, with room for exactly that many.
+fn copy_boot(alloc: Global, boot: &[BootLine], room: usize) -> Result<Vec<BootLine>, OutOfMemory>
+    requires { length boot.now ≤ room }
+    ensures items { IfOk result (λ v. v.items ≡ boot.now) }
+    ensures len { IfOk result (λ v. vec_len v ≡ length boot.now) }
+    ensures capacity { IfOk result (λ v. vec_capacity v ≡ room) }
+{
+    let mut copy = Vec::with_capacity(alloc, room)?;
+    for line in boot {
+        copy.push_reserved(*line);
+    }
+    Ok(copy)
+}
+
 /// The first packed records alone are left.
 fn keep_first(packed: &mut Vec<Packed>, count: usize)
     ensures items { packed.new.items ≡ take count packed.old.items }
@@ -391,6 +406,25 @@ impl Book {
             first: 0,
             place: 0,
         }
+    }
+
+    /// An equal book, with as much room, so that it takes memory for a line only where this one would. OutOfMemory where memory is
+    /// refused.
+    pub fn copy(&self, alloc: Global) -> Result<Book, OutOfMemory>
+        ensures { IfOk result (λ b. b ≡ self.now) }
+    {
+        Ok(Book {
+            cores: self.cores,
+            boot: copy_boot(alloc, &self.boot, self.boot.capacity())?,
+            heads: copy_items(alloc, &self.heads, self.heads.capacity())?,
+            packed: copy_items(alloc, &self.packed, self.packed.capacity())?,
+            arena: self.arena.copy(alloc)?,
+            sent: copy_items(alloc, &self.sent, self.sent.capacity())?,
+            start: self.start,
+            room: self.room,
+            first: self.first,
+            place: self.place,
+        })
     }
 
     /// Makes room for one line of the boot; where there is room it takes no memory. The book is as it was.

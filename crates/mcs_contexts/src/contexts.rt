@@ -7,7 +7,7 @@ ghost use Rattle.mcs_types.specs.declared.id.Kind.{Kind};
 ghost use Rattle.mcs_objects.specs.Store.{shape, empty_shape, one_more, is_full, IsOneFewer};
 ghost use Rattle.mcs_contexts.specs.Holding.{counts, no_room, next_context, core_at, holder_at, home_at, core_in, holder_in, home_in, context_in, is_holder, bound, unbound, homed, unhomed, may_lend, may_wake, SetsHolder, SetsContext, SetsHome, FreesHolder, LendsHolders, LendsContexts, HoldersDiffer, IsOneToOne};
 
-use mcs_objects::{Store, keep, kept_at};
+use mcs_objects::{Store, copy_rows, keep, kept_at};
 use mcs_types::{CoreId, Kind, ObjId, OutOfMemory, Refusal};
 use std::alloc::Global;
 use std::marker::Model;
@@ -97,6 +97,16 @@ impl Contexts {
         Ok(Contexts {
             rows: Store::with_room(alloc, Kind::Context, 256)?,
             held: vec![in alloc; nothing; 256]?,
+        })
+    }
+
+    /// A table like this one (own). OutOfMemory where memory is refused.
+    pub fn copy(&self, alloc: Global) -> Result<Contexts, OutOfMemory>
+        ensures { IfOk result (λ t. t ≡ self.now) }
+    {
+        Ok(Contexts {
+            rows: self.rows.copy(alloc)?,
+            held: copy_rows(alloc, &self.held, self.held.len())?,
         })
     }
 

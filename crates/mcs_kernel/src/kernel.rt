@@ -161,6 +161,14 @@ impl<L: Lines> Kernel<L> {
         Ok(Kernel { state })
     }
 
+    /// A kernel like this one. OutOfMemory where memory is refused.
+    pub fn copy(&self, alloc: Global) -> Result<Kernel<L>, OutOfMemory>
+        ensures { IfOk result (λ k. k ≡ self.now) }
+    {
+        let state = self.state.copy(alloc)?;
+        Ok(Kernel { state })
+    }
+
     /// The book of all entries that were let in. It is legal and fair, and has at most 1,000,000 lines.
     pub fn book(&self) -> &Book
         ensures lent { result.now.book ≡ self.now }

@@ -69,6 +69,15 @@ impl Notifications {
         })
     }
 
+    /// A table like this one (own). OutOfMemory where memory is refused.
+    pub fn copy(&self, alloc: Global) -> Result<Notifications, OutOfMemory>
+        ensures { IfOk result (λ t. t ≡ self.now) }
+    {
+        Ok(Notifications {
+            rows: self.rows.copy(alloc)?,
+        })
+    }
+
     /// Adds a notification where there is room: its serial is the next, no word is pending, and it is bound to no thread (own).
     pub fn add(&mut self) -> ObjId
         requires { no_room self.old ≡ false }

@@ -308,3 +308,12 @@ module _ (num later : Queue → Option ℕ) (que after : ℕ → Option Queue) (
         go : (i : Option ℕ) → option_and_then after (option_and_then place i) ≡ option_and_then que (option_and_then place i)
         go None = refl
         go (Some u) = at u (place u) refl
+
+-- lines like others stand as those do
+pub lined-alike : (que : ℕ → Option Queue) (line other : ℕ → List Waiter) (place at : ℕ → Option ℕ) → IsLined que line place
+    → ((k : ℕ) → other k ≡ line k) → ((u : ℕ) → at u ≡ place u) → IsLined que other at
+lined-alike que line other place at l same there = record {
+  stands = λ u k. ap (stands_in u) (same k) ∙ l.stands u k ∙ ap (λ o. is_place o k) (sym (there u));
+  vacant = λ k none. same k ∙ l.vacant k none;
+  beyond = λ u far. there u ∙ l.beyond u far;
+}

@@ -135,6 +135,23 @@ impl<L: Lines> Waiting for ObjectQueues<L> {
         self.count(kind) == OBJECTS as usize || self.made(kind) == u32::MAX
     }
 
+    fn is_there(&self, of: Queue) -> bool {
+        match of {
+            Queue::Senders(endpoint) | Queue::Receivers(endpoint) => {
+                self.endpoints.place(endpoint).is_some()
+            }
+            Queue::Waiters(notification) => self.notifications.place(notification).is_some(),
+        }
+    }
+
+    fn copy(&self, alloc: Global) -> Result<ObjectQueues<L>, OutOfMemory> {
+        Ok(ObjectQueues {
+            endpoints: self.endpoints.copy(alloc)?,
+            notifications: self.notifications.copy(alloc)?,
+            lines: self.lines.copy(alloc)?,
+        })
+    }
+
     fn open(&mut self, kind: Kind) -> ObjId {
         // Laws for the proof: a place tells its object, before and after.
         self.endpoints.are_apart();

@@ -52,6 +52,18 @@ pub trait Waiting: Sized + Drop {
     fn is_full(&self, kind: Kind) -> bool
         ensures { result ≡ no_room (given self.now kind) (there self.now kind) };
 
+    /// Whether the object of a queue is there (own).
+    fn is_there(&self, of: Queue) -> bool
+        ensures { result ≡ has self.now of };
+
+    /// Queues like these. OutOfMemory where memory is refused.
+    fn copy(&self, alloc: Global) -> Result<Self, OutOfMemory>
+        ensures line { IfOk result (λ s. (q : Queue) → line s q ≡ line self.now q) }
+        ensures queue { IfOk result (λ s. (t : ObjId) → queue s t ≡ queue self.now t) }
+        ensures has { IfOk result (λ s. (q : Queue) → has s q ≡ has self.now q) }
+        ensures given { IfOk result (λ s. (k : Kind) → given s k ≡ given self.now k) }
+        ensures there { IfOk result (λ s. (k : Kind) → there s k ≡ there self.now k) };
+
     /// Makes an endpoint or a notification, where there is room. Its serial is the next of its kind, and nobody stands in its
     /// queues (own).
     fn open(&mut self, kind: Kind) -> ObjId

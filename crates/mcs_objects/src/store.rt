@@ -6,7 +6,9 @@ ghost use Rattle.mcs_objects.specs.Store.{IsMap, Adds, next_id, is_full, shape, 
 ghost use Rattle.mcs_types.specs.declared.id.ObjId.{ObjId};
 ghost use Rattle.mcs_types.specs.Ids.{same, ChangesAt};
 ghost use Rattle.mcs_objects.specs.Rows.{is_of, row_for, Rises};
+ghost use Rattle.slab.specs.Slab.{slab_len};
 
+use crate::copies::copy_rows;
 use crate::full::NoRoom;
 use mcs_types::{Kind, ObjId, OutOfMemory};
 use slab::Slab;
@@ -85,6 +87,39 @@ fn find(rows: &[Row], kind: Kind, id: ObjId) -> Option<Row>
     }
     let at = row_of(rows, id.serial)?;
     Some(rows[at])
+}
+
+/// A slab with the same values under the same keys, and room for so many.
+fn copy_values<T: Clone>(values: &Slab<T>, room: u16) -> Result<Slab<T>, OutOfMemory>
+    requires clones { (x y : T) → T.is_clone x y → y ≡ x }
+    requires few { slab_len values.now ≤ room }
+    ensures slots { IfOk result (λ s. s.slots ≡ values.now.slots) }
+    ensures capacity { IfOk result (λ s. s.capacity ≡ room) }
+{
+    let mut copied = values.clone()?;
+    copied.reserve_exact(room as usize - values.len())?;
+    // A place must be below the room, and the slab's keys are below its capacity.
+    if copied.capacity() > room as usize {
+        return Err(OutOfMemory);
+    }
+    Ok(copied)
+}
+
+impl<T: Clone> Store<T> {
+    /// A store like this one, where a clone of a value equals the value (own). OutOfMemory where memory is refused.
+    pub fn copy(&self, alloc: Global) -> Result<Store<T>, OutOfMemory>
+        requires clones { (x y : T) → T.is_clone x y → y ≡ x }
+        ensures { IfOk result (λ t. t ≡ self.now) }
+    {
+        let kind = self.kind;
+        Ok(Store {
+            kind,
+            room: self.room,
+            given: self.given,
+            rows: copy_rows(alloc, &self.rows, self.room as usize)?,
+            values: copy_values(&self.values, self.room)?,
+        })
+    }
 }
 
 impl<T: Drop> Store<T> {

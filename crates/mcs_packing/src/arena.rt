@@ -1,5 +1,5 @@
 //! The words of messages, each once, and the records that fit no packed form.
-ghost use Rattle.std.specs.Prelude.{◌≡◌, ◌<◌, ◌≤◌, ◌+◌, ◌^◌, [], ◌∷◌, ◌++◌, IsTrue, IfOk, IfSome, IfNone, length, vec_len, vec_capacity};
+ghost use Rattle.std.specs.Prelude.{ℕ, ◌≡◌, ◌<◌, ◌≤◌, ◌+◌, ◌^◌, [], ◌∷◌, ◌++◌, IsTrue, IfOk, IfSome, IfNone, length, vec_len, vec_capacity};
 ghost use Rattle.mcs_packing.specs.Packing.{FitsIn, Grew, GrewHead, GrowsBy, HasBadgeAt, HasMessageRoom, HasRoom, HoldsAt, IsMessageAt, content_at, record_in, word_at};
 
 use crate::packed::Packed;
@@ -14,6 +14,31 @@ pub struct Arena {
     pub words: Vec<u64>,
     pub wide: Vec<Rec>,
     pub spare: usize,
+}
+
+/// The same items, with room for that many.
+pub fn copy_items<T: Copy>(alloc: Global, items: &[T], room: usize) -> Result<Vec<T>, OutOfMemory>
+    ensures items { IfOk result (λ v. v.items ≡ items.now) }
+    ensures len { IfOk result (λ v. vec_len v ≡ length items.now) }
+    ensures capacity { IfOk result (λ v. room ≤ vec_capacity v) }
+{
+    let mut copy = Vec::with_capacity(alloc, room)?;
+    copy.extend_from_slice(items)?;
+    Ok(copy)
+}
+
+/// The same records, with room for that many.
+fn copy_records(alloc: Global, records: &[Rec], room: usize) -> Result<Vec<Rec>, OutOfMemory>
+    requires { length records.now ≤ room }
+    ensures items { IfOk result (λ v. v.items ≡ records.now) }
+    ensures len { IfOk result (λ v. vec_len v ≡ length records.now) }
+    ensures capacity { IfOk result (λ v. room ≤ vec_capacity v) }
+{
+    let mut copy = Vec::with_capacity(alloc, room)?;
+    for fact in records {
+        copy.push_reserved(fact.copy(alloc)?);
+    }
+    Ok(copy)
 }
 
 /// How many words a message has.
@@ -117,6 +142,19 @@ fn keep_one(words: &mut Vec<u64>, word: u64) -> u32
 }
 
 impl Arena {
+    /// The same words and records, with as much room. OutOfMemory where memory is refused.
+    pub fn copy(&self, alloc: Global) -> Result<Arena, OutOfMemory>
+        ensures words { IfOk result (λ a. a.words.items ≡ self.now.words.items) }
+        ensures wide { IfOk result (λ a. a.wide.items ≡ self.now.wide.items) }
+        ensures room { IfOk result (λ a. (n : ℕ) → HasRoom self.now n → HasRoom a n) }
+    {
+        Ok(Arena {
+            words: copy_items(alloc, &self.words, self.words.capacity())?,
+            wide: copy_records(alloc, &self.wide, self.wide.capacity())?,
+            spare: self.spare,
+        })
+    }
+
     /// Keeps the message of a record and a badge, and answers where. None, and nothing changes, where the message is long and
     /// the spare words are used up.
     pub(crate) fn keep(&mut self, message: &Message, badge: Badge) -> Option<u32>

@@ -21,7 +21,7 @@ pub enum PackedAnswer {
 
 /// The head of a line: who entered on which core, the entry, the answer, and where the records end among those of all
 /// lines.
-#[derive(Drop)]
+#[derive(Clone, Copy)]
 pub struct Head {
     pub entry: PackedEntry,
     pub end: usize,

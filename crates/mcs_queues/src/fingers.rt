@@ -59,6 +59,15 @@ impl Fingers {
         })
     }
 
+    /// The same fingers. OutOfMemory where memory is refused.
+    pub fn copy(&self, alloc: Global) -> Result<Fingers, OutOfMemory>
+        ensures { IfOk result (λ f. f ≡ self.now) }
+    {
+        Ok(Fingers {
+            rows: Vec::from_slice(alloc, &self.rows)?,
+        })
+    }
+
     /// The finger of a band of a line.
     fn at(&self, q: LineNo, band: u8) -> Option<ThreadNo>
         requires line { q.0 < length self.now }

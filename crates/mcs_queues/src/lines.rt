@@ -36,6 +36,12 @@ pub trait Lines: Sized + Drop {
         ensures nowhere { IfOk result (λ s. (u : ℕ) → place s u ≡ None) }
         ensures rooms { IfOk result (λ s. rooms s ≡ record { threads = threads; lines = lines }) };
 
+    /// Lines like these. OutOfMemory where memory is refused.
+    fn copy(&self, alloc: Global) -> Result<Self, OutOfMemory>
+        ensures line { IfOk result (λ s. (k : ℕ) → line s k ≡ line self.now k) }
+        ensures place { IfOk result (λ s. (u : ℕ) → place s u ≡ place self.now u) }
+        ensures rooms { IfOk result (λ s. rooms s ≡ rooms self.now) };
+
     /// Puts thread `t` into line `q`, as the last of priority `p`. Answers false, and changes nothing, where a number is out
     /// of range or the thread stands in a line.
     fn join(&mut self, t: ThreadNo, q: LineNo, p: Prio) -> bool

@@ -328,6 +328,12 @@ impl Lines for LinkedLines {
         Ok(LinkedLines { slots, fingers })
     }
 
+    fn copy(&self, alloc: Global) -> Result<LinkedLines, OutOfMemory> {
+        let slots = self.slots.copy(alloc)?;
+        let fingers = self.fingers.copy(alloc)?;
+        Ok(LinkedLines { slots, fingers })
+    }
+
     fn join(&mut self, t: ThreadNo, q: LineNo, p: Prio) -> bool {
         join_alone::<Brand>(self, t, q, p, Blank::new(1))
     }

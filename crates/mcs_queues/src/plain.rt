@@ -1,4 +1,4 @@
-ghost use Rattle.std.specs.Prelude.{◌≡◌, ◌<◌, ◌≤◌, position, vec_len, vec_capacity, nat_lt, ◌&&◌, is_none};
+ghost use Rattle.std.specs.Prelude.{◌≡◌, IfOk, ◌<◌, ◌≤◌, position, vec_len, vec_capacity, nat_lt, ◌&&◌, is_none};
 ghost use Rattle.mcs_types.specs.Waiters.{first_waiter};
 ghost use Rattle.mcs_queues.specs.Numbers.{thread_number, line_number};
 ghost use Rattle.mcs_queues.specs.Rows.{is_of, is_lower, enters, leaves, line_in, place_in};
@@ -50,6 +50,16 @@ impl Model for PlainLines {
     ghost invariant = { λ s. (s.threads ≤ vec_capacity s.rows)
         × Kept s.threads s.lines s.rows.items
         × ((k : ℕ) → NeverRises (line_in s.rows.items k)) };
+}
+
+/// The same rows, with room for that many.
+fn copy_rows(alloc: Global, rows: &[Row], room: usize) -> Result<Vec<Row>, OutOfMemory>
+    ensures items { IfOk result (λ v. v.items ≡ rows.now) }
+    ensures capacity { IfOk result (λ v. room ≤ vec_capacity v) }
+{
+    let mut copy = Vec::with_capacity(alloc, room)?;
+    copy.extend_from_slice(rows)?;
+    Ok(copy)
 }
 
 /// Where the row of a thread stands.
@@ -137,6 +147,14 @@ impl Lines for PlainLines {
             rows: Vec::with_capacity(alloc, threads as usize)?,
             threads,
             lines,
+        })
+    }
+
+    fn copy(&self, alloc: Global) -> Result<PlainLines, OutOfMemory> {
+        Ok(PlainLines {
+            rows: copy_rows(alloc, &self.rows, self.threads as usize)?,
+            threads: self.threads,
+            lines: self.lines,
         })
     }
 

@@ -98,6 +98,16 @@ impl LinkSlots {
         })
     }
 
+    /// The same slots. OutOfMemory where memory is refused.
+    pub fn copy(&self, alloc: Global) -> Result<LinkSlots, OutOfMemory>
+        ensures { IfOk result (λ s. s ≡ self.now) }
+    {
+        Ok(LinkSlots {
+            threads: Vec::from_slice(alloc, &self.threads)?,
+            lines: Vec::from_slice(alloc, &self.lines)?,
+        })
+    }
+
     /// How many threads have slots.
     pub fn threads(&self) -> usize
         ensures { result ≡ length self.now.threads }

@@ -14,7 +14,7 @@ ghost use Rattle.mcs_replies.specs.Rest.{rest_of};
 use crate::links::{self, Chain, Link};
 use crate::places::PlaceNo;
 use crate::tops::Tops;
-use mcs_objects::Store;
+use mcs_objects::{Store, copy_rows};
 use mcs_types::{Ending, Kind, OBJECTS, ObjId, OutOfMemory};
 use std::alloc::Global;
 use std::marker::Model;
@@ -110,6 +110,17 @@ impl Replies {
             rows: Store::with_room(alloc, Kind::Reply, OBJECTS)?,
             links: Vec::from_elem(alloc, nothing, OBJECTS as usize)?,
             tops: Tops::new(alloc)?,
+        })
+    }
+
+    /// A table like this one (own). OutOfMemory where memory is refused.
+    pub fn copy(&self, alloc: Global) -> Result<Replies, OutOfMemory>
+        ensures { IfOk result (λ t. t ≡ self.now) }
+    {
+        Ok(Replies {
+            rows: self.rows.copy(alloc)?,
+            links: copy_rows(alloc, &self.links, OBJECTS as usize)?,
+            tops: self.tops.copy(alloc)?,
         })
     }
 

@@ -5,6 +5,7 @@ ghost use Rattle.mcs_replies.specs.Places.{place_number};
 ghost use Rattle.mcs_replies.specs.Tops.{is_for, top_among, row_of, entered_among, left_among, home, top_at, takes_home, entered, left, moved};
 
 use crate::places::PlaceNo;
+use mcs_objects::copy_rows;
 use mcs_types::{OBJECTS, ObjId, OutOfMemory};
 use std::alloc::Global;
 use std::marker::Model;
@@ -106,6 +107,16 @@ impl Tops {
         Ok(Tops {
             homes: Vec::from_elem(alloc, nothing, OBJECTS as usize)?,
             others: Vec::with_capacity(alloc, OBJECTS as usize)?,
+        })
+    }
+
+    /// The same tops. OutOfMemory where memory is refused.
+    pub(crate) fn copy(&self, alloc: Global) -> Result<Tops, OutOfMemory>
+        ensures { IfOk result (λ t. t ≡ self.now) }
+    {
+        Ok(Tops {
+            homes: copy_rows(alloc, &self.homes, OBJECTS as usize)?,
+            others: copy_rows(alloc, &self.others, OBJECTS as usize)?,
         })
     }
 

@@ -5,7 +5,7 @@ use mcs_types::{Badge, Cap, Guard, Kind, ObjId, Rights};
 use std::marker::Model;
 
 /// The fields of a capability, or none.
-#[derive(Drop)]
+#[derive(Clone, Copy)]
 enum Fields {
     Empty,
     Filled {
@@ -20,7 +20,7 @@ enum Fields {
 
 /// A capability, or none, with its fields side by side: half the size of an `Option<Cap>`, so that twice as many slots stand in
 /// the processor's caches.
-#[derive(Drop)]
+#[derive(Clone, Copy)]
 pub(crate) struct Cell {
     fields: Fields,
 }
@@ -28,11 +28,15 @@ pub(crate) struct Cell {
 impl Model for Cell {
     ghost use Rattle.std.specs.Prelude.{Option};
     ghost use Rattle.mcs_types.specs.declared.cap.Cap.{Cap};
-    ghost use Rattle.mcs_slots.specs.Cells.{cap_in};
+    ghost use Rattle.mcs_slots.specs.Cells.{cap_in, fields_again, fields_of};
 
     ghost Value = { Option Cap };
 
     ghost view = { λ c. cap_in c.fields };
+
+    ghost inverse = { λ held. record { fields = fields_of held } };
+
+    ghost inverse_ok = { λ c h i. record { fields = fields_again c.fields i } };
 }
 
 impl Cell {

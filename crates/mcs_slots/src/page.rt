@@ -76,6 +76,16 @@ impl Page {
         Ok(Page { radix, caps })
     }
 
+    /// A page like this one. OutOfMemory where memory is refused.
+    pub(crate) fn copy(&self, alloc: Global) -> Result<Page, OutOfMemory>
+        ensures { IfOk result (λ p. p ≡ self.now) }
+    {
+        Ok(Page {
+            radix: self.radix,
+            caps: Vec::from_slice(alloc, self.caps.as_slice())?,
+        })
+    }
+
     /// The radix.
     pub fn radix(&self) -> u8
         ensures value { result ≡ self.now.radix }

@@ -35,6 +35,17 @@ fn page_number(cnode: ObjId) -> Option<usize>
     Some((cnode.serial - 1) as usize)
 }
 
+/// Pages like these.
+fn copied_pages(alloc: Global, pages: &[Page]) -> Result<Vec<Page>, OutOfMemory>
+    ensures { IfOk result (λ v. v.items ≡ pages.now) }
+{
+    let mut copied = Vec::with_capacity(alloc, pages.len())?;
+    for page in pages {
+        copied.push_reserved(page.copy(alloc)?);
+    }
+    Ok(copied)
+}
+
 impl Pages {
     ghost use Rattle.mcs_slots.specs.Pages.{empty_page, page_at, radix_of, slot_at, HasSlot, held, ArePages};
     ghost use Rattle.mcs_slots.specs.Filling.{filled};
@@ -50,6 +61,15 @@ impl Pages {
             pages.push_reserved(Page::empty(alloc, *radix)?);
         }
         Ok(Pages { pages })
+    }
+
+    /// Pages like these. OutOfMemory where memory is refused.
+    pub(crate) fn copy(&self, alloc: Global) -> Result<Pages, OutOfMemory>
+        ensures { IfOk result (λ s. s ≡ self.now) }
+    {
+        Ok(Pages {
+            pages: copied_pages(alloc, self.pages.as_slice())?,
+        })
     }
 
     /// Adds an empty CNode of a radix from 1 to 8, where fewer than 64 are there, as `len` tells: its serial is the next. The memory

@@ -62,6 +62,16 @@ impl Slots {
         Ok(Slots { pages, tallies })
     }
 
+    /// Slots like these. OutOfMemory where memory is refused.
+    pub fn copy_all(&self, alloc: Global) -> Result<Slots, OutOfMemory>
+        ensures { IfOk result (λ s. s ≡ self.now) }
+    {
+        Ok(Slots {
+            pages: self.pages.copy(alloc)?,
+            tallies: self.tallies.copy(alloc)?,
+        })
+    }
+
     /// Adds an empty CNode of a radix from 1 to 8, where fewer than 64 are there, as `len` tells: its serial is the next. The memory
     /// for its slots is taken here; where it is refused, the slots are as they were.
     pub fn add(&mut self, radix: u8) -> Result<(), OutOfMemory>

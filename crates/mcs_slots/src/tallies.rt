@@ -117,6 +117,15 @@ impl Tallies {
         })
     }
 
+    /// Tallies like these. OutOfMemory where memory is refused.
+    pub(crate) fn copy(&self, alloc: Global) -> Result<Tallies, OutOfMemory>
+        ensures { IfOk result (λ t. t ≡ self.now) }
+    {
+        Ok(Tallies {
+            tallies: Vec::from_slice(alloc, self.tallies.as_slice())?,
+        })
+    }
+
     /// The tally of the bucket of an object.
     pub(crate) fn of_bucket(&self, obj: ObjId) -> Tally
         ensures { slice_get self.now (bucket_of obj) ≡ Some result }

@@ -20,3 +20,4 @@ pub mod Doing
 pub mod Woken
 pub mod Named
 pub mod Passing
+pub mod Living

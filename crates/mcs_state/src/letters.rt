@@ -1,10 +1,11 @@
 //! Messages that are open.
-ghost use Rattle.std.specs.Prelude.{◌≡◌, IsSome, Some};
+ghost use Rattle.std.specs.Prelude.{◌≡◌, ◌∷◌, ◌++◌, [], IfOk, OnOk, IsSome, Some};
 ghost use Rattle.mcs_book.specs.Statuses.{letter_mail};
 ghost use Rattle.mcs_threads.specs.Tables.{made, row_of, SameRows, SetsMail};
 
 use mcs_threads::Threads;
-use mcs_types::{Letter, Mail, Message, ObjId};
+use mcs_types::{Letter, Mail, Message, ObjId, OutOfMemory};
+use std::alloc::Global;
 use std::marker::Model;
 
 /// An open message, with a spare one for the answer to who receives it. Clauses see the letter.
@@ -32,6 +33,61 @@ impl OpenLetter {
     {
         &self.letter
     }
+
+    /// One like this. OutOfMemory where memory is refused.
+    fn copy(&self, alloc: Global) -> Result<OpenLetter, OutOfMemory>
+        ensures { IfOk result (λ o. o ≡ self.now) }
+    {
+        let letter = &self.letter;
+        let answer = letter.message.spare(alloc)?;
+        let letter = Letter {
+            number: letter.number,
+            sender: letter.sender,
+            endpoint: letter.endpoint,
+            mode: letter.mode,
+            badge: letter.badge,
+            message: letter.message.copy(alloc)?,
+        };
+        Ok(OpenLetter { letter, answer })
+    }
+}
+
+/// Adds an open message, or none, to the end.
+fn push(
+    letters: &mut Vec<Option<OpenLetter>>,
+    letter: Option<OpenLetter>,
+) -> Result<(), OutOfMemory>
+    ensures { OnOk result (letters.new.items ≡ letters.old.items ++ letter ∷ []) }
+{
+    match letters.push(letter) {
+        Ok(()) => Ok(()),
+        Err(_) => Err(OutOfMemory),
+    }
+}
+
+/// What is open in a place, once more.
+fn copied(alloc: Global, letter: &Option<OpenLetter>) -> Result<Option<OpenLetter>, OutOfMemory>
+    ensures { IfOk result (λ o. o ≡ letter.now) }
+{
+    match letter {
+        Some(letter) => Ok(Some(letter.copy(alloc)?)),
+        None => Ok(None),
+    }
+}
+
+/// Open messages like these. OutOfMemory where memory is refused.
+pub fn copy_letters(
+    alloc: Global,
+    letters: &[Option<OpenLetter>],
+) -> Result<Vec<Option<OpenLetter>>, OutOfMemory>
+    ensures { IfOk result (λ v. v.items ≡ letters.now) }
+{
+    let mut copies = Vec::with_capacity(alloc, letters.len())?;
+    for letter in letters {
+        let letter = copied(alloc, letter)?;
+        push(&mut copies, letter)?;
+    }
+    Ok(copies)
 }
 
 /// A letter becomes the mail of its receiver, where that is a thread that is there. The answer is an equal message.

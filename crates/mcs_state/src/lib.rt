@@ -26,6 +26,7 @@ mod waking;
 pub use changing::{Change, change_awake};
 pub use checks::{find_object, of_kind, with_read, with_write};
 pub use mcs_replies::Chain;
+pub use mcs_threads::ThreadRow;
 pub use queued::Queued;
 pub use returning::{give_back, stand};
 pub use state::State;

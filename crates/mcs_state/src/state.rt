@@ -18,7 +18,7 @@ mod queries;
 mod replying;
 
 use crate::giving::{attend, attended, give};
-use crate::letters::{OpenLetter, deliver};
+use crate::letters::{OpenLetter, copy_letters, deliver};
 use mcs_book::Book;
 use mcs_contexts::Contexts;
 use mcs_notifications::Notifications;
@@ -113,6 +113,25 @@ impl<W: Waiting> State<W> {
             letters: empty_places(alloc, OBJECTS)?,
             book: Book::new(alloc, cores),
             sent: 0,
+        })
+    }
+
+    /// A state like this one. OutOfMemory where memory is refused.
+    pub fn copy(&self, alloc: Global) -> Result<State<W>, OutOfMemory>
+        ensures book { IfOk result (λ s. s.book ≡ self.now.book) }
+        ensures hand { IfOk result (λ s. s.hand ≡ self.now.hand) }
+    {
+        // Those whose letting go is long to prove come last.
+        Ok(State {
+            slots: self.slots.copy_all(alloc)?,
+            threads: self.threads.copy(alloc)?,
+            contexts: self.contexts.copy(alloc)?,
+            replies: self.replies.copy(alloc)?,
+            notifications: self.notifications.copy(alloc)?,
+            queues: self.queues.copy(alloc)?,
+            letters: copy_letters(alloc, &self.letters)?,
+            book: self.book.copy(alloc)?,
+            sent: self.sent,
         })
     }
 

@@ -1,5 +1,5 @@
 //! The table of threads.
-ghost use Rattle.std.specs.Prelude.{◌≡◌, ◌<◌, ◌≤◌, ◌+◌, ◌↔◌, IsSome, IfOk, IfNone, Some, None, option_copied};
+ghost use Rattle.std.specs.Prelude.{◌≡◌, ◌<◌, ◌≤◌, ◌+◌, ◌↔◌, IsSome, IfOk, IfNone, Some, None, length, option_copied, vec_capacity};
 ghost use Rattle.mcs_types.specs.declared.id.ObjId.{ObjId};
 ghost use Rattle.mcs_types.specs.Ids.{IsThread};
 ghost use Rattle.mcs_threads.specs.declared.row.Block.{Block};
@@ -37,6 +37,46 @@ impl Drop for Threads {
     }
 }
 
+/// These rows, with the room for 256.
+fn copied_rows(
+    alloc: Global,
+    rows: &[Option<ThreadRow>],
+) -> Result<Vec<Option<ThreadRow>>, OutOfMemory>
+    ensures rows { IfOk result (λ v. v.items ≡ rows.now) }
+    ensures room { IfOk result (λ v. 256 ≤ vec_capacity v) }
+{
+    let mut copied = Vec::with_capacity(alloc, OBJECTS as usize)?;
+    copied.extend_from_slice(rows)?;
+    Ok(copied)
+}
+
+/// A mail like this one.
+fn copied_mail(alloc: Global, mail: &Option<Mail>) -> Result<Option<Mail>, OutOfMemory>
+    ensures { IfOk result (λ m. m ≡ mail.now) }
+{
+    Ok(match mail {
+        None => None,
+        Some(Mail::Message { badge, message }) => Some(Mail::Message {
+            badge: *badge,
+            message: message.copy(alloc)?,
+        }),
+        Some(Mail::Word { word }) => Some(Mail::Word { word: *word }),
+    })
+}
+
+/// These mails, at most 256, with the room for so many.
+fn copied_mails(alloc: Global, mails: &[Option<Mail>]) -> Result<Vec<Option<Mail>>, OutOfMemory>
+    requires { length mails.now ≤ 256 }
+    ensures mails { IfOk result (λ v. v.items ≡ mails.now) }
+    ensures room { IfOk result (λ v. 256 ≤ vec_capacity v) }
+{
+    let mut copied = Vec::with_capacity(alloc, OBJECTS as usize)?;
+    for mail in mails {
+        copied.push_reserved(copied_mail(alloc, mail)?);
+    }
+    Ok(copied)
+}
+
 impl Threads {
     ghost use Rattle.mcs_threads.specs.Tables.{made, row_of, mail_of, next_thread, ChangesRow, SameRows, SameMails, SetsRow, SetsMail};
 
@@ -49,6 +89,16 @@ impl Threads {
         Ok(Threads {
             rows: Vec::with_capacity(alloc, OBJECTS as usize)?,
             mails: Vec::with_capacity(alloc, OBJECTS as usize)?,
+        })
+    }
+
+    /// A table like this one. OutOfMemory where memory is refused.
+    pub fn copy(&self, alloc: Global) -> Result<Threads, OutOfMemory>
+        ensures { IfOk result (λ t. t ≡ self.now) }
+    {
+        Ok(Threads {
+            rows: copied_rows(alloc, self.rows.as_slice())?,
+            mails: copied_mails(alloc, self.mails.as_slice())?,
         })
     }
 

@@ -1,5 +1,5 @@
 -- A line as the list that joins, parts and priorities build is the line in order.
-use Rattle.std.specs.Prelude.{ℕ, ◌≤◌, ◌<◌, Bool, true, false, cond, ◌||◌, ◌≡◌, ◌≢◌, ◌⊎◌, List, [], ◌∷◌, Some, None, refl, length, nat_lt, filter, unwrap_or}
+use Rattle.std.specs.Prelude.{ℕ, ◌≤◌, ◌<◌, Bool, true, false, cond, ◌||◌, ◌≡◌, ◌≢◌, ◌⊎◌, List, [], ◌∷◌, Some, None, refl, length, nat_lt, filter, map, unwrap_or}
 use Rattle.std.proofs.Common.{sym, ◌∙◌, ap, inl, inr, arith, subst}
 use Rattle.mcs_types.specs.declared.id.ObjId.{ObjId}
 use Rattle.mcs_types.specs.declared.id.Kind.TheVariants as kind
@@ -261,6 +261,14 @@ ordered-sorted R (v ∷ vs) e o = (ahead-all R v vs e.0 e.1 o.0, ordered-sorted 
 -- the threads of a line's waiters stand in order
 pub line-sorted : (R : Log) (q : Queue) → Sound R → Sorted (is_ahead R) (threads_in (growing_queue R q))
 line-sorted R q s = let i : InOrder R (growing_queue R q) = in_order R q s in ordered-sorted R (growing_queue R q) i.each i.ordered
+
+-- a line's waiters have the priorities that their threads have
+pub waiters-again : (R : Log) (q : Queue) → Sound R → map (λ (t : ObjId). record { thread = t; priority = prio_of R t }) (threads_in (growing_queue R q)) ≡ growing_queue R q
+waiters-again R q s = let i : InOrder R (growing_queue R q) = in_order R q s in go (growing_queue R q) i.each
+  where
+    go : (vs : List Waiter) → EachWaiter (IsOf R) vs → map (λ (t : ObjId). record { thread = t; priority = prio_of R t }) (threads_in vs) ≡ vs
+    go [] h = refl
+    go (v ∷ vs) h = ap (λ n. (record v { priority = n }) ∷ map (λ (t : ObjId). record { thread = t; priority = prio_of R t }) (threads_in vs)) (sym h.0.0) ∙ ap (λ ws. v ∷ ws) (go vs h.1)
 
 -- nothing comes before itself
 before-not_self : (p a : ℕ) → comes_before p a p a ≡ true → ⊥

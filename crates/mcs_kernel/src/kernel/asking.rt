@@ -1,7 +1,7 @@
 //! Questions to the kernel: who stands where, who holds and owes what, and what capabilities name. None takes memory.
 ghost use Rattle.std.specs.Prelude.{◌≡◌, option_copied, option_map};
 ghost use Rattle.mcs_book.specs.Logs.{counted};
-ghost use Rattle.mcs_book.specs.Objects.{form_of, makes_kind};
+ghost use Rattle.mcs_book.specs.Objects.{form_of, is_alive, makes_kind};
 ghost use Rattle.mcs_book.specs.Lookup.{radix_kept};
 ghost use Rattle.mcs_book.specs.History.{log_of};
 ghost use Rattle.mcs_book.specs.Queues.{queued_in};
@@ -10,11 +10,12 @@ ghost use Rattle.mcs_book.specs.Contexts.{holder_of, context_of, home_of};
 ghost use Rattle.mcs_book.specs.Messages.{next_message, open_of};
 ghost use Rattle.mcs_book.specs.Notifications.{bound_of, tied_to};
 ghost use Rattle.mcs_book.specs.Replies.{owed_by, receiver_with};
-ghost use Rattle.mcs_book.specs.Slots.{slot};
+ghost use Rattle.mcs_book.specs.Slots.{count_of, slot};
 ghost use Rattle.mcs_replies.specs.Rest.{rest_of};
 ghost use Rattle.mcs_state.specs.Now.{so_far};
 ghost use Rattle.mcs_state.specs.Nexts.{behind};
 ghost use Rattle.mcs_state.specs.Questions.{priority_of, word_of, named_for, placed_for, root_said};
+ghost use Rattle.mcs_state.specs.Saying.{row_said};
 ghost use Rattle.mcs_state.specs.Tables.{core_said};
 ghost use Rattle.mcs_cspace.specs.Spaces.{named_by};
 
@@ -22,7 +23,7 @@ use super::Kernel;
 use mcs_object_queues::ObjectQueues;
 use mcs_queues::Lines;
 use mcs_slots::SlotId;
-use mcs_state::{Chain, Queued};
+use mcs_state::{Chain, Queued, ThreadRow};
 use mcs_types::{Cap, CoreId, Kind, Letter, ObjId, Place, Prio, Queue, Refusal};
 
 impl<L: Lines> Kernel<L> {
@@ -31,6 +32,27 @@ impl<L: Lines> Kernel<L> {
         ensures { result ≡ counted (makes_kind kind) (log_of self.now) }
     {
         self.state.made(kind)
+    }
+
+    /// Whether an object is there: it was made, and was not closed (own).
+    pub fn is_there(&self, object: ObjId) -> bool
+        ensures { result ≡ is_alive (log_of self.now) object }
+    {
+        self.state.is_there(object)
+    }
+
+    /// What is kept of a thread; None where it is not there (manual: Threads and Execution).
+    pub fn thread(&self, thread: ObjId) -> Option<&ThreadRow>
+        ensures { option_copied result ≡ row_said (log_of self.now) thread }
+    {
+        self.state.thread(thread)
+    }
+
+    /// How many slots hold a capability to an object (manual: Capability Spaces).
+    pub fn held(&self, object: ObjId) -> u32
+        ensures { result ≡ count_of (log_of self.now) object }
+    {
+        self.state.count_of(object)
     }
 
     /// The priority of a thread; None where it is not there (manual: Threads and Execution).

@@ -1,11 +1,13 @@
 //! Questions to the tables of what may not be there: each answers its definition over all records so far.
-ghost use Rattle.std.specs.Prelude.{◌≡◌, option_map};
+ghost use Rattle.std.specs.Prelude.{◌≡◌, option_copied, option_map};
+ghost use Rattle.mcs_book.specs.Objects.{is_alive};
 ghost use Rattle.mcs_book.specs.Queues.{queued_in};
 ghost use Rattle.mcs_book.specs.Chains.{chain_of};
 ghost use Rattle.mcs_replies.specs.Rest.{rest_of};
 ghost use Rattle.mcs_state.specs.Now.{so_far};
 ghost use Rattle.mcs_state.specs.Nexts.{behind};
 ghost use Rattle.mcs_state.specs.Questions.{priority_of, word_of, named_for, placed_for, root_said};
+ghost use Rattle.mcs_state.specs.Saying.{row_said};
 ghost use Rattle.mcs_state.specs.Tables.{core_said};
 ghost use Rattle.mcs_cspace.specs.Spaces.{named_by};
 
@@ -15,7 +17,8 @@ use mcs_cspace::{lookup, lookup_slot};
 use mcs_object_queues::Waiting;
 use mcs_replies::Chain;
 use mcs_slots::SlotId;
-use mcs_types::{Cap, CoreId, OBJECTS, ObjId, Place, Prio, Queue, Refusal};
+use mcs_threads::ThreadRow;
+use mcs_types::{Cap, CoreId, Kind, OBJECTS, ObjId, Place, Prio, Queue, Refusal};
 
 impl<W: Waiting> State<W> {
     /// The threads in a queue, first to last; none where its object is not there.
@@ -37,6 +40,28 @@ impl<W: Waiting> State<W> {
     {
         self.is_sound();
         self.replies.chain_of(context)
+    }
+
+    /// Whether an object is there: it was made, and was not closed (own).
+    pub fn is_there(&self, object: ObjId) -> bool
+        ensures { result ≡ is_alive (so_far self.now) object }
+    {
+        self.is_sound();
+        match object.kind {
+            Kind::CNode => self.was_made(object),
+            Kind::Thread => self.threads.get(object).is_some(),
+            Kind::Endpoint => self.queues.is_there(Queue::Senders(object)),
+            Kind::Notification => self.queues.is_there(Queue::Waiters(object)),
+            Kind::Reply => self.replies.is_there(object),
+            Kind::Context => self.contexts.core(object).is_some(),
+        }
+    }
+
+    /// What is kept of a thread; None where it is not there (manual: Threads and Execution).
+    pub fn thread(&self, thread: ObjId) -> Option<&ThreadRow>
+        ensures { option_copied result ≡ row_said (so_far self.now) thread }
+    {
+        self.threads.get(thread)
     }
 
     /// The priority of a thread; None where it is not there (manual: Threads and Execution).
