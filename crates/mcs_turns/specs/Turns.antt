@@ -6,6 +6,7 @@ use Rattle.mcs_types.specs.declared.id.CoreId.{CoreId}
 use Rattle.mcs_types.specs.declared.entry.Answer.{Answer}
 use Rattle.mcs_types.specs.declared.entry.Entry.{Entry}
 use Rattle.mcs_types.specs.declared.entry.Step.{Step}
+use Rattle.mcs_types.specs.Ids.{same}
 use Rattle.mcs_types.specs.Ranges.{InRange}
 use Rattle.mcs_book.specs.Boots.{Boot}
 use Rattle.mcs_book.specs.History.{Book, log_of, line_for}
@@ -131,3 +132,7 @@ IsOver users g = (core : CoreId) → core.0 < g.book.boot.cores → IsPickOf use
 -- the numbers of all entries are in their ranges
 abbrev pub AreInRange : List User → Type 0
 AreInRange users = (i j : ℕ) (u : User) (e : Entry) → slice_get users i ≡ Some u → slice_get u.entries j ≡ Some e → InRange e
+
+-- no two users have one thread
+abbrev pub AreApart : List User → Type 0
+AreApart users = (i j : ℕ) (u v : User) → slice_get users i ≡ Some u → slice_get users j ≡ Some v → same u.thread v.thread ≡ true → i ≡ j

@@ -5,5 +5,5 @@
 mod laws;
 mod position;
 
-pub use laws::{run_legal, run_long};
+pub use laws::{one_pick, one_turn, run_legal, run_long};
 pub use position::{Pick, Position};

@@ -1,3 +1,6 @@
 mod Adding
+mod Order
 mod Walking
+mod Among
 mod Picking
+mod Turning

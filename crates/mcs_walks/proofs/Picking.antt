@@ -6,15 +6,15 @@ use Rattle.std.specs.Option.{IfSome}
 use Rattle.std.specs.List.{list_any, Contains}
 use Rattle.std.proofs.Common.{refl, ap, sym, ◌∙◌, subst, arith, rules, true, append_assoc, inl, inr}
 use Rattle.std.proofs.Math.Seq.{drop-cons}
-use Rattle.std.proofs.lemmas.Bool.{eqb-true, ltb-true}
+use Rattle.std.proofs.lemmas.Bool.{eq-eqb, eqb-true, ltb-true}
 use Rattle.std.proofs.lemmas.Bool.Decides.{nat_tests}
 use Rattle.std.proofs.lemmas.List.{length-append}
 use Rattle.std.proofs.lemmas.Map.Views.{Contains-from_any}
 use Rattle.std.proofs.lemmas.Option.{slice_get_within, get_or_from_slice_get}
-use Rattle.mcs_types.proofs.Ids.{parts}
+use Rattle.mcs_types.proofs.Ids.{both, parts}
 use Rattle.mcs_types.specs.declared.id.ObjId.{ObjId}
 use Rattle.mcs_types.specs.declared.id.CoreId.{CoreId}
-use Rattle.mcs_walks.specs.Walks.{Gives, IsPickBelow, left_stale}
+use Rattle.mcs_walks.specs.Walks.{Gives, IsPickBelow, left_stale, picked_of}
 use Rattle.mcs_book.specs.Logs.{Log}
 use Rattle.mcs_book.specs.Picking.{GoesBefore}
 use Rattle.mcs_book.specs.Threads.{prio_of}
@@ -70,7 +70,7 @@ none-next xs n core low =
     let left : n - core ≡ suc (n - (core + 1)) = omega (arith, low) in
     ap (λ k. xs ++ none_stale k) left ∙ sym (append_assoc xs ([] ∷ []) (none_stale (n - (core + 1))))
 
-same-pick : (k j : Pick) → is_same k j ≡ true → k ≡ j
+pub same-pick : (k j : Pick) → is_same k j ≡ true → k ≡ j
 same-pick k j e =
     let p = parts (k.user == j.user) (k.number == j.number) e in
     let user : k.user ≡ j.user = eqb-true k.user j.user p.0 in
@@ -97,7 +97,7 @@ last {A = A} ks k i j at = go ks i at
 
 -- what holds of each core's pick holds with that of one core more
 -- below the next number is below it, or it
-nat_split : (i n : ℕ) → i < n + 1 → (i < n) ⊎ (i ≡ n)
+pub nat_split : (i n : ℕ) → i < n + 1 → (i < n) ⊎ (i ≡ n)
 nat_split i n low = go (nat_lt i n) refl
   where
     go : (b : Bool) → nat_lt i n ≡ b → (i < n) ⊎ (i ≡ n)
@@ -156,3 +156,33 @@ pub ok-some : {A E : Type 0} (r : Result (Option A) E) (P Q : Type 0) → (P →
 ok-some (Ok (Some a)) P Q f h = f h
 ok-some (Ok None) P Q f h = h
 ok-some (Err e) P Q f h = h
+
+-- what the place of a core has is its pick, and the other way round
+pub pick-there : (ks : List (Option Pick)) (i : ℕ) (k : Pick) → slice_get ks i ≡ Some (Some k) → picked_of ks i ≡ Some k
+pick-there ks i k e = rw e refl
+
+pub there-picked : (ks : List (Option Pick)) (i : ℕ) (k : Pick) → picked_of ks i ≡ Some k → slice_get ks i ≡ Some (Some k)
+there-picked ks i k = go (slice_get ks i) refl
+  where
+    go : (o : Option (Option Pick)) → slice_get ks i ≡ o → picked_of ks i ≡ Some k → slice_get ks i ≡ Some (Some k)
+    go None e h = let gone : picked_of ks i ≡ None = rw e refl in absurd cc
+    go (Some p) e h = let is : picked_of ks i ≡ p = rw e refl in e ∙ ap (λ x. Some x) (sym is ∙ h)
+
+-- a pick is the same as itself
+pub same-itself : (k : Pick) → is_same k k ≡ true
+same-itself k = both (k.user == k.user) (k.number == k.number) (eq-eqb k.user k.user refl) (eq-eqb k.number k.number refl)
+
+pub is-there : (ks : List (Option Pick)) (i : ℕ) (k j : Pick) → picked_of ks i ≡ Some j → is_same k j ≡ true → slice_get ks i ≡ Some (Some k)
+is-there ks i k j at is = there-picked ks i k (at ∙ ap (λ p. Some p) (sym (same-pick k j is)))
+
+pub not-there : (ks : List (Option Pick)) (i : ℕ) (k j : Pick) → picked_of ks i ≡ Some j → is_same k j ≡ false → slice_get ks i ≡ Some (Some k) → ⊥
+not-there ks i k j at other there =
+    let one : Some k ≡ Some j = sym (pick-there ks i k there) ∙ at in
+    let wrong : true ≡ false = sym (same-itself k) ∙ ap (λ p. is_same k p) (some-pick k j one) ∙ other in
+    absurd cc
+  where
+    some-pick : (a b : Pick) → Some a ≡ Some b → a ≡ b
+    some-pick a b e = search rules
+
+pub none-there : (ks : List (Option Pick)) (i : ℕ) (k : Pick) → picked_of ks i ≡ None → slice_get ks i ≡ Some (Some k) → ⊥
+none-there ks i k none there = let wrong : None ≡ Some k = sym none ∙ pick-there ks i k there in absurd cc

@@ -1,5 +1,6 @@
 -- Users.
-use Rattle.std.specs.Prelude.{nat_lt, List, [], ◌∷◌, ◌++◌, None, if◌then◌else◌}
+use Rattle.std.specs.Prelude.{◌≡◌, ◌≤◌, ◌||◌, Bool, false, nat_lt, List, [], ◌∷◌, ◌++◌, None, if◌then◌else◌}
+use Rattle.std.specs.List.{AllByRecursion}
 use Rattle.mcs_types.specs.declared.id.ObjId.{ObjId}
 use Rattle.mcs_types.specs.declared.entry.Entry.{Entry}
 use Rattle.mcs_types.specs.Ids.{same}
@@ -19,3 +20,17 @@ with_entry [] t e = begun_with t e ∷ []
 with_entry (u ∷ us) t e =
     if same u.thread t then with_more u e ∷ us
     else (if nat_lt t.serial u.thread.serial then begun_with t e ∷ u ∷ us else u ∷ with_entry us t e)
+
+-- whether it is the user of a thread, or one of a later thread
+abbrev pub is_place_for : ObjId → User → Bool
+is_place_for t u = same u.thread t || nat_lt t.serial u.thread.serial
+
+-- v stands behind u: its thread is another one, of no lower serial
+pub record StandsBehind (u v : User) : Type 0 where
+  pub other : same u.thread v.thread ≡ false
+  pub serial : u.thread.serial ≤ v.thread.serial
+
+-- each user stands behind all before it
+abbrev pub AreInOrder : List User → Type 0
+AreInOrder [] = Unit {0}
+AreInOrder (u ∷ us) = AllByRecursion (StandsBehind u) us × AreInOrder us

@@ -1,5 +1,6 @@
 -- What a walk finds of its users.
-use Rattle.std.specs.Prelude.{ℕ, Bool, true, false, ◌≡◌, ◌<◌, ◌⊎◌, ◌==◌, cond, List, [], ◌∷◌, Option, Some, None, slice_get}
+use Rattle.std.specs.Prelude.{ℕ, zero, suc, Bool, true, false, not, ◌≡◌, ◌<◌, ◌⊎◌, ◌==◌, ◌++◌, cond, List, [], ◌∷◌, Option, Some, None, slice_get, unwrap_or}
+use Rattle.std.specs.List.{Contains}
 use Rattle.mcs_types.specs.declared.id.ObjId.{ObjId}
 use Rattle.mcs_types.specs.declared.id.CoreId.{CoreId}
 use Rattle.mcs_types.specs.declared.entry.Answer.{Answer}
@@ -11,11 +12,12 @@ use Rattle.mcs_book.specs.Statuses.{may_enter}
 use Rattle.mcs_book.specs.Picking.{GoesBefore}
 use Rattle.mcs_turns.specs.declared.position.Position.{Position}
 use Rattle.mcs_turns.specs.declared.position.Pick.{Pick}
-use Rattle.mcs_turns.specs.Due.{with_any_pick, without_user}
-use Rattle.mcs_turns.specs.Turns.{User, Going, CanGive, IsStale, due}
+use Rattle.mcs_turns.specs.Due.{is_same, with_any_pick, without_user}
+use Rattle.mcs_turns.specs.Turns.{User, Going, CanGive, IsStale, IsTurn, due}
 use Rattle.mcs_kernel.specs.declared.fault.EnterFault.{EnterFault}
-use Rattle.mcs_kernel.specs.declared.fault.EnterFault.TheVariants.{BookFull}
+use Rattle.mcs_kernel.specs.declared.fault.EnterFault.TheVariants.{BookFull, OutOfMemory}
 use Rattle.mcs_walks.specs.declared.walk.Candidate.{Candidate}
+use Rattle.mcs_walks.specs.declared.walk.Turn.{Turn}
 
 -- a thread may enter on some core
 pub record EntersSomewhere (R : Log) (t : ObjId) : Type 0 where
@@ -41,6 +43,10 @@ abbrev pub is_let_in : Option EnterFault → Bool
 is_let_in None = true
 is_let_in (Some BookFull) = true
 is_let_in (Some _) = false
+
+-- an entry of a thread that may enter is turned away for this
+abbrev pub IsLimit : EnterFault → Type 0
+IsLimit f = (f ≡ BookFull) ⊎ (f ≡ OutOfMemory)
 
 -- the pick of a core among those of all
 abbrev pub picked_of : List (Option Pick) → ℕ → Option Pick
@@ -69,3 +75,47 @@ last_answer b = answer_of b.lines
     answer_of : List Line → Option Answer
     answer_of [] = None
     answer_of (l ∷ ls) = Some l.answer
+
+-- the rule has no such turn
+abbrev pub HasNoTurn : List User → Going → CoreId → Pick → Type 0
+HasNoTurn users g core k = (h : Going) → IsTurn users core k g h → ⊥
+
+-- an entry of a user on a core
+abbrev pub turn_of : CoreId → Pick → Turn
+turn_of core k = record { core = core; pick = k }
+
+-- whether it is another pick than one, if there is one
+abbrev pub is_other : Option Pick → Pick → Bool
+is_other None j = true
+is_other (Some k) j = not (is_same k j)
+
+-- the turns of a core that enter what it picked before, but for what it picks now
+abbrev pub stale_turns : CoreId → Option Pick → List Pick → List Turn
+stale_turns core now [] = []
+stale_turns core now (j ∷ js) = cond (is_other now j) (turn_of core j ∷ stale_turns core now js) (stale_turns core now js)
+
+-- the turn of a core that enters what it picks now, if it picks one
+abbrev pub turn_now : CoreId → Option Pick → List Turn
+turn_now core None = []
+turn_now core (Some k) = turn_of core k ∷ []
+
+-- the turns of a core that picks this now and picked those before
+abbrev pub turns_of : CoreId → Option Pick → List Pick → List Turn
+turns_of core now js = turn_now core now ++ stale_turns core now js
+
+-- the turns of a core, where the cores have these picks
+abbrev pub turns_on : Going → List (Option Pick) → ℕ → List Turn
+turns_on g picks i = turns_of (record { 0 = i }) (picked_of picks i) (unwrap_or (slice_get g.stale i) [])
+
+-- those of the first n cores
+abbrev pub turns_below : Going → List (Option Pick) → ℕ → List Turn
+turns_below g picks zero = []
+turns_below g picks (suc n) = turns_below g picks n ++ turns_on g picks n
+
+-- each turn that the rule has is among these
+abbrev pub HasEachTurn : List User → Going → List Turn → Type 0
+HasEachTurn users g ts = (core : CoreId) (k : Pick) (h : Going) → IsTurn users core k g h → Contains ts (turn_of core k)
+
+-- each of these turns enters what its core picks, or picked before
+abbrev pub ArePicked : Going → List (Option Pick) → List Turn → Type 0
+ArePicked g picks ts = (t : Turn) → Contains ts t → IsPicked g picks t.core t.pick

@@ -1,4 +1,6 @@
 //! Why a search ends early.
+ghost use Rattle.mcs_walks.specs.Walks.{IsLimit};
+
 use mcs_kernel::EnterFault;
 use mcs_types::OutOfMemory;
 use std::alloc::{AllocError, AllocFailed};
@@ -30,11 +32,13 @@ impl<T: Drop> From<AllocFailed<T>> for OrdersFault {
     }
 }
 
-/// Why an entry that was turned away ends a search; None where its thread may not enter.
-pub fn ends_search(fault: EnterFault) -> Option<OrdersFault> {
+/// Why an entry was turned away whose thread may enter.
+pub(crate) fn limit_of(fault: EnterFault) -> OrdersFault
+    requires { IsLimit fault }
+{
     match fault {
-        EnterFault::BookFull => Some(OrdersFault::BookFull),
-        EnterFault::OutOfMemory => Some(OrdersFault::OutOfMemory),
-        EnterFault::NotRunning | EnterFault::NoContext | EnterFault::WrongCore => None,
+        EnterFault::BookFull => OrdersFault::BookFull,
+        EnterFault::OutOfMemory => OrdersFault::OutOfMemory,
+        EnterFault::NotRunning | EnterFault::NoContext | EnterFault::WrongCore => unreachable!(),
     }
 }

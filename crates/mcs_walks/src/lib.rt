@@ -3,12 +3,15 @@
 #![tactic(auto)]
 
 mod fault;
+mod lists;
 mod picks;
+mod turns;
 mod users;
 mod walk;
 
-pub use fault::{OrdersFault, ends_search};
+pub use fault::OrdersFault;
+pub use lists::UserList;
 pub use mcs_turns::{Pick, Position};
 pub use picks::Picks;
-pub use users::{UserList, Users};
+pub use users::Users;
 pub use walk::{Turn, Walk};

@@ -95,4 +95,24 @@ impl Picks {
         }
         Ok(Picks { picks })
     }
+
+    /// The same picks once more. OutOfMemory where memory was refused.
+    pub fn copy(&self, alloc: Global) -> Result<Picks, OutOfMemory>
+        ensures { IfOk result (λ p. p ≡ self.now) }
+    {
+        let picks = Vec::from_slice(alloc, self.picks.as_slice())?;
+        Ok(Picks { picks })
+    }
+}
+
+/// The same picks of each core once more. OutOfMemory where memory was refused.
+pub(crate) fn copy_all(alloc: Global, all: &[Picks]) -> Result<Vec<Picks>, OutOfMemory>
+    ensures { IfOk result (λ v. v.items ≡ all.now) }
+{
+    let mut copies = Vec::with_capacity(alloc, all.len())?;
+    for picks in all {
+        let copy = picks.copy(alloc)?;
+        push(&mut copies, copy)?;
+    }
+    Ok(copies)
 }

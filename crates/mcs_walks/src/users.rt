@@ -1,77 +1,30 @@
 //! Users: the entries of each of some threads.
-ghost use Rattle.std.specs.Prelude.{ℕ, ◌≡◌, ◌<◌, ◌≤◌, ◌∷◌, ◌++◌, ◌||◌, [], true, false, IfOk, OnOk, OnErr, nat_lt, option_copied, position, slice_get, take, drop, set, length, Some};
+ghost use Rattle.std.specs.Prelude.{ℕ, ◌≡◌, [], true, false, OnOk, OnErr, option_copied, position, slice_get, set, Some};
 ghost use Rattle.mcs_types.specs.Ids.{same};
-ghost use Rattle.mcs_turns.specs.Turns.{User};
-ghost use Rattle.mcs_walks.specs.Users.{begun_with, with_entry, with_more};
+ghost use Rattle.mcs_turns.specs.Turns.{User, AreApart};
+ghost use Rattle.mcs_walks.specs.Users.{with_entry};
 
+use crate::lists::{Lists, UserList};
 use mcs_types::{Entry, ObjId, OutOfMemory};
 use std::alloc::Global;
 use std::marker::Model;
 
-/// A thread, its entries in the order in which it gives them, and the number of the entry, from 0, with which it goes on after
-/// the last; None where the last is its last.
-#[derive(Drop)]
-pub struct UserList {
-    pub thread: ObjId,
-    pub entries: Vec<Entry>,
-    pub again: Option<usize>,
-}
-
-impl Model for UserList {
-    ghost use Rattle.mcs_turns.specs.Turns.{User};
-
-    ghost Value = { User };
-
-    ghost view = { λ l. record { thread = l.thread; entries = l.entries.items; again = l.again } };
-}
-
-impl UserList {
-    /// A thread with one entry.
-    fn new(alloc: Global, thread: ObjId, entry: Entry) -> Result<UserList, OutOfMemory>
-        ensures { IfOk result (λ l. l ≡ begun_with thread entry) }
-    {
-        let mut entries = Vec::new(alloc);
-        match entries.push(entry) {
-            Ok(()) => Ok(UserList {
-                thread,
-                entries,
-                again: None,
-            }),
-            Err(_) => Err(OutOfMemory),
-        }
-    }
-
-    /// The entry of a number, from 0, if there is one.
-    pub fn at(&self, number: usize) -> Option<&Entry>
-        ensures { option_copied result ≡ slice_get self.now.entries number }
-    {
-        self.entries.get(number)
-    }
-
-    /// Adds an entry to the end. OutOfMemory where a growth was refused: then the list is as it was.
-    fn push(&mut self, entry: Entry) -> Result<(), OutOfMemory>
-        ensures added { OnOk result
-            (self.new ≡ record self.old { entries = self.old.entries ++ entry ∷ [] }) }
-        ensures unchanged { OnErr result (self.new ≡ self.old) }
-    {
-        self.entries.push(entry).map_err(|_| OutOfMemory)
-    }
-}
-
-/// The users of a script. Clauses see a list of threads, each with its entries.
+/// The users of a script, no two of one thread. Clauses see a list of threads, each with its entries.
 #[derive(Drop)]
 pub struct Users {
-    alloc: Global,
-    lists: Vec<UserList>,
+    lists: Lists,
 }
 
 impl Model for Users {
     ghost use Rattle.std.specs.Prelude.{List};
     ghost use Rattle.mcs_turns.specs.Turns.{User};
+    ghost use Rattle.mcs_walks.specs.Users.{AreInOrder};
 
     ghost Value = { List User };
 
-    ghost view = { λ u. u.lists.items };
+    ghost view = { λ u. u.lists };
+
+    ghost invariant = { λ u. AreInOrder u.lists };
 }
 
 impl Users {
@@ -79,10 +32,8 @@ impl Users {
     pub fn new(alloc: Global) -> Users
         ensures { result ≡ [] }
     {
-        Users {
-            alloc,
-            lists: Vec::new(alloc),
-        }
+        let lists = Lists::new(alloc);
+        Users { lists }
     }
 
     /// The users, those of lower threads first.
@@ -92,64 +43,25 @@ impl Users {
         self.lists.as_slice()
     }
 
+    /// No two users have one thread.
+    pub fn are_apart(&self)
+        ensures { AreApart self.now }
+    {
+        let _ = &self.lists;
+    }
+
     /// The user in a place, if there is one.
     pub fn at(&self, place: usize) -> Option<&UserList>
         ensures { option_copied result ≡ slice_get self.now place }
     {
-        self.lists.get(place)
+        self.lists.at(place)
     }
 
     /// The place of a thread's user.
     pub fn find(&self, thread: ObjId) -> Option<usize>
         ensures { result ≡ position (λ u. same u.thread thread) self.now }
     {
-        self.lists
-            .iter()
-            .position(|list| list.thread.is_same(thread))
-    }
-
-    /// The place of a thread's user, or of the first one behind it.
-    fn place_for(&self, thread: ObjId) -> Option<usize>
-        ensures { result ≡ position
-            (λ u. same u.thread thread || nat_lt thread.serial u.thread.serial) self.now }
-    {
-        self.lists.iter().position(|list| list.thread.is_same(thread)
-            || thread.serial < list.thread.serial)
-    }
-
-    /// Whether the list in a place is that of a thread.
-    fn is_at(&self, place: usize, thread: ObjId) -> bool
-        ensures { (u : User) → slice_get self.now place ≡ Some u → result ≡ same u.thread thread }
-    {
-        match self.at(place) {
-            Some(list) => list.thread.is_same(thread),
-            None => false,
-        }
-    }
-
-    /// Adds an entry to the end of the list in a place.
-    fn push_at(&mut self, place: usize, entry: Entry) -> Result<(), OutOfMemory>
-        requires { place < length self.old }
-        ensures added { OnOk result ((u : User) → slice_get self.old place ≡ Some u
-            → self.new ≡ set self.old place (with_more u entry)) }
-        ensures unchanged { OnErr result (self.new ≡ self.old) }
-    {
-        let list = &mut self.lists[place];
-        list.push(entry)
-    }
-
-    /// Puts a list of one entry into a place, before those from there on.
-    fn insert_at(&mut self, place: usize, thread: ObjId, entry: Entry) -> Result<(), OutOfMemory>
-        requires { place ≤ length self.old }
-        ensures added { OnOk result
-            (self.new ≡ take place self.old ++ begun_with thread entry ∷ drop place self.old) }
-        ensures unchanged { OnErr result (self.new ≡ self.old) }
-    {
-        let list = UserList::new(self.alloc, thread, entry)?;
-        match self.lists.insert(place, list) {
-            Ok(()) => Ok(()),
-            Err(_) => Err(OutOfMemory),
-        }
+        self.lists.find(thread)
     }
 
     /// Adds an entry to the end of a thread's list. OutOfMemory where a growth was refused: then the lists are as they were.
@@ -157,15 +69,7 @@ impl Users {
         ensures added { OnOk result (self.new ≡ with_entry self.old thread entry) }
         ensures unchanged { OnErr result (self.new ≡ self.old) }
     {
-        let Some(place) = self.place_for(thread) else {
-            let end = self.lists.len();
-            return self.insert_at(end, thread, entry);
-        };
-        if self.is_at(place, thread) {
-            self.push_at(place, entry)
-        } else {
-            self.insert_at(place, thread, entry)
-        }
+        self.lists.add(thread, entry)
     }
 
     /// Lets the list of a thread go on with an entry of it, by its number from 0. False where it has no such entry; then nothing
@@ -176,14 +80,9 @@ impl Users {
             → self.new ≡ set self.old i (record u { again = Some number }) }
         ensures no { result ≡ false → self.new ≡ self.old }
     {
-        let Some(place) = self.find(thread) else {
-            return false;
-        };
-        if number >= self.lists[place].entries.len() {
-            return false;
+        match self.lists.find(thread) {
+            Some(place) => self.lists.repeat_at(place, number),
+            None => false,
         }
-        let list = &mut self.lists[place];
-        list.again = Some(number);
-        true
     }
 }

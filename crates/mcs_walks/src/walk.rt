@@ -1,5 +1,5 @@
 //! A kernel, how far each user is, and what each core may enter.
-ghost use Rattle.std.specs.Prelude.{◌≡◌, ◌≤◌, ◌<◌, ◌+◌, ◌^◌, ℕ, true, false, [], IfOk, IfSome, IfNone, OnErr, Some, length, map, slice_get, option_copied};
+ghost use Rattle.std.specs.Prelude.{◌≡◌, ◌≤◌, ◌<◌, ◌+◌, ◌^◌, ℕ, true, false, [], IfOk, IfSome, IfNone, OnOk, OnErr, Some, length, map, slice_get, option_copied};
 ghost use Rattle.mcs_types.specs.declared.id.ObjId.{ObjId};
 ghost use Rattle.mcs_book.specs.History.{IsLegal, log_of};
 ghost use Rattle.mcs_book.specs.Picking.{GoesBefore};
@@ -8,11 +8,12 @@ ghost use Rattle.mcs_book.specs.Threads.{prio_of};
 ghost use Rattle.mcs_turns.specs.declared.position.Position.{Position};
 ghost use Rattle.mcs_turns.specs.Due.{begun, none_stale, stale_after};
 ghost use Rattle.mcs_turns.specs.Turns.{User, CanGive, IsPickOf, IsStale, ArePicks, IsTurn, beginning, behind, entered, put_at};
-ghost use Rattle.mcs_walks.specs.Walks.{EntersSomewhere, Gives, IsPickBelow, IsPicked, is_let_in, last_answer, left_stale, picked_of, step_of};
+ghost use Rattle.mcs_walks.specs.Walks.{EntersSomewhere, Gives, HasNoTurn, IsPickBelow, IsPicked, is_let_in, last_answer, left_stale, picked_of, step_of};
 
-use crate::fault::{OrdersFault, ends_search};
-use crate::picks::{Picks, push};
-use crate::users::{UserList, Users};
+use crate::fault::{OrdersFault, limit_of};
+use crate::lists::UserList;
+use crate::picks::{Picks, copy_all, push};
+use crate::users::Users;
 use mcs_kernel::{Boot, EnterFault, Kernel};
 use mcs_queues::Lines;
 use mcs_turns::{Pick, Position};
@@ -143,7 +144,7 @@ fn put(places: &mut Vec<Position>, user: usize, place: Position)
 }
 
 /// The pick of a core among those of all.
-fn picked(picks: &[Option<Pick>], core: usize) -> Option<Pick>
+pub(crate) fn picked(picks: &[Option<Pick>], core: usize) -> Option<Pick>
     ensures { result ≡ picked_of picks.now core }
 {
     match picks.get(core) {
@@ -154,11 +155,12 @@ fn picked(picks: &[Option<Pick>], core: usize) -> Option<Pick>
 
 /// Whether a core picks this, where the cores have these picks.
 fn is_picked(picks: &[Option<Pick>], turn: Turn) -> bool
-    ensures { result ≡ true → slice_get picks.now turn.core.0 ≡ Some (Some turn.pick) }
+    ensures yes { result ≡ true → slice_get picks.now turn.core.0 ≡ Some (Some turn.pick) }
+    ensures no { result ≡ false → slice_get picks.now turn.core.0 ≡ Some (Some turn.pick) → ⊥ }
 {
-    match picks.get(turn.core.0 as usize) {
-        Some(Some(pick)) => turn.pick.is_same(*pick),
-        _ => false,
+    match picked(picks, turn.core.0 as usize) {
+        Some(pick) => turn.pick.is_same(pick),
+        None => false,
     }
 }
 
@@ -307,7 +309,8 @@ impl<L: Lines> Walk<L> {
 
     /// Whether a core picked this before.
     fn was_picked(&self, turn: Turn) -> bool
-        ensures { result ≡ true → IsStale self.now turn.core turn.pick }
+        ensures yes { result ≡ true → IsStale self.now turn.core turn.pick }
+        ensures no { result ≡ false → IsStale self.now turn.core turn.pick → ⊥ }
     {
         match self.stale(turn.core) {
             Some(stale) => stale.has(turn.pick),
@@ -317,13 +320,14 @@ impl<L: Lines> Walk<L> {
 
     /// Whether a turn enters what its core picks, where the cores have these picks, or what it picked before.
     fn may_take(&self, picks: &[Option<Pick>], turn: Turn) -> bool
-        ensures { result ≡ true → IsPicked self.now picks.now turn.core turn.pick }
+        ensures yes { result ≡ true → IsPicked self.now picks.now turn.core turn.pick }
+        ensures no { result ≡ false → IsPicked self.now picks.now turn.core turn.pick → ⊥ }
     {
         is_picked(picks, turn) || self.was_picked(turn)
     }
 
-    /// Lets in an entry of a user, which has this number in its list, on the core of a turn, where the cores have these picks, and
-    /// moves on; None where it is turned away. Then, and after an error, nothing has changed.
+    /// Lets in an entry of a user, which has this number in its list and whose thread may enter on the core of a turn, where the
+    /// cores have these picks, and moves on. After an error nothing has changed.
     fn enter(
         &mut self,
         alloc: Global,
@@ -331,12 +335,12 @@ impl<L: Lines> Walk<L> {
         entry: Entry,
         picks: &[Option<Pick>],
         turn: Turn,
-    ) -> Result<Option<Answer>, OrdersFault>
-        requires { turn.pick.number < length list.now.entries }
-        ensures entered { IfOk result (λ o. IfSome o (λ a. self.new
-            ≡ entered picks.now list.now (step_of turn.core list.now.thread entry) turn.pick self.old)) }
-        ensures answer { IfOk result (λ o. IfSome o (λ a. last_answer self.new.book ≡ Some a)) }
-        ensures none { IfOk result (λ o. IfNone o (self.new ≡ self.old)) }
+    ) -> Result<Answer, OrdersFault>
+        requires number { turn.pick.number < length list.now.entries }
+        requires enters { may_enter (log_of self.old.book) turn.core list.now.thread ≡ true }
+        ensures entered { OnOk result (self.new
+            ≡ entered picks.now list.now (step_of turn.core list.now.thread entry) turn.pick self.old) }
+        ensures answer { IfOk result (λ a. last_answer self.new.book ≡ Some a) }
         ensures err { OnErr result (self.new ≡ self.old) }
     {
         let stale = self.stale_after(alloc, turn.core, turn.pick.user, picks)?;
@@ -345,12 +349,9 @@ impl<L: Lines> Walk<L> {
                 let place = position_behind(list, turn.pick.number, &answer);
                 put(&mut self.places, turn.pick.user, place);
                 self.stale = stale;
-                Ok(Some(answer))
+                Ok(answer)
             }
-            Err(fault) => match ends_search(fault) {
-                Some(fault) => Err(fault),
-                None => Ok(None),
-            },
+            Err(fault) => Err(limit_of(fault)),
         }
     }
 
@@ -367,19 +368,40 @@ impl<L: Lines> Walk<L> {
         ensures turn { IfOk result (λ o. IfSome o (λ a.
             IsTurn users.now turn.core turn.pick self.old self.new)) }
         ensures answer { IfOk result (λ o. IfSome o (λ a. last_answer self.new.book ≡ Some a)) }
+        ensures no_turn { IfOk result (λ o.
+            IfNone o (HasNoTurn users.now self.old turn.core turn.pick)) }
         ensures none { IfOk result (λ o. IfNone o (self.new ≡ self.old)) }
         ensures err { OnErr result (self.new ≡ self.old) }
     {
+        users.are_apart();
         let Some(list) = users.at(turn.pick.user) else {
             return Ok(None);
         };
         let Some(entry) = list.at(turn.pick.number) else {
             return Ok(None);
         };
-        if !self.may_take(picks, turn) || !may_enter(&self.kernel, turn.core, list.thread) {
+        if !self.may_take(picks, turn) {
+            return Ok(None);
+        }
+        if !may_enter(&self.kernel, turn.core, list.thread) {
             return Ok(None);
         }
         let entry = entry.copy(alloc)?;
-        self.enter(alloc, list, entry, picks, turn)
+        let answer = self.enter(alloc, list, entry, picks, turn)?;
+        Ok(Some(answer))
+    }
+
+    /// The same walk once more, which goes on by itself. OutOfMemory where memory was refused.
+    pub fn copy(&self, alloc: Global) -> Result<Walk<L>, OutOfMemory>
+        ensures { IfOk result (λ w. w ≡ self.now) }
+    {
+        let kernel = self.kernel.copy(alloc)?;
+        let places = Vec::from_slice(alloc, self.places.as_slice())?;
+        let stale = copy_all(alloc, self.stale.as_slice())?;
+        Ok(Walk {
+            kernel,
+            places,
+            stale,
+        })
     }
 }

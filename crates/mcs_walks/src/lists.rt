@@ -1,0 +1,185 @@
+//! A list of entries for each thread that has one, those of lower serials first.
+ghost use Rattle.std.specs.Prelude.{ℕ, ◌≡◌, ◌<◌, ◌≤◌, ◌∷◌, ◌++◌, [], true, false, IfOk, OnOk, OnErr, option_copied, position, slice_get, take, drop, set, length, Some};
+ghost use Rattle.mcs_types.specs.Ids.{same};
+ghost use Rattle.mcs_turns.specs.Turns.{User};
+ghost use Rattle.mcs_walks.specs.Users.{begun_with, is_place_for, with_entry, with_more};
+
+use mcs_types::{Entry, ObjId, OutOfMemory};
+use std::alloc::Global;
+use std::marker::Model;
+
+/// A thread, its entries in the order in which it gives them, and the number of the entry, from 0, with which it goes on after
+/// the last; None where the last is its last.
+#[derive(Drop)]
+pub struct UserList {
+    pub thread: ObjId,
+    pub entries: Vec<Entry>,
+    pub again: Option<usize>,
+}
+
+impl Model for UserList {
+    ghost use Rattle.mcs_turns.specs.Turns.{User};
+
+    ghost Value = { User };
+
+    ghost view = { λ l. record { thread = l.thread; entries = l.entries.items; again = l.again } };
+}
+
+impl UserList {
+    /// A thread with one entry.
+    fn new(alloc: Global, thread: ObjId, entry: Entry) -> Result<UserList, OutOfMemory>
+        ensures { IfOk result (λ l. l ≡ begun_with thread entry) }
+    {
+        let mut entries = Vec::new(alloc);
+        match entries.push(entry) {
+            Ok(()) => Ok(UserList {
+                thread,
+                entries,
+                again: None,
+            }),
+            Err(_) => Err(OutOfMemory),
+        }
+    }
+
+    /// The entry of a number, from 0, if there is one.
+    pub fn at(&self, number: usize) -> Option<&Entry>
+        ensures { option_copied result ≡ slice_get self.now.entries number }
+    {
+        self.entries.get(number)
+    }
+
+    /// Adds an entry to the end. OutOfMemory where a growth was refused: then the list is as it was.
+    fn push(&mut self, entry: Entry) -> Result<(), OutOfMemory>
+        ensures added { OnOk result
+            (self.new ≡ record self.old { entries = self.old.entries ++ entry ∷ [] }) }
+        ensures unchanged { OnErr result (self.new ≡ self.old) }
+    {
+        self.entries.push(entry).map_err(|_| OutOfMemory)
+    }
+}
+
+/// Lists of entries, of which each is a thread's. Clauses see a list of threads, each with its entries.
+#[derive(Drop)]
+pub(crate) struct Lists {
+    alloc: Global,
+    lists: Vec<UserList>,
+}
+
+impl Model for Lists {
+    ghost use Rattle.std.specs.Prelude.{List};
+    ghost use Rattle.mcs_turns.specs.Turns.{User};
+
+    ghost Value = { List User };
+
+    ghost view = { λ l. l.lists.items };
+}
+
+impl Lists {
+    /// No list.
+    pub(crate) fn new(alloc: Global) -> Lists
+        ensures { result ≡ [] }
+    {
+        Lists {
+            alloc,
+            lists: Vec::new(alloc),
+        }
+    }
+
+    /// The lists, in order.
+    pub(crate) fn as_slice(&self) -> &[UserList]
+        ensures { result.now ≡ self.now }
+    {
+        self.lists.as_slice()
+    }
+
+    /// The list in a place, if there is one.
+    pub(crate) fn at(&self, place: usize) -> Option<&UserList>
+        ensures { option_copied result ≡ slice_get self.now place }
+    {
+        self.lists.get(place)
+    }
+
+    /// The place of a thread's list.
+    pub(crate) fn find(&self, thread: ObjId) -> Option<usize>
+        ensures { result ≡ position (λ u. same u.thread thread) self.now }
+    {
+        self.lists
+            .iter()
+            .position(|list| list.thread.is_same(thread))
+    }
+
+    /// The place of a thread's list, or of the first one behind it.
+    fn place_for(&self, thread: ObjId) -> Option<usize>
+        ensures { result ≡ position (λ u. is_place_for thread u) self.now }
+    {
+        self.lists.iter().position(|list| list.thread.is_same(thread)
+            || thread.serial < list.thread.serial)
+    }
+
+    /// Whether the list in a place is that of a thread.
+    fn is_at(&self, place: usize, thread: ObjId) -> bool
+        ensures { (u : User) → slice_get self.now place ≡ Some u → result ≡ same u.thread thread }
+    {
+        match self.at(place) {
+            Some(list) => list.thread.is_same(thread),
+            None => false,
+        }
+    }
+
+    /// Adds an entry to the end of the list in a place.
+    fn push_at(&mut self, place: usize, entry: Entry) -> Result<(), OutOfMemory>
+        requires { place < length self.old }
+        ensures added { OnOk result ((u : User) → slice_get self.old place ≡ Some u
+            → self.new ≡ set self.old place (with_more u entry)) }
+        ensures unchanged { OnErr result (self.new ≡ self.old) }
+    {
+        let list = &mut self.lists[place];
+        list.push(entry)
+    }
+
+    /// Puts a list of one entry into a place, before those from there on.
+    fn insert_at(&mut self, place: usize, thread: ObjId, entry: Entry) -> Result<(), OutOfMemory>
+        requires { place ≤ length self.old }
+        ensures added { OnOk result
+            (self.new ≡ take place self.old ++ begun_with thread entry ∷ drop place self.old) }
+        ensures unchanged { OnErr result (self.new ≡ self.old) }
+    {
+        let list = UserList::new(self.alloc, thread, entry)?;
+        match self.lists.insert(place, list) {
+            Ok(()) => Ok(()),
+            Err(_) => Err(OutOfMemory),
+        }
+    }
+
+    /// Adds an entry to the end of a thread's list. OutOfMemory where a growth was refused: then the lists are as they were.
+    pub(crate) fn add(&mut self, thread: ObjId, entry: Entry) -> Result<(), OutOfMemory>
+        ensures added { OnOk result (self.new ≡ with_entry self.old thread entry) }
+        ensures unchanged { OnErr result (self.new ≡ self.old) }
+    {
+        let Some(place) = self.place_for(thread) else {
+            let end = self.lists.len();
+            return self.insert_at(end, thread, entry);
+        };
+        if self.is_at(place, thread) {
+            self.push_at(place, entry)
+        } else {
+            self.insert_at(place, thread, entry)
+        }
+    }
+
+    /// Lets the list in a place go on with an entry of it, by its number from 0. False where it has no such entry; then nothing
+    /// changed.
+    pub(crate) fn repeat_at(&mut self, place: usize, number: usize) -> bool
+        requires { place < length self.old }
+        ensures yes { result ≡ true → (u : User) → slice_get self.old place ≡ Some u
+            → self.new ≡ set self.old place (record u { again = Some number }) }
+        ensures no { result ≡ false → self.new ≡ self.old }
+    {
+        if number >= self.lists[place].entries.len() {
+            return false;
+        }
+        let list = &mut self.lists[place];
+        list.again = Some(number);
+        true
+    }
+}
