@@ -13,10 +13,8 @@ ghost use Rattle.mcs_book.specs.Sound.{Allowed, Sound, IsThere};
 ghost use Rattle.mcs_book.specs.Picking.{IsPick};
 ghost use Rattle.mcs_book.specs.Statuses.{status_of};
 ghost use Rattle.mcs_book.specs.Table.{does};
-ghost use Rattle.mcs_state.specs.Tables.{Tables};
 ghost use Rattle.mcs_alike.specs.Alike.{Alike};
-ghost use Rattle.mcs_alike.specs.Looks.{LookAlike};
-ghost use Rattle.mcs_alike.specs.Shows.{Shows};
+ghost use Rattle.mcs_alike.specs.Answers.{AnswerAlike};
 ghost use Rattle.mcs_alike.specs.Books.{with_one, after_entry};
 ghost use Rattle.mcs_book.specs.History.{Book, Line, IsLegal, log_of};
 
@@ -38,13 +36,14 @@ pub fn alike_onto()
     ensures { Alike (onto at.0 at.1) (onto at.0 at.2) }
 {}
 
-/// Two logs (at.2, at.3) are alike if tables that look alike (at.0, at.1) show them (own).
-pub fn shown_alike()
-    ghost at: { Tables × Tables × Log × Log }
-    requires left { Shows at.0 at.2 }
-    requires right { Shows at.1 at.3 }
-    requires looks { LookAlike at.0 at.1 }
-    ensures { Alike at.2 at.3 }
+/// Two sound logs (at.0, at.1) are alike where as many objects of each kind were made and as many messages were sent, and each
+/// question that a kernel is asked of what was made has the same answer of both (own).
+pub fn answers_alike()
+    ghost at: { Log × Log }
+    requires left { Sound at.0 }
+    requires right { Sound at.1 }
+    requires answers { AnswerAlike at.0 at.1 }
+    ensures { Alike at.0 at.1 }
 {}
 
 /// An entry (at.4) of a thread that is there (at.3), on a core (at.2), has the same answer and the same records in two alike

@@ -1,115 +1,156 @@
 -- What a search says of runs.
-use Rattle.std.specs.Prelude.{◌≡◌, ◌≤◌, ◌<◌, ◌+◌, ◌++◌, ℕ, zero, suc, nat_lt, Bool, true, false, List, [], ◌∷◌, Some, None, length, slice_get}
+use Rattle.std.specs.Prelude.{◌≡◌, ◌≤◌, ◌<◌, ◌⊎◌, ◌↔◌, ℕ, nat_lt, Bool, true, false, List, Option, Some, None, length, slice_get}
 use Rattle.std.proofs.Common.{refl, ap, sym, ◌∙◌, subst, inl, inr, arith}
+use Rattle.std.specs.Cmp.{IsEquivalence}
+use Rattle.mcs_explore.specs.declared.search.Found.{Found}
+use Rattle.mcs_explore.specs.Paths.{Path, Steps}
+use Rattle.mcs_explore.specs.Closure.{Visit, IsVisited, IsClosedTo, IsLikeness, AreFar}
+use Rattle.mcs_explore.specs.Search.{Entries, At, IsFound, Same, HaveOneKey, AreLeast, AreAllFound, AreReached, AreVisits, AreSorted, AreApart, IsReached, IsVisitOf, IsClosedBelow, IsWhole, path_of, path_back, depth_at}
+use Rattle.mcs_explore.specs.Keeping.{IsChild, IsGrown, IsSearch, IsSearching}
+use Rattle.mcs_explore.proofs.Places.{same-place, at-within, within-at}
+use Rattle.mcs_explore.proofs.Runs.{near-run}
+use Rattle.mcs_explore.proofs.Searching.{path-leads}
 use Rattle.std.proofs.lemmas.Grind.{common_steps}
-use Rattle.std.proofs.lemmas.Option.{slice_get_within}
-use Rattle.mcs_explore.specs.declared.search.Reached.{Reached}
-use Rattle.mcs_explore.specs.Search.{Run, EndsAt, Entries, At, IsFound, Adds, After, IsSearch}
 
--- a key that was found by at most n steps was by at most m
-more : {K : Type 0} (E : Entries K) (k : K) (n m : ℕ) → n ≤ m → IsFound E k n → IsFound E k m
-more E k n m le f = record { place = f.place; reached = f.reached; at = f.at; near = let near = f.near in omega (arith, near, le) }
+depth-is : {K L : Type 0} (E : Entries K L) (i : ℕ) (k : K) (f : Found L) → At E i k f → depth_at E i ≡ f.depth
+depth-is {K = K} {L = L} E i k f at = ap (λ (o : Option (K × Found L)). elim o [ None ↦ 0 | Some e ↦ e.1.depth ]) at
 
--- every run of keys ends in one that was found, where all were looked behind
-whole-keys : {K : Type 0} (next : K → List K) (s : K) (d : ℕ) (E : Entries K) → IsSearch next s d E → length E ≤ d → (n : ℕ) (k : K) → Run (After next) s n k → IsFound E k n
-whole-keys {K = K} next s d E a all zero k run = subst (λ (x : K). IsFound E x 0) run a.first
-whole-keys next s d E a all (suc n) k run =
-    let f : IsFound E run.0 n = whole-keys next s d E a all n run.0 run.1.0 in
-    let within : f.place < length E = slice_get_within E f.place _ f.at in
-    more E k (f.reached.depth + 1) (suc n) (let near = f.near in omega (arith, near)) (a.closed f.place run.0 f.reached (omega (arith, within, all)) f.at k run.1.1)
+pub depth-told : {K L : Type 0} (E : Entries K L) (i : ℕ) (k : K) (f : Found L) → At E i k f → (n : ℕ) → n ≡ depth_at E i → n ≡ f.depth
+depth-told E i k f at n is = is ∙ depth-is E i k f at
 
--- and so does one that is no longer than the depth of each that was not looked behind
-near-keys : {K : Type 0} (next : K → List K) (s : K) (d : ℕ) (E : Entries K) → IsSearch next s d E → (n : ℕ) (k : K) → ((j : ℕ) (l : K) (q : Reached) → d ≤ j → At E j l q → n ≤ q.depth) → Run (After next) s n k → IsFound E k n
-near-keys {K = K} next s d E a zero k low run = subst (λ (x : K). IsFound E x 0) run a.first
-near-keys next s d E a (suc n) k low run = go (near-keys next s d E a n run.0 (λ j l q le at. let h = low j l q le at in omega (arith, h)) run.1.0)
-  where
-    behind : (f : IsFound E run.0 n) (b : Bool) → nat_lt f.place d ≡ b → IsFound E k (suc n)
-    behind f true lt = more E k (f.reached.depth + 1) (suc n) (let near = f.near in omega (arith, near)) (a.closed f.place run.0 f.reached (grind (arith, common_steps, lt)) f.at k run.1.1)
-    behind f false ge = absurd (let h = low f.place run.0 f.reached (grind (arith, common_steps, ge)) f.at in let near = f.near in omega (arith, h, near))
+-- another system with the same steps, and with keys for all that had some
+module _ {A K L : Type 0} (eq : K → K → Bool) (Leads Goes : L → A → A → Type 0) (Like Alike : A → A → Type 0) (IsKey HasKey : A → K → Type 0) (start begin : A)
+    (starts : begin ≡ start) (leads : (l : L) (s t : A) → Leads l s t ↔ Goes l s t) (likes : (s t : A) → Like s t → Alike s t) (keys : (s : A) (k : K) → IsKey s k → HasKey s k) where
+  visited : (vs : List (Visit A)) (t : A) (n : ℕ) → IsVisited Like vs t n → IsVisited Alike vs t n
+  visited vs t n v = record { place = v.place; visit = v.visit; at = v.at; like = likes t v.visit.state v.like; near = v.near }
 
-    go : IsFound E run.0 n → IsFound E k (suc n)
-    go f = behind f (nat_lt f.place d) refl
+  child : (E : Entries K L) (vs : List (Visit A)) (f : Found L) (s : A) → ((f.depth ≡ 0) × (s ≡ start)) ⊎ IsChild Leads E vs f s → ((f.depth ≡ 0) × (s ≡ begin)) ⊎ IsChild Goes E vs f s
+  child E vs f s (inl h) = inl (h.0, h.1 ∙ sym starts)
+  child E vs f s (inr c) = inr (record { label = c.label; labelled = c.labelled; key = c.key; found = c.found; at = c.at; deep = c.deep; visit = c.visit; there = c.there; step = (leads c.label c.visit.state s).0 c.step })
 
--- no run to a key is shorter than its depth
-least-keys : {K : Type 0} (next : K → List K) (s : K) (d : ℕ) (E : Entries K) → IsSearch next s d E → (i : ℕ) (k : K) (r : Reached) → At E i k r → (n : ℕ) → Run (After next) s n k → r.depth ≤ n
-least-keys {K = K} next s d E a i k r at n run = go (nat_lt n r.depth) refl
-  where
-    go : (b : Bool) → nat_lt n r.depth ≡ b → r.depth ≤ n
-    go false ge = grind (arith, common_steps, ge)
-    go true lt =
-        let short : n < r.depth = grind (arith, common_steps, lt) in
-        let f : IsFound E k n = near-keys next s d E a n k (λ j l q le h. let n1 = a.near j i l k q r le h at in omega (arith, short, n1)) run in
-        let same : f.place ≡ i = a.once f.place i k f.reached r f.at at in
-        let both : Some (entry k f.reached) ≡ Some (entry k r) = sym f.at ∙ ap (λ j. slice_get E j) same ∙ at in
-        let deep : f.reached.depth ≡ r.depth = ap (λ (x : K × Reached). x.1.depth) (inside _ _ both) in
-        let near = f.near in
-        absurd (omega (arith, short, deep, near))
-      where
-        entry : K → Reached → K × Reached
-        entry x p = (x, p)
+  pub again : (d : ℕ) (E : Entries K L) (vs : List (Visit A)) → IsSearch eq Leads Like IsKey start d E vs → IsSearch eq Goes Alike HasKey begin d E vs
+  again d E vs a = record {
+    long = a.long;
+    first = subst (λ (s : A). IsVisited Alike vs s 0) (sym starts) (visited vs start 0 a.first);
+    grown = λ i k f h. let g : IsGrown Leads IsKey start E vs i k f = a.grown i k f h in record { visit = g.visit; there = g.there; deep = g.deep; key = keys g.visit.state k g.key; from = child E vs f g.visit.state g.from };
+    closed = λ i v below h t step. visited vs t _ (a.closed i v below h t (step.0, (leads step.0 v.state t).1 step.1));
+    sorted = a.sorted;
+    near = a.near;
+    once = a.once;
+    small = a.small;
+  }
 
-        inside : (x y : K × Reached) → Some x ≡ Some y → x ≡ y
-        inside x y e = cc
+  pub search-again : (d : ℕ) (E : Entries K L) → IsSearching eq Leads Like IsKey start d E → IsSearching eq Goes Alike HasKey begin d E
+  search-again d E a = record { visits = a.visits; is = again d E a.visits a.is }
 
--- runs of states and runs of their keys
-module _ {A K : Type 0} (Step : A → A → Type 0) (key : A → K) (next : K → List K)
-    (leads : (s t : A) → Step s t → After next (key s) (key t)) (led : (s : A) (k : K) → After next (key s) k → (t : A) × (Step s t × (key t ≡ k))) where
-  keys-run : (s t : A) (n : ℕ) → Run Step s n t → Run (After next) (key s) n (key t)
-  keys-run s t zero run = ap key run
-  keys-run s t (suc n) run = (key run.0, (keys-run s run.0 n run.1.0, leads run.0 t run.1.1))
+module _ {A K L : Type 0} (eq : K → K → Bool) (fair : IsEquivalence eq) (Leads : L → A → A → Type 0) (Like : A → A → Type 0) (IsKey : A → K → Type 0) (start : A) where
+  -- where a path leads to, for the next call
+  pub leads-there : (d : ℕ) (E : Entries K L) → (a : IsSearching eq Leads Like IsKey start d E) → (i : ℕ) (k : K) (f : Found L) → At E i k f → (v : Visit A) → slice_get a.visits i ≡ Some v → IsReached Leads IsKey start E i k f v.state
+  leads-there d E a i k f at v there =
+      let is : path_back E i f.depth ≡ path_of E i = ap (λ (n : ℕ). path_back E i n) (sym (depth-is E i k f at)) in
+      let all = path-leads eq fair Leads Like IsKey start E a.visits a.is.grown f.depth i k f at refl v there in
+      let g : IsGrown Leads IsKey start E a.visits i k f = a.is.grown i k f at in
+      record {
+        run = all.2;
+        path = subst (λ (p : List L). Path Leads start p v.state) is all.0;
+        long = ap length (sym is) ∙ all.1;
+        key = subst (λ (w : Visit A). IsKey w.state k) (same-place a.visits i i g.visit v refl g.there there) g.key;
+      }
 
-  state-run : (s : A) (n : ℕ) (k : K) → Run (After next) (key s) n k → EndsAt Step key s n k
-  state-run s zero k run = (s, (refl, run))
-  state-run s (suc n) k run =
-      let before : EndsAt Step key s n run.0 = state-run s n run.0 run.1.0 in
-      let step = led before.0 k (subst (λ (x : K). After next x k) (sym before.1.1) run.1.1) in
-      (step.0, ((before.0, (before.1.0, step.1.0)), step.1.1))
+  -- what is in a place that is to be looked behind
+  pub record IsOpen (d : ℕ) (E : Entries K L) (visits : List (Visit A)) : Type 0 where
+    pub key : K
+    pub found : Found L
+    pub at : At E d key found
+    pub visit : Visit A
+    pub there : slice_get visits d ≡ Some visit
+    pub reached : IsReached Leads IsKey start E d key found visit.state
+    pub small : found.depth ≤ d
 
-  module _ (s : A) (d : ℕ) (E : Entries K) (a : IsSearch next (key s) d E) where
-    pub reached : (i : ℕ) (k : K) (r : Reached) → At E i k r → EndsAt Step key s r.depth k
-    reached i k r at = state-run s r.depth k (a.reach i k r at)
+  pub open-at : (d : ℕ) (E : Entries K L) → (a : IsSearching eq Leads Like IsKey start d E) → d < length E → IsOpen d E a.visits
+  open-at d E a below =
+      let e = within-at E d below in
+      let g : IsGrown Leads IsKey start E a.visits d e.0.0 e.0.1 = a.is.grown d e.0.0 e.0.1 e.1 in
+      record { key = e.0.0; found = e.0.1; at = e.1; visit = g.visit; there = g.there; reached = leads-there d E a d e.0.0 e.0.1 e.1 g.visit g.there; small = a.is.small d e.0.0 e.0.1 e.1 }
 
-    pub least : (i : ℕ) (k : K) (r : Reached) → At E i k r → (n : ℕ) → EndsAt Step key s n k → r.depth ≤ n
-    least i k r at n end = least-keys next (key s) d E a i k r at n (subst (λ (x : K). Run (After next) (key s) n x) end.1.1 (keys-run s end.0 n end.1.0))
+  module _ (d : ℕ) (E : Entries K L) (a : IsSearching eq Leads Like IsKey start d E) where
+    visit-of : (i : ℕ) (k : K) (f : Found L) → At E i k f → IsVisitOf Leads IsKey start E a.visits i k f
+    visit-of i k f at =
+        let g : IsGrown Leads IsKey start E a.visits i k f = a.is.grown i k f at in
+        record { visit = g.visit; there = g.there; deep = g.deep; reached = leads-there d E a i k f at g.visit g.there }
 
-    pub whole : length E ≤ d → (n : ℕ) (t : A) → Run Step s n t → IsFound E (key t) n
-    whole all n t run = whole-keys next (key s) d E a all n (key t) (keys-run s t n run)
+    are : AreVisits Leads IsKey start E a.visits
+    are = record { long = a.is.long; each = visit-of }
 
--- a search that has found its start alone
-pub begun : {K : Type 0} (next : K → List K) (s : K) (r : Reached) (E F : Entries K) → E ≡ [] → r.depth ≡ 0 → Adds E s r F → IsSearch next s 0 F
-begun {K = K} next s r E F empty deep (inl there) = let no : slice_get [] there.0.0 ≡ Some _ = ap (λ (G : Entries K). slice_get G there.0.0) (sym empty) ∙ there.0.1.1 in absurd cc
-begun {K = K} next s r E F empty deep (inr new) = subst (λ (G : Entries K). IsSearch next s 0 G) (sym (new.1 ∙ ap (λ (G : Entries K). G ++ (s, r) ∷ []) empty)) (record {
-  first = record { place = 0; reached = r; at = refl; near = omega (arith, deep) };
-  reach = reach;
-  closed = λ i k p below. absurd (omega (arith, below));
-  sorted = λ i j k l p q le h g. let e = zero-deep i k p h in omega (arith, e);
-  near = λ i j k l p q le h g. let e = zero-deep j l q g in omega (arith, e);
-  once = λ i j k p q h g. first i k p h ∙ sym (first j k q g);
-  small = λ i k p h. let e = zero-deep i k p h in omega (arith, e);
-})
-  where
-    only : List (K × Reached)
-    only = (s, r) ∷ []
+    pub reached : AreReached Leads IsKey start E
+    reached i k f at = let v : IsVisitOf Leads IsKey start E a.visits i k f = visit-of i k f at in (v.visit.state, v.reached)
 
-    first : (i : ℕ) (k : K) (p : Reached) → At only i k p → i ≡ 0
-    first zero k p h = refl
-    first (suc i) k p h = absurd cc
+    pub sorted : AreSorted E
+    sorted = a.is.sorted
 
-    inside : (x y : K × Reached) → Some x ≡ Some y → x ≡ y
-    inside x y e = cc
+    pub apart : AreApart eq E
+    apart = a.is.once
 
-    it : (i : ℕ) (k : K) (p : Reached) → At only i k p → (k ≡ s) × (p ≡ r)
-    it zero k p h = (ap (λ (x : K × Reached). x.0) (sym (inside _ _ h)), ap (λ (x : K × Reached). x.1) (sym (inside _ _ h)))
-    it (suc i) k p h = absurd cc
+    below : IsClosedTo (Steps Leads) Like start d a.visits
+    below = record { start = a.is.first; closed = a.is.closed }
 
-    zero-deep : (i : ℕ) (k : K) (p : Reached) → At only i k p → p.depth ≡ 0
-    zero-deep i k p h = ap (λ (x : Reached). x.depth) ((it i k p h).1) ∙ deep
+    pub closed-below : IsClosedBelow Leads Like IsKey start d E
+    closed-below = record { visits = a.visits; are = are; closed = below }
 
-    reach : (i : ℕ) (k : K) (p : Reached) → At only i k p → Run (After next) s p.depth k
-    reach i k p h = subst (λ (n : ℕ). Run (After next) s n k) (sym (zero-deep i k p h)) (sym ((it i k p h).0))
+    pub whole : length E ≤ d → IsWhole Leads Like IsKey start E
+    whole all = record {
+      visits = a.visits;
+      are = are;
+      closed = record {
+        start = a.is.first;
+        closed = λ i v at. a.is.closed i v (let b = at-within a.visits i v at in let long = a.is.long in omega (arith, b, long, all)) at;
+      };
+    }
 
--- where there is none, the list ends
-pub none-past : {K : Type 0} (E : Entries K) (i : ℕ) → slice_get E i ≡ None → length E ≤ i
-none-past [] i h = omega arith
-none-past (e ∷ E) zero h = absurd cc
-none-past (e ∷ E) (suc i) h = let r = none-past E i h in omega (arith, r)
+    -- where alike states have one key
+    module _ (likes : IsLikeness (Steps Leads) Like) (one : HaveOneKey eq Like IsKey) where
+      -- the entry of a visit
+      entry-of : (t : A) (k : K) (n : ℕ) → IsKey t k → IsVisited Like a.visits t n → IsFound eq E k n
+      entry-of t k n key v = record { place = v.place; other = e.0.0; found = e.0.1; at = e.1; same = same; near = let deep = g.deep in let near = v.near in let is = ap (λ (w : Visit A). w.depth) visit in omega (arith, deep, near, is) }
+        where
+          e : (x : K × Found L) × (slice_get E v.place ≡ Some x)
+          e = within-at E v.place (let b = at-within a.visits v.place v.visit v.at in let long = a.is.long in omega (arith, b, long))
+
+          g : IsGrown Leads IsKey start E a.visits v.place e.0.0 e.0.1
+          g = a.is.grown v.place e.0.0 e.0.1 e.1
+
+          visit : g.visit ≡ v.visit
+          visit = same-place a.visits v.place v.place g.visit v.visit refl g.there v.at
+
+          same : Same eq k e.0.0
+          same = (one t g.visit.state k e.0.0 (subst (λ (w : Visit A). Like t w.state) (sym visit) v.like) key g.key)
+
+      pub all-found : length E ≤ d → AreAllFound eq Leads IsKey start E
+      all-found all n t k run key =
+          entry-of t k n key (near-run (Steps Leads) Like likes start d a.visits below n t (λ i v le at. absurd (let b = at-within a.visits i v at in let long = a.is.long in omega (arith, b, long, le, all))) run)
+
+      pub least : AreLeast Leads IsKey start E
+      least i k f at n t run key = go (nat_lt n f.depth) refl
+        where
+          far : n < f.depth → AreFar n d a.visits
+          far lt j v le there =
+              let e = within-at E j (let b = at-within a.visits j v there in let long = a.is.long in omega (arith, b, long)) in
+              let g : IsGrown Leads IsKey start E a.visits j e.0.0 e.0.1 = a.is.grown j e.0.0 e.0.1 e.1 in
+              let deep = g.deep in
+              let is = ap (λ (w : Visit A). w.depth) (same-place a.visits j j g.visit v refl g.there there) in
+              let near = a.is.near j i e.0.0 k e.0.1 f le e.1 at in
+              omega (arith, lt, deep, is, near)
+
+          found : n < f.depth → IsFound eq E k n
+          found lt = entry-of t k n key (near-run (Steps Leads) Like likes start d a.visits below n t (far lt) run)
+
+          go : (b : Bool) → nat_lt n f.depth ≡ b → f.depth ≤ n
+          go false ge = grind (arith, common_steps, ge)
+          go true lt =
+              let short : n < f.depth = grind (arith, common_steps, lt) in
+              let h : IsFound eq E k n = found short in
+              let same : h.place ≡ i = a.is.once h.place i h.other k h.found f h.at at (fair.symm h.other k ∙ h.same) in
+              let both = same-place E h.place i (h.other, h.found) (k, f) same h.at at in
+              let deep = ap (λ (x : K × Found L). x.1.depth) both in
+              let near = h.near in
+              absurd (omega (arith, short, deep, near))

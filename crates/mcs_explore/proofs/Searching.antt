@@ -1,226 +1,290 @@
 -- What a search keeps.
-use Rattle.std.specs.Prelude.{◌≡◌, ◌≤◌, ◌<◌, ◌+◌, ◌++◌, ◌⊎◌, ℕ, zero, suc, List, [], ◌∷◌, Option, Some, None, is_some, Bool, true, false, cond, length, slice_get}
-use Rattle.std.specs.List.{Contains}
-use Rattle.std.specs.Map.{lookup}
-use Rattle.std.specs.HashMap.{get}
-use Rattle.indexmap.specs.IndexMap.{IndexMap, insert_entry}
-use Rattle.indexmap.proofs.CallerLemmas.{insert_entry-new}
+use Rattle.std.specs.Prelude.{Bool, ◌≡◌, ◌≤◌, ◌<◌, ◌+◌, ◌++◌, ◌⊎◌, ℕ, zero, suc, List, [], ◌∷◌, Option, Some, None, length, slice_get}
 use Rattle.std.proofs.Common.{refl, ap, sym, ◌∙◌, subst, inl, inr, arith}
-use Rattle.std.proofs.lemmas.Option.{get_or_from_slice_get, slice_get_read}
-use Rattle.mcs_explore.specs.declared.search.Reached.{Reached}
-use Rattle.mcs_explore.specs.Search.{Run, Entries, At, IsFound, Adds, After, IsSearch, IsExact}
-use Rattle.mcs_explore.specs.Amid.{IsAmid}
-
--- an entry
-abbrev pair : {K : Type 0} → K → Reached → K × Reached
-pair k r = (k, r)
-
-one-up : (n : ℕ) → n + 1 ≡ suc n
-one-up n = omega arith
-
-inside : {A : Type 0} (x y : A) → Some x ≡ Some y → x ≡ y
-inside x y e = cc
-
--- places in a list with one more
-at-old : {A : Type 0} (E F : List A) (i : ℕ) (x : A) → slice_get E i ≡ Some x → slice_get (E ++ F) i ≡ Some x
-at-old [] F i x h = absurd cc
-at-old (e ∷ E) F zero x h = h
-at-old (e ∷ E) F (suc i) x h = at-old E F i x h
-
-at-last : {A : Type 0} (E : List A) (x : A) → slice_get (E ++ x ∷ []) (length E) ≡ Some x
-at-last [] x = refl
-at-last (e ∷ E) x = at-last E x
-
-at-within : {A : Type 0} (E : List A) (i : ℕ) (x : A) → slice_get E i ≡ Some x → i < length E
-at-within [] i x h = absurd cc
-at-within (e ∷ E) zero x h = omega arith
-at-within (e ∷ E) (suc i) x h = let r = at-within E i x h in omega (arith, r)
-
-at-split : {A : Type 0} (E : List A) (y : A) (i : ℕ) (x : A) → slice_get (E ++ y ∷ []) i ≡ Some x → (slice_get E i ≡ Some x) ⊎ ((i ≡ length E) × (x ≡ y))
-at-split [] y zero x h = inr (refl, cc)
-at-split [] y (suc i) x h = absurd cc
-at-split (e ∷ E) y zero x h = inl h
-at-split (e ∷ E) y (suc i) x h = go (at-split E y i x h)
-  where
-    go : (slice_get E i ≡ Some x) ⊎ ((i ≡ length E) × (x ≡ y)) → (slice_get E i ≡ Some x) ⊎ ((suc i ≡ suc (length E)) × (x ≡ y))
-    go (inl a) = inl a
-    go (inr b) = inr (ap (λ n. suc n) b.0, b.1)
+use Rattle.std.specs.Cmp.{IsEquivalence}
+use Rattle.mcs_explore.specs.declared.search.Found.{Found}
+use Rattle.mcs_explore.specs.Paths.{Run, Path, Steps}
+use Rattle.mcs_explore.specs.Closure.{Visit, IsVisited}
+use Rattle.mcs_explore.specs.Search.{Entries, At, IsFound, Same, IsNext, IsAmong, AreNexts, path_back, parent_at, label_at, listed}
+use Rattle.mcs_explore.specs.Keeping.{Adds, IsAmid, IsChild, IsGrown, IsSearch, IsSearching, IsThere}
+use Rattle.mcs_explore.proofs.Paths.{path-on}
+use Rattle.mcs_explore.proofs.Places.{pair, some-same, same-place, at-old, at-last, at-within, at-split, at-or-below, one-longer}
 
 -- a key that is found stays found
-found-more : {K : Type 0} (E F : Entries K) (k : K) (n : ℕ) → IsFound E k n → IsFound (E ++ F) k n
-found-more E F k n f = record { place = f.place; reached = f.reached; at = at-old E F f.place (k, f.reached) f.at; near = f.near }
+found-more : {K L : Type 0} (eq : K → K → Bool) (E F : Entries K L) (k : K) (n : ℕ) → IsFound eq E k n → IsFound eq (E ++ F) k n
+found-more eq E F k n f = record { place = f.place; other = f.other; found = f.found; at = at-old E F f.place (f.other, f.found) f.at; same = f.same; near = f.near }
 
--- a new key that is one step behind the place d
-one-more : {K : Type 0} (next : K → List K) (s : K) (d : ℕ) (E : Entries K) (k c : K) (r q : Reached) → IsSearch next s d E → At E d k r → After next k c → ((i : ℕ) (p : Reached) → At E i c p → ⊥) → q.depth ≡ r.depth + 1
-    → IsSearch next s d (E ++ (c, q) ∷ [])
-one-more {K = K} next s d E k c r q a at after new deep = record {
-  first = found-more E _ s 0 a.first;
-  reach = λ i l p h. reach i l p (at-split E (c, q) i (l, p) h);
-  closed = λ i l p below h b after. closed i l p below (at-split E (c, q) i (l, p) h) b after;
-  sorted = λ i j l m p o le h g. sorted i j l m p o le (at-split E (c, q) i (l, p) h) (at-split E (c, q) j (m, o) g);
-  near = λ i j l m p o le h g. near i j l m p o le (at-split E (c, q) i (l, p) h) (at-split E (c, q) j (m, o) g);
-  once = λ i j l p o h g. once i j l p o (at-split E (c, q) i (l, p) h) (at-split E (c, q) j (l, o) g);
-  small = λ i l p h. small i l p (at-split E (c, q) i (l, p) h);
-}
-  where
-    last : (l : K) (p : Reached) → pair l p ≡ pair c q → (l ≡ c) × (p ≡ q)
-    last l p e = (ap (λ (x : K × Reached). x.0) e, ap (λ (x : K × Reached). x.1) e)
+visited-more : {A : Type 0} (Like : A → A → Type 0) (vs ws : List (Visit A)) (t : A) (n : ℕ) → IsVisited Like vs t n → IsVisited Like (vs ++ ws) t n
+visited-more Like vs ws t n v = record { place = v.place; visit = v.visit; at = at-old vs ws v.place v.visit v.at; like = v.like; near = v.near }
 
-    depth-is : (l : K) (p : Reached) → pair l p ≡ pair c q → p.depth ≡ r.depth + 1
-    depth-is l p e = ap (λ (x : K × Reached). x.1.depth) e ∙ deep
+parent-is : {K L : Type 0} (E : Entries K L) (i : ℕ) (k : K) (f : Found L) → At E i k f → parent_at E i ≡ f.parent
+parent-is {K = K} {L = L} E i k f at = ap (λ (o : Option (K × Found L)). elim o [ None ↦ i | Some e ↦ e.1.parent ]) at
 
-    within : d < length E
-    within = at-within E d (k, r) at
+label-is : {K L : Type 0} (E : Entries K L) (i : ℕ) (k : K) (f : Found L) → At E i k f → label_at E i ≡ f.label
+label-is {K = K} {L = L} E i k f at = ap (λ (o : Option (K × Found L)). elim o [ None ↦ None | Some e ↦ e.1.label ]) at
 
-    reach : (i : ℕ) (l : K) (p : Reached) → (At E i l p) ⊎ ((i ≡ length E) × (pair l p ≡ pair c q)) → Run (After next) s p.depth l
-    reach i l p (inl h) = a.reach i l p h
-    reach i l p (inr e) =
-        let run : Run (After next) s (suc r.depth) c = (k, (a.reach d k r at, after)) in
-        subst (λ (n : ℕ). Run (After next) s n l) (sym (depth-is l p e.1 ∙ one-up r.depth)) (subst (λ (x : K). Run (After next) s (suc r.depth) x) (sym ((last l p e.1).0)) run)
+-- an entry is an old one or the new one
+abbrev Split : {K L : Type 0} → Entries K L → K → Found L → ℕ → K → Found L → Type 0
+Split E c q i m p = (At E i m p) ⊎ ((i ≡ length E) × (pair m p ≡ pair c q))
 
-    closed : (i : ℕ) (l : K) (p : Reached) → i < d → (At E i l p) ⊎ ((i ≡ length E) × (pair l p ≡ pair c q)) → (b : K) → After next l b → IsFound (E ++ (c, q) ∷ []) b (p.depth + 1)
-    closed i l p below (inl h) b after = found-more E _ b _ (a.closed i l p below h b after)
-    closed i l p below (inr e) b after = absurd (let is = e.0 in omega (arith, within, below, is))
+module _ {A K L : Type 0} (eq : K → K → Bool) (fair : IsEquivalence eq) (Leads : L → A → A → Type 0) (Like : A → A → Type 0) (IsKey : A → K → Type 0) (start : A) where
+  child-more : (E F : Entries K L) (vs ws : List (Visit A)) (f : Found L) (s : A) → IsChild Leads E vs f s → IsChild Leads (E ++ F) (vs ++ ws) f s
+  child-more E F vs ws f s c = record { label = c.label; labelled = c.labelled; key = c.key; found = c.found; at = at-old E F f.parent (c.key, c.found) c.at; deep = c.deep; visit = c.visit; there = at-old vs ws f.parent c.visit c.there; step = c.step }
 
-    sorted : (i j : ℕ) (l m : K) (p o : Reached) → i ≤ j → (At E i l p) ⊎ ((i ≡ length E) × (pair l p ≡ pair c q)) → (At E j m o) ⊎ ((j ≡ length E) × (pair m o ≡ pair c q)) → p.depth ≤ o.depth
-    sorted i j l m p o le (inl h) (inl g) = a.sorted i j l m p o le h g
-    sorted i j l m p o le (inl h) (inr f) = let n = a.near d i k l r p (omega arith) at h in let e = depth-is m o f.1 in omega (arith, n, e)
-    sorted i j l m p o le (inr f) (inl g) = let w = at-within E j (m, o) g in let e = f.0 in absurd (omega (arith, w, e, le))
-    sorted i j l m p o le (inr f) (inr g) = let e = depth-is l p f.1 in let e' = depth-is m o g.1 in omega (arith, e, e')
+  from-more : (E F : Entries K L) (vs ws : List (Visit A)) (f : Found L) (s : A) → ((f.depth ≡ 0) × (s ≡ start)) ⊎ IsChild Leads E vs f s → ((f.depth ≡ 0) × (s ≡ start)) ⊎ IsChild Leads (E ++ F) (vs ++ ws) f s
+  from-more E F vs ws f s (inl h) = inl h
+  from-more E F vs ws f s (inr c) = inr (child-more E F vs ws f s c)
 
-    near : (i j : ℕ) (l m : K) (p o : Reached) → d ≤ i → (At E i l p) ⊎ ((i ≡ length E) × (pair l p ≡ pair c q)) → (At E j m o) ⊎ ((j ≡ length E) × (pair m o ≡ pair c q)) → o.depth ≤ p.depth + 1
-    near i j l m p o le (inl h) (inl g) = a.near i j l m p o le h g
-    near i j l m p o le (inl h) (inr f) = let n = a.sorted d i k l r p le at h in let e = depth-is m o f.1 in omega (arith, n, e)
-    near i j l m p o le (inr f) (inl g) = let n = a.near d j k m r o (omega arith) at g in let e = depth-is l p f.1 in omega (arith, n, e)
-    near i j l m p o le (inr f) (inr g) = let e = depth-is l p f.1 in let e' = depth-is m o g.1 in omega (arith, e, e')
+  grown-more : (E F : Entries K L) (vs ws : List (Visit A)) (i : ℕ) (k : K) (f : Found L) → IsGrown Leads IsKey start E vs i k f → IsGrown Leads IsKey start (E ++ F) (vs ++ ws) i k f
+  grown-more E F vs ws i k f g = record { visit = g.visit; there = at-old vs ws i g.visit g.there; deep = g.deep; key = g.key; from = from-more E F vs ws f g.visit.state g.from }
 
-    once : (i j : ℕ) (l : K) (p o : Reached) → (At E i l p) ⊎ ((i ≡ length E) × (pair l p ≡ pair c q)) → (At E j l o) ⊎ ((j ≡ length E) × (pair l o ≡ pair c q)) → i ≡ j
-    once i j l p o (inl h) (inl g) = a.once i j l p o h g
-    once i j l p o (inl h) (inr f) = absurd (new i p (subst (λ (x : K). At E i x p) (last l o f.1).0 h))
-    once i j l p o (inr f) (inl g) = absurd (new j o (subst (λ (x : K). At E j x o) (last l p f.1).0 g))
-    once i j l p o (inr f) (inr g) = f.0 ∙ sym g.0
+  -- what leads to the state s: a path, which has a length, and a run
+  abbrev pub Leading : Entries K L → ℕ → ℕ → A → Type 0
+  Leading E i n s = Path Leads start (path_back E i n) s × (length (path_back E i n) ≡ n) × Run (Steps Leads) start n s
 
-    small : (i : ℕ) (l : K) (p : Reached) → (At E i l p) ⊎ ((i ≡ length E) × (pair l p ≡ pair c q)) → p.depth ≤ i
-    small i l p (inl h) = a.small i l p h
-    small i l p (inr f) = let n = a.small d k r at in let e = depth-is l p f.1 in let w = within in let is = f.0 in omega (arith, n, e, w, is)
-
-at-or-below : (i n : ℕ) → i < n + 1 → (i ≡ n) ⊎ (i < n)
-at-or-below zero zero lt = inl refl
-at-or-below zero (suc n) lt = inr (omega arith)
-at-or-below (suc i) zero lt = absurd (omega (arith, lt))
-at-or-below (suc i) (suc n) lt = go (at-or-below i n (omega (arith, lt)))
-  where
-    go : (i ≡ n) ⊎ (i < n) → (suc i ≡ suc n) ⊎ (suc i < suc n)
-    go (inl e) = inl (ap (λ m. suc m) e)
-    go (inr b) = inr (omega (arith, b))
-
-some-same : {K : Type 0} (x y : K) → Some x ≡ Some y → x ≡ y
-some-same x y e = cc
-
--- those below n, and the one at n
-and-one : {K : Type 0} (E : Entries K) (keys : List K) (n : ℕ) (c : K) (m : ℕ) → slice_get keys n ≡ Some c → IsFound E c m → ((i : ℕ) (b : K) → i < n → slice_get keys i ≡ Some b → IsFound E b m) → (i : ℕ) (b : K) → i < n + 1 → slice_get keys i ≡ Some b → IsFound E b m
-and-one {K = K} E keys n c m nth here found i b lt h = go (at-or-below i n lt)
-  where
-    go : (i ≡ n) ⊎ (i < n) → IsFound E b m
-    go (inl e) = subst (λ (x : K). IsFound E x m) (some-same c b (sym nth ∙ ap (λ j. slice_get keys j) (sym e) ∙ h)) here
-    go (inr below) = found i b below h
-
-contains-at : {K : Type 0} (xs : List K) (i : ℕ) (x : K) → slice_get xs i ≡ Some x → Contains xs x
-contains-at xs i x h = (i, at-within xs i x h, get_or_from_slice_get xs i x x h)
-
--- one more of them
-pub amid : {K : Type 0} (next : K → List K) (s : K) (d : ℕ) (E F : Entries K) (k : K) (r q : Reached) (keys : List K) (n : ℕ) (c : K) → keys ≡ next k → slice_get keys n ≡ Some c → q.depth ≡ r.depth + 1
-    → IsAmid next s d E k r keys n → Adds E c q F → IsAmid next s d F k r keys (n + 1)
-amid {K = K} next s d E F k r q keys n c is nth deep a (inl there) = subst (λ (G : Entries K). IsAmid next s d G k r keys (n + 1)) (sym there.1) (record {
-  search = a.search;
-  at = a.at;
-  found = and-one E keys n c (r.depth + 1) nth here a.found;
-})
-  where
-    here : IsFound E c (r.depth + 1)
-    here = record { place = there.0.0; reached = there.0.1.0; at = there.0.1.1; near = a.search.near d there.0.0 k c r there.0.1.0 (omega arith) a.at there.0.1.1 }
-amid {K = K} next s d E F k r q keys n c is nth deep a (inr new) = subst (λ (G : Entries K). IsAmid next s d G k r keys (n + 1)) (sym new.1) (record {
-  search = one-more next s d E k c r q a.search a.at after new.0 deep;
-  at = at-old E _ d (k, r) a.at;
-  found = and-one (E ++ (c, q) ∷ []) keys n c (r.depth + 1) nth here (λ i b below h. found-more E _ b _ (a.found i b below h));
-})
-  where
-    after : After next k c
-    after = subst (λ (l : List K). Contains l c) is (contains-at keys n c nth)
-
-    here : IsFound (E ++ (c, q) ∷ []) c (r.depth + 1)
-    here = record { place = length E; reached = q; at = at-last E (c, q); near = omega (arith, deep) }
-
--- a place in a list that contains x
-at-contained : {K : Type 0} (xs : List K) (x : K) → Contains xs x → (i : ℕ) × (slice_get xs i ≡ Some x)
-at-contained xs x h = (h.0, slice_get_read xs (length xs) h.0 x refl h.1 (sym h.2))
-
-entry-same : {K : Type 0} (k l : K) (r p : Reached) → Some (pair k r) ≡ Some (pair l p) → (k ≡ l) × (r ≡ p)
-entry-same {K = K} k l r p e = (ap (λ (x : K × Reached). x.0) (inside (pair k r) (pair l p) e), ap (λ (x : K × Reached). x.1) (inside (pair k r) (pair l p) e))
-
--- the place d was looked behind
-pub looked : {K : Type 0} (next : K → List K) (s : K) (d : ℕ) (E : Entries K) (k : K) (r : Reached) (keys : List K) → keys ≡ next k → IsAmid next s d E k r keys (length keys) → IsSearch next s (d + 1) E
-looked {K = K} next s d E k r keys is a = record {
-  first = a.search.first;
-  reach = a.search.reach;
-  closed = closed;
-  sorted = a.search.sorted;
-  near = λ i j l m p o le h g. a.search.near i j l m p o (omega (arith, le)) h g;
-  once = a.search.once;
-  small = a.search.small;
-}
-  where
-    closed : (i : ℕ) (l : K) (p : Reached) → i < d + 1 → At E i l p → (c : K) → After next l c → IsFound E c (p.depth + 1)
-    closed i l p lt h c after = go (at-or-below i d lt)
-      where
-        go : (i ≡ d) ⊎ (i < d) → IsFound E c (p.depth + 1)
-        go (inr below) = a.search.closed i l p below h c after
-        go (inl e) =
-            let both : Some (pair k r) ≡ Some (pair l p) = sym a.at ∙ ap (λ j. slice_get E j) (sym e) ∙ h in
-            let keys-same : k ≡ l = (entry-same k l r p both).0 in
-            let reached-same : r ≡ p = (entry-same k l r p both).1 in
-            let inside : Contains keys c = subst (λ (xs : List K). Contains xs c) (sym is) (subst (λ (x : K). After next x c) (sym keys-same) after) in
-            let place = at-contained keys c inside in
-            subst (λ (x : Reached). IsFound E c (x.depth + 1)) reached-same (a.found place.0 c (at-within keys place.0 c place.1) place.1)
-
--- keys that are compared exactly
-module _ {K : Type 0} (eq : K → K → Bool) (exact : IsExact eq) where
-  -- a key that is looked up is in a place
-  has-at : (E : Entries K) (k : K) → is_some (lookup (eq k) E) ≡ true → (i : ℕ) × ((q : Reached) × At E i k q)
-  has-at [] k h = absurd cc
-  has-at (e ∷ E) k h = go (eq k e.0) refl h (has-at E k)
+  -- the path of an entry is that of its parent and its label
+  child-leads : (E : Entries K L) (vs : List (Visit A)) (n i : ℕ) (k : K) (f : Found L) (s : A) → At E i k f → (c : IsChild Leads E vs f s) → Leading E f.parent n c.visit.state → Leading E i (suc n) s
+  child-leads E vs n i k f s at c before = (path, long, (c.visit.state, (before.2, (c.label, c.step))))
     where
-      go : (b : Bool) → eq k e.0 ≡ b → is_some (cond b (Some e.1) (lookup (eq k) E)) ≡ true → (is_some (lookup (eq k) E) ≡ true → (i : ℕ) × ((q : Reached) × At E i k q)) → (i : ℕ) × ((q : Reached) × At (e ∷ E) i k q)
-      go true is h later = (0, (e.1, ap (λ n. Some (pair n e.1)) (sym ((exact k e.0).0 is))))
-      go false is h later = let there = later h in (suc there.0, there.1)
+      is : path_back E i (suc n) ≡ path_back E f.parent n ++ c.label ∷ []
+      is = ap (λ (p : ℕ). path_back E p n ++ listed (label_at E i)) (parent-is E i k f at) ∙ ap (λ (o : Option L). path_back E f.parent n ++ listed o) (label-is E i k f at ∙ c.labelled)
 
-  has-none : (E : Entries K) (k : K) → is_some (lookup (eq k) E) ≡ false → (i : ℕ) (q : Reached) → At E i k q → ⊥
-  has-none [] k h i q at = absurd cc
-  has-none (e ∷ E) k h i q at = go (eq k e.0) refl h i at (λ rest j it. has-none E k rest j q it)
+      path : Path Leads start (path_back E i (suc n)) s
+      path = subst (λ (p : List L). Path Leads start p s) (sym is) (path-on Leads start (path_back E f.parent n) c.visit.state s c.label before.0 c.step)
+
+      long : length (path_back E i (suc n)) ≡ suc n
+      long = ap length is ∙ one-longer (path_back E f.parent n) c.label ∙ ap (λ (m : ℕ). suc m) before.1
+
+  pub path-leads : (E : Entries K L) (vs : List (Visit A)) → ((i : ℕ) (k : K) (f : Found L) → At E i k f → IsGrown Leads IsKey start E vs i k f)
+      → (n i : ℕ) (k : K) (f : Found L) → At E i k f → f.depth ≡ n → (v : Visit A) → slice_get vs i ≡ Some v → Leading E i n v.state
+  path-leads E vs grown zero i k f at deep v there = go (grown i k f at)
     where
-      go : (b : Bool) → eq k e.0 ≡ b → is_some (cond b (Some e.1) (lookup (eq k) E)) ≡ false → (j : ℕ) → At (e ∷ E) j k q → (is_some (lookup (eq k) E) ≡ false → (i : ℕ) → At E i k q → ⊥) → ⊥
-      go true is h j it later = absurd cc
-      go false is h zero it later = let same : k ≡ e.0 = ap (λ (x : K × Reached). x.0) (some-pair it) in let yes : eq k e.0 ≡ true = ap (λ x. eq k x) (sym same) ∙ (exact k k).1 in absurd cc
+      go : IsGrown Leads IsKey start E vs i k f → Leading E i zero v.state
+      go g = by g.from
         where
-          some-pair : Some e ≡ Some (pair k q) → pair k q ≡ e
-          some-pair f = sym (inside e (pair k q) f)
-      go false is h (suc j) it later = later h j it
+          same : g.visit ≡ v
+          same = same-place vs i i g.visit v refl g.there there
 
-  module _ {S : Type 0} (m n : IndexMap K Reached S) (k : K) (r : Reached) where
-    pub adds-old : is_some (get eq m k) ≡ true → Adds m.entries k r m.entries
-    adds-old h = inl (has-at m.entries k h, refl)
+          by : ((f.depth ≡ 0) × (g.visit.state ≡ start)) ⊎ IsChild Leads E vs f g.visit.state → Leading E i zero v.state
+          by (inl h) = let is : start ≡ v.state = sym h.1 ∙ ap (λ (x : Visit A). x.state) same in (is, refl, is)
+          by (inr c) = absurd (let d = c.deep in omega (arith, d, deep))
+  path-leads E vs grown (suc n) i k f at deep v there = go (grown i k f at) (λ j m g h d u w. path-leads E vs grown n j m g h d u w)
+    where
+      go : IsGrown Leads IsKey start E vs i k f → ((j : ℕ) (m : K) (g : Found L) → At E j m g → g.depth ≡ n → (u : Visit A) → slice_get vs j ≡ Some u → Leading E j n u.state) → Leading E i (suc n) v.state
+      go g below = by g.from
+        where
+          same : g.visit ≡ v
+          same = same-place vs i i g.visit v refl g.there there
 
-    pub adds-new : is_some (get eq m k) ≡ false → n.entries ≡ insert_entry eq m.entries k r → Adds m.entries k r n.entries
-    adds-new h e = inr (has-none m.entries k h, e ∙ insert_entry-new eq m k r (none (get eq m k) h))
-      where
-        none : (o : Option Reached) → is_some o ≡ false → o ≡ None
-        none None f = refl
-        none (Some x) f = absurd cc
+          by : ((f.depth ≡ 0) × (g.visit.state ≡ start)) ⊎ IsChild Leads E vs f g.visit.state → Leading E i (suc n) v.state
+          by (inl h) = absurd (let z = h.0 in omega (arith, z, deep))
+          by (inr c) = subst (λ (s : A). Leading E i (suc n) s) (ap (λ (x : Visit A). x.state) same)
+              (child-leads E vs n i k f g.visit.state at c (below f.parent c.key c.found c.at (let d = c.deep in omega (arith, d, deep)) c.visit c.there))
 
--- what stands behind a list is in the place of its length
-pub nth-next : {K : Type 0} (ys : List K) (x : K) (rest keys : List K) → ys ++ x ∷ rest ≡ keys → slice_get keys (length ys) ≡ Some x
-nth-next ys x rest keys h = ap (λ l. slice_get l (length ys)) (sym h) ∙ mid ys
-  where
-    mid : (ys : List _) → slice_get (ys ++ x ∷ rest) (length ys) ≡ Some x
-    mid [] = refl
-    mid (y ∷ ys) = mid ys
+  -- a new key that is one step behind the place d
+  one-more : (d : ℕ) (E : Entries K L) (vs : List (Visit A)) (k c : K) (r q : Found L) (v : Visit A) (l : L) (t : A) → IsSearch eq Leads Like IsKey start d E vs → At E d k r → slice_get vs d ≡ Some v
+      → Leads l v.state t → IsKey t c → ((i : ℕ) (m : K) (p : Found L) → At E i m p → Same eq c m → ⊥) → q.depth ≡ r.depth + 1 → q.parent ≡ d → q.label ≡ Some l
+      → IsSearch eq Leads Like IsKey start d (E ++ (c, q) ∷ []) (vs ++ record { state = t; depth = q.depth } ∷ [])
+  one-more d E vs k c r q v l t a at there step key new deep parent labelled = record {
+    long = one-longer vs w ∙ ap (λ (n : ℕ). suc n) a.long ∙ sym (one-longer E (pair c q));
+    first = visited-more Like vs (w ∷ []) start 0 a.first;
+    grown = λ i m p h. grown i m p (at-split E (c, q) i (m, p) h);
+    closed = λ i x below h. closed i x below (at-split vs w i x h);
+    sorted = λ i j m o p x le h g. sorted i j m o p x le (at-split E (c, q) i (m, p) h) (at-split E (c, q) j (o, x) g);
+    near = λ i j m o p x le h g. near i j m o p x le (at-split E (c, q) i (m, p) h) (at-split E (c, q) j (o, x) g);
+    once = λ i j m o p x h g same. once i j m o p x (at-split E (c, q) i (m, p) h) (at-split E (c, q) j (o, x) g) same;
+    small = λ i m p h. small i m p (at-split E (c, q) i (m, p) h);
+  }
+    where
+      w : Visit A
+      w = record { state = t; depth = q.depth }
+
+      last : (m : K) (p : Found L) → pair m p ≡ pair c q → (m ≡ c) × (p ≡ q)
+      last m p e = (ap (λ (x : K × Found L). x.0) e, ap (λ (x : K × Found L). x.1) e)
+
+      depth-is : (m : K) (p : Found L) → pair m p ≡ pair c q → p.depth ≡ r.depth + 1
+      depth-is m p e = ap (λ (x : K × Found L). x.1.depth) e ∙ deep
+
+      within : d < length E
+      within = at-within E d (k, r) at
+
+      child : IsChild Leads (E ++ (c, q) ∷ []) (vs ++ w ∷ []) q t
+      child = record {
+        label = l;
+        labelled = labelled;
+        key = k;
+        found = r;
+        at = subst (λ (n : ℕ). At (E ++ (c, q) ∷ []) n k r) (sym parent) (at-old E _ d (k, r) at);
+        deep = deep;
+        visit = v;
+        there = subst (λ (n : ℕ). slice_get (vs ++ w ∷ []) n ≡ Some v) (sym parent) (at-old vs _ d v there);
+        step = step;
+      }
+
+      mine : IsGrown Leads IsKey start (E ++ (c, q) ∷ []) (vs ++ w ∷ []) (length E) c q
+      mine = record { visit = w; there = subst (λ (n : ℕ). slice_get (vs ++ w ∷ []) n ≡ Some w) a.long (at-last vs w); deep = refl; key = key; from = inr child }
+
+      grown : (i : ℕ) (m : K) (p : Found L) → Split E c q i m p → IsGrown Leads IsKey start (E ++ (c, q) ∷ []) (vs ++ w ∷ []) i m p
+      grown i m p (inl h) = grown-more E _ vs _ i m p (a.grown i m p h)
+      grown i m p (inr e) =
+          subst (λ (n : ℕ). IsGrown Leads IsKey start (E ++ (c, q) ∷ []) (vs ++ w ∷ []) n m p) (sym e.0)
+          (subst (λ (x : K × Found L). IsGrown Leads IsKey start (E ++ (c, q) ∷ []) (vs ++ w ∷ []) (length E) x.0 x.1) (sym e.1) mine)
+
+      closed : (i : ℕ) (x : Visit A) → i < d → (slice_get vs i ≡ Some x) ⊎ ((i ≡ length vs) × (x ≡ w)) → (u : A) → Steps Leads x.state u → IsVisited Like (vs ++ w ∷ []) u (x.depth + 1)
+      closed i x below (inl h) u go = visited-more Like vs (w ∷ []) u _ (a.closed i x below h u go)
+      closed i x below (inr e) u go = absurd (let is = e.0 in let long = a.long in omega (arith, within, below, is, long))
+
+      sorted : (i j : ℕ) (m o : K) (p x : Found L) → i ≤ j → Split E c q i m p → Split E c q j o x → p.depth ≤ x.depth
+      sorted i j m o p x le (inl h) (inl g) = a.sorted i j m o p x le h g
+      sorted i j m o p x le (inl h) (inr f) = let n = a.near d i k m r p (omega arith) at h in let e = depth-is o x f.1 in omega (arith, n, e)
+      sorted i j m o p x le (inr f) (inl g) = let b = at-within E j (o, x) g in let e = f.0 in absurd (omega (arith, b, e, le))
+      sorted i j m o p x le (inr f) (inr g) = let e = depth-is m p f.1 in let e' = depth-is o x g.1 in omega (arith, e, e')
+
+      near : (i j : ℕ) (m o : K) (p x : Found L) → d ≤ i → Split E c q i m p → Split E c q j o x → x.depth ≤ p.depth + 1
+      near i j m o p x le (inl h) (inl g) = a.near i j m o p x le h g
+      near i j m o p x le (inl h) (inr f) = let n = a.sorted d i k m r p le at h in let e = depth-is o x f.1 in omega (arith, n, e)
+      near i j m o p x le (inr f) (inl g) = let n = a.near d j k o r x (omega arith) at g in let e = depth-is m p f.1 in omega (arith, n, e)
+      near i j m o p x le (inr f) (inr g) = let e = depth-is m p f.1 in let e' = depth-is o x g.1 in omega (arith, e, e')
+
+      once : (i j : ℕ) (m o : K) (p x : Found L) → Split E c q i m p → Split E c q j o x → Same eq m o → i ≡ j
+      once i j m o p x (inl h) (inl g) same = a.once i j m o p x h g same
+      once i j m o p x (inl h) (inr f) same = absurd (new i m p h (fair.symm c m ∙ ap (λ (y : K). eq m y) (sym (last o x f.1).0) ∙ same))
+      once i j m o p x (inr f) (inl g) same = absurd (new j o x g (ap (λ (y : K). eq y o) (sym (last m p f.1).0) ∙ same))
+      once i j m o p x (inr f) (inr g) same = f.0 ∙ sym g.0
+
+      small : (i : ℕ) (m : K) (p : Found L) → Split E c q i m p → p.depth ≤ i
+      small i m p (inl h) = a.small i m p h
+      small i m p (inr f) = let n = a.small d k r at in let e = depth-is m p f.1 in let b = within in let is = f.0 in omega (arith, n, e, b, is)
+
+  -- those below n, and the one at n
+  and-one : (E : Entries K L) (nexts : List (L × K)) (n : ℕ) (l : L) (c : K) (m : ℕ) → slice_get nexts n ≡ Some (l, c) → IsFound eq E c m → ((i : ℕ) (o : L) (b : K) → i < n → slice_get nexts i ≡ Some (o, b) → IsFound eq E b m)
+      → (i : ℕ) (o : L) (b : K) → i < n + 1 → slice_get nexts i ≡ Some (o, b) → IsFound eq E b m
+  and-one E nexts n l c m nth here found i o b lt h = go (at-or-below i n lt)
+    where
+      go : (i ≡ n) ⊎ (i < n) → IsFound eq E b m
+      go (inl e) = let same : (l, c) ≡ (o, b) = same-place nexts n i (l, c) (o, b) (sym e) nth h in subst (λ (x : K). IsFound eq E x m) (ap (λ (x : L × K). x.1) same) here
+      go (inr below) = found i o b below h
+
+  -- one more of them
+  pub amid : (d : ℕ) (E F : Entries K L) (k : K) (r q : Found L) (v : Visit A) (nexts : List (L × K)) (n : ℕ) (l : L) (c : K) → AreNexts Leads IsKey v.state nexts → slice_get nexts n ≡ Some (l, c)
+      → q.depth ≡ r.depth + 1 → q.parent ≡ d → q.label ≡ Some l → IsAmid eq Leads Like IsKey start d E k r v nexts n → Adds eq E c q F → IsAmid eq Leads Like IsKey start d F k r v nexts (n + 1)
+  amid d E F k r q v nexts n l c are nth deep parent labelled a (inl there) = subst (λ (G : Entries K L). IsAmid eq Leads Like IsKey start d G k r v nexts (n + 1)) (sym there.1) (record {
+    visits = a.visits;
+    search = a.search;
+    at = a.at;
+    there = a.there;
+    found = and-one E nexts n l c (r.depth + 1) nth here a.found;
+  })
+    where
+      here : IsFound eq E c (r.depth + 1)
+      here = let t : IsThere eq E c = there.0 in record { place = t.place; other = t.other; found = t.found; at = t.at; same = t.same; near = a.search.near d t.place k t.other r t.found (omega arith) a.at t.at }
+  amid d E F k r q v nexts n l c are nth deep parent labelled a (inr new) = subst (λ (G : Entries K L). IsAmid eq Leads Like IsKey start d G k r v nexts (n + 1)) (sym new.1) (record {
+    visits = a.visits ++ record { state = next.state; depth = q.depth } ∷ [];
+    search = one-more d E a.visits k c r q v l next.state a.search a.at a.there next.step next.key new.0 deep parent labelled;
+    at = at-old E _ d (k, r) a.at;
+    there = at-old a.visits _ d v a.there;
+    found = and-one (E ++ (c, q) ∷ []) nexts n l c (r.depth + 1) nth here (λ i o b below h. found-more eq E _ b _ (a.found i o b below h));
+  })
+    where
+      next : IsNext Leads IsKey v.state l c
+      next = are.each n l c nth
+
+      here : IsFound eq (E ++ (c, q) ∷ []) c (r.depth + 1)
+      here = record { place = length E; other = c; found = q; at = at-last E (c, q); same = fair.refl c; near = omega (arith, deep) }
+
+  -- states that paths reach are alike where they have one key
+  abbrev pub AreAlike : Type 0
+  AreAlike = (p q : List L) (s t : A) (k : K) → Path Leads start p s → Path Leads start q t → IsKey s k → IsKey t k → Like s t
+
+  -- a key that is compared as equal to a key of a state is one too
+  abbrev pub AreAsGood : Type 0
+  AreAsGood = (s : A) (k c : K) → Same eq k c → IsKey s k → IsKey s c
+
+  -- the place d was looked behind
+  pub looked : AreAlike → AreAsGood → (d : ℕ) (E : Entries K L) (k : K) (r : Found L) (v : Visit A) (nexts : List (L × K)) → AreNexts Leads IsKey v.state nexts → IsAmid eq Leads Like IsKey start d E k r v nexts (length nexts)
+      → IsSearching eq Leads Like IsKey start (d + 1) E
+  looked alike good d E k r v nexts are a = record {
+    visits = a.visits;
+    is = record {
+      long = a.search.long;
+      first = a.search.first;
+      grown = a.search.grown;
+      closed = closed;
+      sorted = a.search.sorted;
+      near = λ i j m o p x le h g. a.search.near i j m o p x (omega (arith, le)) h g;
+      once = a.search.once;
+      small = a.search.small;
+    };
+  }
+    where
+      leads : (i : ℕ) (m : K) (p : Found L) → At E i m p → (x : Visit A) → slice_get a.visits i ≡ Some x → Leading E i p.depth x.state
+      leads i m p h x there = path-leads E a.visits a.search.grown p.depth i m p h refl x there
+
+      -- the visit of v's entry has its depth
+      deep : v.depth ≡ r.depth
+      deep = let g : IsGrown Leads IsKey start E a.visits d k r = a.search.grown d k r a.at in ap (λ (x : Visit A). x.depth) (same-place a.visits d d v g.visit refl a.there g.there) ∙ g.deep
+
+      behind : (t : A) → Steps Leads v.state t → IsVisited Like a.visits t (v.depth + 1)
+      behind t step = record { place = f.place; visit = g.visit; at = g.there; like = like; near = let e = g.deep in let b = f.near in let is = deep in omega (arith, e, b, is) }
+        where
+          one : IsAmong IsKey nexts t
+          one = are.all step.0 t step.1
+
+          f : IsFound eq E one.key (r.depth + 1)
+          f = a.found one.place one.label one.key (at-within nexts one.place (one.label, one.key) one.at) one.at
+
+          g : IsGrown Leads IsKey start E a.visits f.place f.other f.found
+          g = a.search.grown f.place f.other f.found f.at
+
+          like : Like t g.visit.state
+          like = alike (path_back E d r.depth ++ step.0 ∷ []) (path_back E f.place f.found.depth) t g.visit.state f.other
+              (path-on Leads start (path_back E d r.depth) v.state t step.0 (leads d k r a.at v a.there).0 step.1) (leads f.place f.other f.found f.at g.visit g.there).0 (good t one.key f.other f.same one.is) g.key
+
+      closed : (i : ℕ) (x : Visit A) → i < d + 1 → slice_get a.visits i ≡ Some x → (t : A) → Steps Leads x.state t → IsVisited Like a.visits t (x.depth + 1)
+      closed i x lt h t step = go (at-or-below i d lt)
+        where
+          go : (i ≡ d) ⊎ (i < d) → IsVisited Like a.visits t (x.depth + 1)
+          go (inr below) = a.search.closed i x below h t step
+          go (inl e) =
+              let same : v ≡ x = same-place a.visits d i v x (sym e) a.there h in
+              subst (λ (y : Visit A). IsVisited Like a.visits t (y.depth + 1)) same (behind t (subst (λ (y : Visit A). Steps Leads y.state t) (sym same) step))
+
+  -- a search that has found its start alone
+  pub begun : AreAlike → (k : K) (r : Found L) (E F : Entries K L) → E ≡ [] → r.depth ≡ 0 → IsKey start k → Adds eq E k r F → IsSearching eq Leads Like IsKey start 0 F
+  begun alike k r E F empty deep key (inl there) = let t : IsThere eq E k = there.0 in let no : slice_get [] t.place ≡ Some (pair t.other t.found) = ap (λ (G : Entries K L). slice_get G t.place) (sym empty) ∙ t.at in absurd cc
+  begun alike k r E F empty deep key (inr new) = subst (λ (G : Entries K L). IsSearching eq Leads Like IsKey start 0 G) (sym (new.1 ∙ ap (λ (G : Entries K L). G ++ (k, r) ∷ []) empty)) (record {
+    visits = v ∷ [];
+    is = record {
+      long = refl;
+      first = record { place = 0; visit = v; at = refl; like = alike [] [] start start k refl refl key key; near = omega arith };
+      grown = grown;
+      closed = λ i x below. absurd (omega (arith, below));
+      sorted = λ i j m o p q le h g. let e = zero-deep i m p h in omega (arith, e);
+      near = λ i j m o p q le h g. let e = zero-deep j o q g in omega (arith, e);
+      once = λ i j m o p q h g same. first i m p h ∙ sym (first j o q g);
+      small = λ i m p h. let e = zero-deep i m p h in omega (arith, e);
+    };
+  })
+    where
+      v : Visit A
+      v = record { state = start; depth = 0 }
+
+      only : List (K × Found L)
+      only = (k, r) ∷ []
+
+      first : (i : ℕ) (m : K) (p : Found L) → At only i m p → i ≡ 0
+      first zero m p h = refl
+      first (suc i) m p h = absurd cc
+
+      it : (i : ℕ) (m : K) (p : Found L) → At only i m p → pair k r ≡ pair m p
+      it zero m p h = some-same (pair k r) (pair m p) h
+      it (suc i) m p h = absurd cc
+
+      zero-deep : (i : ℕ) (m : K) (p : Found L) → At only i m p → p.depth ≡ 0
+      zero-deep i m p h = ap (λ (x : K × Found L). x.1.depth) (sym (it i m p h)) ∙ deep
+
+      root : IsGrown Leads IsKey start only (v ∷ []) 0 k r
+      root = record { visit = v; there = refl; deep = sym deep; key = key; from = inl (deep, refl) }
+
+      grown : (i : ℕ) (m : K) (p : Found L) → At only i m p → IsGrown Leads IsKey start only (v ∷ []) i m p
+      grown i m p h = subst (λ (n : ℕ). IsGrown Leads IsKey start only (v ∷ []) n m p) (sym (first i m p h)) (subst (λ (x : K × Found L). IsGrown Leads IsKey start only (v ∷ []) 0 x.0 x.1) (it i m p h) root)

@@ -1,70 +1,128 @@
--- A search through keys, and runs.
-use Rattle.std.specs.Prelude.{◌≡◌, ◌≤◌, ◌<◌, ◌+◌, ◌++◌, ◌⊎◌, Bool, true, ℕ, zero, suc, List, [], ◌∷◌, Some, slice_get}
-use Rattle.std.specs.List.{Contains}
-use Rattle.mcs_explore.specs.declared.search.Reached.{Reached}
+-- A search through states, by their keys.
+use Rattle.std.specs.Prelude.{◌≡◌, ◌≤◌, ◌++◌, ◌⊎◌, Bool, true, ℕ, zero, suc, List, [], ◌∷◌, Option, Some, None, length, slice_get}
+use Rattle.mcs_explore.specs.declared.search.Found.{Found}
+use Rattle.mcs_explore.specs.Paths.{Run, Path, Steps}
+use Rattle.mcs_explore.specs.Closure.{Visit, IsClosed, IsClosedTo}
 
--- a run of n steps
-abbrev pub Run : {A : Type 0} → (A → A → Type 0) → A → ℕ → A → Type 0
-Run Step s zero t = s ≡ t
-Run {A = A} Step s (suc n) t = (u : A) × (Run Step s n u × Step u t)
-
--- a run of n steps ends in a state with this key
-abbrev pub EndsAt : {A K : Type 0} → (A → A → Type 0) → (A → K) → A → ℕ → K → Type 0
-EndsAt {A = A} Step key s n k = (t : A) × (Run Step s n t × (key t ≡ k))
-
--- the keys that were found, with where from
-abbrev pub Entries : Type 0 → Type 0
-Entries K = List (K × Reached)
+-- the keys that were found, and how
+abbrev pub Entries : Type 0 → Type 0 → Type 0
+Entries K L = List (K × Found L)
 
 -- a key is in this place
-abbrev pub At : {K : Type 0} → Entries K → ℕ → K → Reached → Type 0
-At E i k r = slice_get E i ≡ Some (k, r)
+abbrev pub At : {K L : Type 0} → Entries K L → ℕ → K → Found L → Type 0
+At E i k f = slice_get E i ≡ Some (k, f)
+
+-- the depth, the parent and the label of what is in a place, if there is something
+abbrev pub depth_at : {K L : Type 0} → Entries K L → ℕ → ℕ
+depth_at E i = elim (slice_get E i) [ None ↦ 0 | Some e ↦ e.1.depth ]
+
+abbrev pub parent_at : {K L : Type 0} → Entries K L → ℕ → ℕ
+parent_at E i = elim (slice_get E i) [ None ↦ i | Some e ↦ e.1.parent ]
+
+abbrev pub label_at : {K L : Type 0} → Entries K L → ℕ → Option L
+label_at E i = elim (slice_get E i) [ None ↦ None | Some e ↦ e.1.label ]
+
+-- a label, if there is one
+abbrev pub listed : {L : Type 0} → Option L → List L
+listed None = []
+listed (Some l) = l ∷ []
+
+-- the labels along so many parents from a place, the last of them first
+abbrev pub path_back : {K L : Type 0} → Entries K L → ℕ → ℕ → List L
+path_back E i zero = []
+path_back E i (suc n) = path_back E (parent_at E i) n ++ listed (label_at E i)
+
+-- the labels from the start to what is in a place
+abbrev pub path_of : {K L : Type 0} → Entries K L → ℕ → List L
+path_of E i = path_back E i (depth_at E i)
+
+-- keys that are compared as equal
+abbrev pub Same : {K : Type 0} → (K → K → Bool) → K → K → Type 0
+Same eq k c = eq k c ≡ true
 
 -- a key is there, and was found by at most so many steps
-pub record IsFound {K : Type 0} (E : Entries K) (k : K) (n : ℕ) : Type 0 where
+pub record IsFound {K L : Type 0} (eq : K → K → Bool) (E : Entries K L) (k : K) (n : ℕ) : Type 0 where
   pub place : ℕ
-  pub reached : Reached
-  pub at : At E place k reached
-  pub near : reached.depth ≤ n
+  pub other : K
+  pub found : Found L
+  pub at : At E place other found
+  pub same : Same eq k other
+  pub near : found.depth ≤ n
 
--- a key was noted: it was there, or is new
-abbrev pub Adds : {K : Type 0} → Entries K → K → Reached → Entries K → Type 0
-Adds E k r F = (((i : ℕ) × ((q : Reached) × At E i k q)) × (F ≡ E)) ⊎ (((i : ℕ) (q : Reached) → At E i k q → ⊥) × (F ≡ E ++ (k, r) ∷ []))
+-- a label that leads from a state, and a key of where it leads
+pub record IsNext {A K L : Type 0} (Leads : L → A → A → Type 0) (IsKey : A → K → Type 0) (s : A) (l : L) (k : K) : Type 0 where
+  pub state : A
+  pub step : Leads l s state
+  pub key : IsKey state k
 
--- one key after another
-abbrev pub After : {K : Type 0} → (K → List K) → K → K → Type 0
-After next k c = Contains (next k) c
+-- a key of a state is among those
+pub record IsAmong {A K L : Type 0} (IsKey : A → K → Type 0) (nexts : List (L × K)) (t : A) : Type 0 where
+  pub place : ℕ
+  pub label : L
+  pub key : K
+  pub at : slice_get nexts place ≡ Some (label, key)
+  pub is : IsKey t key
 
--- what holds of the keys found from s, of which those below d were looked behind
-pub record IsSearch {K : Type 0} (next : K → List K) (s : K) (d : ℕ) (E : Entries K) : Type 0 where
-  pub first : IsFound E s 0
-  pub reach : (i : ℕ) (k : K) (r : Reached) → At E i k r → Run (After next) s r.depth k
-  pub closed : (i : ℕ) (k : K) (r : Reached) → i < d → At E i k r → (c : K) → After next k c → IsFound E c (r.depth + 1)
-  pub sorted : (i j : ℕ) (k l : K) (r q : Reached) → i ≤ j → At E i k r → At E j l q → r.depth ≤ q.depth
-  pub near : (i j : ℕ) (k l : K) (r q : Reached) → d ≤ i → At E i k r → At E j l q → q.depth ≤ r.depth + 1
-  pub once : (i j : ℕ) (k : K) (r q : Reached) → At E i k r → At E j k q → i ≡ j
-  pub small : (i : ℕ) (k : K) (r : Reached) → At E i k r → r.depth ≤ i
+-- the labels that lead from a state and the keys of where they lead, all of those
+pub record AreNexts {A K L : Type 0} (Leads : L → A → A → Type 0) (IsKey : A → K → Type 0) (s : A) (nexts : List (L × K)) : Type 0 where
+  pub each : (i : ℕ) (l : L) (k : K) → slice_get nexts i ≡ Some (l, k) → IsNext Leads IsKey s l k
+  pub all : (l : L) (t : A) → Leads l s t → IsAmong IsKey nexts t
 
--- an equality of keys tells exactly which are equal
-abbrev pub IsExact : {K : Type 0} → (K → K → Bool) → Type 0
-IsExact {K = K} eq = (a b : K) → (eq a b ≡ true → a ≡ b) × (eq a a ≡ true)
+-- the state of an entry: a run of its depth leads to it along its path, and it has its key
+pub record IsReached {A K L : Type 0} (Leads : L → A → A → Type 0) (IsKey : A → K → Type 0) (start : A) (E : Entries K L) (i : ℕ) (k : K) (f : Found L) (s : A) : Type 0 where
+  pub run : Run (Steps Leads) start f.depth s
+  pub path : Path Leads start (path_of E i) s
+  pub long : length (path_of E i) ≡ f.depth
+  pub key : IsKey s k
 
--- keys that are those after the one in a place
-abbrev pub AreBehind : {K : Type 0} → (K → List K) → Entries K → ℕ → List K → ℕ → Type 0
-AreBehind {K = K} next E place keys depth = (k : K) × ((r : Reached) × (At E place k r × (keys ≡ next k) × (depth ≡ r.depth)))
+-- each entry is that of a state
+abbrev pub AreReached : {A K L : Type 0} → (L → A → A → Type 0) → (A → K → Type 0) → A → Entries K L → Type 0
+AreReached {A = A} {K = K} {L = L} Leads IsKey start E = (i : ℕ) (k : K) (f : Found L) → At E i k f → (s : A) × IsReached Leads IsKey start E i k f s
 
--- a search that is behind one place more
-abbrev pub Goes : {K : Type 0} → Entries K → Entries K → ℕ → List K → ℕ → Type 0
-Goes {K = K} E F place keys depth = (next : K → List K) (s : K) → IsSearch next s place E → AreBehind next E place keys depth → IsSearch next s (place + 1) F
+-- an entry behind another is no nearer
+abbrev pub AreSorted : {K L : Type 0} → Entries K L → Type 0
+AreSorted {K = K} {L = L} E = (i j : ℕ) (k l : K) (f g : Found L) → i ≤ j → At E i k f → At E j l g → f.depth ≤ g.depth
 
--- each key that was found is that of a run of its depth from s
-abbrev pub AreReached : {A K : Type 0} → (A → A → Type 0) → (A → K) → A → Entries K → Type 0
-AreReached {K = K} Step key s E = (i : ℕ) (k : K) (r : Reached) → At E i k r → EndsAt Step key s r.depth k
+-- no key stands twice
+abbrev pub AreApart : {K L : Type 0} → (K → K → Bool) → Entries K L → Type 0
+AreApart {K = K} {L = L} eq E = (i j : ℕ) (k c : K) (f g : Found L) → At E i k f → At E j c g → Same eq k c → i ≡ j
 
--- no run from s that ends in a state with the key is shorter
-abbrev pub AreLeast : {A K : Type 0} → (A → A → Type 0) → (A → K) → A → Entries K → Type 0
-AreLeast {K = K} Step key s E = (i : ℕ) (k : K) (r : Reached) → At E i k r → (n : ℕ) → EndsAt Step key s n k → r.depth ≤ n
+-- the visit of an entry has its depth and its state
+pub record IsVisitOf {A K L : Type 0} (Leads : L → A → A → Type 0) (IsKey : A → K → Type 0) (start : A) (E : Entries K L) (visits : List (Visit A)) (i : ℕ) (k : K) (f : Found L) : Type 0 where
+  pub visit : Visit A
+  pub there : slice_get visits i ≡ Some visit
+  pub deep : visit.depth ≡ f.depth
+  pub reached : IsReached Leads IsKey start E i k f visit.state
 
--- every run from s ends in a state with a key that was found, by no more steps
-abbrev pub IsWhole : {A K : Type 0} → (A → A → Type 0) → (A → K) → A → Entries K → Type 0
-IsWhole {A = A} Step key s E = (n : ℕ) (t : A) → Run Step s n t → IsFound E (key t) n
+-- a visit for each entry
+pub record AreVisits {A K L : Type 0} (Leads : L → A → A → Type 0) (IsKey : A → K → Type 0) (start : A) (E : Entries K L) (visits : List (Visit A)) : Type 0 where
+  pub long : length visits ≡ length E
+  pub each : (i : ℕ) (k : K) (f : Found L) → At E i k f → IsVisitOf Leads IsKey start E visits i k f
+
+-- visits, which steps do not leave from any of the first d of them, but for likeness
+pub record IsClosedBelow {A K L : Type 0} (Leads : L → A → A → Type 0) (Like : A → A → Type 0) (IsKey : A → K → Type 0) (start : A) (d : ℕ) (E : Entries K L) : Type 0 where
+  pub visits : List (Visit A)
+  pub are : AreVisits Leads IsKey start E visits
+  pub closed : IsClosedTo (Steps Leads) Like start d visits
+
+-- visits, which steps do not leave, but for likeness
+pub record IsWhole {A K L : Type 0} (Leads : L → A → A → Type 0) (Like : A → A → Type 0) (IsKey : A → K → Type 0) (start : A) (E : Entries K L) : Type 0 where
+  pub visits : List (Visit A)
+  pub are : AreVisits Leads IsKey start E visits
+  pub closed : IsClosed (Steps Leads) Like start visits
+
+-- what was found reaches a budget of states, or what comes next one of depth
+abbrev pub IsSpent : {K L : Type 0} → ℕ → ℕ → ℕ → Entries K L → Type 0
+IsSpent states depth done E = (states ≤ length E) ⊎ (depth ≤ depth_at E done)
+
+-- alike states have no two keys
+abbrev pub HaveOneKey : {A K : Type 0} → (K → K → Bool) → (A → A → Type 0) → (A → K → Type 0) → Type 0
+HaveOneKey {A = A} {K = K} eq Like IsKey = (s t : A) (k c : K) → Like s t → IsKey s k → IsKey t c → Same eq k c
+
+-- no run from the start to a state with the key of an entry is shorter than its depth says
+abbrev pub AreLeast : {A K L : Type 0} → (L → A → A → Type 0) → (A → K → Type 0) → A → Entries K L → Type 0
+AreLeast {A = A} {K = K} {L = L} Leads IsKey start E = (i : ℕ) (k : K) (f : Found L) → At E i k f → (n : ℕ) (t : A) → Run (Steps Leads) start n t → IsKey t k → f.depth ≤ n
+
+-- each key of a state that a run from the start ends in was found, by no more steps
+abbrev pub AreAllFound : {A K L : Type 0} → (K → K → Bool) → (L → A → A → Type 0) → (A → K → Type 0) → A → Entries K L → Type 0
+AreAllFound {A = A} {K = K} eq Leads IsKey start E = (n : ℕ) (t : A) (k : K) → Run (Steps Leads) start n t → IsKey t k → IsFound eq E k n

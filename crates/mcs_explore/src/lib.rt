@@ -1,5 +1,5 @@
 //! All orders at once: a search through the states of a system, the nearest first, which looks behind one state of all that
-//! have the same future (own).
+//! have one key (own).
 #![tactic(auto)]
 
 mod likeness;
@@ -7,5 +7,5 @@ mod likeness;
 mod rings;
 mod search;
 
-pub use likeness::{Likeness, every_run};
-pub use search::{Reached, Search, System, explore};
+pub use likeness::{Likeness, every_run, near_run};
+pub use search::{Budget, Found, Search, System, explore};

@@ -1,7 +1,7 @@
 //! Which visits reach all that runs reach (own).
 ghost use Rattle.std.specs.Prelude.{ℕ, List};
-ghost use Rattle.mcs_explore.specs.Closure.{Visit, IsLikeness, IsVisited, IsClosed};
-ghost use Rattle.mcs_explore.specs.Search.{Run};
+ghost use Rattle.mcs_explore.specs.Closure.{AreFar, IsClosed, IsClosedTo, IsLikeness, IsVisited, Visit};
+ghost use Rattle.mcs_explore.specs.Paths.{Run};
 
 /// Steps between states, and which states are alike.
 pub trait Likeness {
@@ -21,6 +21,16 @@ pub fn every_run<L: Likeness>()
     ghost at: { L.State × List (Visit L.State) }
     requires { IsClosed L.Step L.Like at.0 at.1 }
     ensures { (n : ℕ) (t : L.State) → Run L.Step at.0 n t → IsVisited L.Like at.1 t n }
+{
+    L::is_likeness();
+}
+
+/// The same where steps lead so from the first at.1 visited ones alone: every run ends so that is no longer than each of the
+/// other visits is deep.
+pub fn near_run<L: Likeness>()
+    ghost at: { L.State × ℕ × List (Visit L.State) }
+    requires { IsClosedTo L.Step L.Like at.0 at.1 at.2 }
+    ensures { (n : ℕ) (t : L.State) → AreFar n at.1 at.2 → Run L.Step at.0 n t → IsVisited L.Like at.2 t n }
 {
     L::is_likeness();
 }

@@ -1,144 +1,328 @@
 //! The search, breadth first (own).
-ghost use Rattle.std.specs.Prelude.{◌≡◌, ◌+◌, ◌≤◌, ◌<◌, ◌^◌, List, IfOk, OnOk, IfSome, IfNone, length};
-ghost use Rattle.std.specs.List.{Contains};
-ghost use Rattle.mcs_explore.specs.Search.{Adds, AreBehind, AreLeast, AreReached, Goes, IsExact, IsWhole};
+ghost use Rattle.std.specs.Prelude.{◌≡◌, ◌+◌, ◌≤◌, ◌<◌, ◌^◌, ◌++◌, ◌↔◌, ◌⊎◌, List, Some, IsTrue, IfOk, OnOk, length};
+ghost use Rattle.mcs_explore.specs.Paths.{Path, Steps};
+ghost use Rattle.mcs_explore.specs.Closure.{IsLikeness};
+ghost use Rattle.mcs_explore.specs.Search.{AreAllFound, AreApart, AreLeast, AreNexts, AreReached, AreSorted, HaveOneKey, IsClosedBelow, IsSpent, IsWhole, depth_at, label_at, listed, parent_at, path_of};
+ghost use Rattle.mcs_explore.specs.Keeping.{Adds, Goes, IsSearching};
 
 use indexmap::IndexMap;
 use std::alloc::{AllocError, Global};
 use std::hash::Hash;
 
-/// A system: its states, the steps between them, and a key of each state. States with one key have the same future. Keys are
-/// compared whole.
-pub trait System<K: Eq + Hash> {
+/// A system: its states, steps between them with labels, and keys of states. It may note of its states what it needs to give
+/// keys, and tell someone what it sees.
+pub trait System {
+    type Label: Copy + Drop;
+
+    type Key: Eq + Hash + Drop;
+
+    type Fault: From<AllocError>;
+
     ghost State: { Type 0 };
 
-    ghost key_of: { State → K };
+    ghost start: { Self → State };
 
-    ghost Step: { Self → State → State → Type 0 };
+    // a label leads from a state to another
+    ghost Leads: { Self → Self.Label → State → State → Type 0 };
 
-    ghost keys_after: { Self → K → List K };
+    // no later step tells two states apart
+    ghost Like: { Self → State → State → Type 0 };
 
-    /// The keys of the states that are one step from those of a key. The system may go from one of its states to another for it,
-    /// and is the same system. An AllocError where a growth was refused.
-    fn nexts(&mut self, alloc: Global, key: &K) -> Result<Vec<K>, AllocError>
-        ensures same { self.new ≡ self.old }
-        ensures after { IfOk result (λ v. v.items ≡ keys_after self.old key.now) };
+    // the key of a state, by what was noted so far
+    ghost IsKey: { Self → State → Self.Key → Type 0 };
 
-    // keys are equal exactly where they are compared as equal
-    ghost exact: { IsExact K.eq };
+    // the same system, which has noted more
+    ghost Later: { Self → Self → Type 0 };
 
-    // a step leads to a key among those, and each of them is the key of a step from any state with the key
-    ghost leads: { (m : Self) (s t : State) → Step m s t → Contains (keys_after m (key_of s)) (key_of t) };
+    /// The key of the start. A fault ends the search.
+    fn first(&mut self, alloc: Global) -> Result<Self::Key, Self::Fault>
+        ensures later { Later self.old self.new }
+        ensures key { IfOk result (λ k. IsKey self.new (start self.new) k) };
 
-    ghost led: { (m : Self) (s : State) (k : K) → Contains (keys_after m (key_of s)) k → (t : State) × (Step m s t × (key_of t ≡ k)) };
+    /// The steps from the state to which a path of labels leads from the start: of each its label and the key of where it leads.
+    /// The state is the one in this place of all that were found. A fault ends the search.
+    fn nexts(
+        &mut self,
+        alloc: Global,
+        place: usize,
+        path: &[Self::Label],
+    ) -> Result<Vec<(Self::Label, Self::Key)>, Self::Fault>
+        requires { (s : State) × Path (Leads self.old) (start self.old) path.now s }
+        ensures later { Later self.old self.new }
+        ensures nexts { IfOk result (λ v. (s : State) → Path (Leads self.old) (start self.old) path.now s
+            → AreNexts (Leads self.new) (IsKey self.new) s v.items) };
+
+    ghost same: { (m : Self) → Later m m };
+
+    ghost further: { (m n o : Self) → Later m n → Later n o → Later m o };
+
+    ghost keeps_start: { (m n : Self) → Later m n → start n ≡ start m };
+
+    ghost keeps_steps: { (m n : Self) → Later m n
+        → (l : Self.Label) (s t : State) → Leads m l s t ↔ Leads n l s t };
+
+    ghost keeps_likeness: { (m n : Self) → Later m n
+        → (s t : State) → Like m s t ↔ Like n s t };
+
+    ghost keeps_keys: { (m n : Self) → Later m n
+        → (s : State) (k : Self.Key) → IsKey m s k → IsKey n s k };
+
+    // states that paths reach are alike where they have one key
+    ghost alike: { (m : Self) (p q : List Self.Label) (s t : State) (k : Self.Key)
+        → Path (Leads m) (start m) p s → Path (Leads m) (start m) q t
+        → IsKey m s k → IsKey m t k → Like m s t };
+
+    // a key that is compared as equal to a key of a state is one too
+    ghost as_good: { (m : Self) (s : State) (k c : Self.Key)
+        → IsTrue (Self.Key.eq k c) → IsKey m s k → IsKey m s c };
 }
 
-/// From which place a key was found, and by how many steps.
+/// How a state was found first: from which place, by which label, and so by how many steps.
 #[derive(Clone, Copy, Drop)]
-pub struct Reached {
+pub struct Found<L> {
     pub parent: usize,
+    pub depth: usize,
+    pub label: Option<L>,
+}
+
+/// How far a search goes.
+#[derive(Clone, Copy, Drop)]
+pub struct Budget {
+    /// How many states may be found before it looks behind no more.
+    pub states: usize,
+    /// From which number of steps on it looks behind no state.
     pub depth: usize,
 }
 
-/// The keys that were found, the earliest first, and how many of them were looked behind.
+/// The states that were found, the nearest first, each by its key, and how many of them were looked behind.
 #[derive(Drop)]
-pub struct Search<K: Eq + Hash + Drop> {
-    pub map: IndexMap<K, Reached>,
+pub struct Search<K: Eq + Hash + Drop, L: Copy + Drop> {
+    pub map: IndexMap<K, Found<L>>,
     pub done: usize,
 }
 
 /// Notes a key, if it is not there yet.
-fn add<K: Eq + Hash + Drop>(
-    map: &mut IndexMap<K, Reached>,
+fn add<K: Eq + Hash + Drop, L: Copy + Drop>(
+    map: &mut IndexMap<K, Found<L>>,
     key: K,
-    reached: Reached,
+    found: Found<L>,
 ) -> Result<(), AllocError>
-    requires exact { IsExact K.eq }
-    ensures { OnOk result (Adds map.old.entries key reached map.new.entries) }
+    ensures { OnOk result (Adds K.eq map.old.entries key found map.new.entries) }
 {
     if map.contains_key(&key) {
         Ok(())
     } else {
-        match map.insert(key, reached) {
+        match map.insert(key, found) {
             Ok(_) => Ok(()),
             Err(_) => Err(AllocError),
         }
     }
 }
 
-/// The keys behind the one in a place, and the depth of that one; None where the place has no key.
-fn nexts_at<K: Eq + Hash + Drop, M: System<K>>(
-    alloc: Global,
-    system: &mut M,
-    map: &IndexMap<K, Reached>,
-    place: usize,
-) -> Result<Option<(Vec<K>, usize)>, AllocError>
-    ensures same { system.new ≡ system.old }
-    ensures behind { IfOk result (λ o. IfSome o
-        (λ b. AreBehind (M.keys_after system.old) map.now.entries place b.0.items b.1)) }
-    ensures none { IfOk result (λ o. IfNone o (length map.now.entries ≤ place)) }
+/// Adds a label, if there is one.
+fn push_label<L: Copy + Drop>(labels: &mut Vec<L>, label: Option<L>) -> Result<(), AllocError>
+    ensures { OnOk result (labels.new.items ≡ labels.old.items ++ listed label) }
 {
-    match map.get_index(place) {
-        None => Ok(None),
-        Some((key, reached)) => {
-            let depth = reached.depth;
-            let keys = system.nexts(alloc, key)?;
-            Ok(Some((keys, depth)))
-        }
-    }
-}
-
-/// Notes all keys behind the one in a place, which has this depth.
-fn add_all<K: Eq + Hash + Drop>(
-    map: &mut IndexMap<K, Reached>,
-    place: usize,
-    depth: usize,
-    keys: Vec<K>,
-) -> Result<(), AllocError>
-    requires exact { IsExact K.eq }
-    requires room { depth + 1 < 2 ^ 64 }
-    ensures { OnOk result (Goes map.old.entries map.new.entries place keys.items depth) }
-{
-    let next = Reached {
-        parent: place,
-        depth: depth + 1,
-    };
-    for key in keys {
-        add(map, key, next)?;
+    if let Some(label) = label {
+        labels.push(label)?;
     }
     Ok(())
 }
 
-/// Looks behind one key after another, the earliest first, until none is left or so many were looked behind.
-pub fn explore<K: Eq + Hash + Drop, M: System<K>>(
-    alloc: Global,
-    system: &mut M,
-    start: K,
-    budget: usize,
-) -> Result<Search<K>, AllocError>
-    ghost from: { M.State }
-    requires { M.key_of from ≡ start }
-    ensures same { system.new ≡ system.old }
-    // each key that was found is that of a run of its depth, and no shorter run has it
-    ensures reached { IfOk result (λ f. AreReached (M.Step system.old) M.key_of from f.map.entries) }
-    ensures least { IfOk result (λ f. AreLeast (M.Step system.old) M.key_of from f.map.entries) }
-    // once all keys were looked behind, every run ends in a state with a key that was found
-    ensures whole { IfOk result (λ f. length f.map.entries ≤ f.done
-        → IsWhole (M.Step system.old) M.key_of from f.map.entries) }
-    // so many were looked behind, if there are so many
-    ensures budget { IfOk result (λ f. f.done < budget → length f.map.entries ≤ f.done) }
-{
-    let mut map = IndexMap::new(alloc);
-    let first = Reached {
-        parent: 0,
-        depth: 0,
-    };
-    add(&mut map, start, first)?;
-    for place in 0..budget {
-        match nexts_at(alloc, system, &map, place)? {
-            None => return Ok(Search { map, done: place }),
-            Some((keys, depth)) => add_all(&mut map, place, depth, keys)?,
+impl<K: Eq + Hash + Drop, L: Copy + Drop> Search<K, L> {
+    /// How many states were found.
+    pub fn states(&self) -> usize
+        ensures { result ≡ length self.now.map.entries }
+    {
+        self.map.len()
+    }
+
+    /// Whether all were looked behind.
+    pub fn is_whole(&self) -> bool
+        ensures { IsTrue result ↔ (length self.now.map.entries ≤ self.now.done) }
+    {
+        self.map.len() <= self.done
+    }
+
+    /// By how many steps the state in a place was found.
+    pub fn depth(&self, place: usize) -> usize
+        ensures { result ≡ depth_at self.now.map.entries place }
+    {
+        match self.map.get_index(place) {
+            Some((_, found)) => found.depth,
+            None => 0,
         }
     }
-    Ok(Search { map, done: budget })
+
+    /// The label by which the state in a place was found, and the place of its parent.
+    fn back(&self, place: usize) -> (Option<L>, usize)
+        ensures label { result.0 ≡ label_at self.now.map.entries place }
+        ensures parent { result.1 ≡ parent_at self.now.map.entries place }
+    {
+        match self.map.get_index(place) {
+            Some((_, found)) => (found.label, found.parent),
+            None => (None, place),
+        }
+    }
+
+    /// The labels from the start to the state in a place. An AllocError where memory was refused.
+    pub fn path(&self, alloc: Global, place: usize) -> Result<Vec<L>, AllocError>
+        ensures { IfOk result (λ labels. labels.items ≡ path_of self.now.map.entries place) }
+    {
+        let mut labels = Vec::new(alloc);
+        let mut at = place;
+        for _ in 0..self.depth(place) {
+            let (label, parent) = self.back(at);
+            push_label(&mut labels, label)?;
+            at = parent;
+        }
+        labels.reverse();
+        Ok(labels)
+    }
+
+    /// Whether there is a state to look behind, and no budget was reached.
+    fn goes_on(&self, budget: Budget) -> bool
+        ensures more { IsTrue result → self.now.done < length self.now.map.entries }
+        ensures room { IsTrue result → self.now.done + 1 < 2 ^ 64 }
+        ensures spent { IsTrue result ⊎ (length self.now.map.entries ≤ self.now.done)
+            ⊎ IsSpent budget.states budget.depth self.now.done self.now.map.entries }
+    {
+        self.done < self.states()
+            && self.states() < budget.states
+            && self.depth(self.done) < budget.depth
+    }
+}
+
+/// How a state is found by a label behind the one in a place, which has this depth.
+fn found_behind<L: Copy + Drop>(place: usize, depth: usize, label: L) -> Found<L>
+    requires room { depth + 1 < 2 ^ 64 }
+    ensures parent { result.parent ≡ place }
+    ensures depth { result.depth ≡ depth + 1 }
+    ensures label { result.label ≡ Some label }
+{
+    Found {
+        parent: place,
+        depth: depth + 1,
+        label: Some(label),
+    }
+}
+
+/// Notes all that is behind the state in a place, which has this depth.
+fn add_all<M: System>(
+    map: &mut IndexMap<M::Key, Found<M::Label>>,
+    place: usize,
+    depth: usize,
+    nexts: Vec<(M::Label, M::Key)>,
+) -> Result<(), AllocError>
+    requires room { depth + 1 < 2 ^ 64 }
+    ensures { OnOk result ((m : M) → Goes M.Key.eq (M.Leads m) (M.Like m) (M.IsKey m) (M.start m)
+        map.old.entries place depth nexts.items map.new.entries) }
+{
+    for (label, key) in nexts {
+        let found = found_behind(place, depth, label);
+        add(map, key, found)?;
+    }
+    Ok(())
+}
+
+/// A search that has found its start alone.
+fn begin<M: System>(alloc: Global, system: &mut M) -> Result<Search<M::Key, M::Label>, M::Fault>
+    ensures later { M.Later system.old system.new }
+    ensures begun { IfOk result (λ f. f.done ≡ 0) }
+    ensures searching { IfOk result (λ f. IsSearching M.Key.eq (M.Leads system.new) (M.Like system.new)
+        (M.IsKey system.new) (M.start system.new) f.done f.map.entries) }
+{
+    let mut map = IndexMap::new(alloc);
+    let start = Found {
+        parent: 0,
+        depth: 0,
+        label: None,
+    };
+    let key = system.first(alloc)?;
+    add(&mut map, key, start)?;
+    Ok(Search { map, done: 0 })
+}
+
+/// The steps from the state in a place.
+fn nexts_of<M: System>(
+    alloc: Global,
+    system: &mut M,
+    search: &Search<M::Key, M::Label>,
+    place: usize,
+) -> Result<Vec<(M::Label, M::Key)>, M::Fault>
+    requires { (s : M.State) × Path (M.Leads system.old) (M.start system.old)
+        (path_of search.now.map.entries place) s }
+    ensures later { M.Later system.old system.new }
+    ensures nexts { IfOk result (λ v. (s : M.State)
+        → Path (M.Leads system.old) (M.start system.old) (path_of search.now.map.entries place) s
+        → AreNexts (M.Leads system.new) (M.IsKey system.new) s v.items) }
+{
+    let path = search.path(alloc, place)?;
+    let nexts = system.nexts(alloc, place, &path)?;
+    Ok(nexts)
+}
+
+/// Looks behind the earliest state that was not looked behind.
+fn look_behind<M: System>(
+    alloc: Global,
+    system: &mut M,
+    search: &mut Search<M::Key, M::Label>,
+) -> Result<(), M::Fault>
+    requires more { search.old.done < length search.old.map.entries }
+    requires room { search.old.done + 1 < 2 ^ 64 }
+    requires searching { IsSearching M.Key.eq (M.Leads system.old) (M.Like system.old)
+        (M.IsKey system.old) (M.start system.old) search.old.done search.old.map.entries }
+    ensures later { M.Later system.old system.new }
+    ensures done { OnOk result (search.new.done ≡ search.old.done + 1) }
+    ensures searching { OnOk result (IsSearching M.Key.eq (M.Leads system.new) (M.Like system.new)
+        (M.IsKey system.new) (M.start system.new) search.new.done search.new.map.entries) }
+{
+    let place = search.done;
+    let nexts = nexts_of(alloc, system, search, place)?;
+    let depth = search.depth(place);
+    add_all::<M>(&mut search.map, place, depth, nexts)?;
+    search.done = place + 1;
+    Ok(())
+}
+
+/// Looks behind one state after another, the nearest first, until none is left or a budget is reached. The errors are the
+/// faults of the system, and its fault of an AllocError where memory was refused.
+pub fn explore<M: System>(
+    alloc: Global,
+    system: &mut M,
+    budget: Budget,
+) -> Result<Search<M::Key, M::Label>, M::Fault>
+    ensures later { M.Later system.old system.new }
+    // the path of each entry leads to a state with its key, by as many steps as its depth says
+    ensures reached { IfOk result (λ f. AreReached (M.Leads system.old) (M.IsKey system.new)
+        (M.start system.old) f.map.entries) }
+    // the nearest first, and no key twice
+    ensures sorted { IfOk result (λ f. AreSorted f.map.entries) }
+    ensures apart { IfOk result (λ f. AreApart M.Key.eq f.map.entries) }
+    // a step from a state that was looked behind leads to one that is like a visited one
+    ensures closed { IfOk result (λ f. IsClosedBelow (M.Leads system.old) (M.Like system.old)
+        (M.IsKey system.new) (M.start system.old) f.done f.map.entries) }
+    // once all were looked behind, each step does
+    ensures whole { IfOk result (λ f. length f.map.entries ≤ f.done
+        → IsWhole (M.Leads system.old) (M.Like system.old)
+        (M.IsKey system.new) (M.start system.old) f.map.entries) }
+    // where alike states have one key, no run to a state with the key of an entry is shorter
+    ensures least { IfOk result (λ f. IsLikeness (Steps (M.Leads system.old)) (M.Like system.old)
+        → HaveOneKey M.Key.eq (M.Like system.old) (M.IsKey system.new)
+        → AreLeast (M.Leads system.old) (M.IsKey system.new) (M.start system.old) f.map.entries) }
+    // and once all were looked behind, each key of a state that a run ends in was found
+    ensures all { IfOk result (λ f. length f.map.entries ≤ f.done
+        → IsLikeness (Steps (M.Leads system.old)) (M.Like system.old)
+        → HaveOneKey M.Key.eq (M.Like system.old) (M.IsKey system.new)
+        → AreAllFound M.Key.eq (M.Leads system.old) (M.IsKey system.new)
+        (M.start system.old) f.map.entries) }
+    // it ends there or by the budget alone
+    ensures budget { IfOk result (λ f. (length f.map.entries ≤ f.done)
+        ⊎ IsSpent budget.states budget.depth f.done f.map.entries) }
+{
+    let mut search = begin(alloc, system)?;
+    while search.goes_on(budget) {
+        look_behind(alloc, system, &mut search)?;
+    }
+    Ok(search)
 }

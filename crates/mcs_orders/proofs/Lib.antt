@@ -1,1 +1,4 @@
 mod Reaching
+pub mod Paths
+pub mod Whole
+pub mod Nexts

@@ -3,17 +3,17 @@
 //!
 //! ```text
 //! users ── walk ──> a kernel, how far each user is, and what each core may enter
-//!     ── names, rows, keys ──> the key of a state: what decides its future
-//!     ── search ──> the states by their keys, and how each was found; a `Watch` is told of each turn
+//!     ── trail ──> the walks along a path of turns, the last of which is copied for each turn from it
+//!     ── keys ──> the key of a state: what decides its future
+//!     ── explorer ──> the system that `mcs_explore` searches; a `Watch` is told of each state and turn
 //! ```
-//!
-//! No kernel goes back: a state is made again by its turns from the boot.
 #![tactic(auto)]
 
-mod keys;
-mod names;
-mod rows;
+mod explorer;
 mod search;
+mod trail;
 
+pub use explorer::{Explorer, Watch};
+pub use mcs_explore::Budget;
 pub use mcs_walks::{OrdersFault, Pick, Position, Turn, UserList, Users, Walk};
-pub use search::{Budget, Orders, Watch, explore, retrace};
+pub use search::{Orders, explore, retrace};

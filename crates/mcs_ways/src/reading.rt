@@ -16,11 +16,12 @@ pub struct EntryText {
     pub text: Vec<u8>,
 }
 
-/// A question, and the text of its line behind `#! `.
+/// A question, the text of its line behind `#! `, and the number of that line.
 #[derive(Drop)]
 pub struct AskedLine {
     pub asked: Asked,
     pub text: Vec<u8>,
+    pub line: u64,
 }
 
 /// What a script of users says.
@@ -181,23 +182,27 @@ impl Reader {
             let Some(asked) = asked_of(alloc, text)? else {
                 return Err(fault);
             };
-            let text = kept(alloc, text)?;
-            self.asked.push(AskedLine { asked, text })?;
+            self.asked.push(AskedLine {
+                asked,
+                text: kept(alloc, text)?,
+                line: self.taken,
+            })?;
             return Ok(());
         }
         self.names.hear(alloc, self.taken, line)
     }
 
-    /// Lets lists of users go on again, where that is asked.
-    fn repeat(&mut self) -> bool {
-        let mut all = true;
-        for line in self.asked.iter() {
-            if let Asked::Again { event } = line.asked {
+    /// Lets lists of users go on again, where that is asked. Form of a line that names an entry that is not there.
+    fn repeat(&mut self) -> Result<(), LabFault> {
+        for asked in self.asked.iter() {
+            if let Asked::Again { event } = asked.asked {
                 let number = event.number.saturating_sub(1);
-                all = self.users.repeat(event.thread, number) && all;
+                if !self.users.repeat(event.thread, number) {
+                    return Err(LabFault::Form { line: asked.line });
+                }
             }
         }
-        all
+        Ok(())
     }
 
     /// The boot of the lines that were taken, whose input has ended.
@@ -245,14 +250,12 @@ impl TakesLines for Reader {
 }
 
 /// What a source says, to its end. The faults are those of `mcssim run`, and Form where a line `#!` asks nothing that is known, or
-/// lets a list go on with an entry that is not there; that comes with line 0.
+/// lets a list go on with an entry that is not there.
 pub fn read_script<R: Read>(alloc: Global, from: &mut Source<R>) -> Result<UserScript, LabFault> {
     let mut reader = Reader::new(alloc)?;
     take_lines(alloc, from, &mut reader)?;
     let boot = reader.boot(alloc)?;
-    if !reader.repeat() {
-        return Err(LabFault::Form { line: 0 });
-    }
+    reader.repeat()?;
     let Reader {
         run: _,
         room: _,

@@ -43,7 +43,7 @@ pub trait Saves {
 struct Report<'a, W, S> {
     alloc: Global,
     script: &'a UserScript,
-    orders: &'a Orders,
+    orders: &'a Orders<'a, Watched<'a>>,
     watched: &'a Watched<'a>,
     to: W,
     saves: &'a mut S,
@@ -74,17 +74,17 @@ impl<'a, W: Write, S: Saves> Report<'a, W, S> {
     /// The first line.
     fn put_head(&mut self) -> Result<(), LabFault> {
         let states = self.orders.states();
-        if !self.orders.is_whole {
+        if !self.orders.is_whole() {
             write!(self.to, "stopped at ")?;
         }
-        let turns = self.orders.turns;
+        let turns = self.orders.turns();
         let depth = self.orders.deepest();
-        let ends = self.orders.ends;
+        let ends = self.orders.ends();
         write!(
             self.to,
             "{states} states, {turns} turns, depth {depth}, {ends} ends"
         )?;
-        if self.orders.is_whole {
+        if self.orders.is_whole() {
             write!(self.to, ", whole")?;
         }
         self.to.write_all(b"\n")?;
@@ -300,7 +300,7 @@ impl<'a, W: Write, S: Saves> Report<'a, W, S> {
             let name = format!(in self.alloc; "question{count}.mcs")?;
             let steps = self.save(&name, at)?;
             write!(self.to, ", seen after {steps} steps")?;
-        } else if !self.orders.is_whole {
+        } else if !self.orders.is_whole() {
             self.to.write_all(b" as far as was seen")?;
         }
         self.to.write_all(b"\n")?;
@@ -329,7 +329,7 @@ impl<'a, W: Write, S: Saves> Report<'a, W, S> {
         if !is_free || !holds {
             return Ok(Explored::Fails);
         }
-        if self.orders.is_whole {
+        if self.orders.is_whole() {
             Ok(Explored::Holds)
         } else {
             Ok(Explored::Stopped)
@@ -347,7 +347,7 @@ pub fn explore_script<R: Read, W: Write + Drop, S: Saves>(
     saves: &mut S,
 ) -> Result<Explored, LabFault> {
     let script = read_script(alloc, from)?;
-    let mut watched = Watched::new(alloc, &script.users, &script.asked)?;
+    let watched = Watched::new(alloc, &script.users, &script.asked)?;
     let budget = Budget {
         states: wanted.states,
         depth: wanted.depth,
@@ -358,7 +358,7 @@ pub fn explore_script<R: Read, W: Write + Drop, S: Saves>(
         &script.users,
         wanted.is_exact,
         budget,
-        &mut watched,
+        watched,
     );
     let orders = match found {
         Ok(orders) => orders,
@@ -368,7 +368,7 @@ pub fn explore_script<R: Read, W: Write + Drop, S: Saves>(
         alloc,
         script: &script,
         orders: &orders,
-        watched: &watched,
+        watched: orders.watch(),
         to,
         saves,
     };

@@ -1,6 +1,6 @@
 //! Scripts of steps, which show what is told.
 use crate::reading::UserScript;
-use crate::watching::Sighting;
+use crate::watching::{Sighting, Watched};
 use mcs_book::Book;
 use mcs_lab::LabFault;
 use mcs_orders::{Orders, OrdersFault, Turn, Walk, retrace};
@@ -18,7 +18,7 @@ pub fn fault_of(fault: OrdersFault) -> LabFault {
 }
 
 /// The turns that lead to a state, and the one from it that shows something, where it is one.
-pub fn turns_of(orders: &Orders, seen: Sighting) -> Result<Vec<Turn>, LabFault> {
+pub fn turns_of(orders: &Orders<'_, Watched<'_>>, seen: Sighting) -> Result<Vec<Turn>, LabFault> {
     let mut turns = match orders.path(seen.place) {
         Ok(turns) => turns,
         Err(fault) => return Err(fault_of(fault)),

@@ -1,14 +1,16 @@
-use Rattle.std.specs.Prelude.{◌≡◌, ◌+◌, ◌++◌, List, length}
-use Rattle.mcs_explore.specs.declared.search.Reached.{Reached}
-use Rattle.mcs_explore.specs.Search.{At, IsSearch}
-use Rattle.mcs_explore.specs.Amid.{IsAmid}
+use Rattle.std.specs.Prelude.{◌≡◌, ◌++◌, List, length, slice_get, Some}
+use Rattle.mcs_explore.specs.declared.search.Found.{Found}
+use Rattle.mcs_explore.specs.Closure.{Visit}
+use Rattle.mcs_explore.specs.Search.{At, AreNexts}
+use Rattle.mcs_explore.specs.Keeping.{IsAmid, IsSearch}
 use Rattle.mcs_explore.proofs.search.add_all.Given as goal
 
-abbrev pub invariant-loop-key : goal.invariant-loop-key
-invariant-loop-key g l = record {
-  goes : (next : g.row.K.Denot → List g.row.K.Denot) (s k : g.row.K.Denot) (r : Reached) → IsSearch next s l.fn.place l.fn.map.entries → At l.fn.map.entries l.fn.place k r → l.fn.keys.items ≡ next k → l.fn.depth ≡ r.depth
-      → IsAmid next s l.fn.place l.map.entries k r l.fn.keys.items (length l.yielded);
-  deep : l.next.depth ≡ l.fn.depth + 1;
-  count : l.key-iterator.rest.len ≡ length l.key-iterator.rest.items;
-  list : l.yielded ++ l.key-iterator.rest.items ≡ l.fn.keys.items;
+abbrev pub invariant-loop-label : goal.invariant-loop-label
+invariant-loop-label g l = record {
+  goes : (m : g.row.M.Denot) (visits : List (Visit g.M.System.State)) (k : g.row.M-Key.Denot) (f : Found g.row.M-Label.Denot) (v : Visit g.M.System.State)
+      → IsSearch g.M.Key.PartialEq.eq (g.M.System.Leads m) (g.M.System.Like m) (g.M.System.IsKey m) (g.M.System.start m) l.fn.place l.fn.map.entries visits → At l.fn.map.entries l.fn.place k f → slice_get visits l.fn.place ≡ Some v
+      → l.fn.depth ≡ f.depth → AreNexts (g.M.System.Leads m) (g.M.System.IsKey m) v.state l.fn.nexts.items
+      → IsAmid g.M.Key.PartialEq.eq (g.M.System.Leads m) (g.M.System.Like m) (g.M.System.IsKey m) (g.M.System.start m) l.fn.place l.map.entries k f v l.fn.nexts.items (length l.yielded);
+  count : l.label-iterator.rest.len ≡ length l.label-iterator.rest.items;
+  list : l.yielded ++ l.label-iterator.rest.items ≡ l.fn.nexts.items;
 }

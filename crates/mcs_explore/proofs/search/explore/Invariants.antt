@@ -1,9 +1,12 @@
-use Rattle.std.specs.Prelude.{◌≡◌}
-use Rattle.mcs_explore.specs.Search.{IsSearch}
+use Rattle.std.specs.Prelude.{◌-◌, ◌^◌}
+use Rattle.mcs_explore.specs.Keeping.{IsSearching}
 use Rattle.mcs_explore.proofs.search.explore.Given as goal
 
-abbrev pub invariant-loop-place : goal.invariant-loop-place
-invariant-loop-place g l = record {
-  found : IsSearch (g.M.System.keys_after l.fn.system) l.fn.start l.place l.map.entries;
-  same : l.system ≡ l.fn.system;
+abbrev pub invariant-loop-alloc : goal.invariant-loop-alloc
+invariant-loop-alloc g l = record {
+  later : g.M.System.Later l.fn.system l.system;
+  searching : IsSearching g.M.Key.PartialEq.eq (g.M.System.Leads l.system) (g.M.System.Like l.system) (g.M.System.IsKey l.system) (g.M.System.start l.system) l.search.done l.search.map.entries;
 }
+
+abbrev pub decreases-loop-alloc : goal.decreases-loop-alloc
+decreases-loop-alloc g l = 2 ^ 64 - l.search.done

@@ -1,0 +1,218 @@
+-- States with equal rows are alike.
+use Rattle.std.specs.Prelude.{ℕ, true, zero, suc, ◌+◌, ◌-◌, ◌≡◌, ◌<◌, ◌≤◌, List, [], ◌∷◌, ◌++◌, Some, length, slice_get}
+use Rattle.std.proofs.Common.{refl, ap, sym, ◌∙◌, subst, arith}
+use Rattle.mcs_types.specs.declared.id.ObjId.{ObjId}
+use Rattle.mcs_types.specs.declared.id.Kind.{Kind}
+use Rattle.mcs_types.specs.declared.id.Kind.TheVariants as kind
+use Rattle.mcs_types.specs.declared.record.Queue.TheVariants.{Senders, Receivers, Waiters}
+use Rattle.mcs_book.specs.Boots.{Boot, IsFaultless}
+use Rattle.mcs_book.specs.Logs.{Log, counted}
+use Rattle.mcs_book.specs.Objects.{is_alive, form_of, makes_kind, was_made}
+use Rattle.mcs_book.specs.Queues.{queued_in}
+use Rattle.mcs_book.specs.Chains.{chain_of}
+use Rattle.mcs_book.specs.Contexts.{holder_of, home_of}
+use Rattle.mcs_book.specs.History.{log_of}
+use Rattle.mcs_book.specs.Lookup.{radix_kept}
+use Rattle.mcs_book.specs.Messages.{next_message, open_of}
+use Rattle.mcs_book.specs.Replies.{owed_by}
+use Rattle.mcs_book.specs.Slots.{slot, count_of}
+use Rattle.mcs_book.specs.Sound.{Sound}
+use Rattle.mcs_book.proofs.Objects.MadeLaws.{made-serial}
+use Rattle.mcs_book.proofs.SoundLogs.SoundBooks.{legal-sound}
+use Rattle.mcs_state.specs.Questions.{word_of}
+use Rattle.mcs_state.specs.Saying.{row_said}
+use Rattle.mcs_state.specs.Tables.{core_said}
+use Rattle.mcs_turns.specs.Turns.{User, Going, AreInRange}
+use Rattle.mcs_turns.proofs.RunLaws.{run-legal, run-long}
+use Rattle.mcs_alike.specs.Answers.{IsMade, AnswerAlike}
+use Rattle.mcs_alike.proofs.Answering.{answers-alike}
+use Rattle.mcs_alike.proofs.Asked.{answer-all}
+use Rattle.mcs_like_runs.specs.Runs.{IsReached, AreAlike}
+use Rattle.mcs_keys.specs.Numbers.{one, option_numbers, list_numbers, below, id_numbers, cap_numbers, row_numbers, letter_numbers}
+use Rattle.mcs_keys.specs.Rows.{object_at, core_numbers, kind_numbers, object_numbers, count_numbers, rows_of_kind, object_rows, position_numbers, pick_numbers, rows_of, slots_numbers}
+use Rattle.mcs_keys.proofs.Telling.{parted, Tells, one-told, flag-told, option-told, list-told, below-told, row-told, id-told, cap-told, thread-told, letter-told}
+
+-- whole rows tell what they are of, with nothing behind them
+alone : {A E : Type 0} (f : A → List E) → Tells f → (a b : A) → f a ≡ f b → a ≡ b
+alone f t a b h = (t a b [] [] (ap (λ l. l ++ []) h)).0
+
+-- two that stand one behind the other
+two-told : {A B : Type 0} (f : A → List ℕ) (g : B → List ℕ) → Tells f → Tells g → (a b : A) (c d : B) → f a ++ g c ≡ f b ++ g d → (a ≡ b) × (c ≡ d)
+two-told f g t u a b c d h = let p = t a b (g c) (g d) h in (p.0, alone g u c d p.1)
+
+core-told : Tells core_numbers
+core-told a b x y h = let p = parted _ _ _ _ h in (ap (λ n. record { 0 = n }) p.0, p.1)
+
+position-told : Tells position_numbers
+position-told a b x y h =
+    let nexts = parted _ _ _ _ h in
+    let waits = option-told one one-told a.waited b.waited x y nexts.1 in
+    (ap (λ n. record { next = n; waited = a.waited }) nexts.0 ∙ ap (λ o. record { next = b.next; waited = o }) waits.0, waits.1)
+
+pick-told : Tells pick_numbers
+pick-told a b x y h =
+    let users = parted _ _ _ _ h in
+    let numbers = parted _ _ _ _ users.1 in
+    (ap (λ n. record { user = n; number = a.number }) users.0 ∙ ap (λ n. record { user = b.user; number = n }) numbers.0, numbers.1)
+
+-- lists of one length with equal elements are equal
+same-places : {A : Type 0} (xs ys : List A) → length xs ≡ length ys → ((i : ℕ) → i < length xs → slice_get xs i ≡ slice_get ys i) → xs ≡ ys
+same-places [] [] e h = refl
+same-places [] (y ∷ ys) e h = absurd (omega (arith, e))
+same-places (x ∷ xs) [] e h = absurd (omega (arith, e))
+same-places (x ∷ xs) (y ∷ ys) e h =
+    let first : Some x ≡ Some y = h zero (omega arith) in
+    let is : x ≡ y = cc in
+    let shorter : length xs ≡ length ys = omega (arith, e) in
+    ap (λ z. z ∷ xs) is ∙ ap (λ zs. y ∷ zs) (same-places xs ys shorter (λ i k. h (suc i) (omega (arith, k))))
+
+-- the rows of all objects of a kind tell those of each
+kind-rows : (R S : Log) (k : Kind) → counted (makes_kind k) R ≡ counted (makes_kind k) S → (x y : List (List ℕ)) → rows_of_kind R k ++ x ≡ rows_of_kind S k ++ y
+    → ((i : ℕ) → i < counted (makes_kind k) R → object_numbers R (object_at k i) ≡ object_numbers S (object_at k i)) × (x ≡ y)
+kind-rows R S k e x y h =
+    below-told (λ r. r ∷ []) row-told (λ i. object_numbers R (object_at k i)) (λ i. object_numbers S (object_at k i)) (counted (makes_kind k) R) x y
+    (h ∙ ap (λ n. below (λ i. object_numbers S (object_at k i) ∷ []) n ++ y) (sym e))
+
+-- slots tell each of them
+slots-told : (R S : Log) (c : ObjId) (n : ℕ) → slots_numbers R c n ≡ slots_numbers S c n → (i : ℕ) → i < n → slot R c i ≡ slot S c i
+unfolding slots_numbers
+slots-told R S c n h = (below-told (option_numbers cap_numbers) (option-told cap_numbers cap-told) (slot R c) (slot S c) n [] [] (ap (λ l. l ++ []) h)).0
+
+-- two logs with as many objects, whose rows are equal
+record SameRows (R S : Log) : Type 0 where
+  pub counts : (k : Kind) → counted (makes_kind k) R ≡ counted (makes_kind k) S
+  pub sent : next_message R ≡ next_message S
+  pub rows : (k : Kind) (i : ℕ) → i < counted (makes_kind k) R → object_numbers R (object_at k i) ≡ object_numbers S (object_at k i)
+
+-- what holds of each kind
+each-kind : (P : Kind → Type 0) → P kind.CNode → P kind.Thread → P kind.Endpoint → P kind.Notification → P kind.Reply → P kind.Context → (k : Kind) → P k
+each-kind P a b c d e f kind.CNode = a
+each-kind P a b c d e f kind.Thread = b
+each-kind P a b c d e f kind.Endpoint = c
+each-kind P a b c d e f kind.Notification = d
+each-kind P a b c d e f kind.Reply = e
+each-kind P a b c d e f kind.Context = f
+
+same-rows : (R S : Log) → count_numbers R ≡ count_numbers S → object_rows R ≡ object_rows S → SameRows R S
+same-rows R S counts rows =
+    let sent = parted _ _ _ _ counts in
+    let cnodes = parted _ _ _ _ sent.1 in
+    let threads = parted _ _ _ _ cnodes.1 in
+    let endpoints = parted _ _ _ _ threads.1 in
+    let notifications = parted _ _ _ _ endpoints.1 in
+    let replies = parted _ _ _ _ notifications.1 in
+    let contexts = parted _ _ _ _ replies.1 in
+    let a = kind-rows R S kind.CNode cnodes.0 _ _ rows in
+    let b = kind-rows R S kind.Thread threads.0 _ _ a.1 in
+    let c = kind-rows R S kind.Endpoint endpoints.0 _ _ b.1 in
+    let d = kind-rows R S kind.Notification notifications.0 _ _ c.1 in
+    let e = kind-rows R S kind.Reply replies.0 _ _ d.1 in
+    let f = kind-rows R S kind.Context contexts.0 [] [] (ap (λ l. l ++ []) e.1) in
+    record {
+      counts = each-kind (λ k. counted (makes_kind k) R ≡ counted (makes_kind k) S) cnodes.0 threads.0 endpoints.0 notifications.0 replies.0 contexts.0;
+      sent = sent.0;
+      rows = each-kind (λ k. (i : ℕ) → i < counted (makes_kind k) R → object_numbers R (object_at k i) ≡ object_numbers S (object_at k i)) a.0 b.0 c.0 d.0 e.0 f.0;
+    }
+
+-- what the row of an object has besides what there is of its kind
+record SameObject (R S : Log) (o : ObjId) : Type 0 where
+  pub there : is_alive R o ≡ is_alive S o
+  pub held : count_of R o ≡ count_of S o
+  pub rest : kind_numbers R o.kind o ≡ kind_numbers S o.kind o
+
+same-object : (R S : Log) → Sound R → SameRows R S → (o : ObjId) → was_made R o ≡ true → SameObject R S o
+same-object R S sound same o made =
+    let at : object_at o.kind (o.serial - 1) ≡ o = ap (λ n. record { kind = o.kind; serial = n }) (back (made-serial R o sound made).0) in
+    let is : object_numbers R o ≡ object_numbers S o = subst (λ x. object_numbers R x ≡ object_numbers S x) at (same.rows o.kind (o.serial - 1) (low (made-serial R o sound made))) in
+    let flags = parted _ _ _ _ is in
+    let counts = parted _ _ _ _ flags.1 in
+    record { there = flag-told (is_alive R o) (is_alive S o) flags.0; held = counts.0; rest = counts.1 }
+  where
+    back : 1 ≤ o.serial → o.serial - 1 + 1 ≡ o.serial
+    back h = omega (arith, h)
+
+    low : (1 ≤ o.serial) × (o.serial ≤ counted (makes_kind o.kind) R) → o.serial - 1 < counted (makes_kind o.kind) R
+    low h = omega (arith, h.0, h.1)
+
+module _ (R S : Log) (sound : Sound R) (same : SameRows R S) where
+  rest : (k : Kind) (o : ObjId) → IsMade R k o → kind_numbers R k o ≡ kind_numbers S k o
+  rest k o is = subst (λ j. kind_numbers R j o ≡ kind_numbers S j o) is.0 (same-object R S sound same o is.1).rest
+
+  thread : (t : ObjId) → IsMade R kind.Thread t → (row_said R t ≡ row_said S t) × (open_of R t ≡ open_of S t)
+  thread t is = two-told (option_numbers row_numbers) (option_numbers letter_numbers) (option-told row_numbers thread-told) (option-told letter_numbers letter-told) _ _ _ _ (rest kind.Thread t is)
+
+  endpoint : (e : ObjId) → IsMade R kind.Endpoint e → (queued_in R (Senders e) ≡ queued_in S (Senders e)) × (queued_in R (Receivers e) ≡ queued_in S (Receivers e))
+  endpoint e is = two-told (list_numbers id_numbers) (list_numbers id_numbers) (list-told id_numbers id-told) (list-told id_numbers id-told) _ _ _ _ (rest kind.Endpoint e is)
+
+  notification : (n : ObjId) → IsMade R kind.Notification n → (queued_in R (Waiters n) ≡ queued_in S (Waiters n)) × (word_of R n ≡ word_of S n)
+  notification n is = two-told (list_numbers id_numbers) (option_numbers one) (list-told id_numbers id-told) (option-told one one-told) _ _ _ _ (rest kind.Notification n is)
+
+  -- a context
+  record SameContext (s : ObjId) : Type 0 where
+    pub core : core_said R s ≡ core_said S s
+    pub holder : holder_of R s ≡ holder_of S s
+    pub home : home_of R s ≡ home_of S s
+    pub chain : chain_of R s ≡ chain_of S s
+
+  context : (s : ObjId) → IsMade R kind.Context s → SameContext s
+  context s is =
+      let cores = option-told core_numbers core-told (core_said R s) (core_said S s) _ _ (rest kind.Context s is) in
+      let holders = option-told id_numbers id-told (holder_of R s) (holder_of S s) _ _ cores.1 in
+      let others = two-told (option_numbers id_numbers) (list_numbers id_numbers) (option-told id_numbers id-told) (list-told id_numbers id-told) (home_of R s) (home_of S s) (chain_of R s) (chain_of S s) holders.1 in
+      record { core = cores.0; holder = holders.0; home = others.0; chain = others.1 }
+
+  cnode : (c : ObjId) → IsMade R kind.CNode c → (radix_kept (form_of R c) ≡ radix_kept (form_of S c)) × ((i : ℕ) → i < 256 → slot R c i ≡ slot S c i)
+  cnode c is =
+      let radix = parted _ _ _ _ (rest kind.CNode c is) in
+      (radix.0, slots-told R S c 256 radix.1)
+
+  answer : AnswerAlike R S
+  answer = record {
+    counts = same.counts;
+    sent = same.sent;
+    there = λ o is. (same-object R S sound same o is).there;
+    held = λ o is. (same-object R S sound same o is).held;
+    rows = λ t is. (thread t is).0;
+    letters = λ t is. (thread t is).1;
+    senders = λ e is. (endpoint e is).0;
+    receivers = λ e is. (endpoint e is).1;
+    waiters = λ n is. (notification n is).0;
+    words = λ n is. (notification n is).1;
+    owed = λ r is. alone (option_numbers id_numbers) (option-told id_numbers id-told) (owed_by R r) (owed_by S r) (rest kind.Reply r is);
+    cores = λ s is. (context s is).core;
+    holders = λ s is. (context s is).holder;
+    homes = λ s is. (context s is).home;
+    chains = λ s is. (context s is).chain;
+    radices = λ c is. (cnode c is).0;
+    slots = λ c i is low. (cnode c is).1 i low;
+  }
+
+-- lists of one length, of which each place is told, are equal
+same-told : {A : Type 0} (f : A → List ℕ) → Tells f → (xs ys : List A) (n : ℕ) → length xs ≡ n → length ys ≡ n
+    → below (λ i. option_numbers f (slice_get xs i)) n ≡ below (λ i. option_numbers f (slice_get ys i)) n → xs ≡ ys
+same-told f t xs ys n left right is =
+    let each = below-told (option_numbers f) (option-told f t) (slice_get xs) (slice_get ys) n [] [] (ap (λ l. l ++ []) is) in
+    same-places xs ys (left ∙ sym right) (λ i k. each.0 i (subst (λ m. i < m) left k))
+
+-- two runs of one boot and users that have equal rows are alike
+pub rows-alike : (users : List User) (boot : Boot) → IsFaultless boot → AreInRange users → (g h : Going) → IsReached users boot g → IsReached users boot h → rows_of users g ≡ rows_of users h → AreAlike users boot g h
+rows-alike users boot whole range g h left right rows =
+    let counts = parted _ _ _ _ rows in
+    let places = parted _ _ _ _ counts.1 in
+    let stale = parted _ _ _ _ places.1 in
+    let long = run-long users boot left.turns g left.run in
+    let wide = run-long users boot right.turns h right.run in
+    let one_sound : Sound (log_of g.book) = legal-sound g.book (run-legal users boot whole range left.turns g left.run) in
+    let other_sound : Sound (log_of h.book) = legal-sound h.book (run-legal users boot whole range right.turns h right.run) in
+    let same = same-rows (log_of g.book) (log_of h.book) counts.0 stale.1 in
+    record {
+      left = left;
+      right = right;
+      logs = answers-alike (log_of g.book) (log_of h.book) one_sound other_sound (answer-all (log_of g.book) (log_of h.book) one_sound other_sound (answer (log_of g.book) (log_of h.book) one_sound same));
+      places = same-told position_numbers position-told g.places h.places (length users) long.places wide.places places.0;
+      stale = same-told (list_numbers pick_numbers) (list-told pick_numbers pick-told) g.stale h.stale boot.cores long.stale wide.stale
+          (ap (λ (b : Boot). stale-below g b.cores) (sym long.kept) ∙ stale.0 ∙ ap (λ (b : Boot). stale-below h b.cores) wide.kept);
+    }
+  where
+    stale-below : Going → ℕ → List ℕ
+    stale-below g n = below (λ i. option_numbers (list_numbers pick_numbers) (slice_get g.stale i)) n

@@ -1,0 +1,231 @@
+//! The keys of states: two states with one key have the same future.
+ghost use Rattle.std.specs.Prelude.{◌≡◌, [], true, length, IfOk};
+ghost use Rattle.mcs_keys.specs.Naming.{Keeps};
+ghost use Rattle.mcs_keys.specs.Rows.{IsKey};
+
+use crate::exact::exact_key;
+use crate::met::{Key, Met};
+use crate::names::{Counts, Names};
+use crate::numbers::Row;
+use crate::rows::{put_object, put_slots, put_stale, thread_row};
+use mcs_kernel::{Boot, Kernel};
+use mcs_queues::Lines;
+use mcs_turns::Pick;
+use mcs_types::{CoreId, Entry, Kind, ObjId};
+use mcs_walks::{OrdersFault, Users, Walk};
+use std::alloc::Global;
+use std::marker::Model;
+
+/// The rows that were met, and what all keys of a search have in common. Clauses see the rows in the order of their numbers, and
+/// whether keys are exact.
+#[derive(Drop)]
+pub struct Keys {
+    alloc: Global,
+    met: Met,
+    counts: Counts,
+    is_exact: bool,
+    changes_slots: bool,
+}
+
+impl Model for Keys {
+    ghost use Rattle.mcs_keys.specs.Naming.{Known};
+
+    ghost Value = { Known };
+
+    ghost view = { λ k. record { met = k.met; is_exact = k.is_exact } };
+}
+
+/// Whether an entry may change slots.
+fn is_of_slots(entry: &Entry) -> bool {
+    matches!(
+        entry,
+        Entry::CopyCap { .. }
+            | Entry::MintCap { .. }
+            | Entry::MoveCap { .. }
+            | Entry::DeleteCap { .. }
+            | Entry::MakeEndpoint { .. }
+            | Entry::MakeNotification { .. }
+            | Entry::MakeReply { .. }
+            | Entry::MakeContext { .. }
+    )
+}
+
+/// Whether an entry of some user may change slots.
+fn any_of_slots(users: &Users) -> bool {
+    for user in users.lists() {
+        for entry in user.entries.iter() {
+            if is_of_slots(entry) {
+                return true;
+            }
+        }
+    }
+    false
+}
+
+/// The object of a kind in a place.
+fn object_at(kind: Kind, place: u32) -> ObjId {
+    ObjId {
+        kind,
+        serial: place.saturating_add(1),
+    }
+}
+
+/// The kinds of objects of which there is more than what threads and slots have of them.
+const KINDS: [Kind; 4] = [
+    Kind::Endpoint,
+    Kind::Notification,
+    Kind::Reply,
+    Kind::Context,
+];
+
+/// Adds the canonical rows of all threads.
+fn put_threads<L: Lines>(
+    alloc: Global,
+    met: &mut Met,
+    key: &mut Key,
+    threads: u32,
+    users: &Users,
+    walk: &Walk<L>,
+    names: &Names,
+) -> Result<(), OrdersFault>
+    ensures { Keeps met.old met.new }
+{
+    for place in 0..threads {
+        let thread = object_at(Kind::Thread, place);
+        let position = match users.find(thread) {
+            Some(user) => walk.place(user),
+            None => None,
+        };
+        let row = thread_row(alloc, walk.kernel(), names, thread, position)?;
+        met.put(key, row)?;
+    }
+    Ok(())
+}
+
+impl Keys {
+    /// No row. Where keys are exact, states are one only where they differ in nothing that a book records later; else the numbers
+    /// of messages are left out, and objects that are made after the boot are named by the lowest slot that names them.
+    pub fn new(alloc: Global, boot: &Boot, users: &Users, is_exact: bool) -> Keys
+        ensures { result ≡ record { met = []; is_exact = is_exact } }
+    {
+        Keys {
+            alloc,
+            met: Met::new(alloc),
+            counts: Counts::new(boot),
+            is_exact,
+            changes_slots: any_of_slots(users),
+        }
+    }
+
+    /// How many rows were met.
+    pub fn rows(&self) -> usize
+        ensures { result ≡ length self.now.met }
+    {
+        self.met.len()
+    }
+
+    /// The objects of one kind, and those that were made later.
+    fn put_kind<L: Lines>(
+        &self,
+        row: &mut Row,
+        kernel: &Kernel<L>,
+        names: &Names,
+        kind: Kind,
+    ) -> Result<(), OrdersFault> {
+        for place in 0..self.counts.of(kind) {
+            put_object(row, kernel, names, object_at(kind, place))?;
+        }
+        for object in names.later() {
+            if object.kind.is_same(kind) {
+                put_object(row, kernel, names, *object)?;
+            }
+        }
+        Ok(())
+    }
+
+    /// The row of all objects but threads and CNodes.
+    fn object_row<L: Lines>(&self, kernel: &Kernel<L>, names: &Names) -> Result<Row, OrdersFault> {
+        let mut row = Vec::new(self.alloc);
+        for kind in KINDS.iter() {
+            self.put_kind(&mut row, kernel, names, *kind)?;
+        }
+        Ok(row)
+    }
+
+    /// The row of all slots, where they may change.
+    fn slot_row<L: Lines>(&self, kernel: &Kernel<L>, names: &Names) -> Result<Row, OrdersFault> {
+        let mut row = Vec::new(self.alloc);
+        if self.changes_slots {
+            for place in 0..self.counts.of(Kind::CNode) {
+                put_slots(&mut row, kernel, names, object_at(Kind::CNode, place))?;
+            }
+        }
+        Ok(row)
+    }
+
+    /// The row of what each core may enter besides its pick.
+    fn stale_row<L: Lines>(
+        &self,
+        walk: &Walk<L>,
+        picks: &[Option<Pick>],
+    ) -> Result<Row, OrdersFault> {
+        let mut row = Vec::new(self.alloc);
+        for core in 0..walk.kernel().book().cores() {
+            let pick = picks.get(core as usize).copied().flatten();
+            put_stale(&mut row, walk, CoreId(core), pick)?;
+        }
+        Ok(row)
+    }
+
+    /// The canonical key of a state, in which the cores have these picks.
+    fn canonical_key<L: Lines>(
+        &mut self,
+        users: &Users,
+        walk: &Walk<L>,
+        picks: &[Option<Pick>],
+    ) -> Result<Key, OrdersFault>
+        ensures kept { Keeps self.old.met self.new.met }
+        ensures mode { self.new.is_exact ≡ self.old.is_exact }
+    {
+        let kernel = walk.kernel();
+        let names = Names::new(self.alloc, kernel, self.counts, self.changes_slots)?;
+        let threads = self.counts.of(Kind::Thread);
+        let mut key = Vec::with_capacity(self.alloc, (threads as usize).saturating_add(3))?;
+        put_threads(
+            self.alloc,
+            &mut self.met,
+            &mut key,
+            threads,
+            users,
+            walk,
+            &names,
+        )?;
+        let objects = self.object_row(kernel, &names)?;
+        self.met.put(&mut key, objects)?;
+        let slots = self.slot_row(kernel, &names)?;
+        self.met.put(&mut key, slots)?;
+        let stale = self.stale_row(walk, picks)?;
+        self.met.put(&mut key, stale)?;
+        Ok(key)
+    }
+
+    /// The key of a state, in which the cores have these picks. Where keys are exact, it names the state's rows among those that
+    /// were met. OutOfMemory where memory was refused.
+    pub fn key<L: Lines>(
+        &mut self,
+        users: &Users,
+        walk: &Walk<L>,
+        picks: &[Option<Pick>],
+    ) -> Result<Key, OrdersFault>
+        ensures exact { self.old.is_exact ≡ true
+            → IfOk result (λ k. IsKey self.new.met users.now walk.now k.items) }
+        ensures kept { Keeps self.old.met self.new.met }
+        ensures mode { self.new.is_exact ≡ self.old.is_exact }
+    {
+        if self.is_exact {
+            let key = exact_key(self.alloc, &mut self.met, users, walk)?;
+            return Ok(key);
+        }
+        self.canonical_key(users, walk, picks)
+    }
+}

@@ -1,0 +1,128 @@
+//! The names of objects in canonical keys.
+use mcs_kernel::{Boot, Kernel};
+use mcs_queues::Lines;
+use mcs_types::{Kind, ObjId};
+use std::alloc::{AllocError, Global};
+
+/// How many objects of each kind a boot made.
+#[derive(Clone, Copy)]
+pub struct Counts {
+    cnodes: u32,
+    threads: u32,
+    endpoints: u32,
+    notifications: u32,
+    replies: u32,
+    contexts: u32,
+}
+
+impl Counts {
+    /// Those of a boot.
+    pub fn new(boot: &Boot) -> Counts {
+        Counts {
+            cnodes: boot.made(Kind::CNode),
+            threads: boot.made(Kind::Thread),
+            endpoints: boot.made(Kind::Endpoint),
+            notifications: boot.made(Kind::Notification),
+            replies: boot.made(Kind::Reply),
+            contexts: boot.made(Kind::Context),
+        }
+    }
+
+    /// That of a kind.
+    pub fn of(&self, kind: Kind) -> u32 {
+        match kind {
+            Kind::CNode => self.cnodes,
+            Kind::Thread => self.threads,
+            Kind::Endpoint => self.endpoints,
+            Kind::Notification => self.notifications,
+            Kind::Reply => self.replies,
+            Kind::Context => self.contexts,
+        }
+    }
+}
+
+/// The objects that were made after the boot and are there, in the order of the lowest slots that name them. Each stands in a
+/// slot as long as it is there.
+#[derive(Drop)]
+pub struct Names {
+    counts: Counts,
+    later: Vec<ObjId>,
+}
+
+/// A name that no object of the boot has, and no object that stands in a slot: 2^32 and more.
+const APART: u64 = 1 << 32;
+
+impl Names {
+    /// Those of a kernel; of the boot alone where no entry of a user changes slots.
+    pub fn new<L: Lines>(
+        alloc: Global,
+        kernel: &Kernel<L>,
+        counts: Counts,
+        has_later: bool,
+    ) -> Result<Names, AllocError> {
+        let mut names = Names {
+            counts,
+            later: Vec::new(alloc),
+        };
+        if has_later {
+            for place in 0..counts.cnodes {
+                let cnode = ObjId {
+                    kind: Kind::CNode,
+                    serial: place.saturating_add(1),
+                };
+                names.add_slots(kernel, cnode)?;
+            }
+        }
+        Ok(names)
+    }
+
+    /// Adds what the slots of a CNode name.
+    fn add_slots<L: Lines>(&mut self, kernel: &Kernel<L>, cnode: ObjId) -> Result<(), AllocError> {
+        for index in 0..=u8::MAX {
+            if let Some(cap) = kernel.capability(cnode, index) {
+                self.add(cap.obj)?;
+            }
+        }
+        Ok(())
+    }
+
+    /// Adds an object, if it was made after the boot and is not there yet.
+    fn add(&mut self, object: ObjId) -> Result<(), AllocError> {
+        if self.counts.of(object.kind) < object.serial && self.place(object).is_none() {
+            self.later.push(object)?;
+        }
+        Ok(())
+    }
+
+    /// Where an object stands among those made after the boot.
+    fn place(&self, object: ObjId) -> Option<usize> {
+        self.later.iter().position(|other| other.is_same(object))
+    }
+
+    /// The objects that were made after the boot.
+    pub fn later(&self) -> &[ObjId] {
+        self.later.as_slice()
+    }
+
+    /// The name of an object, from 1 on, by which it is told from all others of its kind. One that stands in no slot has its
+    /// serial behind all names.
+    pub fn name(&self, object: ObjId) -> u64 {
+        let serial = object.serial as u64;
+        let count = self.counts.of(object.kind) as u64;
+        if serial <= count {
+            return serial;
+        }
+        match self.place(object) {
+            Some(place) => count.saturating_add(1).saturating_add(place as u64),
+            None => serial.saturating_add(APART),
+        }
+    }
+
+    /// The name of an object; 0 for none.
+    pub fn name_or_none(&self, object: Option<ObjId>) -> u64 {
+        match object {
+            Some(object) => self.name(object),
+            None => 0,
+        }
+    }
+}

@@ -1,0 +1,14 @@
+use Rattle.std.specs.Prelude.{◌≡◌}
+use Rattle.std.proofs.Common.{ap, ◌∙◌}
+use Rattle.mcs_turns.specs.Turns.{beginning}
+use Rattle.mcs_orders.specs.Trails.{last_point}
+use Rattle.mcs_orders.proofs.Nexts.{keyed, no-points}
+use Rattle.mcs_orders.proofs.explorer.ExplorerSystem.first.Goals as goal
+
+pub returns-clause-key : goal.returns-clause-key
+returns-clause-key g c =
+    let there = c.in_ok-go_to.ensures in
+    let trail = c.go_to.new.self in
+    let begin : c.last-2.result.now ≡ beginning c.self.inside.users.now c.self.inside.boot.now =
+    c.last-2.ensures ∙ ap (λ ps. last_point trail.start ps) (no-points trail.points there.turns) ∙ there.start ∙ c.self.invariant.0 in
+    keyed c.key.result _ _ c.key.new.self.met c.self.inside.users.now c.last-2.result.now (beginning c.self.inside.users.now c.self.inside.boot.now) c.key.ensures.mode begin c.key.ensures.exact

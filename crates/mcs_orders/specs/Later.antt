@@ -1,0 +1,72 @@
+-- What stays true of a search that has met more rows, and what equal keys say (own).
+use Rattle.std.specs.Prelude.{◌≡◌, ◌↔◌, true, nat_eq, ℕ, zero, suc, List, [], ◌∷◌}
+use Rattle.std.specs.Cmp.Lexicographic.{pointwise, same_text}
+use Rattle.std.proofs.Common.{refl, sym, ◌∙◌, ap, subst}
+use Rattle.mcs_book.specs.Boots.{Boot, IsFaultless}
+use Rattle.mcs_turns.specs.Turns.{User, Going, AreInRange, IsRun, beginning}
+use Rattle.mcs_explore.specs.Paths.{Path}
+use Rattle.mcs_walks.specs.declared.walk.Turn.{Turn}
+use Rattle.mcs_like_runs.specs.Runs.{AreAlike, IsReached}
+use Rattle.mcs_keys.specs.Rows.{IsKey, rows_of}
+use Rattle.mcs_keys.proofs.Deciding.{rows-alike}
+use Rattle.mcs_keys.proofs.Naming.{names-kept, names-one}
+use Rattle.mcs_orders.specs.Trails.{Leads}
+use Rattle.mcs_orders.specs.Exploring.{Exploring, IsKeyIn, IsLater, IsTold, LooksLike}
+
+pub later-self : (e : Exploring) → IsLater e e
+later-self e = record { users = refl; boot = refl; exact = refl; met = λ n r h. h }
+
+pub later-on : (e f g : Exploring) → IsLater e f → IsLater f g → IsLater e g
+later-on e f g a b = record {
+  users = b.users ∙ a.users;
+  boot = b.boot ∙ a.boot;
+  exact = b.exact ∙ a.exact;
+  met = λ n r h. b.met n r (a.met n r h);
+}
+
+pub keeps-start : (e f : Exploring) → IsLater e f → beginning f.users f.boot ≡ beginning e.users e.boot
+keeps-start e f a = ap (λ us. beginning us f.boot) a.users ∙ ap (λ b. beginning e.users b) a.boot
+
+pub keeps-steps : (e f : Exploring) → IsLater e f → (l : Turn) (g h : Going) → Leads e.users l g h ↔ Leads f.users l g h
+keeps-steps e f a l g h = (λ x. subst (λ us. Leads us l g h) (sym a.users) x, λ x. subst (λ us. Leads us l g h) a.users x)
+
+told-on : (e f : Exploring) → IsLater e f → IsTold e → IsTold f
+told-on e f a t = record {
+  exact = a.exact ∙ t.exact;
+  boot = subst IsFaultless (sym a.boot) t.boot;
+  in_range = subst AreInRange (sym a.users) t.in_range;
+}
+
+told-before : (e f : Exploring) → IsLater e f → IsTold f → IsTold e
+told-before e f a t = record {
+  exact = sym a.exact ∙ t.exact;
+  boot = subst IsFaultless a.boot t.boot;
+  in_range = subst AreInRange a.users t.in_range;
+}
+
+pub keeps-likeness : (e f : Exploring) → IsLater e f → (g h : Going) → LooksLike e g h ↔ LooksLike f g h
+keeps-likeness e f a g h = (
+  λ x told. subst (λ b. AreAlike f.users b g h) (sym a.boot) (subst (λ us. AreAlike us e.boot g h) (sym a.users) (x (told-before e f a told))),
+  λ x told. subst (λ b. AreAlike e.users b g h) a.boot (subst (λ us. AreAlike us f.boot g h) a.users (x (told-on e f a told))),
+)
+
+-- the turns of a path from a run on
+path-run : (users : List User) (boot : Boot) (n : ℕ) (g : Going) (ls : List Turn) (h : Going) → IsRun users boot n g → Path (Leads users) g ls h → IsReached users boot h
+path-run users boot n g [] h r p = record { turns = n; run = subst (IsRun users boot n) p r }
+path-run users boot n g (l ∷ ls) h r p = path-run users boot (suc n) p.0 ls h (g, (r, record { core = l.core; pick = l.pick; turn = p.1.0 })) p.1.1
+
+pub path-reaches : (users : List User) (boot : Boot) (ls : List Turn) (h : Going) → Path (Leads users) (beginning users boot) ls h → IsReached users boot h
+path-reaches users boot ls h p = path-run users boot zero (beginning users boot) ls h refl p
+
+pub keeps-keys : (e f : Exploring) → IsLater e f → (g : Going) (k : List ℕ) → IsKeyIn e g k → IsKeyIn f g k
+keeps-keys e f a g k is exact =
+    subst (λ us. IsKey f.keys.met us g k) (sym a.users) (names-kept e.keys.met f.keys.met k (rows_of e.users g) a.met (is (sym a.exact ∙ exact)))
+
+pub one-key : (e : Exploring) (p q : List Turn) (g h : Going) (k : List ℕ) → Path (Leads e.users) (beginning e.users e.boot) p g → Path (Leads e.users) (beginning e.users e.boot) q h
+    → IsKeyIn e g k → IsKeyIn e h k → LooksLike e g h
+one-key e p q g h k x y a b told =
+    rows-alike e.users e.boot told.boot told.in_range g h (path-reaches e.users e.boot p g x) (path-reaches e.users e.boot q h y)
+    (names-one e.keys.met k (rows_of e.users g) (rows_of e.users h) (a told.exact) (b told.exact))
+
+pub same-key : (e : Exploring) (g : Going) (k c : List ℕ) → pointwise nat_eq k c ≡ true → IsKeyIn e g k → IsKeyIn e g c
+same-key e g k c same is = subst (λ ns. IsKeyIn e g ns) (same_text k c (sym same)) is

@@ -1,0 +1,31 @@
+-- What a search has seen of a run (own).
+use Rattle.std.specs.Prelude.{ℕ, ◌≤◌, ◌<◌, List, length}
+use Rattle.mcs_book.specs.Boots.{Boot}
+use Rattle.mcs_turns.specs.Turns.{User, Going, IsRun, beginning}
+use Rattle.mcs_explore.specs.Paths.{Path}
+use Rattle.mcs_explore.specs.Search.{Entries, depth_at, path_of}
+use Rattle.mcs_walks.specs.declared.walk.Turn.{Turn}
+use Rattle.mcs_like_runs.specs.Runs.{AreAlike}
+use Rattle.mcs_orders.specs.Trails.{Leads}
+
+-- the state in a place is that of a run, by as many turns as its depth says, which are those of its path
+pub record IsFoundRun {K : Type 0} (users : List User) (boot : Boot) (found : Entries K Turn) (place : ℕ) (g : Going) : Type 0 where
+  pub run : IsRun users boot (depth_at found place) g
+  pub path : Path (Leads users) (beginning users boot) (path_of found place) g
+
+-- each state that was found is so
+abbrev pub AreFoundRuns : {K : Type 0} → List User → Boot → Entries K Turn → Type 0
+AreFoundRuns users boot found = (place : ℕ) → place < length found → (g : Going) × IsFoundRun users boot found place g
+
+-- a state was found that no later turn tells apart from the end of a run of n turns, by no more turns
+pub record IsSeen {K : Type 0} (users : List User) (boot : Boot) (found : Entries K Turn) (n : ℕ) (g : Going) : Type 0 where
+  pub place : ℕ
+  pub within : place < length found
+  pub going : Going
+  pub is : IsFoundRun users boot found place going
+  pub like : AreAlike users boot g going
+  pub near : depth_at found place ≤ n
+
+-- so is each run
+abbrev pub AreAllSeen : {K : Type 0} → List User → Boot → Entries K Turn → Type 0
+AreAllSeen users boot found = (n : ℕ) (g : Going) → IsRun users boot n g → IsSeen users boot found n g
