@@ -1,4 +1,10 @@
 //! The entry that a line of a plan spells, as a script spells it.
+ghost use Rattle.std.specs.Prelude.{◌≡◌, ◌++◌, None, true, IfOk, IfErr, OnOk, OnErr, decimal, string_bytes};
+ghost use Rattle.mcs_names.specs.Naming.{begins_with_digit, with_word};
+ghost use Rattle.mcs_laying.specs.Naming.{named_by};
+ghost use Rattle.mcs_laying.specs.Telling.{TellsUnknown};
+ghost use Rattle.mcs_compile.specs.Entries.{IsAddress, IsPlace, PutsAddress, PutsPlace, PutsNumber};
+
 use crate::fields::{Field, fields_of};
 use mcs_laying::Laid;
 use mcs_names::{Why, Words, add_word, not, number};
@@ -17,7 +23,9 @@ pub struct Speaker<'a> {
 }
 
 /// A number behind what stands.
-pub fn add_number(alloc: Global, to: &mut String, n: u64) -> Result<(), AllocError> {
+pub fn add_number(alloc: Global, to: &mut String, n: u64) -> Result<(), AllocError>
+    ensures { OnOk result (string_bytes to.new ≡ with_word (string_bytes to.old) (decimal n)) }
+{
     let digits = format!(in alloc; "{n}")?;
     add_word(to, digits.as_str())
 }
@@ -56,13 +64,17 @@ fn read_kind(alloc: Global, to: &mut String, words: &mut Words<'_>) -> Result<()
 }
 
 /// A number up to a limit.
+#[tactic(auto, using(crate::proofs::Puts::puts_number))]
 fn read_number(
     alloc: Global,
     to: &mut String,
     words: &mut Words<'_>,
     wanted: &'static str,
     limit: u64,
-) -> Result<(), Why> {
+) -> Result<(), Why>
+    ensures { OnOk result
+        (PutsNumber limit words.old words.new (string_bytes to.old) (string_bytes to.new)) }
+{
     let n = words.number(alloc, wanted, limit)?;
     Ok(add_number(alloc, to, n)?)
 }
@@ -84,7 +96,14 @@ fn read_message(alloc: Global, to: &mut String, words: &mut Words<'_>) -> Result
 
 impl<'a> Speaker<'a> {
     /// An address: a name, or a number.
-    fn address(&self, alloc: Global, word: &str) -> Result<u64, Why> {
+    #[tactic(auto, using(crate::proofs::Puts::by_name))]
+    fn address(&self, alloc: Global, word: &str) -> Result<u64, Why>
+        ensures stands { IfOk result
+            (IsAddress self.now.laid.now.tables.items self.now.thread word.now) }
+        ensures unknown { OnErr result
+            (named_by self.now.laid.now.tables.items self.now.thread word.now ≡ None) }
+        ensures told { IfErr result TellsUnknown }
+    {
         if let Some(n) = number(word) {
             return Ok(n);
         }
@@ -93,7 +112,11 @@ impl<'a> Speaker<'a> {
     }
 
     /// A place: a name, or an index and a depth.
-    fn place(&self, alloc: Global, words: &mut Words<'_>) -> Result<Place, Why> {
+    #[tactic(auto, using(crate::proofs::Puts::place_by_name, crate::proofs::Puts::place_by_numbers, crate::proofs::Puts::takes_number))]
+    fn place(&self, alloc: Global, words: &mut Words<'_>) -> Result<Place, Why>
+        ensures { IfOk result (λ p.
+            IsPlace self.now.laid.now.tables.items self.now.thread words.old p words.new) }
+    {
         let word = words.need("a slot")?;
         if let Some(index) = number(word) {
             let depth = words.number(alloc, "a depth, 0 to 255", 255)?;
@@ -105,19 +128,21 @@ impl<'a> Speaker<'a> {
     }
 
     /// An address, as a number.
-    fn read_address(
-        &self,
-        alloc: Global,
-        to: &mut String,
-        words: &mut Words<'_>,
-    ) -> Result<(), Why> {
+    #[tactic(auto, using(crate::proofs::Puts::puts_address))]
+    fn read_address(&self, alloc: Global, to: &mut String, words: &mut Words<'_>) -> Result<(), Why>
+        ensures { OnOk result (PutsAddress self.now.laid.now.tables.items self.now.thread
+            words.old words.new (string_bytes to.old) (string_bytes to.new)) }
+    {
         let word = words.need("a capability")?;
         let address = self.address(alloc, word)?;
         Ok(add_number(alloc, to, address)?)
     }
 
     /// A place, as two numbers.
-    fn read_place(&self, alloc: Global, to: &mut String, words: &mut Words<'_>) -> Result<(), Why> {
+    fn read_place(&self, alloc: Global, to: &mut String, words: &mut Words<'_>) -> Result<(), Why>
+        ensures { OnOk result (PutsPlace self.now.laid.now.tables.items self.now.thread
+            words.old words.new (string_bytes to.old) (string_bytes to.new)) }
+    {
         let place = self.place(alloc, words)?;
         add_number(alloc, to, place.index)?;
         Ok(add_number(alloc, to, place.depth as u64)?)

@@ -1,20 +1,21 @@
 -- What a thread names by a word.
-use Rattle.std.specs.Prelude.{◌≡◌, ℕ, List, Some, Vec, slice_get, string_bytes}
+use Rattle.std.specs.Prelude.{◌+◌, ℕ, Bool, List, Option, Some, None, Vec, fold, find, min, max, option_and_then, slice_get, string_bytes, bytes_eq}
+use Rattle.mcs_types.specs.declared.id.CoreId.{CoreId}
 use Rattle.mcs_types.specs.declared.id.ObjId.{ObjId}
 use Rattle.mcs_types.specs.declared.id.Kind.TheVariants as kind
 use Rattle.mcs_types.specs.Ids.{place_of}
 use Rattle.mcs_laying.specs.declared.tables.Named.{Named}
 
--- one of the names of a table, which is this word
-pub record IsRow (rows : List Named) (word : List ℕ) (n : Named) : Type 0 where
-  pub at : ℕ
-  pub there : slice_get rows at ≡ Some n
-  pub written : string_bytes n.name ≡ word
+-- whether a name is this word
+abbrev pub is_row : List ℕ → Named → Bool
+is_row word n = bytes_eq (string_bytes n.name) word
 
--- one of the names of a thread, which is this word
-pub record IsName {A : Type 0} (tables : List (Vec Named A)) (t : ObjId) (word : List ℕ) (n : Named) : Type 0 where
-  pub place : ℕ
-  pub table : Vec Named A
-  pub of_thread : place_of kind.Thread t ≡ Some place
-  pub there : slice_get tables place ≡ Some table
-  pub row : IsRow table.items word n
+-- what a thread names by a word: the first row of its table which is this word
+abbrev pub named_by : {A : Type 0} → List (Vec Named A) → ObjId → List ℕ → Option Named
+named_by {A} tables t word =
+    option_and_then (λ (k : ℕ). option_and_then (λ (table : Vec Named A). find (is_row word) table.items) (slice_get tables k)) (place_of kind.Thread t)
+
+-- how many cores there are: as many as the plan says, or one more than the last that a context is on
+abbrev pub cores_of : Option ℕ → List CoreId → ℕ
+cores_of (Some cores) contexts = cores
+cores_of None contexts = min (fold (λ last core. max core.0 last) 0 contexts + 1) 255

@@ -68,12 +68,22 @@ pub enum Why {
 }
 
 impl From<AllocError> for Why {
+    ghost use Rattle.std.specs.Prelude.{◌≡◌};
+    ghost use Rattle.mcs_names.specs.declared.fault.Why.TheVariants.{OutOfMemory};
+
+    ghost from_gives = { λ _ e. e ≡ OutOfMemory };
+
     fn from(_error: AllocError) -> Why {
         Why::OutOfMemory
     }
 }
 
 impl<T: Drop> From<AllocFailed<T>> for Why {
+    ghost use Rattle.std.specs.Prelude.{◌≡◌};
+    ghost use Rattle.mcs_names.specs.declared.fault.Why.TheVariants.{OutOfMemory};
+
+    ghost from_gives = { λ _ e. e ≡ OutOfMemory };
+
     fn from(_error: AllocFailed<T>) -> Why {
         Why::OutOfMemory
     }

@@ -1,9 +1,14 @@
 //! Objects by their names.
+ghost use Rattle.std.specs.Prelude.{◌≡◌, ◌++◌, ◌∷◌, [], min, Some, IfOk, IfErr, OnOk, OnErr, None, slice_get, option_map, length, string_bytes};
+ghost use Rattle.mcs_names.specs.Naming.{limit_of, find, count_of, next_of, is_of_kind, with_word};
+ghost use Rattle.mcs_names.specs.Telling.{MayAdd, MayNotAdd, Adds, TellsNoName, IsOfKind, HasNoneOfKind};
+
 use crate::fault::Why;
 use crate::words::{is_name, not};
 use indexmap::IndexMap;
 use mcs_types::{CNODES, Kind, OBJECTS, ObjId};
 use std::alloc::{AllocError, Global};
+use std::marker::Model;
 
 /// The names of all objects, in the order in which they were given.
 #[derive(Drop)]
@@ -11,8 +16,18 @@ pub struct Names {
     objects: IndexMap<String, ObjId>,
 }
 
+impl Model for Names {
+    ghost use Rattle.mcs_names.specs.Naming.{NameList, named_in};
+
+    ghost Value = { NameList };
+
+    ghost view = { λ n. named_in n.objects.entries };
+}
+
 /// How many objects of a kind there may be.
-pub fn limit_of(kind: Kind) -> u32 {
+pub fn limit_of(kind: Kind) -> u32
+    ensures { result ≡ limit_of kind }
+{
     match kind {
         Kind::CNode => CNODES as u32,
         _ => OBJECTS as u32,
@@ -43,40 +58,68 @@ pub fn singular(kind: Kind) -> &'static str {
     }
 }
 
-/// Texts with a space between two.
-pub fn add_word(text: &mut String, word: &str) -> Result<(), AllocError> {
-    if !text.is_empty() {
-        text.push_str(" ")?;
+/// A word more, behind a space where it is not the first.
+#[tactic(auto, using(crate::proofs::Entries::first_of_all, crate::proofs::Entries::one_more))]
+pub fn add_word(text: &mut String, word: &str) -> Result<(), AllocError>
+    ensures { OnOk result (string_bytes text.new ≡ with_word (string_bytes text.old) word.now) }
+{
+    if text.as_bytes().is_empty() {
+        return text.push_str(word);
     }
+    text.push_str(" ")?;
     text.push_str(word)
 }
 
 impl Names {
     /// No names.
-    pub fn new(alloc: Global) -> Names {
+    pub fn new(alloc: Global) -> Names
+        ensures { result ≡ [] }
+    {
         Names {
             objects: IndexMap::new(alloc),
         }
     }
 
+    /// Whether the name at an index is of this kind.
+    fn is_of_kind(&self, index: usize, kind: Kind) -> bool
+        ensures { result ≡ is_of_kind kind (slice_get self.now index) }
+    {
+        match self.at(index) {
+            Some((_, object)) => object.kind.is_same(kind),
+            None => false,
+        }
+    }
+
     /// How many objects of a kind there are.
-    pub fn count(&self, kind: Kind) -> u32 {
-        let mut count: u32 = 0;
-        for object in self.objects.values() {
-            if object.kind == kind {
-                count = count.saturating_add(1);
+    fn counted(&self, kind: Kind) -> usize
+        ensures { result ≡ count_of kind self.now }
+    {
+        let mut count: usize = 0;
+        for index in 0..self.len() {
+            if self.is_of_kind(index, kind) {
+                count += 1;
             }
         }
         count
     }
 
-    /// Names the next object of a kind. Not where the word is no name, Twice where it is one already, and Limit where there are
-    /// as many of the kind as there may be.
-    pub fn add(&mut self, alloc: Global, kind: Kind, name: &str) -> Result<ObjId, Why> {
+    /// How many objects of a kind there are, up to 2^32 - 1.
+    pub fn count(&self, kind: Kind) -> u32
+        ensures { result ≡ min (count_of kind self.now) 4294967295 }
+    {
+        self.counted(kind).min(4_294_967_295) as u32
+    }
+
+    /// The next object of a kind, where it may have this name.
+    fn next(&self, alloc: Global, kind: Kind, name: &str) -> Result<ObjId, Why>
+        ensures may { OnOk result (MayAdd self.now kind name.now) }
+        ensures next { IfOk result (λ o. o ≡ next_of kind self.now) }
+        ensures told { IfErr result (MayNotAdd self.now kind name.now) }
+    {
         if !is_name(name) {
             return Err(not(alloc, name, "a name"));
         }
-        if self.objects.contains_key(name) {
+        if self.find(name).is_some() {
             return Err(Why::Twice {
                 word: String::from_str(alloc, name)?,
             });
@@ -89,21 +132,49 @@ impl Names {
                 limit,
             });
         }
-        let object = ObjId {
+        Ok(ObjId {
             kind,
             serial: count + 1,
-        };
-        self.objects.insert(String::from_str(alloc, name)?, object)?;
+        })
+    }
+
+    /// Gives an object a name, which is none yet.
+    #[tactic(auto, using(crate::proofs::Entries::put_last))]
+    fn put(&mut self, alloc: Global, name: &str, object: ObjId) -> Result<(), AllocError>
+        requires { find self.old name.now ≡ None }
+        ensures ok { OnOk result (self.new ≡ self.old ++ (name.now, object) ∷ []) }
+        ensures unchanged { OnErr result (self.new ≡ self.old) }
+    {
+        let key = String::from_str(alloc, name)?;
+        self.objects.insert(key, object)?;
+        Ok(())
+    }
+
+    /// Names the next object of a kind. Not where the word is no name, Twice where it is one already, and Limit where there are
+    /// as many of the kind as there may be.
+    pub fn add(&mut self, alloc: Global, kind: Kind, name: &str) -> Result<ObjId, Why>
+        ensures added { IfOk result (λ o. Adds self.old kind name.now o self.new) }
+        ensures told { IfErr result (MayNotAdd self.old kind name.now) }
+        ensures unchanged { OnErr result (self.new ≡ self.old) }
+    {
+        let object = self.next(alloc, kind, name)?;
+        self.put(alloc, name, object)?;
         Ok(object)
     }
 
     /// The object of this name.
-    pub fn find(&self, name: &str) -> Option<ObjId> {
+    pub fn find(&self, name: &str) -> Option<ObjId>
+        ensures { result ≡ find self.now name.now }
+    {
         self.objects.get(name).copied()
     }
 
     /// The object of this name. NoName where there is none.
-    pub fn object(&self, alloc: Global, name: &str) -> Result<ObjId, Why> {
+    pub fn object(&self, alloc: Global, name: &str) -> Result<ObjId, Why>
+        ensures found { IfOk result (λ o. find self.now name.now ≡ Some o) }
+        ensures unknown { OnErr result (find self.now name.now ≡ None) }
+        ensures told { IfErr result (TellsNoName name.now) }
+    {
         match self.find(name) {
             Some(object) => Ok(object),
             None => Err(self.not_there(alloc, name)?),
@@ -111,15 +182,23 @@ impl Names {
     }
 
     /// The object of this kind and name. NoName where there is none.
-    pub fn of_kind(&self, alloc: Global, kind: Kind, name: &str) -> Result<ObjId, Why> {
-        match self.find(name) {
-            Some(object) if object.kind == kind => Ok(object),
-            _ => Err(self.no_name(alloc, name, singular(kind), Some(kind))?),
+    pub fn of_kind(&self, alloc: Global, kind: Kind, name: &str) -> Result<ObjId, Why>
+        ensures found { IfOk result (IsOfKind self.now kind name.now) }
+        ensures unknown { OnErr result (HasNoneOfKind self.now kind name.now) }
+        ensures told { IfErr result (TellsNoName name.now) }
+    {
+        if let Some(object) = self.find(name) {
+            if object.kind.is_same(kind) {
+                return Ok(object);
+            }
         }
+        Err(self.no_name(alloc, name, singular(kind), Some(kind))?)
     }
 
     /// The fault of a name that is not that of any object.
-    pub fn not_there(&self, alloc: Global, name: &str) -> Result<Why, AllocError> {
+    pub fn not_there(&self, alloc: Global, name: &str) -> Result<Why, AllocError>
+        ensures { IfOk result (TellsNoName name.now) }
+    {
         self.no_name(alloc, name, "an object", None)
     }
 
@@ -130,7 +209,9 @@ impl Names {
         name: &str,
         wanted: &'static str,
         kind: Option<Kind>,
-    ) -> Result<Why, AllocError> {
+    ) -> Result<Why, AllocError>
+        ensures { IfOk result (TellsNoName name.now) }
+    {
         Ok(Why::NoName {
             word: String::from_str(alloc, name)?,
             wanted,
@@ -160,12 +241,16 @@ impl Names {
     }
 
     /// How many names there are.
-    pub fn len(&self) -> usize {
+    pub fn len(&self) -> usize
+        ensures { result ≡ length self.now }
+    {
         self.objects.len()
     }
 
     /// A name and its object, in the order in which they were given.
-    pub fn at(&self, index: usize) -> Option<(&str, ObjId)> {
+    pub fn at(&self, index: usize) -> Option<(&str, ObjId)>
+        ensures { option_map (λ n. (n.0.now, n.1)) result ≡ slice_get self.now index }
+    {
         let (name, object) = self.objects.get_index(index)?;
         Some((name.as_str(), *object))
     }

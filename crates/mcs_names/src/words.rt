@@ -1,6 +1,12 @@
 //! The words of a line of a plan.
+ghost use Rattle.std.specs.Prelude.{◌≡◌, ◌≤◌, ◌∷◌, [], true, IfOk, IfErr, OnOk, OnSome, IfSome, IfNone, option_map, slice_get, length};
+ghost use Rattle.std.specs.List.{list_all};
+ghost use Rattle.mcs_names.specs.Naming.{is_letter, is_name_byte, is_name, begins_with_digit, texts};
+ghost use Rattle.mcs_names.specs.Telling.{TellsNot, TellsMissing, TellsTooMany, TakesNumber};
+
 use crate::fault::Why;
 use std::alloc::{AllocError, Global};
+use std::marker::Model;
 
 /// The words of a line, of which some were taken.
 #[derive(Drop)]
@@ -9,32 +15,68 @@ pub struct Words<'a> {
     taken: usize,
 }
 
+/// The word of a number, from 0.
+fn word_at<'a>(words: &'a [&'a str], index: usize) -> Option<&'a str>
+    ensures { result ≡ slice_get words.now index }
+{
+    words.get(index).copied()
+}
+
+impl<'a> Model for Words<'a> {
+    ghost use Rattle.std.specs.Prelude.{ℕ, List, drop};
+    ghost use Rattle.mcs_names.specs.Naming.{texts};
+
+    ghost Value = { List (List ℕ) };
+
+    ghost view = { λ w. drop w.taken (texts w.words.now) };
+}
+
 impl<'a> Words<'a> {
     /// All words.
-    pub fn new(words: &'a [&'a str]) -> Words<'a> {
+    pub fn new(words: &'a [&'a str]) -> Words<'a>
+        ensures { result ≡ texts words.now }
+    {
         Words { words, taken: 0 }
     }
 
     /// Takes a word.
-    pub fn next(&mut self) -> Option<&'a str> {
-        let word = self.peek()?;
-        self.taken = self.taken.saturating_add(1);
-        Some(word)
+    pub fn next(&mut self) -> Option<&'a str>
+        ensures word { IfSome result (λ w. self.old ≡ w.now ∷ self.new) }
+        ensures none { IfNone result ((self.old ≡ []) × (self.new ≡ [])) }
+    {
+        match self.words.get(self.taken) {
+            Some(word) => {
+                self.taken += 1;
+                Some(*word)
+            }
+            None => None,
+        }
     }
 
     /// The next word, which is left.
-    pub fn peek(&self) -> Option<&'a str> {
-        self.words.get(self.taken).copied()
+    pub fn peek(&self) -> Option<&'a str>
+        ensures { option_map (λ w. w.now) result ≡ slice_get self.now 0 }
+    {
+        word_at(self.words, self.taken)
     }
 
     /// How many words are left.
-    pub fn len(&self) -> usize {
+    #[tactic(auto, using(crate::proofs::Entries::words_left))]
+    pub fn len(&self) -> usize
+        ensures { result ≡ length self.now }
+    {
         self.words.len().saturating_sub(self.taken)
     }
 
     /// Takes a word. Missing where none is left.
-    pub fn need(&mut self, wanted: &'static str) -> Result<&'a str, Why> {
-        self.next().ok_or(Why::Missing { wanted })
+    pub fn need(&mut self, wanted: &'static str) -> Result<&'a str, Why>
+        ensures word { IfOk result (λ w. self.old ≡ w.now ∷ self.new) }
+        ensures told { IfErr result (TellsMissing self.old) }
+    {
+        match self.next() {
+            Some(word) => Ok(word),
+            None => Err(Why::Missing { wanted }),
+        }
     }
 
     /// Takes this word. Missing where none is left, Not for another.
@@ -48,7 +90,10 @@ impl<'a> Words<'a> {
     }
 
     /// TooMany where a word is left.
-    pub fn end(&mut self, alloc: Global) -> Result<(), Why> {
+    pub fn end(&mut self, alloc: Global) -> Result<(), Why>
+        ensures ok { OnOk result (self.old ≡ []) }
+        ensures told { IfErr result (TellsTooMany self.old) }
+    {
         match self.next() {
             None => Ok(()),
             Some(word) => Err(Why::TooMany {
@@ -57,18 +102,26 @@ impl<'a> Words<'a> {
         }
     }
 
-    /// Takes a number, in decimal or hexadecimal. Range or Not where it is none, or above the limit.
-    pub fn number(&mut self, alloc: Global, wanted: &'static str, limit: u64) -> Result<u64, Why> {
+    /// Takes a number, in decimal or hexadecimal. Missing where no word is left, Not where it is none, or above the limit.
+    #[tactic(auto, using(crate::proofs::Entries::takes_number))]
+    pub fn number(&mut self, alloc: Global, wanted: &'static str, limit: u64) -> Result<u64, Why>
+        ensures taken { OnOk result (TakesNumber self.old self.new) }
+        ensures within { IfOk result (λ n. n ≤ limit) }
+    {
         let word = self.need(wanted)?;
-        match number(word) {
-            Some(n) if n <= limit => Ok(n),
-            _ => Err(not(alloc, word, wanted)),
+        if let Some(n) = number(word) {
+            if n <= limit {
+                return Ok(n);
+            }
         }
+        Err(not(alloc, word, wanted))
     }
 }
 
 /// The fault of a word that is not what is wanted; OutOfMemory where the word is not copied.
-pub fn not(alloc: Global, word: &str, wanted: &'static str) -> Why {
+pub fn not(alloc: Global, word: &str, wanted: &'static str) -> Why
+    ensures { TellsNot word.now result }
+{
     match String::from_str(alloc, word) {
         Ok(word) => Why::Not { word, wanted },
         Err(AllocError) => Why::OutOfMemory,
@@ -91,9 +144,21 @@ pub fn split_comment<'a>(line: &'a str) -> (&'a str, Option<&'a str>) {
     }
 }
 
+/// Whether a word begins with a digit.
+fn begins_with_digit(word: &str) -> bool
+    ensures { result ≡ begins_with_digit word.now }
+{
+    match word.as_bytes() {
+        [] => false,
+        [first, ..] => 48 <= *first && *first <= 57,
+    }
+}
+
 /// A number of 64 bits: decimal, or hexadecimal behind `0x`. None where the word is none.
-pub fn number(word: &str) -> Option<u64> {
-    if !word.starts_with(|c: char| c.is_ascii_digit()) {
+pub fn number(word: &str) -> Option<u64>
+    ensures { OnSome result (begins_with_digit word.now ≡ true) }
+{
+    if !begins_with_digit(word) {
         return None;
     }
     match word.strip_prefix("0x") {
@@ -107,8 +172,38 @@ pub fn number(word: &str) -> Option<u64> {
     }
 }
 
+/// Whether a byte is a letter.
+fn is_letter(byte: u8) -> bool
+    ensures { result ≡ is_letter byte }
+{
+    (65 <= byte && byte <= 90) || (97 <= byte && byte <= 122)
+}
+
+/// Whether a byte may stand in a name.
+fn is_name_byte(byte: u8) -> bool
+    ensures { result ≡ is_name_byte byte }
+{
+    is_letter(byte) || (48 <= byte && byte <= 57) || byte == 45 || byte == 46 || byte == 95
+}
+
+/// Whether all bytes may stand in a name.
+fn are_name_bytes(bytes: &[u8]) -> bool
+    ensures { result ≡ list_all is_name_byte bytes.now }
+{
+    for byte in bytes {
+        if !is_name_byte(*byte) {
+            return false;
+        }
+    }
+    true
+}
+
 /// Whether a word may be a name: it begins with a letter, and has letters, digits, `-`, `_` and `.`.
-pub fn is_name(word: &str) -> bool {
-    word.starts_with(|c: char| c.is_ascii_alphabetic())
-        && word.chars().all(|c| c.is_ascii_alphanumeric() || c == '-' || c == '_' || c == '.')
+pub fn is_name(word: &str) -> bool
+    ensures { result ≡ is_name word.now }
+{
+    match word.as_bytes() {
+        [] => false,
+        [first, rest @ ..] => is_letter(*first) && are_name_bytes(rest),
+    }
 }

@@ -1,4 +1,9 @@
 //! What a plan says before its first step.
+ghost use Rattle.std.specs.Prelude.{◌≡◌, ◌++◌, ◌∷◌, [], None, IfOk, IfErr, OnOk, OnErr, is_some};
+ghost use Rattle.mcs_names.specs.Naming.{find};
+ghost use Rattle.mcs_plans.specs.Slots.{most_slots, slots_of, AddsSlot};
+ghost use Rattle.mcs_plans.specs.Telling.{TellsNoCapability, MayNotHave};
+
 use indexmap::IndexMap;
 use mcs_names::{Names, Why, add_word, limit_of, plural};
 use mcs_types::{Cap, CoreId, Kind, ObjId, Prio};
@@ -68,6 +73,16 @@ pub struct Plan {
 /// The thread that takes away the contexts of passive threads.
 pub const STARTER: &str = "starter";
 
+/// How many slots a space may have, beside slot 0.
+fn most_slots(radix: Option<u8>) -> u32
+    ensures { result ≡ most_slots radix }
+{
+    match radix {
+        Some(radix) => (1u32 << radix.min(8)) - 1,
+        None => 16_383,
+    }
+}
+
 impl Space {
     /// No slots.
     pub fn new(alloc: Global, radix: Option<u8>) -> Space {
@@ -75,6 +90,49 @@ impl Space {
             radix,
             slots: IndexMap::new(alloc),
         }
+    }
+
+    /// Whether it has a slot of this name.
+    fn has(&self, name: &str) -> bool
+        ensures { result ≡ is_some (find (slots_of self.now) name.now) }
+    {
+        self.slots.contains_key(name)
+    }
+
+    /// Adds a slot behind the others, whose name is none yet.
+    #[tactic(auto, using(crate::proofs::SlotNames::put))]
+    fn put(&mut self, alloc: Global, name: &str, slot: Slot) -> Result<(), AllocError>
+        requires { find (slots_of self.old) name.now ≡ None }
+        ensures ok { OnOk result (slots_of self.new ≡ slots_of self.old ++ (name.now, slot) ∷ []) }
+        ensures unchanged { OnErr result (slots_of self.new ≡ slots_of self.old) }
+        ensures radix { self.new.radix ≡ self.old.radix }
+    {
+        let key = String::from_str(alloc, name)?;
+        self.slots.insert(key, slot)?;
+        Ok(())
+    }
+
+    /// Adds a slot behind the others. Twice where its name is there, and Limit where the space is full.
+    #[tactic(auto, using(crate::proofs::SlotNames::counted))]
+    pub fn add(&mut self, alloc: Global, name: &str, slot: Slot) -> Result<(), Why>
+        ensures added { OnOk result (AddsSlot self.old name.now slot self.new) }
+        ensures told { IfErr result (MayNotHave self.old name.now) }
+        ensures unchanged { OnErr result (slots_of self.new ≡ slots_of self.old) }
+    {
+        if self.has(name) {
+            return Err(Why::Twice {
+                word: String::from_str(alloc, name)?,
+            });
+        }
+        let most = most_slots(self.radix);
+        if self.slots.len() >= most as usize {
+            return Err(Why::Limit {
+                what: "slots in this space",
+                limit: most,
+            });
+        }
+        self.put(alloc, name, slot)?;
+        Ok(())
     }
 
     /// How many slots it has, with slot 0, up to 65,536.
@@ -101,12 +159,9 @@ impl Space {
     }
 
     /// NoCapability: it has no slot of this name.
-    pub fn no_capability(
-        &self,
-        alloc: Global,
-        holder: &str,
-        word: &str,
-    ) -> Result<Why, AllocError> {
+    pub fn no_capability(&self, alloc: Global, holder: &str, word: &str) -> Result<Why, AllocError>
+        ensures { IfOk result (TellsNoCapability word.now) }
+    {
         Ok(Why::NoCapability {
             holder: String::from_str(alloc, holder)?,
             word: String::from_str(alloc, word)?,

@@ -105,14 +105,6 @@ fn bound(alloc: Global, word: &str) -> Why {
     }
 }
 
-/// How many slots a space may have, beside slot 0.
-fn most_slots(radix: Option<u8>) -> u32 {
-    match radix {
-        Some(radix) => (1u32 << (radix.min(8) as u32)).saturating_sub(1),
-        None => 65_535 >> 2,
-    }
-}
-
 /// How a plan wrote a slot: its word, and its name where that does not follow from it.
 fn written_as(alloc: Global, word: &str, name: &str) -> Result<String, AllocError> {
     let mut written = String::from_str(alloc, word)?;
@@ -435,20 +427,7 @@ impl Plan {
         let Some(space) = self.spaces.get_mut(place) else {
             return Ok(());
         };
-        if space.slots.contains_key(name) {
-            return Err(Why::Twice {
-                word: String::from_str(alloc, name)?,
-            });
-        }
-        let most = most_slots(space.radix);
-        if space.slots.len() >= most as usize {
-            return Err(Why::Limit {
-                what: "slots in this space",
-                limit: most,
-            });
-        }
-        space.slots.insert(String::from_str(alloc, name)?, slot)?;
-        Ok(())
+        space.add(alloc, name, slot)
     }
 
     /// A capability of a space, with `as NAME` behind it where it is to have a name of its own; `-` is
