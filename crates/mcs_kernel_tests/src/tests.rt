@@ -1,6 +1,0 @@
-//! The tests.
-
-mod books;
-mod boots;
-mod queries;
-mod questions;

@@ -1,9 +1,0 @@
-//! The tests.
-
-mod chains;
-mod lookups;
-mod notifications;
-mod objects;
-mod queues;
-mod slots;
-mod tables;

@@ -1,0 +1,6 @@
+//! Books, boots and the kernel.
+
+mod books;
+mod boots;
+mod queries;
+mod questions;

@@ -1,0 +1,145 @@
+//! Machines whose entries are made by hand.
+ghost use Rattle.std.specs.Prelude.{◌≡◌};
+
+use crate::tests::machines::boots::{ONE_CORE, TWO_CORES, boot_of, replay_of, thread, trace_of};
+use mcs_book::Book;
+use mcs_cores::{CoreSeat, FinishFault, Machine, Settled};
+use mcs_kernel::{Boot, Kernel};
+use mcs_queues::LinkedLines;
+use mcs_types::{Badge, CORES, Mail};
+use std::alloc::Global;
+use std::marker::Brand;
+use std::sync::Wait;
+use std::sync::ledger::{Blank, Ledger};
+use std::test::Fail;
+
+/// A send and its receive.
+const STEPS: &str = "\
+0 t1 send 1 7 5 6
+0 t2 recv 2 8
+";
+
+const TRACE: &str = "\
+0 t1 send 1 7 5 6
+= waits
++ sent m0 t1 e1 send 9 7 5 6
++ joins t1 e1.send
+0 t2 recv 2 8
+= got 9 7 5 6
++ took m0 t2
++ parts t1 e1.send
++ turns t1 running
+";
+
+/// What becomes of the seats before a machine is finished.
+#[derive(Clone, Copy, PartialEq, Eq)]
+enum Seats {
+    /// They are all handed in.
+    All,
+    /// One is kept back.
+    NotOne,
+    /// They were never given.
+    NeverGiven,
+}
+
+/// Enters the steps of a book, and compares the answers.
+fn enter_steps<G: Ledger, R: Wait>(
+    rt: &R,
+    alloc: Global,
+    machine: &Machine<G, LinkedLines>,
+    seat: &mut CoreSeat<G>,
+    book: &Book,
+) -> Result<(), Fail> {
+    for i in 1..book.lines() {
+        let line = book.line(i).ok_or("a line of the book")?;
+        let step = line.step(alloc)?;
+        let answer = line.answer(alloc)?;
+        match machine.enter(rt, alloc, seat, step.thread, step.entry) {
+            Ok(told) if told.line == i && told.answer.is_same(&answer) => {}
+            _ => return Err(Fail::from("the entry is let in as its line")),
+        }
+    }
+    Ok(())
+}
+
+/// Enters the steps of a book on a machine with this ledger, and finishes it with this boot and these seats.
+fn finish_steps<G: Ledger, R: Wait>(
+    rt: &R,
+    alloc: Global,
+    blank: Blank,
+    book: &Book,
+    end: (&Boot, Seats),
+) -> Result<Result<Settled<LinkedLines>, FinishFault>, Fail>
+    requires name { blank.name ≡ G.name }
+    requires parts { blank.parts ≡ G.parts }
+    requires sixteen { blank.parts ≡ CORES }
+{
+    let (boot, kept) = end;
+    let begun = boot_of(alloc, book)?;
+    let kernel: Kernel<LinkedLines> = Kernel::new(alloc, &begun)?;
+    let mut machine = Machine::<G, LinkedLines>::new(kernel, blank);
+    if kept == Seats::NeverGiven {
+        return Ok(machine.finish(alloc, boot, Vec::new(alloc)));
+    }
+    let Ok(mut seats) = machine.seats(rt, alloc) else {
+        return Err(Fail::from("seats are given"));
+    };
+    match seats.first_mut() {
+        Some(seat) => enter_steps(rt, alloc, &machine, seat, book)?,
+        None => return Err(Fail::from("there is a seat")),
+    }
+    if kept == Seats::NotOne {
+        let _ = seats.pop();
+    }
+    Ok(machine.finish(alloc, boot, seats))
+}
+
+/// Enters a send and its receive on a machine of one core, and finishes it with the boot of this script and these seats.
+fn finished<R: Wait>(
+    rt: &R,
+    alloc: Global,
+    script: &str,
+    kept: Seats,
+) -> Result<Result<Settled<LinkedLines>, FinishFault>, Fail> {
+    let replay = replay_of(alloc, format!(in alloc; "{ONE_CORE}{STEPS}")?.as_str())?;
+    let other = replay_of(alloc, script)?;
+    let book = replay.book().ok_or("a book")?;
+    let boot = boot_of(alloc, other.book().ok_or("a book")?)?;
+    finish_steps::<Brand, R>(rt, alloc, Blank::new(16), book, (&boot, kept))
+}
+
+/// Whether this message reached a thread: its badge is 9, its label 7, its words 5 and 6.
+fn is_mail(mail: Option<&Mail>) -> bool {
+    match mail {
+        Some(Mail::Message { badge, message }) => {
+            *badge == Badge(9) && message.label() == 7 && message.words() == [5, 6].as_slice()
+        }
+        _ => false,
+    }
+}
+
+#[test]
+fn settles(rt: HostRuntime) -> Result<(), Fail> {
+    let Ok(settled) = finished(&rt, rt.alloc(), ONE_CORE, Seats::All)? else {
+        return Err(Fail::from("the machine settles"));
+    };
+    let want = format!(in rt.alloc(); "{ONE_CORE}{TRACE}")?;
+    assert!(rt; trace_of(rt.alloc(), settled.book())?.as_slice() == want.as_bytes());
+    assert!(rt; is_mail(settled.kernel().mail(thread(2))));
+    Ok(())
+}
+
+#[test]
+fn others_do_not_settle(rt: HostRuntime) -> Result<(), Fail> {
+    let faults = [
+        (ONE_CORE, Seats::NotOne, FinishFault::MissingSeat),
+        (ONE_CORE, Seats::NeverGiven, FinishFault::MissingSeat),
+        (TWO_CORES, Seats::NotOne, FinishFault::MissingSeat),
+        (TWO_CORES, Seats::All, FinishFault::OtherBoot),
+    ];
+    for (i, (script, kept, want)) in faults.into_iter().enumerate() {
+        let ended = finished(&rt, rt.alloc(), script, kept)?.err();
+        assert!(rt; ended == Some(want), "machine {i}");
+    }
+    Ok(())
+}
