@@ -16,7 +16,7 @@ use Rattle.mcs_slots.specs.declared.tallies.Tally.{Tally}
 use Rattle.mcs_slots.specs.Buckets.{bucket_of, falls_in, owns, is_owned}
 use Rattle.mcs_slots.specs.Filling.{filled}
 use Rattle.mcs_slots.specs.Pages.{Page, empty_page, ArePages, HasSlot, slot_at, held}
-use Rattle.mcs_slots.specs.Tallies.{holding, TellsOf, Tells, no_tally, one_less, taken_over, more_by_one, counted, one_more, LetsGo, Counts}
+use Rattle.mcs_slots.specs.Tallies.{holding, TellsOf, Tells, no_tally, one_less, taken_over, more_by_one, counted, one_more, LetsGo, Counts, AreFrom}
 use Rattle.mcs_slots.proofs.SlotLaws.{radix-few, holding-filled, pages-filled, length-filled}
 
 -- one where a test passes
@@ -148,6 +148,10 @@ each-set P (x ∷ xs) (suc k) t here other zero u h = other zero u (λ e. absurd
 each-set P (x ∷ xs) (suc k) t here other (suc b) u h =
     each-set (λ n. P (suc n)) xs k t here (λ n v ne. other (suc n) v (λ e. ne (cc))) b u h
 
+-- where there is a tally is no bucket without one
+not-there : (T : List Tally) (k b : ℕ) (t : Tally) → slice_get T k ≡ None → slice_get T b ≡ Some t → b ≢ k
+not-there T k b t none at e = absurd (let both : None ≡ Some t = sym none ∙ ap (slice_get T) (sym e) ∙ at in cc)
+
 -- a slot lets go of what it held
 let-go : (x : Option Cap) (T U : List Tally) (old new : List Page) → OneMore new x old → Tells T old → LetsGo T x U → Tells U new
 let-go None T U old new less told is b t found =
@@ -157,11 +161,17 @@ let-go None T U old new less told is b t found =
       held = was.held ∙ none-more (is_owned b t.owner) new old None less refl refl;
       total = was.total ∙ none-more (falls_in b) new old None less refl refl;
     }
-let-go (Some cap) T U old new less told is b t found =
-    each-set (TellsOf new) T (bucket_of cap.obj) (one_less cap.obj is.tally)
-    (less-here old new cap is.tally less (told (bucket_of cap.obj) is.tally is.found))
-    (λ n u ne h. less-other old new cap less n u ne (told n u h))
-    b t (ap (λ ts. slice_get ts b) (sym is.is) ∙ found)
+let-go (Some cap) T U old new less told is b t found = go (slice_get T (bucket_of cap.obj)) refl
+  where
+    go : (was : Option Tally) → slice_get T (bucket_of cap.obj) ≡ was → TellsOf new b t
+    go None none =
+        let at : slice_get T b ≡ Some t = ap (λ ts. slice_get ts b) (sym (is.none none)) ∙ found in
+        less-other old new cap less b t (not-there T (bucket_of cap.obj) b t none at) (told b t at)
+    go (Some tally) at =
+        each-set (TellsOf new) T (bucket_of cap.obj) (one_less cap.obj tally)
+        (less-here old new cap tally less (told (bucket_of cap.obj) tally at))
+        (λ n u ne h. less-other old new cap less n u ne (told n u h))
+        b t (ap (λ ts. slice_get ts b) (sym (is.is tally at)) ∙ found)
 
 -- an empty slot gets this
 count : (x : Option Cap) (T U : List Tally) (old new : List Page) → OneMore old x new → ((q : Option Cap → Bool) → holding q new ≤ 16384) → Tells T old → Counts T x U → Tells U new
@@ -172,11 +182,17 @@ count None T U old new more few told is b t found =
       held = was.held ∙ sym (none-more (is_owned b t.owner) old new None more refl refl);
       total = was.total ∙ sym (none-more (falls_in b) old new None more refl refl);
     }
-count (Some cap) T U old new more few told is b t found =
-    each-set (TellsOf new) T (bucket_of cap.obj) (one_more cap.obj is.tally)
-    (counted-here old new cap (taken_over cap.obj is.tally) more few (taken-here old cap.obj is.tally (told (bucket_of cap.obj) is.tally is.found)))
-    (λ n u ne h. more-other old new cap more n u ne (told n u h))
-    b t (ap (λ ts. slice_get ts b) (sym is.is) ∙ found)
+count (Some cap) T U old new more few told is b t found = go (slice_get T (bucket_of cap.obj)) refl
+  where
+    go : (was : Option Tally) → slice_get T (bucket_of cap.obj) ≡ was → TellsOf new b t
+    go None none =
+        let at : slice_get T b ≡ Some t = ap (λ ts. slice_get ts b) (sym (is.none none)) ∙ found in
+        more-other old new cap more b t (not-there T (bucket_of cap.obj) b t none at) (told b t at)
+    go (Some tally) at =
+        each-set (TellsOf new) T (bucket_of cap.obj) (one_more cap.obj tally)
+        (counted-here old new cap (taken_over cap.obj tally) more few (taken-here old cap.obj tally (told (bucket_of cap.obj) tally at)))
+        (λ n u ne h. more-other old new cap more n u ne (told n u h))
+        b t (ap (λ ts. slice_get ts b) (sym (is.is tally at)) ∙ found)
 
 -- what a slot that is filled changes: it is emptied first
 pub filled-told : (S : List Page) (at : SlotId) (cap : Option Cap) (T U V : List Tally) → ArePages S → length S ≤ 64 → HasSlot S at → Tells T S → LetsGo T (slot_at S at.cnode at.index) U → Counts U cap V → Tells V (filled S at cap)
@@ -194,6 +210,10 @@ filled-told S at cap T U V pages few has told less more =
 
     small : (q : Option Cap → Bool) → holding q (filled S at cap) ≤ 16384
     small q = let a = holding-few q (filled S at cap) (pages-filled S at cap pages) in let b = length-filled S at cap in omega (arith, a, b, few)
+
+-- tallies that are from such tell of the same slots
+pub from-told : (T U : List Tally) (S : List Page) → AreFrom U T → Tells T S → Tells U S
+from-told T U S from told b t found = told b t (from b t found)
 
 -- at the beginning nothing is held
 pub empty-told : (T : List Tally) (rs : List ℕ) → All (λ t. t ≡ no_tally) T → Tells T (map empty_page rs)

@@ -3,11 +3,7 @@ use Rattle.std.specs.Prelude.{ℕ, ◌+◌, ◌*◌, ◌%◌, ◌==◌, ◌&&◌
 use Rattle.mcs_types.specs.declared.id.ObjId.{ObjId}
 use Rattle.mcs_types.specs.declared.cap.Cap.{Cap}
 use Rattle.mcs_types.specs.Ids.{kind_number}
-use Rattle.mcs_slots.specs.declared.tallies.TheConstants.{SERIALS, BUCKETS}
-
--- how many there are
-abbrev pub bucket_count : ℕ
-bucket_count = BUCKETS
+use Rattle.mcs_slots.specs.declared.tallies.TheConstants.{SERIALS}
 
 -- the bucket of an object: objects of one kind share it where their serials differ by a multiple of SERIALS
 abbrev pub bucket_of : ObjId → ℕ

@@ -43,11 +43,14 @@ counted o t = record t { held = cond (owns t.owner o) (more_by_one t.held) t.hel
 abbrev pub one_more : ObjId → Tally → Tally
 one_more o t = counted o (taken_over o t)
 
--- the tally of bucket b is changed by f, and no other
+-- the tally of bucket b is changed by f, where there is one, and no other
 pub record Retold (f : Tally → Tally) (b : ℕ) (old new : List Tally) : Type 0 where
-  pub tally : Tally
-  pub found : slice_get old b ≡ Some tally
-  pub is : new ≡ slice_set old b (f tally)
+  pub is : (tally : Tally) → slice_get old b ≡ Some tally → new ≡ slice_set old b (f tally)
+  pub none : slice_get old b ≡ None → new ≡ old
+
+-- each of them is the tally of its bucket
+abbrev pub AreFrom : List Tally → List Tally → Type 0
+AreFrom new old = (b : ℕ) (t : Tally) → slice_get new b ≡ Some t → slice_get old b ≡ Some t
 
 -- a slot let go of what it held
 abbrev pub LetsGo : List Tally → Option Cap → List Tally → Type 0

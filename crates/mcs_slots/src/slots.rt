@@ -245,14 +245,13 @@ impl Slots {
     }
 
     /// How many slots hold a capability to an object. The tally of its bucket tells it; where another object came into the bucket
-    /// first, all slots are looked at (own).
+    /// first, or there is no tally, all slots are looked at (own).
     pub fn count_of(&self, obj: ObjId) -> u32
         ensures { result ≡ held self.now obj }
     {
-        let tally = self.tallies.of_bucket(obj);
-        if tally.owns(obj) {
-            return tally.held();
+        match self.tallies.of_bucket(obj) {
+            Some(tally) if tally.owns(obj) => tally.held(),
+            _ => self.pages.count_of(obj),
         }
-        self.pages.count_of(obj)
     }
 }

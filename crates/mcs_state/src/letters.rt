@@ -1,10 +1,16 @@
 //! Messages that are open.
-ghost use Rattle.std.specs.Prelude.{◌≡◌, ◌∷◌, ◌++◌, [], IfOk, OnOk, IsSome, Some};
+ghost use Rattle.std.specs.Prelude.{◌≡◌, ◌≤◌, IfOk, IsSome, None, Some, length, option_copied, vec_capacity, vec_len};
+ghost use Rattle.mcs_types.specs.declared.id.ObjId.{ObjId};
+ghost use Rattle.mcs_types.specs.declared.id.Kind.{Kind};
+ghost use Rattle.mcs_types.specs.Ids.{IsThread};
+ghost use Rattle.mcs_objects.specs.Places.{KeepsAt, kept_at};
 ghost use Rattle.mcs_book.specs.Statuses.{letter_mail};
 ghost use Rattle.mcs_threads.specs.Tables.{made, row_of, SameRows, SetsMail};
+ghost use Rattle.mcs_state.specs.Tables.{ROOM};
 
+use mcs_objects::{keep, kept_at, take};
 use mcs_threads::Threads;
-use mcs_types::{Letter, Mail, Message, ObjId, OutOfMemory};
+use mcs_types::{Kind, Letter, Mail, Message, OBJECTS, ObjId, OutOfMemory};
 use std::alloc::Global;
 use std::marker::Model;
 
@@ -52,19 +58,6 @@ impl OpenLetter {
     }
 }
 
-/// Adds an open message, or none, to the end.
-fn push(
-    letters: &mut Vec<Option<OpenLetter>>,
-    letter: Option<OpenLetter>,
-) -> Result<(), OutOfMemory>
-    ensures { OnOk result (letters.new.items ≡ letters.old.items ++ letter ∷ []) }
-{
-    match letters.push(letter) {
-        Ok(()) => Ok(()),
-        Err(_) => Err(OutOfMemory),
-    }
-}
-
 /// What is open in a place, once more.
 fn copied(alloc: Global, letter: &Option<OpenLetter>) -> Result<Option<OpenLetter>, OutOfMemory>
     ensures { IfOk result (λ o. o ≡ letter.now) }
@@ -75,19 +68,108 @@ fn copied(alloc: Global, letter: &Option<OpenLetter>) -> Result<Option<OpenLette
     }
 }
 
-/// Open messages like these. OutOfMemory where memory is refused.
-pub fn copy_letters(
+/// The open messages of threads, each in the place of its sender, up to the last sender that there was: a copy is as small. All
+/// memory is taken when they are made. Clauses see the places.
+pub struct Letters {
+    places: Vec<Option<OpenLetter>>,
+}
+
+impl Model for Letters {
+    ghost use Rattle.std.specs.Prelude.{List, Option, ◌≤◌, vec_len, vec_capacity};
+    ghost use Rattle.mcs_types.specs.declared.record.Letter.{Letter};
+    ghost use Rattle.mcs_state.specs.Tables.{ROOM};
+
+    ghost Value = { List (Option Letter) };
+
+    ghost view = { λ l. l.places.items };
+
+    ghost invariant = { λ l. (vec_len l.places ≤ ROOM) × (ROOM ≤ vec_capacity l.places) };
+}
+
+// By hand, so that it is a function of its own: a derived drop would be proved anew wherever a state is let go.
+impl Drop for Letters {
+    fn drop(self) {
+        let Letters { places: _ } = self;
+    }
+}
+
+/// Open messages like these, at most 256, with the room for so many.
+fn copied_places(
     alloc: Global,
-    letters: &[Option<OpenLetter>],
+    places: &[Option<OpenLetter>],
 ) -> Result<Vec<Option<OpenLetter>>, OutOfMemory>
-    ensures { IfOk result (λ v. v.items ≡ letters.now) }
+    requires { length places.now ≤ ROOM }
+    ensures places { IfOk result (λ v. v.items ≡ places.now) }
+    ensures room { IfOk result (λ v. ROOM ≤ vec_capacity v) }
 {
-    let mut copies = Vec::with_capacity(alloc, letters.len())?;
-    for letter in letters {
-        let letter = copied(alloc, letter)?;
-        push(&mut copies, letter)?;
+    let mut copies = Vec::with_capacity(alloc, OBJECTS as usize)?;
+    for place in places {
+        copies.push_reserved(copied(alloc, place)?);
     }
     Ok(copies)
+}
+
+/// So many places or more are there: those that were not have no open message.
+fn make_places(places: &mut Vec<Option<OpenLetter>>, count: usize)
+    requires count { count ≤ ROOM }
+    requires few { vec_len places.old ≤ ROOM }
+    requires room { ROOM ≤ vec_capacity places.old }
+    ensures kept { (x : ObjId)
+        → kept_at Kind.Thread places.new.items x ≡ kept_at Kind.Thread places.old.items x }
+    ensures many { count ≤ length places.new.items }
+    ensures few { vec_len places.new ≤ ROOM }
+    ensures room { ROOM ≤ vec_capacity places.new }
+{
+    for _ in places.len()..count {
+        places.push_reserved(None);
+    }
+}
+
+impl Letters {
+    /// No open message, and the room of all threads.
+    pub fn new(alloc: Global) -> Result<Letters, OutOfMemory>
+        ensures { IfOk result (λ l. (x : ObjId) → kept_at Kind.Thread l x ≡ None) }
+    {
+        Ok(Letters {
+            places: Vec::with_capacity(alloc, OBJECTS as usize)?,
+        })
+    }
+
+    /// Open messages like these. OutOfMemory where memory is refused.
+    pub fn copy(&self, alloc: Global) -> Result<Letters, OutOfMemory>
+        ensures { IfOk result (λ l. l ≡ self.now) }
+    {
+        Ok(Letters {
+            places: copied_places(alloc, &self.places)?,
+        })
+    }
+
+    /// The open message of a thread.
+    pub fn of(&self, thread: ObjId) -> Option<&Letter>
+        ensures { option_copied result ≡ kept_at Kind.Thread self.now thread }
+    {
+        match kept_at(Kind::Thread, &self.places, thread) {
+            None => None,
+            Some(open) => Some(open.letter()),
+        }
+    }
+
+    /// A message of a thread, whose serial is 256 at most, is open.
+    pub fn open(&mut self, sender: ObjId, letter: OpenLetter)
+        requires { IsThread sender }
+        ensures { KeepsAt Kind.Thread self.old self.new sender (Some letter) }
+    {
+        make_places(&mut self.places, sender.serial as usize);
+        keep(Kind::Thread, &mut self.places, sender, Some(letter));
+    }
+
+    /// The open message of a thread, which is open no more; None, and nothing changes, where it has none.
+    pub fn close(&mut self, sender: ObjId) -> Option<OpenLetter>
+        ensures value { result ≡ kept_at Kind.Thread self.old sender }
+        ensures kept { KeepsAt Kind.Thread self.old self.new sender None }
+    {
+        take(Kind::Thread, &mut self.places, sender)
+    }
 }
 
 /// A letter becomes the mail of its receiver, where that is a thread that is there. The answer is an equal message.

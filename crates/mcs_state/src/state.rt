@@ -18,12 +18,11 @@ mod queries;
 mod replying;
 
 use crate::giving::{attend, attended, give};
-use crate::letters::{OpenLetter, copy_letters, deliver};
+use crate::letters::{Letters, OpenLetter, deliver};
 use mcs_book::Book;
 use mcs_contexts::Contexts;
 use mcs_notifications::Notifications;
 use mcs_object_queues::Waiting;
-use mcs_objects::{empty_places, keep, take};
 use mcs_packing::Lent;
 use mcs_replies::Replies;
 use mcs_slots::{SlotId, Slots};
@@ -39,7 +38,7 @@ use std::marker::Model;
 pub struct State<W: Waiting> {
     book: Book,
     threads: Threads,
-    letters: Vec<Option<OpenLetter>>,
+    letters: Letters,
     contexts: Contexts,
     queues: W,
     replies: Replies,
@@ -84,7 +83,7 @@ impl<W: Waiting> Model for State<W> {
     ghost invariant = { λ s. (s.book.room + length s.book.hand ≤ HAND + 1)
         × IsKept (record {
           threads = s.threads;
-          letters = s.letters.items;
+          letters = s.letters;
           contexts = s.contexts;
           queues = record { line = W.line s.queues; queue = W.queue s.queues; has = W.has s.queues; made = W.given s.queues; there = W.there s.queues };
           replies = s.replies;
@@ -110,7 +109,7 @@ impl<W: Waiting> State<W> {
             replies: Replies::new(alloc)?,
             notifications: Notifications::new(alloc)?,
             queues: W::new(alloc)?,
-            letters: empty_places(alloc, OBJECTS)?,
+            letters: Letters::new(alloc)?,
             book: Book::new(alloc, cores),
             sent: 0,
         })
@@ -129,7 +128,7 @@ impl<W: Waiting> State<W> {
             replies: self.replies.copy(alloc)?,
             notifications: self.notifications.copy(alloc)?,
             queues: self.queues.copy(alloc)?,
-            letters: copy_letters(alloc, &self.letters)?,
+            letters: self.letters.copy(alloc)?,
             book: self.book.copy(alloc)?,
             sent: self.sent,
         })
@@ -217,6 +216,8 @@ impl<W: Waiting> State<W> {
     }
 
     /// A thread joins a queue; a receiver names its reply object.
+    // a part of its callers, which know the kind of the queue, as that of `parts`
+    #[inline(always)]
     pub fn joins(&mut self, thread: ObjId, queue: Queue, reply: Option<ObjId>)
         requires allowed { Allowed (so_far self.old) (Rec.Joins thread queue reply) }
         requires room { length self.old.hand + 1 < self.old.room }
@@ -235,6 +236,7 @@ impl<W: Waiting> State<W> {
     }
 
     /// A thread leaves its queue.
+    #[inline(always)]
     pub fn parts(&mut self, thread: ObjId, queue: Queue)
         requires allowed { Allowed (so_far self.old) (Rec.Parts thread queue) }
         requires room { length self.old.hand + 1 < self.old.room }
@@ -286,7 +288,7 @@ impl<W: Waiting> State<W> {
             answer,
         };
         self.sent += 1;
-        keep(Kind::Thread, &mut self.letters, sender, Some(letter));
+        self.letters.open(sender, letter);
     }
 
     /// The open message of a sender, which has this number, is received: it moves to the mail of its receiver. The answer is an
@@ -304,7 +306,7 @@ impl<W: Waiting> State<W> {
             message: number,
             thread: receiver,
         });
-        match take(Kind::Thread, &mut self.letters, sender) {
+        match self.letters.close(sender) {
             None => unreachable!(),
             Some(letter) => deliver(&mut self.threads, receiver, letter),
         }
@@ -318,7 +320,7 @@ impl<W: Waiting> State<W> {
         ensures { self.new ≡ adds (Rec.Dropped number) self.old }
     {
         self.book.note(Rec::Dropped { message: number });
-        take(Kind::Thread, &mut self.letters, sender);
+        self.letters.close(sender);
     }
 
     /// A context is held by this thread now, or by nobody.

@@ -26,7 +26,6 @@ use super::State;
 use crate::giving::attended;
 use mcs_cspace::{lookup, lookup_slot, radix_in};
 use mcs_object_queues::Waiting;
-use mcs_objects::kept_at;
 use mcs_slots::SlotId;
 use mcs_threads::Block;
 use mcs_types::{
@@ -179,10 +178,7 @@ impl<W: Waiting> State<W> {
     pub fn letter(&self, thread: ObjId) -> Option<&Letter>
         ensures { option_copied result ≡ open_of (so_far self.now) thread }
     {
-        match kept_at(Kind::Thread, &self.letters, thread) {
-            None => None,
-            Some(open) => Some(open.letter()),
-        }
+        self.letters.of(thread)
     }
 
     /// Each record was allowed when it was made, few threads were made, and the hand has at most as

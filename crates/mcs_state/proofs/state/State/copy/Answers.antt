@@ -5,7 +5,7 @@ pub invariant_of-result : goal.invariant_of-result
 invariant_of-result g c =
     let kept = c.self.invariant.1 in
     let queues = c.in_ok-copy-5.ensures in
-    rw (c.in_ok-copy_all.ensures, c.in_ok-copy.ensures, c.in_ok-copy-2.ensures, c.in_ok-copy-3.ensures, c.in_ok-copy-4.ensures, c.in_ok-copy_letters.ensures, c.deref.ensures.value, c.in_ok-copy-6.ensures) (
+    rw (c.in_ok-copy_all.ensures, c.in_ok-copy.ensures, c.in_ok-copy-2.ensures, c.in_ok-copy-3.ensures, c.in_ok-copy-4.ensures, c.in_ok-copy-6.ensures, c.in_ok-copy-7.ensures) (
       c.self.invariant.0,
       record {
         few = kept.few;

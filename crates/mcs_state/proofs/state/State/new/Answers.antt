@@ -1,5 +1,4 @@
 use Rattle.std.proofs.Common.{refl, length, ap, arith}
-use Rattle.mcs_types.specs.declared.id.Kind.TheVariants as kind
 use Rattle.mcs_book.specs.Logs.{Log}
 use Rattle.mcs_book.specs.History.{log_of}
 use Rattle.mcs_state.proofs.Opening.{blank-kept, log-empty}
@@ -7,14 +6,13 @@ use Rattle.mcs_state.proofs.state.State.new.Goals as goal
 
 pub invariant_of-result : goal.invariant_of-result
 invariant_of-result g c = (
-  omega (arith, c.new-7.ensures.room, ap (λ (h : Log). length h) c.new-7.ensures.hand),
-  rw (c.new-7.ensures.hand, ap (λ ls. length ls) c.new-7.ensures.lines)
-      (blank-kept _ (log_of c.new-7.result.book) (log-empty c.new-7.result.book c.new-7.ensures.boot c.new-7.ensures.lines) (record {
+  omega (arith, c.new-8.ensures.room, ap (λ (h : Log). length h) c.new-8.ensures.hand),
+  rw (c.new-8.ensures.hand, ap (λ ls. length ls) c.new-8.ensures.lines)
+      (blank-kept _ (log_of c.new-8.result.book) (log-empty c.new-8.result.book c.new-8.ensures.boot c.new-8.ensures.lines) (record {
         threads = c.in_ok-new-2.ensures.made;
         rows = c.in_ok-new-2.ensures.rows;
         mails = c.in_ok-new-2.ensures.mails;
-        places = c.in_ok-empty_places.ensures.length;
-        letters = c.in_ok-empty_places.ensures.nothing kind.Thread;
+        letters = c.in_ok-new-7.ensures;
         contexts = c.in_ok-new-3.ensures.counts;
         cores = c.in_ok-new-3.ensures.cores;
         holders = c.in_ok-new-3.ensures.holders;

@@ -1,5 +1,5 @@
 use Rattle.mcs_book.specs.Messages.{is_sent}
-use Rattle.mcs_state.proofs.Answering.{counted-le, thread-place}
+use Rattle.mcs_state.proofs.Answering.{counted-le}
 use Rattle.mcs_state.proofs.ThreadLaws.{thread-there}
 use Rattle.mcs_state.proofs.Following.{fewer-lines}
 use Rattle.std.proofs.Common.{refl, arith, ◌∙◌}
@@ -13,15 +13,15 @@ overflow_add-self g c =
     let lines = fewer-lines c.self.view_is c.requires.few in
     omega (arith, c.self.invariant.1.sent.few, c.self.invariant.1.few, all, lines)
 
-pub keep-requires : goal.keep-requires
-keep-requires g c =
+pub open-requires : goal.open-requires
+open-requires g c =
     let ok = inside (rec.Sent c.args.sender c.args.endpoint c.args.mode c.args.badge c.args.message) c.self.view_is c.requires.allowed in
-    thread-place _ c.args.sender c.self.invariant.1.letters.places (c.are_few.ensures c.args.sender (thread-there _ c.self.inside.threads c.args.sender c.self.invariant.1.sound c.self.invariant.1.threads ok.0))
+    (c.are_few.ensures c.args.sender (thread-there _ c.self.inside.threads c.args.sender c.self.invariant.1.sound c.self.invariant.1.threads ok.0))
 
 pub invariant_of-self : goal.invariant_of-self
-invariant_of-self g c = let kept = rw (c.noted.view_is ∙ c.made.ensures, c.self.invariant.1.sent.all) at c.keep.ensures.kept in
+invariant_of-self g c = let kept = rw (c.noted.view_is ∙ c.made.ensures, c.self.invariant.1.sent.all) at c.open.ensures in
     let items = rw c.message.view_is at c.note_sent.ensures.hand in (
       omega (arith, c.self.invariant.0, c.note_sent.ensures.whole),
       follows (rec.Sent c.args.sender c.args.endpoint c.args.mode c.args.badge c.args.message) _ _ _ _ _ _ c.note_sent.ensures.book items (inside-room c.self.view_is c.requires.room c.self.invariant.0) (inside (rec.Sent c.args.sender c.args.endpoint c.args.mode c.args.badge c.args.message) c.self.view_is c.requires.allowed)
-          (record { threads = refl; letters = record { places = c.keep.ensures.places; letters = kept }; contexts = refl; queues = refl; replies = refl; notifications = refl; slots = refl; sent = refl }) c.self.invariant.1,
+          (record { threads = refl; letters = kept; contexts = refl; queues = refl; replies = refl; notifications = refl; slots = refl; sent = refl }) c.self.invariant.1,
     )
