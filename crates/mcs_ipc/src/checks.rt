@@ -10,7 +10,7 @@ use mcs_notify::may_wait;
 use mcs_object_queues::Waiting;
 use mcs_slots::takes_badge;
 use mcs_state::{State, find_object, of_kind, with_read, with_write};
-use mcs_types::{Cap, Kind, ObjId, Refusal};
+use mcs_types::{Cap, Guard, Kind, ObjId, Refusal};
 
 /// What a thread sends over: an endpoint or a notification, by this capability, or a reply object, which it pays.
 #[derive(Clone, Copy)]
@@ -48,6 +48,25 @@ pub struct Exchange {
     pub source: Source,
 }
 
+/// An equal capability, put together by its fields: so the compiler need not keep the bytes between them.
+#[inline(always)]
+fn by_fields(cap: &Cap) -> Cap
+    ensures { result ≡ cap.now }
+{
+    Cap {
+        obj: ObjId {
+            kind: cap.obj.kind,
+            serial: cap.obj.serial,
+        },
+        rights: cap.rights,
+        badge: cap.badge,
+        guard: Guard {
+            bits: cap.guard.bits,
+            value: cap.guard.value,
+        },
+    }
+}
+
 /// The reply object at an address, where one is named.
 fn find_reply<W: Waiting>(
     state: &State<W>,
@@ -67,6 +86,8 @@ fn find_reply<W: Waiting>(
 }
 
 /// What a thread sends over.
+// a part of its caller, so that the answer of 56 bytes is not put together and read again
+#[inline(always)]
 pub fn target_to_send<W: Waiting>(
     state: &State<W>,
     thread: ObjId,
@@ -78,9 +99,9 @@ pub fn target_to_send<W: Waiting>(
     let cap = state.capability(thread, address)?;
     match cap.obj.kind {
         Kind::Endpoint if !cap.rights.can_write() => Err(Refusal::NoRight),
-        Kind::Endpoint => Ok(Target::Endpoint(cap)),
+        Kind::Endpoint => Ok(Target::Endpoint(by_fields(&cap))),
         Kind::Notification if !cap.rights.can_write() => Err(Refusal::NoRight),
-        Kind::Notification => Ok(Target::Notification(cap)),
+        Kind::Notification => Ok(Target::Notification(by_fields(&cap))),
         Kind::Reply => Ok(Target::Reply(cap.obj)),
         _ => Err(Refusal::WrongKind),
     }
@@ -95,7 +116,8 @@ pub fn cap_to_call<W: Waiting>(
     requires { IsThere (so_far state.now) Kind.Thread thread }
     ensures { result ≡ callable (so_far state.now) thread address }
 {
-    with_write(of_kind(state.capability(thread, address), Kind::Endpoint))
+    let cap = with_write(of_kind(state.capability(thread, address), Kind::Endpoint))?;
+    Ok(by_fields(&cap))
 }
 
 /// The endpoint of a capability, and the reply object at an address, where one is named.

@@ -63,6 +63,8 @@ fn give<W: Waiting>(state: &mut State<W>, sender: ObjId, receiver: ObjId)
 /// What becomes of the sender of a message that is taken: a caller is owed an answer, or is inactive where nobody can answer
 /// it; after a plain send a sender that stood in a queue runs again; a sender that gives its context parts with it (manual: Message
 /// Passing; own).
+// a part of its callers, which know whether the sender stood in a queue
+#[inline(always)]
 fn settle<W: Waiting>(
     state: &mut State<W>,
     mode: SendMode,
@@ -116,6 +118,8 @@ pub fn hand<W: Waiting>(state: &mut State<W>, delivery: Delivery, receiver: ObjI
 
 /// Takes the open message of the first sender for a thread that receives with a reply object, or without one. The answer is an
 /// equal message.
+// a part of its caller, so that the message is moved once less
+#[inline(always)]
 pub fn take<W: Waiting>(
     state: &mut State<W>,
     delivery: Delivery,

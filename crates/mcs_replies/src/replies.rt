@@ -257,6 +257,8 @@ impl Replies {
     /// The debt of a reply object becomes void. Deleted, a reply object leaves its chain as if it had paid; cancelled, it and all
     /// below leave it, also from the top. None, and nothing changes, where it owes nobody (manual: Message Passing; chains are
     /// own).
+    // a part of its callers, which know how the debt ends
+    #[inline(always)]
     pub fn void(&mut self, reply: ObjId, how: Ending) -> Option<Ended>
         ensures caller { option_map (λ e. e.caller) result ≡ owed_in self.old reply }
         ensures topped { IfSome result (λ e. NamesTopped self.old reply e.topped) }

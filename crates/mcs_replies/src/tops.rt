@@ -164,6 +164,8 @@ impl Tops {
     }
 
     /// Another top of the chain of a context, or none. There is room for one, unless it has one.
+    // a part of its callers, which know whether there is one
+    #[inline(always)]
     pub(crate) fn move_to(&mut self, context: ObjId, top: Option<PlaceNo>)
         requires { IsSome top → top_at self.old context ≡ None
             → length self.old.others < object_limit }

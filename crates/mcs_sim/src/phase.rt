@@ -61,6 +61,8 @@ impl StepRun {
     }
 
     /// Takes a step.
+    // out of line, since with it each line that is read would save and clear its registers and locals
+    #[inline(never)]
     #[tactic(auto, unfolding(crate::specs::Going::stepped))]
     fn take(&mut self, alloc: Global, step: &Step) -> Result<(), SimFault>
         ensures takes { ComesOf (λ u. self.new) result (stepped self.old step.now) }

@@ -130,6 +130,8 @@ impl Line {
     }
 
     /// The words of an entry that copies a capability: where from, where to, and rights.
+    // a part of its callers, as a place of its own is: so the places need not go through memory
+    #[inline(always)]
     fn copied(&mut self, from: Entrant, key: Key, places: (Place, Place), rights: Rights)
         requires { HasRoom self.old COPIED }
         ensures { Adds self.old self.new COPIED

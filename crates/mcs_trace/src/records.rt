@@ -32,6 +32,8 @@ pub fn words_at(words: &[u64], at: u32, len: u8) -> &[u64]
 }
 
 /// The line of a slot.
+// a part of its callers, which know of a capability which fields are 0
+#[inline(always)]
 fn write_slot(line: &mut Line, cnode: u32, index: u8, cap: Option<Cap>)
     requires { HasRoom line.old LINE }
     ensures { line.new ≡ line.old ++ record_text 0 (Rec.Slot (object Kind.CNode cnode) index cap) }

@@ -67,6 +67,7 @@ impl Line {
     }
 
     /// A place: an index and a depth.
+    #[inline(always)]
     pub fn place(&mut self, place: Place)
         requires { HasRoom self.old PLACE }
         ensures { Adds self.old self.new PLACE (place_text place) }
@@ -153,6 +154,7 @@ impl Line {
     }
 
     /// A capability.
+    #[inline(always)]
     pub fn cap(&mut self, cap: &Cap)
         requires { HasRoom self.old CAP }
         ensures { Adds self.old self.new CAP (cap_text cap.now) }
