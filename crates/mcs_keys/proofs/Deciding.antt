@@ -1,5 +1,5 @@
 -- States with equal rows are alike.
-use Rattle.std.specs.Prelude.{ℕ, true, zero, suc, ◌+◌, ◌-◌, ◌≡◌, ◌<◌, ◌≤◌, List, [], ◌∷◌, ◌++◌, Some, length, slice_get}
+use Rattle.std.specs.Prelude.{ℕ, true, zero, suc, ◌+◌, ◌-◌, ◌≡◌, ◌<◌, ◌≤◌, List, [], ◌∷◌, ◌++◌, Option, Some, length, slice_get}
 use Rattle.std.proofs.Common.{refl, ap, sym, ◌∙◌, subst, arith}
 use Rattle.mcs_types.specs.declared.id.ObjId.{ObjId}
 use Rattle.mcs_types.specs.declared.id.Kind.{Kind}
@@ -22,14 +22,18 @@ use Rattle.mcs_book.proofs.SoundLogs.SoundBooks.{legal-sound}
 use Rattle.mcs_state.specs.Questions.{word_of}
 use Rattle.mcs_state.specs.Saying.{row_said}
 use Rattle.mcs_state.specs.Tables.{core_said}
-use Rattle.mcs_turns.specs.Turns.{User, Going, AreInRange}
+use Rattle.mcs_turns.specs.declared.position.Pick.{Pick}
+use Rattle.mcs_turns.specs.Due.{choices}
+use Rattle.mcs_turns.specs.Turns.{User, Going, ArePicks, AreInRange}
+use Rattle.mcs_turns.proofs.Choices.{length-choices}
 use Rattle.mcs_turns.proofs.RunLaws.{run-legal, run-long}
 use Rattle.mcs_alike.specs.Answers.{IsMade, AnswerAlike}
 use Rattle.mcs_alike.proofs.Answering.{answers-alike}
 use Rattle.mcs_alike.proofs.Asked.{answer-all}
-use Rattle.mcs_like_runs.specs.Runs.{IsReached, AreAlike}
+use Rattle.mcs_like_runs.specs.Runs.{IsReached, AreClose, AreAlike}
+use Rattle.mcs_like_runs.proofs.Alikes.{picks-there}
 use Rattle.mcs_keys.specs.Numbers.{one, option_numbers, list_numbers, below, id_numbers, cap_numbers, row_numbers, letter_numbers}
-use Rattle.mcs_keys.specs.Rows.{object_at, core_numbers, kind_numbers, object_numbers, count_numbers, rows_of_kind, object_rows, position_numbers, pick_numbers, rows_of, slots_numbers}
+use Rattle.mcs_keys.specs.Rows.{object_at, core_numbers, kind_numbers, object_numbers, count_numbers, rows_of_kind, object_rows, position_numbers, pick_numbers, place_numbers, choice_numbers, HaveSameRows, rows_of, slots_numbers}
 use Rattle.mcs_keys.proofs.Telling.{parted, Tells, one-told, flag-told, option-told, list-told, below-told, row-told, id-told, cap-told, thread-told, letter-told}
 
 -- whole rows tell what they are of, with nothing behind them
@@ -194,25 +198,52 @@ same-told f t xs ys n left right is =
     let each = below-told (option_numbers f) (option-told f t) (slice_get xs) (slice_get ys) n [] [] (ap (λ l. l ++ []) is) in
     same-places xs ys (left ∙ sym right) (λ i k. each.0 i (subst (λ m. i < m) left k))
 
--- two runs of one boot and users that have equal rows are alike
-pub rows-alike : (users : List User) (boot : Boot) → IsFaultless boot → AreInRange users → (g h : Going) → IsReached users boot g → IsReached users boot h → rows_of users g ≡ rows_of users h → AreAlike users boot g h
-rows-alike users boot whole range g h left right rows =
+-- the parts of equal rows
+record SameParts (users : List User) (g h : Going) (ks js : List (Option Pick)) : Type 0 where
+  pub counts : count_numbers (log_of g.book) ≡ count_numbers (log_of h.book)
+  pub places : place_numbers users g ≡ place_numbers users h
+  pub choices : choice_numbers g ks ≡ choice_numbers h js
+  pub objects : object_rows (log_of g.book) ≡ object_rows (log_of h.book)
+
+same-parts : (users : List User) (g h : Going) (ks js : List (Option Pick)) → rows_of users g ks ≡ rows_of users h js → SameParts users g h ks js
+same-parts users g h ks js rows =
     let counts = parted _ _ _ _ rows in
     let places = parted _ _ _ _ counts.1 in
-    let stale = parted _ _ _ _ places.1 in
-    let long = run-long users boot left.turns g left.run in
-    let wide = run-long users boot right.turns h right.run in
-    let one_sound : Sound (log_of g.book) = legal-sound g.book (run-legal users boot whole range left.turns g left.run) in
-    let other_sound : Sound (log_of h.book) = legal-sound h.book (run-legal users boot whole range right.turns h right.run) in
-    let same = same-rows (log_of g.book) (log_of h.book) counts.0 stale.1 in
-    record {
-      left = left;
-      right = right;
-      logs = answers-alike (log_of g.book) (log_of h.book) one_sound other_sound (answer-all (log_of g.book) (log_of h.book) one_sound other_sound (answer (log_of g.book) (log_of h.book) one_sound same));
-      places = same-told position_numbers position-told g.places h.places (length users) long.places wide.places places.0;
-      stale = same-told (list_numbers pick_numbers) (list-told pick_numbers pick-told) g.stale h.stale boot.cores long.stale wide.stale
-          (ap (λ (b : Boot). stale-below g b.cores) (sym long.kept) ∙ stale.0 ∙ ap (λ (b : Boot). stale-below h b.cores) wide.kept);
-    }
-  where
-    stale-below : Going → ℕ → List ℕ
-    stale-below g n = below (λ i. option_numbers (list_numbers pick_numbers) (slice_get g.stale i)) n
+    let choices = parted _ _ _ _ places.1 in
+    record { counts = counts.0; places = places.0; choices = choices.0; objects = choices.1 }
+
+-- two runs of one boot and users that have equal rows are alike
+module _ (users : List User) (boot : Boot) (whole : IsFaultless boot) (range : AreInRange users) (g h : Going) (left : IsReached users boot g) (right : IsReached users boot h) (rows : HaveSameRows users g h) where
+  parts : (ks js : List (Option Pick)) → ArePicks users g ks → ArePicks users h js → SameParts users g h ks js
+  parts ks js are bre = same-parts users g h ks js ((rows.so ks are).so js bre)
+
+  some : SameParts users g h rows.picks (rows.so rows.picks rows.are).picks
+  some = let other = rows.so rows.picks rows.are in parts rows.picks other.picks rows.are other.are
+
+  close : AreClose users boot g h
+  close =
+      let long = run-long users boot left.turns g left.run in
+      let wide = run-long users boot right.turns h right.run in
+      let one_sound : Sound (log_of g.book) = legal-sound g.book (run-legal users boot whole range left.turns g left.run) in
+      let other_sound : Sound (log_of h.book) = legal-sound h.book (run-legal users boot whole range right.turns h right.run) in
+      let same = same-rows (log_of g.book) (log_of h.book) some.counts some.objects in
+      record {
+        left = left;
+        right = right;
+        logs = answers-alike (log_of g.book) (log_of h.book) one_sound other_sound (answer-all (log_of g.book) (log_of h.book) one_sound other_sound (answer (log_of g.book) (log_of h.book) one_sound same));
+        places = same-told position_numbers position-told g.places h.places (length users) long.places wide.places some.places;
+      }
+
+  same-choices : (ks : List (Option Pick)) → ArePicks users g ks → choices ks g.stale ≡ choices ks h.stale
+  same-choices ks are =
+      let long = run-long users boot left.turns g left.run in
+      let wide = run-long users boot right.turns h right.run in
+      let both = parts ks ks are (picks-there users boot g h close ks are) in
+      same-told (list_numbers pick_numbers) (list-told pick_numbers pick-told) (choices ks g.stale) (choices ks h.stale) boot.cores (length-choices ks g.stale ∙ long.stale) (length-choices ks h.stale ∙ wide.stale)
+      (ap (λ (b : Boot). below (λ i. option_numbers (list_numbers pick_numbers) (slice_get (choices ks g.stale) i)) b.cores) (sym long.kept) ∙ both.choices ∙ ap (λ (b : Boot). below (λ i. option_numbers (list_numbers pick_numbers) (slice_get (choices ks h.stale) i)) b.cores) wide.kept)
+
+pub rows-alike : (users : List User) (boot : Boot) → IsFaultless boot → AreInRange users → (g h : Going) → IsReached users boot g → IsReached users boot h → HaveSameRows users g h → AreAlike users boot g h
+rows-alike users boot whole range g h left right rows = record {
+  close = close users boot whole range g h left right rows;
+  choices = same-choices users boot whole range g h left right rows;
+}

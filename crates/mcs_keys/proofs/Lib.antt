@@ -1,3 +1,4 @@
 pub mod Deciding
 pub mod Naming
 mod Telling
+mod Choosing

@@ -10,7 +10,8 @@ use Rattle.mcs_types.specs.declared.id.ObjId.{ObjId}
 use Rattle.mcs_book.specs.Logs.{Log}
 use Rattle.mcs_book.specs.Slots.{slot}
 use Rattle.mcs_keys.specs.Numbers.{below, cap_numbers, option_numbers}
-use Rattle.mcs_keys.specs.Rows.{slots_numbers}
+use Rattle.mcs_turns.specs.Turns.{User, Going}
+use Rattle.mcs_keys.specs.Rows.{HaveSameRows, IsKey, rows_of, slots_numbers}
 use Rattle.mcs_keys.specs.Naming.{Adds, Keeps, Names}
 
 -- what stands in a list stands in a longer one
@@ -54,6 +55,26 @@ names-one met ns rows others h k = somes rows others (sym h ∙ k)
         let first : x ≡ y = cc in
         let rest : map (λ (z : List ℕ). Some z) xs ≡ map (λ (z : List ℕ). Some z) ys = cc in
         ap (λ z. z ∷ xs) first ∙ ap (λ zs. y ∷ zs) (somes xs ys rest)
+
+-- a key stays one when more rows were met
+pub key-kept : (old new : List (List ℕ)) (users : List User) (g : Going) (ns : List ℕ) → Keeps old new → IsKey old users g ns → IsKey new users g ns
+key-kept old new users g ns k is = record {
+  picks = is.picks;
+  are = is.are;
+  so = λ ks are. names-kept old new ns (rows_of users g ks) k (is.so ks are);
+}
+
+-- states with one key have equal rows
+pub key-one : (met : List (List ℕ)) (users : List User) (g h : Going) (ns : List ℕ) → IsKey met users g ns → IsKey met users h ns → HaveSameRows users g h
+key-one met users g h ns a b = record {
+  picks = a.picks;
+  are = a.are;
+  so = λ ks are. record {
+    picks = b.picks;
+    are = b.are;
+    so = λ js bre. names-one met ns (rows_of users g ks) (rows_of users h js) (a.so ks are) (b.so js bre);
+  };
+}
 
 -- the numbers of a row
 abbrev pub items_of : {S : Type 0} → Vec ℕ S → List ℕ

@@ -1,5 +1,5 @@
 -- The rows of a state: all that decides what a run can do from there on (own).
-use Rattle.std.specs.Prelude.{ℕ, ◌+◌, List, [], ◌∷◌, ◌++◌, length, slice_get}
+use Rattle.std.specs.Prelude.{ℕ, ◌+◌, ◌≡◌, List, [], ◌∷◌, ◌++◌, Option, length, slice_get}
 use Rattle.mcs_types.specs.declared.id.ObjId.{ObjId}
 use Rattle.mcs_types.specs.declared.id.CoreId.{CoreId}
 use Rattle.mcs_types.specs.declared.id.Kind.{Kind}
@@ -20,7 +20,8 @@ use Rattle.mcs_state.specs.Saying.{row_said}
 use Rattle.mcs_state.specs.Tables.{core_said}
 use Rattle.mcs_turns.specs.declared.position.Position.{Position}
 use Rattle.mcs_turns.specs.declared.position.Pick.{Pick}
-use Rattle.mcs_turns.specs.Turns.{User, Going}
+use Rattle.mcs_turns.specs.Due.{choices, with_any_pick}
+use Rattle.mcs_turns.specs.Turns.{User, Going, ArePicks}
 use Rattle.mcs_keys.specs.Naming.{Names}
 use Rattle.mcs_keys.specs.Numbers.{one, flag_number, option_numbers, list_numbers, below, id_numbers, cap_numbers, row_numbers, letter_numbers}
 
@@ -99,14 +100,28 @@ pick_numbers k = k.user ∷ k.number ∷ []
 abbrev pub place_numbers : List User → Going → List ℕ
 place_numbers users g = below (λ i. option_numbers position_numbers (slice_get g.places i)) (length users)
 
--- the stale picks of each core
-abbrev pub stale_numbers : Going → List ℕ
-stale_numbers g = below (λ i. option_numbers (list_numbers pick_numbers) (slice_get g.stale i)) g.book.boot.cores
+-- what a core may enter that has this pick, with its stale picks
+abbrev pub choice_list_numbers : Option Pick → List Pick → List ℕ
+choice_list_numbers pick stale = list_numbers pick_numbers (with_any_pick pick stale)
 
--- the rows of a state of users
-abbrev pub rows_of : List User → Going → List (List ℕ)
-rows_of users g = count_numbers (log_of g.book) ∷ place_numbers users g ∷ stale_numbers g ∷ object_rows (log_of g.book)
+-- what each core may enter, where the cores have these picks
+abbrev pub choice_numbers : Going → List (Option Pick) → List ℕ
+choice_numbers g picks = below (λ i. option_numbers (list_numbers pick_numbers) (slice_get (choices picks g.stale) i)) g.book.boot.cores
+
+-- the rows of a state of users, where the cores have these picks
+abbrev pub rows_of : List User → Going → List (Option Pick) → List (List ℕ)
+rows_of users g picks = count_numbers (log_of g.book) ∷ place_numbers users g ∷ choice_numbers g picks ∷ object_rows (log_of g.book)
+
+-- the cores of a state have picks, and for all that they have holds a fact
+pub record OfPicks (users : List User) (g : Going) (IsSo : List (Option Pick) → Type 0) : Type 0 where
+  pub picks : List (Option Pick)
+  pub are : ArePicks users g picks
+  pub so : (ks : List (Option Pick)) → ArePicks users g ks → IsSo ks
+
+-- two states have equal rows
+abbrev pub HaveSameRows : List User → Going → Going → Type 0
+HaveSameRows users g h = OfPicks users g (λ ks. OfPicks users h (λ js. rows_of users g ks ≡ rows_of users h js))
 
 -- the numbers of a key name the rows of a state, among those that were met
 abbrev pub IsKey : List (List ℕ) → List User → Going → List ℕ → Type 0
-IsKey met users g numbers = Names met numbers (rows_of users g)
+IsKey met users g numbers = OfPicks users g (λ ks. Names met numbers (rows_of users g ks))

@@ -5,7 +5,8 @@ ghost use Rattle.mcs_book.specs.Queues.{queued_in};
 ghost use Rattle.mcs_book.specs.Chains.{chain_of};
 ghost use Rattle.mcs_keys.specs.Naming.{Adds, Keeps};
 ghost use Rattle.mcs_keys.specs.Numbers.{one, list_numbers, option_numbers, id_numbers, letter_numbers, row_numbers, cap_numbers};
-ghost use Rattle.mcs_keys.specs.Rows.{cnode_numbers, context_numbers, core_numbers, count_numbers, endpoint_numbers, kind_numbers, notification_numbers, object_numbers, object_rows, pick_numbers, place_numbers, position_numbers, rows_of_kind, IsKey, slots_numbers, stale_numbers, thread_numbers};
+ghost use Rattle.mcs_keys.specs.Rows.{cnode_numbers, context_numbers, core_numbers, count_numbers, endpoint_numbers, kind_numbers, notification_numbers, object_numbers, object_rows, pick_numbers, place_numbers, position_numbers, rows_of_kind, IsKey, slots_numbers, choice_list_numbers, choice_numbers, thread_numbers};
+ghost use Rattle.mcs_turns.specs.Turns.{ArePicks};
 
 use crate::met::{Key, Met};
 use crate::numbers::{Row, put, put_any_id, put_cap, put_flag, put_id, put_letter, put_thread};
@@ -14,7 +15,7 @@ use mcs_queues::Lines;
 use mcs_threads::ThreadRow;
 use mcs_turns::{Pick, Position};
 use mcs_types::{Cap, CoreId, Kind, Letter, ObjId, OutOfMemory, Queue};
-use mcs_walks::{Picks, Users, Walk};
+use mcs_walks::{Picks, Users, Walk, picked};
 use std::alloc::{AllocError, Global};
 
 /// Adds the threads of a queue, first to last.
@@ -261,18 +262,25 @@ fn put_any_position(row: &mut Row, position: Option<Position>) -> Result<(), All
     }
 }
 
-/// Adds the stale picks of a core, if there is one.
-fn put_any_picks(row: &mut Row, picks: Option<&Picks>) -> Result<(), AllocError>
+/// Adds what a core may enter, where it has this pick, if there are stale picks of it.
+fn put_any_choices(
+    alloc: Global,
+    row: &mut Row,
+    pick: Option<Pick>,
+    stale: Option<&Picks>,
+) -> Result<(), OutOfMemory>
     ensures { OnOk result (row.new.items
-        ≡ row.old.items ++ option_numbers (list_numbers pick_numbers) (option_copied picks.entry)) }
+        ≡ row.old.items ++ option_numbers (choice_list_numbers pick) (option_copied stale.entry)) }
 {
-    match picks {
-        Some(picks) => {
+    match stale {
+        Some(stale) => {
             put(row, 1)?;
-            put_picks(row, picks.as_slice())
+            let choices = stale.with(alloc, pick)?;
+            put_picks(row, choices.as_slice())?;
         }
-        None => put(row, 0),
+        None => put(row, 0)?,
     }
+    Ok(())
 }
 
 /// The row of the positions of users.
@@ -286,13 +294,18 @@ fn place_row<L: Lines>(alloc: Global, users: &Users, walk: &Walk<L>) -> Result<R
     Ok(row)
 }
 
-/// The row of the stale picks of each core.
-fn stale_row<L: Lines>(alloc: Global, walk: &Walk<L>) -> Result<Row, AllocError>
-    ensures { IfOk result (λ r. r.items ≡ stale_numbers walk.now) }
+/// The row of what each core may enter, where the cores have these picks.
+fn choice_row<L: Lines>(
+    alloc: Global,
+    walk: &Walk<L>,
+    picks: &[Option<Pick>],
+) -> Result<Row, OutOfMemory>
+    ensures { IfOk result (λ r. r.items ≡ choice_numbers walk.now picks.now) }
 {
     let mut row = Vec::new(alloc);
     for core in 0..walk.kernel().book().cores() {
-        put_any_picks(&mut row, walk.stale(CoreId(core)))?;
+        let pick = picked(picks, core as usize);
+        put_any_choices(alloc, &mut row, pick, walk.stale(CoreId(core)))?;
     }
     Ok(row)
 }
@@ -340,24 +353,28 @@ fn put_objects<L: Lines>(
     Ok(())
 }
 
-/// The key of a state: its rows, each a number among those that were met.
+/// The key of a state, in which the cores have these picks: its rows, each a number among those that were met.
 pub fn exact_key<L: Lines>(
     alloc: Global,
     met: &mut Met,
     users: &Users,
     walk: &Walk<L>,
+    picks: &[Option<Pick>],
 ) -> Result<Key, OutOfMemory>
+    requires { ArePicks users.now walk.now picks.now }
     ensures key { IfOk result (λ k. IsKey met.new users.now walk.now k.items) }
     ensures kept { Keeps met.old met.new }
 {
+    // A law for the proof: the cores have these picks alone.
+    users.are_apart();
     let kernel = walk.kernel();
     let mut key = Vec::new(alloc);
     let counts = count_row(alloc, kernel)?;
     met.put(&mut key, counts)?;
     let places = place_row(alloc, users, walk)?;
     met.put(&mut key, places)?;
-    let stale = stale_row(alloc, walk)?;
-    met.put(&mut key, stale)?;
+    let choices = choice_row(alloc, walk, picks)?;
+    met.put(&mut key, choices)?;
     put_objects(alloc, met, &mut key, kernel)?;
     Ok(key)
 }

@@ -1,6 +1,7 @@
 //! The keys of states: two states with one key have the same future.
 ghost use Rattle.std.specs.Prelude.{◌≡◌, [], true, length, IfOk};
 ghost use Rattle.mcs_keys.specs.Naming.{Keeps};
+ghost use Rattle.mcs_turns.specs.Turns.{ArePicks};
 ghost use Rattle.mcs_keys.specs.Rows.{IsKey};
 
 use crate::exact::exact_key;
@@ -12,7 +13,7 @@ use mcs_kernel::{Boot, Kernel};
 use mcs_queues::Lines;
 use mcs_turns::Pick;
 use mcs_types::{CoreId, Entry, Kind, ObjId};
-use mcs_walks::{OrdersFault, Users, Walk};
+use mcs_walks::{OrdersFault, Users, Walk, picked};
 use std::alloc::Global;
 use std::marker::Model;
 
@@ -171,7 +172,7 @@ impl Keys {
     ) -> Result<Row, OrdersFault> {
         let mut row = Vec::new(self.alloc);
         for core in 0..walk.kernel().book().cores() {
-            let pick = picks.get(core as usize).copied().flatten();
+            let pick = picked(picks, core as usize);
             put_stale(&mut row, walk, CoreId(core), pick)?;
         }
         Ok(row)
@@ -217,13 +218,14 @@ impl Keys {
         walk: &Walk<L>,
         picks: &[Option<Pick>],
     ) -> Result<Key, OrdersFault>
+        requires { ArePicks users.now walk.now picks.now }
         ensures exact { self.old.is_exact ≡ true
             → IfOk result (λ k. IsKey self.new.met users.now walk.now k.items) }
         ensures kept { Keeps self.old.met self.new.met }
         ensures mode { self.new.is_exact ≡ self.old.is_exact }
     {
         if self.is_exact {
-            let key = exact_key(self.alloc, &mut self.met, users, walk)?;
+            let key = exact_key(self.alloc, &mut self.met, users, walk, picks)?;
             return Ok(key);
         }
         self.canonical_key(users, walk, picks)

@@ -1,10 +1,10 @@
 //! What keys decide (own). Each law is one of definitions, and its function does nothing.
-ghost use Rattle.std.specs.Prelude.{ℕ, List, ◌≡◌};
+ghost use Rattle.std.specs.Prelude.{ℕ, List};
 ghost use Rattle.mcs_book.specs.Boots.{Boot, IsFaultless};
 ghost use Rattle.mcs_turns.specs.Turns.{User, Going, AreInRange};
 ghost use Rattle.mcs_like_runs.specs.Runs.{IsReached, AreAlike};
 ghost use Rattle.mcs_keys.specs.Naming.{Keeps};
-ghost use Rattle.mcs_keys.specs.Rows.{IsKey, rows_of};
+ghost use Rattle.mcs_keys.specs.Rows.{HaveSameRows, IsKey};
 
 /// Two runs (at.2, at.3) of users (at.0) after a boot without fault (at.1) are alike where they have equal rows.
 pub fn rows_decide()
@@ -13,7 +13,7 @@ pub fn rows_decide()
     requires in_range { AreInRange at.0 }
     requires left { IsReached at.0 at.1 at.2 }
     requires right { IsReached at.0 at.1 at.3 }
-    requires rows { rows_of at.0 at.2 ≡ rows_of at.0 at.3 }
+    requires rows { HaveSameRows at.0 at.2 at.3 }
     ensures { AreAlike at.0 at.1 at.2 at.3 }
 {}
 

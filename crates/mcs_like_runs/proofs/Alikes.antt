@@ -15,8 +15,9 @@ use Rattle.mcs_book.proofs.SoundLogs.SoundBooks.{legal-sound}
 use Rattle.mcs_state.proofs.Picking.{entrant-there}
 use Rattle.mcs_turns.specs.declared.position.Position.{Position}
 use Rattle.mcs_turns.specs.declared.position.Pick.{Pick}
-use Rattle.mcs_turns.specs.Due.{due_by, stale_after}
+use Rattle.mcs_turns.specs.Due.{choices, due_by}
 use Rattle.mcs_turns.specs.Turns.{User, Going, CanGive, IsBest, IsPickOf, ArePicks, IsStale, IsTurn, Follows, IsOver, AreInRange, outcome, behind, entered, put_at}
+use Rattle.mcs_turns.proofs.Choices.{IsOneOf, choice-in, choice-out, stale-same}
 use Rattle.mcs_turns.proofs.RunLaws.{run-legal, run-long}
 use Rattle.mcs_alike.specs.Alike.{Alike}
 use Rattle.mcs_alike.proofs.Asking.{status-same}
@@ -25,9 +26,9 @@ use Rattle.mcs_alike.proofs.Entries.{entry-same}
 use Rattle.mcs_alike.proofs.Books.{line-alike}
 use Rattle.mcs_alike.proofs.Going.{alike-on}
 use Rattle.mcs_explore.specs.Closure.{IsLikeness}
-use Rattle.mcs_like_runs.specs.Runs.{IsReached, AreAlike}
+use Rattle.mcs_like_runs.specs.Runs.{IsReached, AreClose, AreAlike}
 
-module _ (users : List User) (boot : Boot) (g h : Going) (a : AreAlike users boot g h) where
+module _ (users : List User) (boot : Boot) (g h : Going) (a : AreClose users boot g h) where
   R : Log
   R = log_of g.book
 
@@ -80,13 +81,6 @@ module _ (users : List User) (boot : Boot) (g h : Going) (a : AreAlike users boo
     each = λ core k at. pick-there core k (ps.each core k at);
   }
 
-  stale-there : (core : CoreId) (k : Pick) → IsStale g core k → IsStale h core k
-  stale-there core k s = record {
-    picks = s.picks;
-    stale = subst (λ ss. slice_get ss core.0 ≡ Some s.picks) a.stale s.stale;
-    among = s.among;
-  }
-
   pub over-there : IsOver users g → IsOver users h
   over-there over = λ core few. pick-there core None (over core (subst (λ n. core.0 < n) (sym cores) few))
 
@@ -102,6 +96,9 @@ module _ (users : List User) (boot : Boot) (whole : IsFaultless boot) (range : A
     abbrev then_h : Going
     then_h = entered turn.picks turn.user step k h
 
+    c : AreClose users boot g h
+    c = a.close
+
     other : IsTurn users core k h then_h
     other = record {
       user = turn.user;
@@ -109,37 +106,43 @@ module _ (users : List User) (boot : Boot) (whole : IsFaultless boot) (range : A
       picks = turn.picks;
       is_user = turn.is_user;
       is_entry = turn.is_entry;
-      are_picks = picks-there users boot g h a turn.picks turn.are_picks;
+      are_picks = picks-there users boot g h c turn.picks turn.are_picks;
       picked = go turn.picked;
-      enters = sym (may_enter-same (log_of g.book) (log_of h.book) a.logs core turn.user.thread) ∙ turn.enters;
+      enters = sym (may_enter-same (log_of g.book) (log_of h.book) c.logs core turn.user.thread) ∙ turn.enters;
       after = refl;
     }
       where
         go : (slice_get turn.picks core.0 ≡ Some (Some k)) ⊎ IsStale g core k → (slice_get turn.picks core.0 ≡ Some (Some k)) ⊎ IsStale h core k
         go (inl own) = inl own
-        go (inr old) = inr (stale-there users boot g h a core k old)
+        go (inr old) = in-other (choice-out turn.picks h.stale core.0 k (subst (λ cs. IsOneOf cs core.0 k) (a.choices turn.picks turn.are_picks) (choice-in turn.picks g.stale core.0 k (old.picks, (old.stale, old.among)))))
+          where
+            in-other : (slice_get turn.picks core.0 ≡ Some (Some k)) ⊎ IsOneOf h.stale core.0 k → (slice_get turn.picks core.0 ≡ Some (Some k)) ⊎ IsStale h core k
+            in-other (inl own) = inl own
+            in-other (inr (js, (at, among))) = inr (record { picks = js; stale = at; among = among })
 
     left : IsReached users boot (entered turn.picks turn.user step k g)
-    left = subst (λ x. IsReached users boot x) turn.after (record { turns = suc a.left.turns; run = (g, (a.left.run, record { core = core; pick = k; turn = turn })) })
+    left = subst (λ x. IsReached users boot x) turn.after (record { turns = suc c.left.turns; run = (g, (c.left.run, record { core = core; pick = k; turn = turn })) })
 
     right : IsReached users boot then_h
-    right = record { turns = suc a.right.turns; run = (h, (a.right.run, record { core = core; pick = k; turn = other })) }
+    right = record { turns = suc c.right.turns; run = (h, (c.right.run, record { core = core; pick = k; turn = other })) }
 
     same : outcome g.book step ≡ outcome h.book step
-    same = entry-same (log_of g.book) (log_of h.book) core turn.user.thread turn.entry a.logs (entrant-there (log_of g.book) core turn.user.thread turn.enters)
+    same = entry-same (log_of g.book) (log_of h.book) core turn.user.thread turn.entry c.logs (entrant-there (log_of g.book) core turn.user.thread turn.enters)
         (legal-sound _ (legal _ left)) (legal-sound _ (legal _ right))
 
     logs : Alike (log_of (entered turn.picks turn.user step k g).book) (log_of then_h.book)
     logs = subst (λ (o : Outcome). Alike (log_of (entered turn.picks turn.user step k g).book) (log_of (record h.book { lines = record { step = step; answer = o.answer; records = o.records } ∷ h.book.lines }))) same
-        (line-alike g.book h.book (line_for step (outcome g.book step)) (legal _ left) (legal h a.right) a.logs)
+        (line-alike g.book h.book (line_for step (outcome g.book step)) (legal _ left) (legal h c.right) c.logs)
 
     after : AreAlike users boot (entered turn.picks turn.user step k g) then_h
     after = record {
-      left = left;
-      right = right;
-      logs = logs;
-      places = ap (λ ps. put_at k.user (behind turn.user k.number (outcome g.book step).answer) ps) a.places ∙ ap (λ (o : Outcome). put_at k.user (behind turn.user k.number o.answer) h.places) same;
-      stale = ap (λ ss. stale_after core.0 k.user 0 turn.picks ss) a.stale;
+      close = record {
+        left = left;
+        right = right;
+        logs = logs;
+        places = ap (λ ps. put_at k.user (behind turn.user k.number (outcome g.book step).answer) ps) c.places ∙ ap (λ (o : Outcome). put_at k.user (behind turn.user k.number o.answer) h.places) same;
+      };
+      choices = λ picks are. ap (λ ss. choices picks ss) (stale-same core.0 k.user turn.picks g.stale h.stale (a.choices turn.picks turn.are_picks));
     }
 
     pub respected : (w : Going) × (Follows users h w × AreAlike users boot t w)
@@ -148,11 +151,13 @@ module _ (users : List User) (boot : Boot) (whole : IsFaultless boot) (range : A
   pub likeness : IsLikeness (Follows users) (AreAlike users boot)
   likeness = record {
     trans = λ s t u a b. record {
-      left = a.left;
-      right = b.right;
-      logs = alike-on (log_of s.book) (log_of t.book) (log_of u.book) a.logs b.logs;
-      places = a.places ∙ b.places;
-      stale = a.stale ∙ b.stale;
+      close = record {
+        left = a.close.left;
+        right = b.close.right;
+        logs = alike-on (log_of s.book) (log_of t.book) (log_of u.book) a.close.logs b.close.logs;
+        places = a.close.places ∙ b.close.places;
+      };
+      choices = λ picks are. a.choices picks are ∙ b.choices picks (picks-there users boot s t a.close picks are);
     };
     respects = λ s v t a f. respected s v a f.core f.pick t f.turn;
   }

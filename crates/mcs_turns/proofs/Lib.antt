@@ -1,2 +1,4 @@
 pub mod RunLaws
 pub mod OneTurn
+pub mod Among
+pub mod Choices

@@ -39,6 +39,12 @@ abbrev pub with_any_pick : Option Pick → List Pick → List Pick
 with_any_pick None js = js
 with_any_pick (Some k) js = with_pick k js
 
+-- what each core may enter: its stale picks and its pick, in order
+abbrev pub choices : List (Option Pick) → List (List Pick) → List (List Pick)
+choices picks [] = []
+choices [] (s ∷ ss) = s ∷ choices [] ss
+choices (k ∷ ks) (s ∷ ss) = with_any_pick k s ∷ choices ks ss
+
 -- those of all users but one
 abbrev pub without_user : ℕ → List Pick → List Pick
 without_user user js = filter (λ (j : Pick). not (j.user == user)) js

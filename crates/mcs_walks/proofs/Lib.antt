@@ -1,6 +1,5 @@
 mod Adding
 mod Order
 mod Walking
-mod Among
 mod Picking
 mod Turning

@@ -6,12 +6,12 @@ use Rattle.std.specs.Option.{IfSome}
 use Rattle.std.specs.List.{list_any, Contains}
 use Rattle.std.proofs.Common.{refl, ap, sym, ◌∙◌, subst, arith, rules, true, append_assoc, inl, inr}
 use Rattle.std.proofs.Math.Seq.{drop-cons}
-use Rattle.std.proofs.lemmas.Bool.{eq-eqb, eqb-true, ltb-true}
+use Rattle.std.proofs.lemmas.Bool.{eq-eqb, ltb-true}
 use Rattle.std.proofs.lemmas.Bool.Decides.{nat_tests}
 use Rattle.std.proofs.lemmas.List.{length-append}
 use Rattle.std.proofs.lemmas.Map.Views.{Contains-from_any}
 use Rattle.std.proofs.lemmas.Option.{slice_get_within, get_or_from_slice_get}
-use Rattle.mcs_types.proofs.Ids.{both, parts}
+use Rattle.mcs_types.proofs.Ids.{both}
 use Rattle.mcs_types.specs.declared.id.ObjId.{ObjId}
 use Rattle.mcs_types.specs.declared.id.CoreId.{CoreId}
 use Rattle.mcs_walks.specs.Walks.{Gives, IsPickBelow, left_stale, picked_of}
@@ -23,6 +23,7 @@ use Rattle.mcs_book.specs.History.{log_of}
 use Rattle.mcs_turns.specs.declared.position.Position.{Position}
 use Rattle.mcs_turns.specs.Turns.{User, Going, CanGive}
 use Rattle.mcs_walks.specs.declared.walk.Candidate.{Candidate}
+use Rattle.mcs_turns.proofs.Choices.{same-pick}
 use Rattle.mcs_turns.specs.Due.{none_stale, is_same, stale_after}
 
 pub before-on : (R : Log) (t u v : ObjId) → GoesBefore R t u → GoesBefore R u v → GoesBefore R t v
@@ -69,13 +70,6 @@ pub none-next : (xs : List (List Pick)) (n core : ℕ) → core < n → xs ++ no
 none-next xs n core low =
     let left : n - core ≡ suc (n - (core + 1)) = omega (arith, low) in
     ap (λ k. xs ++ none_stale k) left ∙ sym (append_assoc xs ([] ∷ []) (none_stale (n - (core + 1))))
-
-pub same-pick : (k j : Pick) → is_same k j ≡ true → k ≡ j
-same-pick k j e =
-    let p = parts (k.user == j.user) (k.number == j.number) e in
-    let user : k.user ≡ j.user = eqb-true k.user j.user p.0 in
-    let number : k.number ≡ j.number = eqb-true k.number j.number p.1 in
-    ap (λ u. record { user = u; number = k.number }) user ∙ ap (λ n. record { user = j.user; number = n }) number
 
 -- a pick that is the same as one of them is among them
 pub among : (k : Pick) (js : List Pick) → list_any (is_same k) js ≡ true → Contains js k

@@ -18,8 +18,9 @@ use Rattle.mcs_turns.specs.Turns.{User, Going, AreApart, ArePicks, IsStale, IsTu
 use Rattle.mcs_turns.proofs.OneTurn.{one-at, one-picks}
 use Rattle.mcs_walks.specs.declared.walk.Turn.{Turn}
 use Rattle.mcs_walks.specs.Walks.{IsPicked, HasEachTurn, ArePicked, HasNoTurn, is_other, picked_of, stale_turns, turn_now, turn_of, turns_below, turns_of, turns_on}
-use Rattle.mcs_walks.proofs.Among.{none-in, first-in, later-in, one-in, split-in}
-use Rattle.mcs_walks.proofs.Picking.{nat_split, pick-there, same-itself, same-pick, there-picked}
+use Rattle.mcs_turns.proofs.Among.{none-in, first-in, later-in, one-in, split-in}
+use Rattle.mcs_turns.proofs.Choices.{same-pick}
+use Rattle.mcs_walks.proofs.Picking.{nat_split, pick-there, same-itself, there-picked}
 
 in-stale : (core : CoreId) (now : Option Pick) (js : List Pick) (k : Pick) → Contains js k → is_other now k ≡ true → Contains (stale_turns core now js) (turn_of core k)
 in-stale core now [] k c other = absurd (none-in k c)

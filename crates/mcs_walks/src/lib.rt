@@ -14,4 +14,4 @@ pub use lists::UserList;
 pub use mcs_turns::{Pick, Position};
 pub use picks::Picks;
 pub use users::Users;
-pub use walk::{Turn, Walk};
+pub use walk::{Turn, Walk, picked};

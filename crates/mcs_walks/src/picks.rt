@@ -33,16 +33,6 @@ pub(crate) fn push<T: Drop>(items: &mut Vec<T>, item: T) -> Result<(), OutOfMemo
     }
 }
 
-/// Adds a pick to the end, unless it is one of this user.
-fn push_other(picks: &mut Vec<Pick>, pick: Pick, user: usize) -> Result<(), OutOfMemory>
-    ensures { OnOk result (picks.new.items ≡ picks.old.items ++ without_user user (pick ∷ [])) }
-{
-    if pick.user != user {
-        push(picks, pick)?;
-    }
-    Ok(())
-}
-
 impl Picks {
     /// None.
     pub fn new(alloc: Global) -> Picks
@@ -67,14 +57,9 @@ impl Picks {
         self.picks.iter().any(|other| pick.is_same(*other))
     }
 
-    /// These and one more, if there is one and it is not among them, without those of a user.
-    pub fn after(
-        &self,
-        alloc: Global,
-        pick: Option<Pick>,
-        user: usize,
-    ) -> Result<Picks, OutOfMemory>
-        ensures { IfOk result (λ p. p ≡ without_user user (with_any_pick pick self.now)) }
+    /// These and one more, if there is one and it is not among them. OutOfMemory where memory was refused.
+    pub fn with(&self, alloc: Global, pick: Option<Pick>) -> Result<Picks, OutOfMemory>
+        ensures { IfOk result (λ p. p ≡ with_any_pick pick self.now) }
     {
         let mut picks = Vec::new(alloc);
         let mut more = pick;
@@ -84,16 +69,30 @@ impl Picks {
                 if one.is_same(other) {
                     more = None;
                 } else if one.is_ahead(other) {
-                    push_other(&mut picks, one, user)?;
+                    push(&mut picks, one)?;
                     more = None;
                 }
             }
-            push_other(&mut picks, other, user)?;
+            push(&mut picks, other)?;
         }
         if let Some(one) = more {
-            push_other(&mut picks, one, user)?;
+            push(&mut picks, one)?;
         }
         Ok(Picks { picks })
+    }
+
+    /// These and one more, if there is one and it is not among them, without those of a user.
+    pub fn after(
+        &self,
+        alloc: Global,
+        pick: Option<Pick>,
+        user: usize,
+    ) -> Result<Picks, OutOfMemory>
+        ensures { IfOk result (λ p. p ≡ without_user user (with_any_pick pick self.now)) }
+    {
+        let mut picks = self.with(alloc, pick)?;
+        picks.picks.retain(|other| other.user != user);
+        Ok(picks)
     }
 
     /// The same picks once more. OutOfMemory where memory was refused.

@@ -37,11 +37,21 @@ struct Candidate {
 
 /// A kernel, the positions of its users, and for each core what it picked since its last line and whose user has not moved.
 /// Clauses see how far a run is.
-#[derive(Drop)]
 pub struct Walk<L: Lines> {
     kernel: Kernel<L>,
     places: Vec<Position>,
     stale: Vec<Picks>,
+}
+
+// By hand, so that it is a function of its own: a derived drop would be proved anew wherever a walk is let go.
+impl<L: Lines> Drop for Walk<L> {
+    fn drop(self) {
+        let Walk {
+            kernel: _,
+            places: _,
+            stale: _,
+        } = self;
+    }
 }
 
 impl<L: Lines> Model for Walk<L> {
@@ -143,8 +153,8 @@ fn put(places: &mut Vec<Position>, user: usize, place: Position)
     }
 }
 
-/// The pick of a core among those of all.
-pub(crate) fn picked(picks: &[Option<Pick>], core: usize) -> Option<Pick>
+/// The pick of a core among those of all; None where there is no such core.
+pub fn picked(picks: &[Option<Pick>], core: usize) -> Option<Pick>
     ensures { result ≡ picked_of picks.now core }
 {
     match picks.get(core) {

@@ -1,7 +1,6 @@
-use Rattle.mcs_keys.specs.Rows.{rows_of}
 use Rattle.mcs_keys.proofs.Deciding.{rows-alike}
-use Rattle.mcs_keys.proofs.Naming.{names-one}
+use Rattle.mcs_keys.proofs.Naming.{key-one}
 use Rattle.mcs_keys.proofs.laws.key_decides.Goals as goal
 
 pub returns : goal.returns
-returns g c = rows-alike g.at.0 g.at.1 c.requires.0 c.requires.1.0 g.at.2 g.at.3 c.requires.1.1.0 c.requires.1.1.1.0 (names-one g.at.4 g.at.5 (rows_of g.at.0 g.at.2) (rows_of g.at.0 g.at.3) c.requires.1.1.1.1.0 c.requires.1.1.1.1.1)
+returns g c = rows-alike g.at.0 g.at.1 c.requires.0 c.requires.1.0 g.at.2 g.at.3 c.requires.1.1.0 c.requires.1.1.1.0 (key-one g.at.4 g.at.0 g.at.2 g.at.3 g.at.5 c.requires.1.1.1.1.0 c.requires.1.1.1.1.1)

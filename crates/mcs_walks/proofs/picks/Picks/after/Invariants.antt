@@ -1,7 +1,0 @@
-use Rattle.std.proofs.Common.{◌≡◌, ◌++◌, drop}
-use Rattle.mcs_turns.specs.Due.{with_any_pick, without_user}
-use Rattle.mcs_walks.proofs.picks.Picks.after.Given as goal
-
-abbrev pub invariant-loop-other : goal.invariant-loop-other
-invariant-loop-other l = without_user l.user (with_any_pick l.fn.pick l.self)
-    ≡ l.picks.items ++ without_user l.user (with_any_pick l.more (drop l.other-index l.self))
