@@ -12,7 +12,7 @@ use Rattle.mcs_explore.proofs.Runs.{near-run}
 use Rattle.mcs_explore.proofs.Searching.{path-leads}
 use Rattle.std.proofs.lemmas.Grind.{common_steps}
 
-depth-is : {K L : Type 0} (E : Entries K L) (i : ℕ) (k : K) (f : Found L) → At E i k f → depth_at E i ≡ f.depth
+pub depth-is : {K L : Type 0} (E : Entries K L) (i : ℕ) (k : K) (f : Found L) → At E i k f → depth_at E i ≡ f.depth
 depth-is {K = K} {L = L} E i k f at = ap (λ (o : Option (K × Found L)). elim o [ None ↦ 0 | Some e ↦ e.1.depth ]) at
 
 pub depth-told : {K L : Type 0} (E : Entries K L) (i : ℕ) (k : K) (f : Found L) → At E i k f → (n : ℕ) → n ≡ depth_at E i → n ≡ f.depth

@@ -17,10 +17,10 @@ found-more eq E F k n f = record { place = f.place; other = f.other; found = f.f
 visited-more : {A : Type 0} (Like : A → A → Type 0) (vs ws : List (Visit A)) (t : A) (n : ℕ) → IsVisited Like vs t n → IsVisited Like (vs ++ ws) t n
 visited-more Like vs ws t n v = record { place = v.place; visit = v.visit; at = at-old vs ws v.place v.visit v.at; like = v.like; near = v.near }
 
-parent-is : {K L : Type 0} (E : Entries K L) (i : ℕ) (k : K) (f : Found L) → At E i k f → parent_at E i ≡ f.parent
+pub parent-is : {K L : Type 0} (E : Entries K L) (i : ℕ) (k : K) (f : Found L) → At E i k f → parent_at E i ≡ f.parent
 parent-is {K = K} {L = L} E i k f at = ap (λ (o : Option (K × Found L)). elim o [ None ↦ i | Some e ↦ e.1.parent ]) at
 
-label-is : {K L : Type 0} (E : Entries K L) (i : ℕ) (k : K) (f : Found L) → At E i k f → label_at E i ≡ f.label
+pub label-is : {K L : Type 0} (E : Entries K L) (i : ℕ) (k : K) (f : Found L) → At E i k f → label_at E i ≡ f.label
 label-is {K = K} {L = L} E i k f at = ap (λ (o : Option (K × Found L)). elim o [ None ↦ None | Some e ↦ e.1.label ]) at
 
 -- an entry is an old one or the new one

@@ -17,6 +17,10 @@ pub record IsThere {K L : Type 0} (eq : K → K → Bool) (E : Entries K L) (k :
 abbrev pub Adds : {K L : Type 0} → (K → K → Bool) → Entries K L → K → Found L → Entries K L → Type 0
 Adds {K = K} {L = L} eq E k f F = (IsThere eq E k × (F ≡ E)) ⊎ (((i : ℕ) (c : K) (g : Found L) → At E i c g → Same eq k c → ⊥) × (F ≡ E ++ (k, f) ∷ []))
 
+-- nothing was taken away or changed
+abbrev pub IsLonger : {K L : Type 0} → Entries K L → Entries K L → Type 0
+IsLonger {K = K} {L = L} E F = (more : Entries K L) × (F ≡ E ++ more)
+
 -- what was noted of a child: a label leads to its state from that of its parent, which is one step nearer
 pub record IsChild {A K L : Type 0} (Leads : L → A → A → Type 0) (E : Entries K L) (visits : List (Visit A)) (f : Found L) (s : A) : Type 0 where
   pub label : L

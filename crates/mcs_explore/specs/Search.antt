@@ -36,6 +36,11 @@ path_back E i (suc n) = path_back E (parent_at E i) n ++ listed (label_at E i)
 abbrev pub path_of : {K L : Type 0} → Entries K L → ℕ → List L
 path_of E i = path_back E i (depth_at E i)
 
+-- the paths to what is in the first n places
+abbrev pub paths_below : {K L : Type 0} → Entries K L → ℕ → List (List L)
+paths_below E zero = []
+paths_below E (suc n) = paths_below E n ++ path_of E n ∷ []
+
 -- keys that are compared as equal
 abbrev pub Same : {K : Type 0} → (K → K → Bool) → K → K → Type 0
 Same eq k c = eq k c ≡ true

@@ -30,7 +30,8 @@ pub fn every_run<L: Likeness>()
 pub fn near_run<L: Likeness>()
     ghost at: { L.State × ℕ × List (Visit L.State) }
     requires { IsClosedTo L.Step L.Like at.0 at.1 at.2 }
-    ensures { (n : ℕ) (t : L.State) → AreFar n at.1 at.2 → Run L.Step at.0 n t → IsVisited L.Like at.2 t n }
+    ensures { (n : ℕ) (t : L.State) → AreFar n at.1 at.2
+        → Run L.Step at.0 n t → IsVisited L.Like at.2 t n }
 {
     L::is_likeness();
 }

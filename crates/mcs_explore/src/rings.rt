@@ -57,6 +57,8 @@ impl System for Ring {
 
     ghost IsKey = { λ m. StandsAt };
 
+    ghost HasSeen = { λ m ps. Unit {0} };
+
     ghost Later = { λ m n. n ≡ m };
 
     fn first(&mut self, alloc: Global) -> Result<u64, AllocError> {

@@ -1,9 +1,9 @@
 //! The search, breadth first (own).
-ghost use Rattle.std.specs.Prelude.{◌≡◌, ◌+◌, ◌≤◌, ◌<◌, ◌^◌, ◌++◌, ◌↔◌, ◌⊎◌, List, Some, IsTrue, IfOk, OnOk, length};
+ghost use Rattle.std.specs.Prelude.{◌≡◌, ◌+◌, ◌≤◌, ◌<◌, ◌^◌, ◌++◌, ◌∷◌, ◌↔◌, ◌⊎◌, [], List, Some, IsTrue, IfOk, OnOk, length};
 ghost use Rattle.mcs_explore.specs.Paths.{Path, Steps};
 ghost use Rattle.mcs_explore.specs.Closure.{IsLikeness};
-ghost use Rattle.mcs_explore.specs.Search.{AreAllFound, AreApart, AreLeast, AreNexts, AreReached, AreSorted, HaveOneKey, IsClosedBelow, IsSpent, IsWhole, depth_at, label_at, listed, parent_at, path_of};
-ghost use Rattle.mcs_explore.specs.Keeping.{Adds, Goes, IsSearching};
+ghost use Rattle.mcs_explore.specs.Search.{AreAllFound, AreApart, AreLeast, AreNexts, AreReached, AreSorted, HaveOneKey, IsClosedBelow, IsSpent, IsWhole, depth_at, label_at, listed, parent_at, path_of, paths_below};
+ghost use Rattle.mcs_explore.specs.Keeping.{Adds, Goes, IsLonger, IsSearching};
 
 use indexmap::IndexMap;
 use std::alloc::{AllocError, Global};
@@ -31,13 +31,17 @@ pub trait System {
     // the key of a state, by what was noted so far
     ghost IsKey: { Self → State → Self.Key → Type 0 };
 
+    // it was asked for the steps from the states to which these paths lead, in this order
+    ghost HasSeen: { Self → List (List Self.Label) → Type 0 };
+
     // the same system, which has noted more
     ghost Later: { Self → Self → Type 0 };
 
     /// The key of the start. A fault ends the search.
     fn first(&mut self, alloc: Global) -> Result<Self::Key, Self::Fault>
         ensures later { Later self.old self.new }
-        ensures key { IfOk result (λ k. IsKey self.new (start self.new) k) };
+        ensures key { IfOk result (λ k. IsKey self.new (start self.new) k) }
+        ensures seen { OnOk result (HasSeen self.old [] → HasSeen self.new []) };
 
     /// The steps from the state to which a path of labels leads from the start: of each its label and the key of where it leads.
     /// The state is the one in this place of all that were found. A fault ends the search.
@@ -49,8 +53,11 @@ pub trait System {
     ) -> Result<Vec<(Self::Label, Self::Key)>, Self::Fault>
         requires { (s : State) × Path (Leads self.old) (start self.old) path.now s }
         ensures later { Later self.old self.new }
-        ensures nexts { IfOk result (λ v. (s : State) → Path (Leads self.old) (start self.old) path.now s
-            → AreNexts (Leads self.new) (IsKey self.new) s v.items) };
+        ensures nexts { IfOk result (λ v.
+            (s : State) → Path (Leads self.old) (start self.old) path.now s
+            → AreNexts (Leads self.new) (IsKey self.new) s v.items) }
+        ensures seen { OnOk result ((paths : List (List Self.Label)) → HasSeen self.old paths
+            → length paths ≡ place → HasSeen self.new (paths ++ path.now ∷ [])) };
 
     ghost same: { (m : Self) → Later m m };
 
@@ -215,8 +222,10 @@ fn add_all<M: System>(
     nexts: Vec<(M::Label, M::Key)>,
 ) -> Result<(), AllocError>
     requires room { depth + 1 < 2 ^ 64 }
-    ensures { OnOk result ((m : M) → Goes M.Key.eq (M.Leads m) (M.Like m) (M.IsKey m) (M.start m)
+    ensures goes { OnOk result ((m : M)
+        → Goes M.Key.eq (M.Leads m) (M.Like m) (M.IsKey m) (M.start m)
         map.old.entries place depth nexts.items map.new.entries) }
+    ensures longer { OnOk result (IsLonger map.old.entries map.new.entries) }
 {
     for (label, key) in nexts {
         let found = found_behind(place, depth, label);
@@ -229,8 +238,10 @@ fn add_all<M: System>(
 fn begin<M: System>(alloc: Global, system: &mut M) -> Result<Search<M::Key, M::Label>, M::Fault>
     ensures later { M.Later system.old system.new }
     ensures begun { IfOk result (λ f. f.done ≡ 0) }
-    ensures searching { IfOk result (λ f. IsSearching M.Key.eq (M.Leads system.new) (M.Like system.new)
+    ensures searching { IfOk result (λ f. IsSearching M.Key.eq
+        (M.Leads system.new) (M.Like system.new)
         (M.IsKey system.new) (M.start system.new) f.done f.map.entries) }
+    ensures seen { OnOk result (M.HasSeen system.old [] → M.HasSeen system.new []) }
 {
     let mut map = IndexMap::new(alloc);
     let start = Found {
@@ -256,6 +267,9 @@ fn nexts_of<M: System>(
     ensures nexts { IfOk result (λ v. (s : M.State)
         → Path (M.Leads system.old) (M.start system.old) (path_of search.now.map.entries place) s
         → AreNexts (M.Leads system.new) (M.IsKey system.new) s v.items) }
+    ensures seen { OnOk result ((paths : List (List M.Label)) → M.HasSeen system.old paths
+        → length paths ≡ place
+        → M.HasSeen system.new (paths ++ path_of search.now.map.entries place ∷ [])) }
 {
     let path = search.path(alloc, place)?;
     let nexts = system.nexts(alloc, place, &path)?;
@@ -276,6 +290,9 @@ fn look_behind<M: System>(
     ensures done { OnOk result (search.new.done ≡ search.old.done + 1) }
     ensures searching { OnOk result (IsSearching M.Key.eq (M.Leads system.new) (M.Like system.new)
         (M.IsKey system.new) (M.start system.new) search.new.done search.new.map.entries) }
+    ensures seen { OnOk result (
+        M.HasSeen system.old (paths_below search.old.map.entries search.old.done)
+        → M.HasSeen system.new (paths_below search.new.map.entries search.new.done)) }
 {
     let place = search.done;
     let nexts = nexts_of(alloc, system, search, place)?;
@@ -319,6 +336,9 @@ pub fn explore<M: System>(
     // it ends there or by the budget alone
     ensures budget { IfOk result (λ f. (length f.map.entries ≤ f.done)
         ⊎ IsSpent budget.states budget.depth f.done f.map.entries) }
+    // the system was asked for the steps from each state that was looked behind, in their order
+    ensures seen { IfOk result (λ f. M.HasSeen system.old []
+        → M.HasSeen system.new (paths_below f.map.entries f.done)) }
 {
     let mut search = begin(alloc, system)?;
     while search.goes_on(budget) {

@@ -2,3 +2,4 @@ mod Reaching
 pub mod Paths
 pub mod Whole
 pub mod Nexts
+pub mod Telling

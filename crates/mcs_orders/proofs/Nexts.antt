@@ -1,5 +1,5 @@
 -- What is noted of the turns from a point.
-use Rattle.std.specs.Prelude.{ℕ, zero, suc, ◌≡◌, ◌<◌, ◌≤◌, take, ◌++◌, ◌⊎◌, Bool, true, Vec, IfOk, Ok, Err, Result, List, [], ◌∷◌, Some, length, slice_get, slice_index_or}
+use Rattle.std.specs.Prelude.{ℕ, zero, suc, ◌≡◌, ◌<◌, ◌≤◌, ◌+◌, take, ◌++◌, ◌⊎◌, Bool, true, Vec, IfOk, Ok, Err, Result, List, [], ◌∷◌, Some, length, slice_get, slice_index_or}
 use Rattle.std.specs.declared.alloc.Global.{Global}
 use Rattle.std.specs.List.{Contains}
 use Rattle.std.proofs.Common.{refl, sym, ap, ◌∙◌, subst, arith, inl, inr}
@@ -14,7 +14,7 @@ use Rattle.mcs_keys.specs.Rows.{IsKey}
 use Rattle.mcs_explore.specs.Paths.{Path}
 use Rattle.mcs_walks.specs.Walks.{HasEachTurn}
 use Rattle.mcs_orders.specs.Trails.{IsTrail, Leads, Point, Points, last_point, turns_of}
-use Rattle.mcs_orders.proofs.Paths.{path-one, trail-path}
+use Rattle.mcs_orders.proofs.Paths.{path-one, take-on, trail-path}
 use Rattle.mcs_orders.specs.Exploring.{AreNextsOf, Exploring, IsKeyIn, IsLater, here, numbers_of}
 use Rattle.mcs_orders.specs.Later.{keeps-keys}
 
@@ -23,7 +23,7 @@ abbrev pair : Turn → List ℕ → Turn × List ℕ
 pair t k = (t, k)
 
 -- the one element of a list
-single : (t l : Turn) → Contains (t ∷ []) l → l ≡ t
+pub single : (t l : Turn) → Contains (t ∷ []) l → l ≡ t
 single t l h = go h.0 h.1 h.2
   where
     go : (i : ℕ) → i < 1 → slice_index_or (t ∷ []) i l ≡ l → l ≡ t
@@ -123,7 +123,7 @@ no-points [] e = refl
 no-points (p ∷ ps) e = absurd cc
 
 -- all of a list
-take-all : {A : Type 0} (xs : List A) (n : ℕ) → length xs ≤ n → take n xs ≡ xs
+pub take-all : {A : Type 0} (xs : List A) (n : ℕ) → length xs ≤ n → take n xs ≡ xs
 take-all [] zero le = refl
 take-all [] (suc n) le = refl
 take-all (x ∷ xs) zero le = absurd (omega (arith, le))
@@ -143,3 +143,16 @@ all-nexts users apart start trail path told now at ts nexts n begins is_trail al
     let each : (l : Turn) (h : Going) → Leads now.users l s h → Contains ts l = λ l h x.
     has l.core l.pick h (subst (λ g. Leads told.users l g h) (sym (is_at ∙ here_told)) (subst (λ us. Leads us l s h) later.users x)) in
     are-nexts now ts nexts s here_now each (subst (λ us. AreNextsOf now us (numbers_of nexts)) (take-all ts n full) are)
+
+-- of no turn nothing was noted, and one turn more
+pub no-nexts : (e : Exploring) (ts : List Turn) (nexts : List (Turn × Vec ℕ Global)) → nexts ≡ [] → AreNextsOf e (take 0 ts) (numbers_of nexts)
+no-nexts e ts nexts empty = subst (λ (ns : List (Turn × Vec ℕ Global)). AreNextsOf e [] (numbers_of ns)) (sym empty) (record {
+  each = λ i l k at. absurd cc;
+  all = λ l h among. absurd (none l among);
+})
+  where
+    none : (l : Turn) → Contains [] l → ⊥
+    none l c = let lt = c.1 in omega (arith, lt)
+
+pub next-more : (e : Exploring) (ts : List Turn) (n : ℕ) (t : Turn) (nexts : List (Turn × List ℕ)) → slice_get ts n ≡ Some t → AreNextsOf e (take n ts ++ t ∷ []) nexts → AreNextsOf e (take (n + 1) ts) nexts
+next-more e ts n t nexts at are = subst (λ us. AreNextsOf e us nexts) (sym (take-on ts n t at)) are

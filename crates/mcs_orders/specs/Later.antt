@@ -7,9 +7,9 @@ use Rattle.mcs_turns.specs.Turns.{User, Going, AreInRange, IsRun, beginning}
 use Rattle.mcs_explore.specs.Paths.{Path}
 use Rattle.mcs_walks.specs.declared.walk.Turn.{Turn}
 use Rattle.mcs_like_runs.specs.Runs.{AreAlike, IsReached}
-use Rattle.mcs_keys.specs.Rows.{IsKey, rows_of}
+use Rattle.mcs_keys.specs.Rows.{IsKey}
 use Rattle.mcs_keys.proofs.Deciding.{rows-alike}
-use Rattle.mcs_keys.proofs.Naming.{names-kept, names-one}
+use Rattle.mcs_keys.proofs.Naming.{key-kept, key-one}
 use Rattle.mcs_orders.specs.Trails.{Leads}
 use Rattle.mcs_orders.specs.Exploring.{Exploring, IsKeyIn, IsLater, IsTold, LooksLike}
 
@@ -60,13 +60,13 @@ path-reaches users boot ls h p = path-run users boot zero (beginning users boot)
 
 pub keeps-keys : (e f : Exploring) → IsLater e f → (g : Going) (k : List ℕ) → IsKeyIn e g k → IsKeyIn f g k
 keeps-keys e f a g k is exact =
-    subst (λ us. IsKey f.keys.met us g k) (sym a.users) (names-kept e.keys.met f.keys.met k (rows_of e.users g) a.met (is (sym a.exact ∙ exact)))
+    subst (λ us. IsKey f.keys.met us g k) (sym a.users) (key-kept e.keys.met f.keys.met e.users g k a.met (is (sym a.exact ∙ exact)))
 
 pub one-key : (e : Exploring) (p q : List Turn) (g h : Going) (k : List ℕ) → Path (Leads e.users) (beginning e.users e.boot) p g → Path (Leads e.users) (beginning e.users e.boot) q h
     → IsKeyIn e g k → IsKeyIn e h k → LooksLike e g h
 one-key e p q g h k x y a b told =
     rows-alike e.users e.boot told.boot told.in_range g h (path-reaches e.users e.boot p g x) (path-reaches e.users e.boot q h y)
-    (names-one e.keys.met k (rows_of e.users g) (rows_of e.users h) (a told.exact) (b told.exact))
+    (key-one e.keys.met e.users g h k (a told.exact) (b told.exact))
 
 pub same-key : (e : Exploring) (g : Going) (k c : List ℕ) → pointwise nat_eq k c ≡ true → IsKeyIn e g k → IsKeyIn e g c
 same-key e g k c same is = subst (λ ns. IsKeyIn e g ns) (same_text k c (sym same)) is

@@ -1,11 +1,14 @@
 //! The search, the nearest states first.
-ghost use Rattle.std.specs.Prelude.{◌≡◌, ◌≤◌, true, IfOk, OnOk, length};
+ghost use Rattle.std.specs.Prelude.{◌≡◌, ◌≤◌, ◌⊎◌, ◌↔◌, true, IsTrue, IfOk, OnOk, length};
 ghost use Rattle.mcs_book.specs.Boots.{IsFaultless};
-ghost use Rattle.mcs_turns.specs.Turns.{AreInRange};
+ghost use Rattle.mcs_turns.specs.Turns.{Going, AreInRange, beginning};
 ghost use Rattle.mcs_like_runs.specs.Runs.{IsReached};
-ghost use Rattle.mcs_explore.specs.Search.{AreSorted};
+ghost use Rattle.mcs_explore.specs.Paths.{Path};
+ghost use Rattle.mcs_explore.specs.Search.{AreSorted, IsSpent, depth_at, path_of, paths_below};
 ghost use Rattle.mcs_orders.specs.Seen.{AreAllSeen, AreFoundRuns};
+ghost use Rattle.mcs_orders.specs.Shown.{HasSeenAll, nothing};
 ghost use Rattle.mcs_orders.specs.Steps.{Moves};
+ghost use Rattle.mcs_orders.specs.Trails.{Leads};
 
 use crate::explorer::{Explorer, Watch};
 use mcs_explore::{Budget, Search};
@@ -17,11 +20,21 @@ use mcs_walks::{OrdersFault, Turn, Users, Walk};
 use std::alloc::Global;
 
 /// The states that were found, and who was told of them.
-#[derive(Drop)]
 pub struct Orders<'a, W: Watch> {
     alloc: Global,
     search: Search<Key, Turn>,
     explorer: Explorer<'a, W>,
+}
+
+// By hand, so that it is a function of its own: a derived drop would be proved anew wherever it is let go.
+impl<'a, W: Watch> Drop for Orders<'a, W> {
+    fn drop(self) {
+        let Orders {
+            alloc: _,
+            search: _,
+            explorer: _,
+        } = self;
+    }
 }
 
 /// Makes a turn, if the rule has it, and gives what it was answered; else nothing has changed.
@@ -31,8 +44,10 @@ fn step<L: Lines>(
     walk: &mut Walk<L>,
     turn: Turn,
 ) -> Result<Option<Answer>, OrdersFault>
-    ensures { OnOk result (Moves users.now walk.old walk.new) }
+    ensures moves { OnOk result (Moves users.now walk.old walk.new) }
+    ensures leads { OnOk result ((h : Going) → Leads users.now turn walk.old h → walk.new ≡ h) }
 {
+    users.are_apart();
     let picks = walk.picks(alloc, users)?;
     walk.turn(alloc, users, &picks, turn)
 }
@@ -45,28 +60,37 @@ pub fn retrace<L: Lines>(
     users: &Users,
     turns: &[Turn],
 ) -> Result<Walk<L>, OrdersFault>
-    ensures { IfOk result (λ walk. IsReached users.now boot.now walk) }
+    ensures reached { IfOk result (λ walk. IsReached users.now boot.now walk) }
+    // it is where the path leads, if it leads somewhere
+    ensures path { IfOk result (λ walk. (g : Going)
+        → Path (Leads users.now) (beginning users.now boot.now) turns.now g → walk ≡ g) }
 {
     let mut walk = Walk::new(alloc, boot, users)?;
-    for turn in turns {
-        step(alloc, users, &mut walk, *turn)?;
+    for index in 0..turns.len() {
+        step(alloc, users, &mut walk, turns[index])?;
     }
     Ok(walk)
 }
 
 impl<'a, W: Watch> Orders<'a, W> {
     /// How many states were found.
-    pub fn states(&self) -> usize {
+    pub fn states(&self) -> usize
+        ensures { result ≡ length self.now.search.map.entries }
+    {
         self.search.states()
     }
 
     /// How many of them were looked behind.
-    pub fn done(&self) -> usize {
+    pub fn done(&self) -> usize
+        ensures { result ≡ self.now.search.done }
+    {
         self.search.done
     }
 
     /// Whether all were looked behind.
-    pub fn is_whole(&self) -> bool {
+    pub fn is_whole(&self) -> bool
+        ensures { IsTrue result ↔ (length self.now.search.map.entries ≤ self.now.search.done) }
+    {
         self.search.is_whole()
     }
 
@@ -76,22 +100,30 @@ impl<'a, W: Watch> Orders<'a, W> {
     }
 
     /// How many turns were made.
-    pub fn turns(&self) -> usize {
-        self.explorer.turns
+    pub fn turns(&self) -> usize
+        ensures { result ≡ self.now.explorer.turns }
+    {
+        self.explorer.turns()
     }
 
     /// How many states are over.
-    pub fn ends(&self) -> usize {
-        self.explorer.ends
+    pub fn ends(&self) -> usize
+        ensures { result ≡ self.now.explorer.ends }
+    {
+        self.explorer.ends()
     }
 
     /// Who was told of them.
-    pub fn watch(&self) -> &W {
-        &self.explorer.watch
+    pub fn watch(&self) -> &W
+        ensures { result.now ≡ self.now.explorer.watch }
+    {
+        self.explorer.watch()
     }
 
     /// By how many turns the state in a place was found.
-    pub fn depth(&self, place: usize) -> usize {
+    pub fn depth(&self, place: usize) -> usize
+        ensures { result ≡ depth_at self.now.search.map.entries place }
+    {
         self.search.depth(place)
     }
 
@@ -101,7 +133,9 @@ impl<'a, W: Watch> Orders<'a, W> {
     }
 
     /// The turns by which the state in a place was found, the first one first.
-    pub fn path(&self, place: usize) -> Result<Vec<Turn>, OrdersFault> {
+    pub fn path(&self, place: usize) -> Result<Vec<Turn>, OrdersFault>
+        ensures { IfOk result (λ turns. turns.items ≡ path_of self.now.search.map.entries place) }
+    {
         let turns = self.search.path(self.alloc, place)?;
         Ok(turns)
     }
@@ -119,10 +153,18 @@ pub fn explore<'a, W: Watch>(
     // each state that was found is that of a run, by the turns of its path
     ensures runs { IfOk result (λ o. AreFoundRuns users.now boot.now o.search.map.entries) }
     ensures sorted { IfOk result (λ o. AreSorted o.search.map.entries) }
+    // it ends where all were looked behind, or by the budget alone
+    ensures budget { IfOk result (λ o. (length o.search.map.entries ≤ o.search.done)
+        ⊎ IsSpent budget.states budget.depth o.search.done o.search.map.entries) }
     // where keys are exact and all states were looked behind, each run ends in a state that no later turn tells apart from one
     // that was found, by no more turns
     ensures whole { IfOk result (λ o. is_exact ≡ true → IsFaultless boot.now → AreInRange users.now
-        → length o.search.map.entries ≤ o.search.done → AreAllSeen users.now boot.now o.search.map.entries) }
+        → length o.search.map.entries ≤ o.search.done
+        → AreAllSeen users.now boot.now o.search.map.entries) }
+    // each state that was looked behind was shown, and each turn from it, and no other
+    ensures shown { IfOk result (λ o. W.HasSeen watch users.now nothing
+        → HasSeenAll W.HasSeen o.explorer.watch users.now (beginning users.now boot.now)
+        (paths_below o.search.map.entries o.search.done)) }
 {
     let mut explorer = Explorer::new(alloc, boot, users, is_exact, watch)?;
     let search = mcs_explore::explore(alloc, &mut explorer, budget)?;

@@ -26,10 +26,19 @@ impl Model for Stage {
 }
 
 /// A point where a path begins, and the points along it.
-#[derive(Drop)]
 pub struct Trail {
     start: Walk<PlainLines>,
     stages: Vec<Stage>,
+}
+
+// By hand, so that it is a function of its own: a derived drop would be proved anew wherever it is let go.
+impl Drop for Trail {
+    fn drop(self) {
+        let Trail {
+            start: _,
+            stages: _,
+        } = self;
+    }
 }
 
 impl Model for Trail {
@@ -103,7 +112,8 @@ impl Trail {
 
     /// Goes one turn on, which the rule has. BookFull, OutOfMemory: then it is as it was.
     fn step(&mut self, alloc: Global, users: &Users, turn: Turn) -> Result<(), OrdersFault>
-        requires { (h : Going) × Leads users.now turn (last_point self.old.start self.old.points) h }
+        requires { (h : Going)
+            × Leads users.now turn (last_point self.old.start self.old.points) h }
         ensures added { OnOk result (Adds users.now turn self.old self.new) }
         ensures unchanged { OnErr result (self.new ≡ self.old) }
     {

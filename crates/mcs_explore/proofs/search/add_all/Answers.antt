@@ -4,6 +4,7 @@ use Rattle.std.specs.Vec.Iter.{into_iter_items}
 use Rattle.mcs_explore.specs.Keeping.{IsAmid}
 use Rattle.mcs_explore.proofs.Places.{nth-next}
 use Rattle.mcs_explore.proofs.Searching.{amid, looked}
+use Rattle.mcs_explore.proofs.Seeing.{longer-on, not-longer}
 use Rattle.mcs_explore.proofs.search.add_all.Goals as goal
 
 nothing-left : {X : Type 0} (l : List X) → length l ≡ 0 → l ≡ []
@@ -13,6 +14,7 @@ nothing-left (x ∷ xs) h = absurd (omega arith)
 pub loop-label-init : goal.loop-label-init
 loop-label-init g c = record {
   goes = λ m visits k f v search at there deep are. record { visits = visits; search = search; at = at; there = there; found = λ i l x below. absurd (omega (arith, below)) };
+  longer = not-longer c.args.map.now.entries;
   count = search rules;
   list = c.into_iter-label-iterator.ensures.into_iter_gives.0;
 }
@@ -28,12 +30,13 @@ loop-label-preserved g c =
       goes = λ m visits key f v search is there deep are. subst (λ n. IsAmid g.M.Key.PartialEq.eq (g.M.System.Leads m) (g.M.System.Like m) (g.M.System.IsKey m) (g.M.System.start m) c.args.place c.add.new.map.entries key f v c.args.nexts.items n) (sym (length_push at.yielded (l, k)))
           (amid g.M.Key.PartialEq.eq g.met.M.Key.Eq.laws (g.M.System.Leads m) (g.M.System.Like m) (g.M.System.IsKey m) (g.M.System.start m) c.args.place at.map.entries c.add.new.map.entries key f _ v c.args.nexts.items (length at.yielded) l k are
           (nth-next at.yielded (l, k) _ _ list) (c.found_behind-found.ensures.depth ∙ ap (λ n. n + 1) deep) c.found_behind-found.ensures.parent c.found_behind-found.ensures.label (at.invariant.goes m visits key f v search is there deep are) c.in_ok-add.ensures);
+      longer = longer-on g.M.Key.PartialEq.eq c.args.map.now.entries at.map.entries c.add.new.map.entries _ _ at.invariant.longer c.in_ok-add.ensures;
       count = let was = at.invariant.count in let gone = c.in-Some.ensures.steps.1 in let short = ap length steps in omega (arith, was, gone, short);
       list = append_assoc at.yielded ((l, k) ∷ []) _ ∙ list;
     }
 
-pub returns : goal.returns
-returns g c = λ m visits key f v search is there deep are.
+pub returns-clause-goes : goal.returns-clause-goes
+returns-clause-goes g c = λ m visits key f v search is there deep are.
     let at = c.loop-label in
     let none = c.in-None.ensures.steps in
     let empty : into_iter_items at.label-iterator ≡ [] = nothing-left _ (sym at.invariant.count ∙ none.0) in

@@ -5,6 +5,7 @@ use Rattle.mcs_explore.proofs.search.explore.Goals as goal
 pub loop-alloc-preserved : goal.loop-alloc-preserved
 loop-alloc-preserved g c = record {
   later = g.met.M.System.further c.args.system.now c.loop-alloc.system c.look_behind.new.system c.loop-alloc.invariant.later c.look_behind.ensures.later;
+  seen = λ begun. c.in_ok-look_behind.ensures.seen (c.loop-alloc.invariant.seen begun);
   searching = c.in_ok-look_behind.ensures.searching;
 }
 

@@ -1,5 +1,6 @@
-use Rattle.std.proofs.Common.{arith}
+use Rattle.std.proofs.Common.{arith, subst}
 use Rattle.mcs_explore.proofs.Ending.{open-at, again, depth-told}
+use Rattle.mcs_explore.proofs.Seeing.{paths-long, paths-on}
 use Rattle.mcs_explore.proofs.search.look_behind.Goals as goal
 
 pub nexts_of-requires : goal.nexts_of-requires
@@ -28,5 +29,14 @@ returns-clause-searching g c =
     let b =
     again g.M.Key.PartialEq.eq (g.M.System.Leads m) (g.M.System.Leads n) (g.M.System.Like m) (g.M.System.Like n) (g.M.System.IsKey m) (g.M.System.IsKey n) (g.M.System.start m) (g.M.System.start n)
     (g.met.M.System.keeps_start m n later) (g.met.M.System.keeps_steps m n later) (λ s t. (g.met.M.System.keeps_likeness m n later s t).0) (g.met.M.System.keeps_keys m n later) d E c.requires.searching.visits c.requires.searching.is in
-    c.in_ok-add_all.ensures n c.requires.searching.visits o.key o.found o.visit b o.at o.there (depth-told E d o.key o.found o.at c.depth-depth.result c.depth-depth.ensures)
+    c.in_ok-add_all.ensures.goes n c.requires.searching.visits o.key o.found o.visit b o.at o.there (depth-told E d o.key o.found o.at c.depth-depth.result c.depth-depth.ensures)
     (c.in_ok-nexts.ensures.nexts o.visit.state o.reached.path)
+
+pub returns-clause-seen : goal.returns-clause-seen
+returns-clause-seen g c = λ seen.
+    let m = c.args.system.now in
+    let E = c.args.search.now.map.entries in
+    let d = c.args.search.now.done in
+    subst (λ ps. g.M.System.HasSeen c.nexts_of.new.system ps)
+    (paths-on (g.M.System.Leads m) (g.M.System.IsKey m) (g.M.System.start m) E c.add_all.new.map.entries c.requires.searching.visits c.requires.searching.is.grown c.in_ok-add_all.ensures.longer d c.requires.more)
+    (c.in_ok-nexts.ensures.seen _ seen (paths-long E d))

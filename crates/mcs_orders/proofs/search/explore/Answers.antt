@@ -4,19 +4,27 @@ use Rattle.mcs_turns.specs.Turns.{AreInRange}
 use Rattle.mcs_like_runs.proofs.Alikes.{likeness}
 use Rattle.mcs_orders.specs.Exploring.{IsTold}
 use Rattle.mcs_orders.specs.Seen.{AreAllSeen}
+use Rattle.mcs_orders.proofs.Telling.{shown-all}
 use Rattle.mcs_orders.proofs.Whole.{all-reached, all-seen}
 use Rattle.mcs_orders.proofs.search.explore.Goals as goal
 
 pub returns-clause-runs : goal.returns-clause-runs
 returns-clause-runs g c =
-    let e = c.in_ok-explorer.explorer in
+    let e = c.in_ok-explorer.explorer.search in
     rw (← c.in_ok-explorer.ensures.users, ← c.in_ok-explorer.ensures.boot) (all-reached e.users e.boot c.in_ok-search.search.map.entries c.in_ok-search.ensures.reached)
 
 pub returns-clause-whole : goal.returns-clause-whole
 returns-clause-whole g c = λ exact faultless in_range done.
-    let e = c.in_ok-explorer.explorer in
+    let e = c.in_ok-explorer.explorer.search in
     let is = c.in_ok-explorer.ensures in
     let found = c.in_ok-search.search.map.entries in
     let told : IsTold e = record { exact = is.exact ∙ exact; boot = subst IsFaultless (sym is.boot) faultless; in_range = subst AreInRange (sym is.users) in_range } in
     subst (λ us. AreAllSeen us c.args.boot.now found) is.users (subst (λ b. AreAllSeen e.users b found) is.boot
     (all-seen e _ found told (likeness e.users e.boot told.boot told.in_range) (c.in_ok-search.ensures.whole done)))
+
+pub returns-clause-shown : goal.returns-clause-shown
+returns-clause-shown g c = λ has.
+    let e = c.in_ok-explorer.explorer in
+    let f = c.explore.new.system in
+    let is = c.in_ok-explorer.ensures in
+    shown-all g.W.Watch.HasSeen c.args.users.now c.args.boot.now e.search f.search e.watch f.watch _ _ is.users is.boot is.watch c.explore.ensures.later c.in_ok-search.ensures.seen has

@@ -3,6 +3,7 @@ use Rattle.std.proofs.Common.{ap, ◌∙◌}
 use Rattle.mcs_turns.specs.Turns.{beginning}
 use Rattle.mcs_orders.specs.Trails.{last_point}
 use Rattle.mcs_orders.proofs.Nexts.{keyed, no-points}
+use Rattle.mcs_orders.proofs.Telling.{ok-any}
 use Rattle.mcs_orders.proofs.explorer.ExplorerSystem.first.Goals as goal
 
 pub returns-clause-key : goal.returns-clause-key
@@ -12,3 +13,6 @@ returns-clause-key g c =
     let begin : c.last-2.result.now ≡ beginning c.self.inside.users.now c.self.inside.boot.now =
     c.last-2.ensures ∙ ap (λ ps. last_point trail.start ps) (no-points trail.points there.turns) ∙ there.start ∙ c.self.invariant.0 in
     keyed c.key.result _ _ c.key.new.self.met c.self.inside.users.now c.last-2.result.now (beginning c.self.inside.users.now c.self.inside.boot.now) c.key.ensures.mode begin c.key.ensures.exact
+
+pub returns-clause-seen : goal.returns-clause-seen
+returns-clause-seen g c = rw (← c.self.view_is) (ok-any c.key.result (λ seen. seen))

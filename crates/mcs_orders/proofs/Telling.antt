@@ -1,0 +1,283 @@
+-- What was told of states and turns.
+use Rattle.std.specs.Prelude.{ℕ, zero, suc, ◌≡◌, ◌<◌, ◌≤◌, ◌+◌, ◌++◌, ◌⊎◌, ◌↔◌, take, Bool, true, List, [], ◌∷◌, Option, Some, None, Result, Ok, Err, is_none, length, slice_get}
+use Rattle.std.specs.Result.{OnOk}
+use Rattle.std.specs.List.{Contains, list_all}
+use Rattle.std.proofs.Common.{refl, sym, ap, ◌∙◌, subst, arith, inl, inr, append_assoc, append-nil}
+use Rattle.std.proofs.lemmas.List.Elements.{Contains-append_cases}
+use Rattle.mcs_types.specs.declared.id.CoreId.{CoreId}
+use Rattle.mcs_types.specs.declared.entry.Answer.{Answer}
+use Rattle.mcs_book.specs.Boots.{Boot}
+use Rattle.mcs_turns.specs.declared.position.Pick.{Pick}
+use Rattle.mcs_turns.specs.Turns.{User, Going, AreApart, ArePicks, IsBest, IsOver, beginning}
+use Rattle.mcs_turns.proofs.OneTurn.{one-turn}
+use Rattle.mcs_explore.specs.Paths.{Path}
+use Rattle.mcs_explore.proofs.Places.{at-last, at-old, at-split, one-longer, within-at}
+use Rattle.mcs_walks.specs.declared.walk.Turn.{Turn}
+use Rattle.mcs_walks.specs.Walks.{HasEachTurn, last_answer}
+use Rattle.mcs_orders.specs.Trails.{IsTrail, Leads, Points, last_point, turns_of}
+use Rattle.mcs_orders.specs.Exploring.{Exploring, IsLater, here}
+use Rattle.mcs_orders.specs.Shown.{AreShown, AreToldOf, HasSeenAll, IsShown, IsStateAt, IsToldState, IsToldTurn, IsTurnFrom, IsTurnOf, Made, SeesState, SeesTurn, Shown, Sight, Tells, TellsOn, nothing, with_turns}
+use Rattle.mcs_orders.proofs.Nexts.{single, take-all}
+use Rattle.mcs_orders.proofs.Paths.{path-one, take-on, trail-path}
+
+-- no pick of all cores
+all-none : (ks : List (Option Pick)) → ((i : ℕ) (k : Option Pick) → slice_get ks i ≡ Some k → k ≡ None) → list_all is_none ks ≡ true
+all-none [] none = refl
+all-none (Some k ∷ ks) none = let no = none zero (Some k) refl in absurd cc
+all-none (None ∷ ks) none = all-none ks (λ i k at. none (suc i) k at)
+
+none-of : (ks : List (Option Pick)) → list_all is_none ks ≡ true → (i : ℕ) (k : Option Pick) → slice_get ks i ≡ Some k → k ≡ None
+none-of [] all i k at = absurd cc
+none-of (Some j ∷ ks) all i k at = absurd cc
+none-of (None ∷ ks) all zero k at = cc
+none-of (None ∷ ks) all (suc i) k at = none-of ks all i k at
+
+pub over-is : (users : List User) (g : Going) (picks : List (Option Pick)) → ArePicks users g picks → (list_all is_none picks ≡ true) ↔ IsOver users g
+over-is users g picks are = (forth, back)
+  where
+    forth : list_all is_none picks ≡ true → IsOver users g
+    forth all core lt =
+        let e = within-at picks core.0 (let cores = are.cores in omega (arith, cores, lt)) in
+        are.each core None (e.1 ∙ ap (λ k. Some k) (none-of picks all core.0 e.0 e.1))
+
+    back : IsOver users g → list_all is_none picks ≡ true
+    back over = all-none picks (λ i k at. go i k at)
+      where
+        go : (i : ℕ) (k : Option Pick) → slice_get picks i ≡ Some k → k ≡ None
+        go i None at = refl
+        go i (Some k) at =
+            let core : CoreId = record { 0 = i } in
+            let best : IsBest users g core k = are.each core (Some k) at in
+            absurd (over core (let cores = are.cores in let below = at-below i (Some k) at in omega (arith, cores, below)) k.user best.user best.place best.can)
+          where
+            at-below : (i : ℕ) (k : Option Pick) → slice_get picks i ≡ Some k → i < length picks
+            at-below i k at = within picks i k at
+              where
+                within : (ks : List (Option Pick)) (i : ℕ) (k : Option Pick) → slice_get ks i ≡ Some k → i < length ks
+                within [] i k at = absurd cc
+                within (j ∷ ks) zero k at = omega arith
+                within (j ∷ ks) (suc i) k at = let below = within ks i k at in omega (arith, below)
+
+-- places in two lists, one behind the other
+at-both : {A : Type 0} (xs ys : List A) (j : ℕ) (m : A) → slice_get (xs ++ ys) j ≡ Some m → (slice_get xs j ≡ Some m) ⊎ ((k : ℕ) × (slice_get ys k ≡ Some m))
+at-both [] ys j m at = inr (j, at)
+at-both (x ∷ xs) ys zero m at = inl at
+at-both (x ∷ xs) ys (suc j) m at = at-both xs ys j m at
+
+at-behind : {A : Type 0} (xs ys : List A) (k : ℕ) (m : A) → slice_get ys k ≡ Some m → (j : ℕ) × (slice_get (xs ++ ys) j ≡ Some m)
+at-behind [] ys k m at = (k, at)
+at-behind (x ∷ xs) ys k m at = let r = at-behind xs ys k m at in (suc r.0, r.1)
+
+shown-more : (old more : List Made) (place : ℕ) (t : Turn) (h : Going) → IsShown old place t h → IsShown (old ++ more) place t h
+shown-more old more place t h s = record { number = s.number; made = s.made; at = at-old old more s.number s.made s.at; place = s.place; turn = s.turn; going = s.going }
+
+shown-behind : (old more : List Made) (place : ℕ) (t : Turn) (h : Going) → IsShown more place t h → IsShown (old ++ more) place t h
+shown-behind old more place t h s = let r = at-behind old more s.number s.made s.at in record { number = r.0; made = s.made; at = r.1; place = s.place; turn = s.turn; going = s.going }
+
+-- before the first turn
+pub nothing-shown : (users : List User) (start : Going) → AreShown users start [] nothing
+nothing-shown users start = record {
+  long = refl;
+  states = λ i s at. absurd cc;
+  turns = λ j m at. absurd cc;
+  all = λ i path g h t at. absurd cc;
+}
+
+pub nothing-told : {W : Type 0} (Has : W → List User → Shown → Type 0) (a : W) (users : List User) (place : ℕ) (g : Going) → Tells Has a a users place g []
+nothing-told Has a users place g = λ shown has. (
+  [],
+  (
+    subst (λ (ms : List Made). Has a users (record shown { turns = ms })) (sym (append-nil shown.turns)) has,
+    record {
+      place = λ j m at. absurd cc;
+      turns = λ j m at. absurd cc;
+      all = λ t h among. absurd (no-among t among);
+    },
+  ),
+)
+  where
+    no-among : (t : Turn) → Contains [] t → ⊥
+    no-among t c = let lt = c.1 in omega (arith, lt)
+
+-- a turn that the rule does not have is not told
+pub none-told : {W : Type 0} (Has : W → List User → Shown → Type 0) (a b : W) (users : List User) (place : ℕ) (g : Going) (t : Turn) → b ≡ a → ((h : Going) → Leads users t g h → ⊥) → TellsOn Has a b users place g t
+none-told Has a b users place g t same none = λ shown ts made has are. (
+  made,
+  (
+    subst (λ w. Has w users (with_turns made shown)) (sym same) has,
+    record {
+      place = are.place;
+      turns = are.turns;
+      all = λ l h among leads. go ts made are l h leads (Contains-append_cases ts (t ∷ []) l among);
+    },
+  ),
+)
+  where
+    go : (ts : List Turn) (made : List Made) → AreToldOf users place g ts made → (l : Turn) (h : Going) → Leads users l g h → Contains ts l ⊎ Contains (t ∷ []) l → IsShown made place l h
+    go ts made are l h leads (inl c) = are.all l h c leads
+    go ts made are l h leads (inr c) = absurd (none h (subst (λ u. Leads users u g h) (single t l c) leads))
+
+-- one that it has is told
+pub one-told : {W : Type 0} (Has : W → List User → Shown → Type 0) (a b : W) (users : List User) → AreApart users → (place : ℕ) (g : Going) (t : Turn) → IsToldTurn Has a b users place t g → TellsOn Has a b users place g t
+one-told Has a b users apart place g t told = λ shown ts made has are. (
+  made ++ m ∷ [],
+  (
+    subst (λ (ms : List Made). Has b users (record shown { turns = ms })) (append_assoc shown.turns made (m ∷ [])) (told.sees (with_turns made shown) has),
+    record {
+      place = λ j x at. places made are j x (at-split made m j x at);
+      turns = λ j x at. turns ts made are j x (at-split made m j x at);
+      all = λ l h among leads. all ts made are l h leads (Contains-append_cases ts (t ∷ []) l among);
+    },
+  ),
+)
+  where
+    m : Made
+    m = record { place = place; turn = t; answer = told.answer; going = told.going }
+
+    places : {ts : List Turn} (made : List Made) → AreToldOf users place g ts made → (j : ℕ) (x : Made) → (slice_get made j ≡ Some x) ⊎ ((j ≡ length made) × (x ≡ m)) → x.place ≡ place
+    places made are j x (inl h) = are.place j x h
+    places made are j x (inr e) = ap (λ (y : Made). y.place) e.1
+
+    turns : (ts : List Turn) (made : List Made) → AreToldOf users place g ts made → (j : ℕ) (x : Made) → (slice_get made j ≡ Some x) ⊎ ((j ≡ length made) × (x ≡ m)) → IsTurnFrom users g x
+    turns ts made are j x (inl h) = are.turns j x h
+    turns ts made are j x (inr e) = subst (λ (y : Made). IsTurnFrom users g y) (sym e.1) told.is
+
+    all : (ts : List Turn) (made : List Made) → AreToldOf users place g ts made → (l : Turn) (h : Going) → Leads users l g h → Contains ts l ⊎ Contains (t ∷ []) l → IsShown (made ++ m ∷ []) place l h
+    all ts made are l h leads (inl c) = shown-more made (m ∷ []) place l h (are.all l h c leads)
+    all ts made are l h leads (inr c) =
+        let same : l ≡ t = single t l c in
+        record {
+          number = length made;
+          made = m;
+          at = at-last made m;
+          place = refl;
+          turn = sym same;
+          going = one-turn users t.core t.pick g told.going h apart told.is.leads (subst (λ u. Leads users u g h) same leads);
+        }
+
+-- one turn more of those from a state
+pub tells-more : {W : Type 0} (Has : W → List User → Shown → Type 0) (a b c : W) (users others : List User) (place : ℕ) (g h : Going) (ts : List Turn) (i : ℕ) (t : Turn) → others ≡ users → h ≡ g → slice_get ts i ≡ Some t
+    → TellsOn Has b c others place h t → Tells Has a b users place g (take i ts) → Tells Has a c users place g (take (i + 1) ts)
+tells-more {W = W} Has a b c users others place g h ts i t same there at on tells = λ shown has.
+    let r = tells shown has in
+    let told : TellsOn Has b c users place g t = subst (λ us. TellsOn Has b c us place g t) same (subst (λ x. TellsOn Has b c others place x t) there on) in
+    let more = told shown (take i ts) r.0 r.1.0 r.1.1 in
+    (more.0, (more.1.0, subst (λ us. AreToldOf users place g us more.0) (sym (take-on ts i t at)) more.1.1))
+
+module _ (users : List User) (apart : AreApart users) (start : Going) (paths : List (List Turn)) (path : List Turn) where
+  state-more : (i : ℕ) (s : Sight) → IsStateAt users start paths i s → IsStateAt users start (paths ++ path ∷ []) i s
+  state-more i s is = record { place = is.place; path = is.path; at = at-old paths (path ∷ []) i is.path is.at; leads = is.leads; over = is.over }
+
+  turn-more : (m : Made) → IsTurnOf users start paths m → IsTurnOf users start (paths ++ path ∷ []) m
+  turn-more m is = record { path = is.path; at = at-old paths (path ∷ []) m.place is.path is.at; state = is.state; leads = is.leads; turn = is.turn }
+
+  -- a state more, and the turns from it
+  pub shown-on : {W : Type 0} (Has : W → List User → Shown → Type 0) (a b c : W) (place : ℕ) (g : Going) (ts : List Turn) → Path (Leads users) start path g → length paths ≡ place → HasEachTurn users g ts
+      → IsToldState Has a b users place g → Tells Has b c users place g ts → HasSeenAll Has a users start paths → HasSeenAll Has c users start (paths ++ path ∷ [])
+  shown-on Has a b c place g ts leads long each told tells old = record { shown = with_turns made (record s { states = s.states ++ x ∷ [] }); has = r.1.0; are = are }
+    where
+      s : Shown
+      s = old.shown
+
+      x : Sight
+      x = record { place = place; going = g; is_over = told.is_over }
+
+      r : (made : List Made) × (Has c users (with_turns made (record s { states = s.states ++ x ∷ [] })) × AreToldOf users place g ts made)
+      r = tells (record s { states = s.states ++ x ∷ [] }) (told.sees s old.has)
+
+      made : List Made
+      made = r.0
+
+      mine : AreToldOf users place g ts made
+      mine = r.1.1
+
+      state : (i : ℕ) (y : Sight) → (slice_get s.states i ≡ Some y) ⊎ ((i ≡ length s.states) × (y ≡ x)) → IsStateAt users start (paths ++ path ∷ []) i y
+      state i y (inl h) = state-more i y (old.are.states i y h)
+      state i y (inr e) = subst (λ (z : Sight). IsStateAt users start (paths ++ path ∷ []) i z) (sym e.1) (record {
+        place = sym long ∙ sym old.are.long ∙ sym e.0;
+        path = path;
+        at = subst (λ n. slice_get (paths ++ path ∷ []) n ≡ Some path) (sym (e.0 ∙ old.are.long)) (at-last paths path);
+        leads = leads;
+        over = told.over;
+      })
+
+      turn : (m : Made) → ((j : ℕ) × (slice_get s.turns j ≡ Some m)) ⊎ ((k : ℕ) × (slice_get made k ≡ Some m)) → IsTurnOf users start (paths ++ path ∷ []) m
+      turn m (inl h) = turn-more m (old.are.turns h.0 m h.1)
+      turn m (inr h) = record {
+        path = path;
+        at = subst (λ n. slice_get (paths ++ path ∷ []) n ≡ Some path) (long ∙ sym (mine.place h.0 m h.1)) (at-last paths path);
+        state = g;
+        leads = leads;
+        turn = mine.turns h.0 m h.1;
+      }
+
+      sided : (j : ℕ) (m : Made) → (slice_get s.turns j ≡ Some m) ⊎ ((k : ℕ) × (slice_get made k ≡ Some m)) → ((j : ℕ) × (slice_get s.turns j ≡ Some m)) ⊎ ((k : ℕ) × (slice_get made k ≡ Some m))
+      sided j m (inl h) = inl (j, h)
+      sided j m (inr h) = inr h
+
+      all : (i : ℕ) (p : List Turn) (u h : Going) (t : Turn) → (slice_get paths i ≡ Some p) ⊎ ((i ≡ length paths) × (p ≡ path)) → Path (Leads users) start p u → Leads users t u h → IsShown (s.turns ++ made) i t h
+      all i p u h t (inl at) way step = shown-more s.turns made i t h (old.are.all i p u h t at way step)
+      all i p u h t (inr e) way step =
+          let same : u ≡ g = path-one users apart start path u g (subst (λ ls. Path (Leads users) start ls u) e.1 way) leads in
+          let from : Leads users t g h = subst (λ v. Leads users t v h) same step in
+          subst (λ n. IsShown (s.turns ++ made) n t h) (sym (e.0 ∙ long)) (shown-behind s.turns made place t h (mine.all t h (each t.core t.pick h from) from))
+
+      are : AreShown users start (paths ++ path ∷ []) (with_turns made (record s { states = s.states ++ x ∷ [] }))
+      are = record {
+        long = one-longer s.states x ∙ ap (λ n. suc n) old.are.long ∙ sym (one-longer paths path);
+        states = λ i y at. state i y (at-split s.states x i y at);
+        turns = λ j m at. turn m (sided j m (at-both s.turns made j m at));
+        all = λ i p u h t at. all i p u h t (at-split paths path i p at);
+      }
+
+-- what was told of the end of a path and of all turns from it
+pub seen-nexts : {W : Type 0} (Has : W → List User → Shown → Type 0) (a b c : W) (users : List User) → AreApart users → (boot : Boot) (trail : Points) (path : List Turn) (told now : Exploring) (place : ℕ) (at : Going) (ts : List Turn) (n : ℕ)
+    → trail.start ≡ beginning users boot → IsTrail users trail.start trail.points → turns_of trail.points ≡ path → told.users ≡ users → told.trail ≡ trail → now.users ≡ users → now.boot ≡ boot
+    → at ≡ here told → HasEachTurn told.users at ts → length ts ≤ n → IsToldState Has a b users place (last_point trail.start trail.points) → Tells Has b c told.users place (here told) (take n ts)
+    → (paths : List (List Turn)) → HasSeenAll Has a users (beginning users boot) paths → length paths ≡ place → HasSeenAll Has c now.users (beginning now.users now.boot) (paths ++ path ∷ [])
+seen-nexts Has a b c users apart boot trail path told now place at ts n begins is_trail along same_users same_trail now_users now_boot is_at each full state tells paths old long =
+    let g = last_point trail.start trail.points in
+    let start = beginning users boot in
+    let end : Path (Leads users) start path g =
+    subst (λ ls. Path (Leads users) start ls g) along (subst (λ x. Path (Leads users) x (turns_of trail.points) g) begins (trail-path users trail.start trail.points is_trail)) in
+    let there : here told ≡ g = ap (λ (t : Points). last_point t.start t.points) same_trail in
+    let has : HasEachTurn users g ts = subst (λ x. HasEachTurn users x ts) (is_at ∙ there) (subst (λ us. HasEachTurn us at ts) same_users each) in
+    let all : Tells Has b c users place g ts =
+    subst (λ us. Tells Has b c users place g us) (take-all ts n full) (subst (λ x. Tells Has b c users place x (take n ts)) there (subst (λ us. Tells Has b c us place (here told) (take n ts)) same_users tells)) in
+    let seen = shown-on users apart start paths path Has a b c place g ts end long has state all old in
+    subst (λ us. HasSeenAll Has c us (beginning us now.boot) (paths ++ path ∷ [])) (sym now_users) (subst (λ bt. HasSeenAll Has c users (beginning users bt) (paths ++ path ∷ [])) (sym now_boot) seen)
+
+-- what was shown of a search that was begun
+pub shown-all : {W : Type 0} (Has : W → List User → Shown → Type 0) (users : List User) (boot : Boot) (e f : Exploring) (a b w : W) (paths : List (List Turn)) → e.users ≡ users → e.boot ≡ boot → a ≡ w → IsLater e f
+    → (HasSeenAll Has a e.users (beginning e.users e.boot) [] → HasSeenAll Has b f.users (beginning f.users f.boot) paths) → Has w users nothing → HasSeenAll Has b users (beginning users boot) paths
+shown-all Has users boot e f a b w paths same_users same_boot same_watch later seen has =
+    let begun : HasSeenAll Has a e.users (beginning e.users e.boot) [] = record {
+      shown = nothing;
+      has = subst (λ x. Has x e.users nothing) (sym same_watch) (subst (λ us. Has w us nothing) (sym same_users) has);
+      are = nothing-shown e.users (beginning e.users e.boot);
+    } in
+    let all = seen begun in
+    subst (λ us. HasSeenAll Has b us (beginning us boot) paths) (later.users ∙ same_users) (subst (λ bt. HasSeenAll Has b f.users (beginning f.users bt) paths) (later.boot ∙ same_boot) all)
+
+-- a state that was told, and a turn
+pub state-told : {W E : Type 0} (r : Result (Unit {0}) E) (Has : W → List User → Shown → Type 0) (a b : W) (users : List User) (place : ℕ) (g walk : Going) (picks : List (Option Pick)) (over : Bool)
+    → ArePicks users g picks → over ≡ list_all is_none picks → walk ≡ g → OnOk r (SeesState Has a b users place walk over) → OnOk r (IsToldState Has a b users place g)
+state-told (Ok x) Has a b users place g walk picks over are is same sees = record {
+  is_over = over;
+  over = subst (λ o. (o ≡ true) ↔ IsOver users g) (sym is) (over-is users g picks are);
+  sees = subst (λ w. SeesState Has a b users place w over) same sees;
+}
+state-told (Err e) Has a b users place g walk picks over are is same sees = sees
+
+pub turn-told : {W : Type 0} (Has : W → List User → Shown → Type 0) (a b : W) (users : List User) (place : ℕ) (t : Turn) (g h walk : Going) (answer : Answer)
+    → walk ≡ g → Leads users t walk h → last_answer h.book ≡ Some answer → SeesTurn Has a b users place t answer h → IsToldTurn Has a b users place t g
+turn-told Has a b users place t g h walk answer same leads told sees = record {
+  answer = answer;
+  going = h;
+  is = record { leads = subst (λ w. Leads users t w h) same leads; answer = told };
+  sees = sees;
+}
+
+pub ok-any : {A E P : Type 0} (r : Result A E) → P → OnOk r P
+ok-any (Ok x) h = h
+ok-any (Err e) h = tt
