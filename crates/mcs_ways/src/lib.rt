@@ -10,10 +10,15 @@
 mod answers;
 mod asking;
 mod ends;
+mod exploring;
+mod mail;
 mod patterns;
 mod reading;
 mod report;
 mod scripts;
 mod watching;
 
-pub use report::{Explored, Saves, Wanted, explore_script};
+pub use exploring::{Wanted, watched};
+pub use reading::AskedLine;
+pub use report::{Explored, Saves, explore_script};
+pub use watching::Watched;

@@ -2,24 +2,17 @@
 use crate::answers::text_of;
 use crate::asking::{Asked, Event};
 use crate::ends::{End, Standing};
+use crate::exploring::{Wanted, watched};
 use crate::patterns::is_match;
 use crate::reading::{AskedLine, UserScript, read_script};
-use crate::scripts::{fault_of, script_by, turns_of};
+use crate::scripts::{script_by, turns_of};
 use crate::watching::{Sighting, Watched};
 use mcs_lab::LabFault;
-use mcs_orders::{Budget, Orders, explore};
+use mcs_orders::Orders;
 use mcs_sim::Source;
 use mcs_types::{ObjId, Status};
 use std::alloc::Global;
 use std::io::{Read, Write};
-
-/// How far a search goes, and how exact its keys are.
-#[derive(Clone, Copy)]
-pub struct Wanted {
-    pub states: usize,
-    pub depth: usize,
-    pub is_exact: bool,
-}
 
 /// What came of a search.
 #[derive(Clone, Copy, PartialEq, Eq, Debug)]
@@ -347,23 +340,7 @@ pub fn explore_script<R: Read, W: Write + Drop, S: Saves>(
     saves: &mut S,
 ) -> Result<Explored, LabFault> {
     let script = read_script(alloc, from)?;
-    let watched = Watched::new(alloc, &script.users, &script.asked)?;
-    let budget = Budget {
-        states: wanted.states,
-        depth: wanted.depth,
-    };
-    let found = explore(
-        alloc,
-        &script.boot,
-        &script.users,
-        wanted.is_exact,
-        budget,
-        watched,
-    );
-    let orders = match found {
-        Ok(orders) => orders,
-        Err(fault) => return Err(fault_of(fault)),
-    };
+    let orders = watched(alloc, &script.boot, &script.users, &script.asked, wanted)?;
     let mut report = Report {
         alloc,
         script: &script,

@@ -1,4 +1,7 @@
 //! Scripts of steps, which show what is told.
+ghost use Rattle.std.specs.Prelude.{◌≡◌, ◌++◌, IfOk, OnOk};
+ghost use Rattle.mcs_explore.specs.Search.{listed, path_of};
+
 use crate::reading::UserScript;
 use crate::watching::{Sighting, Watched};
 use mcs_book::Book;
@@ -18,15 +21,26 @@ pub fn fault_of(fault: OrdersFault) -> LabFault {
 }
 
 /// The turns that lead to a state, and the one from it that shows something, where it is one.
-pub fn turns_of(orders: &Orders<'_, Watched<'_>>, seen: Sighting) -> Result<Vec<Turn>, LabFault> {
+pub fn turns_of(orders: &Orders<'_, Watched<'_>>, seen: Sighting) -> Result<Vec<Turn>, LabFault>
+    ensures { IfOk result (λ turns.
+        turns.items ≡ path_of orders.now.search.map.entries seen.place ++ listed seen.turn) }
+{
     let mut turns = match orders.path(seen.place) {
         Ok(turns) => turns,
         Err(fault) => return Err(fault_of(fault)),
     };
-    if let Some(turn) = seen.turn {
+    push(&mut turns, seen.turn)?;
+    Ok(turns)
+}
+
+/// Adds a turn, if there is one.
+fn push(turns: &mut Vec<Turn>, turn: Option<Turn>) -> Result<(), LabFault>
+    ensures { OnOk result (turns.new.items ≡ turns.old.items ++ listed turn) }
+{
+    if let Some(turn) = turn {
         turns.push(turn)?;
     }
-    Ok(turns)
+    Ok(())
 }
 
 /// Puts the boot and the steps of a book.

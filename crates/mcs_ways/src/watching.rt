@@ -1,7 +1,11 @@
 //! What is kept of a search: its ends, its answers, and where a question failed first.
-use crate::answers::{Answers, is_send};
+ghost use Rattle.std.specs.Prelude.{◌≡◌, [], IfOk};
+ghost use Rattle.mcs_ways.specs.Answers.{no_answers};
+
+use crate::answers::Answers;
 use crate::asking::{Asked, Event, Span};
 use crate::ends::Ends;
+use crate::mail::{newest, note_mail};
 use crate::patterns::is_match;
 use crate::reading::AskedLine;
 use mcs_book::Line as BookLine;
@@ -10,7 +14,7 @@ use mcs_lab::LabFault;
 use mcs_orders::{OrdersFault, Turn, Users, Walk, Watch};
 use mcs_queues::PlainLines;
 use mcs_trace::{Line, spell_answer, spell_record};
-use mcs_types::{Answer, Badge, Message, Mode, ObjId, Rec, Status};
+use mcs_types::{Answer, Status};
 use std::alloc::Global;
 
 /// Where something is seen: in a state, or by a turn from it.
@@ -30,70 +34,6 @@ pub struct Watched<'a> {
     pub answers: Answers,
     /// For each question where it failed first, as far as that is seen in a turn or a state.
     pub failed: Vec<Option<Sighting>>,
-}
-
-/// A message that is got.
-fn got(alloc: Global, badge: Badge, message: &Message) -> Result<Answer, OrdersFault> {
-    let message = message.copy(alloc)?;
-    Ok(Answer::Got { badge, message })
-}
-
-/// What reaches a thread by a record, where so far the line sent this message.
-fn reaching(
-    alloc: Global,
-    fact: &Rec,
-    sent: &Option<(Badge, Message)>,
-) -> Result<Option<(ObjId, Answer)>, OrdersFault> {
-    match fact {
-        Rec::Took { thread, .. } => match sent {
-            Some(sent) => Ok(Some((*thread, got(alloc, sent.0, &sent.1)?))),
-            None => Ok(None),
-        },
-        Rec::Paid {
-            caller,
-            message,
-            ..
-        } => Ok(Some((*caller, got(alloc, Badge(0), message)?))),
-        Rec::Heard { thread, word, .. } => Ok(Some((*thread, Answer::Heard { word: *word }))),
-        Rec::Turns {
-            thread,
-            mode: Mode::Running,
-        } => Ok(Some((*thread, Answer::Done))),
-        _ => Ok(None),
-    }
-}
-
-/// The message that a record sends, with the badge that it is sent by; None where it sends none.
-fn sent_by(alloc: Global, fact: &Rec) -> Result<Option<(Badge, Message)>, OrdersFault> {
-    match fact {
-        Rec::Sent { badge, message, .. } => Ok(Some((*badge, message.copy(alloc)?))),
-        _ => Ok(None),
-    }
-}
-
-/// What reaches threads by a line.
-fn reached_by(alloc: Global, line: &BookLine<'_>) -> Result<Vec<(ObjId, Answer)>, OrdersFault> {
-    let mut all = Vec::new(alloc);
-    let mut sent = None;
-    for i in 0..line.record_count() {
-        let Some(fact) = line.record(alloc, i)? else {
-            break;
-        };
-        let sends = sent_by(alloc, &fact)?;
-        if sends.is_some() {
-            sent = sends;
-        }
-        if let Some(reached) = reaching(alloc, &fact, &sent)? {
-            all.push(reached)?;
-        }
-    }
-    Ok(all)
-}
-
-/// The newest line of a kernel's book.
-fn newest(kernel: &Kernel<PlainLines>) -> Option<BookLine<'_>> {
-    let book = kernel.book();
-    book.line(book.lines().saturating_sub(1))
 }
 
 /// How many entries of a user were answered for good.
@@ -126,17 +66,6 @@ fn is_in(users: &Users, walk: &Walk<PlainLines>, span: Span) -> bool {
 fn gives(users: &Users, turn: Turn, event: Event) -> bool {
     users.find(event.thread) == Some(turn.pick.user)
         && turn.pick.number.saturating_add(1) == event.number
-}
-
-/// Whether an entry of a user is a Send.
-fn gave_send(users: &Users, user: usize, number: usize) -> bool {
-    match users.lists().get(user) {
-        Some(list) => match list.entries.get(number) {
-            Some(entry) => is_send(entry),
-            None => false,
-        },
-        None => false,
-    }
 }
 
 /// Whether a user has given an entry.
@@ -198,7 +127,10 @@ impl<'a> Watched<'a> {
         alloc: Global,
         users: &Users,
         asked: &'a [AskedLine],
-    ) -> Result<Watched<'a>, LabFault> {
+    ) -> Result<Watched<'a>, LabFault>
+        ensures ends { IfOk result (λ w. w.ends ≡ []) }
+        ensures answers { IfOk result (λ w. w.answers ≡ no_answers users.now) }
+    {
         let mut failed = Vec::new(alloc);
         for _ in asked {
             failed.push(None)?;
@@ -213,51 +145,6 @@ impl<'a> Watched<'a> {
         })
     }
 
-    /// Notes what an entry that waited came to, where this reached a thread.
-    fn note_reached(
-        &mut self,
-        users: &Users,
-        walk: &Walk<PlainLines>,
-        reached: &(ObjId, Answer),
-        place: usize,
-        turn: Turn,
-    ) -> Result<(), OrdersFault> {
-        let Some(user) = users.find(reached.0) else {
-            return Ok(());
-        };
-        let Some(position) = walk.place(user) else {
-            return Ok(());
-        };
-        let Some(number) = position.waited else {
-            return Ok(());
-        };
-        if user == turn.pick.user {
-            return Ok(());
-        }
-        if matches!(reached.1, Answer::Done) && !gave_send(users, user, number) {
-            return Ok(());
-        }
-        self.answers.note(user, number, &reached.1, place, turn)
-    }
-
-    /// Notes what entries that waited came to by the newest line.
-    fn note_mail(
-        &mut self,
-        users: &Users,
-        walk: &Walk<PlainLines>,
-        place: usize,
-        turn: Turn,
-    ) -> Result<(), OrdersFault> {
-        let Some(line) = newest(walk.kernel()) else {
-            return Ok(());
-        };
-        let all = reached_by(self.alloc, &line)?;
-        for reached in all.iter() {
-            self.note_reached(users, walk, reached, place, turn)?;
-        }
-        Ok(())
-    }
-
     /// Whether a question fails by a turn.
     fn fails_by_turn(
         &mut self,
@@ -265,7 +152,11 @@ impl<'a> Watched<'a> {
         number: usize,
         turn: Turn,
         walk: &Walk<PlainLines>,
-    ) -> bool {
+    ) -> bool
+        ensures ends { self.new.ends ≡ self.old.ends }
+        ensures answers { self.new.answers ≡ self.old.answers }
+        ensures failed { self.new.failed.items ≡ self.old.failed.items }
+    {
         let Some(line) = self.asked.get(number) else {
             return false;
         };
@@ -304,14 +195,46 @@ impl<'a> Watched<'a> {
     }
 
     /// Notes where a question failed.
-    fn fail(&mut self, number: usize, seen: Sighting) {
+    fn fail(&mut self, number: usize, seen: Sighting)
+        ensures ends { self.new.ends ≡ self.old.ends }
+        ensures answers { self.new.answers ≡ self.old.answers }
+    {
         if let Some(place) = self.failed.get_mut(number) {
             *place = Some(seen);
+        }
+    }
+
+    /// Notes which questions fail in the state in a place.
+    fn judge_state(&mut self, users: &Users, place: usize, walk: &Walk<PlainLines>)
+        ensures ends { self.new.ends ≡ self.old.ends }
+        ensures answers { self.new.answers ≡ self.old.answers }
+    {
+        for number in 0..self.asked.len() {
+            if self.stands(number) && self.fails_in(users, number, walk) {
+                self.fail(number, Sighting { place, turn: None });
+            }
+        }
+    }
+
+    /// Notes which questions fail by a turn from the state in a place.
+    fn judge_turn(&mut self, users: &Users, place: usize, turn: Turn, walk: &Walk<PlainLines>)
+        ensures ends { self.new.ends ≡ self.old.ends }
+        ensures answers { self.new.answers ≡ self.old.answers }
+    {
+        for number in 0..self.asked.len() {
+            if self.stands(number) && self.fails_by_turn(users, number, turn, walk) {
+                let turn = Some(turn);
+                self.fail(number, Sighting { place, turn });
+            }
         }
     }
 }
 
 impl Watch for Watched<'_> {
+    ghost use Rattle.mcs_ways.specs.Kept.{IsKept};
+
+    ghost HasSeen = { λ w users shown. IsKept users shown w.ends w.answers };
+
     fn see_state(
         &mut self,
         users: &Users,
@@ -319,15 +242,8 @@ impl Watch for Watched<'_> {
         walk: &Walk<PlainLines>,
         is_over: bool,
     ) -> Result<(), OrdersFault> {
-        for number in 0..self.asked.len() {
-            if self.stands(number) && self.fails_in(users, number, walk) {
-                self.fail(number, Sighting { place, turn: None });
-            }
-        }
-        if is_over {
-            self.ends.note(users, place, walk)?;
-        }
-        Ok(())
+        self.judge_state(users, place, walk);
+        self.ends.note_state(users, place, walk, is_over)
     }
 
     fn see_turn(
@@ -338,18 +254,8 @@ impl Watch for Watched<'_> {
         answer: &Answer,
         walk: &Walk<PlainLines>,
     ) -> Result<(), OrdersFault> {
-        if !matches!(answer, Answer::Waits) {
-            let pick = turn.pick;
-            self.answers
-                .note(pick.user, pick.number, answer, place, turn)?;
-        }
-        self.note_mail(users, walk, place, turn)?;
-        for number in 0..self.asked.len() {
-            if self.stands(number) && self.fails_by_turn(users, number, turn, walk) {
-                let turn = Some(turn);
-                self.fail(number, Sighting { place, turn });
-            }
-        }
-        Ok(())
+        self.judge_turn(users, place, turn, walk);
+        self.answers.note_turn(answer, place, turn)?;
+        note_mail(self.alloc, &mut self.answers, users, walk, place, turn)
     }
 }

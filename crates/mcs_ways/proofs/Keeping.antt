@@ -1,0 +1,158 @@
+-- What is kept of all that was shown.
+use Rattle.std.specs.Prelude.{ℕ, zero, suc, ◌≡◌, ◌<◌, ◌++◌, ◌⊎◌, Bool, List, [], ◌∷◌, Some, Result, Ok, Err, length, slice_get}
+use Rattle.std.specs.Result.{OnOk}
+use Rattle.std.proofs.Common.{refl, ap, sym, ◌∙◌, subst, inl, inr, arith}
+use Rattle.mcs_types.specs.declared.entry.Answer.{Answer}
+use Rattle.mcs_types.specs.declared.entry.Answer.TheVariants as answer
+use Rattle.mcs_book.specs.Boots.{Boot}
+use Rattle.mcs_turns.specs.Turns.{User, Going, AreApart, IsOver, beginning}
+use Rattle.mcs_explore.specs.Paths.{Path}
+use Rattle.mcs_explore.specs.Search.{Entries, path_of, paths_below}
+use Rattle.mcs_walks.specs.declared.walk.Turn.{Turn}
+use Rattle.mcs_walks.specs.Walks.{last_answer}
+use Rattle.mcs_orders.specs.Trails.{Leads}
+use Rattle.mcs_orders.specs.Shown.{AreShown, HasSeenAll, Made, Shown, nothing, with_state, with_turn}
+use Rattle.mcs_orders.proofs.Paths.{path-one}
+use Rattle.mcs_ways.specs.declared.answers.Told.{Told}
+use Rattle.mcs_ways.specs.Standings.{standings}
+use Rattle.mcs_ways.specs.Ends.{AreEndsOf, IsKindAt, IsNotedIf, Kind}
+use Rattle.mcs_ways.specs.Answers.{AreAnswersOf, IsAmong, IsAnswerOf, IsNotedTurn, IsOwnAnswer, IsMailed, IsStillOf, IsWaiting, Tables, no_answers, table_of}
+use Rattle.mcs_ways.specs.Kept.{IsKept}
+use Rattle.mcs_ways.specs.Found.{AreAnswersFound, AreEndsFound, IsAnswerFound, IsAnswered, IsAt, IsEndFound}
+use Rattle.mcs_ways.proofs.Lists.{at-last, at-old, at-split, within-at, some-same}
+use Rattle.mcs_ways.proofs.Noting.{no-ends, state-noted}
+use Rattle.mcs_ways.proofs.Telling.{no-turns, turn-noted}
+
+-- a state more
+pub kept-state : {E : Type 0} (r : Result (Unit {0}) E) (users : List User) (place : ℕ) (g : Going) (over : Bool) (old mid new : List Kind) (before after : Tables) → mid ≡ old → after ≡ before → OnOk r (IsNotedIf over (standings users g) place mid new)
+    → OnOk r ((shown : Shown) → IsKept users shown old before → IsKept users (with_state place g over shown) new after)
+kept-state (Err e) users place g over old mid new before after same still noted = noted
+kept-state (Ok x) users place g over old mid new before after same still noted = λ shown kept. record {
+  ends = state-noted users shown.states old new place g over (subst (λ (ks : List Kind). IsNotedIf over (standings users g) place ks new) same noted) kept.ends;
+  answers = subst (λ (ts : Tables). AreAnswersOf users shown.turns ts) (sym still) kept.answers;
+}
+
+-- a turn more
+pub kept-turn : {E : Type 0} (r : Result (Unit {0}) E) (users : List User) (place : ℕ) (t : Turn) (a : Answer) (h : Going) (old new : List Kind) (before start mid after : Tables) → new ≡ old → start ≡ before → IsNotedTurn (record { answer = a; place = place; turn = t }) start mid
+    → OnOk r (IsStillOf users place t h mid after) → OnOk r ((shown : Shown) → IsKept users shown old before → IsKept users (with_turn place t a h shown) new after)
+kept-turn (Err e) users place t a h old new before start mid after same still noted mail = mail
+kept-turn (Ok x) users place t a h old new before start mid after same still noted mail = λ shown kept.
+    let m : Made = record { place = place; turn = t; answer = a; going = h } in
+    let own = turn-noted users shown.turns before mid m (subst (λ (ts : Tables). IsNotedTurn (record { answer = a; place = place; turn = t }) ts mid) still noted) kept.answers in
+    record {
+      ends = subst (λ (ks : List Kind). AreEndsOf users shown.states ks) (sym same) kept.ends;
+      answers = mail (shown.turns ++ m ∷ []) (length shown.turns) m (at-last shown.turns m) refl refl refl own;
+    }
+
+one-longer : {A : Type 0} (xs : List A) (x : A) → length (xs ++ x ∷ []) ≡ suc (length xs)
+one-longer [] x = refl
+one-longer (y ∷ xs) x = ap (λ n. suc n) (one-longer xs x)
+
+paths-long : {K L : Type 0} (found : Entries K L) (n : ℕ) → length (paths_below found n) ≡ n
+paths-long found zero = refl
+paths-long found (suc n) = one-longer (paths_below found n) (path_of found n) ∙ ap (λ k. suc k) (paths-long found n)
+
+-- the paths of the first places
+at-paths : {K L : Type 0} (found : Entries K L) (n i : ℕ) → i < n → slice_get (paths_below found n) i ≡ Some (path_of found i)
+at-paths found zero i lt = absurd (omega (arith, lt))
+at-paths found (suc n) i lt = go (below-or i n lt) (λ b. at-paths found n i b)
+  where
+    below-or : (i n : ℕ) → i < suc n → (i ≡ n) ⊎ (i < n)
+    below-or zero zero lt = inl refl
+    below-or zero (suc n) lt = inr (omega arith)
+    below-or (suc i) zero lt = absurd (omega (arith, lt))
+    below-or (suc i) (suc n) lt = up (below-or i n (omega (arith, lt)))
+      where
+        up : (i ≡ n) ⊎ (i < n) → (suc i ≡ suc n) ⊎ (suc i < suc n)
+        up (inl e) = inl (ap (λ k. suc k) e)
+        up (inr b) = inr (omega (arith, b))
+
+    go : (i ≡ n) ⊎ (i < n) → (i < n → slice_get (paths_below found n) i ≡ Some (path_of found i)) → slice_get (paths_below found n ++ path_of found n ∷ []) i ≡ Some (path_of found i)
+    go (inl e) before =
+        ap (λ k. slice_get (paths_below found n ++ path_of found n ∷ []) k) (e ∙ sym (paths-long found n)) ∙ at-last (paths_below found n) (path_of found n) ∙ ap (λ k. Some (path_of found k)) (sym e)
+    go (inr b) before = at-old (paths_below found n) (path_of found n ∷ []) i (path_of found i) (before b)
+
+-- and nothing else
+paths-at : {K L : Type 0} (found : Entries K L) (n i : ℕ) (p : List L) → slice_get (paths_below found n) i ≡ Some p → (i < n) × (p ≡ path_of found i)
+paths-at found zero i p at = absurd cc
+paths-at found (suc n) i p at = go (at-split (paths_below found n) (path_of found n) i p at) (λ h. paths-at found n i p h)
+  where
+    go : (slice_get (paths_below found n) i ≡ Some p) ⊎ ((i ≡ length (paths_below found n)) × (p ≡ path_of found n)) → (slice_get (paths_below found n) i ≡ Some p → (i < n) × (p ≡ path_of found i)) → (i < suc n) × (p ≡ path_of found i)
+    go (inl h) before = let r = before h in let lt = r.0 in (omega (arith, lt), r.1)
+    go (inr e) before = let is = e.0 ∙ paths-long found n in (omega (arith, is), e.1 ∙ ap (λ k. path_of found k) (sym is))
+
+module _ {K : Type 0} (users : List User) (apart : AreApart users) (boot : Boot) (found : Entries K Turn) (done : ℕ) (ends : List Kind) (tables : Tables) (shown : Shown)
+    (kept : IsKept users shown ends tables) (are : AreShown users (beginning users boot) (paths_below found done) shown) where
+  -- a state that was shown is that in its place
+  pub ends-found : AreEndsFound users boot found done ends
+  ends-found = record { each = each; all = all; apart = kept.ends.apart }
+    where
+      each : (i : ℕ) (k : Kind) → slice_get ends i ≡ Some k → IsEndFound users boot found done k
+      each i k at =
+          let e = kept.ends.each i k at in
+          let s = are.states e.number e.sight e.at in
+          let p = paths-at found done e.number s.path s.at in
+          let place : e.number ≡ k.place = sym s.place ∙ e.place in
+          record {
+            within = subst (λ n. n < done) place p.0;
+            going = e.sight.going;
+            is = subst (λ ls. Path (Leads users) (beginning users boot) ls e.sight.going) (p.1 ∙ ap (λ n. path_of found n) place) s.leads;
+            over = s.over.0 e.over;
+            standing = e.standing;
+          }
+
+      all : (place : ℕ) (g : Going) → place < done → IsAt users boot found place g → IsOver users g → (i : ℕ) × IsKindAt ends (standings users g) i
+      all place g lt at over =
+          let s = within-at shown.states place (let long = are.long in let paths = paths-long found done in omega (arith, long, paths, lt)) in
+          let is = are.states place s.0 s.1 in
+          let path : is.path ≡ path_of found place = some-same is.path (path_of found place) (sym is.at ∙ at-paths found done place lt) in
+          let same : s.0.going ≡ g = path-one users apart (beginning users boot) (path_of found place) s.0.going g (subst (λ ls. Path (Leads users) (beginning users boot) ls s.0.going) path is.leads) at in
+          subst (λ x. (i : ℕ) × IsKindAt ends (standings users x) i) same (kept.ends.all place s.0 s.1 (is.over.1 (subst (λ x. IsOver users x) (sym same) over)))
+
+  -- a turn that was shown is one from the state in its place
+  pub answers-found : AreAnswersFound users boot found done tables
+  answers-found = record { entries = kept.answers.entries; each = each; all = all }
+    where
+      each : (user number : ℕ) (told : List Told) (i : ℕ) (t : Told) → table_of tables user number ≡ Some told → slice_get told i ≡ Some t → IsAnswerFound users boot found done user number t
+      each user number told i t at there =
+          let a = kept.answers.each user number told i t at there in
+          let m = are.turns a.index a.made a.at in
+          let p = paths-at found done a.made.place m.path m.at in
+          record {
+            within = subst (λ n. n < done) a.place p.0;
+            state = m.state;
+            going = a.made.going;
+            at = subst (λ ls. Path (Leads users) (beginning users boot) ls m.state) (p.1 ∙ ap (λ n. path_of found n) a.place) m.leads;
+            turn = subst (λ u. Leads users u m.state a.made.going) a.turn m.turn.leads;
+            is = is a m.turn.answer a.is;
+          }
+        where
+          is : (a : IsAnswerOf users shown.turns user number t) → last_answer a.made.going.book ≡ Some a.made.answer → IsOwnAnswer a.made user number t.answer ⊎ IsMailed users a.made user number
+              → IsAnswered t.turn a.made.going user number t.answer ⊎ IsWaiting users a.made.going user number t.turn
+          is a told (inl own) = inl (record {
+            user = ap (λ (u : Turn). u.pick.user) (sym a.turn) ∙ own.user;
+            number = ap (λ (u : Turn). u.pick.number) (sym a.turn) ∙ own.number;
+            answer = told ∙ ap (λ x. Some x) own.answer;
+          })
+          is a told (inr mail) = inr (subst (λ u. IsWaiting users a.made.going user number u) a.turn mail)
+
+      all : (place : ℕ) (t : Turn) (g h : Going) (a : Answer) (told : List Told) → place < done → IsAt users boot found place g → Leads users t g h → last_answer h.book ≡ Some a → (a ≡ answer.Waits → ⊥)
+          → table_of tables t.pick.user t.pick.number ≡ Some told → IsAmong told a
+      all place t g h a told lt at step answered not there =
+          let s = are.all place (path_of found place) g h t (at-paths found done place lt) at step in
+          let m = are.turns s.number s.made s.at in
+          let is : s.made.answer ≡ a = some-same s.made.answer a (sym m.turn.answer ∙ ap (λ (x : Going). last_answer x.book) s.going ∙ answered) in
+          subst (λ x. IsAmong told x) is (kept.answers.all s.number s.made told s.at (λ w. not (sym is ∙ w)) (ap (λ (u : Turn). table_of tables u.pick.user u.pick.number) s.turn ∙ there))
+
+-- before the search
+pub begun-kept : (users : List User) (ends : List Kind) (tables : Tables) → ends ≡ [] → tables ≡ no_answers users → IsKept users nothing ends tables
+begun-kept users ends tables none empty = record {
+  ends = subst (λ (ks : List Kind). AreEndsOf users [] ks) (sym none) (no-ends users);
+  answers = subst (λ (ts : Tables). AreAnswersOf users [] ts) (sym empty) (no-turns users);
+}
+
+-- behind it
+pub kept-found : {K W : Type 0} {Has : W → List User → Shown → Type 0} {w : W} (users : List User) → AreApart users → (boot : Boot) (found : Entries K Turn) (done : ℕ) → HasSeenAll Has w users (beginning users boot) (paths_below found done)
+    → (kinds : List Kind) (tables : Tables) → ((shown : Shown) → Has w users shown → IsKept users shown kinds tables) → AreEndsFound users boot found done kinds × AreAnswersFound users boot found done tables
+kept-found users apart boot found done seen kinds tables is =
+    (ends-found users apart boot found done kinds tables seen.shown (is seen.shown seen.has) seen.are, answers-found users apart boot found done kinds tables seen.shown (is seen.shown seen.has) seen.are)

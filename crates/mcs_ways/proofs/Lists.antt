@@ -1,0 +1,66 @@
+-- Places in lists.
+use Rattle.std.specs.Prelude.{ℕ, zero, suc, ◌≡◌, ◌<◌, ◌++◌, ◌⊎◌, List, [], ◌∷◌, Some, length, set, slice_get}
+use Rattle.std.proofs.Common.{refl, ap, ◌∙◌, inl, inr, arith}
+
+pub some-same : {A : Type 0} (x y : A) → Some x ≡ Some y → x ≡ y
+some-same x y e = cc
+
+pub at-old : {A : Type 0} (xs ys : List A) (i : ℕ) (x : A) → slice_get xs i ≡ Some x → slice_get (xs ++ ys) i ≡ Some x
+at-old [] ys i x h = absurd cc
+at-old (e ∷ xs) ys zero x h = h
+at-old (e ∷ xs) ys (suc i) x h = at-old xs ys i x h
+
+pub at-last : {A : Type 0} (xs : List A) (x : A) → slice_get (xs ++ x ∷ []) (length xs) ≡ Some x
+at-last [] x = refl
+at-last (e ∷ xs) x = at-last xs x
+
+pub at-within : {A : Type 0} (xs : List A) (i : ℕ) (x : A) → slice_get xs i ≡ Some x → i < length xs
+at-within [] i x h = absurd cc
+at-within (e ∷ xs) zero x h = omega arith
+at-within (e ∷ xs) (suc i) x h = let r = at-within xs i x h in omega (arith, r)
+
+pub within-at : {A : Type 0} (xs : List A) (i : ℕ) → i < length xs → (x : A) × (slice_get xs i ≡ Some x)
+within-at [] i h = absurd (omega (arith, h))
+within-at (e ∷ xs) zero h = (e, refl)
+within-at (e ∷ xs) (suc i) h = within-at xs i (omega (arith, h))
+
+pub at-split : {A : Type 0} (xs : List A) (y : A) (i : ℕ) (x : A) → slice_get (xs ++ y ∷ []) i ≡ Some x → (slice_get xs i ≡ Some x) ⊎ ((i ≡ length xs) × (x ≡ y))
+at-split [] y zero x h = inr (refl, cc)
+at-split [] y (suc i) x h = absurd cc
+at-split (e ∷ xs) y zero x h = inl h
+at-split (e ∷ xs) y (suc i) x h = go (at-split xs y i x h)
+  where
+    go : (slice_get xs i ≡ Some x) ⊎ ((i ≡ length xs) × (x ≡ y)) → (slice_get xs i ≡ Some x) ⊎ ((suc i ≡ suc (length xs)) × (x ≡ y))
+    go (inl a) = inl a
+    go (inr b) = inr (ap (λ n. suc n) b.0, b.1)
+
+pub set-same : {A : Type 0} (xs : List A) (i : ℕ) (x v : A) → slice_get xs i ≡ Some x → slice_get (set xs i v) i ≡ Some v
+set-same [] i x v h = absurd cc
+set-same (e ∷ xs) zero x v h = refl
+set-same (e ∷ xs) (suc i) x v h = set-same xs i x v h
+
+pub set-other : {A : Type 0} (xs : List A) (i j : ℕ) (v : A) → (j ≡ i → ⊥) → slice_get (set xs i v) j ≡ slice_get xs j
+set-other [] i j v ne = refl
+set-other (e ∷ xs) zero zero v ne = absurd (ne refl)
+set-other (e ∷ xs) zero (suc j) v ne = refl
+set-other (e ∷ xs) (suc i) zero v ne = refl
+set-other (e ∷ xs) (suc i) (suc j) v ne = set-other xs i j v (λ e. ne (ap (λ n. suc n) e))
+
+-- numbers are the same or not
+pub same-or-not : (i j : ℕ) → (i ≡ j) ⊎ (i ≡ j → ⊥)
+same-or-not zero zero = inl refl
+same-or-not zero (suc j) = inr (λ e. absurd (omega (arith, e)))
+same-or-not (suc i) zero = inr (λ e. absurd (omega (arith, e)))
+same-or-not (suc i) (suc j) = go (same-or-not i j)
+  where
+    go : (i ≡ j) ⊎ (i ≡ j → ⊥) → (suc i ≡ suc j) ⊎ (suc i ≡ suc j → ⊥)
+    go (inl e) = inl (ap (λ n. suc n) e)
+    go (inr ne) = inr (λ e. ne (omega (arith, e)))
+
+-- lists with the same in each place are the same
+pub same-lists : {A : Type 0} (xs ys : List A) → length xs ≡ length ys → ((i : ℕ) (x y : A) → slice_get xs i ≡ Some x → slice_get ys i ≡ Some y → x ≡ y) → xs ≡ ys
+same-lists [] [] long each = refl
+same-lists [] (y ∷ ys) long each = absurd (omega (arith, long))
+same-lists (x ∷ xs) [] long each = absurd (omega (arith, long))
+same-lists {A} (x ∷ xs) (y ∷ ys) long each =
+    ap (λ (z : A). z ∷ xs) (each 0 x y refl refl) ∙ ap (λ (zs : List A). y ∷ zs) (same-lists xs ys (omega (arith, long)) (λ i u v a b. each (suc i) u v a b))

@@ -1,0 +1,267 @@
+-- What noting an answer says of all answers.
+use Rattle.std.specs.Prelude.{ℕ, zero, suc, ◌≡◌, ◌++◌, ◌⊎◌, ◌+◌, drop, unwrap_or, map, set, List, [], ◌∷◌, Option, Some, None, Result, Ok, Err, length, slice_get}
+use Rattle.std.specs.Result.{OnOk}
+use Rattle.std.proofs.Common.{refl, ap, sym, ◌∙◌, subst, inl, inr, append_assoc, arith}
+use Rattle.mcs_types.specs.declared.entry.Answer.{Answer}
+use Rattle.mcs_types.specs.declared.entry.Answer.TheVariants as answer
+use Rattle.mcs_types.specs.declared.entry.Entry.{Entry}
+use Rattle.mcs_turns.specs.Turns.{User, Going}
+use Rattle.mcs_walks.specs.declared.walk.Turn.{Turn}
+use Rattle.mcs_orders.specs.Shown.{Made}
+use Rattle.mcs_ways.specs.declared.answers.Told.{Told}
+use Rattle.mcs_ways.specs.Answers.{AreAnswersOf, IsAmong, IsAnswerOf, IsChangedAt, IsEntry, IsNoted, IsNotedIn, IsNotedOf, IsNotedTurn, IsStillOf, IsWaiting, Tables, no_answers, table_of}
+use Rattle.mcs_ways.proofs.Lists.{at-last, at-old, at-split, same-or-not, set-other, set-same, some-same}
+
+-- what was changed in a place
+module _ {A : Type 0} (Change : A → A → Type 0) (i : ℕ) (old new : List A) where
+  pub change-back : IsChangedAt Change i old new → (j : ℕ) (y : A) → slice_get new j ≡ Some y
+      → (x : A) × ((slice_get old j ≡ Some x) × (((j ≡ i) × Change x y) ⊎ ((j ≡ i → ⊥) × (y ≡ x))))
+  change-back (inl same) j y at =
+      let was : slice_get old j ≡ Some y = ap (λ xs. slice_get xs j) (sym same.1) ∙ at in
+      (y, (was, inr (λ e. absurd (no (sym same.0 ∙ ap (λ n. slice_get old n) (sym e) ∙ was)), refl)))
+    where
+      no : None ≡ Some y → ⊥
+      no e = absurd cc
+  change-back (inr c) j y at = go (same-or-not j i)
+    where
+      there : slice_get (set old i c.after) j ≡ Some y
+      there = ap (λ xs. slice_get xs j) (sym c.changed) ∙ at
+
+      go : (j ≡ i) ⊎ (j ≡ i → ⊥) → (x : A) × ((slice_get old j ≡ Some x) × (((j ≡ i) × Change x y) ⊎ ((j ≡ i → ⊥) × (y ≡ x))))
+      go (inl e) =
+          let is : c.after ≡ y = some-same c.after y (sym (set-same old i c.before c.after c.at) ∙ ap (λ n. slice_get (set old i c.after) n) (sym e) ∙ there) in
+          (c.before, (ap (λ n. slice_get old n) e ∙ c.at, inl (e, subst (λ z. Change c.before z) is c.change)))
+      go (inr ne) = (y, (sym (set-other old i j c.after ne) ∙ there, inr (ne, refl)))
+
+  pub change-there : IsChangedAt Change i old new → (j : ℕ) (x : A) → slice_get old j ≡ Some x → (y : A) × (slice_get new j ≡ Some y)
+  change-there (inl same) j x at = (x, ap (λ xs. slice_get xs j) same.1 ∙ at)
+  change-there (inr c) j x at = go (same-or-not j i)
+    where
+      go : (j ≡ i) ⊎ (j ≡ i → ⊥) → (y : A) × (slice_get new j ≡ Some y)
+      go (inl e) = (c.after, ap (λ xs. slice_get xs j) c.changed ∙ ap (λ n. slice_get (set old i c.after) n) e ∙ set-same old i c.before c.after c.at)
+      go (inr ne) = (x, ap (λ xs. slice_get xs j) c.changed ∙ set-other old i j c.after ne ∙ at)
+
+-- what a call changed, if it did
+pub changed-at : {A E : Type 0} (r : Result (Unit {0}) E) (Change : A → A → Type 0) (i : ℕ) (old : List A) (before after : A) → slice_get old i ≡ Some before → OnOk r (Change before after) → OnOk r (IsChangedAt Change i old (set old i after))
+changed-at (Ok x) Change i old before after at change = inr (record { before = before; after = after; at = at; change = change; changed = refl })
+changed-at (Err e) Change i old before after at change = change
+
+-- the table of an entry
+pub table-in : (tables : Tables) (a b : ℕ) (told : List Told) → table_of tables a b ≡ Some told → (ts : List (List Told)) × ((slice_get tables a ≡ Some ts) × (slice_get ts b ≡ Some told))
+table-in tables a b told at = go (slice_get tables a) refl at
+  where
+    go : (o : Option (List (List Told))) → slice_get tables a ≡ o → slice_get (unwrap_or o []) b ≡ Some told → (ts : List (List Told)) × ((slice_get tables a ≡ Some ts) × (slice_get ts b ≡ Some told))
+    go None e it = absurd cc
+    go (Some ts) e it = (ts, (e, it))
+
+pub table-at : (tables : Tables) (a b : ℕ) (ts : List (List Told)) (told : List Told) → slice_get tables a ≡ Some ts → slice_get ts b ≡ Some told → table_of tables a b ≡ Some told
+table-at tables a b ts told e at = ap (λ (o : Option (List (List Told))). slice_get (unwrap_or o []) b) e ∙ at
+
+among-more : (told more : List Told) (x : Answer) → IsAmong told x → IsAmong (told ++ more) x
+among-more told more x m = record { place = m.place; one = m.one; at = at-old told more m.place m.one m.at; same = m.same }
+
+-- a table in which an answer was noted
+noted-keeps : (t : Told) (told after : List Told) → IsNoted t told after → (x : Answer) → IsAmong told x → IsAmong after x
+noted-keeps t told after (inl same) x m = subst (λ ts. IsAmong ts x) (sym same.1) m
+noted-keeps t told after (inr new) x m = subst (λ ts. IsAmong ts x) (sym new.added) (among-more told (t ∷ []) x m)
+
+noted-has : (t : Told) (told after : List Told) → IsNoted t told after → IsAmong after t.answer
+noted-has t told after (inl same) = subst (λ ts. IsAmong ts t.answer) (sym same.1) same.0
+noted-has t told after (inr new) = subst (λ ts. IsAmong ts t.answer) (sym new.added) (record { place = length told; one = t; at = at-last told t; same = refl })
+
+noted-old : (t : Told) (told after : List Told) → IsNoted t told after → (i : ℕ) (x : Told) → slice_get after i ≡ Some x → (slice_get told i ≡ Some x) ⊎ (x ≡ t)
+noted-old t told after (inl same) i x at = inl (ap (λ ts. slice_get ts i) (sym same.1) ∙ at)
+noted-old t told after (inr new) i x at = go (at-split told t i x (ap (λ ts. slice_get ts i) (sym new.added) ∙ at))
+  where
+    go : (slice_get told i ≡ Some x) ⊎ ((i ≡ length told) × (x ≡ t)) → (slice_get told i ≡ Some x) ⊎ (x ≡ t)
+    go (inl h) = inl h
+    go (inr e) = inr e.1
+
+-- what the table of an entry was before an answer was noted: that of this entry, or the same
+pub record WasTable (user number : ℕ) (t : Told) (old : Tables) (a b : ℕ) (after : List Told) : Type 0 where
+  pub before : List Told
+  pub at : table_of old a b ≡ Some before
+  pub is : ((a ≡ user) × (b ≡ number) × IsNoted t before after) ⊎ (((a ≡ user) × (b ≡ number) → ⊥) × (after ≡ before))
+
+module _ (user number : ℕ) (t : Told) (old new : Tables) (noted : IsNotedOf user number t old new) where
+  table-was : (a b : ℕ) (after : List Told) → table_of new a b ≡ Some after → WasTable user number t old a b after
+  table-was a b after at = outer (change-back (IsNotedIn number t) user old new noted a in_new.0 in_new.1.0)
+    where
+      in_new : (ts : List (List Told)) × ((slice_get new a ≡ Some ts) × (slice_get ts b ≡ Some after))
+      in_new = table-in new a b after at
+
+      outer : (xs : List (List Told)) × ((slice_get old a ≡ Some xs) × (((a ≡ user) × IsNotedIn number t xs in_new.0) ⊎ ((a ≡ user → ⊥) × (in_new.0 ≡ xs)))) → WasTable user number t old a b after
+      outer (xs, (was, inr other)) = record {
+        before = after;
+        at = table-at old a b xs after was (ap (λ ts. slice_get ts b) (sym other.1) ∙ in_new.1.1);
+        is = inr (λ e. other.0 e.0, refl);
+      }
+      outer (xs, (was, inl mine)) = inner (change-back (IsNoted t) number xs in_new.0 mine.1 b after in_new.1.1)
+        where
+          inner : (x : List Told) × ((slice_get xs b ≡ Some x) × (((b ≡ number) × IsNoted t x after) ⊎ ((b ≡ number → ⊥) × (after ≡ x)))) → WasTable user number t old a b after
+          inner (x, (there, inl is)) = record { before = x; at = table-at old a b xs x was there; is = inl (mine.0, is.0, is.1) }
+          inner (x, (there, inr is)) = record { before = x; at = table-at old a b xs x was there; is = inr (λ e. is.0 e.1, is.1) }
+
+  table-stays : (a b : ℕ) (before : List Told) → table_of old a b ≡ Some before → (after : List Told) × (table_of new a b ≡ Some after)
+  table-stays a b before at =
+      let o = table-in old a b before at in
+      let ts = change-there (IsNotedIn number t) user old new noted a o.0 o.1.0 in
+      go o.0 o.1.0 o.1.1 (change-back (IsNotedIn number t) user old new noted a ts.0 ts.1) ts.1
+    where
+      go : (xs : List (List Told)) → slice_get old a ≡ Some xs → slice_get xs b ≡ Some before
+          → {ys : List (List Told)} → (zs : List (List Told)) × ((slice_get old a ≡ Some zs) × (((a ≡ user) × IsNotedIn number t zs ys) ⊎ ((a ≡ user → ⊥) × (ys ≡ zs)))) → slice_get new a ≡ Some ys → (after : List Told) × (table_of new a b ≡ Some after)
+      go xs was there {ys} (zs, (same, inl mine)) now =
+          let is : xs ≡ zs = some-same xs zs (sym was ∙ same) in
+          let y = change-there (IsNoted t) number zs ys mine.1 b before (ap (λ ts. slice_get ts b) (sym is) ∙ there) in
+          (y.0, table-at new a b ys y.0 now y.1)
+      go xs was there {ys} (zs, (same, inr other)) now =
+          let is : ys ≡ xs = other.1 ∙ some-same zs xs (sym same ∙ was) in
+          (before, table-at new a b ys before now (ap (λ ts. slice_get ts b) is ∙ there))
+
+  -- what was among the answers of an entry still is, and the answer is among those of its own
+  pub among-stays : (a b : ℕ) (after : List Told) (x : Answer) → table_of new a b ≡ Some after → ((told : List Told) → table_of old a b ≡ Some told → IsAmong told x) → IsAmong after x
+  among-stays a b after x at was = let w = table-was a b after at in go w.before w.at w.is
+    where
+      go : (before : List Told) → table_of old a b ≡ Some before → ((a ≡ user) × (b ≡ number) × IsNoted t before after) ⊎ (((a ≡ user) × (b ≡ number) → ⊥) × (after ≡ before)) → IsAmong after x
+      go before there (inl mine) = noted-keeps t before after mine.2 x (was before there)
+      go before there (inr other) = subst (λ ts. IsAmong ts x) (sym other.1) (was before there)
+
+  pub among-noted : (after : List Told) → table_of new user number ≡ Some after → IsAmong after t.answer
+  among-noted after at = let w = table-was user number after at in go w.before w.is
+    where
+      go : (before : List Told) → ((user ≡ user) × (number ≡ number) × IsNoted t before after) ⊎ (((user ≡ user) × (number ≡ number) → ⊥) × (after ≡ before)) → IsAmong after t.answer
+      go before (inl mine) = noted-has t before after mine.2
+      go before (inr other) = absurd (other.0 (refl, refl))
+
+  pub entries-stay : (users : List User) → ((a b : ℕ) → IsEntry users a b → (told : List Told) × (table_of old a b ≡ Some told)) → (a b : ℕ) → IsEntry users a b → (told : List Told) × (table_of new a b ≡ Some told)
+  entries-stay users were a b e = let w = were a b e in table-stays a b w.0 w.1
+
+  pub each-noted : (users : List User) (turns : List Made) → IsAnswerOf users turns user number t
+      → ((a b : ℕ) (told : List Told) (i : ℕ) (x : Told) → table_of old a b ≡ Some told → slice_get told i ≡ Some x → IsAnswerOf users turns a b x)
+      → (a b : ℕ) (told : List Told) (i : ℕ) (x : Told) → table_of new a b ≡ Some told → slice_get told i ≡ Some x → IsAnswerOf users turns a b x
+  each-noted users turns is each a b told i x at there = let w = table-was a b told at in go w.before w.at w.is
+    where
+      go : (before : List Told) → table_of old a b ≡ Some before → ((a ≡ user) × (b ≡ number) × IsNoted t before told) ⊎ (((a ≡ user) × (b ≡ number) → ⊥) × (told ≡ before)) → IsAnswerOf users turns a b x
+      go before was (inr other) = each a b before i x was (ap (λ ts. slice_get ts i) (sym other.1) ∙ there)
+      go before was (inl mine) = side (noted-old t before told mine.2 i x there)
+        where
+          side : (slice_get before i ≡ Some x) ⊎ (x ≡ t) → IsAnswerOf users turns a b x
+          side (inl h) = each a b before i x was h
+          side (inr e) = subst (λ n. IsAnswerOf users turns n b x) (sym mine.0) (subst (λ n. IsAnswerOf users turns user n x) (sym mine.1) (subst (λ (y : Told). IsAnswerOf users turns user number y) (sym e) is))
+
+answer-more : (users : List User) (turns more : List Made) (a b : ℕ) (x : Told) → IsAnswerOf users turns a b x → IsAnswerOf users (turns ++ more) a b x
+answer-more users turns more a b x is = record { index = is.index; made = is.made; at = at-old turns more is.index is.made is.at; place = is.place; turn = is.turn; is = is.is }
+
+-- a turn that was answered with Waits
+pub waits-more : (users : List User) (turns : List Made) (tables : Tables) (m : Made) → m.answer ≡ answer.Waits → AreAnswersOf users turns tables → AreAnswersOf users (turns ++ m ∷ []) tables
+waits-more users turns tables m waits are = record {
+  entries = are.entries;
+  each = λ a b told i x at there. answer-more users turns (m ∷ []) a b x (are.each a b told i x at there);
+  all = λ j n told at not there. all j n told not there (at-split turns m j n at);
+}
+  where
+    all : (j : ℕ) (n : Made) (told : List Told) → (n.answer ≡ answer.Waits → ⊥) → table_of tables n.turn.pick.user n.turn.pick.number ≡ Some told → (slice_get turns j ≡ Some n) ⊎ ((j ≡ length turns) × (n ≡ m)) → IsAmong told n.answer
+    all j n told not there (inl h) = are.all j n told h not there
+    all j n told not there (inr e) = absurd (not (ap (λ (x : Made). x.answer) e.1 ∙ waits))
+
+-- a turn whose answer was noted
+pub own-more : (users : List User) (turns : List Made) (old new : Tables) (m : Made) (t : Told) → t ≡ record { answer = m.answer; place = m.place; turn = m.turn } → IsNotedOf m.turn.pick.user m.turn.pick.number t old new
+    → AreAnswersOf users turns old → AreAnswersOf users (turns ++ m ∷ []) new
+own-more users turns old new m t is noted are = record {
+  entries = entries-stay m.turn.pick.user m.turn.pick.number t old new noted users are.entries;
+  each = each-noted m.turn.pick.user m.turn.pick.number t old new noted users (turns ++ m ∷ []) mine (λ a b told i x at there. answer-more users turns (m ∷ []) a b x (are.each a b told i x at there));
+  all = λ j n told at not there. all j n told not there (at-split turns m j n at);
+}
+  where
+    mine : IsAnswerOf users (turns ++ m ∷ []) m.turn.pick.user m.turn.pick.number t
+    mine = record {
+      index = length turns;
+      made = m;
+      at = at-last turns m;
+      place = ap (λ (x : Told). x.place) (sym is);
+      turn = ap (λ (x : Told). x.turn) (sym is);
+      is = inl (record { user = refl; number = refl; answer = ap (λ (x : Told). x.answer) (sym is) });
+    }
+
+    all : (j : ℕ) (n : Made) (told : List Told) → (n.answer ≡ answer.Waits → ⊥) → table_of new n.turn.pick.user n.turn.pick.number ≡ Some told → (slice_get turns j ≡ Some n) ⊎ ((j ≡ length turns) × (n ≡ m)) → IsAmong told n.answer
+    all j n told not there (inl h) = among-stays m.turn.pick.user m.turn.pick.number t old new noted n.turn.pick.user n.turn.pick.number told n.answer there (λ ts at. are.all j n ts h not at)
+    all j n told not there (inr e) =
+        let here : table_of new m.turn.pick.user m.turn.pick.number ≡ Some told = ap (λ (x : Made). table_of new x.turn.pick.user x.turn.pick.number) (sym e.1) ∙ there in
+        let has = among-noted m.turn.pick.user m.turn.pick.number t old new noted told here in
+        subst (λ x. IsAmong told x) (ap (λ (x : Told). x.answer) is ∙ ap (λ (x : Made). x.answer) (sym e.1)) has
+
+-- an answer that is that of a turn was noted
+pub answer-noted : (users : List User) (turns : List Made) (old new : Tables) (user number : ℕ) (t : Told) → IsAnswerOf users turns user number t → IsNotedOf user number t old new → AreAnswersOf users turns old → AreAnswersOf users turns new
+answer-noted users turns old new user number t is noted are = record {
+  entries = entries-stay user number t old new noted users are.entries;
+  each = each-noted user number t old new noted users turns is are.each;
+  all = λ j n told at not there. among-stays user number t old new noted n.turn.pick.user n.turn.pick.number told n.answer there (λ ts was. are.all j n ts at not was);
+}
+
+-- before the first turn
+pub no-turns : (users : List User) → AreAnswersOf users [] (no_answers users)
+no-turns users = record {
+  entries = λ a b e. ([], entry users a b e);
+  each = λ a b told i x at there. absurd (none-told users a b told i x at there);
+  all = λ j m told at. absurd cc;
+}
+  where
+    at-map : {A B : Type 0} (f : A → B) (xs : List A) (i : ℕ) (x : A) → slice_get xs i ≡ Some x → slice_get (map f xs) i ≡ Some (f x)
+    at-map f [] i x h = absurd cc
+    at-map f (y ∷ xs) zero x h = ap (λ z. Some (f z)) (some-same y x h)
+    at-map f (y ∷ xs) (suc i) x h = at-map f xs i x h
+
+    entry : (users : List User) (a b : ℕ) → IsEntry users a b → table_of (no_answers users) a b ≡ Some []
+    entry users a b e = table-at (no_answers users) a b (map (λ (x : Entry). []) e.one.entries) [] (at-map (λ (u : User). map (λ (x : Entry). []) u.entries) users a e.one e.is_user) (at-map (λ (x : Entry). []) e.one.entries b e.entry e.is_entry)
+
+    map-in : {A B : Type 0} (f : A → B) (xs : List A) (i : ℕ) (y : B) → slice_get (map f xs) i ≡ Some y → (x : A) × (y ≡ f x)
+    map-in f [] i y h = absurd cc
+    map-in f (x ∷ xs) zero y h = (x, some-same y (f x) (sym h))
+    map-in f (x ∷ xs) (suc i) y h = map-in f xs i y h
+
+    none-told : (users : List User) (a b : ℕ) (told : List Told) (i : ℕ) (x : Told) → table_of (no_answers users) a b ≡ Some told → slice_get told i ≡ Some x → ⊥
+    none-told users a b told i x at there =
+        let ts = table-in (no_answers users) a b told at in
+        let u = map-in (λ (u : User). map (λ (e : Entry). []) u.entries) users a ts.0 ts.1.0 in
+        let empty = map-in (λ (e : Entry). []) u.0.entries b told (ap (λ xs. slice_get xs b) (sym u.1) ∙ ts.1.1) in
+        no (ap (λ xs. slice_get xs i) (sym empty.1) ∙ there)
+      where
+        no : slice_get [] i ≡ Some x → ⊥
+        no e = absurd cc
+
+-- what was noted of a turn itself
+pub turn-noted : (users : List User) (turns : List Made) (old new : Tables) (m : Made) → IsNotedTurn (record { answer = m.answer; place = m.place; turn = m.turn }) old new → AreAnswersOf users turns old → AreAnswersOf users (turns ++ m ∷ []) new
+turn-noted users turns old new m (inl waits) are = subst (λ (ts : Tables). AreAnswersOf users (turns ++ m ∷ []) ts) (sym waits.1) (waits-more users turns old m waits.0 are)
+turn-noted users turns old new m (inr noted) are = own-more users turns old new m (record { answer = m.answer; place = m.place; turn = m.turn }) refl noted are
+
+-- what a turn brought to a user that waits was noted
+pub mail-noted : {E : Type 0} (r : Result (Unit {0}) E) (users : List User) (place user number : ℕ) (t : Turn) (h : Going) (a : Answer) (old new : Tables) → IsWaiting users h user number t
+    → OnOk r (IsNotedOf user number (record { answer = a; place = place; turn = t }) old new) → OnOk r (IsStillOf users place t h old new)
+mail-noted (Err e) users place user number t h a old new waits noted = noted
+mail-noted (Ok x) users place user number t h a old new waits noted = λ turns j m at same_place same_turn same_going are.
+    let mail : IsWaiting users m.going user number m.turn = subst (λ g. IsWaiting users g user number m.turn) (sym same_going) (subst (λ u. IsWaiting users h user number u) (sym same_turn) waits) in
+    answer-noted users turns old new user number (record { answer = a; place = place; turn = t }) (record { index = j; made = m; at = at; place = same_place; turn = same_turn; is = inr mail }) noted are
+
+-- the tables of one user more
+pub user-more : (lists : List User) (i : ℕ) (u : User) (old new : Tables) (t : List (List Told)) → slice_get lists i ≡ Some u → t ≡ map (λ (e : Entry). []) u.entries → no_answers lists ≡ old ++ no_answers (drop i lists) → new ≡ old ++ t ∷ []
+    → no_answers lists ≡ new ++ no_answers (drop (i + 1) lists)
+user-more lists i u old new t at is so_far more =
+    so_far ∙ ap (λ (us : List User). old ++ no_answers us) (rest lists i at) ∙ ap (λ x. old ++ x ∷ no_answers (drop (i + 1) lists)) (sym is) ∙ sym (append_assoc old (t ∷ []) (no_answers (drop (i + 1) lists))) ∙ ap (λ (xs : Tables). xs ++ no_answers (drop (i + 1) lists)) (sym more)
+  where
+    up : (n : ℕ) → suc n ≡ n + 1
+    up n = omega arith
+
+    by-suc : (xs : List User) (n : ℕ) → slice_get xs n ≡ Some u → drop n xs ≡ u ∷ drop (suc n) xs
+    by-suc [] n at = absurd cc
+    by-suc (x ∷ xs) zero at = ap (λ y. y ∷ xs) (some-same x u at)
+    by-suc (x ∷ xs) (suc n) at = by-suc xs n at
+
+    rest : (xs : List User) (n : ℕ) → slice_get xs n ≡ Some u → drop n xs ≡ u ∷ drop (n + 1) xs
+    rest xs n at = by-suc xs n at ∙ ap (λ m. u ∷ drop m xs) (up n)
+
+-- what was noted of mail goes on
+pub still-same : (users : List User) (place : ℕ) (t : Turn) (h : Going) (tables : Tables) → IsStillOf users place t h tables tables
+still-same users place t h tables = λ turns j m at a b c are. are
+
+pub still-on : (users : List User) (place : ℕ) (t : Turn) (h : Going) (old mid new : Tables) → IsStillOf users place t h old mid → IsStillOf users place t h mid new → IsStillOf users place t h old new
+still-on users place t h old mid new first then = λ turns j m at a b c are. then turns j m at a b c (first turns j m at a b c are)

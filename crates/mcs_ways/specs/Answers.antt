@@ -1,0 +1,104 @@
+-- The answers that entries get (own).
+use Rattle.std.specs.Prelude.{ℕ, ◌≡◌, ◌++◌, ◌⊎◌, map, set, unwrap_or, List, [], ◌∷◌, Option, Some, None, slice_get}
+use Rattle.mcs_types.specs.declared.entry.Answer.{Answer}
+use Rattle.mcs_types.specs.declared.entry.Answer.TheVariants as answer
+use Rattle.mcs_types.specs.declared.entry.Entry.{Entry}
+use Rattle.mcs_turns.specs.declared.position.Position.{Position}
+use Rattle.mcs_turns.specs.Turns.{User, Going}
+use Rattle.mcs_walks.specs.declared.walk.Turn.{Turn}
+use Rattle.mcs_orders.specs.Shown.{Made}
+use Rattle.mcs_ways.specs.declared.answers.Told.{Told}
+
+-- the answers of the entries of all users
+abbrev pub Tables : Type 0
+Tables = List (List (List Told))
+
+-- no answer of any entry
+abbrev pub no_answers : List User → Tables
+no_answers users = map (λ (u : User). map (λ (e : Entry). []) u.entries) users
+
+-- the answers of an entry, if there is such an entry
+abbrev pub table_of : Tables → ℕ → ℕ → Option (List Told)
+table_of tables user number = slice_get (unwrap_or (slice_get tables user) []) number
+
+-- this answer is among those
+pub record IsAmong (told : List Told) (a : Answer) : Type 0 where
+  pub place : ℕ
+  pub one : Told
+  pub at : slice_get told place ≡ Some one
+  pub same : one.answer ≡ a
+
+-- an answer is noted, if it is new
+pub record IsNew (t : Told) (old new : List Told) : Type 0 where
+  pub none : IsAmong old t.answer → ⊥
+  pub added : new ≡ old ++ t ∷ []
+
+abbrev pub IsNoted : Told → List Told → List Told → Type 0
+IsNoted t old new = (IsAmong old t.answer × (new ≡ old)) ⊎ IsNew t old new
+
+-- what stands in a place is changed so, if something does, and nothing else is changed
+pub record IsChanged {A : Type 0} (Change : A → A → Type 0) (i : ℕ) (old new : List A) : Type 0 where
+  pub before : A
+  pub after : A
+  pub at : slice_get old i ≡ Some before
+  pub change : Change before after
+  pub changed : new ≡ set old i after
+
+abbrev pub IsChangedAt : {A : Type 0} → (A → A → Type 0) → ℕ → List A → List A → Type 0
+IsChangedAt Change i old new = ((slice_get old i ≡ None) × (new ≡ old)) ⊎ IsChanged Change i old new
+
+-- an answer of an entry of a user is noted, if there is such an entry, and no other
+abbrev pub IsNotedIn : ℕ → Told → List (List Told) → List (List Told) → Type 0
+IsNotedIn number t old new = IsChangedAt (IsNoted t) number old new
+
+abbrev pub IsNotedOf : ℕ → ℕ → Told → Tables → Tables → Type 0
+IsNotedOf user number t old new = IsChangedAt (IsNotedIn number t) user old new
+
+-- what a turn was answered is noted, but for Waits
+abbrev pub IsNotedTurn : Told → Tables → Tables → Type 0
+IsNotedTurn t old new = ((t.answer ≡ answer.Waits) × (new ≡ old)) ⊎ IsNotedOf t.turn.pick.user t.turn.pick.number t old new
+
+-- the number of an entry of a user
+pub record IsEntry (users : List User) (user number : ℕ) : Type 0 where
+  pub one : User
+  pub entry : Entry
+  pub is_user : slice_get users user ≡ Some one
+  pub is_entry : slice_get one.entries number ≡ Some entry
+
+-- what a turn was answered itself
+pub record IsOwnAnswer (m : Made) (i n : ℕ) (a : Answer) : Type 0 where
+  pub user : m.turn.pick.user ≡ i
+  pub number : m.turn.pick.number ≡ n
+  pub answer : m.answer ≡ a
+
+-- a user of another turn waits with this entry
+pub record IsWaiting (users : List User) (g : Going) (user number : ℕ) (t : Turn) : Type 0 where
+  pub one : User
+  pub position : Position
+  pub is_user : slice_get users user ≡ Some one
+  pub is_position : slice_get g.places user ≡ Some position
+  pub waited : position.waited ≡ Some number
+  pub other : t.pick.user ≡ user → ⊥
+
+-- what reached a user whose entry of this number waited, by a turn of another user
+abbrev pub IsMailed : List User → Made → ℕ → ℕ → Type 0
+IsMailed users m user number = IsWaiting users m.going user number m.turn
+
+-- an answer of an entry is that of a turn that was shown
+pub record IsAnswerOf (users : List User) (turns : List Made) (user number : ℕ) (t : Told) : Type 0 where
+  pub index : ℕ
+  pub made : Made
+  pub at : slice_get turns index ≡ Some made
+  pub place : made.place ≡ t.place
+  pub turn : made.turn ≡ t.turn
+  pub is : IsOwnAnswer made user number t.answer ⊎ IsMailed users made user number
+
+-- each answer of an entry is that of a turn that was shown, and each answer of such a turn but Waits is among those of its entry
+pub record AreAnswersOf (users : List User) (turns : List Made) (tables : Tables) : Type 0 where
+  pub entries : (user number : ℕ) → IsEntry users user number → (told : List Told) × (table_of tables user number ≡ Some told)
+  pub each : (user number : ℕ) (told : List Told) (i : ℕ) (t : Told) → table_of tables user number ≡ Some told → slice_get told i ≡ Some t → IsAnswerOf users turns user number t
+  pub all : (j : ℕ) (m : Made) (told : List Told) → slice_get turns j ≡ Some m → (m.answer ≡ answer.Waits → ⊥) → table_of tables m.turn.pick.user m.turn.pick.number ≡ Some told → IsAmong told m.answer
+
+-- answers that a turn brought are noted, where it was shown
+abbrev pub IsStillOf : List User → ℕ → Turn → Going → Tables → Tables → Type 0
+IsStillOf users place t h old new = (turns : List Made) (j : ℕ) (m : Made) → slice_get turns j ≡ Some m → m.place ≡ place → m.turn ≡ t → m.going ≡ h → AreAnswersOf users turns old → AreAnswersOf users turns new

@@ -1,0 +1,5 @@
+pub mod Standings
+pub mod Ends
+pub mod Answers
+pub mod Kept
+pub mod Found

@@ -1,0 +1,57 @@
+//! The search, and what is kept of it.
+ghost use Rattle.std.specs.Prelude.{◌≡◌, ◌≤◌, true, IfOk, length};
+ghost use Rattle.mcs_book.specs.Boots.{IsFaultless};
+ghost use Rattle.mcs_turns.specs.Turns.{AreInRange};
+ghost use Rattle.mcs_orders.specs.Seen.{AreAllSeen, AreFoundRuns};
+ghost use Rattle.mcs_ways.specs.Found.{AreAnswersFound, AreEndsFound};
+
+use crate::reading::AskedLine;
+use crate::scripts::fault_of;
+use crate::watching::Watched;
+use mcs_kernel::Boot;
+use mcs_lab::LabFault;
+use mcs_orders::{Budget, Orders, Users, explore};
+use std::alloc::Global;
+
+/// How far a search goes, and how exact its keys are.
+#[derive(Clone, Copy)]
+pub struct Wanted {
+    pub states: usize,
+    pub depth: usize,
+    pub is_exact: bool,
+}
+
+/// Goes through all orders of users after a boot, as far as is wanted, and keeps what comes of them.
+pub fn watched<'a>(
+    alloc: Global,
+    boot: &'a Boot,
+    users: &'a Users,
+    asked: &'a [AskedLine],
+    wanted: Wanted,
+) -> Result<Orders<'a, Watched<'a>>, LabFault>
+    // each state that was found is that of a run, by the turns of its path
+    ensures runs { IfOk result (λ o. AreFoundRuns users.now boot.now o.search.map.entries) }
+    // where keys are exact and all states were looked behind, each run ends in a state that is like one that was found
+    ensures whole { IfOk result (λ o. wanted.is_exact ≡ true
+        → IsFaultless boot.now → AreInRange users.now
+        → length o.search.map.entries ≤ o.search.done
+        → AreAllSeen users.now boot.now o.search.map.entries) }
+    // each end that is kept is that of such a state, and the end of each state that was looked behind and is over is kept
+    ensures ends { IfOk result (λ o. AreEndsFound users.now boot.now
+        o.search.map.entries o.search.done o.explorer.watch.ends) }
+    // each answer that is kept came by a turn from such a state, and what each such turn was answered but Waits is kept
+    ensures answers { IfOk result (λ o. AreAnswersFound users.now boot.now
+        o.search.map.entries o.search.done o.explorer.watch.answers) }
+{
+    users.are_apart();
+    let watched = Watched::new(alloc, users, asked)?;
+    let budget = Budget {
+        states: wanted.states,
+        depth: wanted.depth,
+    };
+    let orders = match explore(alloc, boot, users, wanted.is_exact, budget, watched) {
+        Ok(orders) => orders,
+        Err(fault) => return Err(fault_of(fault)),
+    };
+    Ok(orders)
+}
