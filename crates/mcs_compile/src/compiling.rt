@@ -1,4 +1,7 @@
 //! A plan, line by line, to a script.
+ghost use Rattle.std.specs.Prelude.{◌≡◌, ◌≤◌, ◌<◌, IfOk, IfErr, length};
+ghost use Rattle.mcs_compile.specs.Scripts.{HasBootOfPlan};
+
 use crate::script::Script;
 use crate::steps::{Head, object_text, read_head, write_entry};
 use crate::wanting::read_wanted;
@@ -42,7 +45,10 @@ fn is_short(line: &str) -> Result<(), Why> {
 }
 
 /// A fault, with its line.
-fn at<T: Drop>(line: u64, done: Result<T, Why>) -> Result<T, PlanFault> {
+fn at<T: Drop>(line: u64, done: Result<T, Why>) -> Result<T, PlanFault>
+    ensures ok { IfOk result (λ value. done ≡ Ok value) }
+    ensures err { IfErr result (λ fault. (fault.line ≡ line) × (done ≡ Err fault.why)) }
+{
     match done {
         Ok(value) => Ok(value),
         Err(why) => Err(PlanFault { line, why }),
@@ -163,7 +169,8 @@ impl Compiler {
             thread,
             core: Some(core),
         };
-        let line = write_entry(alloc, &self.laid, head, text)?;
+        let words = split_words(alloc, text)?;
+        let line = write_entry(alloc, &self.laid, head, &words)?;
         self.lines.push(line)?;
         Ok(())
     }
@@ -233,7 +240,8 @@ impl Compiler {
     /// The line of a step or of a user.
     fn add_entry(&mut self, alloc: Global, head: &str, text: &str) -> Result<(), Why> {
         let head = read_head(alloc, &self.laid, head)?;
-        let line = write_entry(alloc, &self.laid, head, text)?;
+        let words = split_words(alloc, text)?;
+        let line = write_entry(alloc, &self.laid, head, &words)?;
         self.goes_with(head)?;
         self.lines.push(line)?;
         Ok(())
@@ -277,11 +285,9 @@ impl Compiler {
 }
 
 /// The lines of a plan before its first step, and the comments among them.
-fn read_plan(
-    alloc: Global,
-    lines: &[&str],
-    before: usize,
-) -> Result<(Plan, Vec<String>), PlanFault> {
+fn read_plan(alloc: Global, lines: &[&str], before: usize) -> Result<(Plan, Vec<String>), PlanFault>
+    ensures { IfErr result (λ fault. (1 ≤ fault.line) × (fault.line ≤ before)) }
+{
     let mut plan = Plan::new(alloc);
     let mut front = Vec::new(alloc);
     for i in 0..before {
@@ -302,7 +308,9 @@ fn read_steps(
     compiler: &mut Compiler,
     lines: &[&str],
     before: usize,
-) -> Result<(), PlanFault> {
+) -> Result<(), PlanFault>
+    ensures { IfErr result (λ fault. (before < fault.line) × (fault.line ≤ length lines.now)) }
+{
     for (i, line) in lines.iter().enumerate() {
         if i >= before {
             at((i as u64).saturating_add(1), compiler.add_line(alloc, line))?;
@@ -312,7 +320,9 @@ fn read_steps(
 }
 
 /// The script of a plan whose lines were all read.
-fn finish(alloc: Global, compiler: Compiler, comments: Vec<String>) -> Result<Script, Why> {
+fn finish(alloc: Global, compiler: Compiler, comments: Vec<String>) -> Result<Script, Why>
+    ensures { IfOk result HasBootOfPlan }
+{
     let Compiler {
         laid,
         lines,
@@ -332,7 +342,9 @@ fn finish(alloc: Global, compiler: Compiler, comments: Vec<String>) -> Result<Sc
 }
 
 /// The script of a plan's lines.
-fn compile_lines(alloc: Global, lines: &[&str]) -> Result<Script, PlanFault> {
+fn compile_lines(alloc: Global, lines: &[&str]) -> Result<Script, PlanFault>
+    ensures { IfOk result HasBootOfPlan }
+{
     let before = count_before(lines);
     let (plan, front) = read_plan(alloc, lines, before)?;
     let laid = Laid::new(alloc, plan)?;
@@ -362,8 +374,10 @@ fn lines_of<'a>(alloc: Global, text: &'a str) -> Result<Vec<&'a str>, AllocError
     text.lines().collect(alloc)
 }
 
-/// The script of a plan (own). A fault tells the first line that is refused, and why.
-pub fn compile(alloc: Global, bytes: &[u8]) -> Result<Script, PlanFault> {
+/// The script of a plan (own), whose boot is that of the plan. A fault tells the first line that is refused, and why.
+pub fn compile(alloc: Global, bytes: &[u8]) -> Result<Script, PlanFault>
+    ensures { IfOk result HasBootOfPlan }
+{
     let text = match std::str::from_utf8(bytes) {
         Ok(text) => text,
         Err(error) => {

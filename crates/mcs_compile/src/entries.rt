@@ -3,7 +3,8 @@ ghost use Rattle.std.specs.Prelude.{◌≡◌, ◌++◌, None, true, IfOk, IfErr
 ghost use Rattle.mcs_names.specs.Naming.{begins_with_digit, with_word};
 ghost use Rattle.mcs_laying.specs.Naming.{named_by};
 ghost use Rattle.mcs_laying.specs.Telling.{TellsUnknown};
-ghost use Rattle.mcs_compile.specs.Entries.{IsAddress, IsPlace, PutsAddress, PutsPlace, PutsNumber};
+ghost use Rattle.mcs_compile.specs.Entries.{right_letter, rights_text, IsAddress, IsPlace, PutsAddress, PutsPlace, PutsNumber, PutsWord};
+ghost use Rattle.mcs_compile.specs.Entries.{PutsRights, PutsNumbers, PutsMessage, PutsField, PutsFields, PutsEntry};
 
 use crate::fields::{Field, fields_of};
 use mcs_laying::Laid;
@@ -30,37 +31,59 @@ pub fn add_number(alloc: Global, to: &mut String, n: u64) -> Result<(), AllocErr
     add_word(to, digits.as_str())
 }
 
+/// A letter, where rights have this one.
+fn right_letter(rights: u8, right: u8, letter: &'static str) -> &'static str
+    ensures { result.now ≡ right_letter rights right letter.now }
+{
+    if rights & right == 0 { "" } else { letter }
+}
+
 /// The text of rights: `-`, or letters of `rwgp` in this order.
-fn add_rights(to: &mut String, rights: Rights) -> Result<(), AllocError> {
-    let bits = rights.bits();
-    if bits == 0 {
-        return add_word(to, "-");
+fn rights_text(alloc: Global, rights: u8) -> Result<String, AllocError>
+    ensures { IfOk result (λ text. string_bytes text ≡ rights_text rights) }
+{
+    if rights == 0 {
+        return String::from_str(alloc, "-");
     }
-    to.push_str(" ")?;
-    to.push_str(if bits & 2 == 0 { "" } else { "r" })?;
-    to.push_str(if bits & 1 == 0 { "" } else { "w" })?;
-    to.push_str(if bits & 4 == 0 { "" } else { "g" })?;
-    to.push_str(if bits & 8 == 0 { "" } else { "p" })
+    let mut text = String::from_str(alloc, right_letter(rights, 2, "r"))?;
+    text.push_str(right_letter(rights, 1, "w"))?;
+    text.push_str(right_letter(rights, 4, "g"))?;
+    text.push_str(right_letter(rights, 8, "p"))?;
+    Ok(text)
 }
 
 /// Rights.
-fn read_rights(alloc: Global, to: &mut String, words: &mut Words<'_>) -> Result<(), Why> {
+#[tactic(auto, using(crate::proofs::Puts::puts_rights))]
+fn read_rights(alloc: Global, to: &mut String, words: &mut Words<'_>) -> Result<(), Why>
+    ensures { OnOk result
+        (PutsRights words.old words.new (string_bytes to.old) (string_bytes to.new)) }
+{
     let wanted = "rights, some of rwgp, or -";
     let word = words.need(wanted)?;
-    match rights_of(word) {
-        Some(rights) => Ok(add_rights(to, rights)?),
-        None => Err(not(alloc, word, wanted)),
-    }
+    let Some(rights) = rights_of(word) else {
+        return Err(not(alloc, word, wanted));
+    };
+    let text = rights_text(alloc, rights.bits())?;
+    Ok(add_word(to, text.as_str())?)
+}
+
+/// Whether a word is the kind of what is made.
+fn is_made(word: &str) -> bool {
+    matches!(word, "endpoint" | "notification" | "reply" | "context")
 }
 
 /// The kind of what is made.
-fn read_kind(alloc: Global, to: &mut String, words: &mut Words<'_>) -> Result<(), Why> {
+#[tactic(auto, using(crate::proofs::Puts::puts_word))]
+fn read_kind(alloc: Global, to: &mut String, words: &mut Words<'_>) -> Result<(), Why>
+    ensures { OnOk result
+        (PutsWord words.old words.new (string_bytes to.old) (string_bytes to.new)) }
+{
     let wanted = "endpoint, notification, reply or context";
     let word = words.need(wanted)?;
-    match word {
-        "endpoint" | "notification" | "reply" | "context" => Ok(add_word(to, word)?),
-        _ => Err(not(alloc, word, wanted)),
+    if !is_made(word) {
+        return Err(not(alloc, word, wanted));
     }
+    Ok(add_word(to, word)?)
 }
 
 /// A number up to a limit.
@@ -79,8 +102,23 @@ fn read_number(
     Ok(add_number(alloc, to, n)?)
 }
 
+/// Words of a message, as far as the line goes.
+fn read_words(alloc: Global, to: &mut String, words: &mut Words<'_>) -> Result<(), Why>
+    ensures { OnOk result (PutsNumbers 18446744073709551615 words.old words.new
+        (string_bytes to.old) (string_bytes to.new)) }
+{
+    for _ in 0..words.len() {
+        read_number(alloc, to, words, "a word of 64 bits", u64::MAX)?;
+    }
+    Ok(())
+}
+
 /// A label and words, as far as the line goes.
-fn read_message(alloc: Global, to: &mut String, words: &mut Words<'_>) -> Result<(), Why> {
+#[tactic(auto, using(crate::proofs::Puts::puts_message))]
+fn read_message(alloc: Global, to: &mut String, words: &mut Words<'_>) -> Result<(), Why>
+    ensures { OnOk result
+        (PutsMessage words.old words.new (string_bytes to.old) (string_bytes to.new)) }
+{
     read_number(alloc, to, words, "a label, a number of 52 bits", LABEL)?;
     if words.len() > MESSAGE_WORDS {
         return Err(Why::Limit {
@@ -88,10 +126,7 @@ fn read_message(alloc: Global, to: &mut String, words: &mut Words<'_>) -> Result
             limit: MESSAGE_WORDS as u32,
         });
     }
-    for _ in 0..words.len() {
-        read_number(alloc, to, words, "a word of 64 bits", u64::MAX)?;
-    }
-    Ok(())
+    read_words(alloc, to, words)
 }
 
 impl<'a> Speaker<'a> {
@@ -155,7 +190,10 @@ impl<'a> Speaker<'a> {
         to: &mut String,
         words: &mut Words<'_>,
         field: Field,
-    ) -> Result<(), Why> {
+    ) -> Result<(), Why>
+        ensures { OnOk result (PutsField self.now.laid.now.tables.items self.now.thread field
+            words.old words.new (string_bytes to.old) (string_bytes to.new)) }
+    {
         match field {
             Field::Address => self.read_address(alloc, to, words),
             Field::Place => self.read_place(alloc, to, words),
@@ -168,18 +206,36 @@ impl<'a> Speaker<'a> {
         }
     }
 
+    /// Fields, in order.
+    #[tactic(auto, using(crate::proofs::Puts::all_of))]
+    fn read_fields(
+        &self,
+        alloc: Global,
+        to: &mut String,
+        words: &mut Words<'_>,
+        fields: &[Field],
+    ) -> Result<(), Why>
+        ensures { OnOk result (PutsFields self.now.laid.now.tables.items self.now.thread fields.now
+            words.old words.new (string_bytes to.old) (string_bytes to.new)) }
+    {
+        for field in fields {
+            self.read_field(alloc, to, words, *field)?;
+        }
+        Ok(())
+    }
+
     /// Writes the entry that words spell, behind which no word may be left.
-    pub fn read(&self, alloc: Global, to: &mut String, words: &mut Words<'_>) -> Result<(), Why> {
+    #[tactic(auto, using(crate::proofs::Puts::puts_entry))]
+    pub fn read(&self, alloc: Global, to: &mut String, words: &mut Words<'_>) -> Result<(), Why>
+        ensures { OnOk result (PutsEntry self.now.laid.now.tables.items self.now.thread
+            words.old (string_bytes to.old) (string_bytes to.new)) }
+    {
         let key = words.need("an entry")?;
         let Some(fields) = fields_of(key) else {
             return Err(not(alloc, key, "an entry"));
         };
-        let [first, second, third, fourth] = fields;
         add_word(to, key)?;
-        self.read_field(alloc, to, words, first)?;
-        self.read_field(alloc, to, words, second)?;
-        self.read_field(alloc, to, words, third)?;
-        self.read_field(alloc, to, words, fourth)?;
+        self.read_fields(alloc, to, words, &fields)?;
         words.end(alloc)
     }
 }

@@ -1,4 +1,9 @@
 //! The lines of steps and of users.
+ghost use Rattle.std.specs.Prelude.{◌≡◌, IfOk, string_bytes};
+ghost use Rattle.mcs_names.specs.Naming.{texts};
+ghost use Rattle.mcs_compile.specs.Entries.{PutsEntry};
+ghost use Rattle.mcs_compile.specs.Heads.{object_text, core_text, head_text};
+
 use crate::entries::{Speaker, add_number};
 use mcs_laying::Laid;
 use mcs_names::{Why, Words, add_word, split_words};
@@ -14,7 +19,9 @@ pub struct Head {
 }
 
 /// The name of an object in a script.
-pub fn object_text(alloc: Global, object: ObjId) -> Result<String, AllocError> {
+pub fn object_text(alloc: Global, object: ObjId) -> Result<String, AllocError>
+    ensures { IfOk result (λ text. string_bytes text ≡ object_text object) }
+{
     let serial = object.serial;
     let mut text = String::new(alloc);
     text.push(letter(object.kind) as char)?;
@@ -61,17 +68,34 @@ pub fn read_head(alloc: Global, laid: &Laid, text: &str) -> Result<Head, Why> {
     Ok(Head { thread, core })
 }
 
-/// The line of a step, or of a user: who enters, and the entry that the text spells.
-pub fn write_entry(alloc: Global, laid: &Laid, head: Head, text: &str) -> Result<String, Why> {
-    let mut line = String::new(alloc);
-    match head.core {
-        Some(core) => add_number(alloc, &mut line, core.0 as u64)?,
-        None => add_word(&mut line, "user")?,
-    }
+/// The core of a step, or the word of a user.
+fn core_text(alloc: Global, core: Option<CoreId>) -> Result<String, AllocError>
+    ensures { IfOk result (λ text. string_bytes text ≡ core_text core) }
+{
+    let Some(core) = core else {
+        return String::from_str(alloc, "user");
+    };
+    let core = core.0;
+    format!(in alloc; "{core}")
+}
+
+/// Who enters, and where.
+fn head_text(alloc: Global, head: Head) -> Result<String, AllocError>
+    ensures { IfOk result (λ text. string_bytes text ≡ head_text head) }
+{
+    let mut text = core_text(alloc, head.core)?;
     let name = object_text(alloc, head.thread)?;
-    add_word(&mut line, name.as_str())?;
-    let all = split_words(alloc, text)?;
-    let mut words = Words::new(&all);
+    add_word(&mut text, name.as_str())?;
+    Ok(text)
+}
+
+/// The line of a step, or of a user: who enters, and the entry that words spell.
+pub fn write_entry(alloc: Global, laid: &Laid, head: Head, words: &[&str]) -> Result<String, Why>
+    ensures { IfOk result (λ line. PutsEntry laid.now.tables.items head.thread
+        (texts words.now) (head_text head) (string_bytes line)) }
+{
+    let mut line = head_text(alloc, head)?;
+    let mut words = Words::new(words);
     let speaker = Speaker {
         laid,
         thread: head.thread,

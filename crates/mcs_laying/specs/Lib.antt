@@ -1,2 +1,3 @@
+pub mod Boot
 pub mod Naming
 pub mod Telling

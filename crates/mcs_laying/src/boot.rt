@@ -1,23 +1,97 @@
 //! The lines of the boot.
+ghost use Rattle.std.specs.Prelude.{◌≡◌, ◌≤◌, ◌<◌, ◌+◌, ◌++◌, ℕ, List, [], ◌∷◌, IfOk, OnOk, length, map, slice_get};
+ghost use Rattle.std.proofs.Math.ListN.{replicate};
+ghost use Rattle.mcs_types.specs.declared.id.Kind.TheVariants as kind;
+ghost use Rattle.mcs_types.specs.declared.boot.BootLine.TheVariants as line;
+ghost use Rattle.mcs_names.specs.Naming.{count_of};
+ghost use Rattle.mcs_plans.specs.Making.{all_leaves};
+ghost use Rattle.mcs_plans.specs.Slots.{slot_count, cap_at};
+ghost use Rattle.mcs_laying.specs.Boot.{cnode_at, cnode_of, guarded, root_line, context_line, thread_line, tie_line, each};
+ghost use Rattle.mcs_laying.specs.Boot.{slot_lines, link_lines, space_lines, before_of, filling, boot_of, HasFewCNodes};
+
 use crate::laid::Laid;
 use crate::starter::bare;
-use mcs_plans::Space;
+use mcs_names::{Why, limit_of, plural};
+use mcs_plans::{Space, Thread};
 use mcs_spaces::LEAF;
-use mcs_types::{BootLine, Cap, Guard, Kind, ObjId};
-use std::alloc::{AllocError, Global};
+use mcs_types::{BootLine, CNODES, Cap, Guard, Kind, ObjId};
+use std::alloc::Global;
 
-/// The CNode of this place among CNodes.
-fn cnode(place: u32) -> ObjId {
-    ObjId {
+/// Where the slots of a space stand: in its root, the CNode at a place, or in so many others, the first of them at another
+/// place.
+#[derive(Clone, Copy)]
+pub struct Site {
+    pub place: usize,
+    pub before: usize,
+    pub leaves: u32,
+}
+
+/// The fault of a plan that has more of a kind than a machine.
+fn too_many(kind: Kind) -> Why {
+    Why::Limit {
+        what: plural(kind),
+        limit: limit_of(kind),
+    }
+}
+
+/// The CNode of this place among CNodes. Limit where there is none.
+fn cnode(place: usize) -> Result<ObjId, Why>
+    ensures ok { IfOk result (λ c. c ≡ cnode_at place) }
+    ensures within { OnOk result (place < 64) }
+{
+    if place >= CNODES as usize {
+        return Err(too_many(Kind::CNode));
+    }
+    Ok(ObjId {
         kind: Kind::CNode,
-        serial: place.saturating_add(1),
+        serial: place as u32 + 1,
+    })
+}
+
+impl Site {
+    /// The CNode that a slot stands in.
+    fn cnode(self, index: u32) -> Result<ObjId, Why>
+        ensures { IfOk result (λ c. c ≡ cnode_of self index) }
+    {
+        if self.leaves == 0 {
+            return cnode(self.place);
+        }
+        cnode(self.before.saturating_add((index / 256) as usize))
     }
 }
 
 /// So many lines more.
-fn add_times(to: &mut Vec<BootLine>, line: &BootLine, times: u32) -> Result<(), AllocError> {
+fn add_times(to: &mut Vec<BootLine>, line: &BootLine, times: u32) -> Result<(), Why>
+    ensures { OnOk result (to.new.items ≡ to.old.items ++ replicate times line.now) }
+{
     for _ in 0..times {
         to.push(*line)?;
+    }
+    Ok(())
+}
+
+/// The line that puts a further CNode of a space into its root.
+fn add_link(to: &mut Vec<BootLine>, site: Site, leaf: u32) -> Result<(), Why>
+    ensures { OnOk result (to.new.items ≡ to.old.items ++ link_lines site leaf) }
+{
+    let next = cnode(site.before.saturating_add(leaf as usize))?;
+    let cnode = cnode(site.place)?;
+    if let Some(cap) = bare(next, Guard { bits: 0, value: 0 }) {
+        to.push(BootLine::Slot {
+            cnode,
+            index: leaf as u8,
+            cap,
+        })?;
+    }
+    Ok(())
+}
+
+/// The slots of a root that hold capabilities to the further CNodes of its space.
+fn add_links(to: &mut Vec<BootLine>, site: Site) -> Result<(), Why>
+    ensures { OnOk result (to.new.items ≡ to.old.items ++ each site.leaves (link_lines site)) }
+{
+    for leaf in 0..site.leaves {
+        add_link(to, site, leaf)?;
     }
     Ok(())
 }
@@ -25,7 +99,9 @@ fn add_times(to: &mut Vec<BootLine>, line: &BootLine, times: u32) -> Result<(), 
 impl Laid {
     /// A capability of a slot: one to a CNode has the guard that takes the bits which its own slots
     /// leave.
-    pub fn guarded(&self, space: usize, cap: &Cap) -> Cap {
+    pub fn guarded(&self, space: usize, cap: &Cap) -> Cap
+        ensures { result ≡ guarded self.now.layouts.items space cap.now }
+    {
         let Some(place) = cap.obj.place(Kind::CNode) else {
             return *cap;
         };
@@ -42,116 +118,176 @@ impl Laid {
         }
     }
 
-    /// The lines that make the objects, in the order of their kinds.
-    fn make_objects(&self, to: &mut Vec<BootLine>) -> Result<(), AllocError> {
+    /// Limit where there are more CNodes than a machine may have.
+    fn has_few_cnodes(&self) -> Result<(), Why>
+        ensures { OnOk result (HasFewCNodes self.now.plan) }
+    {
+        if self.plan.spaces.len() <= CNODES as usize && self.plan.leaves() <= CNODES as u32 {
+            return Ok(());
+        }
+        Err(too_many(Kind::CNode))
+    }
+
+    /// The lines that make the roots of spaces.
+    fn make_roots(&self, to: &mut Vec<BootLine>) -> Result<(), Why>
+        ensures { OnOk result
+            (to.new.items ≡ to.old.items ++ map root_line self.now.layouts.items) }
+    {
         for layout in &self.layouts {
             to.push(BootLine::CNode { radix: layout.root })?;
         }
-        for space in &self.plan.spaces {
-            add_times(to, &BootLine::CNode { radix: LEAF }, space.leaves())?;
+        Ok(())
+    }
+
+    /// The lines that make the objects of a kind, all the same. Limit where they are too many.
+    fn make_objects(&self, to: &mut Vec<BootLine>, kind: Kind, line: &BootLine) -> Result<(), Why>
+        ensures { OnOk result
+            (to.new.items ≡ to.old.items ++ replicate (count_of kind self.now.plan.names) line.now) }
+    {
+        let count = self.plan.names.count(kind);
+        if count > limit_of(kind) {
+            return Err(too_many(kind));
         }
-        let names = &self.plan.names;
-        add_times(to, &BootLine::Endpoint, names.count(Kind::Endpoint))?;
-        add_times(to, &BootLine::Notification, names.count(Kind::Notification))?;
-        add_times(to, &BootLine::Reply, names.count(Kind::Reply))?;
+        add_times(to, line, count)
+    }
+
+    /// The lines that make the contexts.
+    fn make_contexts(&self, to: &mut Vec<BootLine>) -> Result<(), Why>
+        ensures { OnOk result
+            (to.new.items ≡ to.old.items ++ map context_line self.now.plan.contexts.items) }
+    {
         for core in &self.plan.contexts {
             to.push(BootLine::Context { core: *core })?;
         }
         Ok(())
     }
 
+    /// The line that makes a thread.
+    fn thread_line(&self, thread: &Thread) -> Result<BootLine, Why>
+        ensures { IfOk result (λ l. l ≡ thread_line self.now.layouts.items thread.now) }
+    {
+        let layout = self.layout(thread.space);
+        let behind = layout
+            .root
+            .saturating_add(layout.leaf)
+            .saturating_add(layout.within);
+        Ok(BootLine::Thread {
+            priority: thread.priority,
+            maximum: thread.maximum,
+            root: cnode(thread.space)?,
+            guard: Guard {
+                bits: 64u8.saturating_sub(behind),
+                value: 0,
+            },
+            runs: thread.runs,
+            context: thread.context,
+        })
+    }
+
     /// The lines that make the threads.
-    fn make_threads(&self, to: &mut Vec<BootLine>) -> Result<(), AllocError> {
+    fn make_threads(&self, to: &mut Vec<BootLine>) -> Result<(), Why>
+        ensures { OnOk result (to.new.items ≡
+            to.old.items ++ map (thread_line self.now.layouts.items) self.now.plan.threads.items) }
+    {
         for thread in &self.plan.threads {
-            let layout = self.layout(thread.space);
-            let behind = layout
-                .root
-                .saturating_add(layout.leaf)
-                .saturating_add(layout.within);
-            to.push(BootLine::Thread {
-                priority: thread.priority,
-                maximum: thread.maximum,
-                root: cnode(thread.space.min(1_000_000) as u32),
-                guard: Guard {
-                    bits: 64u8.saturating_sub(behind),
-                    value: 0,
-                },
-                runs: thread.runs,
-                context: thread.context,
-            })?;
+            to.push(self.thread_line(thread)?)?;
         }
         Ok(())
     }
 
-    /// The slots of a root that hold capabilities to the further CNodes of its space.
-    fn add_leaves(
+    /// The line that fills a slot, where it holds something.
+    fn add_slot(
         &self,
         to: &mut Vec<BootLine>,
-        root: ObjId,
-        before: u32,
-        leaves: u32,
-    ) -> Result<(), AllocError> {
-        for leaf in 0..leaves {
-            let unguarded = Guard { bits: 0, value: 0 };
-            if let Some(cap) = bare(cnode(before.saturating_add(leaf)), unguarded) {
-                to.push(BootLine::Slot {
-                    cnode: root,
-                    index: leaf.min(255) as u8,
-                    cap,
-                })?;
-            }
+        site: Site,
+        index: u32,
+        cap: Option<Cap>,
+    ) -> Result<(), Why>
+        ensures { OnOk result
+            (to.new.items ≡ to.old.items ++ slot_lines self.now.layouts.items site index cap) }
+    {
+        let Some(cap) = cap else {
+            return Ok(());
+        };
+        to.push(BootLine::Slot {
+            cnode: site.cnode(index)?,
+            index: (index % 256) as u8,
+            cap: self.guarded(site.place, &cap),
+        })?;
+        Ok(())
+    }
+
+    /// The lines that fill the slots of a space.
+    fn add_slots(&self, to: &mut Vec<BootLine>, site: Site, space: &Space) -> Result<(), Why>
+        ensures { OnOk result (to.new.items ≡ to.old.items ++ each (slot_count space.now)
+            (λ i. slot_lines self.now.layouts.items site i (cap_at space.now i))) }
+    {
+        for index in 0..space.slots() {
+            self.add_slot(to, site, index, space.cap_at(index))?;
         }
         Ok(())
     }
 
-    /// The lines of the slots of a space, whose further CNodes begin behind this many.
-    fn fill(
-        &self,
-        to: &mut Vec<BootLine>,
-        place: usize,
-        space: &Space,
-        before: u32,
-    ) -> Result<(), AllocError> {
-        let root = cnode(place.min(1_000_000) as u32);
-        let leaves = space.leaves();
-        self.add_leaves(to, root, before, leaves)?;
-        let mut index: u32 = 0;
-        for slot in space.slots.values() {
-            index = index.saturating_add(1);
-            if let Some(cap) = &slot.cap {
-                let leaf = cnode(before.saturating_add(index / 256));
-                to.push(BootLine::Slot {
-                    cnode: if leaves == 0 { root } else { leaf },
-                    index: (index % 256) as u8,
-                    cap: self.guarded(place, cap),
-                })?;
-            }
-        }
-        Ok(())
+    /// The lines that fill a space.
+    fn fill(&self, to: &mut Vec<BootLine>, site: Site, space: &Space) -> Result<(), Why>
+        ensures { OnOk result
+            (to.new.items ≡ to.old.items ++ space_lines self.now.layouts.items site space.now) }
+    {
+        add_links(to, site)?;
+        self.add_slots(to, site, space)
     }
 
-    /// The lines of all slots.
-    fn fill_all(&self, to: &mut Vec<BootLine>) -> Result<(), AllocError> {
-        let mut before = self.plan.spaces.len().min(1_000_000) as u32;
+    /// The lines that fill all spaces.
+    fn fill_all(&self, to: &mut Vec<BootLine>) -> Result<(), Why>
+        requires { HasFewCNodes self.now.plan }
+        ensures { OnOk result (to.new.items ≡ to.old.items ++ each (length self.now.plan.spaces.items)
+            (λ p. filling self.now.layouts.items self.now.plan.spaces.items p
+            (slice_get self.now.plan.spaces.items p))) }
+    {
+        let mut before = self.plan.spaces.len();
         for (place, space) in self.plan.spaces.iter().enumerate() {
-            self.fill(to, place, space, before)?;
-            before = before.saturating_add(space.leaves());
+            let leaves = space.leaves();
+            let site = Site {
+                place,
+                before,
+                leaves,
+            };
+            self.fill(to, site, space)?;
+            before += leaves as usize;
         }
         Ok(())
     }
 
-    /// The lines of the boot, behind that of its cores.
-    pub fn boot_lines(&self, alloc: Global) -> Result<Vec<BootLine>, AllocError> {
-        let mut lines = Vec::new(alloc);
-        self.make_objects(&mut lines)?;
-        self.make_threads(&mut lines)?;
-        self.fill_all(&mut lines)?;
+    /// The lines that bind notifications to threads.
+    fn bind_all(&self, to: &mut Vec<BootLine>) -> Result<(), Why>
+        ensures { OnOk result
+            (to.new.items ≡ to.old.items ++ map tie_line self.now.plan.ties.items) }
+    {
         for tie in &self.plan.ties {
-            lines.push(BootLine::Tie {
+            to.push(BootLine::Tie {
                 thread: tie.thread,
                 notification: tie.notification,
             })?;
         }
+        Ok(())
+    }
+
+    /// The lines of the boot, behind that of its cores. Limit where there are more objects than a machine may have.
+    pub fn boot_lines(&self, alloc: Global) -> Result<Vec<BootLine>, Why>
+        ensures { IfOk result (λ ls. ls.items ≡ boot_of self.now.plan self.now.layouts.items) }
+    {
+        self.has_few_cnodes()?;
+        let mut lines = Vec::new(alloc);
+        let to = &mut lines;
+        self.make_roots(to)?;
+        add_times(to, &BootLine::CNode { radix: LEAF }, self.plan.leaves())?;
+        self.make_objects(to, Kind::Endpoint, &BootLine::Endpoint)?;
+        self.make_objects(to, Kind::Notification, &BootLine::Notification)?;
+        self.make_objects(to, Kind::Reply, &BootLine::Reply)?;
+        self.make_contexts(to)?;
+        self.make_threads(to)?;
+        self.fill_all(to)?;
+        self.bind_all(to)?;
         Ok(lines)
     }
 }

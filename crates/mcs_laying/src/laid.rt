@@ -122,7 +122,8 @@ impl Laid {
     /// What a thread names by a word. NoCapability or Not where it has none of that name.
     #[tactic(auto, using(crate::proofs::Rows::memory))]
     pub fn named(&self, alloc: Global, thread: ObjId, word: &str) -> Result<&Named, Why>
-        ensures found { IfOk result (λ n. named_by self.now.tables.items thread word.now ≡ Some n.now) }
+        ensures found { IfOk result
+            (λ n. named_by self.now.tables.items thread word.now ≡ Some n.now) }
         ensures unknown { OnErr result (named_by self.now.tables.items thread word.now ≡ None) }
         ensures told { IfErr result TellsUnknown }
     {

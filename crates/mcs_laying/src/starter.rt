@@ -1,4 +1,7 @@
 //! The thread that makes others passive.
+ghost use Rattle.std.specs.Prelude.{◌≡◌, Some};
+ghost use Rattle.mcs_laying.specs.Boot.{bare};
+
 use indexmap::IndexMap;
 use mcs_names::Why;
 use mcs_plans::{Plan, STARTER, Slot, Space, Thread};
@@ -12,7 +15,9 @@ const CONTEXT: &str = "starter.context";
 const SPACE: &str = "starter.space";
 
 /// A capability without rights.
-pub fn bare(obj: ObjId, guard: Guard) -> Option<Cap> {
+pub fn bare(obj: ObjId, guard: Guard) -> Option<Cap>
+    ensures { result ≡ Some (bare obj guard) }
+{
     let rights = Rights::new(0)?;
     Some(Cap {
         obj,

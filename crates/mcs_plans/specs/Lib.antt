@@ -1,2 +1,4 @@
+pub mod Making
 pub mod Slots
 pub mod Telling
+pub mod Threads

@@ -1,8 +1,11 @@
 //! What a plan says before its first step.
-ghost use Rattle.std.specs.Prelude.{◌≡◌, ◌++◌, ◌∷◌, [], None, IfOk, IfErr, OnOk, OnErr, is_some};
-ghost use Rattle.mcs_names.specs.Naming.{find};
-ghost use Rattle.mcs_plans.specs.Slots.{most_slots, slots_of, AddsSlot};
+ghost use Rattle.std.specs.Prelude.{◌≡◌, ◌≤◌, ◌++◌, ◌∷◌, [], None, IfOk, IfErr, OnOk, OnErr, is_some, min, option_copied, option_and_then, option_map};
+ghost use Rattle.std.specs.Option.{unwrap_or};
+ghost use Rattle.mcs_names.specs.Naming.{find, limit_of};
+ghost use Rattle.mcs_plans.specs.Making.{all_leaves, is_of_thread, of_starter, of_spaces, made_of, TellsMade};
+ghost use Rattle.mcs_plans.specs.Slots.{most_slots, slots_of, slot_count, cap_at, leaves_of, AddsSlot};
 ghost use Rattle.mcs_plans.specs.Telling.{TellsNoCapability, MayNotHave};
+ghost use Rattle.mcs_plans.specs.Threads.{thread_in, space_of};
 
 use indexmap::IndexMap;
 use mcs_names::{Names, Why, add_word, limit_of, plural};
@@ -136,12 +139,29 @@ impl Space {
     }
 
     /// How many slots it has, with slot 0, up to 65,536.
-    pub fn slots(&self) -> u32 {
+    #[tactic(auto, using(crate::proofs::SlotNames::counted))]
+    pub fn slots(&self) -> u32
+        ensures { result ≡ slot_count self.now }
+    {
         self.slots.len().min(65_535) as u32 + 1
     }
 
+    /// The capability in a slot; slot 0 is empty.
+    #[tactic(auto, using(crate::proofs::SlotNames::held, crate::proofs::SlotNames::held_none))]
+    pub fn cap_at(&self, index: u32) -> Option<Cap>
+        ensures { result ≡ cap_at self.now index }
+    {
+        if index == 0 {
+            return None;
+        }
+        let (_, slot) = self.slots.get_index((index - 1) as usize)?;
+        slot.cap
+    }
+
     /// How many CNodes it takes beside its root: none where that has all slots.
-    pub fn leaves(&self) -> u32 {
+    pub fn leaves(&self) -> u32
+        ensures { result ≡ leaves_of self.now }
+    {
         let slots = self.slots();
         if self.radix.is_some() || slots <= 256 {
             return 0;
@@ -184,23 +204,53 @@ impl Plan {
         }
     }
 
-    /// How many objects of a kind the script makes: those of the plan, the thread that makes others
-    /// passive with its context and its space, and the CNodes of larger spaces.
-    pub fn made(&self, kind: Kind) -> u32 {
-        let mut count = self.names.count(kind);
-        if !self.passives.is_empty() && is_of_thread(kind) {
-            count = count.saturating_add(1);
-        }
-        if kind == Kind::CNode {
-            for space in &self.spaces {
-                count = count.saturating_add(space.leaves());
-            }
+    /// How many CNodes its larger spaces take beside their roots, up to 2^32 - 1.
+    pub fn leaves(&self) -> u32
+        ensures { result ≡ min (all_leaves self.now) 4294967295 }
+    {
+        let mut count: u32 = 0;
+        for space in &self.spaces {
+            count = count.saturating_add(space.leaves());
         }
         count
     }
 
+    /// One more of a kind where a thread is passive.
+    fn of_starter(&self, kind: Kind) -> u32
+        ensures { result ≡ of_starter self.now kind }
+    {
+        if is_of_thread(kind) && !self.passives.is_empty() {
+            return 1;
+        }
+        0
+    }
+
+    /// The CNodes of larger spaces.
+    fn of_spaces(&self, kind: Kind) -> u32
+        ensures { result ≡ min (of_spaces self.now kind) 4294967295 }
+    {
+        match kind {
+            Kind::CNode => self.leaves(),
+            _ => 0,
+        }
+    }
+
+    /// How many objects of a kind the script makes, up to 2^32 - 1: those of the plan, the thread that
+    /// makes others passive with its context and its space, and the CNodes of larger spaces.
+    pub fn made(&self, kind: Kind) -> u32
+        ensures { result ≡ min (made_of self.now kind) 4294967295 }
+    {
+        let count = self.names.count(kind);
+        count
+            .saturating_add(self.of_starter(kind))
+            .saturating_add(self.of_spaces(kind))
+    }
+
     /// Limit where the script would make more objects of a kind than there may be.
-    pub fn keeps_limit(&self, kind: Kind) -> Result<(), Why> {
+    pub fn keeps_limit(&self, kind: Kind) -> Result<(), Why>
+        ensures ok { OnOk result (made_of self.now kind ≤ limit_of kind) }
+        ensures told { IfErr result (TellsMade self.now kind) }
+    {
         let limit = limit_of(kind);
         if self.made(kind) <= limit {
             return Ok(());
@@ -212,7 +262,9 @@ impl Plan {
     }
 
     /// The space of a thread.
-    pub fn space_of(&self, thread: ObjId) -> usize {
+    pub fn space_of(&self, thread: ObjId) -> usize
+        ensures { result ≡ space_of self.now thread }
+    {
         match self.thread(thread) {
             Some(thread) => thread.space,
             None => 0,
@@ -220,17 +272,24 @@ impl Plan {
     }
 
     /// A thread.
-    pub fn thread(&self, thread: ObjId) -> Option<&Thread> {
+    pub fn thread(&self, thread: ObjId) -> Option<&Thread>
+        ensures { option_copied result ≡ thread_in self.now thread }
+    {
         self.threads.get(thread.place(Kind::Thread)?)
     }
 
     /// The context that a thread has at the boot.
-    pub fn context_of(&self, thread: ObjId) -> Option<ObjId> {
+    pub fn context_of(&self, thread: ObjId) -> Option<ObjId>
+        ensures { result ≡ option_and_then (λ t. t.context) (thread_in self.now thread) }
+    {
         self.thread(thread)?.context
     }
 
     /// The core of a thread's steps.
-    pub fn core_of(&self, thread: ObjId) -> CoreId {
+    pub fn core_of(&self, thread: ObjId) -> CoreId
+        ensures { result ≡ unwrap_or (option_map (λ t. t.core) (thread_in self.now thread))
+            (record { 0 = 0 }) }
+    {
         match self.thread(thread) {
             Some(thread) => thread.core,
             None => CoreId(0),
@@ -239,6 +298,8 @@ impl Plan {
 }
 
 /// Whether each thread has one of this kind.
-fn is_of_thread(kind: Kind) -> bool {
+fn is_of_thread(kind: Kind) -> bool
+    ensures { result ≡ is_of_thread kind }
+{
     matches!(kind, Kind::Thread | Kind::Context | Kind::CNode)
 }

@@ -1,4 +1,8 @@
 //! The lines of a plan before its first step.
+ghost use Rattle.std.specs.Prelude.{◌≡◌, ◌⊎◌, true, false, IfOk, IfErr, OnOk, OnErr};
+ghost use Rattle.std.specs.List.{list_any};
+ghost use Rattle.mcs_plans.specs.Threads.{NamesSpace, meets, TellsBound};
+
 use crate::plan::{Passive, Plan, Slot, Space, Thread, Tie};
 use crate::rights::rights_of;
 use mcs_names::{Names, Why, Words, is_name, not, number};
@@ -98,7 +102,9 @@ fn cap_of(alloc: Global, names: &Names, word: &str) -> Result<Cap, Why> {
 }
 
 /// The fault of what is bound already.
-fn bound(alloc: Global, word: &str) -> Why {
+fn bound(alloc: Global, word: &str) -> Why
+    ensures { TellsBound word.now result }
+{
     match String::from_str(alloc, word) {
         Ok(word) => Why::Bound { word },
         Err(AllocError) => Why::OutOfMemory,
@@ -328,7 +334,11 @@ impl Plan {
     }
 
     /// Bound where a thread or a notification is bound already.
-    fn is_free(&self, alloc: Global, of: Tie, thread: &str, word: &str) -> Result<(), Why> {
+    fn is_free(&self, alloc: Global, of: Tie, thread: &str, word: &str) -> Result<(), Why>
+        ensures free { OnOk result (list_any (meets of) self.now.ties.items ≡ false) }
+        ensures taken { OnErr result (list_any (meets of) self.now.ties.items ≡ true) }
+        ensures told { IfErr result (λ w. TellsBound thread.now w ⊎ TellsBound word.now w) }
+    {
         for tie in &self.ties {
             if tie.thread.is_same(of.thread) {
                 return Err(bound(alloc, thread));
@@ -376,16 +386,16 @@ impl Plan {
     }
 
     /// The place of the space that a name stands for: a thread's, or one by hand.
-    fn space_named(&self, alloc: Global, name: &str) -> Result<usize, Why> {
-        match self.names.find(name) {
-            Some(object) if object.kind == Kind::CNode => Ok(
-                object.place(Kind::CNode).unwrap_or(0),
-            ),
-            _ => {
-                let thread = self.names.of_kind(alloc, Kind::Thread, name)?;
-                Ok(self.space_of(thread))
+    fn space_named(&self, alloc: Global, name: &str) -> Result<usize, Why>
+        ensures { IfOk result (NamesSpace self.now name.now) }
+    {
+        if let Some(object) = self.names.find(name) {
+            if object.kind.is_same(Kind::CNode) {
+                return Ok(object.place(Kind::CNode).unwrap_or(0));
             }
         }
+        let thread = self.names.of_kind(alloc, Kind::Thread, name)?;
+        Ok(self.space_of(thread))
     }
 
     /// The name of a slot that has none of its own: that of its object, or the whole word where that

@@ -1,2 +1,3 @@
 pub mod Taken
 pub mod Again
+pub mod Boots

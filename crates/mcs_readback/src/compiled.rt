@@ -1,12 +1,13 @@
 //! The script of a plan, which was read back.
-ghost use Rattle.std.specs.Prelude.{IfOk, OnOk};
-ghost use Rattle.mcs_readback.specs.Reading.{IsVouched};
+ghost use Rattle.std.specs.Prelude.{◌≡◌, true, IfOk, OnOk};
+ghost use Rattle.mcs_compile.specs.Scripts.{HasBootOfPlan};
+ghost use Rattle.mcs_readback.specs.Reading.{IsBootOf, IsVouched};
 
 use crate::fault::CompileFault;
 use crate::leading::astray;
-use crate::reading::{booted, take_script};
+use crate::reading::{are_same_lines, booted, take_script};
+use mcs_book::Book;
 use mcs_compile::{Script, compile, write_boot, write_lines, write_script};
-use mcs_laying::Named;
 use mcs_text::read_user;
 use mcs_types::{OutOfMemory, Room};
 use std::alloc::Global;
@@ -24,10 +25,29 @@ pub struct Compiled {
     pub users: Vec<u8>,
 }
 
-/// Reads a text as a script, and tries each name behind its boot.
-fn vouch(alloc: Global, text: &[u8], tables: &Vec<Vec<Named>>) -> Result<(), CompileFault>
-    ensures { OnOk result (IsVouched text.now tables.now.items) }
+/// Whether a book has the boot that a script says.
+fn has_boot(book: &Book, script: &Script) -> bool
+    ensures { result ≡ true → IsBootOf script.now book.now.book.boot }
 {
+    book.cores() == script.cores && are_same_lines(book.boot(), &script.boot)
+}
+
+/// OtherBoot where a book has not the boot that a script says.
+fn keeps_boot(book: &Book, script: &Script) -> Result<(), CompileFault>
+    ensures { OnOk result (IsBootOf script.now book.now.book.boot) }
+{
+    if has_boot(book, script) {
+        return Ok(());
+    }
+    Err(CompileFault::OtherBoot)
+}
+
+/// Reads a text as a script, compares its boot with the plan's, and tries each name behind it.
+fn vouch(alloc: Global, text: &[u8], script: &Script) -> Result<(), CompileFault>
+    requires { HasBootOfPlan script.now }
+    ensures { OnOk result (IsVouched text.now script.now.laid) }
+{
+    let tables = &script.laid.tables;
     if tables.len() > THREADS {
         return Err(CompileFault::OutOfMemory);
     }
@@ -35,6 +55,7 @@ fn vouch(alloc: Global, text: &[u8], tables: &Vec<Vec<Named>>) -> Result<(), Com
     let Some(book) = run.book() else {
         return Err(CompileFault::OutOfMemory);
     };
+    keeps_boot(book, script)?;
     let kernel = booted(alloc, book)?;
     match astray(&kernel, tables) {
         None => Ok(()),
@@ -63,14 +84,15 @@ fn vouch_users(alloc: Global, threads: u32, lines: &[String]) -> Result<(), Comp
 
 /// The script of a plan, with what of its text was read back.
 fn read_back(alloc: Global, script: Script) -> Result<Compiled, CompileFault>
-    ensures { IfOk result (λ c. IsVouched c.read.items c.script.laid.tables.items) }
+    requires { HasBootOfPlan script }
+    ensures { IfOk result (λ c. IsVouched c.read.items c.script.laid) }
 {
     let (read, users) = if script.is_users {
         (write_boot(alloc, &script)?, write_lines(alloc, &script)?)
     } else {
         (write_script(alloc, &script)?, Vec::new(alloc))
     };
-    vouch(alloc, &read, &script.laid.tables)?;
+    vouch(alloc, &read, &script)?;
     Ok(Compiled {
         script,
         read,
@@ -79,12 +101,12 @@ fn read_back(alloc: Global, script: Script) -> Result<Compiled, CompileFault>
 }
 
 /// The script of a plan (own), which was read back: what was read of its text is a script of steps
-/// without a fault, and behind its boot each name of each thread leads to what its slot holds. Of a
-/// plan of users that is the boot, and each line behind it was read as that of a user. Fault Plan
-/// tells the first line of the plan that is refused; Script, Boot, Astray and User come only where this
-/// program is wrong.
+/// without a fault, whose boot is that of the plan, and behind this each name of each thread leads to
+/// what its slot holds. Of a plan of users that is the boot, and each line behind it was read as that of
+/// a user. Fault Plan tells the first line of the plan that is refused; Script, Boot, OtherBoot, Astray
+/// and User come only where this program is wrong.
 pub fn compile_text(alloc: Global, plan: &[u8]) -> Result<Compiled, CompileFault>
-    ensures { IfOk result (λ c. IsVouched c.read.items c.script.laid.tables.items) }
+    ensures { IfOk result (λ c. IsVouched c.read.items c.script.laid) }
 {
     let script = compile(alloc, plan)?;
     if script.is_users {

@@ -18,6 +18,9 @@ pub enum CompileFault {
     /// Its boot has one.
     #[error("the boot that this plan becomes has a fault: {0}")]
     Boot(BootFault),
+    /// Its boot is not that of the plan.
+    #[error("the boot that this plan becomes is not the plan's")]
+    OtherBoot,
     /// A name does not lead to what it stands for.
     #[error("\"{0}\" does not lead to its capability")]
     Astray(String),
@@ -64,7 +67,8 @@ impl CompileFault {
         match self {
             CompileFault::Plan(fault) => fault.status(),
             CompileFault::Script(fault) => fault.status(),
-            CompileFault::Boot(_) | CompileFault::Astray(_) | CompileFault::User(_) => 2,
+            CompileFault::Boot(_) | CompileFault::OtherBoot => 2,
+            CompileFault::Astray(_) | CompileFault::User(_) => 2,
             CompileFault::OutOfMemory => 6,
         }
     }

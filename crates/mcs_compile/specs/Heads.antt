@@ -1,0 +1,20 @@
+-- What stands in front of an entry, in a script.
+use Rattle.std.specs.Prelude.{ℕ, List, ◌∷◌, Option, Some, None, decimal, codes}
+use Rattle.mcs_types.specs.declared.id.CoreId.{CoreId}
+use Rattle.mcs_types.specs.declared.id.ObjId.{ObjId}
+use Rattle.mcs_text.specs.Spelling.{letter_of}
+use Rattle.mcs_names.specs.Naming.{with_word}
+use Rattle.mcs_compile.specs.declared.steps.Head.{Head}
+
+-- the name of an object in a script
+abbrev pub object_text : ObjId → List ℕ
+object_text object = letter_of object.kind ∷ decimal object.serial
+
+-- the core of a step, or the word of a user
+abbrev pub core_text : Option CoreId → List ℕ
+core_text (Some core) = decimal core.0
+core_text None = codes "user"
+
+-- who enters, and where
+abbrev pub head_text : Head → List ℕ
+head_text head = with_word (core_text head.core) (object_text head.thread)
