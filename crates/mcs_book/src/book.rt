@@ -8,9 +8,8 @@ ghost use Rattle.mcs_book.specs.Pages.{EndsWithin, facts, line_head, lines_of, s
 
 use mcs_packing::{
     Arena, Head, KeptAnswer, KeptRecord, KeptStep, Lent, Packed, PackedAnswer, PackedEntry,
-    copy_items,
 };
-use mcs_types::{Answer, Badge, BootLine, ObjId, OutOfMemory, Rec, SendMode, Step};
+use mcs_types::{Answer, Badge, BootLine, ObjId, OutOfMemory, Rec, SendMode, Step, copy_rows};
 use std::alloc::Global;
 use std::marker::Model;
 use std::mem;
@@ -408,18 +407,42 @@ impl Book {
         }
     }
 
-    /// An equal book, with as much room, so that it takes memory for a line only where this one would. OutOfMemory where memory is
-    /// refused.
-    pub fn copy(&self, alloc: Global) -> Result<Book, OutOfMemory>
+    /// The heads, the packed records, the arena and where each message was sent.
+    fn into_parts(self) -> (Vec<Head>, Vec<Packed>, Arena, Vec<u32>) {
+        let Book {
+            heads,
+            packed,
+            arena,
+            sent,
+            cores: _,
+            boot: _,
+            start: _,
+            room: _,
+            first: _,
+            place: _,
+        } = self;
+        (heads, packed, arena, sent)
+    }
+
+    /// An equal book, with as much room, so that it takes memory for a line only where this one would, in the memory of a spare
+    /// one. OutOfMemory where memory is refused.
+    pub fn copy(&self, alloc: Global, spare: Option<Book>) -> Result<Book, OutOfMemory>
         ensures { IfOk result (λ b. b ≡ self.now) }
     {
+        let (heads, packed, arena, sent) = match spare {
+            Some(spare) => {
+                let (heads, packed, arena, sent) = spare.into_parts();
+                (heads, packed, Some(arena), sent)
+            }
+            None => (Vec::new(alloc), Vec::new(alloc), None, Vec::new(alloc)),
+        };
         Ok(Book {
             cores: self.cores,
             boot: copy_boot(alloc, &self.boot, self.boot.capacity())?,
-            heads: copy_items(alloc, &self.heads, self.heads.capacity())?,
-            packed: copy_items(alloc, &self.packed, self.packed.capacity())?,
-            arena: self.arena.copy(alloc)?,
-            sent: copy_items(alloc, &self.sent, self.sent.capacity())?,
+            heads: copy_rows(heads, &self.heads, self.heads.capacity())?,
+            packed: copy_rows(packed, &self.packed, self.packed.capacity())?,
+            arena: self.arena.copy(alloc, arena)?,
+            sent: copy_rows(sent, &self.sent, self.sent.capacity())?,
             start: self.start,
             room: self.room,
             first: self.first,

@@ -7,8 +7,8 @@ ghost use Rattle.mcs_types.specs.declared.id.Kind.{Kind};
 ghost use Rattle.mcs_objects.specs.Store.{shape, empty_shape, one_more, is_full, IsOneFewer};
 ghost use Rattle.mcs_contexts.specs.Holding.{counts, no_room, next_context, core_at, holder_at, home_at, core_in, holder_in, home_in, context_in, is_holder, bound, unbound, homed, unhomed, may_lend, may_wake, SetsHolder, SetsContext, SetsHome, FreesHolder, LendsHolders, LendsContexts, HoldersDiffer, IsOneToOne};
 
-use mcs_objects::{Store, copy_rows, keep, kept_at};
-use mcs_types::{CoreId, Kind, ObjId, OutOfMemory, Refusal};
+use mcs_objects::{Store, keep, kept_at};
+use mcs_types::{CoreId, Kind, ObjId, OutOfMemory, Refusal, copy_rows};
 use std::alloc::Global;
 use std::marker::Model;
 
@@ -100,13 +100,26 @@ impl Contexts {
         })
     }
 
-    /// A table like this one (own). OutOfMemory where memory is refused.
-    pub fn copy(&self, alloc: Global) -> Result<Contexts, OutOfMemory>
+    /// The rows, and who holds them.
+    fn into_parts(self) -> (Store<ContextRow>, Vec<Option<ObjId>>) {
+        let Contexts { rows, held } = self;
+        (rows, held)
+    }
+
+    /// A table like this one, in the memory of a spare one (own). OutOfMemory where memory is refused.
+    pub fn copy(&self, alloc: Global, spare: Option<Contexts>) -> Result<Contexts, OutOfMemory>
         ensures { IfOk result (λ t. t ≡ self.now) }
     {
+        let (rows, held) = match spare {
+            Some(spare) => {
+                let (rows, held) = spare.into_parts();
+                (Some(rows), held)
+            }
+            None => (None, Vec::new(alloc)),
+        };
         Ok(Contexts {
-            rows: self.rows.copy(alloc)?,
-            held: copy_rows(alloc, &self.held, self.held.len())?,
+            rows: self.rows.copy(alloc, rows)?,
+            held: copy_rows(held, &self.held, self.held.len())?,
         })
     }
 

@@ -161,11 +161,15 @@ impl<L: Lines> Kernel<L> {
         Ok(Kernel { state })
     }
 
-    /// A kernel like this one. OutOfMemory where memory is refused.
-    pub fn copy(&self, alloc: Global) -> Result<Kernel<L>, OutOfMemory>
+    /// A kernel like this one, in the memory of a spare one. OutOfMemory where memory is refused.
+    pub fn copy(&self, alloc: Global, spare: Option<Kernel<L>>) -> Result<Kernel<L>, OutOfMemory>
         ensures { IfOk result (λ k. k ≡ self.now) }
     {
-        let state = self.state.copy(alloc)?;
+        let spare = match spare {
+            Some(Kernel { state }) => Some(state),
+            None => None,
+        };
+        let state = self.state.copy(alloc, spare)?;
         Ok(Kernel { state })
     }
 

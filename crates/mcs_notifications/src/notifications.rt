@@ -69,12 +69,26 @@ impl Notifications {
         })
     }
 
-    /// A table like this one (own). OutOfMemory where memory is refused.
-    pub fn copy(&self, alloc: Global) -> Result<Notifications, OutOfMemory>
+    /// The rows.
+    fn into_rows(self) -> Store<NotificationRow> {
+        let Notifications { rows } = self;
+        rows
+    }
+
+    /// A table like this one, in the memory of a spare one (own). OutOfMemory where memory is refused.
+    pub fn copy(
+        &self,
+        alloc: Global,
+        spare: Option<Notifications>,
+    ) -> Result<Notifications, OutOfMemory>
         ensures { IfOk result (λ t. t ≡ self.now) }
     {
+        let rows = match spare {
+            Some(spare) => Some(spare.into_rows()),
+            None => None,
+        };
         Ok(Notifications {
-            rows: self.rows.copy(alloc)?,
+            rows: self.rows.copy(alloc, rows)?,
         })
     }
 

@@ -1,5 +1,5 @@
 //! The queues of endpoints and notifications as lines with numbers.
-ghost use Rattle.std.specs.Prelude.{◌≡◌, ◌≤◌, ◌<◌, ◌+◌, IfSome};
+ghost use Rattle.std.specs.Prelude.{IfOk, ◌≡◌, ◌≤◌, ◌<◌, ◌+◌, IfSome};
 ghost use Rattle.mcs_types.specs.declared.id.ObjId.{ObjId};
 ghost use Rattle.mcs_types.specs.declared.id.Kind.{Kind};
 ghost use Rattle.mcs_types.specs.Ids.{place_of};
@@ -94,6 +94,18 @@ fn line_no(endpoints: &Store<()>, notifications: &Store<()>, queue: Queue) -> Op
     }
 }
 
+impl<L: Lines> ObjectQueues<L> {
+    /// The endpoints, the notifications and their lines.
+    fn into_parts(self) -> (Store<()>, Store<()>, L) {
+        let ObjectQueues {
+            endpoints,
+            notifications,
+            lines,
+        } = self;
+        (endpoints, notifications, lines)
+    }
+}
+
 impl<L: Lines> Waiting for ObjectQueues<L> {
     ghost use Rattle.mcs_object_queues.specs.Places.{line_of, queue_of, has_object, given_of, there_of};
 
@@ -144,11 +156,31 @@ impl<L: Lines> Waiting for ObjectQueues<L> {
         }
     }
 
-    fn copy(&self, alloc: Global) -> Result<ObjectQueues<L>, OutOfMemory> {
+    fn copy(
+        &self,
+        alloc: Global,
+        spare: Option<ObjectQueues<L>>,
+    ) -> Result<ObjectQueues<L>, OutOfMemory>
+        ensures line { IfOk result (λ s. (q : Queue)
+            → line_of s.endpoints s.notifications (L.line s.lines) q
+            ≡ line_of self.now.endpoints self.now.notifications (L.line self.now.lines) q) }
+        ensures queue { IfOk result (λ s. (t : ObjId)
+            → queue_of s.endpoints s.notifications (L.place s.lines) t
+            ≡ queue_of self.now.endpoints self.now.notifications (L.place self.now.lines) t) }
+        ensures endpoints { IfOk result (λ s. s.endpoints ≡ self.now.endpoints) }
+        ensures notifications { IfOk result (λ s. s.notifications ≡ self.now.notifications) }
+    {
+        let (endpoints, notifications, lines) = match spare {
+            Some(spare) => {
+                let (endpoints, notifications, lines) = spare.into_parts();
+                (Some(endpoints), Some(notifications), Some(lines))
+            }
+            None => (None, None, None),
+        };
         Ok(ObjectQueues {
-            endpoints: self.endpoints.copy(alloc)?,
-            notifications: self.notifications.copy(alloc)?,
-            lines: self.lines.copy(alloc)?,
+            endpoints: self.endpoints.copy(alloc, endpoints)?,
+            notifications: self.notifications.copy(alloc, notifications)?,
+            lines: self.lines.copy(alloc, lines)?,
         })
     }
 

@@ -8,9 +8,8 @@ ghost use Rattle.mcs_types.specs.Ids.{same, ChangesAt};
 ghost use Rattle.mcs_objects.specs.Rows.{is_of, row_for, Rises};
 ghost use Rattle.slab.specs.Slab.{slab_len};
 
-use crate::copies::copy_rows;
 use crate::full::NoRoom;
-use mcs_types::{Kind, ObjId, OutOfMemory};
+use mcs_types::{Kind, ObjId, OutOfMemory, copy_rows};
 use slab::Slab;
 use std::alloc::Global;
 use std::marker::Model;
@@ -106,17 +105,34 @@ fn copy_values<T: Clone>(values: &Slab<T>, room: u16) -> Result<Slab<T>, OutOfMe
 }
 
 impl<T: Clone> Store<T> {
-    /// A store like this one, where a clone of a value equals the value (own). OutOfMemory where memory is refused.
-    pub fn copy(&self, alloc: Global) -> Result<Store<T>, OutOfMemory>
+    /// The rows.
+    fn into_rows(self) -> Vec<Row> {
+        let Store {
+            kind: _,
+            room: _,
+            given: _,
+            rows,
+            values: _,
+        } = self;
+        rows
+    }
+
+    /// A store like this one, in the memory of a spare one, where a clone of a value equals the value (own). OutOfMemory where
+    /// memory is refused.
+    pub fn copy(&self, alloc: Global, spare: Option<Store<T>>) -> Result<Store<T>, OutOfMemory>
         requires clones { (x y : T) → T.is_clone x y → y ≡ x }
         ensures { IfOk result (λ t. t ≡ self.now) }
     {
         let kind = self.kind;
+        let rows = match spare {
+            Some(spare) => spare.into_rows(),
+            None => Vec::new(alloc),
+        };
         Ok(Store {
             kind,
             room: self.room,
             given: self.given,
-            rows: copy_rows(alloc, &self.rows, self.room as usize)?,
+            rows: copy_rows(rows, &self.rows, self.room as usize)?,
             values: copy_values(&self.values, self.room)?,
         })
     }

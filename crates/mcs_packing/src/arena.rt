@@ -3,7 +3,7 @@ ghost use Rattle.std.specs.Prelude.{ℕ, ◌≡◌, ◌<◌, ◌≤◌, ◌+◌,
 ghost use Rattle.mcs_packing.specs.Packing.{FitsIn, Grew, GrewHead, GrowsBy, HasBadgeAt, HasMessageRoom, HasRoom, HoldsAt, IsMessageAt, content_at, record_in, word_at};
 
 use crate::packed::Packed;
-use mcs_types::{Badge, INLINE_WORDS, Message, OutOfMemory, Rec};
+use mcs_types::{Badge, INLINE_WORDS, Message, OutOfMemory, Rec, copy_rows, emptied};
 use std::alloc::Global;
 
 /// The words that packed records, entries and answers name by their places, and the records that fit no packed form. A
@@ -16,25 +16,19 @@ pub struct Arena {
     pub spare: usize,
 }
 
-/// The same items, with room for that many.
-pub fn copy_items<T: Copy>(alloc: Global, items: &[T], room: usize) -> Result<Vec<T>, OutOfMemory>
-    ensures items { IfOk result (λ v. v.items ≡ items.now) }
-    ensures len { IfOk result (λ v. vec_len v ≡ length items.now) }
-    ensures capacity { IfOk result (λ v. room ≤ vec_capacity v) }
-{
-    let mut copy = Vec::with_capacity(alloc, room)?;
-    copy.extend_from_slice(items)?;
-    Ok(copy)
-}
-
-/// The same records, with room for that many.
-fn copy_records(alloc: Global, records: &[Rec], room: usize) -> Result<Vec<Rec>, OutOfMemory>
+/// The same records, with room for that many, in the memory of spare ones.
+fn copy_records(
+    alloc: Global,
+    spare: Vec<Rec>,
+    records: &[Rec],
+    room: usize,
+) -> Result<Vec<Rec>, OutOfMemory>
     requires { length records.now ≤ room }
     ensures items { IfOk result (λ v. v.items ≡ records.now) }
     ensures len { IfOk result (λ v. vec_len v ≡ length records.now) }
     ensures capacity { IfOk result (λ v. room ≤ vec_capacity v) }
 {
-    let mut copy = Vec::with_capacity(alloc, room)?;
+    let mut copy = emptied(spare, room)?;
     for fact in records {
         copy.push_reserved(fact.copy(alloc)?);
     }
@@ -142,15 +136,19 @@ fn keep_one(words: &mut Vec<u64>, word: u64) -> u32
 }
 
 impl Arena {
-    /// The same words and records, with as much room. OutOfMemory where memory is refused.
-    pub fn copy(&self, alloc: Global) -> Result<Arena, OutOfMemory>
+    /// The same words and records, with as much room, in the memory of a spare one. OutOfMemory where memory is refused.
+    pub fn copy(&self, alloc: Global, spare: Option<Arena>) -> Result<Arena, OutOfMemory>
         ensures words { IfOk result (λ a. a.words.items ≡ self.now.words.items) }
         ensures wide { IfOk result (λ a. a.wide.items ≡ self.now.wide.items) }
         ensures room { IfOk result (λ a. (n : ℕ) → HasRoom self.now n → HasRoom a n) }
     {
+        let (words, wide) = match spare {
+            Some(Arena { words, wide, .. }) => (words, wide),
+            None => (Vec::new(alloc), Vec::new(alloc)),
+        };
         Ok(Arena {
-            words: copy_items(alloc, &self.words, self.words.capacity())?,
-            wide: copy_records(alloc, &self.wide, self.wide.capacity())?,
+            words: copy_rows(words, &self.words, self.words.capacity())?,
+            wide: copy_records(alloc, wide, &self.wide, self.wide.capacity())?,
             spare: self.spare,
         })
     }

@@ -11,7 +11,7 @@ mod lent;
 mod packed;
 mod unpacking;
 
-pub use arena::{Arena, copy_items};
+pub use arena::Arena;
 pub use entries::{OverAddress, OverPair, OverPlace, PackedEntry, Sending, unpack_entry};
 pub use heads::{Head, PackedAnswer, unpack_answer};
 pub use kept::{KeptAnswer, KeptRecord, KeptStep};

@@ -3,7 +3,7 @@ ghost use Rattle.std.specs.Prelude.{◌≡◌, ◌<◌, ◌/◌, length, replica
 ghost use Rattle.mcs_queues.specs.Fingers.{Points, IsReleased, IsLower, finger, no_fingers};
 
 use crate::lines::{LineNo, ThreadNo};
-use mcs_types::{OutOfMemory, Prio};
+use mcs_types::{OutOfMemory, Prio, copy_rows};
 use std::alloc::Global;
 use std::marker::Model;
 
@@ -59,12 +59,16 @@ impl Fingers {
         })
     }
 
-    /// The same fingers. OutOfMemory where memory is refused.
-    pub fn copy(&self, alloc: Global) -> Result<Fingers, OutOfMemory>
+    /// The same fingers, in the memory of spare ones. OutOfMemory where memory is refused.
+    pub fn copy(&self, alloc: Global, spare: Option<Fingers>) -> Result<Fingers, OutOfMemory>
         ensures { IfOk result (λ f. f ≡ self.now) }
     {
+        let rows = match spare {
+            Some(Fingers { rows }) => rows,
+            None => Vec::new(alloc),
+        };
         Ok(Fingers {
-            rows: Vec::from_slice(alloc, &self.rows)?,
+            rows: copy_rows(rows, &self.rows, self.rows.len())?,
         })
     }
 

@@ -1,5 +1,5 @@
 //! Lines as links between slots.
-ghost use Rattle.std.specs.Prelude.{◌≡◌, ℕ, ◌+◌, ◌-◌, ◌<◌, ◌≤◌, true, Some, None, is_some, length, IfSome};
+ghost use Rattle.std.specs.Prelude.{IfOk, ◌≡◌, ℕ, ◌+◌, ◌-◌, ◌<◌, ◌≤◌, true, Some, None, is_some, length, IfSome};
 ghost use Rattle.mcs_types.specs.Waiters.{without, lower, first_waiter, behind_in, NeverRises, IsPut};
 ghost use Rattle.mcs_queues.specs.Changes.{waiter, may_join, JoinsLine, JoinsPlace, LeavesPlace, ShiftsLine, IsPutAnew, StandsAtPlace};
 ghost use Rattle.mcs_queues.specs.Numbers.{thread_number, line_number};
@@ -328,9 +328,15 @@ impl Lines for LinkedLines {
         Ok(LinkedLines { slots, fingers })
     }
 
-    fn copy(&self, alloc: Global) -> Result<LinkedLines, OutOfMemory> {
-        let slots = self.slots.copy(alloc)?;
-        let fingers = self.fingers.copy(alloc)?;
+    fn copy(&self, alloc: Global, spare: Option<LinkedLines>) -> Result<LinkedLines, OutOfMemory>
+        ensures { IfOk result (λ s. s ≡ self.now) }
+    {
+        let (slots, fingers) = match spare {
+            Some(LinkedLines { slots, fingers }) => (Some(slots), Some(fingers)),
+            None => (None, None),
+        };
+        let slots = self.slots.copy(alloc, slots)?;
+        let fingers = self.fingers.copy(alloc, fingers)?;
         Ok(LinkedLines { slots, fingers })
     }
 

@@ -4,7 +4,7 @@ ghost use Rattle.mcs_queues.specs.Numbers.{thread_number, line_number};
 ghost use Rattle.mcs_queues.specs.Rows.{is_of, is_lower, enters, leaves, line_in, place_in};
 
 use crate::lines::{LineNo, Lines, ThreadNo};
-use mcs_types::{OutOfMemory, Prio};
+use mcs_types::{OutOfMemory, Prio, copy_rows};
 use std::alloc::Global;
 use std::marker::Model;
 
@@ -50,16 +50,6 @@ impl Model for PlainLines {
     ghost invariant = { λ s. (s.threads ≤ vec_capacity s.rows)
         × Kept s.threads s.lines s.rows.items
         × ((k : ℕ) → NeverRises (line_in s.rows.items k)) };
-}
-
-/// The same rows, with room for that many.
-fn copy_rows(alloc: Global, rows: &[Row], room: usize) -> Result<Vec<Row>, OutOfMemory>
-    ensures items { IfOk result (λ v. v.items ≡ rows.now) }
-    ensures capacity { IfOk result (λ v. room ≤ vec_capacity v) }
-{
-    let mut copy = Vec::with_capacity(alloc, room)?;
-    copy.extend_from_slice(rows)?;
-    Ok(copy)
 }
 
 /// Where the row of a thread stands.
@@ -132,6 +122,18 @@ fn first_in(rows: &[Row], q: LineNo) -> Option<ThreadNo>
     None
 }
 
+impl PlainLines {
+    /// The rows.
+    fn into_rows(self) -> Vec<Row> {
+        let PlainLines {
+            rows,
+            threads: _,
+            lines: _,
+        } = self;
+        rows
+    }
+}
+
 impl Lines for PlainLines {
     ghost use Rattle.std.specs.Prelude.{◌≡◌};
     ghost use Rattle.mcs_queues.specs.Rows.{Rows, line_in, place_in};
@@ -150,9 +152,15 @@ impl Lines for PlainLines {
         })
     }
 
-    fn copy(&self, alloc: Global) -> Result<PlainLines, OutOfMemory> {
+    fn copy(&self, alloc: Global, spare: Option<PlainLines>) -> Result<PlainLines, OutOfMemory>
+        ensures { IfOk result (λ s. s ≡ self.now) }
+    {
+        let rows = match spare {
+            Some(spare) => spare.into_rows(),
+            None => Vec::new(alloc),
+        };
         Ok(PlainLines {
-            rows: copy_rows(alloc, &self.rows, self.threads as usize)?,
+            rows: copy_rows(rows, &self.rows, self.threads as usize)?,
             threads: self.threads,
             lines: self.lines,
         })

@@ -3,7 +3,7 @@ ghost use Rattle.std.specs.Prelude.{◌≡◌, ◌<◌, ◌+◌, length, IfOk, I
 ghost use Rattle.mcs_queues.specs.Links.{slot_at, ends_at, blank_slot, blank_ends, with_slot, with_next, with_previous};
 
 use crate::lines::{LineNo, ThreadNo};
-use mcs_types::{OutOfMemory, Prio};
+use mcs_types::{OutOfMemory, Prio, copy_rows};
 use std::alloc::Global;
 use std::marker::Model;
 use std::sync::ledger::{Blank, Book, Ledger, Share};
@@ -98,13 +98,17 @@ impl LinkSlots {
         })
     }
 
-    /// The same slots. OutOfMemory where memory is refused.
-    pub fn copy(&self, alloc: Global) -> Result<LinkSlots, OutOfMemory>
+    /// The same slots, in the memory of spare ones. OutOfMemory where memory is refused.
+    pub fn copy(&self, alloc: Global, spare: Option<LinkSlots>) -> Result<LinkSlots, OutOfMemory>
         ensures { IfOk result (λ s. s ≡ self.now) }
     {
+        let (threads, lines) = match spare {
+            Some(LinkSlots { threads, lines }) => (threads, lines),
+            None => (Vec::new(alloc), Vec::new(alloc)),
+        };
         Ok(LinkSlots {
-            threads: Vec::from_slice(alloc, &self.threads)?,
-            lines: Vec::from_slice(alloc, &self.lines)?,
+            threads: copy_rows(threads, &self.threads, self.threads.len())?,
+            lines: copy_rows(lines, &self.lines, self.lines.len())?,
         })
     }
 

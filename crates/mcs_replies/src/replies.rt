@@ -14,8 +14,8 @@ ghost use Rattle.mcs_replies.specs.Rest.{rest_of};
 use crate::links::{self, Chain, Link};
 use crate::places::PlaceNo;
 use crate::tops::Tops;
-use mcs_objects::{Store, copy_rows};
-use mcs_types::{Ending, Kind, OBJECTS, ObjId, OutOfMemory};
+use mcs_objects::Store;
+use mcs_types::{Ending, Kind, OBJECTS, ObjId, OutOfMemory, copy_rows};
 use std::alloc::Global;
 use std::marker::Model;
 
@@ -113,14 +113,27 @@ impl Replies {
         })
     }
 
-    /// A table like this one (own). OutOfMemory where memory is refused.
-    pub fn copy(&self, alloc: Global) -> Result<Replies, OutOfMemory>
+    /// The rows, the links and the tops.
+    fn into_parts(self) -> (Store<ReplyRow>, Vec<Option<Link>>, Tops) {
+        let Replies { rows, links, tops } = self;
+        (rows, links, tops)
+    }
+
+    /// A table like this one, in the memory of a spare one (own). OutOfMemory where memory is refused.
+    pub fn copy(&self, alloc: Global, spare: Option<Replies>) -> Result<Replies, OutOfMemory>
         ensures { IfOk result (λ t. t ≡ self.now) }
     {
+        let (rows, links, tops) = match spare {
+            Some(spare) => {
+                let (rows, links, tops) = spare.into_parts();
+                (Some(rows), links, Some(tops))
+            }
+            None => (None, Vec::new(alloc), None),
+        };
         Ok(Replies {
-            rows: self.rows.copy(alloc)?,
-            links: copy_rows(alloc, &self.links, OBJECTS as usize)?,
-            tops: self.tops.copy(alloc)?,
+            rows: self.rows.copy(alloc, rows)?,
+            links: copy_rows(links, &self.links, OBJECTS as usize)?,
+            tops: self.tops.copy(alloc, tops)?,
         })
     }
 

@@ -5,8 +5,7 @@ ghost use Rattle.mcs_replies.specs.Places.{place_number};
 ghost use Rattle.mcs_replies.specs.Tops.{is_for, top_among, row_of, entered_among, left_among, home, top_at, takes_home, entered, left, moved};
 
 use crate::places::PlaceNo;
-use mcs_objects::copy_rows;
-use mcs_types::{OBJECTS, ObjId, OutOfMemory};
+use mcs_types::{OBJECTS, ObjId, OutOfMemory, copy_rows};
 use std::alloc::Global;
 use std::marker::Model;
 
@@ -110,13 +109,17 @@ impl Tops {
         })
     }
 
-    /// The same tops. OutOfMemory where memory is refused.
-    pub(crate) fn copy(&self, alloc: Global) -> Result<Tops, OutOfMemory>
+    /// The same tops, in the memory of spare ones. OutOfMemory where memory is refused.
+    pub(crate) fn copy(&self, alloc: Global, spare: Option<Tops>) -> Result<Tops, OutOfMemory>
         ensures { IfOk result (λ t. t ≡ self.now) }
     {
+        let (homes, others) = match spare {
+            Some(Tops { homes, others }) => (homes, others),
+            None => (Vec::new(alloc), Vec::new(alloc)),
+        };
         Ok(Tops {
-            homes: copy_rows(alloc, &self.homes, OBJECTS as usize)?,
-            others: copy_rows(alloc, &self.others, OBJECTS as usize)?,
+            homes: copy_rows(homes, &self.homes, OBJECTS as usize)?,
+            others: copy_rows(others, &self.others, OBJECTS as usize)?,
         })
     }
 

@@ -4,7 +4,7 @@ ghost use Rattle.mcs_book.specs.Slots.{is_cap_to};
 ghost use Rattle.mcs_types.specs.Ids.{same};
 
 use crate::cell::Cell;
-use mcs_types::{Cap, ObjId, OutOfMemory};
+use mcs_types::{Cap, ObjId, OutOfMemory, copy_rows};
 use std::alloc::{AllocError, Global};
 use std::marker::Model;
 
@@ -76,13 +76,17 @@ impl Page {
         Ok(Page { radix, caps })
     }
 
-    /// A page like this one. OutOfMemory where memory is refused.
-    pub(crate) fn copy(&self, alloc: Global) -> Result<Page, OutOfMemory>
+    /// A page like this one, in the memory of a spare one. OutOfMemory where memory is refused.
+    pub(crate) fn copy(&self, alloc: Global, spare: Option<Page>) -> Result<Page, OutOfMemory>
         ensures { IfOk result (λ p. p ≡ self.now) }
     {
+        let caps = match spare {
+            Some(Page { caps, .. }) => caps,
+            None => Vec::new(alloc),
+        };
         Ok(Page {
             radix: self.radix,
-            caps: Vec::from_slice(alloc, self.caps.as_slice())?,
+            caps: copy_rows(caps, self.caps.as_slice(), self.caps.len())?,
         })
     }
 

@@ -35,13 +35,14 @@ fn page_number(cnode: ObjId) -> Option<usize>
     Some((cnode.serial - 1) as usize)
 }
 
-/// Pages like these.
-fn copied_pages(alloc: Global, pages: &[Page]) -> Result<Vec<Page>, OutOfMemory>
+/// Pages like these, in the memory of spare ones.
+fn copied_pages(alloc: Global, spare: Vec<Page>, pages: &[Page]) -> Result<Vec<Page>, OutOfMemory>
     ensures { IfOk result (λ v. v.items ≡ pages.now) }
 {
     let mut copied = Vec::with_capacity(alloc, pages.len())?;
+    let mut spare = spare.into_iter();
     for page in pages {
-        copied.push_reserved(page.copy(alloc)?);
+        copied.push_reserved(page.copy(alloc, spare.next())?);
     }
     Ok(copied)
 }
@@ -63,12 +64,16 @@ impl Pages {
         Ok(Pages { pages })
     }
 
-    /// Pages like these. OutOfMemory where memory is refused.
-    pub(crate) fn copy(&self, alloc: Global) -> Result<Pages, OutOfMemory>
+    /// Pages like these, in the memory of spare ones. OutOfMemory where memory is refused.
+    pub(crate) fn copy(&self, alloc: Global, spare: Option<Pages>) -> Result<Pages, OutOfMemory>
         ensures { IfOk result (λ s. s ≡ self.now) }
     {
+        let spare = match spare {
+            Some(Pages { pages }) => pages,
+            None => Vec::new(alloc),
+        };
         Ok(Pages {
-            pages: copied_pages(alloc, self.pages.as_slice())?,
+            pages: copied_pages(alloc, spare, self.pages.as_slice())?,
         })
     }
 

@@ -62,13 +62,26 @@ impl Slots {
         Ok(Slots { pages, tallies })
     }
 
-    /// Slots like these. OutOfMemory where memory is refused.
-    pub fn copy_all(&self, alloc: Global) -> Result<Slots, OutOfMemory>
+    /// The pages and the tallies.
+    fn into_parts(self) -> (Pages, Tallies) {
+        let Slots { pages, tallies } = self;
+        (pages, tallies)
+    }
+
+    /// Slots like these, in the memory of spare ones. OutOfMemory where memory is refused.
+    pub fn copy_all(&self, alloc: Global, spare: Option<Slots>) -> Result<Slots, OutOfMemory>
         ensures { IfOk result (λ s. s ≡ self.now) }
     {
+        let (pages, tallies) = match spare {
+            Some(spare) => {
+                let (pages, tallies) = spare.into_parts();
+                (Some(pages), Some(tallies))
+            }
+            None => (None, None),
+        };
         Ok(Slots {
-            pages: self.pages.copy(alloc)?,
-            tallies: self.tallies.copy(alloc)?,
+            pages: self.pages.copy(alloc, pages)?,
+            tallies: self.tallies.copy(alloc, tallies)?,
         })
     }
 

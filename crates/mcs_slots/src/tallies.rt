@@ -3,7 +3,7 @@ ghost use Rattle.std.specs.Prelude.{◌≡◌, All, IfOk, length, slice_get};
 ghost use Rattle.mcs_slots.specs.Buckets.{bucket_of, owns};
 ghost use Rattle.mcs_slots.specs.Tallies.{no_tally};
 
-use mcs_types::{Cap, ObjId, OutOfMemory};
+use mcs_types::{Cap, ObjId, OutOfMemory, copy_rows};
 use std::alloc::Global;
 use std::marker::Model;
 
@@ -116,13 +116,17 @@ impl Tallies {
         })
     }
 
-    /// The tallies of the first buckets. OutOfMemory where memory is refused.
-    pub(crate) fn copy(&self, alloc: Global) -> Result<Tallies, OutOfMemory>
+    /// The tallies of the first buckets, in the memory of spare ones. OutOfMemory where memory is refused.
+    pub(crate) fn copy(&self, alloc: Global, spare: Option<Tallies>) -> Result<Tallies, OutOfMemory>
         ensures { IfOk result (λ t. AreFrom t self.now) }
     {
+        let tallies = match spare {
+            Some(Tallies { tallies }) => tallies,
+            None => Vec::new(alloc),
+        };
         let count = self.tallies.len().min(COPIED);
         Ok(Tallies {
-            tallies: Vec::from_slice(alloc, &self.tallies[..count])?,
+            tallies: copy_rows(tallies, &self.tallies[..count], count)?,
         })
     }
 

@@ -10,7 +10,7 @@ ghost use Rattle.mcs_state.specs.Tables.{ROOM};
 
 use mcs_objects::{keep, kept_at, take};
 use mcs_threads::Threads;
-use mcs_types::{Kind, Letter, Mail, Message, OBJECTS, ObjId, OutOfMemory};
+use mcs_types::{Kind, Letter, Mail, Message, OBJECTS, ObjId, OutOfMemory, emptied};
 use std::alloc::Global;
 use std::marker::Model;
 
@@ -93,16 +93,17 @@ impl Drop for Letters {
     }
 }
 
-/// Open messages like these, at most 256, with the room for so many.
+/// Open messages like these, at most 256, with the room for so many, in the memory of spare ones.
 fn copied_places(
     alloc: Global,
+    spare: Vec<Option<OpenLetter>>,
     places: &[Option<OpenLetter>],
 ) -> Result<Vec<Option<OpenLetter>>, OutOfMemory>
     requires { length places.now ≤ ROOM }
     ensures places { IfOk result (λ v. v.items ≡ places.now) }
     ensures room { IfOk result (λ v. ROOM ≤ vec_capacity v) }
 {
-    let mut copies = Vec::with_capacity(alloc, OBJECTS as usize)?;
+    let mut copies = emptied(spare, OBJECTS as usize)?;
     for place in places {
         copies.push_reserved(copied(alloc, place)?);
     }
@@ -135,12 +136,22 @@ impl Letters {
         })
     }
 
-    /// Open messages like these. OutOfMemory where memory is refused.
-    pub fn copy(&self, alloc: Global) -> Result<Letters, OutOfMemory>
+    /// The places.
+    fn into_places(self) -> Vec<Option<OpenLetter>> {
+        let Letters { places } = self;
+        places
+    }
+
+    /// Open messages like these, in the memory of spare ones. OutOfMemory where memory is refused.
+    pub fn copy(&self, alloc: Global, spare: Option<Letters>) -> Result<Letters, OutOfMemory>
         ensures { IfOk result (λ l. l ≡ self.now) }
     {
+        let spare = match spare {
+            Some(spare) => spare.into_places(),
+            None => Vec::new(alloc),
+        };
         Ok(Letters {
-            places: copied_places(alloc, &self.places)?,
+            places: copied_places(alloc, spare, &self.places)?,
         })
     }
 

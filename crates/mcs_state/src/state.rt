@@ -65,6 +65,33 @@ impl<W: Waiting> Drop for State<W> {
     }
 }
 
+/// The tables of a state that is let go, each if it is there.
+#[derive(Drop)]
+struct Spare<W: Waiting> {
+    book: Option<Book>,
+    threads: Option<Threads>,
+    letters: Option<Letters>,
+    contexts: Option<Contexts>,
+    queues: Option<W>,
+    replies: Option<Replies>,
+    notifications: Option<Notifications>,
+    slots: Option<Slots>,
+}
+
+/// No table.
+fn no_tables<W: Waiting>() -> Spare<W> {
+    Spare {
+        slots: None,
+        threads: None,
+        contexts: None,
+        replies: None,
+        notifications: None,
+        queues: None,
+        letters: None,
+        book: None,
+    }
+}
+
 impl<W: Waiting> Model for State<W> {
     ghost use Rattle.std.specs.Prelude.{◌≤◌, ◌+◌, ◌++◌, length};
     ghost use Rattle.mcs_book.specs.History.{log_of};
@@ -115,21 +142,50 @@ impl<W: Waiting> State<W> {
         })
     }
 
-    /// A state like this one. OutOfMemory where memory is refused.
-    pub fn copy(&self, alloc: Global) -> Result<State<W>, OutOfMemory>
+    /// The tables.
+    fn into_tables(self) -> Spare<W> {
+        let State {
+            book,
+            threads,
+            letters,
+            contexts,
+            queues,
+            replies,
+            notifications,
+            slots,
+            sent: _,
+        } = self;
+        Spare {
+            slots: Some(slots),
+            threads: Some(threads),
+            contexts: Some(contexts),
+            replies: Some(replies),
+            notifications: Some(notifications),
+            queues: Some(queues),
+            letters: Some(letters),
+            book: Some(book),
+        }
+    }
+
+    /// A state like this one, in the memory of a spare one. OutOfMemory where memory is refused.
+    pub fn copy(&self, alloc: Global, spare: Option<State<W>>) -> Result<State<W>, OutOfMemory>
         ensures book { IfOk result (λ s. s.book ≡ self.now.book) }
         ensures hand { IfOk result (λ s. s.hand ≡ self.now.hand) }
     {
+        let spare = match spare {
+            Some(spare) => spare.into_tables(),
+            None => no_tables(),
+        };
         // Those whose letting go is long to prove come last.
         Ok(State {
-            slots: self.slots.copy_all(alloc)?,
-            threads: self.threads.copy(alloc)?,
-            contexts: self.contexts.copy(alloc)?,
-            replies: self.replies.copy(alloc)?,
-            notifications: self.notifications.copy(alloc)?,
-            queues: self.queues.copy(alloc)?,
-            letters: self.letters.copy(alloc)?,
-            book: self.book.copy(alloc)?,
+            slots: self.slots.copy_all(alloc, spare.slots)?,
+            threads: self.threads.copy(alloc, spare.threads)?,
+            contexts: self.contexts.copy(alloc, spare.contexts)?,
+            replies: self.replies.copy(alloc, spare.replies)?,
+            notifications: self.notifications.copy(alloc, spare.notifications)?,
+            queues: self.queues.copy(alloc, spare.queues)?,
+            letters: self.letters.copy(alloc, spare.letters)?,
+            book: self.book.copy(alloc, spare.book)?,
             sent: self.sent,
         })
     }

@@ -7,7 +7,7 @@ ghost use Rattle.mcs_threads.specs.Rows.{new_row, with_notification};
 
 use crate::row::{Block, ThreadRow};
 use mcs_objects::{keep, kept_at};
-use mcs_types::{Cap, Kind, Mail, Mode, OBJECTS, ObjId, OutOfMemory, Prio};
+use mcs_types::{Cap, Kind, Mail, Mode, OBJECTS, ObjId, OutOfMemory, Prio, copy_rows, emptied};
 use std::alloc::Global;
 use std::marker::Model;
 
@@ -37,19 +37,6 @@ impl Drop for Threads {
     }
 }
 
-/// These rows, with the room for 256.
-fn copied_rows(
-    alloc: Global,
-    rows: &[Option<ThreadRow>],
-) -> Result<Vec<Option<ThreadRow>>, OutOfMemory>
-    ensures rows { IfOk result (λ v. v.items ≡ rows.now) }
-    ensures room { IfOk result (λ v. 256 ≤ vec_capacity v) }
-{
-    let mut copied = Vec::with_capacity(alloc, OBJECTS as usize)?;
-    copied.extend_from_slice(rows)?;
-    Ok(copied)
-}
-
 /// A mail like this one.
 fn copied_mail(alloc: Global, mail: &Option<Mail>) -> Result<Option<Mail>, OutOfMemory>
     ensures { IfOk result (λ m. m ≡ mail.now) }
@@ -64,13 +51,17 @@ fn copied_mail(alloc: Global, mail: &Option<Mail>) -> Result<Option<Mail>, OutOf
     })
 }
 
-/// These mails, at most 256, with the room for so many.
-fn copied_mails(alloc: Global, mails: &[Option<Mail>]) -> Result<Vec<Option<Mail>>, OutOfMemory>
+/// These mails, at most 256, with the room for so many, in the memory of spare ones.
+fn copied_mails(
+    alloc: Global,
+    spare: Vec<Option<Mail>>,
+    mails: &[Option<Mail>],
+) -> Result<Vec<Option<Mail>>, OutOfMemory>
     requires { length mails.now ≤ 256 }
     ensures mails { IfOk result (λ v. v.items ≡ mails.now) }
     ensures room { IfOk result (λ v. 256 ≤ vec_capacity v) }
 {
-    let mut copied = Vec::with_capacity(alloc, OBJECTS as usize)?;
+    let mut copied = emptied(spare, OBJECTS as usize)?;
     for mail in mails {
         copied.push_reserved(copied_mail(alloc, mail)?);
     }
@@ -92,13 +83,23 @@ impl Threads {
         })
     }
 
-    /// A table like this one. OutOfMemory where memory is refused.
-    pub fn copy(&self, alloc: Global) -> Result<Threads, OutOfMemory>
+    /// The rows and the mails.
+    fn into_parts(self) -> (Vec<Option<ThreadRow>>, Vec<Option<Mail>>) {
+        let Threads { rows, mails } = self;
+        (rows, mails)
+    }
+
+    /// A table like this one, in the memory of a spare one. OutOfMemory where memory is refused.
+    pub fn copy(&self, alloc: Global, spare: Option<Threads>) -> Result<Threads, OutOfMemory>
         ensures { IfOk result (λ t. t ≡ self.now) }
     {
+        let (rows, mails) = match spare {
+            Some(spare) => spare.into_parts(),
+            None => (Vec::new(alloc), Vec::new(alloc)),
+        };
         Ok(Threads {
-            rows: copied_rows(alloc, self.rows.as_slice())?,
-            mails: copied_mails(alloc, self.mails.as_slice())?,
+            rows: copy_rows(rows, self.rows.as_slice(), OBJECTS as usize)?,
+            mails: copied_mails(alloc, mails, self.mails.as_slice())?,
         })
     }
 

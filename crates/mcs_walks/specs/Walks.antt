@@ -64,9 +64,9 @@ left_stale core user picks i stale = cond (i == core) [] (without_user user (wit
 abbrev pub IsPicked : Going → List (Option Pick) → CoreId → Pick → Type 0
 IsPicked g picks core k = (slice_get picks core.0 ≡ Some (Some k)) ⊎ IsStale g core k
 
--- an entry of a thread on a core
-abbrev pub step_of : CoreId → ObjId → Entry → Step
-step_of core t e = record { core = core; thread = t; entry = e }
+-- an entry of a user on a core
+abbrev pub step_of : CoreId → User → Entry → Step
+step_of core u e = record { core = core; thread = u.thread; entry = e }
 
 -- the answer to the last entry of a book, if there is one
 abbrev pub last_answer : Book → Option Answer

@@ -17,7 +17,7 @@ use crate::users::Users;
 use mcs_kernel::{Boot, EnterFault, Kernel};
 use mcs_queues::Lines;
 use mcs_turns::{Pick, Position};
-use mcs_types::{Answer, CoreId, Entry, ObjId, OutOfMemory};
+use mcs_types::{Answer, CoreId, Entry, ObjId, OutOfMemory, copy_rows};
 use std::alloc::Global;
 use std::marker::Model;
 
@@ -349,7 +349,7 @@ impl<L: Lines> Walk<L> {
         requires number { turn.pick.number < length list.now.entries }
         requires enters { may_enter (log_of self.old.book) turn.core list.now.thread ≡ true }
         ensures entered { OnOk result (self.new
-            ≡ entered picks.now list.now (step_of turn.core list.now.thread entry) turn.pick self.old) }
+            ≡ entered picks.now list.now (step_of turn.core list.now entry) turn.pick self.old) }
         ensures answer { IfOk result (λ a. last_answer self.new.book ≡ Some a) }
         ensures err { OnErr result (self.new ≡ self.old) }
     {
@@ -401,12 +401,29 @@ impl<L: Lines> Walk<L> {
         Ok(Some(answer))
     }
 
-    /// The same walk once more, which goes on by itself. OutOfMemory where memory was refused.
-    pub fn copy(&self, alloc: Global) -> Result<Walk<L>, OutOfMemory>
+    /// The kernel and the positions.
+    fn into_parts(self) -> (Kernel<L>, Vec<Position>) {
+        let Walk {
+            kernel,
+            places,
+            stale: _,
+        } = self;
+        (kernel, places)
+    }
+
+    /// The same walk once more, which goes on by itself, in the memory of a spare one. OutOfMemory where memory was refused.
+    pub fn copy(&self, alloc: Global, spare: Option<Walk<L>>) -> Result<Walk<L>, OutOfMemory>
         ensures { IfOk result (λ w. w ≡ self.now) }
     {
-        let kernel = self.kernel.copy(alloc)?;
-        let places = Vec::from_slice(alloc, self.places.as_slice())?;
+        let (kernel, places) = match spare {
+            Some(spare) => {
+                let (kernel, places) = spare.into_parts();
+                (Some(kernel), places)
+            }
+            None => (None, Vec::new(alloc)),
+        };
+        let kernel = self.kernel.copy(alloc, kernel)?;
+        let places = copy_rows(places, self.places.as_slice(), self.places.len())?;
         let stale = copy_all(alloc, self.stale.as_slice())?;
         Ok(Walk {
             kernel,

@@ -32,5 +32,5 @@ returns-clause-turn g c =
       picked = c.may_take.ensures.yes c.if-not-may_take.false;
       enters = subst (λ (w : Going). may_enter (log_of w.book) turn.core user.thread ≡ true) c.self.view_is
           (subst (λ (u : User). may_enter (log_of c.self.inside.kernel) turn.core u.thread ≡ true) c.list.view_is (sym c.may_enter.ensures ∙ c.if-not-may_enter.false));
-      after = c.in_ok-answer.ensures.entered ∙ ap (λ e. entered c.args.picks.now user (step_of turn.core user.thread e) turn.pick was) c.in_ok-entry.ensures.value;
+      after = c.in_ok-answer.ensures.entered ∙ ap (λ e. entered c.args.picks.now user (step_of turn.core user e) turn.pick was) c.in_ok-entry.ensures.value;
     }
