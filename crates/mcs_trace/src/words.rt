@@ -67,7 +67,6 @@ impl Line {
     }
 
     /// A place: an index and a depth.
-    #[inline(always)]
     pub fn place(&mut self, place: Place)
         requires { HasRoom self.old PLACE }
         ensures { Adds self.old self.new PLACE (place_text place) }
@@ -77,6 +76,7 @@ impl Line {
     }
 
     /// A word. Where the caller says the kind of word, only that kind is left of this.
+    // long words are calls: a function that grows too large is not inlined, whatever is asked for
     #[inline(always)]
     pub fn word(&mut self, token: &Token)
         requires { HasRoom self.old WORD }
@@ -90,7 +90,7 @@ impl Line {
             Token::Message(m) => self.message_name(*m),
             Token::Rights(rights) => self.rights(*rights),
             Token::Place(place) => self.place(*place),
-            Token::Cap(cap) => self.cap(cap),
+            Token::Cap(cap) => self.held(&Some(*cap)),
             Token::Held(cap) => self.held(cap),
             Token::Line(queue) => self.queue(*queue),
         }
