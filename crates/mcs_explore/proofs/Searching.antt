@@ -20,8 +20,8 @@ visited-more Like vs ws t n v = record { place = v.place; visit = v.visit; at = 
 pub parent-is : {K L : Type 0} (E : Entries K L) (i : ℕ) (k : K) (f : Found L) → At E i k f → parent_at E i ≡ f.parent
 parent-is {K = K} {L = L} E i k f at = ap (λ (o : Option (K × Found L)). elim o [ None ↦ i | Some e ↦ e.1.parent ]) at
 
-pub label-is : {K L : Type 0} (E : Entries K L) (i : ℕ) (k : K) (f : Found L) → At E i k f → label_at E i ≡ f.label
-label-is {K = K} {L = L} E i k f at = ap (λ (o : Option (K × Found L)). elim o [ None ↦ None | Some e ↦ e.1.label ]) at
+pub label-is : {K L : Type 0} (E : Entries K L) (i : ℕ) (k : K) (f : Found L) → At E i k f → label_at E i ≡ Some f.label
+label-is {K = K} {L = L} E i k f at = ap (λ (o : Option (K × Found L)). elim o [ None ↦ None | Some e ↦ Some e.1.label ]) at
 
 -- an entry is an old one or the new one
 abbrev Split : {K L : Type 0} → Entries K L → K → Found L → ℕ → K → Found L → Type 0
@@ -47,7 +47,7 @@ module _ {A K L : Type 0} (eq : K → K → Bool) (fair : IsEquivalence eq) (Lea
   child-leads E vs n i k f s at c before = (path, long, (c.visit.state, (before.2, (c.label, c.step))))
     where
       is : path_back E i (suc n) ≡ path_back E f.parent n ++ c.label ∷ []
-      is = ap (λ (p : ℕ). path_back E p n ++ listed (label_at E i)) (parent-is E i k f at) ∙ ap (λ (o : Option L). path_back E f.parent n ++ listed o) (label-is E i k f at ∙ c.labelled)
+      is = ap (λ (p : ℕ). path_back E p n ++ listed (label_at E i)) (parent-is E i k f at) ∙ ap (λ (o : Option L). path_back E f.parent n ++ listed o) (label-is E i k f at ∙ ap (λ (l : L). Some l) c.labelled)
 
       path : Path Leads start (path_back E i (suc n)) s
       path = subst (λ (p : List L). Path Leads start p s) (sym is) (path-on Leads start (path_back E f.parent n) c.visit.state s c.label before.0 c.step)
@@ -83,7 +83,7 @@ module _ {A K L : Type 0} (eq : K → K → Bool) (fair : IsEquivalence eq) (Lea
 
   -- a new key that is one step behind the place d
   one-more : (d : ℕ) (E : Entries K L) (vs : List (Visit A)) (k c : K) (r q : Found L) (v : Visit A) (l : L) (t : A) → IsSearch eq Leads Like IsKey start d E vs → At E d k r → slice_get vs d ≡ Some v
-      → Leads l v.state t → IsKey t c → ((i : ℕ) (m : K) (p : Found L) → At E i m p → Same eq c m → ⊥) → q.depth ≡ r.depth + 1 → q.parent ≡ d → q.label ≡ Some l
+      → Leads l v.state t → IsKey t c → ((i : ℕ) (m : K) (p : Found L) → At E i m p → Same eq c m → ⊥) → q.depth ≡ r.depth + 1 → q.parent ≡ d → q.label ≡ l
       → IsSearch eq Leads Like IsKey start d (E ++ (c, q) ∷ []) (vs ++ record { state = t; depth = q.depth } ∷ [])
   one-more d E vs k c r q v l t a at there step key new deep parent labelled = record {
     long = one-longer vs w ∙ ap (λ (n : ℕ). suc n) a.long ∙ sym (one-longer E (pair c q));
@@ -167,7 +167,7 @@ module _ {A K L : Type 0} (eq : K → K → Bool) (fair : IsEquivalence eq) (Lea
 
   -- one more of them
   pub amid : (d : ℕ) (E F : Entries K L) (k : K) (r q : Found L) (v : Visit A) (nexts : List (L × K)) (n : ℕ) (l : L) (c : K) → AreNexts Leads IsKey v.state nexts → slice_get nexts n ≡ Some (l, c)
-      → q.depth ≡ r.depth + 1 → q.parent ≡ d → q.label ≡ Some l → IsAmid eq Leads Like IsKey start d E k r v nexts n → Adds eq E c q F → IsAmid eq Leads Like IsKey start d F k r v nexts (n + 1)
+      → q.depth ≡ r.depth + 1 → q.parent ≡ d → q.label ≡ l → IsAmid eq Leads Like IsKey start d E k r v nexts n → Adds eq E c q F → IsAmid eq Leads Like IsKey start d F k r v nexts (n + 1)
   amid d E F k r q v nexts n l c are nth deep parent labelled a (inl there) = subst (λ (G : Entries K L). IsAmid eq Leads Like IsKey start d G k r v nexts (n + 1)) (sym there.1) (record {
     visits = a.visits;
     search = a.search;

@@ -23,7 +23,7 @@ paths-long E (suc n) = one-longer (paths_below E n) (path_of E n) ∙ ap (λ (m 
 module _ {A K L : Type 0} (Leads : L → A → A → Type 0) (IsKey : A → K → Type 0) (start : A) (E F : Entries K L) (vs : List (Visit A))
     (grown : (i : ℕ) (k : K) (f : Found L) → At E i k f → IsGrown Leads IsKey start E vs i k f) where
   -- the last label of an entry's path, and the path of its parent
-  back-is : (G : Entries K L) (n i : ℕ) (k : K) (f : Found L) → At G i k f → path_back G i (suc n) ≡ path_back G f.parent n ++ listed f.label
+  back-is : (G : Entries K L) (n i : ℕ) (k : K) (f : Found L) → At G i k f → path_back G i (suc n) ≡ path_back G f.parent n ++ f.label ∷ []
   back-is G n i k f at = ap (λ (p : ℕ). path_back G p n ++ listed (label_at G i)) (parent-is G i k f at) ∙ ap (λ (o : Option L). path_back G f.parent n ++ listed o) (label-is G i k f at)
 
   back-more : (n i : ℕ) (k : K) (f : Found L) → At E i k f → f.depth ≡ n → path_back (E ++ F) i n ≡ path_back E i n
@@ -36,7 +36,7 @@ module _ {A K L : Type 0} (Leads : L → A → A → Type 0) (IsKey : A → K �
           by : ((f.depth ≡ 0) × (g.visit.state ≡ start)) ⊎ IsChild Leads E vs f g.visit.state → path_back (E ++ F) i (suc n) ≡ path_back E i (suc n)
           by (inl h) = absurd (let z = h.0 in omega (arith, z, deep))
           by (inr c) = back-is (E ++ F) n i k f (at-old E F i (k, f) at)
-              ∙ ap (λ (ls : List L). ls ++ listed f.label) (below f.parent c.key c.found c.at (let d = c.deep in omega (arith, d, deep)))
+              ∙ ap (λ (ls : List L). ls ++ f.label ∷ []) (below f.parent c.key c.found c.at (let d = c.deep in omega (arith, d, deep)))
               ∙ sym (back-is E n i k f at)
 
   path-more : (i : ℕ) → i < length E → path_of (E ++ F) i ≡ path_of E i

@@ -24,7 +24,7 @@ IsLonger {K = K} {L = L} E F = (more : Entries K L) × (F ≡ E ++ more)
 -- what was noted of a child: a label leads to its state from that of its parent, which is one step nearer
 pub record IsChild {A K L : Type 0} (Leads : L → A → A → Type 0) (E : Entries K L) (visits : List (Visit A)) (f : Found L) (s : A) : Type 0 where
   pub label : L
-  pub labelled : f.label ≡ Some label
+  pub labelled : f.label ≡ label
   pub key : K
   pub found : Found L
   pub at : At E f.parent key found

@@ -20,7 +20,7 @@ abbrev pub parent_at : {K L : Type 0} → Entries K L → ℕ → ℕ
 parent_at E i = elim (slice_get E i) [ None ↦ i | Some e ↦ e.1.parent ]
 
 abbrev pub label_at : {K L : Type 0} → Entries K L → ℕ → Option L
-label_at E i = elim (slice_get E i) [ None ↦ None | Some e ↦ e.1.label ]
+label_at E i = elim (slice_get E i) [ None ↦ None | Some e ↦ Some e.1.label ]
 
 -- a label, if there is one
 abbrev pub listed : {L : Type 0} → Option L → List L

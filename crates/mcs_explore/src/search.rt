@@ -12,7 +12,8 @@ use std::hash::Hash;
 /// A system: its states, steps between them with labels, and keys of states. It may note of its states what it needs to give
 /// keys, and tell someone what it sees.
 pub trait System {
-    type Label: Copy + Drop;
+    // the start has the default one, which stands in no path
+    type Label: Copy + Default + Drop;
 
     type Key: Eq + Hash + Drop;
 
@@ -84,12 +85,13 @@ pub trait System {
         → IsTrue (Self.Key.eq k c) → IsKey m s k → IsKey m s c };
 }
 
-/// How a state was found first: from which place, by which label, and so by how many steps.
+/// How a state was found first: from which place, by which label, and so by how many steps. The start is found by none: its own
+/// place and its label say nothing.
 #[derive(Clone, Copy, Drop)]
 pub struct Found<L> {
-    pub parent: usize,
-    pub depth: usize,
-    pub label: Option<L>,
+    pub parent: u32,
+    pub depth: u32,
+    pub label: L,
 }
 
 /// How far a search goes.
@@ -156,7 +158,7 @@ impl<K: Eq + Hash + Drop, L: Copy + Drop> Search<K, L> {
         ensures { result ≡ depth_at self.now.map.entries place }
     {
         match self.map.get_index(place) {
-            Some((_, found)) => found.depth,
+            Some((_, found)) => found.depth as usize,
             None => 0,
         }
     }
@@ -167,7 +169,7 @@ impl<K: Eq + Hash + Drop, L: Copy + Drop> Search<K, L> {
         ensures parent { result.1 ≡ parent_at self.now.map.entries place }
     {
         match self.map.get_index(place) {
-            Some((_, found)) => (found.label, found.parent),
+            Some((_, found)) => (Some(found.label), found.parent as usize),
             None => (None, place),
         }
     }
@@ -200,18 +202,35 @@ impl<K: Eq + Hash + Drop, L: Copy + Drop> Search<K, L> {
     }
 }
 
-/// How a state is found by a label behind the one in a place, which has this depth.
-fn found_behind<L: Copy + Drop>(place: usize, depth: usize, label: L) -> Found<L>
-    requires room { depth + 1 < 2 ^ 64 }
-    ensures parent { result.parent ≡ place }
-    ensures depth { result.depth ≡ depth + 1 }
-    ensures label { result.label ≡ Some label }
+/// A number of 32 bits. An AllocError where it has more.
+fn narrow(number: usize) -> Result<u32, AllocError>
+    ensures { IfOk result (λ n. n ≡ number) }
 {
-    Found {
-        parent: place,
-        depth: depth + 1,
-        label: Some(label),
+    match u32::try_from(number) {
+        Ok(number) => Ok(number),
+        Err(_) => Err(AllocError),
     }
+}
+
+/// How a state is found by a label behind the one in a place, which has this depth. An AllocError where a number has more than
+/// 32 bits.
+fn found_behind<L: Copy + Drop>(
+    place: usize,
+    depth: usize,
+    label: L,
+) -> Result<Found<L>, AllocError>
+    requires room { depth + 1 < 2 ^ 64 }
+    ensures parent { IfOk result (λ f. f.parent ≡ place) }
+    ensures depth { IfOk result (λ f. f.depth ≡ depth + 1) }
+    ensures label { IfOk result (λ f. f.label ≡ label) }
+{
+    let parent = narrow(place)?;
+    let depth = narrow(depth + 1)?;
+    Ok(Found {
+        parent,
+        depth,
+        label,
+    })
 }
 
 /// Notes all that is behind the state in a place, which has this depth.
@@ -228,7 +247,7 @@ fn add_all<M: System>(
     ensures longer { OnOk result (IsLonger map.old.entries map.new.entries) }
 {
     for (label, key) in nexts {
-        let found = found_behind(place, depth, label);
+        let found = found_behind(place, depth, label)?;
         add(map, key, found)?;
     }
     Ok(())
@@ -247,7 +266,7 @@ fn begin<M: System>(alloc: Global, system: &mut M) -> Result<Search<M::Key, M::L
     let start = Found {
         parent: 0,
         depth: 0,
-        label: None,
+        label: M::Label::default(),
     };
     let key = system.first(alloc)?;
     add(&mut map, key, start)?;
@@ -303,7 +322,7 @@ fn look_behind<M: System>(
 }
 
 /// Looks behind one state after another, the nearest first, until none is left or a budget is reached. The errors are the
-/// faults of the system, and its fault of an AllocError where memory was refused.
+/// faults of the system, and its fault of an AllocError where memory was refused or it would look behind the state in place 2^32.
 pub fn explore<M: System>(
     alloc: Global,
     system: &mut M,

@@ -1,8 +1,8 @@
 -- The numbers of what each core may enter.
-use Rattle.std.specs.Prelude.{ℕ, zero, suc, ◌≡◌, List, [], ◌∷◌, Option, Some, None, slice_get}
-use Rattle.std.proofs.Common.{refl, ap, ◌∙◌}
+use Rattle.std.specs.Prelude.{ℕ, zero, suc, ◌≡◌, List, [], ◌∷◌, Option, slice_get}
+use Rattle.std.proofs.Common.{refl}
 use Rattle.mcs_turns.specs.declared.position.Pick.{Pick}
-use Rattle.mcs_turns.specs.Due.{choices, with_any_pick}
+use Rattle.mcs_turns.specs.Due.{choices}
 use Rattle.mcs_walks.specs.Walks.{picked_of}
 use Rattle.mcs_keys.specs.Numbers.{list_numbers, option_numbers}
 use Rattle.mcs_keys.specs.Rows.{choice_list_numbers, pick_numbers}

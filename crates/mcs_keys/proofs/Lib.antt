@@ -1,3 +1,4 @@
+mod Bytes
 pub mod Deciding
 pub mod Naming
 mod Telling

@@ -13,6 +13,7 @@ use Rattle.mcs_keys.specs.Numbers.{below, cap_numbers, option_numbers}
 use Rattle.mcs_turns.specs.Turns.{User, Going}
 use Rattle.mcs_keys.specs.Rows.{HaveSameRows, IsKey, rows_of, slots_numbers}
 use Rattle.mcs_keys.specs.Naming.{Adds, Keeps, Names}
+use Rattle.mcs_keys.proofs.Bytes.{coded-one}
 
 -- what stands in a list stands in a longer one
 pub get-longer : {A : Type 0} (xs ys : List A) (n : ℕ) (x : A) → slice_get xs n ≡ Some x → slice_get (xs ++ ys) n ≡ Some x
@@ -57,22 +58,27 @@ names-one met ns rows others h k = somes rows others (sym h ∙ k)
         ap (λ z. z ∷ xs) first ∙ ap (λ zs. y ∷ zs) (somes xs ys rest)
 
 -- a key stays one when more rows were met
-pub key-kept : (old new : List (List ℕ)) (users : List User) (g : Going) (ns : List ℕ) → Keeps old new → IsKey old users g ns → IsKey new users g ns
-key-kept old new users g ns k is = record {
-  picks = is.picks;
+pub key-kept : (old new : List (List ℕ)) (users : List User) (g : Going) (bytes : List ℕ) → Keeps old new → IsKey old users g bytes → IsKey new users g bytes
+key-kept old new users g bytes k is = record {
+  numbers = is.numbers;
   are = is.are;
-  so = λ ks are. names-kept old new ns (rows_of users g ks) k (is.so ks are);
+  name = record {
+    picks = is.name.picks;
+    are = is.name.are;
+    so = λ ks are. names-kept old new is.numbers (rows_of users g ks) k (is.name.so ks are);
+  };
 }
 
 -- states with one key have equal rows
-pub key-one : (met : List (List ℕ)) (users : List User) (g h : Going) (ns : List ℕ) → IsKey met users g ns → IsKey met users h ns → HaveSameRows users g h
-key-one met users g h ns a b = record {
-  picks = a.picks;
-  are = a.are;
+pub key-one : (met : List (List ℕ)) (users : List User) (g h : Going) (bytes : List ℕ) → IsKey met users g bytes → IsKey met users h bytes → HaveSameRows users g h
+key-one met users g h bytes a b = record {
+  picks = a.name.picks;
+  are = a.name.are;
   so = λ ks are. record {
-    picks = b.picks;
-    are = b.are;
-    so = λ js bre. names-one met ns (rows_of users g ks) (rows_of users h js) (a.so ks are) (b.so js bre);
+    picks = b.name.picks;
+    are = b.name.are;
+    so = λ js bre. names-one met a.numbers (rows_of users g ks) (rows_of users h js) (a.name.so ks are)
+        (subst (λ ns. Names met ns (rows_of users h js)) (coded-one b.numbers a.numbers (sym b.are ∙ a.are)) (b.name.so js bre));
   };
 }
 

@@ -1,3 +1,4 @@
+pub mod Bytes
 pub mod Naming
 pub mod Numbers
 pub mod Rows

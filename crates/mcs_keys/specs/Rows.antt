@@ -22,6 +22,7 @@ use Rattle.mcs_turns.specs.declared.position.Position.{Position}
 use Rattle.mcs_turns.specs.declared.position.Pick.{Pick}
 use Rattle.mcs_turns.specs.Due.{choices, with_any_pick}
 use Rattle.mcs_turns.specs.Turns.{User, Going, ArePicks}
+use Rattle.mcs_keys.specs.Bytes.{coded}
 use Rattle.mcs_keys.specs.Naming.{Names}
 use Rattle.mcs_keys.specs.Numbers.{one, flag_number, option_numbers, list_numbers, below, id_numbers, cap_numbers, row_numbers, letter_numbers}
 
@@ -122,6 +123,12 @@ pub record OfPicks (users : List User) (g : Going) (IsSo : List (Option Pick) �
 abbrev pub HaveSameRows : List User → Going → Going → Type 0
 HaveSameRows users g h = OfPicks users g (λ ks. OfPicks users h (λ js. rows_of users g ks ≡ rows_of users h js))
 
--- the numbers of a key name the rows of a state, among those that were met
-abbrev pub IsKey : List (List ℕ) → List User → Going → List ℕ → Type 0
-IsKey met users g numbers = OfPicks users g (λ ks. Names met numbers (rows_of users g ks))
+-- the numbers name the rows of a state, among those that were met
+abbrev pub NameRows : List (List ℕ) → List User → Going → List ℕ → Type 0
+NameRows met users g numbers = OfPicks users g (λ ks. Names met numbers (rows_of users g ks))
+
+-- the bytes of a key are those of numbers that name the rows of a state
+pub record IsKey (met : List (List ℕ)) (users : List User) (g : Going) (bytes : List ℕ) : Type 0 where
+  pub numbers : List ℕ
+  pub are : bytes ≡ coded numbers
+  pub name : NameRows met users g numbers

@@ -5,10 +5,10 @@ ghost use Rattle.mcs_book.specs.Queues.{queued_in};
 ghost use Rattle.mcs_book.specs.Chains.{chain_of};
 ghost use Rattle.mcs_keys.specs.Naming.{Adds, Keeps};
 ghost use Rattle.mcs_keys.specs.Numbers.{one, list_numbers, option_numbers, id_numbers, letter_numbers, row_numbers, cap_numbers};
-ghost use Rattle.mcs_keys.specs.Rows.{cnode_numbers, context_numbers, core_numbers, count_numbers, endpoint_numbers, kind_numbers, notification_numbers, object_numbers, object_rows, pick_numbers, place_numbers, position_numbers, rows_of_kind, IsKey, slots_numbers, choice_list_numbers, choice_numbers, thread_numbers};
+ghost use Rattle.mcs_keys.specs.Rows.{cnode_numbers, context_numbers, core_numbers, count_numbers, endpoint_numbers, kind_numbers, notification_numbers, object_numbers, object_rows, pick_numbers, place_numbers, position_numbers, rows_of_kind, NameRows, slots_numbers, choice_list_numbers, choice_numbers, thread_numbers};
 ghost use Rattle.mcs_turns.specs.Turns.{ArePicks};
 
-use crate::met::{Key, Met};
+use crate::met::{Met, Numbers};
 use crate::numbers::{Row, put, put_any_id, put_cap, put_flag, put_id, put_letter, put_thread};
 use mcs_kernel::Kernel;
 use mcs_queues::Lines;
@@ -314,11 +314,11 @@ fn choice_row<L: Lines>(
 fn put_rows<L: Lines>(
     alloc: Global,
     met: &mut Met,
-    key: &mut Key,
+    numbers: &mut Numbers,
     kernel: &Kernel<L>,
     kind: Kind,
 ) -> Result<(), OutOfMemory>
-    ensures named { OnOk result (Adds met.old key.old.items met.new key.new.items
+    ensures named { OnOk result (Adds met.old numbers.old.items met.new numbers.new.items
         (rows_of_kind (log_of kernel.now) kind)) }
     ensures kept { Keeps met.old met.new }
 {
@@ -328,7 +328,7 @@ fn put_rows<L: Lines>(
             serial: place + 1,
         };
         let row = object_row(alloc, kernel, object)?;
-        met.put(key, row)?;
+        met.put(numbers, row)?;
     }
     Ok(())
 }
@@ -337,44 +337,44 @@ fn put_rows<L: Lines>(
 fn put_objects<L: Lines>(
     alloc: Global,
     met: &mut Met,
-    key: &mut Key,
+    numbers: &mut Numbers,
     kernel: &Kernel<L>,
 ) -> Result<(), OutOfMemory>
-    ensures named { OnOk result (Adds met.old key.old.items met.new key.new.items
+    ensures named { OnOk result (Adds met.old numbers.old.items met.new numbers.new.items
         (object_rows (log_of kernel.now))) }
     ensures kept { Keeps met.old met.new }
 {
-    put_rows(alloc, met, key, kernel, Kind::CNode)?;
-    put_rows(alloc, met, key, kernel, Kind::Thread)?;
-    put_rows(alloc, met, key, kernel, Kind::Endpoint)?;
-    put_rows(alloc, met, key, kernel, Kind::Notification)?;
-    put_rows(alloc, met, key, kernel, Kind::Reply)?;
-    put_rows(alloc, met, key, kernel, Kind::Context)?;
+    put_rows(alloc, met, numbers, kernel, Kind::CNode)?;
+    put_rows(alloc, met, numbers, kernel, Kind::Thread)?;
+    put_rows(alloc, met, numbers, kernel, Kind::Endpoint)?;
+    put_rows(alloc, met, numbers, kernel, Kind::Notification)?;
+    put_rows(alloc, met, numbers, kernel, Kind::Reply)?;
+    put_rows(alloc, met, numbers, kernel, Kind::Context)?;
     Ok(())
 }
 
-/// The key of a state, in which the cores have these picks: its rows, each a number among those that were met.
-pub fn exact_key<L: Lines>(
+/// The numbers of the rows of a state, in which the cores have these picks, among those that were met.
+pub fn exact_numbers<L: Lines>(
     alloc: Global,
     met: &mut Met,
     users: &Users,
     walk: &Walk<L>,
     picks: &[Option<Pick>],
-) -> Result<Key, OutOfMemory>
+) -> Result<Numbers, OutOfMemory>
     requires { ArePicks users.now walk.now picks.now }
-    ensures key { IfOk result (λ k. IsKey met.new users.now walk.now k.items) }
+    ensures named { IfOk result (λ k. NameRows met.new users.now walk.now k.items) }
     ensures kept { Keeps met.old met.new }
 {
     // A law for the proof: the cores have these picks alone.
     users.are_apart();
     let kernel = walk.kernel();
-    let mut key = Vec::new(alloc);
+    let mut numbers = Vec::new(alloc);
     let counts = count_row(alloc, kernel)?;
-    met.put(&mut key, counts)?;
+    met.put(&mut numbers, counts)?;
     let places = place_row(alloc, users, walk)?;
-    met.put(&mut key, places)?;
+    met.put(&mut numbers, places)?;
     let choices = choice_row(alloc, walk, picks)?;
-    met.put(&mut key, choices)?;
-    put_objects(alloc, met, &mut key, kernel)?;
-    Ok(key)
+    met.put(&mut numbers, choices)?;
+    put_objects(alloc, met, &mut numbers, kernel)?;
+    Ok(numbers)
 }

@@ -2,10 +2,11 @@
 ghost use Rattle.std.specs.Prelude.{◌≡◌, [], true, length, IfOk};
 ghost use Rattle.mcs_keys.specs.Naming.{Keeps};
 ghost use Rattle.mcs_turns.specs.Turns.{ArePicks};
-ghost use Rattle.mcs_keys.specs.Rows.{IsKey};
+ghost use Rattle.mcs_keys.specs.Rows.{IsKey, NameRows};
 
-use crate::exact::exact_key;
-use crate::met::{Key, Met};
+use crate::coding::{Key, key_of};
+use crate::exact::exact_numbers;
+use crate::met::{Met, Numbers};
 use crate::names::{Counts, Names};
 use crate::numbers::Row;
 use crate::rows::{put_object, put_slots, put_stale, thread_row};
@@ -83,7 +84,7 @@ const KINDS: [Kind; 4] = [
 fn put_threads<L: Lines>(
     alloc: Global,
     met: &mut Met,
-    key: &mut Key,
+    numbers: &mut Numbers,
     threads: u32,
     users: &Users,
     walk: &Walk<L>,
@@ -98,7 +99,7 @@ fn put_threads<L: Lines>(
             None => None,
         };
         let row = thread_row(alloc, walk.kernel(), names, thread, position)?;
-        met.put(key, row)?;
+        met.put(numbers, row)?;
     }
     Ok(())
 }
@@ -178,36 +179,56 @@ impl Keys {
         Ok(row)
     }
 
-    /// The canonical key of a state, in which the cores have these picks.
-    fn canonical_key<L: Lines>(
+    /// The numbers of the canonical rows of a state, in which the cores have these picks.
+    fn canonical_numbers<L: Lines>(
         &mut self,
         users: &Users,
         walk: &Walk<L>,
         picks: &[Option<Pick>],
-    ) -> Result<Key, OrdersFault>
+    ) -> Result<Numbers, OrdersFault>
         ensures kept { Keeps self.old.met self.new.met }
         ensures mode { self.new.is_exact ≡ self.old.is_exact }
     {
         let kernel = walk.kernel();
         let names = Names::new(self.alloc, kernel, self.counts, self.changes_slots)?;
         let threads = self.counts.of(Kind::Thread);
-        let mut key = Vec::with_capacity(self.alloc, (threads as usize).saturating_add(3))?;
+        let mut numbers = Vec::with_capacity(self.alloc, (threads as usize).saturating_add(3))?;
         put_threads(
             self.alloc,
             &mut self.met,
-            &mut key,
+            &mut numbers,
             threads,
             users,
             walk,
             &names,
         )?;
         let objects = self.object_row(kernel, &names)?;
-        self.met.put(&mut key, objects)?;
+        self.met.put(&mut numbers, objects)?;
         let slots = self.slot_row(kernel, &names)?;
-        self.met.put(&mut key, slots)?;
+        self.met.put(&mut numbers, slots)?;
         let stale = self.stale_row(walk, picks)?;
-        self.met.put(&mut key, stale)?;
-        Ok(key)
+        self.met.put(&mut numbers, stale)?;
+        Ok(numbers)
+    }
+
+    /// The numbers of the rows of a state, in which the cores have these picks.
+    fn numbers<L: Lines>(
+        &mut self,
+        users: &Users,
+        walk: &Walk<L>,
+        picks: &[Option<Pick>],
+    ) -> Result<Numbers, OrdersFault>
+        requires { ArePicks users.now walk.now picks.now }
+        ensures exact { self.old.is_exact ≡ true
+            → IfOk result (λ n. NameRows self.new.met users.now walk.now n.items) }
+        ensures kept { Keeps self.old.met self.new.met }
+        ensures mode { self.new.is_exact ≡ self.old.is_exact }
+    {
+        if self.is_exact {
+            let numbers = exact_numbers(self.alloc, &mut self.met, users, walk, picks)?;
+            return Ok(numbers);
+        }
+        self.canonical_numbers(users, walk, picks)
     }
 
     /// The key of a state, in which the cores have these picks. Where keys are exact, it names the state's rows among those that
@@ -224,10 +245,8 @@ impl Keys {
         ensures kept { Keeps self.old.met self.new.met }
         ensures mode { self.new.is_exact ≡ self.old.is_exact }
     {
-        if self.is_exact {
-            let key = exact_key(self.alloc, &mut self.met, users, walk, picks)?;
-            return Ok(key);
-        }
-        self.canonical_key(users, walk, picks)
+        let numbers = self.numbers(users, walk, picks)?;
+        let key = key_of(self.alloc, &numbers)?;
+        Ok(key)
     }
 }

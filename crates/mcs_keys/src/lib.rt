@@ -7,6 +7,7 @@
 //! ```
 #![tactic(auto)]
 
+mod coding;
 mod exact;
 mod keys;
 mod laws;
@@ -15,6 +16,6 @@ mod names;
 mod numbers;
 mod rows;
 
+pub use coding::Key;
 pub use keys::Keys;
 pub use laws::{key_decides, key_stays, rows_decide};
-pub use met::Key;

@@ -8,8 +8,8 @@ use mcs_types::OutOfMemory;
 use std::alloc::Global;
 use std::marker::Model;
 
-/// The key of a state: the numbers of its rows. It is compared whole, and rows with one number are equal.
-pub type Key = Vec<u32>;
+/// The numbers of rows.
+pub type Numbers = Vec<u32>;
 
 /// The rows that were met. Clauses see them in the order of their numbers, from 0.
 #[derive(Drop)]
@@ -64,14 +64,14 @@ impl Met {
         Ok(number)
     }
 
-    /// Adds the number of a row to a key.
-    pub fn put(&mut self, key: &mut Key, row: Row) -> Result<(), OutOfMemory>
-        ensures named { OnOk result (Adds self.old key.old.items self.new key.new.items
+    /// Adds the number of a row to others.
+    pub fn put(&mut self, numbers: &mut Numbers, row: Row) -> Result<(), OutOfMemory>
+        ensures named { OnOk result (Adds self.old numbers.old.items self.new numbers.new.items
             (row.items ∷ [])) }
         ensures kept { Keeps self.old self.new }
     {
         let number = self.number(row)?;
-        match key.push(number) {
+        match numbers.push(number) {
             Ok(()) => Ok(()),
             Err(_) => Err(OutOfMemory),
         }

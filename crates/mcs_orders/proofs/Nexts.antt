@@ -13,7 +13,7 @@ use Rattle.mcs_walks.specs.declared.walk.Turn.{Turn}
 use Rattle.mcs_keys.specs.Rows.{IsKey}
 use Rattle.mcs_explore.specs.Paths.{Path}
 use Rattle.mcs_walks.specs.Walks.{HasEachTurn}
-use Rattle.mcs_orders.specs.Trails.{IsTrail, Leads, Point, Points, last_point, turns_of}
+use Rattle.mcs_orders.specs.Trails.{IsTrail, Leads, Points, last_point, turns_of}
 use Rattle.mcs_orders.proofs.Paths.{path-one, take-on, trail-path}
 use Rattle.mcs_orders.specs.Exploring.{AreNextsOf, Exploring, IsKeyIn, IsLater, here, numbers_of}
 use Rattle.mcs_orders.specs.Later.{keeps-keys}
@@ -116,11 +116,6 @@ pub keyed : {E : Type 0} (r : Result (Vec ℕ Global) E) (old new : Bool) (met :
     → (old ≡ true → IfOk r (λ (k : Vec ℕ Global). IsKey met users g k.items)) → IfOk r (λ (k : Vec ℕ Global). new ≡ true → IsKey met users h k.items)
 keyed (Ok k) old new met users g h mode same is = λ exact. subst (λ x. IsKey met users x k.items) same (is (sym mode ∙ exact))
 keyed (Err e) old new met users g h mode same is = tt
-
--- a path of no turn has no points
-pub no-points : (ps : List Point) → turns_of ps ≡ [] → ps ≡ []
-no-points [] e = refl
-no-points (p ∷ ps) e = absurd cc
 
 -- all of a list
 pub take-all : {A : Type 0} (xs : List A) (n : ℕ) → length xs ≤ n → take n xs ≡ xs

@@ -7,6 +7,7 @@ ghost use Rattle.mcs_orders.specs.Trails.{Leads};
 ghost use Rattle.mcs_orders.specs.Exploring.{AreNextsOf, IsKeyIn, IsLater, here, numbers_of};
 ghost use Rattle.mcs_orders.specs.Shown.{IsToldState, IsToldTurn, SeesState, SeesTurn, Shown, TellsOn};
 
+use crate::packed::PackedTurn;
 use crate::trail::Trail;
 use mcs_explore::System;
 use mcs_kernel::Boot;
@@ -184,7 +185,7 @@ impl<'a, W: Watch> Explorer<'a, W> {
             → Leads self.old.search.users turn (here self.old.search) h → ⊥)) }
         ensures unseen { IfOk result (λ o. IfNone o (self.new.watch ≡ self.old.watch)) }
     {
-        let mut walk = self.trail.last().copy(alloc)?;
+        let mut walk = self.trail.branch(alloc)?;
         let Some(answer) = walk.turn(alloc, self.users, picks, turn)? else {
             return Ok(None);
         };
@@ -193,6 +194,7 @@ impl<'a, W: Watch> Explorer<'a, W> {
             .see_turn(self.users, place, turn, &answer, &walk)?;
         let picks = walk.picks(alloc, self.users)?;
         let key = self.keys.key(self.users, &walk, &picks)?;
+        self.trail.let_go(walk);
         Ok(Some(key))
     }
 
@@ -203,7 +205,7 @@ impl<'a, W: Watch> Explorer<'a, W> {
         place: usize,
         turn: Turn,
         picks: &[Option<Pick>],
-        nexts: &mut Vec<(Turn, Key)>,
+        nexts: &mut Vec<(PackedTurn, Key)>,
     ) -> Result<(), OrdersFault>
         requires { ArePicks self.old.search.users (here self.old.search) picks.now }
         ensures later { IsLater self.old.search self.new.search }
@@ -216,7 +218,8 @@ impl<'a, W: Watch> Explorer<'a, W> {
     {
         self.users.are_apart();
         if let Some(key) = self.behind(alloc, place, turn, picks)? {
-            push(nexts, (turn, key))?;
+            let label = PackedTurn::of(turn)?;
+            push(nexts, (label, key))?;
         }
         Ok(())
     }
@@ -230,7 +233,7 @@ fn is_over(picks: &[Option<Pick>]) -> bool
 }
 
 /// Adds a turn and a key to the end.
-fn push(nexts: &mut Vec<(Turn, Key)>, next: (Turn, Key)) -> Result<(), OrdersFault>
+fn push(nexts: &mut Vec<(PackedTurn, Key)>, next: (PackedTurn, Key)) -> Result<(), OrdersFault>
     ensures { OnOk result (nexts.new.items ≡ nexts.old.items ++ next ∷ []) }
 {
     match nexts.push(next) {
@@ -247,7 +250,7 @@ impl<'a, W: Watch> System for Explorer<'a, W> {
     ghost use Rattle.mcs_orders.specs.Shown.{HasSeenAll};
     ghost use Rattle.mcs_orders.specs.Later.{later-self, later-on, keeps-start, keeps-steps, keeps-likeness, keeps-keys, one-key, same-key};
 
-    type Label = Turn;
+    type Label = PackedTurn;
 
     type Key = Key;
 
@@ -278,8 +281,8 @@ impl<'a, W: Watch> System for Explorer<'a, W> {
         &mut self,
         alloc: Global,
         place: usize,
-        path: &[Turn],
-    ) -> Result<Vec<(Turn, Key)>, OrdersFault> {
+        path: &[PackedTurn],
+    ) -> Result<Vec<(PackedTurn, Key)>, OrdersFault> {
         self.users.are_apart();
         self.trail.go_to(alloc, self.users, path)?;
         let picks = self.trail.last().picks(alloc, self.users)?;

@@ -10,6 +10,8 @@
 #![tactic(auto)]
 
 mod explorer;
+mod following;
+mod packed;
 mod search;
 mod trail;
 

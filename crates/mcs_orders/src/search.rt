@@ -7,22 +7,22 @@ ghost use Rattle.mcs_explore.specs.Paths.{Path};
 ghost use Rattle.mcs_explore.specs.Search.{AreSorted, IsSpent, depth_at, path_of, paths_below};
 ghost use Rattle.mcs_orders.specs.Seen.{AreAllSeen, AreFoundRuns};
 ghost use Rattle.mcs_orders.specs.Shown.{HasSeenAll, nothing};
-ghost use Rattle.mcs_orders.specs.Steps.{Moves};
 ghost use Rattle.mcs_orders.specs.Trails.{Leads};
 
 use crate::explorer::{Explorer, Watch};
+use crate::following::follow;
+use crate::packed::{PackedTurn, unpacked};
 use mcs_explore::{Budget, Search};
 use mcs_kernel::Boot;
 use mcs_keys::Key;
 use mcs_queues::Lines;
-use mcs_types::Answer;
 use mcs_walks::{OrdersFault, Turn, Users, Walk};
 use std::alloc::Global;
 
 /// The states that were found, and who was told of them.
 pub struct Orders<'a, W: Watch> {
     alloc: Global,
-    search: Search<Key, Turn>,
+    search: Search<Key, PackedTurn>,
     explorer: Explorer<'a, W>,
 }
 
@@ -35,21 +35,6 @@ impl<'a, W: Watch> Drop for Orders<'a, W> {
             explorer: _,
         } = self;
     }
-}
-
-/// Makes a turn, if the rule has it, and gives what it was answered; else nothing has changed.
-fn step<L: Lines>(
-    alloc: Global,
-    users: &Users,
-    walk: &mut Walk<L>,
-    turn: Turn,
-) -> Result<Option<Answer>, OrdersFault>
-    ensures moves { OnOk result (Moves users.now walk.old walk.new) }
-    ensures leads { OnOk result ((h : Going) → Leads users.now turn walk.old h → walk.new ≡ h) }
-{
-    users.are_apart();
-    let picks = walk.picks(alloc, users)?;
-    walk.turn(alloc, users, &picks, turn)
 }
 
 /// Makes turns again, from the boot on, those that the rule has: what they reach is a run. BookFull where the book has 1,000,000
@@ -66,9 +51,7 @@ pub fn retrace<L: Lines>(
         → Path (Leads users.now) (beginning users.now boot.now) turns.now g → walk ≡ g) }
 {
     let mut walk = Walk::new(alloc, boot, users)?;
-    for index in 0..turns.len() {
-        step(alloc, users, &mut walk, turns[index])?;
-    }
+    follow(alloc, users, &mut walk, turns)?;
     Ok(walk)
 }
 
@@ -136,12 +119,15 @@ impl<'a, W: Watch> Orders<'a, W> {
     pub fn path(&self, place: usize) -> Result<Vec<Turn>, OrdersFault>
         ensures { IfOk result (λ turns. turns.items ≡ path_of self.now.search.map.entries place) }
     {
-        let turns = self.search.path(self.alloc, place)?;
+        let packed = self.search.path(self.alloc, place)?;
+        let turns = unpacked(self.alloc, &packed)?;
         Ok(turns)
     }
 }
 
-/// Looks behind one state after another, the earliest found first, until none is left or the budget ends.
+/// Looks behind one state after another, the earliest found first, until none is left or the budget ends. BookFull where a book
+/// has 1,000,000 lines; OutOfMemory where memory was refused, and where a user's number has more than 16 bits, or that of an entry,
+/// a row or a state that is looked behind more than 32.
 pub fn explore<'a, W: Watch>(
     alloc: Global,
     boot: &'a Boot,

@@ -1,19 +1,25 @@
 //! The points along a path of turns, so that the next state is not made again from the boot.
-ghost use Rattle.std.specs.Prelude.{◌≡◌, ◌≤◌, ◌∷◌, ◌++◌, [], true, OnOk, OnErr, length, take};
+ghost use Rattle.std.specs.Prelude.{IfOk, ◌≡◌, ◌≤◌, ◌+◌, ◌∷◌, ◌++◌, [], true, OnOk, OnErr, length, take};
 ghost use Rattle.mcs_turns.specs.Turns.{Going};
 ghost use Rattle.mcs_explore.specs.Paths.{Path};
 ghost use Rattle.mcs_orders.specs.Trails.{Adds, IsTrail, Leads, last_point, turns_of};
 
+use crate::following::follow;
+use crate::packed::{PackedTurn, unpacked};
 use mcs_queues::PlainLines;
 use mcs_types::OutOfMemory;
 use mcs_walks::{OrdersFault, Turn, Users, Walk};
 use std::alloc::Global;
 use std::marker::Model;
 
-/// A turn, and the point behind it.
+/// How many turns a stage has at most. A point is kept behind each stage alone, since a few turns that are made again cost less
+/// than a copy.
+const STRIDE: usize = 4;
+
+/// Some turns, and the point behind them.
 #[derive(Drop)]
 pub struct Stage {
-    turn: Turn,
+    turns: Vec<Turn>,
     walk: Walk<PlainLines>,
 }
 
@@ -22,13 +28,14 @@ impl Model for Stage {
 
     ghost Value = { Point };
 
-    ghost view = { λ s. record { turn = s.turn; going = s.walk } };
+    ghost view = { λ s. record { turns = s.turns.items; going = s.walk } };
 }
 
-/// A point where a path begins, and the points along it.
+/// A point where a path begins, and the points along it. Walks that are no longer needed are spare: their memory is used again.
 pub struct Trail {
     start: Walk<PlainLines>,
     stages: Vec<Stage>,
+    spare: Vec<Walk<PlainLines>>,
 }
 
 // By hand, so that it is a function of its own: a derived drop would be proved anew wherever it is let go.
@@ -37,6 +44,7 @@ impl Drop for Trail {
         let Trail {
             start: _,
             stages: _,
+            spare: _,
         } = self;
     }
 }
@@ -54,6 +62,24 @@ fn is_same(turn: Turn, other: Turn) -> bool
     ensures { result ≡ true → turn ≡ other }
 {
     turn.core.0 == other.core.0 && turn.pick.is_same(other.pick)
+}
+
+/// Whether a path goes on with these turns from a place.
+fn goes_on(path: &[Turn], at: usize, turns: &[Turn]) -> bool
+    requires { at ≤ length path.now }
+    ensures few { result ≡ true → at + length turns.now ≤ length path.now }
+    ensures same { result ≡ true
+        → take (at + length turns.now) path.now ≡ take at path.now ++ turns.now }
+{
+    if path.len() - at < turns.len() {
+        return false;
+    }
+    for index in 0..turns.len() {
+        if !is_same(path[at + index], turns[index]) {
+            return false;
+        }
+    }
+    true
 }
 
 /// Adds a stage to the end.
@@ -75,6 +101,7 @@ impl Trail {
         Trail {
             start,
             stages: Vec::new(alloc),
+            spare: Vec::new(alloc),
         }
     }
 
@@ -88,47 +115,66 @@ impl Trail {
         }
     }
 
-    /// How many turns it has in common with another path, from the start on.
-    fn common(&self, path: &[Turn]) -> usize
-        ensures here { result ≤ length self.now.points }
-        ensures there { result ≤ length path.now }
-        ensures same { take result (turns_of self.now.points) ≡ take result path.now }
+    /// How many stages lie along a path, from the start on, and how many turns these have.
+    fn common(&self, path: &[Turn]) -> (usize, usize)
+        ensures there { result.1 ≤ length path.now }
+        ensures same { turns_of (take result.0 self.now.points) ≡ take result.1 path.now }
     {
-        let count = self.stages.len().min(path.len());
-        for index in 0..count {
-            if !is_same(self.stages[index].turn, path[index]) {
-                return index;
+        let mut at = 0;
+        for index in 0..self.stages.len() {
+            let turns = self.stages[index].turns.as_slice();
+            if !goes_on(path, at, turns) {
+                return (index, at);
             }
+            at += turns.len();
         }
-        count
+        (self.stages.len(), at)
     }
 
-    /// Keeps so many of the turns.
+    /// Lets a walk go, whose memory is used again.
+    pub fn let_go(&mut self, walk: Walk<PlainLines>)
+        ensures { self.new ≡ self.old }
+    {
+        // where memory for one more is refused, it is freed
+        let _ = self.spare.push(walk);
+    }
+
+    /// Keeps so many of the stages.
     fn keep(&mut self, count: usize)
         ensures { self.new ≡ record self.old { points = take count self.old.points } }
     {
-        self.stages.truncate(count);
+        while self.stages.len() > count {
+            if let Some(stage) = self.stages.pop() {
+                self.let_go(stage.walk);
+            }
+        }
     }
 
-    /// Goes one turn on, which the rule has. BookFull, OutOfMemory: then it is as it was.
-    fn step(&mut self, alloc: Global, users: &Users, turn: Turn) -> Result<(), OrdersFault>
+    /// The last point once more.
+    pub fn branch(&mut self, alloc: Global) -> Result<Walk<PlainLines>, OutOfMemory>
+        ensures copy { IfOk result (λ walk. walk ≡ last_point self.old.start self.old.points) }
+        ensures unchanged { self.new ≡ self.old }
+    {
+        let spare = self.spare.pop();
+        self.last().copy(alloc, spare)
+    }
+
+    /// Goes some turns on, which the rule has. BookFull, OutOfMemory: then it is as it was.
+    fn step(&mut self, alloc: Global, users: &Users, turns: &[Turn]) -> Result<(), OrdersFault>
         requires { (h : Going)
-            × Leads users.now turn (last_point self.old.start self.old.points) h }
-        ensures added { OnOk result (Adds users.now turn self.old self.new) }
+            × Path (Leads users.now) (last_point self.old.start self.old.points) turns.now h }
+        ensures added { OnOk result (Adds users.now turns.now self.old self.new) }
         ensures unchanged { OnErr result (self.new ≡ self.old) }
     {
-        let last = self.last();
-        let picks = last.picks(alloc, users)?;
-        let mut walk = last.copy(alloc)?;
-        let Some(_) = walk.turn(alloc, users, &picks, turn)? else {
-            unreachable!()
-        };
-        push(&mut self.stages, Stage { turn, walk })?;
+        let mut walk = self.branch(alloc)?;
+        follow(alloc, users, &mut walk, turns)?;
+        let turns = Vec::from_slice(alloc, turns)?;
+        push(&mut self.stages, Stage { turns, walk })?;
         Ok(())
     }
 
     /// Goes to the end of a path that leads somewhere: back to where it has the turns of this one, and on from there.
-    pub fn go_to(&mut self, alloc: Global, users: &Users, path: &[Turn]) -> Result<(), OrdersFault>
+    fn go_along(&mut self, alloc: Global, users: &Users, path: &[Turn]) -> Result<(), OrdersFault>
         requires trail { IsTrail users.now self.old.start self.old.points }
         requires path { (s : Going) × Path (Leads users.now) self.old.start path.now s }
         ensures start { self.new.start ≡ self.old.start }
@@ -136,11 +182,32 @@ impl Trail {
         ensures turns { OnOk result (turns_of self.new.points ≡ path.now) }
     {
         users.are_apart();
-        let common = self.common(path);
-        self.keep(common);
-        for index in common..path.len() {
-            self.step(alloc, users, path[index])?;
+        let (stages, turns) = self.common(path);
+        self.keep(stages);
+        let mut at = turns;
+        while at < path.len() {
+            let end = path.len().min(at.saturating_add(STRIDE));
+            self.step(alloc, users, &path[at..end])?;
+            at = end;
         }
+        Ok(())
+    }
+
+    /// The same, along a path of packed turns.
+    pub fn go_to(
+        &mut self,
+        alloc: Global,
+        users: &Users,
+        path: &[PackedTurn],
+    ) -> Result<(), OrdersFault>
+        requires trail { IsTrail users.now self.old.start self.old.points }
+        requires path { (s : Going) × Path (Leads users.now) self.old.start path.now s }
+        ensures start { self.new.start ≡ self.old.start }
+        ensures trail { IsTrail users.now self.new.start self.new.points }
+        ensures turns { OnOk result (turns_of self.new.points ≡ path.now) }
+    {
+        let turns = unpacked(alloc, path)?;
+        self.go_along(alloc, users, turns.as_slice())?;
         Ok(())
     }
 }

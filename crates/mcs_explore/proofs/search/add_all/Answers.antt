@@ -29,7 +29,7 @@ loop-label-preserved g c =
     record {
       goes = λ m visits key f v search is there deep are. subst (λ n. IsAmid g.M.Key.PartialEq.eq (g.M.System.Leads m) (g.M.System.Like m) (g.M.System.IsKey m) (g.M.System.start m) c.args.place c.add.new.map.entries key f v c.args.nexts.items n) (sym (length_push at.yielded (l, k)))
           (amid g.M.Key.PartialEq.eq g.met.M.Key.Eq.laws (g.M.System.Leads m) (g.M.System.Like m) (g.M.System.IsKey m) (g.M.System.start m) c.args.place at.map.entries c.add.new.map.entries key f _ v c.args.nexts.items (length at.yielded) l k are
-          (nth-next at.yielded (l, k) _ _ list) (c.found_behind-found.ensures.depth ∙ ap (λ n. n + 1) deep) c.found_behind-found.ensures.parent c.found_behind-found.ensures.label (at.invariant.goes m visits key f v search is there deep are) c.in_ok-add.ensures);
+          (nth-next at.yielded (l, k) _ _ list) (c.in_ok-found.ensures.depth ∙ ap (λ n. n + 1) deep) c.in_ok-found.ensures.parent c.in_ok-found.ensures.label (at.invariant.goes m visits key f v search is there deep are) c.in_ok-add.ensures);
       longer = longer-on g.M.Key.PartialEq.eq c.args.map.now.entries at.map.entries c.add.new.map.entries _ _ at.invariant.longer c.in_ok-add.ensures;
       count = let was = at.invariant.count in let gone = c.in-Some.ensures.steps.1 in let short = ap length steps in omega (arith, was, gone, short);
       list = append_assoc at.yielded ((l, k) ∷ []) _ ∙ list;

@@ -17,9 +17,11 @@ returns-in_ok-push-clause-nexts g c = λ ts are.
     let old = c.args.self.now.search in
     let new = c.behind.new.self.search in
     let key = c.in-Some.key in
-    let next : Turn × Vec ℕ Global = (c.args.turn, key) in
+    let label = c.in_ok-label.label in
+    let next : Turn × Vec ℕ Global = (label, key) in
     let numbers : numbers_of c.push.new.nexts.items ≡ numbers_of c.args.nexts.now.items ++ (c.args.turn, key.items) ∷ [] =
-    ap numbers_of c.in_ok-push.ensures ∙ map-append (λ (n : Turn × Vec ℕ Global). (n.0, n.1.items)) c.args.nexts.now.items (next ∷ []) in
+    ap numbers_of c.in_ok-push.ensures ∙ map-append (λ (n : Turn × Vec ℕ Global). (n.0, n.1.items)) c.args.nexts.now.items (next ∷ [])
+    ∙ ap (λ (t : Turn). numbers_of c.args.nexts.now.items ++ (t, key.items) ∷ []) c.in_ok-label.ensures in
     let apart = subst AreApart (ap (λ (e : Watching _). e.search.users) c.self.view_is) c.are_apart.ensures in
     let some = subst (λ o. IfSome o (λ (k : Vec ℕ Global). (h : Going) × (Leads old.users c.args.turn (here old) h × IsKeyIn new h k.items))) c.in-Some.is c.in_ok-key.ensures.some in
     subst (λ ns. AreNextsOf new (ts ++ c.args.turn ∷ []) ns) (sym numbers)

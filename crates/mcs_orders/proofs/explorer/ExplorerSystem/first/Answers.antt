@@ -1,8 +1,8 @@
 use Rattle.std.specs.Prelude.{◌≡◌}
-use Rattle.std.proofs.Common.{ap, ◌∙◌}
+use Rattle.std.proofs.Common.{◌∙◌}
 use Rattle.mcs_turns.specs.Turns.{beginning}
-use Rattle.mcs_orders.specs.Trails.{last_point}
-use Rattle.mcs_orders.proofs.Nexts.{keyed, no-points}
+use Rattle.mcs_orders.proofs.Nexts.{keyed}
+use Rattle.mcs_orders.proofs.Paths.{at-start}
 use Rattle.mcs_orders.proofs.Telling.{ok-any}
 use Rattle.mcs_orders.proofs.explorer.ExplorerSystem.first.Goals as goal
 
@@ -11,7 +11,7 @@ returns-clause-key g c =
     let there = c.in_ok-go_to.ensures in
     let trail = c.go_to.new.self in
     let begin : c.last-2.result.now ≡ beginning c.self.inside.users.now c.self.inside.boot.now =
-    c.last-2.ensures ∙ ap (λ ps. last_point trail.start ps) (no-points trail.points there.turns) ∙ there.start ∙ c.self.invariant.0 in
+    c.last-2.ensures ∙ at-start c.self.inside.users.now trail.start trail.points there.trail there.turns ∙ there.start ∙ c.self.invariant.0 in
     keyed c.key.result _ _ c.key.new.self.met c.self.inside.users.now c.last-2.result.now (beginning c.self.inside.users.now c.self.inside.boot.now) c.key.ensures.mode begin c.key.ensures.exact
 
 pub returns-clause-seen : goal.returns-clause-seen

@@ -1,18 +1,17 @@
 use Rattle.std.specs.Prelude.{◌≤◌, ◌<◌, length, slice_index_or}
-use Rattle.std.proofs.Common.{arith, subst, sym, ◌∙◌}
-use Rattle.mcs_turns.specs.Turns.{beginning}
+use Rattle.std.proofs.Common.{arith, subst, sym}
 use Rattle.mcs_explore.specs.Paths.{Path}
 use Rattle.mcs_walks.specs.declared.walk.Turn.{Turn}
 use Rattle.mcs_orders.specs.Trails.{Leads}
 use Rattle.mcs_orders.proofs.Nexts.{take-all}
 use Rattle.mcs_orders.proofs.Paths.{or-at}
 use Rattle.mcs_orders.proofs.Reaching.{path-next, reached-on}
-use Rattle.mcs_orders.proofs.search.retrace.Goals as goal
+use Rattle.mcs_orders.proofs.following.follow.Goals as goal
 
 pub loop-index-init : goal.loop-index-init
 loop-index-init g c = record {
-  reached = record { turns = 0; run = c.in_ok-walk.ensures };
-  path = λ to path. c.in_ok-walk.ensures ∙ path;
+  reached = λ boot reached. reached;
+  path = λ to path. path;
 }
 
 pub loop-index-preserved : goal.loop-index-preserved
@@ -24,8 +23,8 @@ loop-index-preserved g c =
     let turn : Turn = slice_index_or turns n (record { core = record { 0 = 0 }; pick = record { user = 0; number = 0 } }) in
     let at = or-at turns n (record { core = record { 0 = 0 }; pick = record { user = 0; number = 0 } }) few in
     record {
-      reached = reached-on users c.args.boot.now c.loop-index.walk c.step.new.walk c.loop-index.invariant.reached c.in_ok-step.ensures.moves;
-      path = path-next users (beginning users c.args.boot.now) turns n turn c.loop-index.walk c.step.new.walk at c.in_ok-step.ensures.leads c.loop-index.invariant.path;
+      reached = λ boot reached. reached-on users boot c.loop-index.walk c.step.new.walk (c.loop-index.invariant.reached boot reached) c.in_ok-step.ensures.moves;
+      path = path-next users c.args.walk.now turns n turn c.loop-index.walk c.step.new.walk at c.in_ok-step.ensures.leads c.loop-index.invariant.path;
     }
 
 pub returns-clause-path : goal.returns-clause-path
@@ -33,4 +32,4 @@ returns-clause-path g c = λ to path.
     let users = c.args.users.now in
     let turns = c.args.turns.now in
     let full : length turns ≤ c.loop-index.index = let done = c.loop-index-test.false in omega (arith, done) in
-    c.loop-index.invariant.path to (subst (λ ls. Path (Leads users) (beginning users c.args.boot.now) ls to) (sym (take-all turns c.loop-index.index full)) path)
+    c.loop-index.invariant.path to (subst (λ ls. Path (Leads users) c.args.walk.now ls to) (sym (take-all turns c.loop-index.index full)) path)
