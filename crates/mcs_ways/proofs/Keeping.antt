@@ -1,5 +1,5 @@
 -- What is kept of all that was shown.
-use Rattle.std.specs.Prelude.{ℕ, zero, suc, ◌≡◌, ◌<◌, ◌++◌, ◌⊎◌, Bool, List, [], ◌∷◌, Some, Result, Ok, Err, length, slice_get}
+use Rattle.std.specs.Prelude.{ℕ, zero, suc, ◌≡◌, ◌<◌, ◌++◌, ◌⊎◌, Bool, true, replicate, List, [], ◌∷◌, Option, Some, None, Result, Ok, Err, length, slice_get}
 use Rattle.std.specs.Result.{OnOk}
 use Rattle.std.proofs.Common.{refl, ap, sym, ◌∙◌, subst, inl, inr, arith}
 use Rattle.mcs_types.specs.declared.entry.Answer.{Answer}
@@ -14,34 +14,44 @@ use Rattle.mcs_orders.specs.Trails.{Leads}
 use Rattle.mcs_orders.specs.Shown.{AreShown, HasSeenAll, Made, Shown, nothing, with_state, with_turn}
 use Rattle.mcs_orders.proofs.Paths.{path-one}
 use Rattle.mcs_ways.specs.declared.answers.Told.{Told}
+use Rattle.mcs_ways.specs.declared.asking.Asked.{Asked}
+use Rattle.mcs_ways.specs.declared.reading.AskedLine.{AskedLine}
+use Rattle.mcs_ways.specs.declared.judging.Sighting.{Sighting}
+use Rattle.mcs_ways.specs.Judging.{fails}
+use Rattle.mcs_ways.specs.Judged.{AreJudged, AreJudgedBy, IsJudged, IsShownBy}
 use Rattle.mcs_ways.specs.Standings.{standings}
 use Rattle.mcs_ways.specs.Ends.{AreEndsOf, IsKindAt, IsNotedIf, Kind}
-use Rattle.mcs_ways.specs.Answers.{AreAnswersOf, IsAmong, IsAnswerOf, IsNotedTurn, IsOwnAnswer, IsMailed, IsStillOf, IsWaiting, Tables, no_answers, table_of}
+use Rattle.mcs_ways.specs.Answers.{AreAnswersOf, IsAmong, IsAnswerOf, IsNotedTurn, IsOwnAnswer, IsMailed, IsStillOf, Tables, no_answers, table_of}
 use Rattle.mcs_ways.specs.Kept.{IsKept}
-use Rattle.mcs_ways.specs.Found.{AreAnswersFound, AreEndsFound, IsAnswerFound, IsAnswered, IsAt, IsEndFound}
+use Rattle.mcs_ways.specs.Found.{AreAnswersFound, AreEndsFound, AreJudgedFound, IsAnswerFound, IsAnswered, IsAt, IsEndFound, IsFailureFound, IsJudgedFound}
 use Rattle.mcs_ways.proofs.Lists.{at-last, at-old, at-split, within-at, some-same}
+use Rattle.mcs_ways.proofs.Judgments.{judged-more, none-judged, state-look, turn-look}
 use Rattle.mcs_ways.proofs.Noting.{no-ends, state-noted}
 use Rattle.mcs_ways.proofs.Telling.{no-turns, turn-noted}
 
 -- a state more
-pub kept-state : {E : Type 0} (r : Result (Unit {0}) E) (users : List User) (place : ℕ) (g : Going) (over : Bool) (old mid new : List Kind) (before after : Tables) → mid ≡ old → after ≡ before → OnOk r (IsNotedIf over (standings users g) place mid new)
-    → OnOk r ((shown : Shown) → IsKept users shown old before → IsKept users (with_state place g over shown) new after)
-kept-state (Err e) users place g over old mid new before after same still noted = noted
-kept-state (Ok x) users place g over old mid new before after same still noted = λ shown kept. record {
-  ends = state-noted users shown.states old new place g over (subst (λ (ks : List Kind). IsNotedIf over (standings users g) place ks new) same noted) kept.ends;
-  answers = subst (λ (ts : Tables). AreAnswersOf users shown.turns ts) (sym still) kept.answers;
+pub kept-state : {E : Type 0} (r : Result (Unit {0}) E) (users : List User) (questions : List AskedLine) (place : ℕ) (g : Going) (over : Bool) (old new : List Kind) (tables : Tables) (failed after : List (Option Sighting))
+    → AreJudgedBy users questions (record { place = place; turn = None }) g failed after → OnOk r (IsNotedIf over (standings users g) place old new)
+    → OnOk r ((shown : Shown) → IsKept users questions shown old tables failed → IsKept users questions (with_state place g over shown) new tables after)
+kept-state (Err e) users questions place g over old new tables failed after by noted = noted
+kept-state (Ok x) users questions place g over old new tables failed after by noted = λ shown kept. record {
+  ends = state-noted users shown.states old new place g over noted kept.ends;
+  answers = kept.answers;
+  judged = judged-more users questions (record { place = place; turn = None }) g shown (with_state place g over shown) (state-look users place g over shown) failed after by kept.judged;
 }
 
 -- a turn more
-pub kept-turn : {E : Type 0} (r : Result (Unit {0}) E) (users : List User) (place : ℕ) (t : Turn) (a : Answer) (h : Going) (old new : List Kind) (before start mid after : Tables) → new ≡ old → start ≡ before → IsNotedTurn (record { answer = a; place = place; turn = t }) start mid
-    → OnOk r (IsStillOf users place t h mid after) → OnOk r ((shown : Shown) → IsKept users shown old before → IsKept users (with_turn place t a h shown) new after)
-kept-turn (Err e) users place t a h old new before start mid after same still noted mail = mail
-kept-turn (Ok x) users place t a h old new before start mid after same still noted mail = λ shown kept.
+pub kept-turn : {E : Type 0} (r : Result (Unit {0}) E) (users : List User) (questions : List AskedLine) (place : ℕ) (t : Turn) (a : Answer) (h : Going) (kinds : List Kind) (start mid after : Tables) (failed then : List (Option Sighting))
+    → AreJudgedBy users questions (record { place = place; turn = Some t }) h failed then → IsNotedTurn (record { answer = a; place = place; turn = t }) start mid
+    → OnOk r (IsStillOf users place t h mid after) → OnOk r ((shown : Shown) → IsKept users questions shown kinds start failed → IsKept users questions (with_turn place t a h shown) kinds after then)
+kept-turn (Err e) users questions place t a h kinds start mid after failed then by noted mail = mail
+kept-turn (Ok x) users questions place t a h kinds start mid after failed then by noted mail = λ shown kept.
     let m : Made = record { place = place; turn = t; answer = a; going = h } in
-    let own = turn-noted users shown.turns before mid m (subst (λ (ts : Tables). IsNotedTurn (record { answer = a; place = place; turn = t }) ts mid) still noted) kept.answers in
+    let own = turn-noted users shown.turns start mid m noted kept.answers in
     record {
-      ends = subst (λ (ks : List Kind). AreEndsOf users shown.states ks) (sym same) kept.ends;
+      ends = kept.ends;
       answers = mail (shown.turns ++ m ∷ []) (length shown.turns) m (at-last shown.turns m) refl refl refl own;
+      judged = judged-more users questions (record { place = place; turn = Some t }) h shown (with_turn place t a h shown) (turn-look users place t a h shown) failed then by kept.judged;
     }
 
 one-longer : {A : Type 0} (xs : List A) (x : A) → length (xs ++ x ∷ []) ≡ suc (length xs)
@@ -81,10 +91,16 @@ paths-at found (suc n) i p at = go (at-split (paths_below found n) (path_of foun
     go (inl h) before = let r = before h in let lt = r.0 in (omega (arith, lt), r.1)
     go (inr e) before = let is = e.0 ∙ paths-long found n in (omega (arith, is), e.1 ∙ ap (λ k. path_of found k) (sym is))
 
-module _ {K : Type 0} (users : List User) (apart : AreApart users) (boot : Boot) (found : Entries K Turn) (done : ℕ) (ends : List Kind) (tables : Tables) (shown : Shown)
-    (kept : IsKept users shown ends tables) (are : AreShown users (beginning users boot) (paths_below found done) shown) where
+-- what is found of all that is kept
+pub record AreFound {K : Type 0} (users : List User) (boot : Boot) (found : Entries K Turn) (done : ℕ) (questions : List AskedLine) (kinds : List Kind) (tables : Tables) (failed : List (Option Sighting)) : Type 0 where
+  pub ends : AreEndsFound users boot found done kinds
+  pub answers : AreAnswersFound users boot found done tables
+  pub judged : AreJudgedFound users boot found done questions failed
+
+module _ {K : Type 0} (users : List User) (apart : AreApart users) (boot : Boot) (found : Entries K Turn) (done : ℕ) (questions : List AskedLine) (ends : List Kind) (tables : Tables) (failed : List (Option Sighting)) (shown : Shown)
+    (kept : IsKept users questions shown ends tables failed) (are : AreShown users (beginning users boot) (paths_below found done) shown) where
   -- a state that was shown is that in its place
-  pub ends-found : AreEndsFound users boot found done ends
+  ends-found : AreEndsFound users boot found done ends
   ends-found = record { each = each; all = all; apart = kept.ends.apart }
     where
       each : (i : ℕ) (k : Kind) → slice_get ends i ≡ Some k → IsEndFound users boot found done k
@@ -110,7 +126,7 @@ module _ {K : Type 0} (users : List User) (apart : AreApart users) (boot : Boot)
           subst (λ x. (i : ℕ) × IsKindAt ends (standings users x) i) same (kept.ends.all place s.0 s.1 (is.over.1 (subst (λ x. IsOver users x) (sym same) over)))
 
   -- a turn that was shown is one from the state in its place
-  pub answers-found : AreAnswersFound users boot found done tables
+  answers-found : AreAnswersFound users boot found done tables
   answers-found = record { entries = kept.answers.entries; each = each; all = all }
     where
       each : (user number : ℕ) (told : List Told) (i : ℕ) (t : Told) → table_of tables user number ≡ Some told → slice_get told i ≡ Some t → IsAnswerFound users boot found done user number t
@@ -127,14 +143,14 @@ module _ {K : Type 0} (users : List User) (apart : AreApart users) (boot : Boot)
             is = is a m.turn.answer a.is;
           }
         where
-          is : (a : IsAnswerOf users shown.turns user number t) → last_answer a.made.going.book ≡ Some a.made.answer → IsOwnAnswer a.made user number t.answer ⊎ IsMailed users a.made user number
-              → IsAnswered t.turn a.made.going user number t.answer ⊎ IsWaiting users a.made.going user number t.turn
+          is : (a : IsAnswerOf users shown.turns user number t) → last_answer a.made.going.book ≡ Some a.made.answer → IsOwnAnswer a.made user number t.answer ⊎ IsMailed users a.made.going user number a.made.turn t.answer
+              → IsAnswered t.turn a.made.going user number t.answer ⊎ IsMailed users a.made.going user number t.turn t.answer
           is a told (inl own) = inl (record {
             user = ap (λ (u : Turn). u.pick.user) (sym a.turn) ∙ own.user;
             number = ap (λ (u : Turn). u.pick.number) (sym a.turn) ∙ own.number;
             answer = told ∙ ap (λ x. Some x) own.answer;
           })
-          is a told (inr mail) = inr (subst (λ u. IsWaiting users a.made.going user number u) a.turn mail)
+          is a told (inr mail) = inr (subst (λ u. IsMailed users a.made.going user number u t.answer) a.turn mail)
 
       all : (place : ℕ) (t : Turn) (g h : Going) (a : Answer) (told : List Told) → place < done → IsAt users boot found place g → Leads users t g h → last_answer h.book ≡ Some a → (a ≡ answer.Waits → ⊥)
           → table_of tables t.pick.user t.pick.number ≡ Some told → IsAmong told a
@@ -144,15 +160,63 @@ module _ {K : Type 0} (users : List User) (apart : AreApart users) (boot : Boot)
           let is : s.made.answer ≡ a = some-same s.made.answer a (sym m.turn.answer ∙ ap (λ (x : Going). last_answer x.book) s.going ∙ answered) in
           subst (λ x. IsAmong told x) is (kept.answers.all s.number s.made told s.at (λ w. not (sym is ∙ w)) (ap (λ (u : Turn). table_of tables u.pick.user u.pick.number) s.turn ∙ there))
 
+  -- a question failed in a state that was found, or by a turn from one
+  judged-found : AreJudgedFound users boot found done questions failed
+  judged-found = record { long = kept.judged.long; each = λ i q f asks at. one q.asked f (kept.judged.each i q f asks at) }
+    where
+      by-look : (q : Asked) (place : ℕ) (t : Option Turn) (h : Going) → IsShownBy shown place t h → fails users q t h ≡ true → IsFailureFound users boot found done q (record { place = place; turn = t })
+      by-look q place None h is failed_it =
+          let s = are.states is.number is.sight is.at in
+          let p = paths-at found done is.number s.path s.at in
+          let here : is.number ≡ place = sym s.place ∙ is.place in
+          record {
+            within = subst (λ n. n < done) here p.0;
+            state = is.sight.going;
+            at = subst (λ ls. Path (Leads users) (beginning users boot) ls is.sight.going) (p.1 ∙ ap (λ n. path_of found n) here) s.leads;
+            going = h;
+            is = is.going;
+            fails = failed_it;
+          }
+      by-look q place (Some t) h is failed_it =
+          let m = are.turns is.number is.made is.at in
+          let p = paths-at found done is.made.place m.path m.at in
+          record {
+            within = subst (λ n. n < done) is.place p.0;
+            state = m.state;
+            at = subst (λ ls. Path (Leads users) (beginning users boot) ls m.state) (p.1 ∙ ap (λ n. path_of found n) is.place) m.leads;
+            going = h;
+            is = subst (λ x. Leads users t m.state x) is.going (subst (λ u. Leads users u m.state is.made.going) is.turn m.turn.leads);
+            fails = failed_it;
+          }
+
+      one : (q : Asked) (f : Option Sighting) → IsJudged users q shown f → IsJudgedFound users boot found done q f
+      one q (Some seen) is = by-look q seen.place seen.turn is.going is.is is.fails
+      one q None held = record {
+        states = λ place g lt at.
+            let s = within-at shown.states place (let long = are.long in let paths = paths-long found done in omega (arith, long, paths, lt)) in
+            let is = are.states place s.0 s.1 in
+            let path : is.path ≡ path_of found place = some-same is.path (path_of found place) (sym is.at ∙ at-paths found done place lt) in
+            let same : s.0.going ≡ g = path-one users apart (beginning users boot) (path_of found place) s.0.going g (subst (λ ls. Path (Leads users) (beginning users boot) ls s.0.going) path is.leads) at in
+            ap (λ x. fails users q None x) (sym same) ∙ held.states place s.0 s.1;
+        turns = λ place t g h lt at step.
+            let s = are.all place (path_of found place) g h t (at-paths found done place lt) at step in
+            ap (λ u. fails users q (Some u) h) (sym s.turn) ∙ ap (λ x. fails users q (Some s.made.turn) x) (sym s.going) ∙ held.turns s.number s.made s.at;
+      }
+
+  -- all that is kept
+  pub all-found : AreFound users boot found done questions ends tables failed
+  all-found = record { ends = ends-found; answers = answers-found; judged = judged-found }
+
 -- before the search
-pub begun-kept : (users : List User) (ends : List Kind) (tables : Tables) → ends ≡ [] → tables ≡ no_answers users → IsKept users nothing ends tables
-begun-kept users ends tables none empty = record {
+pub begun-kept : (users : List User) (questions : List AskedLine) (ends : List Kind) (tables : Tables) (failed : List (Option Sighting)) → ends ≡ [] → tables ≡ no_answers users → failed ≡ replicate (length questions) None → IsKept users questions nothing ends tables failed
+begun-kept users questions ends tables failed none empty none_failed = record {
   ends = subst (λ (ks : List Kind). AreEndsOf users [] ks) (sym none) (no-ends users);
   answers = subst (λ (ts : Tables). AreAnswersOf users [] ts) (sym empty) (no-turns users);
+  judged = subst (λ (fs : List (Option Sighting)). AreJudged users questions nothing fs) (sym none_failed) (none-judged users questions);
 }
 
 -- behind it
 pub kept-found : {K W : Type 0} {Has : W → List User → Shown → Type 0} {w : W} (users : List User) → AreApart users → (boot : Boot) (found : Entries K Turn) (done : ℕ) → HasSeenAll Has w users (beginning users boot) (paths_below found done)
-    → (kinds : List Kind) (tables : Tables) → ((shown : Shown) → Has w users shown → IsKept users shown kinds tables) → AreEndsFound users boot found done kinds × AreAnswersFound users boot found done tables
-kept-found users apart boot found done seen kinds tables is =
-    (ends-found users apart boot found done kinds tables seen.shown (is seen.shown seen.has) seen.are, answers-found users apart boot found done kinds tables seen.shown (is seen.shown seen.has) seen.are)
+    → (questions : List AskedLine) (kinds : List Kind) (tables : Tables) (failed : List (Option Sighting)) → ((shown : Shown) → Has w users shown → IsKept users questions shown kinds tables failed)
+    → AreFound users boot found done questions kinds tables failed
+kept-found users apart boot found done seen questions kinds tables failed is = all-found users apart boot found done questions kinds tables failed seen.shown (is seen.shown seen.has) seen.are

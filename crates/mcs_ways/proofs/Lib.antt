@@ -3,3 +3,6 @@ mod Lists
 pub mod Noting
 pub mod Telling
 pub mod Keeping
+pub mod Failing
+pub mod Judgments
+pub mod HeldRuns

@@ -8,8 +8,13 @@ use Rattle.mcs_types.specs.declared.entry.Entry.{Entry}
 use Rattle.mcs_turns.specs.Turns.{User, Going}
 use Rattle.mcs_walks.specs.declared.walk.Turn.{Turn}
 use Rattle.mcs_orders.specs.Shown.{Made}
+use Rattle.mcs_types.specs.declared.record.Rec.{Rec}
+use Rattle.mcs_lab.proofs.Finding.{from-there}
 use Rattle.mcs_ways.specs.declared.answers.Told.{Told}
-use Rattle.mcs_ways.specs.Answers.{AreAnswersOf, IsAmong, IsAnswerOf, IsChangedAt, IsEntry, IsNoted, IsNotedIn, IsNotedOf, IsNotedTurn, IsStillOf, IsWaiting, Tables, no_answers, table_of}
+use Rattle.mcs_ways.specs.declared.mail.Reached.{Reached}
+use Rattle.mcs_ways.specs.Judging.{place_of}
+use Rattle.mcs_ways.specs.Mail.{IsBrought, got_with, listed, reached_from, reaching}
+use Rattle.mcs_ways.specs.Answers.{AreAnswersOf, IsAmong, IsAnswerOf, IsChangedAt, IsEntry, IsMailed, IsNoted, IsNotedIn, IsNotedOf, IsNotedTurn, IsStillOf, IsWaiting, Tables, no_answers, table_of}
 use Rattle.mcs_ways.proofs.Lists.{at-last, at-old, at-split, same-or-not, set-other, set-same, some-same}
 
 -- what was changed in a place
@@ -235,12 +240,23 @@ turn-noted users turns old new m (inl waits) are = subst (λ (ts : Tables). AreA
 turn-noted users turns old new m (inr noted) are = own-more users turns old new m (record { answer = m.answer; place = m.place; turn = m.turn }) refl noted are
 
 -- what a turn brought to a user that waits was noted
-pub mail-noted : {E : Type 0} (r : Result (Unit {0}) E) (users : List User) (place user number : ℕ) (t : Turn) (h : Going) (a : Answer) (old new : Tables) → IsWaiting users h user number t
-    → OnOk r (IsNotedOf user number (record { answer = a; place = place; turn = t }) old new) → OnOk r (IsStillOf users place t h old new)
-mail-noted (Err e) users place user number t h a old new waits noted = noted
-mail-noted (Ok x) users place user number t h a old new waits noted = λ turns j m at same_place same_turn same_going are.
-    let mail : IsWaiting users m.going user number m.turn = subst (λ g. IsWaiting users g user number m.turn) (sym same_going) (subst (λ u. IsWaiting users h user number u) (sym same_turn) waits) in
-    answer-noted users turns old new user number (record { answer = a; place = place; turn = t }) (record { index = j; made = m; at = at; place = same_place; turn = same_turn; is = inr mail }) noted are
+pub mail-noted : {E : Type 0} (r : Result (Unit {0}) E) (users : List User) (place user number : ℕ) (t : Turn) (h : Going) (reached : Reached) (old new : Tables) → IsWaiting users h user number t → place_of users reached.thread ≡ Some user
+    → OnOk r (IsNotedOf user number (record { answer = reached.answer; place = place; turn = t }) old new) → OnOk r (IsBrought h.book reached → IsStillOf users place t h old new)
+mail-noted (Err e) users place user number t h reached old new waits thread noted = noted
+mail-noted (Ok x) users place user number t h reached old new waits thread noted = λ brought turns j m at same_place same_turn same_going are.
+    let mail : IsMailed users h user number t reached.answer = record { waits = waits; reached = reached; brought = brought; thread = thread; answer = refl } in
+    let here : IsMailed users m.going user number m.turn reached.answer = subst (λ g. IsMailed users g user number m.turn reached.answer) (sym same_going) (subst (λ u. IsMailed users h user number u reached.answer) (sym same_turn) mail) in
+    answer-noted users turns old new user number (record { answer = reached.answer; place = place; turn = t }) (record { index = j; made = m; at = at; place = same_place; turn = same_turn; is = inr here }) noted are
+
+-- what reaches threads by a record more
+pub reached-on : (got then : Option Answer) (i : ℕ) (rs : List Rec) (r : Rec) (before after all : List Reached) (o : Option Reached) → slice_get rs i ≡ Some r → then ≡ got_with got r → o ≡ reaching then r → after ≡ before ++ listed o
+    → before ++ reached_from got (drop i rs) ≡ all → after ++ reached_from then (drop (i + 1) rs) ≡ all
+reached-on got then i rs r before after all o at is_then is_o more so_far =
+    ap (λ (xs : List Reached). xs ++ reached_from then (drop (i + 1) rs)) (more ∙ ap (λ (p : Option Reached). before ++ listed p) is_o)
+    ∙ append_assoc before (listed (reaching then r)) (reached_from then (drop (i + 1) rs))
+    ∙ ap (λ (a : Option Answer). before ++ (listed (reaching a r) ++ reached_from a (drop (i + 1) rs))) is_then
+    ∙ ap (λ (xs : List Rec). before ++ reached_from got xs) (sym (from-there i rs r at))
+    ∙ so_far
 
 -- the tables of one user more
 pub user-more : (lists : List User) (i : ℕ) (u : User) (old new : Tables) (t : List (List Told)) → slice_get lists i ≡ Some u → t ≡ map (λ (e : Entry). []) u.entries → no_answers lists ≡ old ++ no_answers (drop i lists) → new ≡ old ++ t ∷ []

@@ -8,6 +8,9 @@ use Rattle.mcs_turns.specs.Turns.{User, Going}
 use Rattle.mcs_walks.specs.declared.walk.Turn.{Turn}
 use Rattle.mcs_orders.specs.Shown.{Made}
 use Rattle.mcs_ways.specs.declared.answers.Told.{Told}
+use Rattle.mcs_ways.specs.declared.mail.Reached.{Reached}
+use Rattle.mcs_ways.specs.Judging.{place_of}
+use Rattle.mcs_ways.specs.Mail.{IsBrought}
 
 -- the answers of the entries of all users
 abbrev pub Tables : Type 0
@@ -80,9 +83,13 @@ pub record IsWaiting (users : List User) (g : Going) (user number : ℕ) (t : Tu
   pub waited : position.waited ≡ Some number
   pub other : t.pick.user ≡ user → ⊥
 
--- what reached a user whose entry of this number waited, by a turn of another user
-abbrev pub IsMailed : List User → Made → ℕ → ℕ → Type 0
-IsMailed users m user number = IsWaiting users m.going user number m.turn
+-- this answer reached a user whose entry of this number waited, by a turn of another user
+pub record IsMailed (users : List User) (g : Going) (user number : ℕ) (t : Turn) (a : Answer) : Type 0 where
+  pub waits : IsWaiting users g user number t
+  pub reached : Reached
+  pub brought : IsBrought g.book reached
+  pub thread : place_of users reached.thread ≡ Some user
+  pub answer : reached.answer ≡ a
 
 -- an answer of an entry is that of a turn that was shown
 pub record IsAnswerOf (users : List User) (turns : List Made) (user number : ℕ) (t : Told) : Type 0 where
@@ -91,7 +98,7 @@ pub record IsAnswerOf (users : List User) (turns : List Made) (user number : ℕ
   pub at : slice_get turns index ≡ Some made
   pub place : made.place ≡ t.place
   pub turn : made.turn ≡ t.turn
-  pub is : IsOwnAnswer made user number t.answer ⊎ IsMailed users made user number
+  pub is : IsOwnAnswer made user number t.answer ⊎ IsMailed users made.going user number made.turn t.answer
 
 -- each answer of an entry is that of a turn that was shown, and each answer of such a turn but Waits is among those of its entry
 pub record AreAnswersOf (users : List User) (turns : List Made) (tables : Tables) : Type 0 where

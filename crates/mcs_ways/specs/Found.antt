@@ -1,18 +1,22 @@
 -- What is told of all states that were looked behind (own).
-use Rattle.std.specs.Prelude.{ℕ, ◌≡◌, ◌<◌, ◌⊎◌, List, Some, slice_get}
+use Rattle.std.specs.Prelude.{ℕ, ◌≡◌, ◌<◌, ◌⊎◌, true, false, List, Option, Some, None, length, slice_get}
 use Rattle.mcs_types.specs.declared.entry.Answer.{Answer}
 use Rattle.mcs_types.specs.declared.entry.Answer.TheVariants as answer
 use Rattle.mcs_book.specs.Boots.{Boot}
-use Rattle.mcs_turns.specs.Turns.{User, Going, IsOver, beginning}
+use Rattle.mcs_turns.specs.Turns.{User, Going, IsOver, IsRun, beginning}
 use Rattle.mcs_explore.specs.Paths.{Path}
 use Rattle.mcs_explore.specs.Search.{Entries, path_of}
 use Rattle.mcs_walks.specs.declared.walk.Turn.{Turn}
 use Rattle.mcs_walks.specs.Walks.{last_answer}
 use Rattle.mcs_orders.specs.Trails.{Leads}
 use Rattle.mcs_ways.specs.declared.answers.Told.{Told}
+use Rattle.mcs_ways.specs.declared.asking.Asked.{Asked}
+use Rattle.mcs_ways.specs.declared.reading.AskedLine.{AskedLine}
+use Rattle.mcs_ways.specs.declared.judging.Sighting.{Sighting}
 use Rattle.mcs_ways.specs.Standings.{standings}
 use Rattle.mcs_ways.specs.Ends.{IsKindAt, Kind}
-use Rattle.mcs_ways.specs.Answers.{IsAmong, IsEntry, IsWaiting, Tables, table_of}
+use Rattle.mcs_ways.specs.Judging.{fails}
+use Rattle.mcs_ways.specs.Answers.{IsAmong, IsEntry, IsMailed, Tables, table_of}
 
 -- the path of a place leads to this state
 abbrev pub IsAt : {K : Type 0} → List User → Boot → Entries K Turn → ℕ → Going → Type 0
@@ -38,14 +42,14 @@ pub record IsAnswered (t : Turn) (h : Going) (i n : ℕ) (a : Answer) : Type 0 w
   pub number : t.pick.number ≡ n
   pub answer : last_answer h.book ≡ Some a
 
--- the rule has the turn of an answer from the state in its place: the entry was answered so, or waited while another user moved
+-- the rule has the turn of an answer from the state in its place: the entry was answered so, or waited, and this reached it
 pub record IsAnswerFound {K : Type 0} (users : List User) (boot : Boot) (found : Entries K Turn) (done user number : ℕ) (t : Told) : Type 0 where
   pub within : t.place < done
   pub state : Going
   pub going : Going
   pub at : IsAt users boot found t.place state
   pub turn : Leads users t.turn state going
-  pub is : IsAnswered t.turn going user number t.answer ⊎ IsWaiting users going user number t.turn
+  pub is : IsAnswered t.turn going user number t.answer ⊎ IsMailed users going user number t.turn t.answer
 
 -- each entry has answers, each of them is that of a turn from a state that was looked behind, and what each such turn was answered
 -- but Waits is among those of its entry
@@ -54,3 +58,41 @@ pub record AreAnswersFound {K : Type 0} (users : List User) (boot : Boot) (found
   pub each : (user number : ℕ) (told : List Told) (i : ℕ) (t : Told) → table_of tables user number ≡ Some told → slice_get told i ≡ Some t → IsAnswerFound users boot found done user number t
   pub all : (place : ℕ) (t : Turn) (g h : Going) (a : Answer) (told : List Told) → place < done → IsAt users boot found place g → Leads users t g h → last_answer h.book ≡ Some a → (a ≡ answer.Waits → ⊥)
       → table_of tables t.pick.user t.pick.number ≡ Some told → IsAmong told a
+
+-- a state itself, or what a turn from it leads to
+abbrev pub IsSeenFrom : List User → Going → Option Turn → Going → Type 0
+IsSeenFrom users g None h = g ≡ h
+IsSeenFrom users g (Some t) h = Leads users t g h
+
+-- a question fails in the state in a place that was looked behind, or by a turn from it
+pub record IsFailureFound {K : Type 0} (users : List User) (boot : Boot) (found : Entries K Turn) (done : ℕ) (q : Asked) (seen : Sighting) : Type 0 where
+  pub within : seen.place < done
+  pub state : Going
+  pub at : IsAt users boot found seen.place state
+  pub going : Going
+  pub is : IsSeenFrom users state seen.turn going
+  pub fails : fails users q seen.turn going ≡ true
+
+-- it fails in no state that was looked behind, and by no turn from one
+pub record IsHeldFound {K : Type 0} (users : List User) (boot : Boot) (found : Entries K Turn) (done : ℕ) (q : Asked) : Type 0 where
+  pub states : (place : ℕ) (g : Going) → place < done → IsAt users boot found place g → fails users q None g ≡ false
+  pub turns : (place : ℕ) (t : Turn) (g h : Going) → place < done → IsAt users boot found place g → Leads users t g h → fails users q (Some t) h ≡ false
+
+-- a question failed where it says, and if it does not say so, nowhere
+abbrev pub IsJudgedFound : {K : Type 0} → List User → Boot → Entries K Turn → ℕ → Asked → Option Sighting → Type 0
+IsJudgedFound users boot found done q None = IsHeldFound users boot found done q
+IsJudgedFound users boot found done q (Some seen) = IsFailureFound users boot found done q seen
+
+-- so is each question
+pub record AreJudgedFound {K : Type 0} (users : List User) (boot : Boot) (found : Entries K Turn) (done : ℕ) (questions : List AskedLine) (failed : List (Option Sighting)) : Type 0 where
+  pub long : length failed ≡ length questions
+  pub each : (i : ℕ) (q : AskedLine) (f : Option Sighting) → slice_get questions i ≡ Some q → slice_get failed i ≡ Some f → IsJudgedFound users boot found done q.asked f
+
+-- a question fails in no run of users: in no state, and by no turn
+pub record IsHeldInRuns (users : List User) (boot : Boot) (q : Asked) : Type 0 where
+  pub states : (n : ℕ) (g : Going) → IsRun users boot n g → fails users q None g ≡ false
+  pub turns : (n : ℕ) (t : Turn) (g h : Going) → IsRun users boot n g → Leads users t g h → fails users q (Some t) h ≡ false
+
+-- so is each question that did not fail
+abbrev pub AreHeldInRuns : List User → Boot → List AskedLine → List (Option Sighting) → Type 0
+AreHeldInRuns users boot questions failed = (i : ℕ) (q : AskedLine) → slice_get questions i ≡ Some q → slice_get failed i ≡ Some None → IsHeldInRuns users boot q.asked

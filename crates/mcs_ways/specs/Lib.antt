@@ -1,5 +1,11 @@
+pub mod Patterns
 pub mod Standings
 pub mod Ends
+pub mod Mail
 pub mod Answers
 pub mod Kept
 pub mod Found
+pub mod Judging
+pub mod Judged
+pub mod Saying
+pub mod Verdicts

@@ -3,9 +3,8 @@ ghost use Rattle.std.specs.Prelude.{◌≡◌, ◌↔◌, ◌++◌, ◌∷◌, [
 ghost use Rattle.mcs_ways.specs.Answers.{IsAmong, IsNoted, IsNotedIn, IsNotedOf, IsNotedTurn, no_answers, table_of};
 
 use mcs_orders::{OrdersFault, Turn, Users};
-use mcs_types::{Answer, Badge, Entry, Message};
+use mcs_types::{Answer, Entry};
 use std::alloc::{AllocError, Global};
-use std::fmt::Write;
 use std::marker::Model;
 
 /// An answer, and the first turn by which it came: from the state in this place.
@@ -60,34 +59,6 @@ impl Model for Answers {
     ghost Value = { List (List (List Told)) };
 
     ghost view = { λ a. a.users.items };
-}
-
-/// Puts a message behind a text.
-fn put_message(text: &mut String, badge: Badge, message: &Message) -> Result<(), AllocError> {
-    let badge = badge.0;
-    let label = message.label();
-    write!(text, "got {badge} {label}")?;
-    for word in message.words() {
-        write!(text, " {word}")?;
-    }
-    Ok(())
-}
-
-/// The text of an answer, as a trace has it.
-pub fn text_of(alloc: Global, answer: &Answer) -> Result<String, AllocError> {
-    let mut text = String::new(alloc);
-    match answer {
-        Answer::Done => text.push_str("done")?,
-        Answer::Got { badge, message } => put_message(&mut text, *badge, message)?,
-        Answer::Heard { word } => write!(text, "heard {word}")?,
-        Answer::Empty => text.push_str("empty")?,
-        Answer::Waits => text.push_str("waits")?,
-        Answer::Refused(refusal) => {
-            let number = *refusal as u8;
-            write!(text, "refused {number}")?;
-        }
-    }
-    Ok(text)
 }
 
 impl Table {

@@ -3,7 +3,7 @@ ghost use Rattle.std.specs.Prelude.{◌≡◌, ◌≤◌, true, IfOk, length};
 ghost use Rattle.mcs_book.specs.Boots.{IsFaultless};
 ghost use Rattle.mcs_turns.specs.Turns.{AreInRange};
 ghost use Rattle.mcs_orders.specs.Seen.{AreAllSeen, AreFoundRuns};
-ghost use Rattle.mcs_ways.specs.Found.{AreAnswersFound, AreEndsFound};
+ghost use Rattle.mcs_ways.specs.Found.{AreAnswersFound, AreEndsFound, AreHeldInRuns, AreJudgedFound};
 
 use crate::reading::AskedLine;
 use crate::scripts::fault_of;
@@ -42,6 +42,16 @@ pub fn watched<'a>(
     // each answer that is kept came by a turn from such a state, and what each such turn was answered but Waits is kept
     ensures answers { IfOk result (λ o. AreAnswersFound users.now boot.now
         o.search.map.entries o.search.done o.explorer.watch.answers) }
+    // each question of the watch failed where it says, in such a state or by a turn from one, and if it does not say so, nowhere
+    ensures judged { IfOk result (λ o. AreJudgedFound users.now boot.now
+        o.search.map.entries o.search.done
+        o.explorer.watch.asked.now o.explorer.watch.failed.items) }
+    // where keys are exact and all states were looked behind, those that say nothing fail in no run
+    ensures held { IfOk result (λ o. wanted.is_exact ≡ true
+        → IsFaultless boot.now → AreInRange users.now
+        → length o.search.map.entries ≤ o.search.done
+        → AreHeldInRuns users.now boot.now
+        o.explorer.watch.asked.now o.explorer.watch.failed.items) }
 {
     users.are_apart();
     let watched = Watched::new(alloc, users, asked)?;

@@ -11,14 +11,20 @@ mod answers;
 mod asking;
 mod ends;
 mod exploring;
+mod judging;
 mod mail;
 mod patterns;
 mod reading;
 mod report;
+mod saying;
 mod scripts;
+#[cfg(test)]
+mod tests;
+mod verdicts;
 mod watching;
 
 pub use exploring::{Wanted, watched};
 pub use reading::AskedLine;
 pub use report::{Explored, Saves, explore_script};
+pub use verdicts::{Verdict, verdict_on};
 pub use watching::Watched;

@@ -1,75 +1,119 @@
 //! What reaches threads whose entries wait, by a line.
-ghost use Rattle.std.specs.Prelude.{IfSome, OnOk};
+ghost use Rattle.std.specs.Prelude.{◌≡◌, ◌++◌, IfOk, IfSome, None, OnOk, length};
+ghost use Rattle.mcs_book.specs.History.{line_of_number};
 ghost use Rattle.mcs_ways.specs.Answers.{IsStillOf, IsWaiting};
+ghost use Rattle.mcs_ways.specs.Mail.{IsBrought, got_with, listed, reached_from, reaching, taken};
 
 use crate::answers::{Answers, is_send};
 use mcs_book::Line;
 use mcs_kernel::Kernel;
 use mcs_orders::{OrdersFault, Turn, Users, Walk};
 use mcs_queues::PlainLines;
-use mcs_types::{Answer, Badge, Message, Mode, ObjId, Rec};
+use mcs_types::{Answer, Badge, Mode, ObjId, Rec};
 use std::alloc::Global;
 
-/// A message that is got.
-fn got(alloc: Global, badge: Badge, message: &Message) -> Result<Answer, OrdersFault> {
-    let message = message.copy(alloc)?;
-    Ok(Answer::Got { badge, message })
+/// What reached a thread.
+#[derive(Drop)]
+pub struct Reached {
+    pub thread: ObjId,
+    pub answer: Answer,
 }
 
-/// What reaches a thread by a record, where so far the line sent this message.
-fn reaching(
-    alloc: Global,
-    fact: &Rec,
-    sent: &Option<(Badge, Message)>,
-) -> Result<Option<(ObjId, Answer)>, OrdersFault> {
+/// What a taker gets of the message that a line sent last, with a record more.
+fn got_with(alloc: Global, got: Option<Answer>, fact: &Rec) -> Result<Option<Answer>, OrdersFault>
+    ensures { IfOk result (λ o. o ≡ got_with got fact.now) }
+{
     match fact {
-        Rec::Took { thread, .. } => match sent {
-            Some(sent) => Ok(Some((*thread, got(alloc, sent.0, &sent.1)?))),
-            None => Ok(None),
-        },
+        Rec::Sent { badge, message, .. } => {
+            let message = message.copy(alloc)?;
+            Ok(Some(Answer::Got {
+                badge: *badge,
+                message,
+            }))
+        }
+        _ => Ok(got),
+    }
+}
+
+/// What reaches a thread that takes this, if the line sent it.
+fn taken(alloc: Global, thread: ObjId, got: &Option<Answer>) -> Result<Option<Reached>, OrdersFault>
+    ensures { IfOk result (λ o. o ≡ taken thread got.now) }
+{
+    match got {
+        Some(answer) => {
+            let answer = answer.copy(alloc)?;
+            Ok(Some(Reached { thread, answer }))
+        }
+        None => Ok(None),
+    }
+}
+
+/// What reaches a thread by a record, where a taker gets this of what the line sent last.
+fn reaching(alloc: Global, got: &Option<Answer>, fact: &Rec) -> Result<Option<Reached>, OrdersFault>
+    ensures { IfOk result (λ o. o ≡ reaching got.now fact.now) }
+{
+    match fact {
+        Rec::Took { thread, .. } => taken(alloc, *thread, got),
         Rec::Paid {
             caller,
             message,
             ..
-        } => Ok(Some((*caller, got(alloc, Badge(0), message)?))),
-        Rec::Heard { thread, word, .. } => Ok(Some((*thread, Answer::Heard { word: *word }))),
+        } => {
+            let message = message.copy(alloc)?;
+            let answer = Answer::Got {
+                badge: Badge(0),
+                message,
+            };
+            Ok(Some(Reached {
+                thread: *caller,
+                answer,
+            }))
+        }
+        Rec::Heard { thread, word, .. } => Ok(Some(Reached {
+            thread: *thread,
+            answer: Answer::Heard { word: *word },
+        })),
         Rec::Turns {
             thread,
             mode: Mode::Running,
-        } => Ok(Some((*thread, Answer::Done))),
+        } => Ok(Some(Reached {
+            thread: *thread,
+            answer: Answer::Done,
+        })),
         _ => Ok(None),
     }
 }
 
-/// The message that a record sends, with the badge that it is sent by; None where it sends none.
-fn sent_by(alloc: Global, fact: &Rec) -> Result<Option<(Badge, Message)>, OrdersFault> {
-    match fact {
-        Rec::Sent { badge, message, .. } => Ok(Some((*badge, message.copy(alloc)?))),
-        _ => Ok(None),
+/// Adds what reached a thread, if something did.
+fn push(all: &mut Vec<Reached>, reached: Option<Reached>) -> Result<(), OrdersFault>
+    ensures { OnOk result (all.new.items ≡ all.old.items ++ listed reached) }
+{
+    if let Some(reached) = reached {
+        all.push(reached)?;
     }
+    Ok(())
 }
 
 /// What reaches threads by a line.
-fn reached_by(alloc: Global, line: &Line<'_>) -> Result<Vec<(ObjId, Answer)>, OrdersFault> {
+fn reached_by(alloc: Global, line: &Line<'_>) -> Result<Vec<Reached>, OrdersFault>
+    ensures { IfOk result (λ v. v.items ≡ reached_from None line.now.records) }
+{
     let mut all = Vec::new(alloc);
-    let mut sent = None;
+    let mut got = None;
     for i in 0..line.record_count() {
         let Some(fact) = line.record(alloc, i)? else {
-            break;
+            unreachable!();
         };
-        let sends = sent_by(alloc, &fact)?;
-        if sends.is_some() {
-            sent = sends;
-        }
-        if let Some(reached) = reaching(alloc, &fact, &sent)? {
-            all.push(reached)?;
-        }
+        got = got_with(alloc, got, &fact)?;
+        push(&mut all, reaching(alloc, &got, &fact)?)?;
     }
     Ok(all)
 }
 
 /// The newest line of a kernel's book.
-pub fn newest(kernel: &Kernel<PlainLines>) -> Option<Line<'_>> {
+pub fn newest(kernel: &Kernel<PlainLines>) -> Option<Line<'_>>
+    ensures { result ≡ line_of_number kernel.now (length kernel.now.lines) }
+{
     let book = kernel.book();
     book.line(book.lines().saturating_sub(1))
 }
@@ -102,22 +146,23 @@ fn note_reached(
     answers: &mut Answers,
     users: &Users,
     walk: &Walk<PlainLines>,
-    reached: &(ObjId, Answer),
+    reached: &Reached,
     place: usize,
     turn: Turn,
 ) -> Result<(), OrdersFault>
-    ensures { OnOk result (IsStillOf users.now place turn walk.now answers.old answers.new) }
+    ensures { OnOk result (IsBrought walk.now.book reached.now
+        → IsStillOf users.now place turn walk.now answers.old answers.new) }
 {
-    let Some(user) = users.find(reached.0) else {
+    let Some(user) = users.find(reached.thread) else {
         return Ok(());
     };
     let Some(number) = waiting(users, walk, user, turn) else {
         return Ok(());
     };
-    if matches!(reached.1, Answer::Done) && !gave_send(users, user, number) {
+    if matches!(reached.answer, Answer::Done) && !gave_send(users, user, number) {
         return Ok(());
     }
-    answers.note(user, number, &reached.1, place, turn)
+    answers.note(user, number, &reached.answer, place, turn)
 }
 
 /// Notes what entries that waited came to by the newest line.

@@ -1,23 +1,40 @@
 //! Patterns: lines of words, in which `*` stands for a word and `**`, at the end, for the rest.
+ghost use Rattle.std.specs.Prelude.{◌≡◌};
+ghost use Rattle.mcs_text.specs.Reading.{words_of};
+ghost use Rattle.mcs_ways.specs.Patterns.{are_matched, is_rest, is_word};
+
 use mcs_text::Words;
 
+/// Whether a word of a pattern stands for the rest.
+fn is_rest(wanted: &[u8]) -> bool
+    ensures { result ≡ is_rest wanted.now }
+{
+    wanted == b"**".as_slice()
+}
+
+/// Whether a word of a pattern stands for a word.
+fn is_word(wanted: &[u8], word: &[u8]) -> bool
+    ensures { result ≡ is_word wanted.now word.now }
+{
+    wanted == b"*".as_slice() || wanted == word
+}
+
 /// Whether a text is one of those for which a pattern stands.
-pub fn is_match(pattern: &[u8], text: &[u8]) -> bool {
-    let mut wanted = Words::new(pattern);
+pub fn is_match(pattern: &[u8], text: &[u8]) -> bool
+    ensures { result ≡ are_matched (words_of pattern.now) (words_of text.now) }
+{
+    let mut left = Words::new(pattern);
     let mut words = Words::new(text);
-    // no pattern has more words than bytes
-    for _ in 0..=pattern.len() {
-        match (wanted.next_word(), words.next_word()) {
-            (Some(b"**"), _) => return true,
-            (None, None) => return true,
-            (Some(b"*"), Some(_)) => {}
-            (Some(word), Some(other)) => {
-                if word != other {
-                    return false;
-                }
-            }
-            (Some(_), None) | (None, Some(_)) => return false,
+    while let Some(wanted) = left.next_word() {
+        if is_rest(wanted) {
+            return true;
+        }
+        let Some(word) = words.next_word() else {
+            return false;
+        };
+        if !is_word(wanted, word) {
+            return false;
         }
     }
-    false
+    !words.has_more()
 }

@@ -1,15 +1,17 @@
 //! The report of a search.
-use crate::answers::text_of;
-use crate::asking::{Asked, Event};
+use crate::asking::Asked;
 use crate::ends::{End, Standing};
 use crate::exploring::{Wanted, watched};
-use crate::patterns::is_match;
+use crate::judging::Sighting;
 use crate::reading::{AskedLine, UserScript, read_script};
+use crate::saying::text_of;
 use crate::scripts::{script_by, turns_of};
-use crate::watching::{Sighting, Watched};
+use crate::verdicts::{Verdict, verdict_on};
+use crate::watching::Watched;
 use mcs_lab::LabFault;
 use mcs_orders::Orders;
 use mcs_sim::Source;
+use mcs_trace::Line;
 use mcs_types::{ObjId, Status};
 use std::alloc::Global;
 use std::io::{Read, Write};
@@ -38,6 +40,7 @@ struct Report<'a, W, S> {
     script: &'a UserScript,
     orders: &'a Orders<'a, Watched<'a>>,
     watched: &'a Watched<'a>,
+    line: Box<Line>,
     to: W,
     saves: &'a mut S,
 }
@@ -174,10 +177,10 @@ impl<'a, W: Write, S: Saves> Report<'a, W, S> {
     }
 
     /// The texts of the answers of an entry, sorted.
-    fn answer_texts(&self, user: usize, number: usize) -> Result<Vec<String>, LabFault> {
+    fn answer_texts(&mut self, user: usize, number: usize) -> Result<Vec<Vec<u8>>, LabFault> {
         let mut texts = Vec::new(self.alloc);
         for told in self.watched.answers.of(user, number) {
-            texts.push(text_of(self.alloc, &told.answer)?)?;
+            texts.push(text_of(self.alloc, &mut self.line, &told.answer)?)?;
         }
         texts.sort()?;
         Ok(texts)
@@ -200,7 +203,7 @@ impl<'a, W: Write, S: Saves> Report<'a, W, S> {
         let mut is_first = true;
         for text in texts.iter() {
             self.to.write_all(if is_first { b" " } else { b" | " })?;
-            self.to.write_all(text.as_bytes())?;
+            self.to.write_all(text.as_slice())?;
             is_first = false;
         }
         if is_first {
@@ -229,50 +232,17 @@ impl<'a, W: Write, S: Saves> Report<'a, W, S> {
         Ok(())
     }
 
-    /// The first answer of an entry that is of a pattern, or that is not.
-    fn find_answer(
-        &self,
-        event: Event,
-        pattern: &[u8],
-        wanted: bool,
-    ) -> Result<Option<Sighting>, LabFault> {
-        let Some(user) = self.script.users.find(event.thread) else {
-            return Ok(None);
-        };
-        let number = event.number.saturating_sub(1);
-        for told in self.watched.answers.of(user, number) {
-            let text = text_of(self.alloc, &told.answer)?;
-            if is_match(pattern, text.as_bytes()) == wanted {
-                return Ok(Some(Sighting {
-                    place: told.place,
-                    turn: Some(told.turn),
-                }));
-            }
-        }
-        Ok(None)
-    }
-
-    /// What comes of a question: whether it holds, and where that is to be seen.
-    fn judged(
-        &self,
-        number: usize,
-        line: &AskedLine,
-    ) -> Result<(bool, Option<Sighting>), LabFault> {
-        match &line.asked {
-            Asked::Idle { .. } | Asked::Again { .. } => Ok((true, None)),
-            Asked::Answer { event, pattern } => {
-                let failed = self.find_answer(*event, pattern, false)?;
-                Ok((failed.is_none(), failed))
-            }
-            Asked::Some { event, pattern } => {
-                let found = self.find_answer(*event, pattern, true)?;
-                Ok((found.is_some(), found))
-            }
-            Asked::Never { .. } | Asked::Apart { .. } | Asked::Before { .. } => {
-                let failed = self.watched.failed.get(number).copied().flatten();
-                Ok((failed.is_none(), failed))
-            }
-        }
+    /// What comes of a question.
+    fn judged(&mut self, number: usize, line: &AskedLine) -> Result<Verdict, LabFault> {
+        let users = &self.script.users;
+        verdict_on(
+            self.alloc,
+            &mut self.line,
+            users,
+            self.watched,
+            number,
+            line,
+        )
     }
 
     /// A question, and what comes of it. False where it does not hold.
@@ -280,7 +250,7 @@ impl<'a, W: Write, S: Saves> Report<'a, W, S> {
         if matches!(line.asked, Asked::Idle { .. } | Asked::Again { .. }) {
             return Ok(true);
         }
-        let (holds, seen) = self.judged(number, line)?;
+        let Verdict { holds, seen } = self.judged(number, line)?;
         let count = number.saturating_add(1);
         write!(self.to, "question {count}: ")?;
         self.to.write_all(line.text.as_slice())?;
@@ -346,6 +316,7 @@ pub fn explore_script<R: Read, W: Write + Drop, S: Saves>(
         script: &script,
         orders: &orders,
         watched: orders.watch(),
+        line: Box::new(alloc, Line::new())?,
         to,
         saves,
     };

@@ -2,8 +2,9 @@
 ghost use Rattle.std.specs.Prelude.{◌≡◌, ◌++◌, IfOk, OnOk};
 ghost use Rattle.mcs_explore.specs.Search.{listed, path_of};
 
+use crate::judging::Sighting;
 use crate::reading::UserScript;
-use crate::watching::{Sighting, Watched};
+use crate::watching::Watched;
 use mcs_book::Book;
 use mcs_lab::LabFault;
 use mcs_orders::{Orders, OrdersFault, Turn, Walk, retrace};

@@ -2,4 +2,4 @@ use Rattle.mcs_ways.proofs.Keeping.{kept-state}
 use Rattle.mcs_ways.proofs.watching.WatchedWatch.see_state.Goals as goal
 
 pub returns : goal.returns
-returns c = kept-state c.note_state.result _ _ _ _ _ _ _ _ _ c.judge_state.ensures.ends c.judge_state.ensures.answers c.note_state.ensures
+returns c = kept-state c.note_state.result _ _ _ _ _ _ _ _ _ _ c.judge.ensures c.note_state.ensures

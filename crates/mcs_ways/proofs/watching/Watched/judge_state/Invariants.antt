@@ -1,8 +1,0 @@
-use Rattle.std.proofs.Common.{◌≡◌}
-use Rattle.mcs_ways.proofs.watching.Watched.judge_state.Given as goal
-
-abbrev pub invariant-loop-number : goal.invariant-loop-number
-invariant-loop-number l = record {
-  ends : l.self.ends ≡ l.fn.self.ends;
-  answers : l.self.answers ≡ l.fn.self.answers;
-}
