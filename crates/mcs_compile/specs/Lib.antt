@@ -1,3 +1,5 @@
 pub mod Entries
 pub mod Heads
 pub mod Scripts
+pub mod Mixing
+pub mod Reading

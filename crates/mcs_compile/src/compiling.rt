@@ -1,5 +1,9 @@
 //! A plan, line by line, to a script.
-ghost use Rattle.std.specs.Prelude.{◌≡◌, ◌≤◌, ◌<◌, IfOk, IfErr, length};
+ghost use Rattle.std.specs.Prelude.{◌≡◌, ◌≤◌, ◌<◌, ◌+◌, ◌^◌, true, false, None, Some, Err, IfOk, IfErr, OnOk, OnErr, length};
+ghost use Rattle.mcs_names.specs.declared.fault.Why.{Why};
+ghost use Rattle.mcs_compile.specs.declared.compiling.TheConstants.{LINE_BYTES};
+ghost use Rattle.mcs_compile.specs.Mixing.{entries_of, is_steps, why_not};
+ghost use Rattle.mcs_compile.specs.Reading.{IsFirstRefused, SaysLines, TakesLine};
 ghost use Rattle.mcs_compile.specs.Scripts.{HasBootOfPlan};
 
 use crate::script::Script;
@@ -20,7 +24,7 @@ const LINES: usize = 900_000;
 /// Whether steps or lines of users stood so far.
 #[derive(Clone, Copy)]
 enum Entries {
-    None,
+    Nothing,
     Steps,
     Users,
 }
@@ -34,7 +38,10 @@ struct Compiler {
 }
 
 /// Limit for a line that is too long.
-fn is_short(line: &str) -> Result<(), Why> {
+fn is_short(line: &str) -> Result<(), Why>
+    ensures ok { OnOk result (length line.now ≤ LINE_BYTES) }
+    ensures told { OnErr result (LINE_BYTES < length line.now) }
+{
     if line.len() <= LINE_BYTES {
         return Ok(());
     }
@@ -74,7 +81,9 @@ fn begins_steps(line: &str) -> bool {
 }
 
 /// How many lines stand before the first step.
-fn count_before(lines: &[&str]) -> usize {
+fn count_before(lines: &[&str]) -> usize
+    ensures { result ≤ length lines.now }
+{
     for (i, line) in lines.iter().enumerate() {
         if begins_steps(line) {
             return i;
@@ -90,7 +99,9 @@ fn read_before(
     front: &mut Vec<String>,
     number: u64,
     line: &str,
-) -> Result<(), Why> {
+) -> Result<(), Why>
+    ensures { OnOk result (TakesLine number plan.old plan.new) }
+{
     is_short(line)?;
     let (code, comment) = split_comment(line);
     let words = split_words(alloc, code)?;
@@ -220,21 +231,25 @@ impl Compiler {
 
     /// Mixed where lines of the other kind stood before, PassiveUser for one of a user where a thread is
     /// passive.
-    fn goes_with(&mut self, head: Head) -> Result<(), Why> {
+    fn goes_with(&mut self, head: Head) -> Result<(), Why>
+        ensures may { OnOk result (why_not self.old head.core ≡ None) }
+        ensures told { IfErr result (λ why. why_not self.old head.core ≡ Some why) }
+        ensures entries { OnOk result
+            (self.new ≡ record self.old { entries = entries_of head.core }) }
+        ensures unchanged { OnErr result (self.new ≡ self.old) }
+    {
         match (self.entries, head.core) {
-            (Entries::Users, Some(_)) => return Err(Why::Mixed),
-            (Entries::Steps, None) => return Err(Why::Mixed),
-            _ => {}
+            (Entries::Users, Some(_)) | (Entries::Steps, None) => Err(Why::Mixed),
+            (_, Some(_)) => {
+                self.entries = Entries::Steps;
+                Ok(())
+            }
+            (_, None) if !self.laid.plan.passives.is_empty() => Err(Why::PassiveUser),
+            (_, None) => {
+                self.entries = Entries::Users;
+                Ok(())
+            }
         }
-        if head.core.is_some() {
-            self.entries = Entries::Steps;
-            return Ok(());
-        }
-        if !self.laid.plan.passives.is_empty() {
-            return Err(Why::PassiveUser);
-        }
-        self.entries = Entries::Users;
-        Ok(())
     }
 
     /// The line of a step or of a user.
@@ -248,7 +263,11 @@ impl Compiler {
     }
 
     /// What is wanted of the step before.
-    fn add_wanted(&mut self, alloc: Global, words: &[&str]) -> Result<(), Why> {
+    fn add_wanted(&mut self, alloc: Global, words: &[&str]) -> Result<(), Why>
+        ensures step { OnOk result (is_steps self.old.entries ≡ true) }
+        ensures none { is_steps self.old.entries ≡ false → result ≡ Err Why.NoStep }
+        ensures entries { self.new.entries ≡ self.old.entries }
+    {
         let Entries::Steps = self.entries else {
             return Err(Why::NoStep);
         };
@@ -284,19 +303,35 @@ impl Compiler {
     }
 }
 
+/// Takes the line behind so many, before the first step.
+#[tactic(auto, using(crate::proofs::Said::next_said))]
+fn read_next(
+    alloc: Global,
+    plan: &mut Plan,
+    front: &mut Vec<String>,
+    count: usize,
+    line: &str,
+) -> Result<(), PlanFault>
+    requires { count + 1 < 2 ^ 64 }
+    ensures said { OnOk result (SaysLines count plan.old → SaysLines (count + 1) plan.new) }
+    ensures line { IfErr result (λ fault. fault.line ≡ count + 1) }
+{
+    let number = count as u64 + 1;
+    at(number, read_before(alloc, plan, front, number, line))
+}
+
 /// The lines of a plan before its first step, and the comments among them.
-fn read_plan(alloc: Global, lines: &[&str], before: usize) -> Result<(Plan, Vec<String>), PlanFault>
-    ensures { IfErr result (λ fault. (1 ≤ fault.line) × (fault.line ≤ before)) }
+#[tactic(auto, using(crate::proofs::Said::first_refused))]
+fn read_plan(alloc: Global, lines: &[&str]) -> Result<(Plan, Vec<String>), PlanFault>
+    ensures said { IfOk result (λ read. SaysLines (length lines.now) read.0) }
+    // those before a line that is refused were read
+    ensures first { IfErr result (λ fault. IsFirstRefused (length lines.now) fault.line) }
 {
     let mut plan = Plan::new(alloc);
     let mut front = Vec::new(alloc);
-    for i in 0..before {
-        if let Some(line) = lines.get(i) {
-            let number = (i as u64).saturating_add(1);
-            at(
-                number,
-                read_before(alloc, &mut plan, &mut front, number, line),
-            )?;
+    for count in 0..lines.len() {
+        if let Err(fault) = read_next(alloc, &mut plan, &mut front, count, lines[count]) {
+            return Err(fault);
         }
     }
     Ok((plan, front))
@@ -346,12 +381,12 @@ fn compile_lines(alloc: Global, lines: &[&str]) -> Result<Script, PlanFault>
     ensures { IfOk result HasBootOfPlan }
 {
     let before = count_before(lines);
-    let (plan, front) = read_plan(alloc, lines, before)?;
+    let (plan, front) = read_plan(alloc, &lines[..before])?;
     let laid = Laid::new(alloc, plan)?;
     let mut compiler = Compiler {
         laid,
         lines: Vec::new(alloc),
-        entries: Entries::None,
+        entries: Entries::Nothing,
     };
     compiler.open_all(alloc)?;
     read_steps(alloc, &mut compiler, lines, before)?;

@@ -1,2 +1,3 @@
 pub mod Naming
+pub mod Numbers
 pub mod Telling

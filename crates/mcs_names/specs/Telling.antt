@@ -1,5 +1,5 @@
 -- What is told of a name that is refused.
-use Rattle.std.specs.Prelude.{◌≡◌, ◌<◌, ◌≤◌, ◌++◌, ◌∷◌, ℕ, true, false, List, [], Some, None, IsSome, string_bytes}
+use Rattle.std.specs.Prelude.{◌≡◌, ◌≢◌, ◌<◌, ◌≤◌, ◌++◌, ◌∷◌, ℕ, true, false, List, [], Some, None, IsSome, string_bytes}
 use Rattle.mcs_types.specs.declared.id.ObjId.{ObjId}
 use Rattle.mcs_types.specs.declared.id.Kind.{Kind}
 use Rattle.mcs_types.specs.Ids.{same_kind}
@@ -53,6 +53,13 @@ HasNoneOfKind names kind word = (object : ObjId) → find names word ≡ Some ob
 abbrev pub TellsMissing : List (List ℕ) → Why → Type 0
 TellsMissing words (why.Missing wanted) = words ≡ []
 TellsMissing words _ = ⊥
+
+-- the fault of a line whose next word is not the one that is wanted: it ends, or has another, which is told
+abbrev pub TellsOther : List ℕ → List (List ℕ) → Why → Type 0
+TellsOther wanted [] (why.Missing missing) = Unit {0}
+TellsOther wanted (word ∷ words) (why.Not told missing) = (string_bytes told ≡ word) × (word ≢ wanted)
+TellsOther wanted (word ∷ words) why.OutOfMemory = word ≢ wanted
+TellsOther wanted words _ = ⊥
 
 -- the fault of a line with a word too many, which it tells
 abbrev pub TellsTooMany : List (List ℕ) → Why → Type 0

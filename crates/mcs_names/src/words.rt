@@ -1,8 +1,9 @@
 //! The words of a line of a plan.
-ghost use Rattle.std.specs.Prelude.{◌≡◌, ◌≤◌, ◌∷◌, [], true, IfOk, IfErr, OnOk, OnSome, IfSome, IfNone, option_map, slice_get, length};
+ghost use Rattle.std.specs.Prelude.{◌≡◌, ◌≤◌, ◌∷◌, [], true, IfOk, IfErr, OnOk, OnSome, IfSome, IfNone, option_map, slice_get, slice_index, ◌==◌, length};
 ghost use Rattle.std.specs.List.{list_all};
 ghost use Rattle.mcs_names.specs.Naming.{is_letter, is_name_byte, is_name, begins_with_digit, texts};
-ghost use Rattle.mcs_names.specs.Telling.{TellsNot, TellsMissing, TellsTooMany, TakesNumber};
+ghost use Rattle.mcs_names.specs.Numbers.{number_in, number_of, ReadsNumber, TellsNoNumber};
+ghost use Rattle.mcs_names.specs.Telling.{TellsNot, TellsMissing, TellsTooMany, TellsOther, TakesNumber};
 
 use crate::fault::Why;
 use std::alloc::{AllocError, Global};
@@ -80,7 +81,10 @@ impl<'a> Words<'a> {
     }
 
     /// Takes this word. Missing where none is left, Not for another.
-    pub fn expect(&mut self, alloc: Global, wanted: &'static str) -> Result<(), Why> {
+    pub fn expect(&mut self, alloc: Global, wanted: &'static str) -> Result<(), Why>
+        ensures ok { OnOk result (self.old ≡ wanted.now ∷ self.new) }
+        ensures told { IfErr result (TellsOther wanted.now self.old) }
+    {
         let word = self.need(wanted)?;
         if word == wanted {
             Ok(())
@@ -103,10 +107,12 @@ impl<'a> Words<'a> {
     }
 
     /// Takes a number, in decimal or hexadecimal. Missing where no word is left, Not where it is none, or above the limit.
-    #[tactic(auto, using(crate::proofs::Entries::takes_number))]
+    #[tactic(auto, using(crate::proofs::Entries::takes_number, crate::proofs::Spelled::reads_number, crate::proofs::Spelled::too_large, crate::proofs::Spelled::no_number))]
     pub fn number(&mut self, alloc: Global, wanted: &'static str, limit: u64) -> Result<u64, Why>
         ensures taken { OnOk result (TakesNumber self.old self.new) }
         ensures within { IfOk result (λ n. n ≤ limit) }
+        ensures value { IfOk result (λ n. ReadsNumber limit self.old n self.new) }
+        ensures told { IfErr result (TellsNoNumber limit self.old) }
     {
         let word = self.need(wanted)?;
         if let Some(n) = number(word) {
@@ -154,21 +160,41 @@ fn begins_with_digit(word: &str) -> bool
     }
 }
 
+/// Whether a word begins with a plus, which may stand before digits elsewhere.
+fn begins_with_plus(word: &str) -> bool
+    ensures { result ≡ (slice_index word.now 0 == 43) }
+{
+    match word.as_bytes() {
+        [] => false,
+        [first, ..] => *first == 43,
+    }
+}
+
+/// The number that digits of this base spell. None where they are no digits of it, or spell more than 64 bits.
+#[tactic(auto, using(crate::proofs::Spelled::parsed, crate::proofs::Spelled::signed))]
+fn number_in(radix: u32, digits: &str) -> Option<u64>
+    requires lower { 2 ≤ radix }
+    requires upper { radix ≤ 36 }
+    ensures { result ≡ number_in radix digits.now }
+{
+    if begins_with_plus(digits) {
+        return None;
+    }
+    u64::from_str_radix(digits, radix).ok()
+}
+
 /// A number of 64 bits: decimal, or hexadecimal behind `0x`. None where the word is none.
+#[tactic(auto, using(crate::proofs::Spelled::hexadecimal, crate::proofs::Spelled::not_hexadecimal))]
 pub fn number(word: &str) -> Option<u64>
-    ensures { OnSome result (begins_with_digit word.now ≡ true) }
+    ensures digit { OnSome result (begins_with_digit word.now ≡ true) }
+    ensures value { result ≡ number_of word.now }
 {
     if !begins_with_digit(word) {
         return None;
     }
     match word.strip_prefix("0x") {
-        None => word.parse::<u64>().ok(),
-        Some(digits) => {
-            if !digits.chars().all(|c| c.is_ascii_hexdigit()) {
-                return None;
-            }
-            u64::from_str_radix(digits, 16).ok()
-        }
+        None => number_in(10, word),
+        Some(digits) => number_in(16, digits),
     }
 }
 

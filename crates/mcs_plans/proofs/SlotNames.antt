@@ -1,5 +1,5 @@
 -- The slots of a space as the entries of a map.
-use Rattle.std.proofs.Common.{◌≡◌, ◌++◌, ◌∷◌, ℕ, List, [], Option, Some, None, suc, zero, refl, sym, ◌∙◌, slice_get, option_map, option_and_then, String, string_bytes, string_eq, bytes_eq, is_some, length, ap}
+use Rattle.std.proofs.Common.{◌≡◌, ◌++◌, ◌∷◌, ℕ, List, [], Option, Some, None, ◌∙◌, slice_get, option_map, option_and_then, String, string_bytes, string_eq, bytes_eq, is_some, length, ap}
 use Rattle.std.proofs.lemmas.List.{length-map}
 use Rattle.std.proofs.lemmas.Option.{slice_get-map}
 use Rattle.std.specs.Map.{lookup}

@@ -1,4 +1,8 @@
+pub mod Capabilities
+pub mod Lines
 pub mod Making
+pub mod Saying
 pub mod Slots
 pub mod Telling
+pub mod ThreadLines
 pub mod Threads

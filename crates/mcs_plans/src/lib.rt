@@ -1,6 +1,7 @@
 //! What a plan says before its first step: objects by names, threads, and what each space holds.
 #![tactic(auto)]
 
+mod capabilities;
 mod plan;
 mod reading;
 mod rights;

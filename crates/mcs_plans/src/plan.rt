@@ -2,6 +2,7 @@
 ghost use Rattle.std.specs.Prelude.{◌≡◌, ◌≤◌, ◌++◌, ◌∷◌, [], None, IfOk, IfErr, OnOk, OnErr, is_some, min, option_copied, option_and_then, option_map};
 ghost use Rattle.std.specs.Option.{unwrap_or};
 ghost use Rattle.mcs_names.specs.Naming.{find, limit_of};
+ghost use Rattle.mcs_plans.specs.Saying.{nothing_said, said};
 ghost use Rattle.mcs_plans.specs.Making.{all_leaves, is_of_thread, of_starter, of_spaces, made_of, TellsMade};
 ghost use Rattle.mcs_plans.specs.Slots.{most_slots, slots_of, slot_count, cap_at, leaves_of, AddsSlot};
 ghost use Rattle.mcs_plans.specs.Telling.{TellsNoCapability, MayNotHave};
@@ -88,7 +89,10 @@ fn most_slots(radix: Option<u8>) -> u32
 
 impl Space {
     /// No slots.
-    pub fn new(alloc: Global, radix: Option<u8>) -> Space {
+    pub fn new(alloc: Global, radix: Option<u8>) -> Space
+        ensures radix { result.radix ≡ radix }
+        ensures slots { slots_of result ≡ [] }
+    {
         Space {
             radix,
             slots: IndexMap::new(alloc),
@@ -96,7 +100,7 @@ impl Space {
     }
 
     /// Whether it has a slot of this name.
-    fn has(&self, name: &str) -> bool
+    pub fn has(&self, name: &str) -> bool
         ensures { result ≡ is_some (find (slots_of self.now) name.now) }
     {
         self.slots.contains_key(name)
@@ -121,6 +125,7 @@ impl Space {
         ensures added { OnOk result (AddsSlot self.old name.now slot self.new) }
         ensures told { IfErr result (MayNotHave self.old name.now) }
         ensures unchanged { OnErr result (slots_of self.new ≡ slots_of self.old) }
+        ensures radix { self.new.radix ≡ self.old.radix }
     {
         if self.has(name) {
             return Err(Why::Twice {
@@ -192,7 +197,9 @@ impl Space {
 
 impl Plan {
     /// An empty plan.
-    pub fn new(alloc: Global) -> Plan {
+    pub fn new(alloc: Global) -> Plan
+        ensures { said result ≡ nothing_said }
+    {
         Plan {
             cores: None,
             names: Names::new(alloc),

@@ -1,12 +1,22 @@
 //! The lines of a plan before its first step.
-ghost use Rattle.std.specs.Prelude.{◌≡◌, ◌⊎◌, true, false, IfOk, IfErr, OnOk, OnErr};
+ghost use Rattle.std.specs.Prelude.{◌≡◌, ◌⊎◌, true, false, IfOk, IfErr, OnOk, OnErr, ◌++◌, ◌≢◌, [], ◌≤◌, length, slice_get, Some, string_bytes, option_map};
 ghost use Rattle.std.specs.List.{list_any};
 ghost use Rattle.mcs_plans.specs.Threads.{NamesSpace, meets, TellsBound};
+ghost use Rattle.mcs_types.specs.declared.id.Kind.TheVariants.{CNode, Context};
+ghost use Rattle.mcs_types.specs.declared.id.Kind.TheVariants as of_kind;
+ghost use Rattle.mcs_plans.specs.ThreadLines.{core_then, receiving_then, part_then, next_part, parts_then, plain_form, form_said, own_context, with_own_context, own_place, with_own_space, thread_more, with_passive, thread_line, LineAdds, ReadsLine, says_has, on_then, radix_then, AddsContext, AddsSpace, said_receiving, form_of};
+ghost use Rattle.mcs_plans.specs.Saying.{said, with_slot, with_object, with_context, with_space, with_thread};
+ghost use Rattle.mcs_plans.specs.Lines.{NoSlotMore, has_slot, usual_name, slot_name, given_name, says_as, held_by, adds_slot, adds_slots, adds_objects, HasMore, TiesMore, SaysCores, TellsNoUsual, TellsNoGiven, TellsNoSlotName, TellsNoSlot};
+ghost use Rattle.mcs_plans.specs.Capabilities.{TellsNoCap};
+ghost use Rattle.mcs_plans.specs.Making.{made_of, TellsMade};
+ghost use Rattle.mcs_names.specs.Naming.{limit_of, next_of, texts};
+ghost use Rattle.mcs_names.specs.Numbers.{ReadsNumber, TellsNoNumber};
+ghost use Rattle.mcs_names.specs.Telling.{MayAdd, MayNotAdd};
 
+use crate::capabilities::{cap_of, parts_of, written_as};
 use crate::plan::{Passive, Plan, Slot, Space, Thread, Tie};
-use crate::rights::rights_of;
-use mcs_names::{Names, Why, Words, is_name, not, number};
-use mcs_types::{Badge, CORES, Cap, CoreId, Guard, Kind, ObjId, Prio, RADIX, Rights};
+use mcs_names::{Names, Why, Words, is_name, not};
+use mcs_types::{CORES, Cap, CoreId, Kind, ObjId, Prio, RADIX};
 use std::alloc::{AllocError, Global};
 
 /// What the line of a thread says.
@@ -29,76 +39,21 @@ struct Receiving {
 }
 
 /// A text of a name with an ending.
-fn with_end(alloc: Global, name: &str, end: &str) -> Result<String, AllocError> {
+fn with_end(alloc: Global, name: &str, end: &str) -> Result<String, AllocError>
+    ensures { IfOk result (λ whole. string_bytes whole ≡ name.now ++ end.now) }
+{
     let mut whole = String::from_str(alloc, name)?;
     whole.push_str(end)?;
     Ok(whole)
 }
 
 /// A number of 8 bits.
-fn byte(alloc: Global, words: &mut Words<'_>, wanted: &'static str, limit: u8) -> Result<u8, Why> {
+fn byte(alloc: Global, words: &mut Words<'_>, wanted: &'static str, limit: u8) -> Result<u8, Why>
+    ensures value { IfOk result (λ n. ReadsNumber limit words.old n words.new) }
+    ensures told { IfErr result (TellsNoNumber limit words.old) }
+{
     let n = words.number(alloc, wanted, limit as u64)?;
     Ok(n.min(255) as u8)
-}
-
-/// Whether a capability to this kind carries rights and a badge.
-fn is_badged(kind: Kind) -> bool {
-    matches!(kind, Kind::Endpoint | Kind::Notification)
-}
-
-/// The parts of a capability's word: `name:rights=badge`.
-fn parts_of<'a>(word: &'a str) -> (&'a str, Option<&'a str>, Option<&'a str>) {
-    let (front, badge) = match word.split_once('=') {
-        None => (word, None),
-        Some((front, badge)) => (front, Some(badge)),
-    };
-    match front.split_once(':') {
-        None => (front, None, badge),
-        Some((name, rights)) => (name, Some(rights), badge),
-    }
-}
-
-/// The capability that a word spells: an object, and for an endpoint or a notification its rights (all of them where none are
-/// said) and its badge. NoName where there is no such object, Not where the rights or the badge are none.
-fn cap_of(alloc: Global, names: &Names, word: &str) -> Result<Cap, Why> {
-    let (name, rights, badge) = parts_of(word);
-    let obj = names.object(alloc, name)?;
-    let is_badged = is_badged(obj.kind);
-    if !is_badged && (rights.is_some() || badge.is_some()) {
-        return Err(not(
-            alloc,
-            word,
-            "a capability: only endpoints and notifications have rights",
-        ));
-    }
-    let spelled = match rights {
-        Some(rights) => rights_of(rights),
-        None => Rights::new(if is_badged { 15 } else { 0 }),
-    };
-    let Some(rights) = spelled else {
-        return Err(not(
-            alloc,
-            word,
-            "a capability: its rights are some of rwgp, or -",
-        ));
-    };
-    let badge = match badge {
-        None => Some(0),
-        Some(badge) => number(badge),
-    };
-    let Some(badge) = badge else {
-        return Err(not(
-            alloc,
-            word,
-            "a capability: its badge is a number of 64 bits",
-        ));
-    };
-    Ok(Cap {
-        obj,
-        rights,
-        badge: Badge(badge),
-        guard: Guard { bits: 0, value: 0 },
-    })
 }
 
 /// The fault of what is bound already.
@@ -111,36 +66,102 @@ fn bound(alloc: Global, word: &str) -> Why
     }
 }
 
-/// How a plan wrote a slot: its word, and its name where that does not follow from it.
-fn written_as(alloc: Global, word: &str, name: &str) -> Result<String, AllocError> {
-    let mut written = String::from_str(alloc, word)?;
-    if name != word && name != parts_of(word).0 {
-        written.push_str(" as ")?;
-        written.push_str(name)?;
+/// Whether the next word is `as`.
+#[tactic(auto, using(crate::proofs::LineWords::next_is_as, crate::proofs::LineWords::no_next))]
+fn says_as(words: &Words<'_>) -> bool
+    ensures { result ≡ says_as words.now }
+{
+    match words.peek() {
+        Some(word) => word == "as",
+        None => false,
     }
-    Ok(written)
+}
+
+/// The name behind `as`.
+fn given_name(alloc: Global, words: &mut Words<'_>) -> Result<String, Why>
+    ensures name { IfOk result (λ n. given_name words.old ≡ Some (string_bytes n, words.new)) }
+    ensures told { IfErr result (TellsNoGiven words.old) }
+{
+    words.next();
+    let name = words.need("a name")?;
+    if !is_name(name) {
+        return Err(not(alloc, name, "a name"));
+    }
+    Ok(String::from_str(alloc, name)?)
+}
+
+/// What a slot is to hold: a capability, or nothing.
+fn held_by(alloc: Global, names: &Names, word: &str) -> Result<Option<Cap>, Why>
+    ensures held { IfOk result (λ cap. held_by names.now word.now ≡ Some cap) }
+    ensures told { IfErr result (TellsNoCap names.now word.now) }
+{
+    if word == "-" {
+        return Ok(None);
+    }
+    Ok(Some(cap_of(alloc, names, word)?))
+}
+
+/// The radix of a CNode, where the line says one.
+#[tactic(auto, using(crate::proofs::ThreadWords::radix_read, crate::proofs::ThreadWords::radix_none))]
+fn read_radix(alloc: Global, words: &mut Words<'_>) -> Result<Option<u8>, Why>
+    ensures { IfOk result (λ r. radix_then words.old ≡ Some (r, words.new)) }
+{
+    if words.peek().is_none() {
+        return Ok(None);
+    }
+    let n = byte(alloc, words, "a radix, 1 to 8", RADIX)?;
+    if n == 0 {
+        return Err(not(alloc, "0", "a radix, 1 to 8"));
+    }
+    Ok(Some(n))
+}
+
+/// Whether the next word is `has`.
+#[tactic(auto, using(crate::proofs::ThreadWords::next_is_has, crate::proofs::ThreadWords::no_next_has))]
+fn says_has(words: &Words<'_>) -> bool
+    ensures { result ≡ says_has words.now }
+{
+    match words.peek() {
+        Some(word) => word == "has",
+        None => false,
+    }
 }
 
 impl Plan {
+    /// An object more.
+    #[tactic(auto, using(crate::proofs::Added::object_added))]
+    fn add_object(&mut self, alloc: Global, kind: Kind, name: &str) -> Result<ObjId, Why>
+        ensures object { IfOk result (λ o. o ≡ next_of kind self.old.names) }
+        ensures added { OnOk result (said self.new ≡ with_object kind name.now (said self.old)) }
+        ensures may { OnOk result (MayAdd self.old.names kind name.now) }
+        ensures told { IfErr result (MayNotAdd self.old.names kind name.now) }
+        ensures unchanged { OnErr result (said self.new ≡ said self.old) }
+    {
+        let object = self.names.add(alloc, kind, name)?;
+        Ok(object)
+    }
+
     /// Objects of a kind, each with a name.
-    fn read_objects(
-        &mut self,
-        alloc: Global,
-        words: &mut Words<'_>,
-        kind: Kind,
-    ) -> Result<(), Why> {
-        let first = words.need("a name")?;
-        self.names.add(alloc, kind, first)?;
+    fn read_objects(&mut self, alloc: Global, words: &mut Words<'_>, kind: Kind) -> Result<(), Why>
+        ensures some { OnOk result (words.old ≢ []) }
+        ensures added { OnOk result (said self.new ≡ adds_objects kind words.old (said self.old)) }
+    {
+        if words.peek().is_none() {
+            return Err(Why::Missing { wanted: "a name" });
+        }
         for _ in 0..words.len() {
             if let Some(name) = words.next() {
-                self.names.add(alloc, kind, name)?;
+                self.add_object(alloc, kind, name)?;
             }
         }
         Ok(())
     }
 
     /// The number of a core. Not where there are fewer cores.
-    fn read_core(&self, alloc: Global, words: &mut Words<'_>) -> Result<u8, Why> {
+    #[tactic(auto, using(crate::proofs::ThreadWords::core_read))]
+    fn read_core(&self, alloc: Global, words: &mut Words<'_>) -> Result<u8, Why>
+        ensures { IfOk result (λ n. core_then self.now.cores words.old ≡ Some (n, words.new)) }
+    {
         words.expect(alloc, "core")?;
         let cores = self.cores.unwrap_or(CORES);
         byte(
@@ -152,7 +173,12 @@ impl Plan {
     }
 
     /// Adds a context.
-    fn add_context(&mut self, alloc: Global, name: &str, core: u8) -> Result<ObjId, Why> {
+    fn add_context(&mut self, alloc: Global, name: &str, core: u8) -> Result<ObjId, Why>
+        ensures context { IfOk result (λ o. o ≡ next_of Context self.old.names) }
+        ensures added { OnOk result
+            (said self.new ≡ with_context name.now (record { 0 = core }) (said self.old)) }
+        ensures limit { OnOk result (made_of self.new Context ≤ limit_of Context) }
+    {
         let context = self.names.add(alloc, Kind::Context, name)?;
         self.contexts.push(CoreId(core))?;
         self.keeps_limit(Kind::Context)?;
@@ -160,7 +186,11 @@ impl Plan {
     }
 
     /// Adds a space.
-    fn add_space(&mut self, alloc: Global, name: &str, radix: Option<u8>) -> Result<usize, Why> {
+    fn add_space(&mut self, alloc: Global, name: &str, radix: Option<u8>) -> Result<usize, Why>
+        ensures place { IfOk result (λ place. place ≡ length self.old.spaces.items) }
+        ensures added { OnOk result (said self.new ≡ with_space name.now radix (said self.old)) }
+        ensures limit { OnOk result (made_of self.new CNode ≤ limit_of CNode) }
+    {
         self.names.add(alloc, Kind::CNode, name)?;
         let place = self.spaces.len();
         self.spaces.push(Space::new(alloc, radix))?;
@@ -168,37 +198,47 @@ impl Plan {
         Ok(place)
     }
 
-    /// The line of a context: `context NAME` or `context NAME on core N`.
-    fn read_context(&mut self, alloc: Global, words: &mut Words<'_>) -> Result<(), Why> {
-        let name = words.need("a name")?;
-        let mut core = 0;
-        if words.peek().is_some() {
-            words.expect(alloc, "on")?;
-            core = self.read_core(alloc, words)?;
+    /// The core of a context: 0 where the line says none.
+    #[tactic(auto, using(crate::proofs::ThreadWords::on_read, crate::proofs::ThreadWords::on_none))]
+    fn read_on(&self, alloc: Global, words: &mut Words<'_>) -> Result<u8, Why>
+        ensures { IfOk result (λ n. on_then self.now.cores words.old ≡ Some (n, words.new)) }
+    {
+        if words.peek().is_none() {
+            return Ok(0);
         }
+        words.expect(alloc, "on")?;
+        self.read_core(alloc, words)
+    }
+
+    /// The line of a context: `context NAME` or `context NAME on core N`.
+    #[tactic(auto, using(crate::proofs::ThreadWords::context_read))]
+    fn read_context(&mut self, alloc: Global, words: &mut Words<'_>) -> Result<(), Why>
+        ensures added { OnOk result (AddsContext words.old (said self.old) (said self.new)) }
+    {
+        let name = words.need("a name")?;
+        let core = self.read_on(alloc, words)?;
         words.end(alloc)?;
         self.add_context(alloc, name, core)?;
         Ok(())
     }
 
     /// The line of a CNode: `cnode NAME` or `cnode NAME RADIX`.
-    fn read_cnode(&mut self, alloc: Global, words: &mut Words<'_>) -> Result<(), Why> {
+    #[tactic(auto, using(crate::proofs::ThreadWords::space_read))]
+    fn read_cnode(&mut self, alloc: Global, words: &mut Words<'_>) -> Result<(), Why>
+        ensures added { OnOk result (AddsSpace words.old (said self.old) (said self.new)) }
+    {
         let name = words.need("a name")?;
-        let mut radix = None;
-        if words.peek().is_some() {
-            let n = byte(alloc, words, "a radix, 1 to 8", RADIX)?;
-            if n == 0 {
-                return Err(not(alloc, "0", "a radix, 1 to 8"));
-            }
-            radix = Some(n);
-        }
+        let radix = read_radix(alloc, words)?;
         words.end(alloc)?;
         self.add_space(alloc, name, radix)?;
         Ok(())
     }
 
     /// What a passive thread receives with: `on EP with REPLY`.
-    fn read_receiving(alloc: Global, words: &mut Words<'_>) -> Result<Receiving, Why> {
+    #[tactic(auto, using(crate::proofs::ThreadWords::receiving_read))]
+    fn read_receiving(alloc: Global, words: &mut Words<'_>) -> Result<Receiving, Why>
+        ensures { IfOk result (λ r. receiving_then words.old ≡ Some (said_receiving r, words.new)) }
+    {
         words.expect(alloc, "on")?;
         let endpoint = words.need("the name of a capability")?;
         words.expect(alloc, "with")?;
@@ -210,37 +250,82 @@ impl Plan {
     }
 
     /// A part of a thread's line.
+    #[tactic(auto, using(crate::proofs::ThreadWords::number_read, crate::proofs::ThreadWords::behind_read, crate::proofs::ThreadWords::word_read))]
     fn read_part(
         &self,
         alloc: Global,
         words: &mut Words<'_>,
         part: &str,
-        form: &mut ThreadForm,
-    ) -> Result<(), Why> {
+        form: ThreadForm,
+    ) -> Result<ThreadForm, Why>
+        ensures { IfOk result (λ f. part_then self.now.cores part.now words.old (form_of form)
+            ≡ Some (form_of f, words.new)) }
+    {
         match part {
-            "prio" => form.priority = Some(byte(alloc, words, "a priority, 0 to 255", 255)?),
-            "max" => form.maximum = byte(alloc, words, "a priority, 0 to 255", 255)?,
-            "on" => form.core = self.read_core(alloc, words)?,
-            "stopped" => form.runs = false,
+            "prio" => {
+                let priority = byte(alloc, words, "a priority, 0 to 255", 255)?;
+                Ok(ThreadForm {
+                    priority: Some(priority),
+                    ..form
+                })
+            }
+            "max" => {
+                let maximum = byte(alloc, words, "a priority, 0 to 255", 255)?;
+                Ok(ThreadForm { maximum, ..form })
+            }
+            "on" => {
+                let core = self.read_core(alloc, words)?;
+                Ok(ThreadForm { core, ..form })
+            }
+            "stopped" => Ok(ThreadForm {
+                runs: false,
+                ..form
+            }),
             "without" => {
                 words.expect(alloc, "context")?;
-                form.has_context = false;
+                Ok(ThreadForm {
+                    has_context: false,
+                    ..form
+                })
             }
             "in" => {
                 let space = words.need("the name of a space")?;
-                form.space = Some(String::from_str(alloc, space)?);
+                let space = Some(String::from_str(alloc, space)?);
+                Ok(ThreadForm { space, ..form })
             }
-            "passive" => form.passive = Some(Plan::read_receiving(alloc, words)?),
+            "passive" => {
+                let passive = Some(Plan::read_receiving(alloc, words)?);
+                Ok(ThreadForm { passive, ..form })
+            }
             _ => {
                 let wanted = "prio, max, on, stopped, without, in or passive";
-                return Err(not(alloc, part, wanted));
+                Err(not(alloc, part, wanted))
             }
         }
-        Ok(())
     }
 
-    /// What a thread's line says behind its name.
-    fn read_form(&self, alloc: Global, words: &mut Words<'_>) -> Result<ThreadForm, Why> {
+    /// The next part of a thread's line, where there is one.
+    fn read_next(
+        &self,
+        alloc: Global,
+        words: &mut Words<'_>,
+        form: ThreadForm,
+    ) -> Result<ThreadForm, Why>
+        ensures { IfOk result (λ f. next_part self.now.cores words.old (form_of form)
+            ≡ Some (form_of f, words.new)) }
+    {
+        match words.next() {
+            Some(part) => self.read_part(alloc, words, part, form),
+            None => Ok(form),
+        }
+    }
+
+    /// The parts of a thread's line, as far as it goes.
+    #[tactic(auto, using(crate::proofs::ThreadWords::parts_turn, crate::proofs::ThreadWords::parts_last))]
+    fn read_parts(&self, alloc: Global, words: &mut Words<'_>) -> Result<ThreadForm, Why>
+        ensures { IfOk result (λ f. parts_then (length words.old) self.now.cores words.old plain_form
+            ≡ Some (form_of f)) }
+    {
         let mut form = ThreadForm {
             priority: None,
             maximum: 255,
@@ -251,10 +336,17 @@ impl Plan {
             passive: None,
         };
         for _ in 0..words.len() {
-            if let Some(part) = words.next() {
-                self.read_part(alloc, words, part, &mut form)?;
-            }
+            form = self.read_next(alloc, words, form)?;
         }
+        Ok(form)
+    }
+
+    /// What a thread's line says behind its name.
+    #[tactic(auto, using(crate::proofs::ThreadWords::form_read))]
+    fn read_form(&self, alloc: Global, words: &mut Words<'_>) -> Result<ThreadForm, Why>
+        ensures { IfOk result (λ f. form_said self.now.cores words.old ≡ Some (form_of f)) }
+    {
+        let form = self.read_parts(alloc, words)?;
         if form.passive.is_some() && !form.has_context {
             return Err(not(alloc, "without", "a part of a passive thread"));
         }
@@ -262,7 +354,13 @@ impl Plan {
     }
 
     /// The space of a thread: one by hand, or its own.
-    fn read_space(&mut self, alloc: Global, name: &str, form: &ThreadForm) -> Result<usize, Why> {
+    #[tactic(auto, using(crate::proofs::ThreadWords::as_many, crate::proofs::ThreadWords::by_hand))]
+    fn read_space(&mut self, alloc: Global, name: &str, form: &ThreadForm) -> Result<usize, Why>
+        ensures place { IfOk result (λ place.
+            own_place (form_of form.now).space (said self.old) ≡ Some place) }
+        ensures added { OnOk result
+            (said self.new ≡ with_own_space name.now (form_of form.now).space (said self.old)) }
+    {
         match &form.space {
             None => {
                 let own = with_end(alloc, name, ".space")?;
@@ -281,7 +379,11 @@ impl Plan {
         alloc: Global,
         name: &str,
         form: &ThreadForm,
-    ) -> Result<Option<ObjId>, Why> {
+    ) -> Result<Option<ObjId>, Why>
+        ensures context { IfOk result (λ o. o ≡ own_context (form_of form.now) (said self.old)) }
+        ensures added { OnOk result
+            (said self.new ≡ with_own_context name.now (form_of form.now) (said self.old)) }
+    {
         if !form.has_context {
             return Ok(None);
         }
@@ -290,18 +392,32 @@ impl Plan {
         Ok(Some(context))
     }
 
+    /// A thread behind the others.
+    fn push_thread(&mut self, thread: Thread) -> Result<(), Why>
+        ensures added { OnOk result (said self.new ≡ with_thread thread (said self.old)) }
+        ensures unchanged { OnErr result (said self.new ≡ said self.old) }
+    {
+        self.threads.push(thread)?;
+        Ok(())
+    }
+
     /// A thread more, with its context and its space.
+    #[tactic(auto, using(crate::proofs::ThreadWords::thread_added))]
     fn add_thread(
         &mut self,
         alloc: Global,
         name: &str,
         priority: u8,
         form: &ThreadForm,
-    ) -> Result<ObjId, Why> {
-        let thread = self.names.add(alloc, Kind::Thread, name)?;
+    ) -> Result<ObjId, Why>
+        ensures thread { IfOk result (λ o. o ≡ next_of of_kind.Thread self.old.names) }
+        ensures added { OnOk result
+            (thread_more name.now priority (form_of form.now) (said self.old) ≡ Some (said self.new)) }
+    {
+        let thread = self.add_object(alloc, Kind::Thread, name)?;
         let context = self.read_own_context(alloc, name, form)?;
         let space = self.read_space(alloc, name, form)?;
-        self.threads.push(Thread {
+        self.push_thread(Thread {
             priority: Prio(priority),
             maximum: Prio(form.maximum),
             space,
@@ -312,22 +428,53 @@ impl Plan {
         Ok(thread)
     }
 
-    /// The line of a thread.
-    fn read_thread(&mut self, alloc: Global, line: u64, words: &mut Words<'_>) -> Result<(), Why> {
+    /// A passive thread more, where the thread is one.
+    #[tactic(auto, using(crate::proofs::ThreadWords::passive_added))]
+    fn add_passive(
+        &mut self,
+        line: u64,
+        thread: ObjId,
+        passive: &Option<Receiving>,
+    ) -> Result<(), Why>
+        ensures added { OnOk result (said self.new
+            ≡ with_passive line thread (option_map said_receiving passive.now) (said self.old)) }
+        ensures unchanged { OnErr result (said self.new ≡ said self.old) }
+    {
+        let Some(receiving) = passive else {
+            return Ok(());
+        };
+        self.passives.push(Passive {
+            line,
+            thread,
+            endpoint: receiving.endpoint.clone()?,
+            reply: receiving.reply.clone()?,
+        })?;
+        Ok(())
+    }
+
+    /// A thread as its line says it.
+    #[tactic(auto, using(crate::proofs::ThreadWords::thread_read))]
+    fn put_thread(&mut self, alloc: Global, line: u64, words: &mut Words<'_>) -> Result<(), Why>
+        ensures { OnOk result (thread_line line words.old (said self.old) ≡ Some (said self.new)) }
+    {
         let name = words.need("a name")?;
         let form = self.read_form(alloc, words)?;
         let Some(priority) = form.priority else {
             return Err(Why::Missing { wanted: "prio" });
         };
         let thread = self.add_thread(alloc, name, priority, &form)?;
-        if let Some(receiving) = &form.passive {
-            self.passives.push(Passive {
-                line,
-                thread,
-                endpoint: receiving.endpoint.clone()?,
-                reply: receiving.reply.clone()?,
-            })?;
-        }
+        self.add_passive(line, thread, &form.passive)
+    }
+
+    /// The line of a thread.
+    fn read_thread(&mut self, alloc: Global, line: u64, words: &mut Words<'_>) -> Result<(), Why>
+        ensures added { OnOk result
+            (thread_line line words.old (said self.old) ≡ Some (said self.new)) }
+        ensures threads { OnOk result (made_of self.new of_kind.Thread ≤ limit_of of_kind.Thread) }
+        ensures contexts { OnOk result (made_of self.new Context ≤ limit_of Context) }
+        ensures spaces { OnOk result (made_of self.new CNode ≤ limit_of CNode) }
+    {
+        self.put_thread(alloc, line, words)?;
         self.keeps_limit(Kind::Thread)?;
         self.keeps_limit(Kind::Context)?;
         self.keeps_limit(Kind::CNode)
@@ -351,7 +498,10 @@ impl Plan {
     }
 
     /// The line of a binding: `tie THREAD NOTIFICATION`. Bound where one of the two is bound already.
-    fn read_tie(&mut self, alloc: Global, words: &mut Words<'_>) -> Result<(), Why> {
+    fn read_tie(&mut self, alloc: Global, words: &mut Words<'_>) -> Result<(), Why>
+        ensures added { OnOk result (TiesMore words.old (said self.old) (said self.new)) }
+        ensures unchanged { OnErr result (said self.new ≡ said self.old) }
+    {
         let thread_word = words.need("the name of a thread")?;
         let thread = self.names.of_kind(alloc, Kind::Thread, thread_word)?;
         let word = words.need("the name of a notification")?;
@@ -367,7 +517,10 @@ impl Plan {
     }
 
     /// The line of the number of cores, which comes first. Late where a context was made.
-    fn read_cores(&mut self, alloc: Global, words: &mut Words<'_>) -> Result<(), Why> {
+    fn read_cores(&mut self, alloc: Global, words: &mut Words<'_>) -> Result<(), Why>
+        ensures added { OnOk result (SaysCores words.old (said self.old) (said self.new)) }
+        ensures unchanged { OnErr result (said self.new ≡ said self.old) }
+    {
         let cores = byte(alloc, words, "a number of cores, 1 to 16", CORES)?;
         words.end(alloc)?;
         if cores == 0 {
@@ -398,42 +551,61 @@ impl Plan {
         Ok(self.space_of(thread))
     }
 
+    /// Whether the space at a place has a slot of this name.
+    #[tactic(auto, using(crate::proofs::Places::slot_there, crate::proofs::Places::no_slot_there))]
+    fn has_slot(&self, place: usize, name: &str) -> bool
+        ensures { result ≡ has_slot (slice_get (said self.now).spaces place) name.now }
+    {
+        match self.spaces.get(place) {
+            Some(space) => space.has(name),
+            None => false,
+        }
+    }
+
     /// The name of a slot that has none of its own: that of its object, or the whole word where that
     /// is taken. Missing for an empty slot.
-    fn usual_name(&self, alloc: Global, space: usize, word: &str) -> Result<String, Why> {
+    fn usual_name(&self, alloc: Global, place: usize, word: &str) -> Result<String, Why>
+        ensures name { IfOk result (λ n.
+            usual_name (slice_get (said self.now).spaces place) word.now ≡ Some (string_bytes n)) }
+        ensures told { IfErr result (TellsNoUsual word.now) }
+    {
         if word == "-" {
             return Err(Why::Missing { wanted: "as" });
         }
         let (name, _, _) = parts_of(word);
-        let is_taken = match self.spaces.get(space) {
-            Some(space) => space.slots.contains_key(name),
-            None => false,
-        };
-        let name = if is_taken { word } else { name };
+        if self.has_slot(place, name) {
+            return Ok(String::from_str(alloc, word)?);
+        }
         Ok(String::from_str(alloc, name)?)
     }
 
     /// The name of a slot: the word behind `as`, or the usual one.
+    #[tactic(auto, using(crate::proofs::LineWords::usual_here, crate::proofs::LineWords::given_here))]
     fn slot_name(
         &self,
         alloc: Global,
         words: &mut Words<'_>,
-        space: usize,
+        place: usize,
         word: &str,
-    ) -> Result<String, Why> {
-        if words.peek() != Some("as") {
-            return self.usual_name(alloc, space, word);
+    ) -> Result<String, Why>
+        ensures name { IfOk result (λ n.
+            slot_name (slice_get (said self.now).spaces place) word.now words.old
+            ≡ Some (string_bytes n, words.new)) }
+        ensures told { IfErr result (TellsNoSlotName word.now words.old) }
+    {
+        if !says_as(words) {
+            return self.usual_name(alloc, place, word);
         }
-        words.expect(alloc, "as")?;
-        let name = words.need("a name")?;
-        if !is_name(name) {
-            return Err(not(alloc, name, "a name"));
-        }
-        Ok(String::from_str(alloc, name)?)
+        given_name(alloc, words)
     }
 
     /// A slot of a space. Twice where its name is there, and Limit where the space is full.
-    fn add_slot(&mut self, alloc: Global, place: usize, name: &str, slot: Slot) -> Result<(), Why> {
+    fn add_slot(&mut self, alloc: Global, place: usize, name: &str, slot: Slot) -> Result<(), Why>
+        ensures added { OnOk result
+            (said self.new ≡ with_slot place name.now slot.cap (said self.old)) }
+        ensures told { IfErr result (NoSlotMore (slice_get self.old.spaces.items place) name.now) }
+        ensures unchanged { OnErr result (said self.new ≡ said self.old) }
+    {
         let Some(space) = self.spaces.get_mut(place) else {
             return Ok(());
         };
@@ -442,61 +614,107 @@ impl Plan {
 
     /// A capability of a space, with `as NAME` behind it where it is to have a name of its own; `-` is
     /// an empty slot.
+    #[tactic(auto, using(crate::proofs::LineWords::slot_added))]
+    fn put_slot(
+        &mut self,
+        alloc: Global,
+        place: usize,
+        word: &str,
+        words: &mut Words<'_>,
+    ) -> Result<(), Why>
+        ensures added { OnOk result
+            (adds_slot place word.now words.old (said self.old) ≡ Some (said self.new, words.new)) }
+        ensures told { IfErr result (λ w. TellsNoSlot self.old place word.now words.old w) }
+        ensures unchanged { OnErr result (said self.new ≡ said self.old) }
+    {
+        let cap = held_by(alloc, &self.names, word)?;
+        let name = self.slot_name(alloc, words, place, word)?;
+        let written = written_as(alloc, word, name.as_str())?;
+        self.add_slot(alloc, place, name.as_str(), Slot { cap, written })
+    }
+
+    /// The same, where the space does not take more CNodes then than there may be.
     fn read_slot(
         &mut self,
         alloc: Global,
-        space: usize,
+        place: usize,
         word: &str,
         words: &mut Words<'_>,
-    ) -> Result<(), Why> {
-        let cap = match word {
-            "-" => None,
-            _ => Some(cap_of(alloc, &self.names, word)?),
-        };
-        let name = self.slot_name(alloc, words, space, word)?;
-        let written = written_as(alloc, word, name.as_str())?;
-        self.add_slot(alloc, space, name.as_str(), Slot { cap, written })?;
+    ) -> Result<(), Why>
+        ensures added { OnOk result
+            (adds_slot place word.now words.old (said self.old) ≡ Some (said self.new, words.new)) }
+        ensures limit { OnOk result (made_of self.new CNode ≤ limit_of CNode) }
+        ensures told { IfErr result (λ w.
+            TellsNoSlot self.old place word.now words.old w ⊎ TellsMade self.new CNode w) }
+    {
+        self.put_slot(alloc, place, word, words)?;
         self.keeps_limit(Kind::CNode)
     }
 
-    /// The line of what a space has: `NAME has CAPABILITY ..`.
-    fn read_has(&mut self, alloc: Global, name: &str, words: &mut Words<'_>) -> Result<(), Why> {
-        let space = self.space_named(alloc, name)?;
-        if words.peek().is_none() {
-            return Err(Why::Missing {
-                wanted: "a capability",
-            });
-        }
+    /// Capabilities of a space, as far as the line goes.
+    fn read_slots(&mut self, alloc: Global, place: usize, words: &mut Words<'_>) -> Result<(), Why>
+        ensures added { OnOk result
+            (adds_slots (length words.old) place words.old (said self.old) ≡ Some (said self.new)) }
+    {
         for _ in 0..words.len() {
             if let Some(word) = words.next() {
-                self.read_slot(alloc, space, word, words)?;
+                self.read_slot(alloc, place, word, words)?;
             }
         }
         Ok(())
     }
 
-    /// A line before the first step. Unknown where its first word begins none.
-    pub fn read(&mut self, alloc: Global, line: u64, words: &[&str]) -> Result<(), Why> {
-        let mut words = Words::new(words);
-        let Some(first) = words.next() else {
-            return Ok(());
-        };
-        if words.peek() == Some("has") {
-            words.expect(alloc, "has")?;
-            return self.read_has(alloc, first, &mut words);
+    /// The line of what a space has: `NAME has CAPABILITY ..`.
+    fn read_has(&mut self, alloc: Global, name: &str, words: &mut Words<'_>) -> Result<(), Why>
+        ensures added { OnOk result
+            (HasMore name.now words.old self.old (said self.old) (said self.new)) }
+    {
+        let place = self.space_named(alloc, name)?;
+        if words.peek().is_none() {
+            return Err(Why::Missing {
+                wanted: "a capability",
+            });
         }
+        self.read_slots(alloc, place, words)
+    }
+
+    /// A line that begins with this word. Unknown where it begins none.
+    fn read_line(
+        &mut self,
+        alloc: Global,
+        line: u64,
+        first: &str,
+        words: &mut Words<'_>,
+    ) -> Result<(), Why>
+        ensures { OnOk result (LineAdds line first.now words.old (said self.old) (said self.new)) }
+    {
         match first {
-            "cores" => self.read_cores(alloc, &mut words),
-            "endpoint" => self.read_objects(alloc, &mut words, Kind::Endpoint),
-            "notification" => self.read_objects(alloc, &mut words, Kind::Notification),
-            "reply" => self.read_objects(alloc, &mut words, Kind::Reply),
-            "context" => self.read_context(alloc, &mut words),
-            "cnode" => self.read_cnode(alloc, &mut words),
-            "thread" => self.read_thread(alloc, line, &mut words),
-            "tie" => self.read_tie(alloc, &mut words),
+            "cores" => self.read_cores(alloc, words),
+            "endpoint" => self.read_objects(alloc, words, Kind::Endpoint),
+            "notification" => self.read_objects(alloc, words, Kind::Notification),
+            "reply" => self.read_objects(alloc, words, Kind::Reply),
+            "context" => self.read_context(alloc, words),
+            "cnode" => self.read_cnode(alloc, words),
+            "thread" => self.read_thread(alloc, line, words),
+            "tie" => self.read_tie(alloc, words),
             _ => Err(Why::Unknown {
                 word: String::from_str(alloc, first)?,
             }),
         }
+    }
+
+    /// A line before the first step. Unknown where its first word begins none.
+    pub fn read(&mut self, alloc: Global, line: u64, words: &[&str]) -> Result<(), Why>
+        ensures { OnOk result (ReadsLine line (texts words.now) self.old (said self.new)) }
+    {
+        let mut words = Words::new(words);
+        let Some(first) = words.next() else {
+            return Ok(());
+        };
+        if says_has(&words) {
+            words.expect(alloc, "has")?;
+            return self.read_has(alloc, first, &mut words);
+        }
+        self.read_line(alloc, line, first, &mut words)
     }
 }
