@@ -1,4 +1,4 @@
-//! Tests that cross crates, and of what no clause says: one crate, so that what they stand on is compiled once.
+//! Tests of whole scripts and of machines that cross crates, and of what no clause says.
 #![tactic(auto)]
 
 #[cfg(test)]

@@ -1,6 +1,4 @@
 //! The tests.
 
-mod kernels;
 mod machines;
 mod replays;
-mod tables;

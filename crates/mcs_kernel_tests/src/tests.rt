@@ -1,0 +1,4 @@
+//! The tests.
+
+mod kernels;
+mod tables;
