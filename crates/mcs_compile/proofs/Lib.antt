@@ -1,2 +1,6 @@
-pub mod Puts
+pub mod Answered
+pub mod Colons
+pub mod Fielded
+pub mod Opened
 pub mod Said
+pub mod Taken

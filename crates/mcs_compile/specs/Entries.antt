@@ -1,54 +1,73 @@
--- What the line of a step has for the words of a plan.
-use Rattle.std.specs.Prelude.{◌≡◌, ◌⊎◌, ◌≤◌, ◌<◌, ◌++◌, ◌==◌, ℕ, true, cond, List, [], ◌∷◌, Some, Vec, option_map, decimal, codes, bit_and}
+-- What the line of a step has for the words of a plan, or why they are refused (own).
+use Rattle.std.specs.Prelude.{◌++◌, ◌==◌, ℕ, Bool, cond, List, [], ◌∷◌, length, Option, Some, None, Ok, nat_le, decimal, codes, bit_and, bytes_eq, ◌||◌}
+use Rattle.std.specs.Option.{ok_or}
 use Rattle.mcs_types.specs.declared.id.ObjId.{ObjId}
 use Rattle.mcs_types.specs.declared.cap.Place.{Place}
-use Rattle.mcs_names.specs.Naming.{begins_with_digit, with_word}
-use Rattle.mcs_names.specs.Telling.{TakesNumber}
-use Rattle.mcs_laying.specs.declared.tables.Named.{Named}
-use Rattle.mcs_laying.specs.Naming.{named_by}
+use Rattle.mcs_types.specs.declared.limits.TheConstants.{MESSAGE_WORDS}
+use Rattle.mcs_names.specs.Naming.{with_word}
+use Rattle.mcs_names.specs.Numbers.{number_of}
+use Rattle.mcs_plans.specs.Capabilities.{rights_of}
+use Rattle.mcs_plans.specs.Refusals.{Read, ◌>>=◌, ◌>>◌, need, limit, not_wanted}
+use Rattle.mcs_plans.specs.Words.{word_then, number_then, end_of}
+use Rattle.mcs_laying.specs.declared.laid.Laid.{Laid}
+use Rattle.mcs_laying.specs.Unnamed.{named_read}
 use Rattle.mcs_compile.specs.declared.fields.Field.{Field}
 use Rattle.mcs_compile.specs.declared.fields.Field.TheVariants as field
+use Rattle.mcs_compile.specs.Fields.{fields_of}
 
--- a word stands for an address: a number, or a name, which has this address in the table of the thread
-abbrev pub IsAddress : {A : Type 0} → List (Vec Named A) → ObjId → List ℕ → ℕ → Type 0
-IsAddress tables t word address = (begins_with_digit word ≡ true) ⊎ (option_map (λ n. n.address) (named_by tables t word) ≡ Some address)
+-- a line with more in it, and the words that are left
+abbrev pub Line : Type 0
+Line = List ℕ × List (List ℕ)
 
--- the first words stand for a place: two numbers, or a name, which has this place in the table of the thread; others are left
-abbrev pub IsPlace : {A : Type 0} → List (Vec Named A) → ObjId → List (List ℕ) → Place → List (List ℕ) → Type 0
-IsPlace tables t words place left =
-    ((mid : List (List ℕ)) × TakesNumber words mid × TakesNumber mid left)
-    ⊎ ((word : List ℕ) × (words ≡ word ∷ left) × (option_map (λ n. n.place) (named_by tables t word) ≡ Some place))
+-- the address that a word stands for: a number, or that of what the thread names by it
+abbrev pub address_or : Laid → ObjId → List ℕ → Option ℕ → Read ℕ
+address_or laid t word (Some n) = Ok n
+address_or laid t word None = named_read laid t word >>= λ named. Ok named.address
 
--- a line with a place more, as two numbers
+abbrev pub address_read : Laid → ObjId → List ℕ → Read ℕ
+address_read laid t word = address_or laid t word (number_of word)
+
+-- the place of an index, with the depth that stands behind it
+abbrev pub place_with : ℕ → List (List ℕ) → Read (Place × List (List ℕ))
+place_with index words = do
+  (depth, left) ← number_then 255 words
+  Ok (record { index = index; depth = depth }, left)
+
+-- the place of what the thread names by a word
+abbrev pub place_named : Laid → ObjId → List ℕ → Read Place
+place_named laid t word = named_read laid t word >>= λ named. Ok named.place
+
+-- the place that words stand for: an index and a depth, or a name
+abbrev pub place_or : Laid → ObjId → List ℕ → List (List ℕ) → Option ℕ → Read (Place × List (List ℕ))
+place_or laid t word rest (Some index) = place_with index rest
+place_or laid t word rest None = place_named laid t word >>= λ place. Ok (place, rest)
+
+abbrev pub place_read : Laid → ObjId → List (List ℕ) → Read (Place × List (List ℕ))
+place_read laid t words = do
+  (word, rest) ← word_then words
+  place_or laid t word rest (number_of word)
+
+-- an address more, in decimal
+abbrev pub address_more : Laid → ObjId → List (List ℕ) → List ℕ → Read Line
+address_more laid t words line = do
+  (word, left) ← word_then words
+  address ← address_read laid t word
+  Ok (with_word line (decimal address), left)
+
+-- a place more, as two numbers
 abbrev pub with_place : List ℕ → Place → List ℕ
 with_place line place = with_word (with_word line (decimal place.index)) (decimal place.depth)
 
--- the line has the address of the first word more, in decimal, and the other words are left
-pub record PutsAddress {A : Type 0} (tables : List (Vec Named A)) (t : ObjId) (words left : List (List ℕ)) (old new : List ℕ) : Type 0 where
-  pub word : List ℕ
-  pub address : ℕ
-  pub taken : words ≡ word ∷ left
-  pub stands : IsAddress tables t word address
-  pub put : new ≡ with_word old (decimal address)
+abbrev pub place_more : Laid → ObjId → List (List ℕ) → List ℕ → Read Line
+place_more laid t words line = do
+  (place, left) ← place_read laid t words
+  Ok (with_place line place, left)
 
--- the line has the place of the first words more, in decimal, and the other words are left
-pub record PutsPlace {A : Type 0} (tables : List (Vec Named A)) (t : ObjId) (words left : List (List ℕ)) (old new : List ℕ) : Type 0 where
-  pub place : Place
-  pub stands : IsPlace tables t words place left
-  pub put : new ≡ with_place old place
-
--- the line has the number of the first word more, and the other words are left
-pub record PutsNumber (limit : ℕ) (words left : List (List ℕ)) (old new : List ℕ) : Type 0 where
-  pub number : ℕ
-  pub taken : TakesNumber words left
-  pub within : number ≤ limit
-  pub put : new ≡ with_word old (decimal number)
-
--- the line has the first word more, as it stands, and the other words are left
-pub record PutsWord (words left : List (List ℕ)) (old new : List ℕ) : Type 0 where
-  pub word : List ℕ
-  pub taken : words ≡ word ∷ left
-  pub put : new ≡ with_word old word
+-- a number more, which is not above a limit
+abbrev pub number_more : ℕ → List (List ℕ) → List ℕ → Read Line
+number_more most words line = do
+  (n, left) ← number_then most words
+  Ok (with_word line (decimal n), left)
 
 -- a letter, where rights have this one
 abbrev pub right_letter : ℕ → ℕ → List ℕ → List ℕ
@@ -60,48 +79,59 @@ rights_text rights =
     cond (rights == 0) (codes "-")
     (right_letter rights 2 (codes "r") ++ right_letter rights 1 (codes "w") ++ right_letter rights 4 (codes "g") ++ right_letter rights 8 (codes "p"))
 
--- the line has rights more, for the first word, and the other words are left
-pub record PutsRights (words left : List (List ℕ)) (old new : List ℕ) : Type 0 where
-  pub word : List ℕ
-  pub rights : ℕ
-  pub taken : words ≡ word ∷ left
-  pub few : rights < 16
-  pub put : new ≡ with_word old (rights_text rights)
+-- rights more
+abbrev pub rights_more : List (List ℕ) → List ℕ → Read Line
+rights_more words line = do
+  (word, left) ← word_then words
+  rights ← ok_or (rights_of word) (not_wanted word)
+  Ok (with_word line (rights_text rights), left)
 
--- the line has a number more for each of some words
-pub data PutsNumbers : ℕ → List (List ℕ) → List (List ℕ) → List ℕ → List ℕ → Type 0 where
-  none : (limit : ℕ) (words : List (List ℕ)) (line : List ℕ) → PutsNumbers limit words words line line
-  more : (limit : ℕ) (words mid left : List (List ℕ)) (old line new : List ℕ) → PutsNumbers limit words mid old line → PutsNumber limit mid left line new
-      → PutsNumbers limit words left old new
+-- whether a word is the kind of what is made
+abbrev pub is_made : List ℕ → Bool
+is_made word =
+    bytes_eq word (codes "endpoint") || bytes_eq word (codes "notification") || bytes_eq word (codes "reply") || bytes_eq word (codes "context")
 
--- the line has a label and words more
-pub record PutsMessage (words left : List (List ℕ)) (old new : List ℕ) : Type 0 where
-  pub mid : List (List ℕ)
-  pub line : List ℕ
-  pub label : PutsNumber 4503599627370495 words mid old line
-  pub numbers : PutsNumbers 18446744073709551615 mid left line new
+-- the kind of what is made more
+abbrev pub kind_more : List (List ℕ) → List ℕ → Read Line
+kind_more words line = do
+  (word, left) ← word_then words
+  need (is_made word) (not_wanted word)
+  Ok (with_word line word, left)
 
--- the line has more what a field of an entry says
-abbrev pub PutsField : {A : Type 0} → List (Vec Named A) → ObjId → Field → List (List ℕ) → List (List ℕ) → List ℕ → List ℕ → Type 0
-PutsField tables t field.Address words left old new = PutsAddress tables t words left old new
-PutsField tables t field.Place words left old new = PutsPlace tables t words left old new
-PutsField tables t field.Priority words left old new = PutsNumber 255 words left old new
-PutsField tables t field.Rights words left old new = PutsRights words left old new
-PutsField tables t field.Badge words left old new = PutsNumber 18446744073709551615 words left old new
-PutsField tables t field.Kind words left old new = PutsWord words left old new
-PutsField tables t field.Message words left old new = PutsMessage words left old new
-PutsField tables t field.End words left old new = (left ≡ words) × (new ≡ old)
+-- a number of 64 bits more for each word
+abbrev pub numbers_more : List (List ℕ) → List ℕ → Read (List ℕ)
+numbers_more [] line = Ok line
+numbers_more (word ∷ words) line = number_more 18446744073709551615 (word ∷ words) line >>= λ more. numbers_more words more.0
 
--- and what all fields say, in order
-abbrev pub PutsFields : {A : Type 0} → List (Vec Named A) → ObjId → List Field → List (List ℕ) → List (List ℕ) → List ℕ → List ℕ → Type 0
-PutsFields tables t [] words left old new = (left ≡ words) × (new ≡ old)
-PutsFields tables t (f ∷ fs) words left old new =
-    (mid : List (List ℕ)) × (line : List ℕ) × PutsField tables t f words mid old line × PutsFields tables t fs mid left line new
+-- a label and words more, which are not too many
+abbrev pub message_more : List (List ℕ) → List ℕ → Read Line
+message_more words line = do
+  (labelled, left) ← number_more 4503599627370495 words line
+  need (nat_le (length left) MESSAGE_WORDS) (limit MESSAGE_WORDS)
+  new ← numbers_more left labelled
+  Ok (new, [])
 
--- the line has an entry more: its word, and then each of its fields; no word is left
-pub record PutsEntry {A : Type 0} (tables : List (Vec Named A)) (t : ObjId) (words : List (List ℕ)) (old new : List ℕ) : Type 0 where
-  pub key : List ℕ
-  pub rest : List (List ℕ)
-  pub fields : List Field
-  pub taken : words ≡ key ∷ rest
-  pub puts : PutsFields tables t fields rest [] (with_word old key) new
+-- a field of an entry more
+abbrev pub field_more : Laid → ObjId → Field → List (List ℕ) → List ℕ → Read Line
+field_more laid t field.Address words line = address_more laid t words line
+field_more laid t field.Place words line = place_more laid t words line
+field_more laid t field.Priority words line = number_more 255 words line
+field_more laid t field.Rights words line = rights_more words line
+field_more laid t field.Badge words line = number_more 18446744073709551615 words line
+field_more laid t field.Kind words line = kind_more words line
+field_more laid t field.Message words line = message_more words line
+field_more laid t field.End words line = Ok (line, words)
+
+-- all fields more, in order
+abbrev pub fields_more : Laid → ObjId → List Field → List (List ℕ) → List ℕ → Read Line
+fields_more laid t [] words line = Ok (line, words)
+fields_more laid t (f ∷ fs) words line = field_more laid t f words line >>= λ more. fields_more laid t fs more.1 more.0
+
+-- an entry more: its word, and then each of its fields; no word is left
+abbrev pub entry_more : Laid → ObjId → List (List ℕ) → List ℕ → Read (List ℕ)
+entry_more laid t words line = do
+  (key, rest) ← word_then words
+  fields ← ok_or (fields_of key) (not_wanted key)
+  (new, left) ← fields_more laid t fields rest (with_word line key)
+  end_of left
+  Ok new

@@ -1,5 +1,11 @@
 pub mod Entries
+pub mod Fields
 pub mod Heads
-pub mod Scripts
 pub mod Mixing
+pub mod Opening
 pub mod Reading
+pub mod Scripts
+pub mod StepLines
+pub mod Stepping
+pub mod Telling
+pub mod Wanting

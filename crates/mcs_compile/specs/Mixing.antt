@@ -1,9 +1,8 @@
 -- Which lines may stand behind those before them (own).
-use Rattle.std.specs.Prelude.{Bool, true, false, ◌&&◌, cond, List, [], ◌∷◌, Option, Some, None, is_none}
+use Rattle.std.specs.Prelude.{Bool, true, false, not, ◌&&◌, List, [], ◌∷◌, Option, Some, None, Ok, is_none}
 use Rattle.mcs_types.specs.declared.id.CoreId.{CoreId}
-use Rattle.mcs_names.specs.declared.fault.Why.{Why}
-use Rattle.mcs_names.specs.declared.fault.Why.TheVariants as why
-use Rattle.mcs_compile.specs.declared.compiling.Compiler.{Compiler}
+use Rattle.mcs_plans.specs.Refusals.{Read, ◌>>◌, need, mixed, passive_user}
+use Rattle.mcs_laying.specs.declared.laid.Laid.{Laid}
 use Rattle.mcs_compile.specs.declared.compiling.Entries.{Entries}
 use Rattle.mcs_compile.specs.declared.compiling.Entries.TheVariants.{Nothing, Steps, Users}
 
@@ -22,13 +21,16 @@ abbrev pub is_any : {A : Type 0} → List A → Bool
 is_any [] = false
 is_any (x ∷ xs) = true
 
--- whether a thread of its plan is passive
-abbrev pub has_passive : Compiler → Bool
-has_passive c = is_any c.laid.plan.passives.items
+-- a line of a user stands in a plan without passive threads
+abbrev pub may_use : Laid → Option CoreId → Bool
+may_use laid core = not (is_none core && is_any laid.plan.passives.items)
 
--- why a step or a line of a user may not stand here, if it may not
-abbrev pub why_not : Compiler → Option CoreId → Option Why
-why_not c core = cond (is_mixed c.entries core) (Some why.Mixed) (cond (is_none core && has_passive c) (Some why.PassiveUser) None)
+-- what stood so far with a step or a line of a user, where it may stand
+abbrev pub goes_on : Laid → Entries → Option CoreId → Read Entries
+goes_on laid e core = do
+  need (not (is_mixed e core)) mixed
+  need (may_use laid core) passive_user
+  Ok (entries_of core)
 
 -- whether a step stood before
 abbrev pub is_steps : Entries → Bool

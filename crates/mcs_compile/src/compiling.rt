@@ -1,22 +1,29 @@
 //! A plan, line by line, to a script.
-ghost use Rattle.std.specs.Prelude.{◌≡◌, ◌≤◌, ◌<◌, ◌+◌, ◌^◌, true, false, None, Some, Err, IfOk, IfErr, OnOk, OnErr, length};
-ghost use Rattle.mcs_names.specs.declared.fault.Why.{Why};
-ghost use Rattle.mcs_compile.specs.declared.compiling.TheConstants.{LINE_BYTES};
-ghost use Rattle.mcs_compile.specs.Mixing.{entries_of, is_steps, why_not};
-ghost use Rattle.mcs_compile.specs.Reading.{IsFirstRefused, SaysLines, TakesLine};
-ghost use Rattle.mcs_compile.specs.Scripts.{HasBootOfPlan};
+ghost use Rattle.std.specs.Prelude.{◌≡◌, ◌≤◌, ◌<◌, ◌+◌, ◌^◌, true, None, Some, Ok, Err, IfOk, IfErr, OnOk, length, drop, string_bytes};
+ghost use Rattle.std.specs.Str.{is_utf8};
+ghost use Rattle.std.specs.Str.Lines.{lines};
+ghost use Rattle.mcs_names.specs.Naming.{texts};
+ghost use Rattle.mcs_plans.specs.Refusals.{Refuses, need, no_step, told_by};
+ghost use Rattle.mcs_plans.specs.Saying.{said, nothing_said};
+ghost use Rattle.mcs_compile.specs.declared.compiling.Entries.TheVariants.{Nothing};
+ghost use Rattle.mcs_compile.specs.Mixing.{is_steps, goes_on};
+ghost use Rattle.mcs_compile.specs.Opening.{receive_text, receive_head, starter_head, name_or_none, context_in, unbind_text, step_added, both_added, IsOpeningOf, IsOpeningAt};
+ghost use Rattle.mcs_compile.specs.Opening.{opened_at, openings_said, left_said, opened_said, behind_said, are_users};
+ghost use Rattle.mcs_compile.specs.Reading.{RefusesAt, at_line, line_said, lines_said, plan_said};
+ghost use Rattle.mcs_compile.specs.Scripts.{HasBootOfPlan, HasStepsOf, HasPlanOfLines, HasPlanOf};
+ghost use Rattle.mcs_compile.specs.StepLines.{entry_taken, wanted_taken, code_taken, line_taken, lines_taken};
+ghost use Rattle.mcs_compile.specs.Stepping.{count_before, cut_at_colon};
+ghost use Rattle.mcs_compile.specs.Telling.{RefusesLaid, TellsLines, TellsPlan, few_lines, lines_in};
 
+use crate::lines::{add_comment, count_before, is_short, line_of, lines_of, split_colon};
 use crate::script::Script;
 use crate::steps::{Head, object_text, read_head, write_entry};
 use crate::wanting::read_wanted;
 use mcs_laying::Laid;
 use mcs_names::{Names, PlanFault, Why, split_comment, split_words};
-use mcs_plans::{Passive, Plan, STARTER};
+use mcs_plans::{Passive, Plan};
 use mcs_types::{CoreId, Kind, ObjId};
 use std::alloc::{AllocError, Global};
-
-/// How many bytes a line of a plan, or one that is made of it, may have (own): a script's may have 4,096.
-const LINE_BYTES: usize = 4_000;
 
 /// How many lines a plan may have (own): a script's may have 2,000,000.
 const LINES: usize = 900_000;
@@ -37,20 +44,6 @@ struct Compiler {
     entries: Entries,
 }
 
-/// Limit for a line that is too long.
-fn is_short(line: &str) -> Result<(), Why>
-    ensures ok { OnOk result (length line.now ≤ LINE_BYTES) }
-    ensures told { OnErr result (LINE_BYTES < length line.now) }
-{
-    if line.len() <= LINE_BYTES {
-        return Ok(());
-    }
-    Err(Why::Limit {
-        what: "bytes in a line",
-        limit: LINE_BYTES as u32,
-    })
-}
-
 /// A fault, with its line.
 fn at<T: Drop>(line: u64, done: Result<T, Why>) -> Result<T, PlanFault>
     ensures ok { IfOk result (λ value. done ≡ Ok value) }
@@ -62,37 +55,7 @@ fn at<T: Drop>(line: u64, done: Result<T, Why>) -> Result<T, PlanFault>
     }
 }
 
-/// A comment of a script; one that begins with `!` is a question to all orders, which stands there as it is.
-fn comment_of(alloc: Global, comment: &str) -> Result<String, AllocError> {
-    let comment = comment.trim();
-    if comment.is_empty() {
-        return String::from_str(alloc, "#");
-    }
-    let front = if comment.starts_with("!") { "#" } else { "# " };
-    let mut text = String::from_str(alloc, front)?;
-    text.push_str(comment)?;
-    Ok(text)
-}
-
-/// Whether a line is that of a step, of a user, or of what is wanted.
-fn begins_steps(line: &str) -> bool {
-    let (code, _) = split_comment(line);
-    code.contains(": ") || code.trim_start().starts_with("?")
-}
-
-/// How many lines stand before the first step.
-fn count_before(lines: &[&str]) -> usize
-    ensures { result ≤ length lines.now }
-{
-    for (i, line) in lines.iter().enumerate() {
-        if begins_steps(line) {
-            return i;
-        }
-    }
-    lines.len()
-}
-
-/// Takes a line before the first step: a comment goes to the front.
+/// Takes a line before the first step: the comment of one without words goes to the front.
 fn read_before(
     alloc: Global,
     plan: &mut Plan,
@@ -100,18 +63,17 @@ fn read_before(
     number: u64,
     line: &str,
 ) -> Result<(), Why>
-    ensures { OnOk result (TakesLine number plan.old plan.new) }
+    ensures said { OnOk result
+        (line_said number line.now (said plan.old) ≡ Ok (said plan.new)) }
+    ensures told { IfErr result (Refuses (line_said number line.now (said plan.old))) }
 {
     is_short(line)?;
     let (code, comment) = split_comment(line);
     let words = split_words(alloc, code)?;
-    if !words.is_empty() {
-        return plan.read(alloc, number, &words);
+    if words.is_empty() {
+        add_comment(alloc, front, comment)?;
     }
-    if let Some(comment) = comment {
-        front.push(comment_of(alloc, comment)?)?;
-    }
-    Ok(())
+    plan.read(alloc, number, &words)
 }
 
 /// The lines of names: `#@ OBJECT NAME`.
@@ -129,114 +91,189 @@ fn add_names(alloc: Global, names: &Names, to: &mut Vec<String>) -> Result<(), A
     Ok(())
 }
 
-/// What makes a thread passive.
+/// What makes a thread passive: what it does, and then the thread that takes its context away.
 #[derive(Drop)]
 struct Opening {
     /// The line of the thread.
     line: u64,
-    thread: ObjId,
-    core: CoreId,
-    /// What it does, and then the thread that takes its context away.
+    head: Head,
     receive: String,
     unbind: String,
 }
 
-/// What makes a thread passive.
-fn opening_of(alloc: Global, plan: &Plan, passive: &Passive) -> Result<Opening, AllocError> {
-    let endpoint = passive.endpoint.as_str();
-    let reply = passive.reply.as_str();
-    let context = match plan.context_of(passive.thread) {
+/// The text by which a passive thread receives.
+fn receive_text(alloc: Global, passive: &Passive) -> Result<String, AllocError>
+    ensures { IfOk result (λ text. string_bytes text ≡ receive_text passive.now) }
+{
+    let mut text = String::from_str(alloc, "recv ")?;
+    text.push_str(passive.endpoint.as_str())?;
+    text.push_str(" ")?;
+    text.push_str(passive.reply.as_str())?;
+    Ok(text)
+}
+
+/// The name of the context that a thread has at the boot.
+fn context_name(plan: &Plan, thread: ObjId) -> &str
+    ensures { result.now ≡ name_or_none plan.now (context_in plan.now thread) }
+{
+    match plan.context_of(thread) {
         Some(context) => plan.names.name_of(context),
         None => "",
-    };
+    }
+}
+
+/// The text by which the context of a passive thread is taken away.
+fn unbind_text(alloc: Global, plan: &Plan, passive: &Passive) -> Result<String, AllocError>
+    ensures { IfOk result (λ text. string_bytes text ≡ unbind_text plan.now passive.now) }
+{
+    let mut text = String::from_str(alloc, "unbind ")?;
+    text.push_str(context_name(plan, passive.thread))?;
+    Ok(text)
+}
+
+/// What makes a thread passive.
+fn opening_of(alloc: Global, plan: &Plan, passive: &Passive) -> Result<Opening, Why>
+    ensures opening { IfOk result (IsOpeningOf plan.now passive.now) }
+    ensures told { IfErr result (λ w. told_by w ≡ None) }
+{
     Ok(Opening {
         line: passive.line,
-        thread: passive.thread,
-        core: plan.core_of(passive.thread),
-        receive: format!(in alloc; "recv {endpoint} {reply}")?,
-        unbind: format!(in alloc; "unbind {context}")?,
+        head: Head {
+            thread: passive.thread,
+            core: Some(plan.core_of(passive.thread)),
+        },
+        receive: receive_text(alloc, passive)?,
+        unbind: unbind_text(alloc, plan, passive)?,
     })
 }
 
-/// What makes each passive thread passive.
-fn openings_of(alloc: Global, laid: &Laid) -> Result<Vec<Opening>, Why> {
-    let mut openings = Vec::new(alloc);
-    for passive in &laid.plan.passives {
-        openings.push(opening_of(alloc, &laid.plan, passive)?)?;
+/// What makes the thread passive that is at this place.
+#[tactic(auto, using(crate::proofs::Opened::opening_there))]
+fn opening_at(alloc: Global, plan: &Plan, place: usize) -> Result<Opening, PlanFault>
+    requires { place < length plan.now.passives.items }
+    ensures opening { IfOk result (IsOpeningAt plan.now place) }
+    ensures told { IfErr result (λ fault. told_by fault.why ≡ None) }
+{
+    at(0, opening_of(alloc, plan, &plan.passives[place]))
+}
+
+/// Who takes the contexts of passive threads away: the last thread.
+fn starter_head(plan: &Plan) -> Head
+    ensures { result ≡ starter_head plan.now }
+{
+    Head {
+        thread: ObjId {
+            kind: Kind::Thread,
+            serial: plan.threads.len().min(256) as u32,
+        },
+        core: Some(CoreId(0)),
     }
-    Ok(openings)
 }
 
 impl Compiler {
     /// A step that the plan does not say.
-    fn add_step(
-        &mut self,
-        alloc: Global,
-        thread: ObjId,
-        core: CoreId,
-        text: &str,
-    ) -> Result<(), Why> {
-        let head = Head {
-            thread,
-            core: Some(core),
-        };
+    fn add_step(&mut self, alloc: Global, head: Head, text: &str) -> Result<(), Why>
+        ensures added { OnOk result (step_added self.old.laid head text.now ≡ Ok tt) }
+        ensures told { IfErr result (Refuses (step_added self.old.laid head text.now)) }
+        ensures laid { self.new.laid ≡ self.old.laid }
+        ensures entries { self.new.entries ≡ self.old.entries }
+    {
         let words = split_words(alloc, text)?;
         let line = write_entry(alloc, &self.laid, head, &words)?;
         self.lines.push(line)?;
         Ok(())
     }
 
-    /// The thread that makes others passive: the last.
-    fn starter(&self) -> ObjId {
-        ObjId {
-            kind: Kind::Thread,
-            serial: self.laid.plan.threads.len().min(256) as u32,
-        }
-    }
-
     /// Does what makes a thread passive.
-    fn open(&mut self, alloc: Global, opening: &Opening) -> Result<(), PlanFault> {
-        let line = opening.line;
-        let receive = opening.receive.as_str();
-        at(
-            line,
-            self.add_step(alloc, opening.thread, opening.core, receive),
-        )?;
-        let starter = self.starter();
-        at(
-            line,
-            self.add_step(alloc, starter, CoreId(0), opening.unbind.as_str()),
-        )
+    fn add_opening(&mut self, alloc: Global, opening: &Opening) -> Result<(), Why>
+        ensures added { OnOk result (both_added self.old.laid opening.now.head
+            (string_bytes opening.now.receive) (string_bytes opening.now.unbind) ≡ Ok tt) }
+        ensures told { IfErr result (Refuses (both_added self.old.laid opening.now.head
+            (string_bytes opening.now.receive) (string_bytes opening.now.unbind))) }
+        ensures laid { self.new.laid ≡ self.old.laid }
+        ensures entries { self.new.entries ≡ self.old.entries }
+    {
+        self.add_step(alloc, opening.head, opening.receive.as_str())?;
+        let starter = starter_head(&self.laid.plan);
+        self.add_step(alloc, starter, opening.unbind.as_str())
     }
 
-    /// The thread that made others passive suspends itself.
-    fn leave(&mut self, alloc: Global) -> Result<(), Why> {
-        let suspend = format!(in alloc; "suspend {STARTER}")?;
-        let starter = self.starter();
-        self.add_step(alloc, starter, CoreId(0), suspend.as_str())
+    /// The same, where a fault is told at the line of the thread.
+    fn do_opening(&mut self, alloc: Global, opening: &Opening) -> Result<(), PlanFault>
+        ensures added { OnOk result (at_line opening.now.line (both_added self.old.laid
+            opening.now.head (string_bytes opening.now.receive) (string_bytes opening.now.unbind))
+            ≡ Ok tt) }
+        ensures told { IfErr result (RefusesAt (at_line opening.now.line (both_added self.old.laid
+            opening.now.head (string_bytes opening.now.receive)
+            (string_bytes opening.now.unbind)))) }
+        ensures laid { self.new.laid ≡ self.old.laid }
+        ensures entries { self.new.entries ≡ self.old.entries }
+    {
+        at(opening.line, self.add_opening(alloc, opening))
+    }
+
+    /// Does what makes the thread passive that is at this place. A fault is told at the line that makes it so.
+    fn open(&mut self, alloc: Global, place: usize) -> Result<(), PlanFault>
+        requires { place < length self.old.laid.plan.passives.items }
+        ensures added { OnOk result (opened_at self.old.laid place ≡ Ok tt) }
+        ensures told { IfErr result (RefusesAt (opened_at self.old.laid place)) }
+        ensures laid { self.new.laid ≡ self.old.laid }
+        ensures entries { self.new.entries ≡ self.old.entries }
+    {
+        let opening = opening_at(alloc, &self.laid.plan, place)?;
+        self.do_opening(alloc, &opening)
+    }
+
+    /// Makes each passive thread so.
+    fn open_each(&mut self, alloc: Global) -> Result<(), PlanFault>
+        ensures added { OnOk result
+            (openings_said self.old.laid self.old.laid.plan.passives.items ≡ Ok tt) }
+        ensures told { IfErr result
+            (RefusesAt (openings_said self.old.laid self.old.laid.plan.passives.items)) }
+        ensures laid { self.new.laid ≡ self.old.laid }
+        ensures entries { self.new.entries ≡ self.old.entries }
+    {
+        for place in 0..self.laid.plan.passives.len() {
+            self.open(alloc, place)?;
+        }
+        Ok(())
+    }
+
+    /// The thread that made others passive suspends itself, where one did.
+    fn leave(&mut self, alloc: Global) -> Result<(), PlanFault>
+        ensures added { OnOk result
+            (left_said self.old.laid self.old.laid.plan.passives.items ≡ Ok tt) }
+        ensures told { IfErr result
+            (RefusesAt (left_said self.old.laid self.old.laid.plan.passives.items)) }
+        ensures laid { self.new.laid ≡ self.old.laid }
+        ensures entries { self.new.entries ≡ self.old.entries }
+    {
+        if self.laid.plan.passives.is_empty() {
+            return Ok(());
+        }
+        let starter = starter_head(&self.laid.plan);
+        at(0, self.add_step(alloc, starter, "suspend starter"))
     }
 
     /// The steps before the first of the plan: each passive thread receives, and its context is taken
     /// away; then the thread that did this suspends itself.
-    fn open_all(&mut self, alloc: Global) -> Result<(), PlanFault> {
-        let openings = at(0, openings_of(alloc, &self.laid))?;
-        for opening in &openings {
-            self.open(alloc, opening)?;
-        }
-        if openings.is_empty() {
-            return Ok(());
-        }
-        at(0, self.leave(alloc))
+    fn open_all(&mut self, alloc: Global) -> Result<(), PlanFault>
+        ensures added { OnOk result (opened_said self.old.laid ≡ Ok tt) }
+        ensures told { IfErr result (RefusesAt (opened_said self.old.laid)) }
+        ensures laid { self.new.laid ≡ self.old.laid }
+        ensures entries { self.new.entries ≡ self.old.entries }
+    {
+        self.open_each(alloc)?;
+        self.leave(alloc)
     }
 
     /// Mixed where lines of the other kind stood before, PassiveUser for one of a user where a thread is
     /// passive.
     fn goes_with(&mut self, head: Head) -> Result<(), Why>
-        ensures may { OnOk result (why_not self.old head.core ≡ None) }
-        ensures told { IfErr result (λ why. why_not self.old head.core ≡ Some why) }
-        ensures entries { OnOk result
-            (self.new ≡ record self.old { entries = entries_of head.core }) }
-        ensures unchanged { OnErr result (self.new ≡ self.old) }
+        ensures goes { OnOk result
+            (goes_on self.old.laid self.old.entries head.core ≡ Ok self.new.entries) }
+        ensures told { IfErr result (Refuses (goes_on self.old.laid self.old.entries head.core)) }
+        ensures laid { self.new.laid ≡ self.old.laid }
     {
         match (self.entries, head.core) {
             (Entries::Users, Some(_)) | (Entries::Steps, None) => Err(Why::Mixed),
@@ -253,7 +290,13 @@ impl Compiler {
     }
 
     /// The line of a step or of a user.
-    fn add_entry(&mut self, alloc: Global, head: &str, text: &str) -> Result<(), Why> {
+    fn add_entry(&mut self, alloc: Global, head: &str, text: &str) -> Result<(), Why>
+        ensures taken { OnOk result (entry_taken self.old.laid self.old.entries
+            (Some (head.now, text.now)) ≡ Ok self.new.entries) }
+        ensures told { IfErr result (Refuses (entry_taken self.old.laid self.old.entries
+            (Some (head.now, text.now)))) }
+        ensures laid { self.new.laid ≡ self.old.laid }
+    {
         let head = read_head(alloc, &self.laid, head)?;
         let words = split_words(alloc, text)?;
         let line = write_entry(alloc, &self.laid, head, &words)?;
@@ -262,23 +305,54 @@ impl Compiler {
         Ok(())
     }
 
+    /// NoStep where no step stands before.
+    fn has_step(&self) -> Result<(), Why>
+        ensures ok { OnOk result (need (is_steps self.now.entries) no_step ≡ Ok tt) }
+        ensures told { IfErr result (Refuses (need (is_steps self.now.entries) no_step)) }
+    {
+        match self.entries {
+            Entries::Steps => Ok(()),
+            _ => Err(Why::NoStep),
+        }
+    }
+
     /// What is wanted of the step before.
     fn add_wanted(&mut self, alloc: Global, words: &[&str]) -> Result<(), Why>
-        ensures step { OnOk result (is_steps self.old.entries ≡ true) }
-        ensures none { is_steps self.old.entries ≡ false → result ≡ Err Why.NoStep }
-        ensures entries { self.new.entries ≡ self.old.entries }
+        ensures taken { OnOk result (wanted_taken self.old.laid self.old.entries (texts words.now)
+            ≡ Ok self.new.entries) }
+        ensures told { IfErr result
+            (Refuses (wanted_taken self.old.laid self.old.entries (texts words.now))) }
+        ensures laid { self.new.laid ≡ self.old.laid }
     {
-        let Entries::Steps = self.entries else {
-            return Err(Why::NoStep);
-        };
+        self.has_step()?;
         let wanted = read_wanted(alloc, &self.laid.plan.names, words)?;
         is_short(wanted.as_str())?;
         self.lines.push(wanted)?;
         Ok(())
     }
 
+    /// A line with `: ` in it. Late where it has none.
+    fn add_headed(&mut self, alloc: Global, code: &str) -> Result<(), Why>
+        ensures taken { OnOk result (entry_taken self.old.laid self.old.entries
+            (cut_at_colon code.now) ≡ Ok self.new.entries) }
+        ensures told { IfErr result (Refuses (entry_taken self.old.laid self.old.entries
+            (cut_at_colon code.now))) }
+        ensures laid { self.new.laid ≡ self.old.laid }
+    {
+        match split_colon(code) {
+            Some((head, text)) => self.add_entry(alloc, head, text),
+            None => Err(Why::Late),
+        }
+    }
+
     /// What a line behind the boot says beside its comment.
-    fn add_code(&mut self, alloc: Global, code: &str) -> Result<(), Why> {
+    fn add_code(&mut self, alloc: Global, code: &str) -> Result<(), Why>
+        ensures taken { OnOk result
+            (code_taken self.old.laid self.old.entries code.now ≡ Ok self.new.entries) }
+        ensures told { IfErr result
+            (Refuses (code_taken self.old.laid self.old.entries code.now)) }
+        ensures laid { self.new.laid ≡ self.old.laid }
+    {
         let words = split_words(alloc, code)?;
         let Some((first, rest)) = words.split_first() else {
             return Ok(());
@@ -286,25 +360,25 @@ impl Compiler {
         if *first == "?" {
             return self.add_wanted(alloc, rest);
         }
-        match code.split_once(": ") {
-            Some((head, text)) => self.add_entry(alloc, head, text),
-            None => Err(Why::Late),
-        }
+        self.add_headed(alloc, code)
     }
 
     /// A line behind the boot: its comment stands before it.
-    fn add_line(&mut self, alloc: Global, line: &str) -> Result<(), Why> {
+    fn add_line(&mut self, alloc: Global, line: &str) -> Result<(), Why>
+        ensures taken { OnOk result
+            (line_taken self.old.laid self.old.entries line.now ≡ Ok self.new.entries) }
+        ensures told { IfErr result
+            (Refuses (line_taken self.old.laid self.old.entries line.now)) }
+        ensures laid { self.new.laid ≡ self.old.laid }
+    {
         is_short(line)?;
         let (code, comment) = split_comment(line);
-        if let Some(comment) = comment {
-            self.lines.push(comment_of(alloc, comment)?)?;
-        }
+        add_comment(alloc, &mut self.lines, comment)?;
         self.add_code(alloc, code)
     }
 }
 
 /// Takes the line behind so many, before the first step.
-#[tactic(auto, using(crate::proofs::Said::next_said))]
 fn read_next(
     alloc: Global,
     plan: &mut Plan,
@@ -313,19 +387,21 @@ fn read_next(
     line: &str,
 ) -> Result<(), PlanFault>
     requires { count + 1 < 2 ^ 64 }
-    ensures said { OnOk result (SaysLines count plan.old → SaysLines (count + 1) plan.new) }
-    ensures line { IfErr result (λ fault. fault.line ≡ count + 1) }
+    ensures said { OnOk result
+        (line_said (count + 1) line.now (said plan.old) ≡ Ok (said plan.new)) }
+    ensures told { IfErr result
+        (RefusesAt (at_line (count + 1) (line_said (count + 1) line.now (said plan.old)))) }
 {
     let number = count as u64 + 1;
     at(number, read_before(alloc, plan, front, number, line))
 }
 
-/// The lines of a plan before its first step, and the comments among them.
-#[tactic(auto, using(crate::proofs::Said::first_refused))]
+/// The plan that lines say, and the comments among them.
+#[tactic(auto, using(crate::proofs::Said::next_said, crate::proofs::Said::line_refused, crate::proofs::Said::all_said))]
 fn read_plan(alloc: Global, lines: &[&str]) -> Result<(Plan, Vec<String>), PlanFault>
-    ensures said { IfOk result (λ read. SaysLines (length lines.now) read.0) }
-    // those before a line that is refused were read
-    ensures first { IfErr result (λ fault. IsFirstRefused (length lines.now) fault.line) }
+    ensures said { IfOk result
+        (λ read. lines_said 0 (texts lines.now) nothing_said ≡ Ok (said read.0)) }
+    ensures told { IfErr result (RefusesAt (lines_said 0 (texts lines.now) nothing_said)) }
 {
     let mut plan = Plan::new(alloc);
     let mut front = Vec::new(alloc);
@@ -337,6 +413,35 @@ fn read_plan(alloc: Global, lines: &[&str]) -> Result<(Plan, Vec<String>), PlanF
     Ok((plan, front))
 }
 
+/// The plan that lines say before the first step, how many these are, and the comments among them.
+fn read_front(alloc: Global, lines: &[&str]) -> Result<(Plan, Vec<String>, usize), PlanFault>
+    ensures said { IfOk result (λ read. plan_said (texts lines.now) ≡ Ok (said read.0)) }
+    ensures before { IfOk result (λ read. read.2 ≡ count_before (texts lines.now)) }
+    ensures told { IfErr result (RefusesAt (plan_said (texts lines.now))) }
+{
+    let before = count_before(lines);
+    let (plan, front) = read_plan(alloc, &lines[..before])?;
+    Ok((plan, front, before))
+}
+
+/// Takes the line behind so many, from the first step on.
+fn take_next(
+    alloc: Global,
+    compiler: &mut Compiler,
+    count: usize,
+    line: &str,
+) -> Result<(), PlanFault>
+    requires { count + 1 < 2 ^ 64 }
+    ensures taken { OnOk result (line_taken compiler.old.laid compiler.old.entries line.now
+        ≡ Ok compiler.new.entries) }
+    ensures told { IfErr result (RefusesAt (at_line (count + 1)
+        (line_taken compiler.old.laid compiler.old.entries line.now))) }
+    ensures laid { compiler.new.laid ≡ compiler.old.laid }
+{
+    let number = count as u64 + 1;
+    at(number, compiler.add_line(alloc, line))
+}
+
 /// The lines of a plan from its first step on.
 fn read_steps(
     alloc: Global,
@@ -344,19 +449,23 @@ fn read_steps(
     lines: &[&str],
     before: usize,
 ) -> Result<(), PlanFault>
-    ensures { IfErr result (λ fault. (before < fault.line) × (fault.line ≤ length lines.now)) }
+    ensures taken { OnOk result (lines_taken compiler.old.laid before
+        (drop before (texts lines.now)) compiler.old.entries ≡ Ok compiler.new.entries) }
+    ensures told { IfErr result (RefusesAt (lines_taken compiler.old.laid before
+        (drop before (texts lines.now)) compiler.old.entries)) }
+    ensures laid { compiler.new.laid ≡ compiler.old.laid }
 {
-    for (i, line) in lines.iter().enumerate() {
-        if i >= before {
-            at((i as u64).saturating_add(1), compiler.add_line(alloc, line))?;
-        }
+    for count in before..lines.len() {
+        take_next(alloc, compiler, count, lines[count])?;
     }
     Ok(())
 }
 
 /// The script of a plan whose lines were all read.
 fn finish(alloc: Global, compiler: Compiler, comments: Vec<String>) -> Result<Script, Why>
-    ensures { IfOk result HasBootOfPlan }
+    ensures boot { IfOk result HasBootOfPlan }
+    ensures laid { IfOk result (λ s. s.laid ≡ compiler.laid) }
+    ensures users { IfOk result (λ s. s.is_users ≡ are_users compiler.entries) }
 {
     let Compiler {
         laid,
@@ -376,52 +485,78 @@ fn finish(alloc: Global, compiler: Compiler, comments: Vec<String>) -> Result<Sc
     })
 }
 
-/// The script of a plan's lines.
-fn compile_lines(alloc: Global, lines: &[&str]) -> Result<Script, PlanFault>
-    ensures { IfOk result HasBootOfPlan }
+/// Takes what makes threads passive, and the lines from the first step on.
+fn read_behind(
+    alloc: Global,
+    compiler: &mut Compiler,
+    lines: &[&str],
+    before: usize,
+) -> Result<(), PlanFault>
+    requires before { before ≡ count_before (texts lines.now) }
+    requires nothing { compiler.old.entries ≡ Nothing }
+    ensures taken { OnOk result
+        (behind_said compiler.old.laid (texts lines.now) ≡ Ok compiler.new.entries) }
+    ensures told { IfErr result (RefusesAt (behind_said compiler.old.laid (texts lines.now))) }
+    ensures laid { compiler.new.laid ≡ compiler.old.laid }
 {
-    let before = count_before(lines);
-    let (plan, front) = read_plan(alloc, &lines[..before])?;
-    let laid = Laid::new(alloc, plan)?;
+    compiler.open_all(alloc)?;
+    read_steps(alloc, compiler, lines, before)
+}
+
+/// The script of a plan that is laid out.
+fn compile_laid(
+    alloc: Global,
+    laid: Laid,
+    lines: &[&str],
+    before: usize,
+    front: Vec<String>,
+) -> Result<Script, PlanFault>
+    requires { before ≡ count_before (texts lines.now) }
+    ensures boot { IfOk result HasBootOfPlan }
+    ensures laid { IfOk result (λ s. s.laid ≡ laid) }
+    ensures steps { IfOk result (HasStepsOf (texts lines.now)) }
+    ensures told { IfErr result (RefusesLaid laid (texts lines.now)) }
+{
     let mut compiler = Compiler {
         laid,
         lines: Vec::new(alloc),
         entries: Entries::Nothing,
     };
-    compiler.open_all(alloc)?;
-    read_steps(alloc, &mut compiler, lines, before)?;
+    read_behind(alloc, &mut compiler, lines, before)?;
     at(lines.len() as u64, finish(alloc, compiler, front))
 }
 
-/// The number of the line in which bytes are no text.
-fn line_of(bytes: &[u8], end: usize) -> u64 {
-    let mut line: u64 = 1;
-    for (i, byte) in bytes.iter().enumerate() {
-        if i < end && *byte == b'\n' {
-            line = line.saturating_add(1);
-        }
-    }
-    line
-}
-
-/// The lines of a text.
-fn lines_of<'a>(alloc: Global, text: &'a str) -> Result<Vec<&'a str>, AllocError> {
-    text.lines().collect(alloc)
-}
-
-/// The script of a plan (own), whose boot is that of the plan. A fault tells the first line that is refused, and why.
-pub fn compile(alloc: Global, bytes: &[u8]) -> Result<Script, PlanFault>
-    ensures { IfOk result HasBootOfPlan }
+/// The script of a plan's lines.
+fn compile_lines(alloc: Global, lines: &[&str]) -> Result<Script, PlanFault>
+    ensures boot { IfOk result HasBootOfPlan }
+    ensures plan { IfOk result (HasPlanOfLines (texts lines.now)) }
+    ensures told { IfErr result (TellsLines (texts lines.now)) }
 {
-    let text = match std::str::from_utf8(bytes) {
-        Ok(text) => text,
-        Err(error) => {
-            return Err(PlanFault {
-                line: line_of(bytes, error.valid_up_to()),
-                why: Why::NotText,
-            });
-        }
-    };
+    let (plan, front, before) = read_front(alloc, lines)?;
+    let laid = Laid::new(alloc, plan)?;
+    compile_laid(alloc, laid, lines, before, front)
+}
+
+/// The text of bytes. NotText at the line of the first that is none.
+fn text_of(bytes: &[u8]) -> Result<&str, PlanFault>
+    ensures text { IfOk result (λ text. text.now ≡ bytes.now) }
+    ensures utf8 { OnOk result (is_utf8 bytes.now ≡ true) }
+    ensures told { IfErr result (RefusesAt (lines_in bytes.now)) }
+{
+    match std::str::from_utf8(bytes) {
+        Ok(text) => Ok(text),
+        Err(error) => Err(PlanFault {
+            line: line_of(bytes, error.valid_up_to()),
+            why: Why::NotText,
+        }),
+    }
+}
+
+/// The lines of a text. Limit where they are too many.
+fn few_lines(alloc: Global, text: &str) -> Result<Vec<&str>, PlanFault>
+    ensures few { IfOk result (λ found. few_lines (lines text.now) ≡ Ok (texts found.items)) }
+    ensures told { IfErr result (RefusesAt (few_lines (lines text.now))) }
+{
     let Ok(lines) = lines_of(alloc, text) else {
         return Err(PlanFault {
             line: 0,
@@ -437,5 +572,25 @@ pub fn compile(alloc: Global, bytes: &[u8]) -> Result<Script, PlanFault>
             },
         });
     }
+    Ok(lines)
+}
+
+/// The lines of bytes.
+fn lines_in(alloc: Global, bytes: &[u8]) -> Result<Vec<&str>, PlanFault>
+    ensures lines { IfOk result (λ found. lines_in bytes.now ≡ Ok (texts found.items)) }
+    ensures told { IfErr result (RefusesAt (lines_in bytes.now)) }
+{
+    let text = text_of(bytes)?;
+    few_lines(alloc, text)
+}
+
+/// The script of a plan (own), whose boot is that of the plan. A fault tells the first line that is refused, and why.
+#[tactic(auto, using(crate::proofs::Said::has_plan_of, crate::proofs::Said::refused_lines))]
+pub fn compile(alloc: Global, bytes: &[u8]) -> Result<Script, PlanFault>
+    ensures boot { IfOk result HasBootOfPlan }
+    ensures plan { IfOk result (HasPlanOf bytes.now) }
+    ensures told { IfErr result (TellsPlan bytes.now) }
+{
+    let lines = lines_in(alloc, bytes)?;
     compile_lines(alloc, &lines)
 }

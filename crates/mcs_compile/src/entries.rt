@@ -1,10 +1,10 @@
 //! The entry that a line of a plan spells, as a script spells it.
-ghost use Rattle.std.specs.Prelude.{◌≡◌, ◌++◌, None, true, IfOk, IfErr, OnOk, OnErr, decimal, string_bytes};
-ghost use Rattle.mcs_names.specs.Naming.{begins_with_digit, with_word};
-ghost use Rattle.mcs_laying.specs.Naming.{named_by};
-ghost use Rattle.mcs_laying.specs.Telling.{TellsUnknown};
-ghost use Rattle.mcs_compile.specs.Entries.{right_letter, rights_text, IsAddress, IsPlace, PutsAddress, PutsPlace, PutsNumber, PutsWord};
-ghost use Rattle.mcs_compile.specs.Entries.{PutsRights, PutsNumbers, PutsMessage, PutsField, PutsFields, PutsEntry};
+ghost use Rattle.std.specs.Prelude.{◌≡◌, [], Ok, IfOk, IfErr, OnOk, decimal, string_bytes};
+ghost use Rattle.mcs_names.specs.Naming.{with_word};
+ghost use Rattle.mcs_plans.specs.Refusals.{Refuses};
+ghost use Rattle.mcs_plans.specs.Words.{number_then};
+ghost use Rattle.mcs_compile.specs.Entries.{right_letter, rights_text, is_made, address_read, place_with, place_named, place_read, address_more, place_more, number_more};
+ghost use Rattle.mcs_compile.specs.Entries.{rights_more, kind_more, numbers_more, message_more, field_more, fields_more, entry_more};
 
 use crate::fields::{Field, fields_of};
 use mcs_laying::Laid;
@@ -53,10 +53,10 @@ fn rights_text(alloc: Global, rights: u8) -> Result<String, AllocError>
 }
 
 /// Rights.
-#[tactic(auto, using(crate::proofs::Puts::puts_rights))]
 fn read_rights(alloc: Global, to: &mut String, words: &mut Words<'_>) -> Result<(), Why>
-    ensures { OnOk result
-        (PutsRights words.old words.new (string_bytes to.old) (string_bytes to.new)) }
+    ensures put { OnOk result
+        (rights_more words.old (string_bytes to.old) ≡ Ok (string_bytes to.new, words.new)) }
+    ensures told { IfErr result (Refuses (rights_more words.old (string_bytes to.old))) }
 {
     let wanted = "rights, some of rwgp, or -";
     let word = words.need(wanted)?;
@@ -68,15 +68,17 @@ fn read_rights(alloc: Global, to: &mut String, words: &mut Words<'_>) -> Result<
 }
 
 /// Whether a word is the kind of what is made.
-fn is_made(word: &str) -> bool {
+fn is_made(word: &str) -> bool
+    ensures { result ≡ is_made word.now }
+{
     matches!(word, "endpoint" | "notification" | "reply" | "context")
 }
 
 /// The kind of what is made.
-#[tactic(auto, using(crate::proofs::Puts::puts_word))]
 fn read_kind(alloc: Global, to: &mut String, words: &mut Words<'_>) -> Result<(), Why>
-    ensures { OnOk result
-        (PutsWord words.old words.new (string_bytes to.old) (string_bytes to.new)) }
+    ensures put { OnOk result
+        (kind_more words.old (string_bytes to.old) ≡ Ok (string_bytes to.new, words.new)) }
+    ensures told { IfErr result (Refuses (kind_more words.old (string_bytes to.old))) }
 {
     let wanted = "endpoint, notification, reply or context";
     let word = words.need(wanted)?;
@@ -87,7 +89,6 @@ fn read_kind(alloc: Global, to: &mut String, words: &mut Words<'_>) -> Result<()
 }
 
 /// A number up to a limit.
-#[tactic(auto, using(crate::proofs::Puts::puts_number))]
 fn read_number(
     alloc: Global,
     to: &mut String,
@@ -95,29 +96,38 @@ fn read_number(
     wanted: &'static str,
     limit: u64,
 ) -> Result<(), Why>
-    ensures { OnOk result
-        (PutsNumber limit words.old words.new (string_bytes to.old) (string_bytes to.new)) }
+    ensures put { OnOk result
+        (number_more limit words.old (string_bytes to.old) ≡ Ok (string_bytes to.new, words.new)) }
+    ensures told { IfErr result (Refuses (number_more limit words.old (string_bytes to.old))) }
 {
     let n = words.number(alloc, wanted, limit)?;
     Ok(add_number(alloc, to, n)?)
 }
 
 /// Words of a message, as far as the line goes.
-fn read_words(alloc: Global, to: &mut String, words: &mut Words<'_>) -> Result<(), Why>
-    ensures { OnOk result (PutsNumbers 18446744073709551615 words.old words.new
-        (string_bytes to.old) (string_bytes to.new)) }
+#[tactic(auto, using(crate::proofs::Fielded::numbers_turn, crate::proofs::Fielded::numbers_refused, crate::proofs::Fielded::number_left, crate::proofs::Fielded::no_numbers))]
+pub fn read_words(
+    alloc: Global,
+    to: &mut String,
+    words: &mut Words<'_>,
+    wanted: &'static str,
+) -> Result<(), Why>
+    ensures put { OnOk result
+        (numbers_more words.old (string_bytes to.old) ≡ Ok (string_bytes to.new)) }
+    ensures none { OnOk result (words.new ≡ []) }
+    ensures told { IfErr result (Refuses (numbers_more words.old (string_bytes to.old))) }
 {
     for _ in 0..words.len() {
-        read_number(alloc, to, words, "a word of 64 bits", u64::MAX)?;
+        read_number(alloc, to, words, wanted, u64::MAX)?;
     }
     Ok(())
 }
 
 /// A label and words, as far as the line goes.
-#[tactic(auto, using(crate::proofs::Puts::puts_message))]
 fn read_message(alloc: Global, to: &mut String, words: &mut Words<'_>) -> Result<(), Why>
-    ensures { OnOk result
-        (PutsMessage words.old words.new (string_bytes to.old) (string_bytes to.new)) }
+    ensures put { OnOk result
+        (message_more words.old (string_bytes to.old) ≡ Ok (string_bytes to.new, words.new)) }
+    ensures told { IfErr result (Refuses (message_more words.old (string_bytes to.old))) }
 {
     read_number(alloc, to, words, "a label, a number of 52 bits", LABEL)?;
     if words.len() > MESSAGE_WORDS {
@@ -126,18 +136,34 @@ fn read_message(alloc: Global, to: &mut String, words: &mut Words<'_>) -> Result
             limit: MESSAGE_WORDS as u32,
         });
     }
-    read_words(alloc, to, words)
+    read_words(alloc, to, words, "a word of 64 bits")
+}
+
+/// A depth.
+fn read_depth(alloc: Global, words: &mut Words<'_>) -> Result<u8, Why>
+    ensures depth { IfOk result (λ d. number_then 255 words.old ≡ Ok (d, words.new)) }
+    ensures told { IfErr result (Refuses (number_then 255 words.old)) }
+{
+    let depth = words.number(alloc, "a depth, 0 to 255", 255)?;
+    Ok(depth.min(255) as u8)
+}
+
+/// A place with this index, and the depth that stands behind it.
+fn index_place(alloc: Global, index: u64, words: &mut Words<'_>) -> Result<Place, Why>
+    ensures place { IfOk result (λ p. place_with index words.old ≡ Ok (p, words.new)) }
+    ensures told { IfErr result (Refuses (place_with index words.old)) }
+{
+    let depth = read_depth(alloc, words)?;
+    Ok(Place { index, depth })
 }
 
 impl<'a> Speaker<'a> {
     /// An address: a name, or a number.
-    #[tactic(auto, using(crate::proofs::Puts::by_name))]
     fn address(&self, alloc: Global, word: &str) -> Result<u64, Why>
         ensures stands { IfOk result
-            (IsAddress self.now.laid.now.tables.items self.now.thread word.now) }
-        ensures unknown { OnErr result
-            (named_by self.now.laid.now.tables.items self.now.thread word.now ≡ None) }
-        ensures told { IfErr result TellsUnknown }
+            (λ a. address_read self.now.laid.now self.now.thread word.now ≡ Ok a) }
+        ensures told { IfErr result
+            (Refuses (address_read self.now.laid.now self.now.thread word.now)) }
     {
         if let Some(n) = number(word) {
             return Ok(n);
@@ -146,27 +172,38 @@ impl<'a> Speaker<'a> {
         Ok(named.address)
     }
 
-    /// A place: a name, or an index and a depth.
-    #[tactic(auto, using(crate::proofs::Puts::place_by_name, crate::proofs::Puts::place_by_numbers, crate::proofs::Puts::takes_number))]
-    fn place(&self, alloc: Global, words: &mut Words<'_>) -> Result<Place, Why>
-        ensures { IfOk result (λ p.
-            IsPlace self.now.laid.now.tables.items self.now.thread words.old p words.new) }
+    /// The place that a name stands for.
+    fn named_place(&self, alloc: Global, word: &str) -> Result<Place, Why>
+        ensures stands { IfOk result (λ p.
+            place_named self.now.laid.now self.now.thread word.now ≡ Ok p) }
+        ensures told { IfErr result
+            (Refuses (place_named self.now.laid.now self.now.thread word.now)) }
     {
-        let word = words.need("a slot")?;
-        if let Some(index) = number(word) {
-            let depth = words.number(alloc, "a depth, 0 to 255", 255)?;
-            let depth = depth.min(255) as u8;
-            return Ok(Place { index, depth });
-        }
         let named = self.laid.named(alloc, self.thread, word)?;
         Ok(named.place)
     }
 
+    /// A place: a name, or an index and a depth.
+    fn place(&self, alloc: Global, words: &mut Words<'_>) -> Result<Place, Why>
+        ensures stands { IfOk result (λ p.
+            place_read self.now.laid.now self.now.thread words.old ≡ Ok (p, words.new)) }
+        ensures told { IfErr result
+            (Refuses (place_read self.now.laid.now self.now.thread words.old)) }
+    {
+        let word = words.need("a slot")?;
+        match number(word) {
+            Some(index) => index_place(alloc, index, words),
+            None => self.named_place(alloc, word),
+        }
+    }
+
     /// An address, as a number.
-    #[tactic(auto, using(crate::proofs::Puts::puts_address))]
     fn read_address(&self, alloc: Global, to: &mut String, words: &mut Words<'_>) -> Result<(), Why>
-        ensures { OnOk result (PutsAddress self.now.laid.now.tables.items self.now.thread
-            words.old words.new (string_bytes to.old) (string_bytes to.new)) }
+        ensures put { OnOk result
+            (address_more self.now.laid.now self.now.thread words.old (string_bytes to.old)
+            ≡ Ok (string_bytes to.new, words.new)) }
+        ensures told { IfErr result (Refuses
+            (address_more self.now.laid.now self.now.thread words.old (string_bytes to.old))) }
     {
         let word = words.need("a capability")?;
         let address = self.address(alloc, word)?;
@@ -175,8 +212,11 @@ impl<'a> Speaker<'a> {
 
     /// A place, as two numbers.
     fn read_place(&self, alloc: Global, to: &mut String, words: &mut Words<'_>) -> Result<(), Why>
-        ensures { OnOk result (PutsPlace self.now.laid.now.tables.items self.now.thread
-            words.old words.new (string_bytes to.old) (string_bytes to.new)) }
+        ensures put { OnOk result
+            (place_more self.now.laid.now self.now.thread words.old (string_bytes to.old)
+            ≡ Ok (string_bytes to.new, words.new)) }
+        ensures told { IfErr result (Refuses
+            (place_more self.now.laid.now self.now.thread words.old (string_bytes to.old))) }
     {
         let place = self.place(alloc, words)?;
         add_number(alloc, to, place.index)?;
@@ -191,8 +231,11 @@ impl<'a> Speaker<'a> {
         words: &mut Words<'_>,
         field: Field,
     ) -> Result<(), Why>
-        ensures { OnOk result (PutsField self.now.laid.now.tables.items self.now.thread field
-            words.old words.new (string_bytes to.old) (string_bytes to.new)) }
+        ensures put { OnOk result
+            (field_more self.now.laid.now self.now.thread field words.old (string_bytes to.old)
+            ≡ Ok (string_bytes to.new, words.new)) }
+        ensures told { IfErr result (Refuses
+            (field_more self.now.laid.now self.now.thread field words.old (string_bytes to.old))) }
     {
         match field {
             Field::Address => self.read_address(alloc, to, words),
@@ -207,7 +250,7 @@ impl<'a> Speaker<'a> {
     }
 
     /// Fields, in order.
-    #[tactic(auto, using(crate::proofs::Puts::all_of))]
+    #[tactic(auto, using(crate::proofs::Fielded::field_turn, crate::proofs::Fielded::field_refused, crate::proofs::Fielded::no_fields))]
     fn read_fields(
         &self,
         alloc: Global,
@@ -215,8 +258,13 @@ impl<'a> Speaker<'a> {
         words: &mut Words<'_>,
         fields: &[Field],
     ) -> Result<(), Why>
-        ensures { OnOk result (PutsFields self.now.laid.now.tables.items self.now.thread fields.now
-            words.old words.new (string_bytes to.old) (string_bytes to.new)) }
+        ensures put { OnOk result
+            (fields_more self.now.laid.now self.now.thread fields.now words.old
+            (string_bytes to.old)
+            ≡ Ok (string_bytes to.new, words.new)) }
+        ensures told { IfErr result (Refuses
+            (fields_more self.now.laid.now self.now.thread fields.now words.old
+            (string_bytes to.old))) }
     {
         for field in fields {
             self.read_field(alloc, to, words, *field)?;
@@ -225,10 +273,13 @@ impl<'a> Speaker<'a> {
     }
 
     /// Writes the entry that words spell, behind which no word may be left.
-    #[tactic(auto, using(crate::proofs::Puts::puts_entry))]
     pub fn read(&self, alloc: Global, to: &mut String, words: &mut Words<'_>) -> Result<(), Why>
-        ensures { OnOk result (PutsEntry self.now.laid.now.tables.items self.now.thread
-            words.old (string_bytes to.old) (string_bytes to.new)) }
+        ensures put { OnOk result
+            (entry_more self.now.laid.now self.now.thread words.old (string_bytes to.old)
+            ≡ Ok (string_bytes to.new)) }
+        ensures told { IfErr result
+            (Refuses (entry_more self.now.laid.now self.now.thread words.old
+            (string_bytes to.old))) }
     {
         let key = words.need("an entry")?;
         let Some(fields) = fields_of(key) else {

@@ -1,6 +1,7 @@
 //! From a plan to a script, line by line.
 //!
 //! ```text
+//! bytes ── lines ──> lines
 //! lines before the first step ── mcs_plans ──> Plan ── mcs_laying ──> Laid: the boot, and what each thread names
 //! lines of steps and of users ── steps, entries ──> the same lines, with addresses in the place of names
 //! lines that begin with `?`   ── wanting ──> what `mcslab check` reads
@@ -11,6 +12,7 @@
 mod compiling;
 mod entries;
 mod fields;
+mod lines;
 mod mapping;
 mod script;
 mod steps;

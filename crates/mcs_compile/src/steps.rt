@@ -1,8 +1,13 @@
 //! The lines of steps and of users.
-ghost use Rattle.std.specs.Prelude.{◌≡◌, IfOk, string_bytes};
+ghost use Rattle.std.specs.Prelude.{◌≡◌, Ok, IfOk, IfErr, string_bytes};
+ghost use Rattle.mcs_types.specs.declared.id.Kind.TheVariants as kind;
+ghost use Rattle.mcs_names.specs.Cutting.{words_of};
 ghost use Rattle.mcs_names.specs.Naming.{texts};
-ghost use Rattle.mcs_compile.specs.Entries.{PutsEntry};
-ghost use Rattle.mcs_compile.specs.Heads.{object_text, core_text, head_text};
+ghost use Rattle.mcs_plans.specs.Objects.{named_as};
+ghost use Rattle.mcs_plans.specs.Refusals.{Refuses};
+ghost use Rattle.mcs_plans.specs.Words.{number_then};
+ghost use Rattle.mcs_compile.specs.Heads.{object_text, core_text, head_text, step_read};
+ghost use Rattle.mcs_compile.specs.StepLines.{last_core, core_said, core_read, step_head, user_head, is_user, head_read};
 
 use crate::entries::{Speaker, add_number};
 use mcs_laying::Laid;
@@ -30,42 +35,102 @@ pub fn object_text(alloc: Global, object: ObjId) -> Result<String, AllocError>
     Ok(text)
 }
 
+/// The last core.
+fn last_core(laid: &Laid) -> u8
+    ensures { result ≡ last_core laid.now }
+{
+    laid.cores().saturating_sub(1)
+}
+
+/// The number of a core.
+fn core_number(alloc: Global, words: &mut Words<'_>, last: u8) -> Result<u8, Why>
+    ensures core { IfOk result (λ n. number_then last words.old ≡ Ok (n, words.new)) }
+    ensures told { IfErr result (Refuses (number_then last words.old)) }
+{
+    let core = words.number(alloc, "the number of a core", last as u64)?;
+    Ok(core.min(255) as u8)
+}
+
+/// `on core N`.
+fn core_said(alloc: Global, laid: &Laid, words: &mut Words<'_>) -> Result<CoreId, Why>
+    ensures core { IfOk result (λ c. core_said laid.now words.old ≡ Ok (c, words.new)) }
+    ensures told { IfErr result (Refuses (core_said laid.now words.old)) }
+{
+    words.expect(alloc, "on")?;
+    words.expect(alloc, "core")?;
+    let core = core_number(alloc, words, last_core(laid))?;
+    Ok(CoreId(core))
+}
+
 /// The core of a step: that which the line says, or the thread's.
 fn read_core(
     alloc: Global,
     laid: &Laid,
     thread: ObjId,
     words: &mut Words<'_>,
-) -> Result<CoreId, Why> {
+) -> Result<CoreId, Why>
+    ensures core { IfOk result (λ c. core_read laid.now thread words.old ≡ Ok (c, words.new)) }
+    ensures told { IfErr result (Refuses (core_read laid.now thread words.old)) }
+{
     if words.peek().is_none() {
         return Ok(laid.plan.core_of(thread));
     }
-    words.expect(alloc, "on")?;
-    words.expect(alloc, "core")?;
-    let last = laid.cores().saturating_sub(1) as u64;
-    let core = words.number(alloc, "the number of a core", last)?;
-    Ok(CoreId(core.min(255) as u8))
+    core_said(alloc, laid, words)
+}
+
+/// The thread of this name.
+fn thread_named(alloc: Global, laid: &Laid, name: &str) -> Result<ObjId, Why>
+    ensures thread { IfOk result
+        (λ t. named_as kind.Thread name.now laid.now.plan.names ≡ Ok t) }
+    ensures told { IfErr result (Refuses (named_as kind.Thread name.now laid.now.plan.names)) }
+{
+    laid.plan.names.of_kind(alloc, Kind::Thread, name)
+}
+
+/// `NAME` or `NAME on core N`.
+fn step_head(alloc: Global, laid: &Laid, name: &str, words: &mut Words<'_>) -> Result<Head, Why>
+    ensures head { IfOk result (λ h. step_head laid.now name.now words.old ≡ Ok h) }
+    ensures told { IfErr result (Refuses (step_head laid.now name.now words.old)) }
+{
+    let thread = thread_named(alloc, laid, name)?;
+    let core = read_core(alloc, laid, thread, words)?;
+    words.end(alloc)?;
+    Ok(Head {
+        thread,
+        core: Some(core),
+    })
+}
+
+/// `NAME`, behind `user`.
+fn user_head(alloc: Global, laid: &Laid, words: &mut Words<'_>) -> Result<Head, Why>
+    ensures head { IfOk result (λ h. user_head laid.now words.old ≡ Ok h) }
+    ensures told { IfErr result (Refuses (user_head laid.now words.old)) }
+{
+    let name = words.need("the name of a thread")?;
+    let thread = thread_named(alloc, laid, name)?;
+    words.end(alloc)?;
+    Ok(Head { thread, core: None })
+}
+
+/// Whether a line is that of a user: a name stands behind `user`.
+fn is_user(first: &str, words: &Words<'_>) -> bool
+    ensures { result ≡ is_user first.now words.now }
+{
+    first == "user" && words.peek().is_some()
 }
 
 /// What stands before the colon: `NAME`, `NAME on core N`, or `user NAME`.
-pub fn read_head(alloc: Global, laid: &Laid, text: &str) -> Result<Head, Why> {
+pub fn read_head(alloc: Global, laid: &Laid, text: &str) -> Result<Head, Why>
+    ensures head { IfOk result (λ h. head_read laid.now (words_of text.now) ≡ Ok h) }
+    ensures told { IfErr result (Refuses (head_read laid.now (words_of text.now))) }
+{
     let all = split_words(alloc, text)?;
     let mut words = Words::new(&all);
     let first = words.need("the name of a thread")?;
-    let is_user = first == "user" && words.peek().is_some();
-    let name = if is_user {
-        words.need("the name of a thread")?
-    } else {
-        first
-    };
-    let thread = laid.plan.names.of_kind(alloc, Kind::Thread, name)?;
-    let core = if is_user {
-        None
-    } else {
-        Some(read_core(alloc, laid, thread, &mut words)?)
-    };
-    words.end(alloc)?;
-    Ok(Head { thread, core })
+    if is_user(first, &words) {
+        return user_head(alloc, laid, &mut words);
+    }
+    step_head(alloc, laid, first, &mut words)
 }
 
 /// The core of a step, or the word of a user.
@@ -91,8 +156,9 @@ fn head_text(alloc: Global, head: Head) -> Result<String, AllocError>
 
 /// The line of a step, or of a user: who enters, and the entry that words spell.
 pub fn write_entry(alloc: Global, laid: &Laid, head: Head, words: &[&str]) -> Result<String, Why>
-    ensures { IfOk result (λ line. PutsEntry laid.now.tables.items head.thread
-        (texts words.now) (head_text head) (string_bytes line)) }
+    ensures put { IfOk result
+        (λ line. step_read laid.now head (texts words.now) ≡ Ok (string_bytes line)) }
+    ensures told { IfErr result (Refuses (step_read laid.now head (texts words.now))) }
 {
     let mut line = head_text(alloc, head)?;
     let mut words = Words::new(words);

@@ -1,13 +1,10 @@
--- The first row of a table that passes a test, and what is told where none does.
-use Rattle.std.proofs.Common.{◌≡◌, ◌++◌, ◌+◌, ◌<◌, ℕ, Bool, true, false, cond, List, [], ◌∷◌, Some, None, length, take, drop, find, get_or, suc, sym, ap, ◌∙◌, take-append-drop, drop-cons, subst, inl, inr}
-use Rattle.std.proofs.lemmas.List.{take_more}
+-- The first row of a table that passes a test, and the parts of a word.
+use Rattle.std.proofs.Common.{◌≡◌, ◌++◌, ◌+◌, ◌<◌, ◌==◌, nat_lt, ℕ, Bool, true, false, cond, List, [], ◌∷◌, Some, None, length, take, drop, find, get_or, suc, sym, ap, ◌∙◌, take-append-drop, drop-cons, arith}
+use Rattle.std.proofs.lemmas.List.{take_more, take_all}
 use Rattle.std.proofs.lemmas.List.Folds.{find-append}
 use Rattle.std.specs.Option.{option_or}
-use Rattle.mcs_names.specs.declared.fault.Why.{Why}
-use Rattle.mcs_names.specs.declared.fault.Why.TheVariants as why
-use Rattle.mcs_names.specs.Telling.{TellsNot}
-use Rattle.mcs_plans.specs.Telling.{TellsNoCapability}
-use Rattle.mcs_laying.specs.Telling.{TellsUnknown}
+use Rattle.std.specs.List.{after_first, position_or_len}
+use Rattle.mcs_plans.specs.Capabilities.{front_of, rest_of}
 
 module _ {X : Type 0} (test : X → Bool) (xs : List X) (i : ℕ) (x : X) where
   -- one more that does not pass
@@ -26,12 +23,13 @@ module _ {X : Type 0} (test : X → Bool) (xs : List X) (i : ℕ) (x : X) where
       ∙ find-append test (take i xs) (x ∷ drop (suc i) xs)
       ∙ (λ k. option_or (before k) (cond (passes k) (Some x) (find test (drop (suc i) xs))))
 
--- what is told where no row does
-pub tells_not : (word : List ℕ) (w : Why) → TellsNot word w → TellsUnknown w
-tells_not word w h = (word, inr h)
+-- a word with a mark, and one without
+pub no_rest : (mark : ℕ) (text : List ℕ) → position_or_len (λ b. b == mark) text ≡ length text → (front_of mark text ≡ text) × (rest_of mark text ≡ None)
+no_rest mark text none =
+    let same : nat_lt (position_or_len (λ b. b == mark) text) (length text) ≡ false = grind (arith, none) in
+    (ap (λ k. take k text) none ∙ take_all (length text) text (omega arith), ap (λ b. cond b (Some (after_first (λ b. b == mark) text)) None) same)
 
-pub tells_none : (word : List ℕ) (w : Why) → TellsNoCapability word w → TellsUnknown w
-tells_none word w h = (word, inl h)
-
-pub memory : (w : Why) → w ≡ why.OutOfMemory → TellsUnknown w
-memory w e = subst (λ v. TellsUnknown v) (sym e) ([], inr tt)
+pub one_rest : (mark : ℕ) (text : List ℕ) → position_or_len (λ b. b == mark) text < length text → rest_of mark text ≡ Some (after_first (λ b. b == mark) text)
+one_rest mark text some =
+    let less : nat_lt (position_or_len (λ b. b == mark) text) (length text) ≡ true = grind (arith, some) in
+    ap (λ b. cond b (Some (after_first (λ b. b == mark) text)) None) less

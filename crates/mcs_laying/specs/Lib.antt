@@ -1,3 +1,4 @@
 pub mod Boot
 pub mod Naming
-pub mod Telling
+pub mod Starting
+pub mod Unnamed

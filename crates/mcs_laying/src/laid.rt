@@ -1,16 +1,19 @@
 //! A plan whose spaces are laid out.
-ghost use Rattle.std.specs.Prelude.{◌≡◌, None, Some, IfOk, IfErr, OnErr, find, fold, max, option_copied, slice_get};
+ghost use Rattle.std.specs.Prelude.{◌≡◌, None, Some, Ok, IfOk, IfErr, find, fold, max, option_copied, option_map, slice_get};
 ghost use Rattle.std.specs.Option.{unwrap_or};
 ghost use Rattle.mcs_laying.specs.Naming.{is_row, named_by, cores_of};
-ghost use Rattle.mcs_laying.specs.Telling.{TellsUnknown};
+ghost use Rattle.mcs_laying.specs.Starting.{IsStarted, first_line, RefusesStarter};
+ghost use Rattle.mcs_laying.specs.Unnamed.{Tells, cap_in, cnode_held, space_behind, inner_in, named_read, no_inner, outer_in, unnamed};
+ghost use Rattle.mcs_plans.specs.Refusals.{Refuses, no_capability};
+ghost use Rattle.mcs_plans.specs.Saying.{said};
 
 use crate::layouts::layouts_of;
 use crate::starter::add_starter;
 use crate::tables::Named;
 use mcs_names::{PlanFault, Why, not};
-use mcs_plans::{Passive, Plan, Space};
+use mcs_plans::{Plan, Space};
 use mcs_spaces::Layout;
-use mcs_types::{CoreId, Kind, ObjId};
+use mcs_types::{Cap, CoreId, Kind, ObjId};
 use std::alloc::{AllocError, Global};
 
 /// A plan whose spaces are laid out, with the names of each thread.
@@ -22,10 +25,27 @@ pub struct Laid {
 }
 
 /// The line of the first passive thread.
-fn first_passive(plan: &Plan) -> Option<u64> {
-    match plan.passives.first() {
-        Some(Passive { line, .. }) => Some(*line),
-        None => None,
+fn first_passive(plan: &Plan) -> Option<u64>
+    ensures { result ≡ first_line (said plan.now).passives }
+{
+    match plan.passives.as_slice() {
+        [] => None,
+        [first, ..] => Some(first.line),
+    }
+}
+
+/// A plan with the thread that makes others passive, where one is.
+fn started(alloc: Global, plan: Plan) -> Result<Plan, PlanFault>
+    ensures started { IfOk result (λ new. IsStarted (said plan) (said new)) }
+    ensures told { IfErr result (RefusesStarter (said plan)) }
+{
+    let Some(line) = first_passive(&plan) else {
+        return Ok(plan);
+    };
+    let mut plan = plan;
+    match add_starter(alloc, &mut plan) {
+        Ok(()) => Ok(plan),
+        Err(why) => Err(PlanFault { line, why }),
     }
 }
 
@@ -59,9 +79,44 @@ fn first_row<'a>(table: &'a [Named], word: &str) -> Option<&'a Named>
     None
 }
 
+/// The parts of a word: the name of a slot, and of one of the CNode that it holds a capability to.
+#[tactic(auto, using(crate::proofs::Rows::no_rest, crate::proofs::Rows::one_rest))]
+fn parts_of<'a>(word: &'a str) -> (&'a str, Option<&'a str>)
+    ensures outer { result.0.now ≡ outer_in word.now }
+    ensures inner { option_copied result.1 ≡ inner_in word.now }
+{
+    match word.split_once('/') {
+        None => (word, None),
+        Some((outer, inner)) => (outer, Some(inner)),
+    }
+}
+
+/// The capability that the slot of this name holds.
+fn cap_in(space: &Space, name: &str) -> Option<Cap>
+    ensures { result ≡ cap_in space.now name.now }
+{
+    match space.slots.get(name) {
+        Some(slot) => slot.cap,
+        None => None,
+    }
+}
+
+/// The fault of a name that no slot of a space has.
+fn no_slot(alloc: Global, space: &Space, holder: &str, name: &str) -> Result<Why, AllocError>
+    ensures { IfOk result (Tells (no_capability holder.now name.now)) }
+{
+    Ok(Why::NoCapability {
+        holder: String::from_str(alloc, holder)?,
+        word: String::from_str(alloc, name)?,
+        there: space.listed(alloc)?,
+    })
+}
+
 impl Laid {
     /// The layouts and the names of a plan that has the thread which it needs.
-    fn with_layouts(alloc: Global, plan: Plan) -> Result<Laid, AllocError> {
+    fn with_layouts(alloc: Global, plan: Plan) -> Result<Laid, AllocError>
+        ensures { IfOk result (λ laid. laid.plan ≡ plan) }
+    {
         let layouts = layouts_of(alloc, &plan.spaces)?;
         let mut laid = Laid {
             plan,
@@ -74,13 +129,11 @@ impl Laid {
 
     /// Lays the spaces of a plan out. Twice at the line of the first passive thread where `starter` is
     /// a name already.
-    pub fn new(alloc: Global, plan: Plan) -> Result<Laid, PlanFault> {
-        let mut plan = plan;
-        if let Some(line) = first_passive(&plan) {
-            if let Err(why) = add_starter(alloc, &mut plan) {
-                return Err(PlanFault { line, why });
-            }
-        }
+    pub fn new(alloc: Global, plan: Plan) -> Result<Laid, PlanFault>
+        ensures plan { IfOk result (λ laid. IsStarted (said plan) (said laid.plan)) }
+        ensures told { IfErr result (RefusesStarter (said plan)) }
+    {
+        let plan = started(alloc, plan)?;
         match Laid::with_layouts(alloc, plan) {
             Ok(laid) => Ok(laid),
             Err(AllocError) => Err(PlanFault {
@@ -120,54 +173,65 @@ impl Laid {
     }
 
     /// What a thread names by a word. NoCapability or Not where it has none of that name.
-    #[tactic(auto, using(crate::proofs::Rows::memory))]
     pub fn named(&self, alloc: Global, thread: ObjId, word: &str) -> Result<&Named, Why>
-        ensures found { IfOk result
-            (λ n. named_by self.now.tables.items thread word.now ≡ Some n.now) }
-        ensures unknown { OnErr result (named_by self.now.tables.items thread word.now ≡ None) }
-        ensures told { IfErr result TellsUnknown }
+        ensures found { IfOk result (λ n. named_read self.now thread word.now ≡ Ok n.now) }
+        ensures told { IfErr result (Refuses (named_read self.now thread word.now)) }
     {
         match self.find(thread, word) {
             Some(named) => Ok(named),
-            None => Err(self.no_capability(alloc, thread, word)?),
+            None => Err(self.unnamed(alloc, thread, word)?),
         }
     }
 
     /// The fault of a word that names nothing.
-    #[tactic(auto, using(crate::proofs::Rows::tells_not, crate::proofs::Rows::tells_none))]
-    fn no_capability(&self, alloc: Global, thread: ObjId, word: &str) -> Result<Why, AllocError>
-        ensures { IfOk result TellsUnknown }
+    fn unnamed(&self, alloc: Global, thread: ObjId, word: &str) -> Result<Why, AllocError>
+        ensures { IfOk result (Tells (unnamed self.now.plan thread word.now)) }
     {
-        let holder = self.plan.names.name_of(thread);
         let Some(space) = self.plan.spaces.get(self.plan.space_of(thread)) else {
             return Ok(not(alloc, word, "a capability"));
         };
-        let (outer, inner) = match word.split_once('/') {
-            None => (word, None),
-            Some((outer, inner)) => (outer, Some(inner)),
-        };
-        if !space.slots.contains_key(outer) {
-            return Ok(space.no_capability(alloc, holder, outer)?);
+        let (outer, inner) = parts_of(word);
+        if !space.has(outer) {
+            let holder = self.plan.names.name_of(thread);
+            return no_slot(alloc, space, holder, outer);
         }
-        let Some(name) = inner else {
-            return Ok(not(alloc, word, "a capability"));
-        };
+        match inner {
+            None => Ok(not(alloc, word, "a capability")),
+            Some(name) => self.no_inner(alloc, space, outer, name),
+        }
+    }
+
+    /// The fault of a name that no slot has in the CNode which an outer slot holds a capability to.
+    fn no_inner(
+        &self,
+        alloc: Global,
+        space: &Space,
+        outer: &str,
+        name: &str,
+    ) -> Result<Why, AllocError>
+        ensures { IfOk result (Tells (no_inner self.now.plan outer.now name.now
+            (cnode_held self.now.plan.spaces.items space.now outer.now))) }
+    {
         match self.held_by(space, outer) {
-            Some((other, held)) => {
-                let holder = self.plan.names.name_of(other);
-                Ok(held.no_capability(alloc, holder, name)?)
-            }
+            Some((cnode, held)) => no_slot(alloc, held, self.plan.names.name_of(cnode), name),
             None => Ok(not(alloc, outer, "a capability to a space")),
         }
     }
 
+    /// The space whose root is a CNode.
+    fn space_behind(&self, cnode: ObjId) -> Option<&Space>
+        ensures { option_copied result ≡ space_behind self.now.plan.spaces.items cnode }
+    {
+        self.plan.spaces.get(cnode.place(Kind::CNode)?)
+    }
+
     /// The CNode that a slot holds a capability to, and its space.
-    fn held_by(&self, space: &Space, name: &str) -> Option<(ObjId, &Space)> {
-        let slot = space.slots.get(name)?;
-        let Some(cap) = &slot.cap else {
-            return None;
-        };
-        let held = self.plan.spaces.get(cap.obj.place(Kind::CNode)?)?;
+    fn held_by(&self, space: &Space, name: &str) -> Option<(ObjId, &Space)>
+        ensures { option_map (λ h. h.0) result
+            ≡ cnode_held self.now.plan.spaces.items space.now name.now }
+    {
+        let cap = cap_in(space, name)?;
+        let held = self.space_behind(cap.obj)?;
         Some((cap.obj, held))
     }
 }

@@ -1,12 +1,17 @@
 //! The thread that makes others passive.
-ghost use Rattle.std.specs.Prelude.{◌≡◌, Some};
+ghost use Rattle.std.specs.Prelude.{◌≡◌, Some, None, Ok, IfOk, IfErr, OnOk};
+ghost use Rattle.mcs_names.specs.declared.fault.Why.TheVariants as why;
+ghost use Rattle.mcs_names.specs.Naming.{next_of};
+ghost use Rattle.mcs_plans.specs.Refusals.{Refuses};
+ghost use Rattle.mcs_plans.specs.Saying.{said, said_space, with_name, with_thread};
 ghost use Rattle.mcs_laying.specs.Boot.{bare};
+ghost use Rattle.mcs_laying.specs.Starting.{name_more, names_started, own_context, starter_with, with_parts, AddsStarter};
 
 use indexmap::IndexMap;
-use mcs_names::Why;
+use mcs_names::{Names, Why};
 use mcs_plans::{Plan, STARTER, Slot, Space, Thread};
 use mcs_types::{Badge, Cap, CoreId, Guard, Kind, ObjId, Prio, Rights};
-use std::alloc::Global;
+use std::alloc::{AllocError, Global};
 
 /// The name of its context.
 const CONTEXT: &str = "starter.context";
@@ -28,7 +33,9 @@ pub fn bare(obj: ObjId, guard: Guard) -> Option<Cap>
 }
 
 /// A slot that holds a capability to this object under its name.
-fn add_slot(alloc: Global, space: &mut Space, obj: ObjId, name: &str) -> Result<(), Why> {
+fn add_slot(alloc: Global, space: &mut Space, obj: ObjId, name: &str) -> Result<(), AllocError>
+    ensures { space.new.radix ≡ space.old.radix }
+{
     let slot = Slot {
         cap: bare(obj, Guard { bits: 0, value: 0 }),
         written: String::from_str(alloc, name)?,
@@ -38,7 +45,10 @@ fn add_slot(alloc: Global, space: &mut Space, obj: ObjId, name: &str) -> Result<
 }
 
 /// Its space: the contexts of all passive threads, and itself.
-fn space_of(alloc: Global, plan: &Plan, starter: ObjId) -> Result<Space, Why> {
+fn space_of(alloc: Global, plan: &Plan, starter: ObjId) -> Result<Space, Why>
+    ensures radix { IfOk result (λ s. s.radix ≡ None) }
+    ensures told { IfErr result (λ w. w ≡ why.OutOfMemory) }
+{
     let mut space = Space::new(alloc, None);
     for passive in &plan.passives {
         if let Some(context) = plan.context_of(passive.thread) {
@@ -49,12 +59,33 @@ fn space_of(alloc: Global, plan: &Plan, starter: ObjId) -> Result<Space, Why> {
     Ok(space)
 }
 
-/// Adds it. Twice where one of its names is there already.
-pub fn add_starter(alloc: Global, plan: &mut Plan) -> Result<(), Why> {
-    let thread = plan.names.add(alloc, Kind::Thread, STARTER)?;
-    let context = plan.names.add(alloc, Kind::Context, CONTEXT)?;
-    plan.names.add(alloc, Kind::CNode, SPACE)?;
-    let space = space_of(alloc, plan, thread)?;
+/// Gives an object its name.
+fn add_name(alloc: Global, names: &mut Names, kind: Kind, name: &str) -> Result<ObjId, Why>
+    ensures object { IfOk result (λ o. o ≡ next_of kind names.old) }
+    ensures added { OnOk result (name_more kind name.now names.old ≡ Ok names.new) }
+    ensures names { OnOk result (names.new ≡ with_name kind name.now names.old) }
+    ensures told { IfErr result (Refuses (name_more kind name.now names.old)) }
+{
+    names.add(alloc, kind, name)
+}
+
+/// Gives it its names, and returns it and its context. Twice where one of them is there already.
+fn add_names(alloc: Global, names: &mut Names) -> Result<(ObjId, ObjId), Why>
+    ensures added { OnOk result (names_started names.old ≡ Ok names.new) }
+    ensures context { IfOk result (λ o. o.1 ≡ own_context names.old) }
+    ensures told { IfErr result (Refuses (names_started names.old)) }
+{
+    let thread = add_name(alloc, names, Kind::Thread, STARTER)?;
+    let context = add_name(alloc, names, Kind::Context, CONTEXT)?;
+    add_name(alloc, names, Kind::CNode, SPACE)?;
+    Ok((thread, context))
+}
+
+/// Puts it behind the other threads, with its context and its space.
+fn put(plan: &mut Plan, space: Space, context: ObjId) -> Result<(), AllocError>
+    ensures { OnOk result (said plan.new ≡ with_thread (starter_with context (said plan.old))
+        (with_parts (said_space space) (said plan.old))) }
+{
     let place = plan.spaces.len();
     plan.spaces.push(space)?;
     plan.contexts.push(CoreId(0))?;
@@ -66,5 +97,16 @@ pub fn add_starter(alloc: Global, plan: &mut Plan) -> Result<(), Why> {
         context: Some(context),
         core: CoreId(0),
     })?;
+    Ok(())
+}
+
+/// Adds it. Twice where one of its names is there already.
+pub fn add_starter(alloc: Global, plan: &mut Plan) -> Result<(), Why>
+    ensures added { OnOk result (AddsStarter (said plan.old) (said plan.new)) }
+    ensures told { IfErr result (Refuses (names_started plan.old.names)) }
+{
+    let (thread, context) = add_names(alloc, &mut plan.names)?;
+    let space = space_of(alloc, plan, thread)?;
+    put(plan, space, context)?;
     Ok(())
 }

@@ -7,8 +7,9 @@ use Rattle.std.specs.Map.{lookup}
 use Rattle.indexmap.specs.IndexMap.{IndexMap, insert_entry}
 use Rattle.indexmap.proofs.CallerLemmas.{insert_entry-new}
 use Rattle.mcs_types.specs.declared.id.Kind.{Kind}
-use Rattle.mcs_types.specs.Ids.{same_kind}
-use Rattle.mcs_names.specs.Naming.{NameList, find, named_in, count_of, is_of_kind, texts, with_word, begins_with_digit}
+use Rattle.mcs_types.specs.declared.id.ObjId.{ObjId}
+use Rattle.mcs_types.specs.Ids.{same, same_kind}
+use Rattle.mcs_names.specs.Naming.{NameList, find, name_of, named_in, count_of, is_of_kind, texts, with_word, begins_with_digit}
 use Rattle.mcs_names.specs.Telling.{TakesNumber}
 
 module _ {A X : Type 0} where
@@ -79,3 +80,27 @@ one_more (b ∷ bs) word e = sym (append_assoc (b ∷ bs) (32 ∷ []) word)
 -- a word that was taken is a number
 pub takes_number : (old new : List (List ℕ)) (word : List ℕ) → old ≡ word ∷ new → begins_with_digit word ≡ true → TakesNumber old new
 takes_number old new word e digit = subst (λ ws. TakesNumber ws new) (sym e) (refl, digit)
+
+-- the name of an object stands here, or later
+module _ (names : NameList) (i : ℕ) (n : List ℕ × ObjId) (object : ObjId) (there : slice_get names i ≡ Some n) where
+  rest_is : drop i names ≡ n ∷ drop (i + 1) names
+  rest_is =
+      let next : suc i ≡ i + 1 = omega arith in
+      drop-cons names i n (slice_get_within names i n there) ∙ ap (λ m. m ∷ drop (suc i) names) (get_or_from_slice_get names i n n there) ∙ ap (λ k. n ∷ drop k names) next
+
+  pub named_here : same n.1 object ≡ true → name_of (drop i names) object ≡ n.0
+  named_here is = ap (λ ns. name_of ns object) rest_is ∙ ap (λ b. cond b n.0 (name_of (drop (i + 1) names) object)) is
+
+  pub named_later : same n.1 object ≡ false → name_of (drop i names) object ≡ name_of (drop (i + 1) names) object
+  named_later is = ap (λ ns. name_of ns object) rest_is ∙ ap (λ b. cond b n.0 (name_of (drop (i + 1) names) object)) is
+
+past_end : (names : NameList) (i : ℕ) (object : ObjId) → length names ≤ i → name_of (drop i names) object ≡ []
+past_end names i object past = ap (λ ns. name_of ns object) (drop_of_length-le names past)
+
+pub no_more_names : (names : NameList) (i : ℕ) (object : ObjId) → slice_get names i ≡ None → name_of (drop i names) object ≡ name_of (drop (i + 1) names) object
+no_more_names names i object none = go (slice_get_cases names i).1
+  where
+    go : ((x : List ℕ × ObjId) × (i < length names) × (slice_get names i ≡ Some x) × (get_or names i x ≡ x)) ⊎ ((length names ≤ i) × (slice_get names i ≡ None))
+        → name_of (drop i names) object ≡ name_of (drop (i + 1) names) object
+    go (inl h) = absurd (none-some h.0 (sym none ∙ h.2))
+    go (inr h) = past_end names i object h.0 ∙ sym (past_end names (i + 1) object (omega (arith, h.0)))

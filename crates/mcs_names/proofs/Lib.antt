@@ -1,2 +1,4 @@
+pub mod Comments
+pub mod Cuts
 pub mod Entries
 pub mod Spelled

@@ -1,3 +1,4 @@
+pub mod Cutting
 pub mod Naming
 pub mod Numbers
 pub mod Telling

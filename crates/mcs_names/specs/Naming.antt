@@ -1,12 +1,12 @@
 -- Objects by their names.
-use Rattle.std.specs.Prelude.{ℕ, ◌+◌, Bool, false, ◌&&◌, ◌||◌, ◌==◌, nat_le, List, [], ◌∷◌, ◌++◌, Option, Some, None, String, map, count_by, string_bytes, bytes_eq}
+use Rattle.std.specs.Prelude.{ℕ, ◌+◌, Bool, false, ◌&&◌, ◌||◌, ◌==◌, nat_le, cond, List, [], ◌∷◌, ◌++◌, Option, Some, None, String, map, count_by, string_bytes, bytes_eq}
 use Rattle.std.specs.List.{list_all}
 use Rattle.std.specs.Map.{lookup}
 use denote.Ref.{Bor}
 use Rattle.mcs_types.specs.declared.id.ObjId.{ObjId}
 use Rattle.mcs_types.specs.declared.id.Kind.{Kind}
 use Rattle.mcs_types.specs.declared.id.Kind.TheVariants.{CNode, Thread, Endpoint, Notification, Reply, Context}
-use Rattle.mcs_types.specs.Ids.{same_kind}
+use Rattle.mcs_types.specs.Ids.{same, same_kind}
 use Rattle.mcs_types.specs.Limits.{cnode_limit, object_limit}
 
 -- things by their names, in the order in which they were given
@@ -51,6 +51,11 @@ limit_of Context = object_limit
 -- what has a name
 abbrev pub find : {X : Type 0} → ByName X → List ℕ → Option X
 find names word = lookup (bytes_eq word) names
+
+-- the first name of an object; none at all where it has none
+abbrev pub name_of : NameList → ObjId → List ℕ
+name_of [] object = []
+name_of (n ∷ names) object = cond (same n.1 object) n.0 (name_of names object)
 
 -- how many objects of a kind have names
 abbrev pub count_of : Kind → NameList → ℕ

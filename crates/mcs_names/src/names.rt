@@ -1,6 +1,6 @@
 //! Objects by their names.
 ghost use Rattle.std.specs.Prelude.{◌≡◌, ◌++◌, ◌∷◌, [], min, Some, IfOk, IfErr, OnOk, OnErr, None, slice_get, option_map, length, string_bytes};
-ghost use Rattle.mcs_names.specs.Naming.{limit_of, find, count_of, next_of, is_of_kind, with_word};
+ghost use Rattle.mcs_names.specs.Naming.{limit_of, find, name_of, count_of, next_of, is_of_kind, with_word};
 ghost use Rattle.mcs_names.specs.Telling.{MayAdd, MayNotAdd, Adds, TellsNoName, IsOfKind, HasNoneOfKind};
 
 use crate::fault::Why;
@@ -230,11 +230,15 @@ impl Names {
         Ok(there)
     }
 
-    /// The name of an object.
-    pub fn name_of(&self, object: ObjId) -> &str {
-        for (name, named) in self.objects.iter() {
-            if *named == object {
-                return name.as_str();
+    /// The name of an object; an empty one where it has none.
+    pub fn name_of(&self, object: ObjId) -> &str
+        ensures { result.now ≡ name_of self.now object }
+    {
+        for index in 0..self.len() {
+            if let Some((name, named)) = self.at(index) {
+                if named.is_same(object) {
+                    return name;
+                }
             }
         }
         ""

@@ -1,6 +1,7 @@
 //! The words of a line of a plan.
 ghost use Rattle.std.specs.Prelude.{◌≡◌, ◌≤◌, ◌∷◌, [], true, IfOk, IfErr, OnOk, OnSome, IfSome, IfNone, option_map, slice_get, slice_index, ◌==◌, length};
 ghost use Rattle.std.specs.List.{list_all};
+ghost use Rattle.mcs_names.specs.Cutting.{is_white, words_of, code_len, code_of, comment_of};
 ghost use Rattle.mcs_names.specs.Naming.{is_letter, is_name_byte, is_name, begins_with_digit, texts};
 ghost use Rattle.mcs_names.specs.Numbers.{number_in, number_of, ReadsNumber, TellsNoNumber};
 ghost use Rattle.mcs_names.specs.Telling.{TellsNot, TellsMissing, TellsTooMany, TellsOther, TakesNumber};
@@ -134,20 +135,43 @@ pub fn not(alloc: Global, word: &str, wanted: &'static str) -> Why
     }
 }
 
-/// The words of a line.
-pub fn split_words<'a>(alloc: Global, line: &'a str) -> Result<Vec<&'a str>, AllocError> {
-    line.split_whitespace().collect(alloc)
+/// The words of a line, between which spaces and tabs stand.
+pub fn split_words<'a>(alloc: Global, line: &'a str) -> Result<Vec<&'a str>, AllocError>
+    ensures { IfOk result (λ words. texts words.items ≡ words_of line.now) }
+{
+    line.split([' ', '\t'])
+        .filter(|part| !part.is_empty())
+        .collect(alloc)
 }
 
-/// A line without its comment, and the comment. A comment begins with `#`, at the line's beginning or behind a space.
-pub fn split_comment<'a>(line: &'a str) -> (&'a str, Option<&'a str>) {
-    if let Some(comment) = line.trim_start().strip_prefix("#") {
-        return ("", Some(comment));
+/// Whether a byte is a space or a tab.
+pub fn is_white(byte: u8) -> bool
+    ensures { result ≡ is_white byte }
+{
+    byte == 32 || byte == 9
+}
+
+/// How many bytes of a line stand before its comment; all where it has none.
+fn code_len(line: &[u8]) -> usize
+    ensures { result ≡ code_len true line.now }
+{
+    let mut begins = true;
+    for (place, byte) in line.iter().enumerate() {
+        if begins && *byte == b'#' {
+            return place;
+        }
+        begins = is_white(*byte);
     }
-    match line.split_once(" #") {
-        None => (line, None),
-        Some((line, comment)) => (line, Some(comment)),
-    }
+    line.len()
+}
+
+/// A line without its comment, and the comment. A comment begins with `#`, at the line's beginning or behind a space or a tab.
+pub fn split_comment<'a>(line: &'a str) -> (&'a str, Option<&'a str>)
+    ensures code { result.0.now ≡ code_of line.now }
+    ensures comment { option_map (λ c. c.now) result.1 ≡ comment_of line.now }
+{
+    let (code, rest) = line.split_at(code_len(line.as_bytes()));
+    (code, rest.strip_prefix('#'))
 }
 
 /// Whether a word begins with a digit.

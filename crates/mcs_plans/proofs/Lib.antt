@@ -1,6 +1,9 @@
 pub mod SlotNames
 pub mod Words
 pub mod Places
-pub mod LineWords
-pub mod Added
-pub mod ThreadWords
+pub mod Refusing
+pub mod Turns
+pub mod Keeping
+pub mod KeepingLines
+pub mod Faults
+pub mod Whole

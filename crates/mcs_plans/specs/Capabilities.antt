@@ -1,14 +1,14 @@
 -- The capability that a word spells.
-use Rattle.std.specs.Prelude.{◌≡◌, ◌==◌, ◌&&◌, ◌||◌, ℕ, Bool, true, false, cond, not, nat_lt, List, [], ◌∷◌, length, Option, Some, None, IsSome, is_none, bit_and, bit_or, bytes_eq, option_map, option_and_then, string_bytes}
+use Rattle.std.specs.Prelude.{◌==◌, ◌&&◌, ◌||◌, ℕ, Bool, true, false, cond, not, nat_lt, List, [], ◌∷◌, length, Option, Some, None, is_none, bit_and, bit_or, bytes_eq, option_map, option_and_then}
+use Rattle.std.specs.Option.{ok_or}
 use Rattle.std.specs.List.{before_first, after_first, position_or_len}
 use Rattle.mcs_types.specs.declared.id.ObjId.{ObjId}
 use Rattle.mcs_types.specs.declared.id.Kind.{Kind}
 use Rattle.mcs_types.specs.declared.id.Kind.TheVariants.{CNode, Thread, Endpoint, Notification, Reply, Context}
 use Rattle.mcs_types.specs.declared.cap.Cap.{Cap}
-use Rattle.mcs_names.specs.declared.fault.Why.{Why}
-use Rattle.mcs_names.specs.declared.fault.Why.TheVariants as why
 use Rattle.mcs_names.specs.Naming.{NameList, find}
 use Rattle.mcs_names.specs.Numbers.{number_of}
+use Rattle.mcs_plans.specs.Refusals.{Read, ◌>>=◌, no_name, not_wanted}
 
 -- the bit of a letter of rights: `w`, `r`, `g`, `p`; 0 for any other
 abbrev pub bit_of : ℕ → ℕ
@@ -80,13 +80,7 @@ cap_to obj word = cond (may_say obj.kind word)
     (rights_said obj.kind (rights_in word))) None
 
 -- the capability that a word spells: to the object of its name
-abbrev pub cap_spelt : NameList → List ℕ → Option Cap
-cap_spelt names word = option_and_then (λ obj. cap_to obj word) (find names (name_in word))
-
--- why a word spells none, which it tells: no object has its name, or it has rights or a badge that are none
-abbrev pub TellsNoCap : NameList → List ℕ → Why → Type 0
-TellsNoCap names word (why.NoName told wanted there) = (string_bytes told ≡ name_in word) × (find names (name_in word) ≡ None)
-TellsNoCap names word (why.Not told wanted) =
-    (string_bytes told ≡ word) × IsSome (find names (name_in word)) × (cap_spelt names word ≡ None)
-TellsNoCap names word why.OutOfMemory = Unit {0}
-TellsNoCap names word _ = ⊥
+abbrev pub cap_read : NameList → List ℕ → Read Cap
+cap_read names word = do
+  obj ← ok_or (find names (name_in word)) (no_name (name_in word))
+  ok_or (cap_to obj word) (not_wanted word)

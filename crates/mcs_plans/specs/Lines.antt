@@ -1,35 +1,51 @@
--- What a line of a plan adds to it.
-use Rattle.std.specs.Prelude.{◌≡◌, ◌≢◌, ◌<◌, ◌⊎◌, ◌∷◌, ℕ, zero, suc, Bool, true, false, cond, List, [], length, Option, Some, None, is_some, bytes_eq, option_map, option_and_then, slice_get, string_bytes}
+-- What the line of objects, of slots, of a binding or of the cores adds to a plan, or why it is refused.
+use Rattle.std.specs.Prelude.{◌==◌, ◌&&◌, ◌∷◌, ℕ, zero, suc, Bool, false, not, List, [], length, Option, Some, None, Ok, Err, is_some, is_none, nat_lt, bytes_eq, codes, slice_get, if◌then◌else◌}
 use Rattle.mcs_types.specs.declared.id.Kind.{Kind}
 use Rattle.mcs_types.specs.declared.id.Kind.TheVariants as kind
 use Rattle.mcs_types.specs.declared.cap.Cap.{Cap}
-use Rattle.mcs_names.specs.declared.fault.Why.{Why}
-use Rattle.mcs_names.specs.declared.fault.Why.TheVariants as why
-use Rattle.mcs_names.specs.Naming.{NameList, find, is_name}
-use Rattle.mcs_names.specs.Numbers.{ReadsNumber}
-use Rattle.mcs_names.specs.Telling.{IsOfKind}
 use Rattle.mcs_types.specs.Limits.{core_limit}
-use Rattle.std.specs.List.{list_any}
-use Rattle.mcs_plans.specs.declared.plan.Tie.{Tie}
-use Rattle.mcs_plans.specs.declared.plan.Plan.{Plan}
-use Rattle.mcs_plans.specs.declared.plan.Space.{Space}
-use Rattle.mcs_plans.specs.Capabilities.{cap_spelt, name_in, TellsNoCap}
-use Rattle.mcs_plans.specs.Telling.{MayNotHave}
-use Rattle.mcs_plans.specs.Saying.{Said, SaidSpace, said, with_slot, with_object, with_tie}
-use Rattle.mcs_plans.specs.Threads.{NamesSpace, meets}
+use Rattle.mcs_names.specs.Naming.{NameList, find, is_name}
+use Rattle.mcs_plans.specs.Capabilities.{cap_read, name_in}
+use Rattle.mcs_plans.specs.Making.{keeps_limit}
+use Rattle.mcs_plans.specs.Objects.{may_name, named_as}
+use Rattle.mcs_plans.specs.Refusals.{Read, ◌>>=◌, ◌>>◌, need, missing, not_wanted, twice, limit, bound, late_cores}
+use Rattle.mcs_plans.specs.Saying.{Said, SaidSpace, with_slot, with_object, with_tie}
+use Rattle.mcs_plans.specs.Slots.{most_slots}
+use Rattle.mcs_plans.specs.Threads.{space_named, is_thread_bound, is_notification_bound}
+use Rattle.mcs_plans.specs.Words.{word_then, end_of, number_then, zero_word}
+
+-- an object more
+abbrev pub object_more : Kind → List ℕ → Said → Read Said
+object_more kind name s = do
+  may_name kind name s.names
+  Ok (with_object kind name s)
+
+-- objects of a kind more, in order
+abbrev pub objects_more : Kind → List (List ℕ) → Said → Read Said
+objects_more kind [] s = Ok s
+objects_more kind (name ∷ names) s = do
+  more ← object_more kind name s
+  objects_more kind names more
+
+-- the line of objects of a kind, of which it names one at least
+abbrev pub objects_line : Kind → List (List ℕ) → Said → Read Said
+objects_line kind [] s = Err missing
+objects_line kind (name ∷ names) s = objects_more kind (name ∷ names) s
 
 -- the word of an empty slot
 abbrev pub is_dash : List ℕ → Bool
-is_dash word = bytes_eq word (45 ∷ [])
+is_dash word = bytes_eq word (codes "-")
 
 -- what a slot is to hold: a capability, or nothing
-abbrev pub held_by : NameList → List ℕ → Option (Option Cap)
-held_by names word = cond (is_dash word) (Some None) (option_map (λ cap. Some cap) (cap_spelt names word))
+abbrev pub held_by : NameList → List ℕ → Read (Option Cap)
+held_by names word = if is_dash word then Ok None else do
+  cap ← cap_read names word
+  Ok (Some cap)
 
 -- whether the next word is `as`
 abbrev pub says_as : List (List ℕ) → Bool
 says_as [] = false
-says_as (word ∷ words) = bytes_eq word (97 ∷ 115 ∷ [])
+says_as (word ∷ words) = bytes_eq word (codes "as")
 
 -- whether a space has a slot of this name
 abbrev pub has_slot : Option SaidSpace → List ℕ → Bool
@@ -37,85 +53,86 @@ has_slot None name = false
 has_slot (Some space) name = is_some (find space.slots name)
 
 -- the name of a slot that is given none: that of its object, or where that is taken its whole word; an empty slot is given one
-abbrev pub usual_name : Option SaidSpace → List ℕ → Option (List ℕ)
-usual_name space word = cond (is_dash word) None (Some (cond (has_slot space (name_in word)) word (name_in word)))
+abbrev pub usual_name : Option SaidSpace → List ℕ → Read (List ℕ)
+usual_name space word = do
+  need (not (is_dash word)) missing
+  Ok (if has_slot space (name_in word) then word else name_in word)
 
 -- the name that stands behind `as`, and the words behind it
-abbrev pub given_name : List (List ℕ) → Option (List ℕ × List (List ℕ))
-given_name (as_word ∷ name ∷ words) = cond (is_name name) (Some (name, words)) None
-given_name words = None
+abbrev pub given_name : List (List ℕ) → Read (List ℕ × List (List ℕ))
+given_name [] = Err missing
+given_name (as_word ∷ words) = do
+  (name, left) ← word_then words
+  need (is_name name) (not_wanted name)
+  Ok (name, left)
 
 -- the name of a slot, and the words behind it
-abbrev pub slot_name : Option SaidSpace → List ℕ → List (List ℕ) → Option (List ℕ × List (List ℕ))
-slot_name space word words = cond (says_as words) (given_name words) (option_map (λ name. (name, words)) (usual_name space word))
+abbrev pub slot_name : Option SaidSpace → List ℕ → List (List ℕ) → Read (List ℕ × List (List ℕ))
+slot_name space word words = if says_as words then given_name words else do
+  name ← usual_name space word
+  Ok (name, words)
 
--- why a slot has no usual name: it is empty
-abbrev pub TellsNoUsual : List ℕ → Why → Type 0
-TellsNoUsual word (why.Missing wanted) = is_dash word ≡ true
-TellsNoUsual word why.OutOfMemory = Unit {0}
-TellsNoUsual word _ = ⊥
+-- a space may have a slot more of this name: it has none of it, and there is room
+abbrev pub may_have : Option SaidSpace → List ℕ → Read (Unit {0})
+may_have None name = Ok tt
+may_have (Some space) name = do
+  need (is_none (find space.slots name)) (twice name)
+  need (nat_lt (length space.slots) (most_slots space.radix)) (limit (most_slots space.radix))
 
--- why no name stands behind `as`: the line ends, or the word, which is told, is none
-abbrev pub TellsNoGiven : List (List ℕ) → Why → Type 0
-TellsNoGiven (as_word ∷ name ∷ words) (why.Not told wanted) = (string_bytes told ≡ name) × (is_name name ≡ false)
-TellsNoGiven (as_word ∷ []) (why.Missing wanted) = Unit {0}
-TellsNoGiven [] (why.Missing wanted) = Unit {0}
-TellsNoGiven words why.OutOfMemory = Unit {0}
-TellsNoGiven words _ = ⊥
+-- the space at a place has a slot more
+abbrev pub slot_added : ℕ → List ℕ → Option Cap → Said → Read Said
+slot_added place name cap s = do
+  may_have (slice_get s.spaces place) name
+  Ok (with_slot place name cap s)
 
--- why a slot has no name
-abbrev pub TellsNoSlotName : List ℕ → List (List ℕ) → Why → Type 0
-TellsNoSlotName word words w =
-    ((says_as words ≡ false) × TellsNoUsual word w) ⊎ ((says_as words ≡ true) × TellsNoGiven words w)
+-- a word, and the words behind it, say a slot more of the space at a place
+abbrev pub slot_more : ℕ → List ℕ → List (List ℕ) → Said → Read (Said × List (List ℕ))
+slot_more place word words s = do
+  cap ← held_by s.names word
+  (name, left) ← slot_name (slice_get s.spaces place) word words
+  more ← slot_added place name cap s
+  Ok (more, left)
 
--- a word, and the words behind it, add a slot to the space at a place
-abbrev pub adds_slot : ℕ → List ℕ → List (List ℕ) → Said → Option (Said × List (List ℕ))
-adds_slot place word words s =
-    option_and_then (λ cap. option_map (λ named. (with_slot place named.0 cap s, named.1)) (slot_name (slice_get s.spaces place) word words))
-    (held_by s.names word)
+-- the same, where its spaces do not take more CNodes then than there may be
+abbrev pub slot_kept : ℕ → List ℕ → List (List ℕ) → Said → Read (Said × List (List ℕ))
+slot_kept place word words s = do
+  (more, left) ← slot_more place word words s
+  keeps_limit kind.CNode more
+  Ok (more, left)
 
--- words add slots, in order; each takes a word at least, so there are no more turns than words
-abbrev pub adds_slots : ℕ → ℕ → List (List ℕ) → Said → Option Said
-adds_slots zero place words s = Some s
-adds_slots (suc turns) place [] s = Some s
-adds_slots (suc turns) place (word ∷ words) s =
-    option_and_then (λ next. adds_slots turns place next.1 next.0) (adds_slot place word words s)
+-- slots more, in order; each takes a word at least, so there are no more turns than words
+abbrev pub slots_more : ℕ → ℕ → List (List ℕ) → Said → Read Said
+slots_more zero place words s = Ok s
+slots_more (suc turns) place [] s = Ok s
+slots_more (suc turns) place (word ∷ words) s = do
+  (more, left) ← slot_kept place word words s
+  slots_more turns place left more
 
--- why the space at a place may not have a slot more of this name
-abbrev pub NoSlotMore : Option Space → List ℕ → Why → Type 0
-NoSlotMore None name w = ⊥
-NoSlotMore (Some space) name w = MayNotHave space name w
+-- the line of what the space of this name has, of which it says one slot at least
+abbrev pub has_line : List ℕ → List (List ℕ) → Said → Read Said
+has_line name words s = do
+  place ← space_named name s
+  need (not (length words == 0)) missing
+  slots_more (length words) place words s
 
--- why a word adds no slot to the space at a place: it spells no capability, it has no name, or the space may not have one more
-abbrev pub TellsNoSlot : Plan → ℕ → List ℕ → List (List ℕ) → Why → Type 0
-TellsNoSlot plan place word words w =
-    TellsNoCap plan.names word w ⊎ TellsNoSlotName word words w
-    ⊎ ((name : List ℕ) × (left : List (List ℕ)) × (slot_name (slice_get (said plan).spaces place) word words ≡ Some (name, left))
-    × NoSlotMore (slice_get plan.spaces.items place) name w)
-
--- the line of what a space has: the space of that name has the slots that the words add, of which there is one at least
-abbrev pub HasMore : List ℕ → List (List ℕ) → Plan → Said → Said → Type 0
-HasMore name words plan old new =
-    (place : ℕ) × NamesSpace plan name place × (words ≢ []) × (adds_slots (length words) place words old ≡ Some new)
-
--- words name objects of a kind, in order
-abbrev pub adds_objects : Kind → List (List ℕ) → Said → Said
-adds_objects kind [] s = s
-adds_objects kind (name ∷ names) s = adds_objects kind names (with_object kind name s)
-
--- the line of a binding: neither of the two was bound, and they are now
-abbrev pub TiesMore : List (List ℕ) → Said → Said → Type 0
-TiesMore (thread_word ∷ word ∷ []) old new =
-    (tie : Tie) × IsOfKind old.names kind.Thread thread_word tie.thread × IsOfKind old.names kind.Notification word tie.notification
-    × (list_any (meets tie) old.ties ≡ false) × (new ≡ with_tie tie old)
-TiesMore words old new = ⊥
+-- the line of a binding: `tie THREAD NOTIFICATION`, neither of which is bound
+abbrev pub tie_line : List (List ℕ) → Said → Read Said
+tie_line words s = do
+  (thread_word, rest) ← word_then words
+  thread ← named_as kind.Thread thread_word s.names
+  (word, left) ← word_then rest
+  notification ← named_as kind.Notification word s.names
+  end_of left
+  need (not (is_thread_bound s.ties thread)) (bound thread_word)
+  need (not (is_notification_bound s.ties notification)) (bound word)
+  Ok (with_tie (record { thread = thread; notification = notification }) s)
 
 -- the line of the number of cores, 1 to 16: none was said, and there is no context and no thread
-pub record SaysCores (words : List (List ℕ)) (old new : Said) : Type 0 where
-  pub cores : ℕ
-  pub line : ReadsNumber core_limit words cores []
-  pub some : 0 < cores
-  pub first : old.cores ≡ None
-  pub contexts : old.contexts ≡ []
-  pub threads : old.threads ≡ []
-  pub same : new ≡ record old { cores = Some cores }
+abbrev pub cores_line : List (List ℕ) → Said → Read Said
+cores_line words s = do
+  (cores, left) ← number_then core_limit words
+  end_of left
+  need (not (cores == 0)) (not_wanted zero_word)
+  need (is_none s.cores) (twice (codes "cores"))
+  need (length s.contexts == 0 && length s.threads == 0) late_cores
+  Ok (record s { cores = Some cores })

@@ -1,13 +1,13 @@
 -- How many objects a plan makes.
-use Rattle.std.specs.Prelude.{◌≡◌, ◌<◌, ◌+◌, ◌==◌, ◌&&◌, ℕ, Bool, true, false, not, cond, length}
+use Rattle.std.specs.Prelude.{◌+◌, ◌==◌, ◌&&◌, ℕ, Bool, true, false, not, length, min, nat_le, if◌then◌else◌}
 use Rattle.std.specs.List.{sum_by}
 use Rattle.mcs_types.specs.declared.id.Kind.{Kind}
 use Rattle.mcs_types.specs.declared.id.Kind.TheVariants.{CNode, Thread, Endpoint, Notification, Reply, Context}
-use Rattle.mcs_names.specs.declared.fault.Why.{Why}
-use Rattle.mcs_names.specs.declared.fault.Why.TheVariants as why
 use Rattle.mcs_names.specs.Naming.{count_of, limit_of}
 use Rattle.mcs_plans.specs.declared.plan.Plan.{Plan}
-use Rattle.mcs_plans.specs.Slots.{leaves_of}
+use Rattle.mcs_plans.specs.Refusals.{Read, need, limit}
+use Rattle.mcs_plans.specs.Slots.{leaves_for, leaves_of}
+use Rattle.mcs_plans.specs.Saying.{Said, SaidSpace}
 
 -- whether each thread has one of this kind
 abbrev pub is_of_thread : Kind → Bool
@@ -22,20 +22,23 @@ is_of_thread Context = true
 abbrev pub all_leaves : Plan → ℕ
 all_leaves plan = sum_by leaves_of plan.spaces.items
 
+-- how many a space takes as a plan says it
+abbrev pub leaves_in : SaidSpace → ℕ
+leaves_in space = leaves_for space.radix (min (length space.slots) 65535 + 1)
+
 -- one more where a thread is passive: that of the thread which makes it so
-abbrev pub of_starter : Plan → Kind → ℕ
-of_starter plan kind = cond (is_of_thread kind && not (length plan.passives.items == 0)) 1 0
+abbrev pub of_starter : Said → Kind → ℕ
+of_starter s kind = if is_of_thread kind && not (length s.passives == 0) then 1 else 0
 
 -- the CNodes of larger spaces
-abbrev pub of_spaces : Plan → Kind → ℕ
-of_spaces plan CNode = all_leaves plan
-of_spaces plan _ = 0
+abbrev pub of_spaces : Said → Kind → ℕ
+of_spaces s CNode = sum_by leaves_in s.spaces
+of_spaces s _ = 0
 
 -- how many objects of a kind the script makes
-abbrev pub made_of : Plan → Kind → ℕ
-made_of plan kind = count_of kind plan.names + of_starter plan kind + of_spaces plan kind
+abbrev pub made_of : Said → Kind → ℕ
+made_of s kind = count_of kind s.names + of_starter s kind + of_spaces s kind
 
--- why a plan makes too many of a kind
-abbrev pub TellsMade : Plan → Kind → Why → Type 0
-TellsMade plan kind (why.Limit what limit) = (limit ≡ limit_of kind) × (limit_of kind < made_of plan kind)
-TellsMade plan kind _ = ⊥
+-- the script makes no more of a kind than there may be
+abbrev pub keeps_limit : Kind → Said → Read (Unit {0})
+keeps_limit kind s = need (nat_le (made_of s kind) (limit_of kind)) (limit (limit_of kind))

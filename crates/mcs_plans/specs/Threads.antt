@@ -1,37 +1,49 @@
--- The threads of a plan, and which notifications are bound to them.
-use Rattle.std.specs.Prelude.{◌≡◌, ◌⊎◌, ◌||◌, ℕ, Bool, List, Option, Some, true, option_map, option_and_then, slice_get, string_bytes}
+-- The threads of a plan, the spaces that words name, and which notifications are bound.
+use Rattle.std.specs.Prelude.{ℕ, Bool, List, Option, Some, None, Ok, option_map, option_and_then, slice_get}
+use Rattle.std.specs.List.{list_any}
 use Rattle.std.specs.Option.{unwrap_or}
 use Rattle.mcs_types.specs.declared.id.ObjId.{ObjId}
 use Rattle.mcs_types.specs.declared.id.Kind.TheVariants as kind
-use Rattle.mcs_types.specs.Ids.{same, same_kind, place_of}
-use Rattle.mcs_names.specs.declared.fault.Why.{Why}
-use Rattle.mcs_names.specs.declared.fault.Why.TheVariants as why
-use Rattle.mcs_names.specs.Naming.{find}
+use Rattle.mcs_types.specs.Ids.{same, place_of}
 use Rattle.mcs_plans.specs.declared.plan.Plan.{Plan}
 use Rattle.mcs_plans.specs.declared.plan.Thread.{Thread}
 use Rattle.mcs_plans.specs.declared.plan.Tie.{Tie}
+use Rattle.mcs_plans.specs.Refusals.{Read, ◌>>=◌}
+use Rattle.mcs_plans.specs.Objects.{find_of_kind, named_as}
+use Rattle.mcs_plans.specs.Saying.{Said}
 
--- a thread of a plan
-abbrev pub thread_in : Plan → ObjId → Option Thread
-thread_in plan t = option_and_then (λ k. slice_get plan.threads.items k) (place_of kind.Thread t)
+-- a thread of some
+abbrev pub thread_at : List Thread → ObjId → Option Thread
+thread_at threads t = option_and_then (λ k. slice_get threads k) (place_of kind.Thread t)
 
 -- the place of its space
+abbrev pub space_at : List Thread → ObjId → ℕ
+space_at threads t = unwrap_or (option_map (λ th. th.space) (thread_at threads t)) 0
+
+-- the same of a plan
+abbrev pub thread_in : Plan → ObjId → Option Thread
+thread_in plan t = thread_at plan.threads.items t
+
 abbrev pub space_of : Plan → ObjId → ℕ
-space_of plan t = unwrap_or (option_map (λ th. th.space) (thread_in plan t)) 0
+space_of plan t = space_at plan.threads.items t
 
--- a word names the space at a place: a CNode, or a thread whose space that is
-abbrev pub NamesSpace : Plan → List ℕ → ℕ → Type 0
-NamesSpace plan word place =
-    (object : ObjId) × (find plan.names word ≡ Some object)
-    × (((same_kind object.kind kind.CNode ≡ true) × (place ≡ unwrap_or (place_of kind.CNode object) 0))
-    ⊎ ((same_kind object.kind kind.Thread ≡ true) × (place ≡ space_of plan object)))
+-- the place of a space by hand
+abbrev pub cnode_place : ObjId → ℕ
+cnode_place cnode = unwrap_or (place_of kind.CNode cnode) 0
 
--- whether two bindings have a thread or a notification in common
-abbrev pub meets : Tie → Tie → Bool
-meets of tie = same tie.thread of.thread || same tie.notification of.notification
+-- the place of the space that a word names: that of a CNode, or else of a thread
+abbrev pub place_or : Option ObjId → List ℕ → Said → Read ℕ
+place_or (Some cnode) word s = Ok (cnode_place cnode)
+place_or None word s = do
+  thread ← named_as kind.Thread word s.names
+  Ok (space_at s.threads thread)
 
--- the fault of a word that is bound already, which it tells
-abbrev pub TellsBound : List ℕ → Why → Type 0
-TellsBound word (why.Bound told) = string_bytes told ≡ word
-TellsBound word why.OutOfMemory = Unit {0}
-TellsBound word _ = ⊥
+abbrev pub space_named : List ℕ → Said → Read ℕ
+space_named word s = place_or (find_of_kind kind.CNode word s.names) word s
+
+-- whether a thread is bound; whether a notification is
+abbrev pub is_thread_bound : List Tie → ObjId → Bool
+is_thread_bound ties thread = list_any (λ tie. same tie.thread thread) ties
+
+abbrev pub is_notification_bound : List Tie → ObjId → Bool
+is_notification_bound ties notification = list_any (λ tie. same tie.notification notification) ties

@@ -1,6 +1,7 @@
 //! Capabilities, as words of a plan.
-ghost use Rattle.std.specs.Prelude.{◌≡◌, ◌<◌, ◌==◌, Some, IfOk, IfErr, option_map, option_copied, string_bytes};
-ghost use Rattle.mcs_plans.specs.Capabilities.{front_of, rest_of, name_in, rights_in, badge_in, is_badged, rights_said, badge_said, may_say, cap_to, cap_spelt, TellsNoCap};
+ghost use Rattle.std.specs.Prelude.{◌≡◌, ◌<◌, ◌==◌, Ok, IfOk, IfErr, option_map, option_copied, string_bytes};
+ghost use Rattle.mcs_plans.specs.Capabilities.{front_of, rest_of, name_in, rights_in, badge_in, is_badged, rights_said, badge_said, may_say, cap_to, cap_read};
+ghost use Rattle.mcs_plans.specs.Refusals.{Refuses};
 
 use crate::rights::rights_of;
 use mcs_names::{Names, Why, not, number};
@@ -99,8 +100,8 @@ fn wanted_of(kind: Kind, word: &str) -> &'static str {
 /// The capability that a word spells: an object, and for an endpoint or a notification its rights (all of them where none are
 /// said) and its badge. NoName where there is no such object, Not where the rights or the badge are none.
 pub fn cap_of(alloc: Global, names: &Names, word: &str) -> Result<Cap, Why>
-    ensures spelt { IfOk result (λ c. cap_spelt names.now word.now ≡ Some c) }
-    ensures told { IfErr result (TellsNoCap names.now word.now) }
+    ensures spelt { IfOk result (λ c. cap_read names.now word.now ≡ Ok c) }
+    ensures told { IfErr result (Refuses (cap_read names.now word.now)) }
 {
     let (name, _, _) = parts_of(word);
     let obj = names.object(alloc, name)?;

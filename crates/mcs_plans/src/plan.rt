@@ -1,9 +1,11 @@
 //! What a plan says before its first step.
-ghost use Rattle.std.specs.Prelude.{◌≡◌, ◌≤◌, ◌++◌, ◌∷◌, [], None, IfOk, IfErr, OnOk, OnErr, is_some, min, option_copied, option_and_then, option_map};
+ghost use Rattle.std.specs.Prelude.{◌≡◌, ◌≤◌, ◌++◌, ◌∷◌, [], None, Ok, IfOk, IfErr, OnOk, OnErr, is_some, min, option_copied, option_and_then, option_map};
 ghost use Rattle.std.specs.Option.{unwrap_or};
 ghost use Rattle.mcs_names.specs.Naming.{find, limit_of};
 ghost use Rattle.mcs_plans.specs.Saying.{nothing_said, said};
-ghost use Rattle.mcs_plans.specs.Making.{all_leaves, is_of_thread, of_starter, of_spaces, made_of, TellsMade};
+ghost use Rattle.mcs_plans.specs.Making.{all_leaves, is_of_thread, of_starter, of_spaces, made_of, keeps_limit};
+ghost use Rattle.mcs_plans.specs.Order.{IsInOrder, IsWhole};
+ghost use Rattle.mcs_plans.specs.Refusals.{Refuses};
 ghost use Rattle.mcs_plans.specs.Slots.{most_slots, slots_of, slot_count, cap_at, leaves_of, AddsSlot};
 ghost use Rattle.mcs_plans.specs.Telling.{TellsNoCapability, MayNotHave};
 ghost use Rattle.mcs_plans.specs.Threads.{thread_in, space_of};
@@ -198,7 +200,9 @@ impl Space {
 impl Plan {
     /// An empty plan.
     pub fn new(alloc: Global) -> Plan
-        ensures { said result ≡ nothing_said }
+        ensures nothing { said result ≡ nothing_said }
+        ensures in_order { IsInOrder (said result) }
+        ensures whole { IsWhole (said result) }
     {
         Plan {
             cores: None,
@@ -224,7 +228,7 @@ impl Plan {
 
     /// One more of a kind where a thread is passive.
     fn of_starter(&self, kind: Kind) -> u32
-        ensures { result ≡ of_starter self.now kind }
+        ensures { result ≡ of_starter (said self.now) kind }
     {
         if is_of_thread(kind) && !self.passives.is_empty() {
             return 1;
@@ -234,7 +238,7 @@ impl Plan {
 
     /// The CNodes of larger spaces.
     fn of_spaces(&self, kind: Kind) -> u32
-        ensures { result ≡ min (of_spaces self.now kind) 4294967295 }
+        ensures { result ≡ min (of_spaces (said self.now) kind) 4294967295 }
     {
         match kind {
             Kind::CNode => self.leaves(),
@@ -245,7 +249,7 @@ impl Plan {
     /// How many objects of a kind the script makes, up to 2^32 - 1: those of the plan, the thread that
     /// makes others passive with its context and its space, and the CNodes of larger spaces.
     pub fn made(&self, kind: Kind) -> u32
-        ensures { result ≡ min (made_of self.now kind) 4294967295 }
+        ensures { result ≡ min (made_of (said self.now) kind) 4294967295 }
     {
         let count = self.names.count(kind);
         count
@@ -255,8 +259,9 @@ impl Plan {
 
     /// Limit where the script would make more objects of a kind than there may be.
     pub fn keeps_limit(&self, kind: Kind) -> Result<(), Why>
-        ensures ok { OnOk result (made_of self.now kind ≤ limit_of kind) }
-        ensures told { IfErr result (TellsMade self.now kind) }
+        ensures within { OnOk result (made_of (said self.now) kind ≤ limit_of kind) }
+        ensures ok { OnOk result (keeps_limit kind (said self.now) ≡ Ok tt) }
+        ensures told { IfErr result (Refuses (keeps_limit kind (said self.now))) }
     {
         let limit = limit_of(kind);
         if self.made(kind) <= limit {

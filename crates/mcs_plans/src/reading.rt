@@ -1,17 +1,16 @@
 //! The lines of a plan before its first step.
-ghost use Rattle.std.specs.Prelude.{◌≡◌, ◌⊎◌, true, false, IfOk, IfErr, OnOk, OnErr, ◌++◌, ◌≢◌, [], ◌≤◌, length, slice_get, Some, string_bytes, option_map};
-ghost use Rattle.std.specs.List.{list_any};
-ghost use Rattle.mcs_plans.specs.Threads.{NamesSpace, meets, TellsBound};
+ghost use Rattle.std.specs.Prelude.{◌≡◌, ◌++◌, true, false, Ok, IfOk, IfErr, OnOk, OnErr, length, slice_get, string_bytes, option_map};
 ghost use Rattle.mcs_types.specs.declared.id.Kind.TheVariants.{CNode, Context};
 ghost use Rattle.mcs_types.specs.declared.id.Kind.TheVariants as of_kind;
-ghost use Rattle.mcs_plans.specs.ThreadLines.{core_then, receiving_then, part_then, next_part, parts_then, plain_form, form_said, own_context, with_own_context, own_place, with_own_space, thread_more, with_passive, thread_line, LineAdds, ReadsLine, says_has, on_then, radix_then, AddsContext, AddsSpace, said_receiving, form_of};
-ghost use Rattle.mcs_plans.specs.Saying.{said, with_slot, with_object, with_context, with_space, with_thread};
-ghost use Rattle.mcs_plans.specs.Lines.{NoSlotMore, has_slot, usual_name, slot_name, given_name, says_as, held_by, adds_slot, adds_slots, adds_objects, HasMore, TiesMore, SaysCores, TellsNoUsual, TellsNoGiven, TellsNoSlotName, TellsNoSlot};
-ghost use Rattle.mcs_plans.specs.Capabilities.{TellsNoCap};
-ghost use Rattle.mcs_plans.specs.Making.{made_of, TellsMade};
-ghost use Rattle.mcs_names.specs.Naming.{limit_of, next_of, texts};
-ghost use Rattle.mcs_names.specs.Numbers.{ReadsNumber, TellsNoNumber};
-ghost use Rattle.mcs_names.specs.Telling.{MayAdd, MayNotAdd};
+ghost use Rattle.mcs_types.specs.Limits.{core_limit};
+ghost use Rattle.mcs_names.specs.Naming.{next_of, texts};
+ghost use Rattle.mcs_plans.specs.Lines.{object_more, objects_line, held_by, says_as, has_slot, usual_name, given_name, slot_name, slot_added, slot_more, slot_kept, slots_more, has_line, tie_line, cores_line};
+ghost use Rattle.mcs_plans.specs.Order.{IsInOrder, IsWhole};
+ghost use Rattle.mcs_plans.specs.Refusals.{Refuses, TellsOfLine};
+ghost use Rattle.mcs_plans.specs.Saying.{said, with_thread};
+ghost use Rattle.mcs_plans.specs.ThreadLines.{core_then, receiving_then, without_then, part_then, next_part, parts_then, plain_form, form_said, form_of, said_receiving, context_more, space_more, own_context, with_own_context, with_own_space, thread_more, with_passive, thread_said, thread_line, on_then, context_line, radix_then, cnode_line, line_begun, says_has, ReadsLine, RefusesLine};
+ghost use Rattle.mcs_plans.specs.Threads.{space_named, is_thread_bound, is_notification_bound};
+ghost use Rattle.mcs_plans.specs.Words.{number_then};
 
 use crate::capabilities::{cap_of, parts_of, written_as};
 use crate::plan::{Passive, Plan, Slot, Space, Thread, Tie};
@@ -49,25 +48,14 @@ fn with_end(alloc: Global, name: &str, end: &str) -> Result<String, AllocError>
 
 /// A number of 8 bits.
 fn byte(alloc: Global, words: &mut Words<'_>, wanted: &'static str, limit: u8) -> Result<u8, Why>
-    ensures value { IfOk result (λ n. ReadsNumber limit words.old n words.new) }
-    ensures told { IfErr result (TellsNoNumber limit words.old) }
+    ensures value { IfOk result (λ n. number_then limit words.old ≡ Ok (n, words.new)) }
+    ensures told { IfErr result (Refuses (number_then limit words.old)) }
 {
     let n = words.number(alloc, wanted, limit as u64)?;
     Ok(n.min(255) as u8)
 }
 
-/// The fault of what is bound already.
-fn bound(alloc: Global, word: &str) -> Why
-    ensures { TellsBound word.now result }
-{
-    match String::from_str(alloc, word) {
-        Ok(word) => Why::Bound { word },
-        Err(AllocError) => Why::OutOfMemory,
-    }
-}
-
 /// Whether the next word is `as`.
-#[tactic(auto, using(crate::proofs::LineWords::next_is_as, crate::proofs::LineWords::no_next))]
 fn says_as(words: &Words<'_>) -> bool
     ensures { result ≡ says_as words.now }
 {
@@ -79,8 +67,8 @@ fn says_as(words: &Words<'_>) -> bool
 
 /// The name behind `as`.
 fn given_name(alloc: Global, words: &mut Words<'_>) -> Result<String, Why>
-    ensures name { IfOk result (λ n. given_name words.old ≡ Some (string_bytes n, words.new)) }
-    ensures told { IfErr result (TellsNoGiven words.old) }
+    ensures name { IfOk result (λ n. given_name words.old ≡ Ok (string_bytes n, words.new)) }
+    ensures told { IfErr result (Refuses (given_name words.old)) }
 {
     words.next();
     let name = words.need("a name")?;
@@ -92,8 +80,8 @@ fn given_name(alloc: Global, words: &mut Words<'_>) -> Result<String, Why>
 
 /// What a slot is to hold: a capability, or nothing.
 fn held_by(alloc: Global, names: &Names, word: &str) -> Result<Option<Cap>, Why>
-    ensures held { IfOk result (λ cap. held_by names.now word.now ≡ Some cap) }
-    ensures told { IfErr result (TellsNoCap names.now word.now) }
+    ensures held { IfOk result (λ cap. held_by names.now word.now ≡ Ok cap) }
+    ensures told { IfErr result (Refuses (held_by names.now word.now)) }
 {
     if word == "-" {
         return Ok(None);
@@ -102,9 +90,9 @@ fn held_by(alloc: Global, names: &Names, word: &str) -> Result<Option<Cap>, Why>
 }
 
 /// The radix of a CNode, where the line says one.
-#[tactic(auto, using(crate::proofs::ThreadWords::radix_read, crate::proofs::ThreadWords::radix_none))]
 fn read_radix(alloc: Global, words: &mut Words<'_>) -> Result<Option<u8>, Why>
-    ensures { IfOk result (λ r. radix_then words.old ≡ Some (r, words.new)) }
+    ensures radix { IfOk result (λ r. radix_then words.old ≡ Ok (r, words.new)) }
+    ensures told { IfErr result (Refuses (radix_then words.old)) }
 {
     if words.peek().is_none() {
         return Ok(None);
@@ -116,8 +104,16 @@ fn read_radix(alloc: Global, words: &mut Words<'_>) -> Result<Option<u8>, Why>
     Ok(Some(n))
 }
 
+/// Whether a thread has a context, where the line says `without context`: it has none.
+fn read_without(alloc: Global, words: &mut Words<'_>) -> Result<bool, Why>
+    ensures none { IfOk result (λ has. without_then words.old ≡ Ok (has, words.new)) }
+    ensures told { IfErr result (Refuses (without_then words.old)) }
+{
+    words.expect(alloc, "context")?;
+    Ok(false)
+}
+
 /// Whether the next word is `has`.
-#[tactic(auto, using(crate::proofs::ThreadWords::next_is_has, crate::proofs::ThreadWords::no_next_has))]
 fn says_has(words: &Words<'_>) -> bool
     ensures { result ≡ says_has words.now }
 {
@@ -129,12 +125,11 @@ fn says_has(words: &Words<'_>) -> bool
 
 impl Plan {
     /// An object more.
-    #[tactic(auto, using(crate::proofs::Added::object_added))]
     fn add_object(&mut self, alloc: Global, kind: Kind, name: &str) -> Result<ObjId, Why>
         ensures object { IfOk result (λ o. o ≡ next_of kind self.old.names) }
-        ensures added { OnOk result (said self.new ≡ with_object kind name.now (said self.old)) }
-        ensures may { OnOk result (MayAdd self.old.names kind name.now) }
-        ensures told { IfErr result (MayNotAdd self.old.names kind name.now) }
+        ensures added { OnOk result
+            (object_more kind name.now (said self.old) ≡ Ok (said self.new)) }
+        ensures told { IfErr result (Refuses (object_more kind name.now (said self.old))) }
         ensures unchanged { OnErr result (said self.new ≡ said self.old) }
     {
         let object = self.names.add(alloc, kind, name)?;
@@ -143,8 +138,9 @@ impl Plan {
 
     /// Objects of a kind, each with a name.
     fn read_objects(&mut self, alloc: Global, words: &mut Words<'_>, kind: Kind) -> Result<(), Why>
-        ensures some { OnOk result (words.old ≢ []) }
-        ensures added { OnOk result (said self.new ≡ adds_objects kind words.old (said self.old)) }
+        ensures added { OnOk result
+            (objects_line kind words.old (said self.old) ≡ Ok (said self.new)) }
+        ensures told { IfErr result (Refuses (objects_line kind words.old (said self.old))) }
     {
         if words.peek().is_none() {
             return Err(Why::Missing { wanted: "a name" });
@@ -158,9 +154,9 @@ impl Plan {
     }
 
     /// The number of a core. Not where there are fewer cores.
-    #[tactic(auto, using(crate::proofs::ThreadWords::core_read))]
     fn read_core(&self, alloc: Global, words: &mut Words<'_>) -> Result<u8, Why>
-        ensures { IfOk result (λ n. core_then self.now.cores words.old ≡ Some (n, words.new)) }
+        ensures core { IfOk result (λ n. core_then self.now.cores words.old ≡ Ok (n, words.new)) }
+        ensures told { IfErr result (Refuses (core_then self.now.cores words.old)) }
     {
         words.expect(alloc, "core")?;
         let cores = self.cores.unwrap_or(CORES);
@@ -176,8 +172,9 @@ impl Plan {
     fn add_context(&mut self, alloc: Global, name: &str, core: u8) -> Result<ObjId, Why>
         ensures context { IfOk result (λ o. o ≡ next_of Context self.old.names) }
         ensures added { OnOk result
-            (said self.new ≡ with_context name.now (record { 0 = core }) (said self.old)) }
-        ensures limit { OnOk result (made_of self.new Context ≤ limit_of Context) }
+            (context_more name.now (record { 0 = core }) (said self.old) ≡ Ok (said self.new)) }
+        ensures told { IfErr result
+            (Refuses (context_more name.now (record { 0 = core }) (said self.old))) }
     {
         let context = self.names.add(alloc, Kind::Context, name)?;
         self.contexts.push(CoreId(core))?;
@@ -188,8 +185,9 @@ impl Plan {
     /// Adds a space.
     fn add_space(&mut self, alloc: Global, name: &str, radix: Option<u8>) -> Result<usize, Why>
         ensures place { IfOk result (λ place. place ≡ length self.old.spaces.items) }
-        ensures added { OnOk result (said self.new ≡ with_space name.now radix (said self.old)) }
-        ensures limit { OnOk result (made_of self.new CNode ≤ limit_of CNode) }
+        ensures added { OnOk result
+            (space_more name.now radix (said self.old) ≡ Ok (said self.new)) }
+        ensures told { IfErr result (Refuses (space_more name.now radix (said self.old))) }
     {
         self.names.add(alloc, Kind::CNode, name)?;
         let place = self.spaces.len();
@@ -199,9 +197,9 @@ impl Plan {
     }
 
     /// The core of a context: 0 where the line says none.
-    #[tactic(auto, using(crate::proofs::ThreadWords::on_read, crate::proofs::ThreadWords::on_none))]
     fn read_on(&self, alloc: Global, words: &mut Words<'_>) -> Result<u8, Why>
-        ensures { IfOk result (λ n. on_then self.now.cores words.old ≡ Some (n, words.new)) }
+        ensures core { IfOk result (λ n. on_then self.now.cores words.old ≡ Ok (n, words.new)) }
+        ensures told { IfErr result (Refuses (on_then self.now.cores words.old)) }
     {
         if words.peek().is_none() {
             return Ok(0);
@@ -211,9 +209,9 @@ impl Plan {
     }
 
     /// The line of a context: `context NAME` or `context NAME on core N`.
-    #[tactic(auto, using(crate::proofs::ThreadWords::context_read))]
     fn read_context(&mut self, alloc: Global, words: &mut Words<'_>) -> Result<(), Why>
-        ensures added { OnOk result (AddsContext words.old (said self.old) (said self.new)) }
+        ensures added { OnOk result (context_line words.old (said self.old) ≡ Ok (said self.new)) }
+        ensures told { IfErr result (Refuses (context_line words.old (said self.old))) }
     {
         let name = words.need("a name")?;
         let core = self.read_on(alloc, words)?;
@@ -223,9 +221,9 @@ impl Plan {
     }
 
     /// The line of a CNode: `cnode NAME` or `cnode NAME RADIX`.
-    #[tactic(auto, using(crate::proofs::ThreadWords::space_read))]
     fn read_cnode(&mut self, alloc: Global, words: &mut Words<'_>) -> Result<(), Why>
-        ensures added { OnOk result (AddsSpace words.old (said self.old) (said self.new)) }
+        ensures added { OnOk result (cnode_line words.old (said self.old) ≡ Ok (said self.new)) }
+        ensures told { IfErr result (Refuses (cnode_line words.old (said self.old))) }
     {
         let name = words.need("a name")?;
         let radix = read_radix(alloc, words)?;
@@ -235,9 +233,10 @@ impl Plan {
     }
 
     /// What a passive thread receives with: `on EP with REPLY`.
-    #[tactic(auto, using(crate::proofs::ThreadWords::receiving_read))]
     fn read_receiving(alloc: Global, words: &mut Words<'_>) -> Result<Receiving, Why>
-        ensures { IfOk result (λ r. receiving_then words.old ≡ Some (said_receiving r, words.new)) }
+        ensures said { IfOk result (λ r.
+            receiving_then words.old ≡ Ok (said_receiving r, words.new)) }
+        ensures told { IfErr result (Refuses (receiving_then words.old)) }
     {
         words.expect(alloc, "on")?;
         let endpoint = words.need("the name of a capability")?;
@@ -250,7 +249,6 @@ impl Plan {
     }
 
     /// A part of a thread's line.
-    #[tactic(auto, using(crate::proofs::ThreadWords::number_read, crate::proofs::ThreadWords::behind_read, crate::proofs::ThreadWords::word_read))]
     fn read_part(
         &self,
         alloc: Global,
@@ -258,8 +256,11 @@ impl Plan {
         part: &str,
         form: ThreadForm,
     ) -> Result<ThreadForm, Why>
-        ensures { IfOk result (λ f. part_then self.now.cores part.now words.old (form_of form)
-            ≡ Some (form_of f, words.new)) }
+        ensures said { IfOk result (λ f.
+            part_then self.now.cores part.now words.old (form_of form)
+            ≡ Ok (form_of f, words.new)) }
+        ensures told { IfErr result
+            (Refuses (part_then self.now.cores part.now words.old (form_of form))) }
     {
         match part {
             "prio" => {
@@ -282,9 +283,9 @@ impl Plan {
                 ..form
             }),
             "without" => {
-                words.expect(alloc, "context")?;
+                let has_context = read_without(alloc, words)?;
                 Ok(ThreadForm {
-                    has_context: false,
+                    has_context,
                     ..form
                 })
             }
@@ -311,8 +312,10 @@ impl Plan {
         words: &mut Words<'_>,
         form: ThreadForm,
     ) -> Result<ThreadForm, Why>
-        ensures { IfOk result (λ f. next_part self.now.cores words.old (form_of form)
-            ≡ Some (form_of f, words.new)) }
+        ensures said { IfOk result (λ f.
+            next_part self.now.cores words.old (form_of form) ≡ Ok (form_of f, words.new)) }
+        ensures told { IfErr result
+            (Refuses (next_part self.now.cores words.old (form_of form))) }
     {
         match words.next() {
             Some(part) => self.read_part(alloc, words, part, form),
@@ -321,10 +324,12 @@ impl Plan {
     }
 
     /// The parts of a thread's line, as far as it goes.
-    #[tactic(auto, using(crate::proofs::ThreadWords::parts_turn, crate::proofs::ThreadWords::parts_last))]
+    #[tactic(auto, using(crate::proofs::Turns::parts_turn, crate::proofs::Turns::parts_last))]
     fn read_parts(&self, alloc: Global, words: &mut Words<'_>) -> Result<ThreadForm, Why>
-        ensures { IfOk result (λ f. parts_then (length words.old) self.now.cores words.old plain_form
-            ≡ Some (form_of f)) }
+        ensures said { IfOk result (λ f.
+            parts_then (length words.old) self.now.cores words.old plain_form ≡ Ok (form_of f)) }
+        ensures told { IfErr result
+            (Refuses (parts_then (length words.old) self.now.cores words.old plain_form)) }
     {
         let mut form = ThreadForm {
             priority: None,
@@ -342,9 +347,9 @@ impl Plan {
     }
 
     /// What a thread's line says behind its name.
-    #[tactic(auto, using(crate::proofs::ThreadWords::form_read))]
     fn read_form(&self, alloc: Global, words: &mut Words<'_>) -> Result<ThreadForm, Why>
-        ensures { IfOk result (λ f. form_said self.now.cores words.old ≡ Some (form_of f)) }
+        ensures said { IfOk result (λ f. form_said self.now.cores words.old ≡ Ok (form_of f)) }
+        ensures told { IfErr result (Refuses (form_said self.now.cores words.old)) }
     {
         let form = self.read_parts(alloc, words)?;
         if form.passive.is_some() && !form.has_context {
@@ -354,12 +359,12 @@ impl Plan {
     }
 
     /// The space of a thread: one by hand, or its own.
-    #[tactic(auto, using(crate::proofs::ThreadWords::as_many, crate::proofs::ThreadWords::by_hand))]
     fn read_space(&mut self, alloc: Global, name: &str, form: &ThreadForm) -> Result<usize, Why>
-        ensures place { IfOk result (λ place.
-            own_place (form_of form.now).space (said self.old) ≡ Some place) }
-        ensures added { OnOk result
-            (said self.new ≡ with_own_space name.now (form_of form.now).space (said self.old)) }
+        ensures added { IfOk result (λ place.
+            with_own_space name.now (form_of form.now).space (said self.old)
+            ≡ Ok (place, said self.new)) }
+        ensures told { IfErr result
+            (Refuses (with_own_space name.now (form_of form.now).space (said self.old))) }
     {
         match &form.space {
             None => {
@@ -382,7 +387,9 @@ impl Plan {
     ) -> Result<Option<ObjId>, Why>
         ensures context { IfOk result (λ o. o ≡ own_context (form_of form.now) (said self.old)) }
         ensures added { OnOk result
-            (said self.new ≡ with_own_context name.now (form_of form.now) (said self.old)) }
+            (with_own_context name.now (form_of form.now) (said self.old) ≡ Ok (said self.new)) }
+        ensures told { IfErr result
+            (Refuses (with_own_context name.now (form_of form.now) (said self.old))) }
     {
         if !form.has_context {
             return Ok(None);
@@ -393,7 +400,7 @@ impl Plan {
     }
 
     /// A thread behind the others.
-    fn push_thread(&mut self, thread: Thread) -> Result<(), Why>
+    fn push_thread(&mut self, thread: Thread) -> Result<(), AllocError>
         ensures added { OnOk result (said self.new ≡ with_thread thread (said self.old)) }
         ensures unchanged { OnErr result (said self.new ≡ said self.old) }
     {
@@ -402,7 +409,6 @@ impl Plan {
     }
 
     /// A thread more, with its context and its space.
-    #[tactic(auto, using(crate::proofs::ThreadWords::thread_added))]
     fn add_thread(
         &mut self,
         alloc: Global,
@@ -412,7 +418,9 @@ impl Plan {
     ) -> Result<ObjId, Why>
         ensures thread { IfOk result (λ o. o ≡ next_of of_kind.Thread self.old.names) }
         ensures added { OnOk result
-            (thread_more name.now priority (form_of form.now) (said self.old) ≡ Some (said self.new)) }
+            (thread_more name.now priority (form_of form.now) (said self.old) ≡ Ok (said self.new)) }
+        ensures told { IfErr result
+            (Refuses (thread_more name.now priority (form_of form.now) (said self.old))) }
     {
         let thread = self.add_object(alloc, Kind::Thread, name)?;
         let context = self.read_own_context(alloc, name, form)?;
@@ -429,13 +437,12 @@ impl Plan {
     }
 
     /// A passive thread more, where the thread is one.
-    #[tactic(auto, using(crate::proofs::ThreadWords::passive_added))]
     fn add_passive(
         &mut self,
         line: u64,
         thread: ObjId,
         passive: &Option<Receiving>,
-    ) -> Result<(), Why>
+    ) -> Result<(), AllocError>
         ensures added { OnOk result (said self.new
             ≡ with_passive line thread (option_map said_receiving passive.now) (said self.old)) }
         ensures unchanged { OnErr result (said self.new ≡ said self.old) }
@@ -453,9 +460,10 @@ impl Plan {
     }
 
     /// A thread as its line says it.
-    #[tactic(auto, using(crate::proofs::ThreadWords::thread_read))]
     fn put_thread(&mut self, alloc: Global, line: u64, words: &mut Words<'_>) -> Result<(), Why>
-        ensures { OnOk result (thread_line line words.old (said self.old) ≡ Some (said self.new)) }
+        ensures added { OnOk result
+            (thread_said line words.old (said self.old) ≡ Ok (said self.new)) }
+        ensures told { IfErr result (Refuses (thread_said line words.old (said self.old))) }
     {
         let name = words.need("a name")?;
         let form = self.read_form(alloc, words)?;
@@ -463,16 +471,15 @@ impl Plan {
             return Err(Why::Missing { wanted: "prio" });
         };
         let thread = self.add_thread(alloc, name, priority, &form)?;
-        self.add_passive(line, thread, &form.passive)
+        self.add_passive(line, thread, &form.passive)?;
+        Ok(())
     }
 
     /// The line of a thread.
     fn read_thread(&mut self, alloc: Global, line: u64, words: &mut Words<'_>) -> Result<(), Why>
         ensures added { OnOk result
-            (thread_line line words.old (said self.old) ≡ Some (said self.new)) }
-        ensures threads { OnOk result (made_of self.new of_kind.Thread ≤ limit_of of_kind.Thread) }
-        ensures contexts { OnOk result (made_of self.new Context ≤ limit_of Context) }
-        ensures spaces { OnOk result (made_of self.new CNode ≤ limit_of CNode) }
+            (thread_line line words.old (said self.old) ≡ Ok (said self.new)) }
+        ensures told { IfErr result (Refuses (thread_line line words.old (said self.old))) }
     {
         self.put_thread(alloc, line, words)?;
         self.keeps_limit(Kind::Thread)?;
@@ -480,26 +487,26 @@ impl Plan {
         self.keeps_limit(Kind::CNode)
     }
 
-    /// Bound where a thread or a notification is bound already.
-    fn is_free(&self, alloc: Global, of: Tie, thread: &str, word: &str) -> Result<(), Why>
-        ensures free { OnOk result (list_any (meets of) self.now.ties.items ≡ false) }
-        ensures taken { OnErr result (list_any (meets of) self.now.ties.items ≡ true) }
-        ensures told { IfErr result (λ w. TellsBound thread.now w ⊎ TellsBound word.now w) }
+    /// Whether a thread is bound.
+    fn is_thread_bound(&self, thread: ObjId) -> bool
+        ensures { result ≡ is_thread_bound self.now.ties.items thread }
     {
-        for tie in &self.ties {
-            if tie.thread.is_same(of.thread) {
-                return Err(bound(alloc, thread));
-            }
-            if tie.notification.is_same(of.notification) {
-                return Err(bound(alloc, word));
-            }
-        }
-        Ok(())
+        self.ties.iter().any(|tie| tie.thread.is_same(thread))
+    }
+
+    /// Whether a notification is bound.
+    fn is_notification_bound(&self, notification: ObjId) -> bool
+        ensures { result ≡ is_notification_bound self.now.ties.items notification }
+    {
+        self.ties
+            .iter()
+            .any(|tie| tie.notification.is_same(notification))
     }
 
     /// The line of a binding: `tie THREAD NOTIFICATION`. Bound where one of the two is bound already.
     fn read_tie(&mut self, alloc: Global, words: &mut Words<'_>) -> Result<(), Why>
-        ensures added { OnOk result (TiesMore words.old (said self.old) (said self.new)) }
+        ensures added { OnOk result (tie_line words.old (said self.old) ≡ Ok (said self.new)) }
+        ensures told { IfErr result (Refuses (tie_line words.old (said self.old))) }
         ensures unchanged { OnErr result (said self.new ≡ said self.old) }
     {
         let thread_word = words.need("the name of a thread")?;
@@ -507,18 +514,27 @@ impl Plan {
         let word = words.need("the name of a notification")?;
         let notification = self.names.of_kind(alloc, Kind::Notification, word)?;
         words.end(alloc)?;
-        let tie = Tie {
+        if self.is_thread_bound(thread) {
+            return Err(Why::Bound {
+                word: String::from_str(alloc, thread_word)?,
+            });
+        }
+        if self.is_notification_bound(notification) {
+            return Err(Why::Bound {
+                word: String::from_str(alloc, word)?,
+            });
+        }
+        self.ties.push(Tie {
             thread,
             notification,
-        };
-        self.is_free(alloc, tie, thread_word, word)?;
-        self.ties.push(tie)?;
+        })?;
         Ok(())
     }
 
     /// The line of the number of cores, which comes first. Late where a context was made.
     fn read_cores(&mut self, alloc: Global, words: &mut Words<'_>) -> Result<(), Why>
-        ensures added { OnOk result (SaysCores words.old (said self.old) (said self.new)) }
+        ensures added { OnOk result (cores_line words.old (said self.old) ≡ Ok (said self.new)) }
+        ensures told { IfErr result (Refuses (cores_line words.old (said self.old))) }
         ensures unchanged { OnErr result (said self.new ≡ said self.old) }
     {
         let cores = byte(alloc, words, "a number of cores, 1 to 16", CORES)?;
@@ -540,7 +556,8 @@ impl Plan {
 
     /// The place of the space that a name stands for: a thread's, or one by hand.
     fn space_named(&self, alloc: Global, name: &str) -> Result<usize, Why>
-        ensures { IfOk result (NamesSpace self.now name.now) }
+        ensures place { IfOk result (λ place. space_named name.now (said self.now) ≡ Ok place) }
+        ensures told { IfErr result (Refuses (space_named name.now (said self.now))) }
     {
         if let Some(object) = self.names.find(name) {
             if object.kind.is_same(Kind::CNode) {
@@ -566,8 +583,9 @@ impl Plan {
     /// is taken. Missing for an empty slot.
     fn usual_name(&self, alloc: Global, place: usize, word: &str) -> Result<String, Why>
         ensures name { IfOk result (λ n.
-            usual_name (slice_get (said self.now).spaces place) word.now ≡ Some (string_bytes n)) }
-        ensures told { IfErr result (TellsNoUsual word.now) }
+            usual_name (slice_get (said self.now).spaces place) word.now ≡ Ok (string_bytes n)) }
+        ensures told { IfErr result
+            (Refuses (usual_name (slice_get (said self.now).spaces place) word.now)) }
     {
         if word == "-" {
             return Err(Why::Missing { wanted: "as" });
@@ -580,7 +598,6 @@ impl Plan {
     }
 
     /// The name of a slot: the word behind `as`, or the usual one.
-    #[tactic(auto, using(crate::proofs::LineWords::usual_here, crate::proofs::LineWords::given_here))]
     fn slot_name(
         &self,
         alloc: Global,
@@ -590,8 +607,9 @@ impl Plan {
     ) -> Result<String, Why>
         ensures name { IfOk result (λ n.
             slot_name (slice_get (said self.now).spaces place) word.now words.old
-            ≡ Some (string_bytes n, words.new)) }
-        ensures told { IfErr result (TellsNoSlotName word.now words.old) }
+            ≡ Ok (string_bytes n, words.new)) }
+        ensures told { IfErr result
+            (Refuses (slot_name (slice_get (said self.now).spaces place) word.now words.old)) }
     {
         if !says_as(words) {
             return self.usual_name(alloc, place, word);
@@ -602,8 +620,9 @@ impl Plan {
     /// A slot of a space. Twice where its name is there, and Limit where the space is full.
     fn add_slot(&mut self, alloc: Global, place: usize, name: &str, slot: Slot) -> Result<(), Why>
         ensures added { OnOk result
-            (said self.new ≡ with_slot place name.now slot.cap (said self.old)) }
-        ensures told { IfErr result (NoSlotMore (slice_get self.old.spaces.items place) name.now) }
+            (slot_added place name.now slot.cap (said self.old) ≡ Ok (said self.new)) }
+        ensures told { IfErr result
+            (Refuses (slot_added place name.now slot.cap (said self.old))) }
         ensures unchanged { OnErr result (said self.new ≡ said self.old) }
     {
         let Some(space) = self.spaces.get_mut(place) else {
@@ -614,7 +633,6 @@ impl Plan {
 
     /// A capability of a space, with `as NAME` behind it where it is to have a name of its own; `-` is
     /// an empty slot.
-    #[tactic(auto, using(crate::proofs::LineWords::slot_added))]
     fn put_slot(
         &mut self,
         alloc: Global,
@@ -623,8 +641,9 @@ impl Plan {
         words: &mut Words<'_>,
     ) -> Result<(), Why>
         ensures added { OnOk result
-            (adds_slot place word.now words.old (said self.old) ≡ Some (said self.new, words.new)) }
-        ensures told { IfErr result (λ w. TellsNoSlot self.old place word.now words.old w) }
+            (slot_more place word.now words.old (said self.old) ≡ Ok (said self.new, words.new)) }
+        ensures told { IfErr result
+            (Refuses (slot_more place word.now words.old (said self.old))) }
         ensures unchanged { OnErr result (said self.new ≡ said self.old) }
     {
         let cap = held_by(alloc, &self.names, word)?;
@@ -642,10 +661,9 @@ impl Plan {
         words: &mut Words<'_>,
     ) -> Result<(), Why>
         ensures added { OnOk result
-            (adds_slot place word.now words.old (said self.old) ≡ Some (said self.new, words.new)) }
-        ensures limit { OnOk result (made_of self.new CNode ≤ limit_of CNode) }
-        ensures told { IfErr result (λ w.
-            TellsNoSlot self.old place word.now words.old w ⊎ TellsMade self.new CNode w) }
+            (slot_kept place word.now words.old (said self.old) ≡ Ok (said self.new, words.new)) }
+        ensures told { IfErr result
+            (Refuses (slot_kept place word.now words.old (said self.old))) }
     {
         self.put_slot(alloc, place, word, words)?;
         self.keeps_limit(Kind::CNode)
@@ -654,7 +672,9 @@ impl Plan {
     /// Capabilities of a space, as far as the line goes.
     fn read_slots(&mut self, alloc: Global, place: usize, words: &mut Words<'_>) -> Result<(), Why>
         ensures added { OnOk result
-            (adds_slots (length words.old) place words.old (said self.old) ≡ Some (said self.new)) }
+            (slots_more (length words.old) place words.old (said self.old) ≡ Ok (said self.new)) }
+        ensures told { IfErr result
+            (Refuses (slots_more (length words.old) place words.old (said self.old))) }
     {
         for _ in 0..words.len() {
             if let Some(word) = words.next() {
@@ -667,7 +687,8 @@ impl Plan {
     /// The line of what a space has: `NAME has CAPABILITY ..`.
     fn read_has(&mut self, alloc: Global, name: &str, words: &mut Words<'_>) -> Result<(), Why>
         ensures added { OnOk result
-            (HasMore name.now words.old self.old (said self.old) (said self.new)) }
+            (has_line name.now words.old (said self.old) ≡ Ok (said self.new)) }
+        ensures told { IfErr result (Refuses (has_line name.now words.old (said self.old))) }
     {
         let place = self.space_named(alloc, name)?;
         if words.peek().is_none() {
@@ -686,7 +707,10 @@ impl Plan {
         first: &str,
         words: &mut Words<'_>,
     ) -> Result<(), Why>
-        ensures { OnOk result (LineAdds line first.now words.old (said self.old) (said self.new)) }
+        ensures added { OnOk result
+            (line_begun line first.now words.old (said self.old) ≡ Ok (said self.new)) }
+        ensures told { IfErr result
+            (Refuses (line_begun line first.now words.old (said self.old))) }
     {
         match first {
             "cores" => self.read_cores(alloc, words),
@@ -703,16 +727,21 @@ impl Plan {
         }
     }
 
-    /// A line before the first step. Unknown where its first word begins none.
+    /// A line before the first step. Where it is refused, the first fault is told, and what the plan says then is not: the caller
+    /// lets it go.
     pub fn read(&mut self, alloc: Global, line: u64, words: &[&str]) -> Result<(), Why>
-        ensures { OnOk result (ReadsLine line (texts words.now) self.old (said self.new)) }
+        ensures taken { OnOk result (ReadsLine line (texts words.now) self.old (said self.new)) }
+        ensures refused { IfErr result (RefusesLine line (texts words.now) self.old) }
+        ensures fault { IfErr result TellsOfLine }
+        ensures in_order { OnOk result (IsInOrder (said self.old) → IsInOrder (said self.new)) }
+        ensures whole { OnOk result (IsWhole (said self.old) → IsWhole (said self.new)) }
     {
         let mut words = Words::new(words);
         let Some(first) = words.next() else {
             return Ok(());
         };
         if says_has(&words) {
-            words.expect(alloc, "has")?;
+            words.next();
             return self.read_has(alloc, first, &mut words);
         }
         self.read_line(alloc, line, first, &mut words)

@@ -1,7 +1,8 @@
-use Rattle.std.proofs.Common.{take, string_bytes}
-use Rattle.mcs_compile.specs.Entries.{PutsFields}
+use Rattle.std.proofs.Common.{◌≡◌, drop, string_bytes}
+use Rattle.mcs_compile.specs.Entries.{fields_more}
 use Rattle.mcs_compile.proofs.entries.Speaker.read_fields.Given as goal
 
 abbrev pub invariant-loop-field : goal.invariant-loop-field
 invariant-loop-field l =
-    PutsFields l.self.laid.now.tables.items l.self.thread (take l.field-index l.fields) l.initial.words l.words (string_bytes l.initial.to) (string_bytes l.to)
+    fields_more l.self.laid.now l.self.thread l.fields l.fn.words (string_bytes l.fn.to)
+    ≡ fields_more l.self.laid.now l.self.thread (drop l.field-index l.fields) l.words (string_bytes l.to)

@@ -1,6 +1,6 @@
 use Rattle.std.proofs.Common.{length}
 use Rattle.mcs_plans.specs.ThreadLines.{parts_then, plain_form, form_of}
-use Rattle.mcs_plans.proofs.ThreadWords.{PartsLeft}
+use Rattle.mcs_plans.proofs.Turns.{PartsLeft}
 use Rattle.mcs_plans.proofs.plan.Plan.read_parts.Given as goal
 
 abbrev pub invariant-loop : goal.invariant-loop

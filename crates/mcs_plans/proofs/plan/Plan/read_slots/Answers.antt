@@ -1,5 +1,6 @@
 use Rattle.mcs_plans.specs.Saying.{said}
-use Rattle.mcs_plans.proofs.LineWords.{slots_first, slots_turn, slots_end, slots_last}
+use Rattle.mcs_plans.proofs.Refusing.{handed_on}
+use Rattle.mcs_plans.proofs.Turns.{slots_first, slots_turn, slots_refused, slots_end, slots_last}
 use Rattle.mcs_plans.proofs.plan.Plan.read_slots.Goals.{in-Some+in_ok-read_slot, in_default}
 use Rattle.mcs_plans.proofs.plan.Plan.read_slots.Goals as goal
 
@@ -16,5 +17,11 @@ loop-preserved c = elim c.match-next.branch [
       w.in_default.ensures.none.0 w.in_default.ensures.none.1 c.loop.invariant)
 ]
 
-pub returns : goal.returns
-returns c = record { added = slots_last c.loop.counter c.len-end.result c.args.place c.loop.words (said c.loop.self) _ c.loop-test.false c.loop.invariant }
+pub returns-in_err-read_slot-clause-told : goal.returns-in_err-read_slot-clause-told
+returns-in_err-read_slot-clause-told c =
+    handed_on _ _ _ c.from_residual.ensures.1 (λ e p.
+    slots_refused c.loop.counter c.len-end.result c.args.place c.in-Some.word.now c.loop.words c.next.new.self (said c.loop.self) _ e c.loop-test.true
+    c.in-Some.ensures.word (c.in_err-read_slot.ensures.told e p) c.loop.invariant)
+
+pub returns-clause-added : goal.returns-clause-added
+returns-clause-added c = slots_last c.loop.counter c.len-end.result c.args.place c.loop.words (said c.loop.self) _ c.loop-test.false c.loop.invariant
