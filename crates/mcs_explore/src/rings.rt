@@ -70,6 +70,7 @@ impl System for Ring {
         alloc: Global,
         place: usize,
         path: &[bool],
+        _next: &[bool],
     ) -> Result<Vec<(bool, u64)>, AllocError> {
         let mut nexts = Vec::new(alloc);
         if self.n == 0 {

@@ -45,12 +45,14 @@ pub trait System {
         ensures seen { OnOk result (HasSeen self.old [] → HasSeen self.new []) };
 
     /// The steps from the state to which a path of labels leads from the start: of each its label and the key of where it leads.
-    /// The state is the one in this place of all that were found. A fault ends the search.
+    /// The state is the one in this place of all that were found. A fault ends the search. The path of the state that comes next
+    /// is a hint: the system may keep what both paths have.
     fn nexts(
         &mut self,
         alloc: Global,
         place: usize,
         path: &[Self::Label],
+        next: &[Self::Label],
     ) -> Result<Vec<(Self::Label, Self::Key)>, Self::Fault>
         requires { (s : State) × Path (Leads self.old) (start self.old) path.now s }
         ensures later { Later self.old self.new }
@@ -291,7 +293,8 @@ fn nexts_of<M: System>(
         → M.HasSeen system.new (paths ++ path_of search.now.map.entries place ∷ [])) }
 {
     let path = search.path(alloc, place)?;
-    let nexts = system.nexts(alloc, place, &path)?;
+    let next = search.path(alloc, place.saturating_add(1))?;
+    let nexts = system.nexts(alloc, place, &path, &next)?;
     Ok(nexts)
 }
 

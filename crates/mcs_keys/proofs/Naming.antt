@@ -1,9 +1,11 @@
 -- Rows that stay at their numbers, and the rows that numbers name.
-use Rattle.std.specs.Prelude.{ℕ, zero, suc, ◌+◌, ◌≡◌, List, [], ◌∷◌, ◌++◌, Some, map, slice_get, Bool, true, false, nat_eq, Vec, option_map, if◌then◌else◌}
+use Rattle.std.specs.Prelude.{ℕ, zero, suc, ◌+◌, ◌≡◌, List, [], ◌∷◌, ◌++◌, Some, map, position, slice_get, get_or, Bool, true, Result, Ok, Err, false, nat_eq, Vec, option_map, if◌then◌else◌}
 use Rattle.std.specs.List.{list_any}
 use Rattle.std.proofs.Common.{refl, ap, sym, ◌∙◌, subst, arith}
 use Rattle.std.proofs.lemmas.List.{append_assoc, append-nil, map-append}
-use Rattle.std.proofs.lemmas.Option.{slice_get-map}
+use Rattle.std.specs.Result.{IfOk}
+use Rattle.std.proofs.lemmas.List.Quantifiers.{position-Some}
+use Rattle.std.proofs.lemmas.Option.{slice_get-get_or, slice_get-map}
 use Rattle.std.specs.Cmp.Lexicographic.{pointwise, same_text}
 use Rattle.indexmap.specs.IndexSet.{insert_key}
 use Rattle.mcs_types.specs.declared.id.ObjId.{ObjId}
@@ -93,6 +95,18 @@ same_items v w = pointwise nat_eq v.items w.items
 -- a row that is equal to one of the set
 pub stands : {A : Type 0} (f : A → List ℕ) (keys : List A) (n : ℕ) (k : A) (row : List ℕ) → slice_get keys n ≡ Some k → pointwise nat_eq row (f k) ≡ true → slice_get (map f keys) n ≡ Some row
 stands f keys n k row at same = slice_get-map f keys n ∙ ap (λ o. option_map f o) at ∙ ap (λ r. Some r) (sym (same_text row (f k) (sym same)))
+
+-- a row that was found in the set
+pub found-at : {A : Type 0} (f : A → List ℕ) (keys : List A) (row : List ℕ) (n : ℕ) → position (λ k. pointwise nat_eq row (f k)) keys ≡ Some n → slice_get (map f keys) n ≡ Some row
+found-at f [] row n e = absurd cc
+found-at f (k ∷ ks) row n e =
+    let it = position-Some (λ x. pointwise nat_eq row (f x)) (k ∷ ks) n k e in
+    stands f (k ∷ ks) n (get_or (k ∷ ks) n k) row (slice_get-get_or (k ∷ ks) n k it.0) it.1
+
+-- what a number names that is the same
+pub ok-at : {E : Type 0} (r : Result ℕ E) (rows : List (List ℕ)) (row : List ℕ) (m : ℕ) → IfOk r (λ n. n ≡ m) → slice_get rows m ≡ Some row → IfOk r (λ n. slice_get rows n ≡ Some row)
+ok-at (Ok n) rows row m same at = ap (λ i. slice_get rows i) same ∙ at
+ok-at (Err e) rows row m same at = same
 
 -- a set keeps its rows as one more is met
 pub still : {A : Type 0} (f : A → List ℕ) (eq : A → A → Bool) (old new : List A) (k : A) → new ≡ insert_key eq old k → Keeps (map f old) (map f new)

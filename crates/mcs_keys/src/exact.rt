@@ -328,7 +328,7 @@ fn put_rows<L: Lines>(
             serial: place + 1,
         };
         let row = object_row(alloc, kernel, object)?;
-        met.put(numbers, row)?;
+        met.put(numbers, &row)?;
     }
     Ok(())
 }
@@ -370,11 +370,11 @@ pub fn exact_numbers<L: Lines>(
     let kernel = walk.kernel();
     let mut numbers = Vec::new(alloc);
     let counts = count_row(alloc, kernel)?;
-    met.put(&mut numbers, counts)?;
+    met.put(&mut numbers, &counts)?;
     let places = place_row(alloc, users, walk)?;
-    met.put(&mut numbers, places)?;
+    met.put(&mut numbers, &places)?;
     let choices = choice_row(alloc, walk, picks)?;
-    met.put(&mut numbers, choices)?;
+    met.put(&mut numbers, &choices)?;
     put_objects(alloc, met, &mut numbers, kernel)?;
     Ok(numbers)
 }

@@ -9,7 +9,7 @@ use crate::exact::exact_numbers;
 use crate::met::{Met, Numbers};
 use crate::names::{Counts, Names};
 use crate::numbers::Row;
-use crate::rows::{put_object, put_slots, put_stale, thread_row};
+use crate::rows::{put_object, put_queue, put_slots, put_stale, put_thread};
 use mcs_kernel::{Boot, Kernel};
 use mcs_queues::Lines;
 use mcs_turns::Pick;
@@ -64,6 +64,9 @@ fn any_of_slots(users: &Users) -> bool {
     false
 }
 
+/// How many numbers a row has room for before it grows.
+const ROOM: usize = 128;
+
 /// The object of a kind in a place.
 fn object_at(kind: Kind, place: u32) -> ObjId {
     ObjId {
@@ -72,18 +75,13 @@ fn object_at(kind: Kind, place: u32) -> ObjId {
     }
 }
 
-/// The kinds of objects of which there is more than what threads and slots have of them.
-const KINDS: [Kind; 4] = [
-    Kind::Endpoint,
-    Kind::Notification,
-    Kind::Reply,
-    Kind::Context,
-];
+/// The kinds of objects of which there is more than what threads, queues and slots have of them.
+const KINDS: [Kind; 3] = [Kind::Notification, Kind::Reply, Kind::Context];
 
-/// Adds the canonical rows of all threads.
+/// Adds the canonical rows of all threads, each put together in the memory of one row.
 fn put_threads<L: Lines>(
-    alloc: Global,
     met: &mut Met,
+    row: &mut Row,
     numbers: &mut Numbers,
     threads: u32,
     users: &Users,
@@ -98,7 +96,8 @@ fn put_threads<L: Lines>(
             Some(user) => walk.place(user),
             None => None,
         };
-        let row = thread_row(alloc, walk.kernel(), names, thread, position)?;
+        row.clear();
+        put_thread(row, walk.kernel(), names, thread, position)?;
         met.put(numbers, row)?;
     }
     Ok(())
@@ -145,38 +144,69 @@ impl Keys {
         Ok(())
     }
 
-    /// The row of all objects but threads and CNodes.
-    fn object_row<L: Lines>(&self, kernel: &Kernel<L>, names: &Names) -> Result<Row, OrdersFault> {
-        let mut row = Vec::new(self.alloc);
-        for kind in KINDS.iter() {
-            self.put_kind(&mut row, kernel, names, *kind)?;
-        }
-        Ok(row)
-    }
-
-    /// The row of all slots, where they may change.
-    fn slot_row<L: Lines>(&self, kernel: &Kernel<L>, names: &Names) -> Result<Row, OrdersFault> {
-        let mut row = Vec::new(self.alloc);
-        if self.changes_slots {
-            for place in 0..self.counts.of(Kind::CNode) {
-                put_slots(&mut row, kernel, names, object_at(Kind::CNode, place))?;
-            }
-        }
-        Ok(row)
-    }
-
-    /// The row of what each core may enter besides its pick.
-    fn stale_row<L: Lines>(
+    /// All objects but threads and CNodes.
+    fn put_objects<L: Lines>(
         &self,
+        row: &mut Row,
+        kernel: &Kernel<L>,
+        names: &Names,
+    ) -> Result<(), OrdersFault> {
+        row.clear();
+        for place in 0..self.counts.of(Kind::Thread) {
+            put_queue(row, kernel, names, object_at(Kind::Thread, place))?;
+        }
+        for kind in KINDS.iter() {
+            self.put_kind(row, kernel, names, *kind)?;
+        }
+        Ok(())
+    }
+
+    /// All slots.
+    fn put_all_slots<L: Lines>(
+        &self,
+        row: &mut Row,
+        kernel: &Kernel<L>,
+        names: &Names,
+    ) -> Result<(), OrdersFault> {
+        row.clear();
+        for place in 0..self.counts.of(Kind::CNode) {
+            put_slots(row, kernel, names, object_at(Kind::CNode, place))?;
+        }
+        Ok(())
+    }
+
+    /// Adds the number of the row of all slots, where they may change.
+    fn name_slots<L: Lines>(
+        &mut self,
+        row: &mut Row,
+        numbers: &mut Numbers,
+        kernel: &Kernel<L>,
+        names: &Names,
+    ) -> Result<(), OrdersFault>
+        ensures kept { Keeps self.old.met self.new.met }
+        ensures mode { self.new.is_exact ≡ self.old.is_exact }
+    {
+        if !self.changes_slots {
+            return Ok(());
+        }
+        self.put_all_slots(row, kernel, names)?;
+        self.met.put(numbers, row)?;
+        Ok(())
+    }
+
+    /// What each core may enter besides its pick.
+    fn put_all_stale<L: Lines>(
+        &self,
+        row: &mut Row,
         walk: &Walk<L>,
         picks: &[Option<Pick>],
-    ) -> Result<Row, OrdersFault> {
-        let mut row = Vec::new(self.alloc);
+    ) -> Result<(), OrdersFault> {
+        row.clear();
         for core in 0..walk.kernel().book().cores() {
             let pick = picked(picks, core as usize);
-            put_stale(&mut row, walk, CoreId(core), pick)?;
+            put_stale(row, walk, CoreId(core), pick)?;
         }
-        Ok(row)
+        Ok(())
     }
 
     /// The numbers of the canonical rows of a state, in which the cores have these picks.
@@ -192,22 +222,22 @@ impl Keys {
         let kernel = walk.kernel();
         let names = Names::new(self.alloc, kernel, self.counts, self.changes_slots)?;
         let threads = self.counts.of(Kind::Thread);
+        let mut row = Vec::with_capacity(self.alloc, ROOM)?;
         let mut numbers = Vec::with_capacity(self.alloc, (threads as usize).saturating_add(3))?;
         put_threads(
-            self.alloc,
             &mut self.met,
+            &mut row,
             &mut numbers,
             threads,
             users,
             walk,
             &names,
         )?;
-        let objects = self.object_row(kernel, &names)?;
-        self.met.put(&mut numbers, objects)?;
-        let slots = self.slot_row(kernel, &names)?;
-        self.met.put(&mut numbers, slots)?;
-        let stale = self.stale_row(walk, picks)?;
-        self.met.put(&mut numbers, stale)?;
+        self.put_objects(&mut row, kernel, &names)?;
+        self.met.put(&mut numbers, &row)?;
+        self.name_slots(&mut row, &mut numbers, kernel, &names)?;
+        self.put_all_stale(&mut row, walk, picks)?;
+        self.met.put(&mut numbers, &row)?;
         Ok(numbers)
     }
 

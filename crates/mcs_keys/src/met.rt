@@ -52,8 +52,8 @@ impl Met {
         self.rows.len()
     }
 
-    /// The number of a row, which is met now.
-    fn number(&mut self, row: Row) -> Result<u32, OutOfMemory>
+    /// The number of a row, which is added where it was not met before.
+    fn add(&mut self, row: Row) -> Result<u32, OutOfMemory>
         ensures number { IfOk result (λ n. slice_get self.new n ≡ Some row.items) }
         ensures kept { Keeps self.old self.new }
     {
@@ -64,10 +64,23 @@ impl Met {
         Ok(number)
     }
 
+    /// The number of a row, which is met now.
+    fn number(&mut self, row: &Row) -> Result<u32, OutOfMemory>
+        ensures number { IfOk result (λ n. slice_get self.new n ≡ Some row.now.items) }
+        ensures kept { Keeps self.old self.new }
+    {
+        // most rows were met before: a copy is made of a new one alone
+        if let Some(number) = self.rows.get_index_of(row) {
+            return narrow(number);
+        }
+        let row = row.clone()?;
+        self.add(row)
+    }
+
     /// Adds the number of a row to others.
-    pub fn put(&mut self, numbers: &mut Numbers, row: Row) -> Result<(), OutOfMemory>
+    pub fn put(&mut self, numbers: &mut Numbers, row: &Row) -> Result<(), OutOfMemory>
         ensures named { OnOk result (Adds self.old numbers.old.items self.new numbers.new.items
-            (row.items ∷ [])) }
+            (row.now.items ∷ [])) }
         ensures kept { Keeps self.old self.new }
     {
         let number = self.number(row)?;

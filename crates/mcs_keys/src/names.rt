@@ -88,7 +88,7 @@ impl Names {
 
     /// Adds an object, if it was made after the boot and is not there yet.
     fn add(&mut self, object: ObjId) -> Result<(), AllocError> {
-        if self.counts.of(object.kind) < object.serial && self.place(object).is_none() {
+        if self.is_later(object) && self.place(object).is_none() {
             self.later.push(object)?;
         }
         Ok(())
@@ -97,6 +97,11 @@ impl Names {
     /// Where an object stands among those made after the boot.
     fn place(&self, object: ObjId) -> Option<usize> {
         self.later.iter().position(|other| other.is_same(object))
+    }
+
+    /// Whether an object was made after the boot.
+    pub fn is_later(&self, object: ObjId) -> bool {
+        self.counts.of(object.kind) < object.serial
     }
 
     /// The objects that were made after the boot.

@@ -81,43 +81,48 @@ fn priority_number(priority: Option<Prio>) -> u64 {
 }
 
 /// What a thread does and has, and how far its user is.
-pub fn thread_row<L: Lines>(
-    alloc: Global,
+pub fn put_thread<L: Lines>(
+    row: &mut Row,
     kernel: &Kernel<L>,
     names: &Names,
     thread: ObjId,
     place: Option<Position>,
-) -> Result<Row, AllocError> {
-    let mut row = Vec::with_capacity(alloc, 12)?;
-    put_place(&mut row, place)?;
+) -> Result<(), AllocError> {
+    put_place(row, place)?;
     row.push(names.name_or_none(kernel.context(thread)))?;
     row.push(names.name_or_none(kernel.bound(thread)))?;
     row.push(priority_number(kernel.priority(thread)))?;
-    put_status(&mut row, names, kernel.status(thread))?;
-    put_letter(&mut row, names, kernel.open(thread))?;
-    Ok(row)
+    put_status(row, names, kernel.status(thread))?;
+    put_letter(row, names, kernel.open(thread))
 }
 
-/// A queue, where threads stand in it.
-fn put_queue<L: Lines>(
+/// The queue in which a thread stands first, where another stands behind it: so each such queue is there once. Who stands alone
+/// is told by what it does.
+pub fn put_queue<L: Lines>(
     row: &mut Row,
     kernel: &Kernel<L>,
     names: &Names,
-    queue: Queue,
+    thread: ObjId,
 ) -> Result<(), AllocError> {
+    let Some(Status::Queued(queue)) = kernel.status(thread) else {
+        return Ok(());
+    };
+    let mut threads = kernel.queue(queue);
+    let (Some(first), Some(second)) = (threads.next(), threads.next()) else {
+        return Ok(());
+    };
+    if !first.is_same(thread) {
+        return Ok(());
+    }
     let (sort, object) = queue_parts(queue);
-    let mut is_first = true;
-    for thread in kernel.queue(queue) {
-        if is_first {
-            row.push(sort.saturating_add(6))?;
-            row.push(names.name(object))?;
-            is_first = false;
-        }
+    row.push(sort.saturating_add(6))?;
+    row.push(names.name(object))?;
+    row.push(first.serial as u64)?;
+    row.push(second.serial as u64)?;
+    for thread in threads {
         row.push(thread.serial as u64)?;
     }
-    if !is_first {
-        row.push(0)?;
-    }
+    row.push(0)?;
     Ok(())
 }
 
@@ -136,7 +141,7 @@ fn put_word<L: Lines>(
     Ok(())
 }
 
-/// Who stands with a reply object, or is owed by it.
+/// Who receives with a reply object. Whom it owes is told by what that thread does.
 fn put_reply<L: Lines>(
     row: &mut Row,
     kernel: &Kernel<L>,
@@ -148,32 +153,54 @@ fn put_reply<L: Lines>(
         row.push(names.name(reply))?;
         row.push(receiver.serial as u64)?;
     }
-    if let Some(caller) = kernel.owed(reply) {
-        row.push(3)?;
-        row.push(names.name(reply))?;
-        row.push(caller.serial as u64)?;
-    }
     Ok(())
 }
 
-/// The chain of a context and its home, where there are, and its core.
+/// The home of a context and its chain.
+fn put_standing<L: Lines>(
+    row: &mut Row,
+    kernel: &Kernel<L>,
+    names: &Names,
+    context: ObjId,
+) -> Result<(), AllocError> {
+    let home = kernel.home(context);
+    let mut chain = kernel.chain(context);
+    let top = chain.next();
+    if home.is_none() && top.is_none() {
+        return Ok(());
+    }
+    row.push(3)?;
+    row.push(names.name(context))?;
+    row.push(names.name_or_none(home))?;
+    row.push(names.name_or_none(top))?;
+    for reply in chain {
+        row.push(names.name(reply))?;
+    }
+    row.push(0)?;
+    Ok(())
+}
+
+/// A context: where it is gone, or its home and its chain, where there are, and its core where it was made after the boot. That of
+/// one that the boot made stays.
 fn put_context<L: Lines>(
     row: &mut Row,
     kernel: &Kernel<L>,
     names: &Names,
     context: ObjId,
 ) -> Result<(), AllocError> {
-    row.push(4)?;
     match kernel.core(context) {
-        Some(core) => row.push(core.0 as u64)?,
-        None => row.push(256)?,
+        None => {
+            row.push(4)?;
+            row.push(names.name(context))?;
+        }
+        Some(core) if names.is_later(context) => {
+            row.push(5)?;
+            row.push(names.name(context))?;
+            row.push(core.0 as u64)?;
+        }
+        Some(_) => {}
     }
-    row.push(names.name_or_none(kernel.home(context)))?;
-    for reply in kernel.chain(context) {
-        row.push(names.name(reply))?;
-    }
-    row.push(0)?;
-    Ok(())
+    put_standing(row, kernel, names, context)
 }
 
 /// What there is of an object besides what threads and slots have of it.
@@ -184,15 +211,8 @@ pub fn put_object<L: Lines>(
     object: ObjId,
 ) -> Result<(), AllocError> {
     match object.kind {
-        Kind::CNode | Kind::Thread => Ok(()),
-        Kind::Endpoint => {
-            put_queue(row, kernel, names, Queue::Senders(object))?;
-            put_queue(row, kernel, names, Queue::Receivers(object))
-        }
-        Kind::Notification => {
-            put_queue(row, kernel, names, Queue::Waiters(object))?;
-            put_word(row, kernel, names, object)
-        }
+        Kind::CNode | Kind::Thread | Kind::Endpoint => Ok(()),
+        Kind::Notification => put_word(row, kernel, names, object),
         Kind::Reply => put_reply(row, kernel, names, object),
         Kind::Context => put_context(row, kernel, names, object),
     }

@@ -35,10 +35,6 @@ pub trail-path : (users : List User) (g : Going) (ps : List Point) → IsTrail u
 trail-path users g [] i = refl
 trail-path users g (p ∷ ps) i = path-join users g p.turns (turns_of ps) p.going (last_point p.going ps) i.0 (trail-path users p.going ps i.1)
 
--- with no turn it is the start
-pub at-start : (users : List User) (g : Going) (ps : List Point) → IsTrail users g ps → turns_of ps ≡ [] → last_point g ps ≡ g
-at-start users g ps trail none = sym (subst (λ ts. Path (Leads users) g ts (last_point g ps)) none (trail-path users g ps trail))
-
 -- a path leads to one point
 pub path-one : (users : List User) → AreApart users → (g : Going) (ls : List Turn) (s t : Going) → Path (Leads users) g ls s → Path (Leads users) g ls t → s ≡ t
 path-one users apart g [] s t a b = sym a ∙ b
@@ -54,6 +50,15 @@ last-at g (q ∷ r ∷ ps) p e = last-at q.going (r ∷ ps) p (sym (ap (λ n. sl
   where
     down : (n : ℕ) → 0 < n → suc n - 1 ≡ suc (n - 1)
     down n lt = omega (arith, lt)
+
+-- a trail without its last point, and where it led
+pub last-pushed : (g : Going) (ps : List Point) (p : Point) → last_point g (ps ++ p ∷ []) ≡ p.going
+last-pushed g [] p = refl
+last-pushed g (q ∷ ps) p = last-pushed q.going ps p
+
+pub trail-front : (users : List User) (g : Going) (ps : List Point) (p : Point) → IsTrail users g (ps ++ p ∷ []) → IsTrail users g ps
+trail-front users g [] p h = tt
+trail-front users g (q ∷ ps) p h = (h.0, trail-front users q.going ps p h.1)
 
 -- one turn more of a path
 pub take-on : {A : Type 0} (xs : List A) (n : ℕ) (x : A) → slice_get xs n ≡ Some x → take (n + 1) xs ≡ take n xs ++ x ∷ []
@@ -95,6 +100,15 @@ leads-on users apart g ps path n m trail along some =
     let rest = subst (λ ls. Path (Leads users) first.0 ls some.0) (sym (take-append-drop m (drop n path))) first.1.1 in
     let next = path-parts users first.0 (take m (drop n path)) (drop m (drop n path)) some.0 rest in
     (next.0, subst (λ u. Path (Leads users) u (take m (drop n path)) next.0) here next.1.0)
+
+-- where the rest of a path leads from the end of a trail along its beginning, the whole leads
+pub arrives : (users : List User) → AreApart users → (g : Going) (ps : List Point) (path : List Turn) (n : ℕ) (w : Going) → IsTrail users g ps → turns_of ps ≡ take n path
+    → ((s : Going) × Path (Leads users) g path s) → ((h : Going) → Path (Leads users) (last_point g ps) (drop n path) h → w ≡ h) → Path (Leads users) g path w
+arrives users apart g ps path n w trail along some ends =
+    let whole = subst (λ ls. Path (Leads users) g ls some.0) (sym (take-append-drop n path)) some.1 in
+    let first = path-parts users g (take n path) (drop n path) some.0 whole in
+    let here : first.0 ≡ last_point g ps = path-one users apart g (take n path) first.0 (last_point g ps) first.1.0 (subst (λ ts. Path (Leads users) g ts (last_point g ps)) along (trail-path users g ps trail)) in
+    subst (λ s. Path (Leads users) g path s) (sym (ends some.0 (subst (λ u. Path (Leads users) u (drop n path) some.0) here first.1.1))) some.1
 
 -- what stands in a place that a list has
 pub or-at : {A : Type 0} (xs : List A) (n : ℕ) (d : A) → n < length xs → slice_get xs n ≡ Some (slice_index_or xs n d)

@@ -1,6 +1,7 @@
 -- What was told of states and turns.
-use Rattle.std.specs.Prelude.{ℕ, zero, suc, ◌≡◌, ◌<◌, ◌≤◌, ◌+◌, ◌++◌, ◌⊎◌, ◌↔◌, take, Bool, true, List, [], ◌∷◌, Option, Some, None, Result, Ok, Err, is_none, length, slice_get}
+use Rattle.std.specs.Prelude.{ℕ, zero, suc, ◌≡◌, ◌<◌, ◌+◌, ◌++◌, ◌⊎◌, ◌↔◌, ◌-◌, ◌^◌, take, min, Bool, true, List, [], ◌∷◌, Option, Some, None, Result, Ok, Err, is_none, length, slice_get}
 use Rattle.std.specs.Result.{OnOk}
+use Rattle.std.specs.Int.{from_bool}
 use Rattle.std.specs.List.{Contains, list_all}
 use Rattle.std.proofs.Common.{refl, sym, ap, ◌∙◌, subst, arith, inl, inr, append_assoc, append-nil}
 use Rattle.std.proofs.lemmas.List.Elements.{Contains-append_cases}
@@ -14,11 +15,12 @@ use Rattle.mcs_explore.specs.Paths.{Path}
 use Rattle.mcs_explore.proofs.Places.{at-last, at-old, at-split, one-longer, within-at}
 use Rattle.mcs_walks.specs.declared.walk.Turn.{Turn}
 use Rattle.mcs_walks.specs.Walks.{HasEachTurn, last_answer}
-use Rattle.mcs_orders.specs.Trails.{IsTrail, Leads, Points, last_point, turns_of}
-use Rattle.mcs_orders.specs.Exploring.{Exploring, IsLater, here}
-use Rattle.mcs_orders.specs.Shown.{AreShown, AreToldOf, HasSeenAll, IsShown, IsStateAt, IsToldState, IsToldTurn, IsTurnFrom, IsTurnOf, Made, SeesState, SeesTurn, Shown, Sight, Tells, TellsOn, nothing, with_turns}
-use Rattle.mcs_orders.proofs.Nexts.{single, take-all}
-use Rattle.mcs_orders.proofs.Paths.{path-one, take-on, trail-path}
+use Rattle.mcs_orders.specs.Trails.{Leads}
+use Rattle.mcs_orders.specs.Exploring.{Exploring, IsLater}
+use Rattle.mcs_orders.specs.Watching.{Watching, counting}
+use Rattle.mcs_orders.specs.Shown.{AreShown, AreToldOf, Counting, HasCounted, HasSeenAll, IsShown, IsStateAt, IsToldState, IsToldTurn, IsTurnFrom, IsTurnOf, Made, SeesState, SeesTurn, Shown, Sight, Tells, TellsOn, ends_in, nothing, with_turns}
+use Rattle.mcs_orders.proofs.Nexts.{single}
+use Rattle.mcs_orders.proofs.Paths.{path-one, take-on}
 
 -- no pick of all cores
 all-none : (ks : List (Option Pick)) → ((i : ℕ) (k : Option Pick) → slice_get ks i ≡ Some k → k ≡ None) → list_all is_none ks ≡ true
@@ -156,11 +158,11 @@ one-told Has a b users apart place g t told = λ shown ts made has are. (
         }
 
 -- one turn more of those from a state
-pub tells-more : {W : Type 0} (Has : W → List User → Shown → Type 0) (a b c : W) (users others : List User) (place : ℕ) (g h : Going) (ts : List Turn) (i : ℕ) (t : Turn) → others ≡ users → h ≡ g → slice_get ts i ≡ Some t
-    → TellsOn Has b c others place h t → Tells Has a b users place g (take i ts) → Tells Has a c users place g (take (i + 1) ts)
-tells-more {W = W} Has a b c users others place g h ts i t same there at on tells = λ shown has.
+pub tells-more : {W : Type 0} (Has : W → List User → Shown → Type 0) (a b c : W) (users others : List User) (place : ℕ) (g : Going) (ts : List Turn) (i : ℕ) (t : Turn) → others ≡ users → slice_get ts i ≡ Some t
+    → TellsOn Has b c others place g t → Tells Has a b users place g (take i ts) → Tells Has a c users place g (take (i + 1) ts)
+tells-more {W = W} Has a b c users others place g ts i t same at on tells = λ shown has.
     let r = tells shown has in
-    let told : TellsOn Has b c users place g t = subst (λ us. TellsOn Has b c us place g t) same (subst (λ x. TellsOn Has b c others place x t) there on) in
+    let told : TellsOn Has b c users place g t = subst (λ us. TellsOn Has b c us place g t) same on in
     let more = told shown (take i ts) r.0 r.1.0 r.1.1 in
     (more.0, (more.1.0, subst (λ us. AreToldOf users place g us more.0) (sym (take-on ts i t at)) more.1.1))
 
@@ -231,20 +233,14 @@ module _ (users : List User) (apart : AreApart users) (start : Going) (paths : L
       }
 
 -- what was told of the end of a path and of all turns from it
-pub seen-nexts : {W : Type 0} (Has : W → List User → Shown → Type 0) (a b c : W) (users : List User) → AreApart users → (boot : Boot) (trail : Points) (path : List Turn) (told now : Exploring) (place : ℕ) (at : Going) (ts : List Turn) (n : ℕ)
-    → trail.start ≡ beginning users boot → IsTrail users trail.start trail.points → turns_of trail.points ≡ path → told.users ≡ users → told.trail ≡ trail → now.users ≡ users → now.boot ≡ boot
-    → at ≡ here told → HasEachTurn told.users at ts → length ts ≤ n → IsToldState Has a b users place (last_point trail.start trail.points) → Tells Has b c told.users place (here told) (take n ts)
+pub seen-nexts : {W : Type 0} (Has : W → List User → Shown → Type 0) (a b c : W) (users : List User) → AreApart users → (boot : Boot) (path : List Turn) (told now : Exploring) (place : ℕ) (g : Going) (ts : List Turn)
+    → Path (Leads users) (beginning users boot) path g → told.users ≡ users → now.users ≡ users → now.boot ≡ boot
+    → HasEachTurn told.users g ts → IsToldState Has a b users place g → Tells Has b c told.users place g ts
     → (paths : List (List Turn)) → HasSeenAll Has a users (beginning users boot) paths → length paths ≡ place → HasSeenAll Has c now.users (beginning now.users now.boot) (paths ++ path ∷ [])
-seen-nexts Has a b c users apart boot trail path told now place at ts n begins is_trail along same_users same_trail now_users now_boot is_at each full state tells paths old long =
-    let g = last_point trail.start trail.points in
-    let start = beginning users boot in
-    let end : Path (Leads users) start path g =
-    subst (λ ls. Path (Leads users) start ls g) along (subst (λ x. Path (Leads users) x (turns_of trail.points) g) begins (trail-path users trail.start trail.points is_trail)) in
-    let there : here told ≡ g = ap (λ (t : Points). last_point t.start t.points) same_trail in
-    let has : HasEachTurn users g ts = subst (λ x. HasEachTurn users x ts) (is_at ∙ there) (subst (λ us. HasEachTurn us at ts) same_users each) in
-    let all : Tells Has b c users place g ts =
-    subst (λ us. Tells Has b c users place g us) (take-all ts n full) (subst (λ x. Tells Has b c users place x (take n ts)) there (subst (λ us. Tells Has b c us place (here told) (take n ts)) same_users tells)) in
-    let seen = shown-on users apart start paths path Has a b c place g ts end long has state all old in
+seen-nexts Has a b c users apart boot path told now place g ts end same_users now_users now_boot each state tells paths old long =
+    let has : HasEachTurn users g ts = subst (λ us. HasEachTurn us g ts) same_users each in
+    let all : Tells Has b c users place g ts = subst (λ us. Tells Has b c us place g ts) same_users tells in
+    let seen = shown-on users apart (beginning users boot) paths path Has a b c place g ts end long has state all old in
     subst (λ us. HasSeenAll Has c us (beginning us now.boot) (paths ++ path ∷ [])) (sym now_users) (subst (λ bt. HasSeenAll Has c users (beginning users bt) (paths ++ path ∷ [])) (sym now_boot) seen)
 
 -- what was shown of a search that was begun
@@ -259,22 +255,70 @@ shown-all Has users boot e f a b w paths same_users same_boot same_watch later s
     let all = seen begun in
     subst (λ us. HasSeenAll Has b us (beginning us boot) paths) (later.users ∙ same_users) (subst (λ bt. HasSeenAll Has b f.users (beginning f.users bt) paths) (later.boot ∙ same_boot) all)
 
+-- a state more and a turn more in counts, which end with the largest
+ends-more : (ss : List Sight) (s : Sight) → ends_in (ss ++ s ∷ []) ≡ ends_in ss + from_bool s.is_over
+ends-more [] s = alone (from_bool s.is_over)
+  where
+    alone : (n : ℕ) → n + 0 ≡ 0 + n
+    alone n = omega arith
+ends-more (t ∷ ss) s = let more = ends-more ss s in omega (arith, more)
+
+ends-counted : (a b : ℕ) (ss : List Sight) (s : Sight) → a ≡ min (ends_in ss) (2 ^ 64 - 1) → b ≡ min (a + from_bool s.is_over) (2 ^ 64 - 1) → b ≡ min (ends_in (ss ++ s ∷ [])) (2 ^ 64 - 1)
+ends-counted a b ss s old new = let more = ends-more ss s in omega (arith, old, new, more)
+
+turns-counted : (a b : ℕ) (ms : List Made) (m : Made) → a ≡ min (length ms) (2 ^ 64 - 1) → b ≡ min (a + 1) (2 ^ 64 - 1) → b ≡ min (length (ms ++ m ∷ [])) (2 ^ 64 - 1)
+turns-counted a b ms m old new = let more = one-longer ms m in omega (arith, old, new, more)
+
+pub state-counted : {W E : Type 0} (r : Result (Unit {0}) E) (Has : W → List User → Shown → Type 0) (a b : Counting W) (users : List User) (place : ℕ) (g : Going) (over : Bool)
+    → b.turns ≡ a.turns → b.ends ≡ min (a.ends + from_bool over) (2 ^ 64 - 1) → OnOk r (SeesState Has a.watch b.watch users place g over) → OnOk r (SeesState (HasCounted Has) a b users place g over)
+state-counted (Ok x) Has a b users place g over same more sees = λ shown is. record {
+  has = sees shown is.has;
+  counted = record {
+    turns = same ∙ is.counted.turns;
+    ends = ends-counted a.ends b.ends shown.states (record { place = place; going = g; is_over = over }) is.counted.ends more;
+  };
+}
+state-counted (Err e) Has a b users place g over same more sees = sees
+
+pub turn-counted : {W : Type 0} (Has : W → List User → Shown → Type 0) (a b : Counting W) (users : List User) (place : ℕ) (t : Turn) (answer : Answer) (h : Going)
+    → b.turns ≡ min (a.turns + 1) (2 ^ 64 - 1) → b.ends ≡ a.ends → SeesTurn Has a.watch b.watch users place t answer h → SeesTurn (HasCounted Has) a b users place t answer h
+turn-counted Has a b users place t answer h more same sees = λ shown is. record {
+  has = sees shown is.has;
+  counted = record {
+    turns = turns-counted a.turns b.turns shown.turns (record { place = place; turn = t; answer = answer; going = h }) is.counted.turns more;
+    ends = same ∙ is.counted.ends;
+  };
+}
+
+-- before the first of them
+abbrev pub begun : {W : Type 0} → W → Counting W
+begun w = record { watch = w; turns = 0; ends = 0 }
+
+pub begun-is : {W : Type 0} (e : Watching W) (w : W) → e.watch ≡ w → e.turns ≡ 0 → e.ends ≡ 0 → counting e ≡ begun w
+begun-is {W = W} e w same turns ends = ap (λ x. counted x e.turns e.ends) same ∙ ap (λ n. counted w n e.ends) turns ∙ ap (λ n. counted w 0 n) ends
+  where
+    counted : W → ℕ → ℕ → Counting W
+    counted x n m = record { watch = x; turns = n; ends = m }
+
+pub none-counted : {W : Type 0} (Has : W → List User → Shown → Type 0) (w : W) (users : List User) → Has w users nothing → HasCounted Has (begun w) users nothing
+none-counted Has w users has = record { has = has; counted = record { turns = refl; ends = refl } }
+
 -- a state that was told, and a turn
-pub state-told : {W E : Type 0} (r : Result (Unit {0}) E) (Has : W → List User → Shown → Type 0) (a b : W) (users : List User) (place : ℕ) (g walk : Going) (picks : List (Option Pick)) (over : Bool)
-    → ArePicks users g picks → over ≡ list_all is_none picks → walk ≡ g → OnOk r (SeesState Has a b users place walk over) → OnOk r (IsToldState Has a b users place g)
-state-told (Ok x) Has a b users place g walk picks over are is same sees = record {
+pub state-told : {W E : Type 0} (r : Result (Unit {0}) E) (Has : W → List User → Shown → Type 0) (a b : W) (users : List User) (place : ℕ) (g : Going) (picks : List (Option Pick)) (over : Bool)
+    → ArePicks users g picks → over ≡ list_all is_none picks → OnOk r (SeesState Has a b users place g over) → OnOk r (IsToldState Has a b users place g)
+state-told (Ok x) Has a b users place g picks over are is sees = record {
   is_over = over;
   over = subst (λ o. (o ≡ true) ↔ IsOver users g) (sym is) (over-is users g picks are);
-  sees = subst (λ w. SeesState Has a b users place w over) same sees;
+  sees = sees;
 }
-state-told (Err e) Has a b users place g walk picks over are is same sees = sees
+state-told (Err e) Has a b users place g picks over are is sees = sees
 
-pub turn-told : {W : Type 0} (Has : W → List User → Shown → Type 0) (a b : W) (users : List User) (place : ℕ) (t : Turn) (g h walk : Going) (answer : Answer)
-    → walk ≡ g → Leads users t walk h → last_answer h.book ≡ Some answer → SeesTurn Has a b users place t answer h → IsToldTurn Has a b users place t g
-turn-told Has a b users place t g h walk answer same leads told sees = record {
+pub turn-told : {W : Type 0} (Has : W → List User → Shown → Type 0) (a b : W) (users : List User) (place : ℕ) (t : Turn) (g h : Going) (answer : Answer)
+    → Leads users t g h → last_answer h.book ≡ Some answer → SeesTurn Has a b users place t answer h → IsToldTurn Has a b users place t g
+turn-told Has a b users place t g h answer leads told sees = record {
   answer = answer;
   going = h;
-  is = record { leads = subst (λ w. Leads users t w h) same leads; answer = told };
+  is = record { leads = leads; answer = told };
   sees = sees;
 }
 

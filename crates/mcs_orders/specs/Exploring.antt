@@ -9,18 +9,14 @@ use Rattle.mcs_explore.specs.Search.{IsAmong, IsNext}
 use Rattle.mcs_like_runs.specs.Runs.{AreAlike}
 use Rattle.mcs_keys.specs.Naming.{Keeps, Known}
 use Rattle.mcs_keys.specs.Rows.{IsKey}
-use Rattle.mcs_orders.specs.Trails.{Leads, Points, last_point}
+use Rattle.mcs_orders.specs.Trails.{Leads, Points}
 
--- the users, the boot, the rows that were met, and a path with its points
+-- the users, the boot, the rows that were met, and the points that are kept along a path
 pub record Exploring : Type 0 where
   pub users : List User
   pub boot : Boot
   pub keys : Known
   pub trail : Points
-
--- where the path ends
-abbrev pub here : Exploring → Going
-here e = last_point e.trail.start e.trail.points
 
 -- exact keys name all rows of a point
 abbrev pub IsKeyIn : Exploring → Going → List ℕ → Type 0
@@ -43,10 +39,10 @@ pub record IsLater (e f : Exploring) : Type 0 where
   pub exact : f.keys.is_exact ≡ e.keys.is_exact
   pub met : Keeps e.keys.met f.keys.met
 
--- what is noted of these turns from where the path ends: of each that the rule has, a key of what is behind it, and nothing else
-pub record AreNextsOf (e : Exploring) (ts : List Turn) (nexts : List (Turn × List ℕ)) : Type 0 where
-  pub each : (i : ℕ) (l : Turn) (k : List ℕ) → slice_get nexts i ≡ Some (l, k) → IsNext (Leads e.users) (IsKeyIn e) (here e) l k
-  pub all : (l : Turn) (h : Going) → Contains ts l → Leads e.users l (here e) h → IsAmong (IsKeyIn e) nexts h
+-- what is noted of these turns from a point: of each that the rule has, a key of what is behind it, and nothing else
+pub record AreNextsOf (e : Exploring) (g : Going) (ts : List Turn) (nexts : List (Turn × List ℕ)) : Type 0 where
+  pub each : (i : ℕ) (l : Turn) (k : List ℕ) → slice_get nexts i ≡ Some (l, k) → IsNext (Leads e.users) (IsKeyIn e) g l k
+  pub all : (l : Turn) (h : Going) → Contains ts l → Leads e.users l g h → IsAmong (IsKeyIn e) nexts h
 
 -- turns with the numbers of keys
 abbrev pub numbers_of : List (Turn × Vec ℕ Global) → List (Turn × List ℕ)

@@ -12,6 +12,7 @@ use Rattle.mcs_keys.proofs.Deciding.{rows-alike}
 use Rattle.mcs_keys.proofs.Naming.{key-kept, key-one}
 use Rattle.mcs_orders.specs.Trails.{Leads}
 use Rattle.mcs_orders.specs.Exploring.{Exploring, IsKeyIn, IsLater, IsTold, LooksLike}
+use Rattle.mcs_orders.specs.Watching.{GoesOn, Watching}
 
 pub later-self : (e : Exploring) → IsLater e e
 later-self e = record { users = refl; boot = refl; exact = refl; met = λ n r h. h }
@@ -23,6 +24,12 @@ later-on e f g a b = record {
   exact = b.exact ∙ a.exact;
   met = λ n r h. b.met n r (a.met n r h);
 }
+
+pub goes-itself : {W A : Type 0} (by : W → A) (e : Watching W) → GoesOn by e e
+goes-itself by e = record { search = later-self e.search; aim = refl }
+
+pub goes-further : {W A : Type 0} (by : W → A) (e f g : Watching W) → GoesOn by e f → GoesOn by f g → GoesOn by e g
+goes-further by e f g a b = record { search = later-on e.search f.search g.search a.search b.search; aim = b.aim ∙ a.aim }
 
 pub keeps-start : (e f : Exploring) → IsLater e f → beginning f.users f.boot ≡ beginning e.users e.boot
 keeps-start e f a = ap (λ us. beginning us f.boot) a.users ∙ ap (λ b. beginning e.users b) a.boot

@@ -1,5 +1,6 @@
 -- What a search shows to who is told of it (own).
-use Rattle.std.specs.Prelude.{ℕ, ◌≡◌, ◌↔◌, ◌++◌, Bool, true, List, [], ◌∷◌, Some, length, slice_get}
+use Rattle.std.specs.Prelude.{ℕ, ◌≡◌, ◌↔◌, ◌+◌, ◌-◌, ◌^◌, ◌++◌, Bool, true, min, List, [], ◌∷◌, Some, length, slice_get}
+use Rattle.std.specs.Int.{from_bool}
 use Rattle.std.specs.List.{Contains}
 use Rattle.mcs_types.specs.declared.entry.Answer.{Answer}
 use Rattle.mcs_turns.specs.Turns.{User, Going, IsOver}
@@ -87,6 +88,27 @@ pub record HasSeenAll {W : Type 0} (Has : W → List User → Shown → Type 0) 
   pub shown : Shown
   pub has : Has watch users shown
   pub are : AreShown users start paths shown
+
+-- how many of these states are over
+abbrev pub ends_in : List Sight → ℕ
+ends_in [] = 0
+ends_in (s ∷ ss) = from_bool s.is_over + ends_in ss
+
+-- counts of the turns that were shown, and of the states that are over; both end with the largest
+pub record AreCounted (shown : Shown) (made over : ℕ) : Type 0 where
+  pub turns : made ≡ min (length shown.turns) (2 ^ 64 - 1)
+  pub ends : over ≡ min (ends_in shown.states) (2 ^ 64 - 1)
+
+-- one who is told, and what was counted
+pub record Counting (W : Type 0) : Type 0 where
+  pub watch : W
+  pub turns : ℕ
+  pub ends : ℕ
+
+-- one who has seen this, and what was counted of it
+pub record HasCounted {W : Type 0} (Has : W → List User → Shown → Type 0) (c : Counting W) (users : List User) (shown : Shown) : Type 0 where
+  pub has : Has c.watch users shown
+  pub counted : AreCounted shown c.turns c.ends
 
 -- one who sees a state more
 abbrev pub SeesState : {W : Type 0} → (W → List User → Shown → Type 0) → W → W → List User → ℕ → Going → Bool → Type 0

@@ -1,6 +1,7 @@
 -- A search, and who is told of it (own).
-use Rattle.std.specs.Prelude.{ℕ}
-use Rattle.mcs_orders.specs.Exploring.{Exploring}
+use Rattle.std.specs.Prelude.{ℕ, ◌≡◌}
+use Rattle.mcs_orders.specs.Exploring.{Exploring, IsLater}
+use Rattle.mcs_orders.specs.Shown.{Counting}
 
 -- what the search goes through, who is told of it, and how many turns it made and ends it saw
 pub record Watching (W : Type 0) : Type 0 where
@@ -8,3 +9,12 @@ pub record Watching (W : Type 0) : Type 0 where
   pub watch : W
   pub turns : ℕ
   pub ends : ℕ
+
+-- who is told, and what was counted
+abbrev pub counting : {W : Type 0} → Watching W → Counting W
+counting w = record { watch = w.watch; turns = w.turns; ends = w.ends }
+
+-- the same search, which has met more rows, and who is told goes by the same
+pub record GoesOn {W A : Type 0} (by : W → A) (e f : Watching W) : Type 0 where
+  pub search : IsLater e.search f.search
+  pub aim : by f.watch ≡ by e.watch

@@ -4,8 +4,9 @@ ghost use Rattle.std.specs.List.{list_all};
 ghost use Rattle.mcs_turns.specs.Turns.{User, Going, ArePicks, beginning};
 ghost use Rattle.mcs_walks.specs.declared.walk.Turn.{Turn};
 ghost use Rattle.mcs_orders.specs.Trails.{Leads};
-ghost use Rattle.mcs_orders.specs.Exploring.{AreNextsOf, IsKeyIn, IsLater, here, numbers_of};
-ghost use Rattle.mcs_orders.specs.Shown.{IsToldState, IsToldTurn, SeesState, SeesTurn, Shown, TellsOn};
+ghost use Rattle.mcs_orders.specs.Exploring.{AreNextsOf, IsKeyIn, numbers_of};
+ghost use Rattle.mcs_orders.specs.Shown.{HasCounted, IsToldState, IsToldTurn, SeesState, SeesTurn, Shown, Tells, TellsOn};
+ghost use Rattle.mcs_orders.specs.Watching.{GoesOn, counting};
 
 use crate::packed::PackedTurn;
 use crate::trail::Trail;
@@ -14,7 +15,7 @@ use mcs_kernel::Boot;
 use mcs_keys::{Key, Keys};
 use mcs_queues::PlainLines;
 use mcs_turns::Pick;
-use mcs_types::Answer;
+use mcs_types::{Answer, OutOfMemory};
 use mcs_walks::{OrdersFault, Turn, Users, Walk};
 use std::alloc::Global;
 use std::marker::Model;
@@ -24,6 +25,11 @@ pub trait Watch: Drop {
     // what it was shown of runs of these users
     ghost HasSeen: { Self → List User → Shown → Type 0 };
 
+    // what it goes by, which nothing that it is shown changes
+    ghost Aim: { Type 0 };
+
+    ghost aim: { Self → Aim };
+
     /// The state in this place; it is over where no core has a pick.
     fn see_state(
         &mut self,
@@ -32,7 +38,8 @@ pub trait Watch: Drop {
         walk: &Walk<PlainLines>,
         is_over: bool,
     ) -> Result<(), OrdersFault>
-        ensures { OnOk result (SeesState HasSeen self.old self.new
+        ensures aim { aim self.new ≡ aim self.old }
+        ensures sees { OnOk result (SeesState HasSeen self.old self.new
             users.now place walk.now is_over) };
 
     /// A turn from the state in this place: its answer, and what is behind it.
@@ -44,7 +51,8 @@ pub trait Watch: Drop {
         answer: &Answer,
         walk: &Walk<PlainLines>,
     ) -> Result<(), OrdersFault>
-        ensures { OnOk result (SeesTurn HasSeen self.old self.new
+        ensures aim { aim self.new ≡ aim self.old }
+        ensures sees { OnOk result (SeesTurn HasSeen self.old self.new
             users.now place turn answer.now walk.now) };
 }
 
@@ -111,6 +119,8 @@ impl<'a, W: Watch> Explorer<'a, W> {
         ensures boot { IfOk result (λ e. e.search.boot ≡ boot.now) }
         ensures exact { IfOk result (λ e. e.search.keys.is_exact ≡ is_exact) }
         ensures watch { IfOk result (λ e. e.watch ≡ watch) }
+        ensures turns { IfOk result (λ e. e.turns ≡ 0) }
+        ensures ends { IfOk result (λ e. e.ends ≡ 0) }
     {
         let start = Walk::new(alloc, boot, users)?;
         Ok(Explorer {
@@ -129,14 +139,14 @@ impl<'a, W: Watch> Explorer<'a, W> {
         self.keys.rows()
     }
 
-    /// How many turns were made.
+    /// How many turns were made, up to `usize::MAX`.
     pub fn turns(&self) -> usize
         ensures { result ≡ self.now.turns }
     {
         self.turns
     }
 
-    /// How many of the states that were looked behind are over.
+    /// How many of the states that were looked behind are over, up to `usize::MAX`.
     pub fn ends(&self) -> usize
         ensures { result ≡ self.now.ends }
     {
@@ -150,42 +160,48 @@ impl<'a, W: Watch> Explorer<'a, W> {
         &self.watch
     }
 
-    /// Tells of the state at the end of the trail.
-    fn tell(&mut self, place: usize, picks: &[Option<Pick>]) -> Result<(), OrdersFault>
-        requires { ArePicks self.old.search.users (here self.old.search) picks.now }
+    /// Tells of the state in a place.
+    fn tell(
+        &mut self,
+        place: usize,
+        walk: &Walk<PlainLines>,
+        picks: &[Option<Pick>],
+    ) -> Result<(), OrdersFault>
+        requires { ArePicks self.old.search.users walk.now picks.now }
         ensures search { self.new.search ≡ self.old.search }
-        ensures told { OnOk result (IsToldState W.HasSeen self.old.watch self.new.watch
-            self.old.search.users place (here self.old.search)) }
+        ensures aim { W.aim self.new.watch ≡ W.aim self.old.watch }
+        ensures told { OnOk result (IsToldState (HasCounted W.HasSeen)
+            (counting self.old) (counting self.new) self.old.search.users place walk.now) }
     {
         let is_over = is_over(picks);
         self.ends = self.ends.saturating_add(usize::from(is_over));
-        let walk = self.trail.last();
         self.watch.see_state(self.users, place, walk, is_over)
     }
 
-    /// The key of what is behind a turn from the end of the trail, where the cores have these picks; None where the rule has no
-    /// such turn.
+    /// The key of what is behind a turn from the state in a place, where its cores have these picks; None where the rule has no
+    /// such turn. The turn is made on the walk.
     fn behind(
         &mut self,
         alloc: Global,
         place: usize,
         turn: Turn,
         picks: &[Option<Pick>],
+        walk: Box<Walk<PlainLines>>,
     ) -> Result<Option<Key>, OrdersFault>
-        requires { ArePicks self.old.search.users (here self.old.search) picks.now }
-        ensures later { IsLater self.old.search self.new.search }
+        requires { ArePicks self.old.search.users walk.value picks.now }
+        ensures later { GoesOn W.aim self.old self.new }
         ensures trail { self.new.search.trail ≡ self.old.search.trail }
         ensures some { IfOk result (λ o. IfSome o (λ k. (h : Going)
-            × (Leads self.old.search.users turn (here self.old.search) h
+            × (Leads self.old.search.users turn walk.value h
             × IsKeyIn self.new.search h k.items))) }
-        ensures told { IfOk result (λ o. IfSome o (λ k. IsToldTurn W.HasSeen
-            self.old.watch self.new.watch self.old.search.users
-            place turn (here self.old.search))) }
+        ensures told { IfOk result (λ o. IfSome o (λ k. IsToldTurn (HasCounted W.HasSeen)
+            (counting self.old) (counting self.new) self.old.search.users
+            place turn walk.value)) }
         ensures none { IfOk result (λ o. IfNone o ((h : Going)
-            → Leads self.old.search.users turn (here self.old.search) h → ⊥)) }
-        ensures unseen { IfOk result (λ o. IfNone o (self.new.watch ≡ self.old.watch)) }
+            → Leads self.old.search.users turn walk.value h → ⊥)) }
+        ensures unseen { IfOk result (λ o. IfNone o (counting self.new ≡ counting self.old)) }
     {
-        let mut walk = self.trail.branch(alloc)?;
+        let mut walk = walk;
         let Some(answer) = walk.turn(alloc, self.users, picks, turn)? else {
             return Ok(None);
         };
@@ -198,30 +214,129 @@ impl<'a, W: Watch> Explorer<'a, W> {
         Ok(Some(key))
     }
 
-    /// Notes what is behind a turn from the end of the trail, where the rule has it.
+    /// Notes what is behind a turn from the state in a place, where the rule has it. The turn is made on the walk.
     fn add_next(
         &mut self,
         alloc: Global,
         place: usize,
         turn: Turn,
         picks: &[Option<Pick>],
+        walk: Box<Walk<PlainLines>>,
         nexts: &mut Vec<(PackedTurn, Key)>,
     ) -> Result<(), OrdersFault>
-        requires { ArePicks self.old.search.users (here self.old.search) picks.now }
-        ensures later { IsLater self.old.search self.new.search }
+        requires { ArePicks self.old.search.users walk.value picks.now }
+        ensures later { GoesOn W.aim self.old self.new }
         ensures trail { self.new.search.trail ≡ self.old.search.trail }
         ensures nexts { OnOk result ((ts : List Turn)
-            → AreNextsOf self.old.search ts (numbers_of nexts.old.items)
-            → AreNextsOf self.new.search (ts ++ turn ∷ []) (numbers_of nexts.new.items)) }
-        ensures told { OnOk result (TellsOn W.HasSeen self.old.watch self.new.watch
-            self.old.search.users place (here self.old.search) turn) }
+            → AreNextsOf self.old.search walk.value ts (numbers_of nexts.old.items)
+            → AreNextsOf self.new.search walk.value (ts ++ turn ∷ []) (numbers_of nexts.new.items)) }
+        ensures told { OnOk result (TellsOn (HasCounted W.HasSeen)
+            (counting self.old) (counting self.new)
+            self.old.search.users place walk.value turn) }
     {
         self.users.are_apart();
-        if let Some(key) = self.behind(alloc, place, turn, picks)? {
+        if let Some(key) = self.behind(alloc, place, turn, picks, walk)? {
             let label = PackedTurn::of(turn)?;
             push(nexts, (label, key))?;
         }
         Ok(())
+    }
+
+    /// A walk once more, in the memory of a spare one.
+    fn copy_of(
+        &mut self,
+        alloc: Global,
+        walk: &Walk<PlainLines>,
+    ) -> Result<Box<Walk<PlainLines>>, OutOfMemory>
+        ensures copy { IfOk result (λ copy. copy.value ≡ walk.now) }
+        ensures unchanged { self.new ≡ self.old }
+    {
+        self.trail.copy_of(alloc, walk)
+    }
+
+    /// Lets a walk go, whose memory is used again.
+    fn let_go(&mut self, walk: Box<Walk<PlainLines>>)
+        ensures { self.new ≡ self.old }
+    {
+        self.trail.let_go(walk);
+    }
+
+    /// Notes what is behind a turn from the state in a place, made on a copy of the walk.
+    fn add_copy(
+        &mut self,
+        alloc: Global,
+        place: usize,
+        turn: Turn,
+        picks: &[Option<Pick>],
+        walk: &Walk<PlainLines>,
+        nexts: &mut Vec<(PackedTurn, Key)>,
+    ) -> Result<(), OrdersFault>
+        requires { ArePicks self.old.search.users walk.now picks.now }
+        ensures later { GoesOn W.aim self.old self.new }
+        ensures trail { self.new.search.trail ≡ self.old.search.trail }
+        ensures nexts { OnOk result ((ts : List Turn)
+            → AreNextsOf self.old.search walk.now ts (numbers_of nexts.old.items)
+            → AreNextsOf self.new.search walk.now (ts ++ turn ∷ []) (numbers_of nexts.new.items)) }
+        ensures told { OnOk result (TellsOn (HasCounted W.HasSeen)
+            (counting self.old) (counting self.new)
+            self.old.search.users place walk.now turn) }
+    {
+        let copy = self.copy_of(alloc, walk)?;
+        self.add_next(alloc, place, turn, picks, copy, nexts)
+    }
+
+    /// Notes what is behind some turns from the state in a place, each on a copy of the walk.
+    fn add_nexts(
+        &mut self,
+        alloc: Global,
+        place: usize,
+        turns: &[Turn],
+        picks: &[Option<Pick>],
+        walk: &Walk<PlainLines>,
+        nexts: &mut Vec<(PackedTurn, Key)>,
+    ) -> Result<(), OrdersFault>
+        requires picks { ArePicks self.old.search.users walk.now picks.now }
+        requires none { nexts.old.items ≡ [] }
+        ensures later { GoesOn W.aim self.old self.new }
+        ensures trail { self.new.search.trail ≡ self.old.search.trail }
+        ensures nexts { OnOk result
+            (AreNextsOf self.new.search walk.now turns.now (numbers_of nexts.new.items)) }
+        ensures told { OnOk result (Tells (HasCounted W.HasSeen)
+            (counting self.old) (counting self.new)
+            self.old.search.users place walk.now turns.now) }
+    {
+        for index in 0..turns.len() {
+            self.add_copy(alloc, place, turns[index], picks, walk, nexts)?;
+        }
+        Ok(())
+    }
+
+    /// What is behind some turns from the state in a place: the last is made on the walk itself, so that a copy less is made.
+    fn nexts_by(
+        &mut self,
+        alloc: Global,
+        place: usize,
+        turns: &[Turn],
+        picks: &[Option<Pick>],
+        walk: Box<Walk<PlainLines>>,
+    ) -> Result<Vec<(PackedTurn, Key)>, OrdersFault>
+        requires { ArePicks self.old.search.users walk.value picks.now }
+        ensures later { GoesOn W.aim self.old self.new }
+        ensures trail { self.new.search.trail ≡ self.old.search.trail }
+        ensures nexts { IfOk result (λ nexts.
+            AreNextsOf self.new.search walk.value turns.now (numbers_of nexts.items)) }
+        ensures told { OnOk result (Tells (HasCounted W.HasSeen)
+            (counting self.old) (counting self.new)
+            self.old.search.users place walk.value turns.now) }
+    {
+        let mut nexts = Vec::with_capacity(alloc, turns.len())?;
+        let Some((last, others)) = turns.split_last() else {
+            self.let_go(walk);
+            return Ok(nexts);
+        };
+        self.add_nexts(alloc, place, others, picks, &walk, &mut nexts)?;
+        self.add_next(alloc, place, *last, picks, walk, &mut nexts)?;
+        Ok(nexts)
     }
 }
 
@@ -246,9 +361,10 @@ impl<'a, W: Watch> System for Explorer<'a, W> {
     ghost use Rattle.std.specs.Prelude.{◌≡◌};
     ghost use Rattle.mcs_turns.specs.Turns.{Going, beginning};
     ghost use Rattle.mcs_orders.specs.Trails.{Leads};
-    ghost use Rattle.mcs_orders.specs.Exploring.{IsKeyIn, IsLater, LooksLike};
-    ghost use Rattle.mcs_orders.specs.Shown.{HasSeenAll};
-    ghost use Rattle.mcs_orders.specs.Later.{later-self, later-on, keeps-start, keeps-steps, keeps-likeness, keeps-keys, one-key, same-key};
+    ghost use Rattle.mcs_orders.specs.Exploring.{IsKeyIn, LooksLike};
+    ghost use Rattle.mcs_orders.specs.Shown.{HasCounted, HasSeenAll};
+    ghost use Rattle.mcs_orders.specs.Watching.{GoesOn, counting};
+    ghost use Rattle.mcs_orders.specs.Later.{goes-itself, goes-further, keeps-start, keeps-steps, keeps-likeness, keeps-keys, one-key, same-key};
 
     type Label = PackedTurn;
 
@@ -266,15 +382,15 @@ impl<'a, W: Watch> System for Explorer<'a, W> {
 
     ghost IsKey = { λ e g k. IsKeyIn e.search g k.items };
 
-    ghost HasSeen = { λ e paths. HasSeenAll W.HasSeen e.watch e.search.users
+    ghost HasSeen = { λ e paths. HasSeenAll (HasCounted W.HasSeen) (counting e) e.search.users
         (beginning e.search.users e.search.boot) paths };
 
-    ghost Later = { λ e f. IsLater e.search f.search };
+    ghost Later = { λ e f. GoesOn W.aim e f };
 
     fn first(&mut self, alloc: Global) -> Result<Key, OrdersFault> {
-        self.trail.go_to(alloc, self.users, &[])?;
-        let picks = self.trail.last().picks(alloc, self.users)?;
-        self.keys.key(self.users, self.trail.last(), &picks)
+        let walk = self.trail.walk_to(alloc, self.users, &[], &[])?;
+        let picks = walk.picks(alloc, self.users)?;
+        self.keys.key(self.users, &walk, &picks)
     }
 
     fn nexts(
@@ -282,30 +398,29 @@ impl<'a, W: Watch> System for Explorer<'a, W> {
         alloc: Global,
         place: usize,
         path: &[PackedTurn],
+        next: &[PackedTurn],
     ) -> Result<Vec<(PackedTurn, Key)>, OrdersFault> {
         self.users.are_apart();
-        self.trail.go_to(alloc, self.users, path)?;
-        let picks = self.trail.last().picks(alloc, self.users)?;
-        self.tell(place, &picks)?;
-        let turns = self.trail.last().turns(alloc, self.users, &picks)?;
-        let mut nexts = Vec::with_capacity(alloc, turns.len())?;
-        for index in 0..turns.len() {
-            self.add_next(alloc, place, turns[index], &picks, &mut nexts)?;
-        }
+        let walk = self.trail.walk_to(alloc, self.users, path, next)?;
+        let picks = walk.picks(alloc, self.users)?;
+        self.tell(place, &walk, &picks)?;
+        let turns = walk.turns(alloc, self.users, &picks)?;
+        let nexts = self.nexts_by(alloc, place, &turns, &picks, walk)?;
         Ok(nexts)
     }
 
-    ghost same = { λ e. later-self e.search };
+    ghost same = { λ e. goes-itself W.aim e };
 
-    ghost further = { λ e f g. later-on e.search f.search g.search };
+    ghost further = { λ e f g. goes-further W.aim e f g };
 
-    ghost keeps_start = { λ e f. keeps-start e.search f.search };
+    ghost keeps_start = { λ e f later. keeps-start e.search f.search later.search };
 
-    ghost keeps_steps = { λ e f. keeps-steps e.search f.search };
+    ghost keeps_steps = { λ e f later. keeps-steps e.search f.search later.search };
 
-    ghost keeps_likeness = { λ e f. keeps-likeness e.search f.search };
+    ghost keeps_likeness = { λ e f later. keeps-likeness e.search f.search later.search };
 
-    ghost keeps_keys = { λ e f h g k is. keeps-keys e.search f.search h g k.items is };
+    ghost keeps_keys = { λ e f later g k is.
+        keeps-keys e.search f.search later.search g k.items is };
 
     ghost alike = { λ e p q g h k. one-key e.search p q g h k.items };
 

@@ -1,13 +1,14 @@
 //! The search, the nearest states first.
-ghost use Rattle.std.specs.Prelude.{◌≡◌, ◌≤◌, ◌⊎◌, ◌↔◌, true, IsTrue, IfOk, OnOk, length};
+ghost use Rattle.std.specs.Prelude.{ℕ, ◌≡◌, ◌≤◌, ◌-◌, ◌⊎◌, ◌↔◌, true, IsTrue, IfOk, OnOk, length};
 ghost use Rattle.mcs_book.specs.Boots.{IsFaultless};
 ghost use Rattle.mcs_turns.specs.Turns.{Going, AreInRange, beginning};
 ghost use Rattle.mcs_like_runs.specs.Runs.{IsReached};
 ghost use Rattle.mcs_explore.specs.Paths.{Path};
 ghost use Rattle.mcs_explore.specs.Search.{AreSorted, IsSpent, depth_at, path_of, paths_below};
 ghost use Rattle.mcs_orders.specs.Seen.{AreAllSeen, AreFoundRuns};
-ghost use Rattle.mcs_orders.specs.Shown.{HasSeenAll, nothing};
+ghost use Rattle.mcs_orders.specs.Shown.{HasCounted, HasSeenAll, nothing};
 ghost use Rattle.mcs_orders.specs.Trails.{Leads};
+ghost use Rattle.mcs_orders.specs.Watching.{counting};
 
 use crate::explorer::{Explorer, Watch};
 use crate::following::follow;
@@ -82,14 +83,14 @@ impl<'a, W: Watch> Orders<'a, W> {
         self.explorer.rows()
     }
 
-    /// How many turns were made.
+    /// How many turns lead from states that were looked behind, up to `usize::MAX`.
     pub fn turns(&self) -> usize
         ensures { result ≡ self.now.explorer.turns }
     {
         self.explorer.turns()
     }
 
-    /// How many states are over.
+    /// How many of the states that were looked behind are over, up to `usize::MAX`.
     pub fn ends(&self) -> usize
         ensures { result ≡ self.now.explorer.ends }
     {
@@ -111,7 +112,12 @@ impl<'a, W: Watch> Orders<'a, W> {
     }
 
     /// By how many turns the last state was found, which no other takes more.
-    pub fn deepest(&self) -> usize {
+    pub fn deepest(&self) -> usize
+        ensures last { result ≡ depth_at self.now.search.map.entries
+            (length self.now.search.map.entries - 1) }
+        ensures greatest { AreSorted self.now.search.map.entries
+            → (place : ℕ) → depth_at self.now.search.map.entries place ≤ result }
+    {
         self.depth(self.states().saturating_sub(1))
     }
 
@@ -147,10 +153,13 @@ pub fn explore<'a, W: Watch>(
     ensures whole { IfOk result (λ o. is_exact ≡ true → IsFaultless boot.now → AreInRange users.now
         → length o.search.map.entries ≤ o.search.done
         → AreAllSeen users.now boot.now o.search.map.entries) }
-    // each state that was looked behind was shown, and each turn from it, and no other
+    // each state that was looked behind was shown, and each turn from it, and no other, and these were counted
     ensures shown { IfOk result (λ o. W.HasSeen watch users.now nothing
-        → HasSeenAll W.HasSeen o.explorer.watch users.now (beginning users.now boot.now)
+        → HasSeenAll (HasCounted W.HasSeen) (counting o.explorer)
+        users.now (beginning users.now boot.now)
         (paths_below o.search.map.entries o.search.done)) }
+    // who is told goes by the same as before
+    ensures aim { IfOk result (λ o. W.aim o.explorer.watch ≡ W.aim watch) }
 {
     let mut explorer = Explorer::new(alloc, boot, users, is_exact, watch)?;
     let search = mcs_explore::explore(alloc, &mut explorer, budget)?;

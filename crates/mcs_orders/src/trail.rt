@@ -1,6 +1,6 @@
 //! The points along a path of turns, so that the next state is not made again from the boot.
-ghost use Rattle.std.specs.Prelude.{IfOk, ◌≡◌, ◌≤◌, ◌+◌, ◌∷◌, ◌++◌, [], true, OnOk, OnErr, length, take};
-ghost use Rattle.mcs_turns.specs.Turns.{Going};
+ghost use Rattle.std.specs.Prelude.{List, IfOk, ◌≡◌, ◌≤◌, ◌+◌, ◌∷◌, ◌++◌, [], true, OnOk, OnErr, length, take};
+ghost use Rattle.mcs_turns.specs.Turns.{User, Going};
 ghost use Rattle.mcs_explore.specs.Paths.{Path};
 ghost use Rattle.mcs_orders.specs.Trails.{Adds, IsTrail, Leads, last_point, turns_of};
 
@@ -12,15 +12,15 @@ use mcs_walks::{OrdersFault, Turn, Users, Walk};
 use std::alloc::Global;
 use std::marker::Model;
 
-/// How many turns a stage has at most. A point is kept behind each stage alone, since a few turns that are made again cost less
-/// than a copy.
+/// How many turns a stage has. A point is kept behind each stage alone, since a few turns that are made again cost less than a
+/// copy.
 const STRIDE: usize = 4;
 
 /// Some turns, and the point behind them.
 #[derive(Drop)]
 pub struct Stage {
     turns: Vec<Turn>,
-    walk: Walk<PlainLines>,
+    walk: Box<Walk<PlainLines>>,
 }
 
 impl Model for Stage {
@@ -28,14 +28,15 @@ impl Model for Stage {
 
     ghost Value = { Point };
 
-    ghost view = { λ s. record { turns = s.turns.items; going = s.walk } };
+    ghost view = { λ s. record { turns = s.turns.items; going = s.walk.value } };
 }
 
 /// A point where a path begins, and the points along it. Walks that are no longer needed are spare: their memory is used again.
+// walks are boxed, since one has 864 bytes and is moved often
 pub struct Trail {
     start: Walk<PlainLines>,
     stages: Vec<Stage>,
-    spare: Vec<Walk<PlainLines>>,
+    spare: Vec<Box<Walk<PlainLines>>>,
 }
 
 // By hand, so that it is a function of its own: a derived drop would be proved anew wherever it is let go.
@@ -82,6 +83,18 @@ fn goes_on(path: &[Turn], at: usize, turns: &[Turn]) -> bool
     true
 }
 
+/// How many turns two paths begin with together.
+fn shared(path: &[Turn], next: &[PackedTurn]) -> usize {
+    let mut count: usize = 0;
+    for (turn, other) in path.iter().zip(next.iter()) {
+        if !is_same(*turn, other.turn()) {
+            return count;
+        }
+        count = count.saturating_add(1);
+    }
+    count
+}
+
 /// Adds a stage to the end.
 fn push(stages: &mut Vec<Stage>, stage: Stage) -> Result<(), OutOfMemory>
     ensures added { OnOk result (stages.new.items ≡ stages.old.items ++ stage ∷ []) }
@@ -89,6 +102,32 @@ fn push(stages: &mut Vec<Stage>, stage: Stage) -> Result<(), OutOfMemory>
 {
     match stages.push(stage) {
         Ok(()) => Ok(()),
+        Err(_) => Err(OutOfMemory),
+    }
+}
+
+/// A walk that is boxed.
+fn inside(walk: &Box<Walk<PlainLines>>) -> &Walk<PlainLines>
+    ensures { result.now ≡ walk.now.value }
+{
+    &**walk
+}
+
+/// A walk once more, in the memory of a spare one.
+fn copy_of(
+    alloc: Global,
+    walk: &Walk<PlainLines>,
+    spare: Option<Box<Walk<PlainLines>>>,
+) -> Result<Box<Walk<PlainLines>>, OutOfMemory>
+    ensures { IfOk result (λ copy. copy.value ≡ walk.now) }
+{
+    let spare = match spare {
+        Some(spare) => Some(Box::into_inner(spare)),
+        None => None,
+    };
+    let copy = walk.copy(alloc, spare)?;
+    match Box::new(alloc, copy) {
+        Ok(copy) => Ok(copy),
         Err(_) => Err(OutOfMemory),
     }
 }
@@ -110,7 +149,7 @@ impl Trail {
         ensures { result.now ≡ last_point self.now.start self.now.points }
     {
         match self.stages.last() {
-            Some(stage) => &stage.walk,
+            Some(stage) => inside(&stage.walk),
             None => &self.start,
         }
     }
@@ -132,7 +171,7 @@ impl Trail {
     }
 
     /// Lets a walk go, whose memory is used again.
-    pub fn let_go(&mut self, walk: Walk<PlainLines>)
+    pub fn let_go(&mut self, walk: Box<Walk<PlainLines>>)
         ensures { self.new ≡ self.old }
     {
         // where memory for one more is refused, it is freed
@@ -150,13 +189,53 @@ impl Trail {
         }
     }
 
-    /// The last point once more.
-    pub fn branch(&mut self, alloc: Global) -> Result<Walk<PlainLines>, OutOfMemory>
-        ensures copy { IfOk result (λ walk. walk ≡ last_point self.old.start self.old.points) }
+    /// A walk once more, in the memory of a spare one.
+    pub fn copy_of(
+        &mut self,
+        alloc: Global,
+        walk: &Walk<PlainLines>,
+    ) -> Result<Box<Walk<PlainLines>>, OutOfMemory>
+        ensures copy { IfOk result (λ copy. copy.value ≡ walk.now) }
         ensures unchanged { self.new ≡ self.old }
     {
         let spare = self.spare.pop();
-        self.last().copy(alloc, spare)
+        copy_of(alloc, walk, spare)
+    }
+
+    /// The last point once more.
+    fn branch(&mut self, alloc: Global) -> Result<Box<Walk<PlainLines>>, OutOfMemory>
+        ensures copy { IfOk result (λ walk. walk.value ≡ last_point self.old.start self.old.points) }
+        ensures unchanged { self.new ≡ self.old }
+    {
+        let spare = self.spare.pop();
+        copy_of(alloc, self.last(), spare)
+    }
+
+    /// The last point itself, which is no longer along the path then; once more where there is no stage.
+    fn leave(&mut self, alloc: Global) -> Result<Box<Walk<PlainLines>>, OutOfMemory>
+        ensures walk { IfOk result (λ walk. walk.value ≡ last_point self.old.start self.old.points) }
+        ensures start { self.new.start ≡ self.old.start }
+        ensures trail { (users : List User) → IsTrail users self.old.start self.old.points
+            → IsTrail users self.new.start self.new.points }
+    {
+        match self.stages.pop() {
+            Some(stage) => Ok(stage.walk),
+            None => self.branch(alloc),
+        }
+    }
+
+    /// A walk at the last point: a copy, so that the point stays, where the next path goes along it, else the point itself.
+    fn depart(&mut self, alloc: Global, stays: bool) -> Result<Box<Walk<PlainLines>>, OutOfMemory>
+        ensures walk { IfOk result (λ walk. walk.value ≡ last_point self.old.start self.old.points) }
+        ensures start { self.new.start ≡ self.old.start }
+        ensures trail { (users : List User) → IsTrail users self.old.start self.old.points
+            → IsTrail users self.new.start self.new.points }
+    {
+        if stays {
+            self.branch(alloc)
+        } else {
+            self.leave(alloc)
+        }
     }
 
     /// Goes some turns on, which the rule has. BookFull, OutOfMemory: then it is as it was.
@@ -173,41 +252,56 @@ impl Trail {
         Ok(())
     }
 
-    /// Goes to the end of a path that leads somewhere: back to where it has the turns of this one, and on from there.
-    fn go_along(&mut self, alloc: Global, users: &Users, path: &[Turn]) -> Result<(), OrdersFault>
+    /// Goes along a path that leads somewhere, stage by stage: back to where it has the turns of this one, and on from there, but
+    /// no further than so many turns. How many turns of the path it has then.
+    fn go_along(
+        &mut self,
+        alloc: Global,
+        users: &Users,
+        path: &[Turn],
+        most: usize,
+    ) -> Result<usize, OrdersFault>
         requires trail { IsTrail users.now self.old.start self.old.points }
         requires path { (s : Going) × Path (Leads users.now) self.old.start path.now s }
         ensures start { self.new.start ≡ self.old.start }
         ensures trail { IsTrail users.now self.new.start self.new.points }
-        ensures turns { OnOk result (turns_of self.new.points ≡ path.now) }
+        ensures within { IfOk result (λ n. n ≤ length path.now) }
+        ensures turns { IfOk result (λ n. turns_of self.new.points ≡ take n path.now) }
     {
         users.are_apart();
         let (stages, turns) = self.common(path);
         self.keep(stages);
+        let last = most.min(path.len()).saturating_sub(STRIDE - 1);
         let mut at = turns;
-        while at < path.len() {
-            let end = path.len().min(at.saturating_add(STRIDE));
+        while at < last {
+            let end = at.saturating_add(STRIDE);
             self.step(alloc, users, &path[at..end])?;
             at = end;
         }
-        Ok(())
+        Ok(at)
     }
 
-    /// The same, along a path of packed turns.
-    pub fn go_to(
+    /// A walk at the end of a path that leads somewhere. Points are kept along it as far as the path that comes next, which is a
+    /// hint, goes along with it.
+    pub fn walk_to(
         &mut self,
         alloc: Global,
         users: &Users,
         path: &[PackedTurn],
-    ) -> Result<(), OrdersFault>
+        next: &[PackedTurn],
+    ) -> Result<Box<Walk<PlainLines>>, OrdersFault>
         requires trail { IsTrail users.now self.old.start self.old.points }
         requires path { (s : Going) × Path (Leads users.now) self.old.start path.now s }
         ensures start { self.new.start ≡ self.old.start }
         ensures trail { IsTrail users.now self.new.start self.new.points }
-        ensures turns { OnOk result (turns_of self.new.points ≡ path.now) }
+        ensures walk { IfOk result (λ w. Path (Leads users.now) self.old.start path.now w.value) }
     {
+        users.are_apart();
         let turns = unpacked(alloc, path)?;
-        self.go_along(alloc, users, turns.as_slice())?;
-        Ok(())
+        let shared = shared(&turns, next);
+        let at = self.go_along(alloc, users, &turns, shared)?;
+        let mut walk = self.depart(alloc, at <= shared)?;
+        follow(alloc, users, &mut walk, &turns[at..])?;
+        Ok(walk)
     }
 }

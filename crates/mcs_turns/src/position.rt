@@ -12,7 +12,7 @@ pub struct Position {
 }
 
 /// An entry that a core picked: the number of the user, from 0, and that of the entry in the user's list, from 0.
-#[derive(Clone, Copy, Drop)]
+#[derive(Clone, Copy, Drop, Default)]
 pub struct Pick {
     pub user: usize,
     pub number: usize,

@@ -1,5 +1,5 @@
 -- The best of users.
-use Rattle.std.specs.Prelude.{ℕ, Bool, false, nat_lt, zero, suc, ◌==◌, ◌+◌, ◌-◌, ◌<◌, ◌≡◌, ◌⊎◌, drop, length, List, [], ◌∷◌, ◌++◌, Option, Some, None, slice_get}
+use Rattle.std.specs.Prelude.{ℕ, Bool, false, nat_lt, zero, suc, ◌==◌, ◌+◌, ◌-◌, ◌<◌, ◌≤◌, ◌≡◌, ◌⊎◌, drop, length, List, [], ◌∷◌, ◌++◌, Option, Some, None, slice_get, set, replicate}
 use Rattle.std.specs.Prelude.{Result, Ok, Err}
 use Rattle.std.specs.Result.{IfOk}
 use Rattle.std.specs.Option.{IfSome}
@@ -8,21 +8,20 @@ use Rattle.std.proofs.Common.{refl, ap, sym, ◌∙◌, subst, arith, rules, tru
 use Rattle.std.proofs.Math.Seq.{drop-cons}
 use Rattle.std.proofs.lemmas.Bool.{eq-eqb, ltb-true}
 use Rattle.std.proofs.lemmas.Bool.Decides.{nat_tests}
-use Rattle.std.proofs.lemmas.List.{length-append}
 use Rattle.std.proofs.lemmas.Map.Views.{Contains-from_any}
 use Rattle.std.proofs.lemmas.Option.{slice_get_within, get_or_from_slice_get}
 use Rattle.mcs_types.proofs.Ids.{both}
 use Rattle.mcs_types.specs.declared.id.ObjId.{ObjId}
 use Rattle.mcs_types.specs.declared.id.CoreId.{CoreId}
-use Rattle.mcs_walks.specs.Walks.{Gives, IsPickBelow, left_stale, picked_of}
+use Rattle.mcs_walks.specs.Walks.{AreBestBelow, Gives, IsBestBelow, IsOffer, left_stale, picked_of}
 use Rattle.mcs_book.specs.Logs.{Log}
 use Rattle.mcs_book.specs.Picking.{GoesBefore}
 use Rattle.mcs_book.specs.Threads.{prio_of}
 use Rattle.mcs_turns.specs.declared.position.Pick.{Pick}
 use Rattle.mcs_book.specs.History.{log_of}
 use Rattle.mcs_turns.specs.declared.position.Position.{Position}
-use Rattle.mcs_turns.specs.Turns.{User, Going, CanGive}
-use Rattle.mcs_walks.specs.declared.walk.Candidate.{Candidate}
+use Rattle.mcs_turns.specs.Turns.{User, Going, CanGive, ArePicks, IsPickOf}
+use Rattle.mcs_walks.specs.declared.walk.Offer.{Offer}
 use Rattle.mcs_turns.proofs.Choices.{same-pick}
 use Rattle.mcs_turns.specs.Due.{none_stale, is_same, stale_after}
 
@@ -75,21 +74,6 @@ none-next xs n core low =
 pub among : (k : Pick) (js : List Pick) → list_any (is_same k) js ≡ true → Contains js k
 among k js h = Contains-from_any same-pick k js h
 
--- an element of a list with one more is in the list, or is that one
-last : {A : Type 0} (ks : List A) (k : A) (i : ℕ) (j : A) → slice_get (ks ++ k ∷ []) i ≡ Some j → (slice_get ks i ≡ Some j) ⊎ ((i ≡ length ks) × (j ≡ k))
-last {A = A} ks k i j at = go ks i at
-  where
-    go : (xs : List A) (n : ℕ) → slice_get (xs ++ k ∷ []) n ≡ Some j → (slice_get xs n ≡ Some j) ⊎ ((n ≡ length xs) × (j ≡ k))
-    go [] zero e = inr (refl, search rules)
-    go [] (suc n) e = absurd cc
-    go (x ∷ xs) zero e = inl e
-    go (x ∷ xs) (suc n) e = more (go xs n (search rules))
-      where
-        more : (slice_get xs n ≡ Some j) ⊎ ((n ≡ length xs) × (j ≡ k)) → (slice_get (x ∷ xs) (suc n) ≡ Some j) ⊎ ((suc n ≡ length (x ∷ xs)) × (j ≡ k))
-        more (inl h) = inl (search rules)
-        more (inr h) = inr (ap (λ m. suc m) h.0, h.1)
-
--- what holds of each core's pick holds with that of one core more
 -- below the next number is below it, or it
 pub nat_split : (i n : ℕ) → i < n + 1 → (i < n) ⊎ (i ≡ n)
 nat_split i n low = go (nat_lt i n) refl
@@ -97,15 +81,6 @@ nat_split i n low = go (nat_lt i n) refl
     go : (b : Bool) → nat_lt i n ≡ b → (i < n) ⊎ (i ≡ n)
     go true e = inl (ltb-true i n e)
     go false e = inr (grind (arith, nat_tests, e, low))
-
-pub picks-next : (P : CoreId → Option Pick → Type 0) (ks : List (Option Pick)) (n : ℕ) (k : Option Pick) → length ks ≡ n
-    → ((core : CoreId) (j : Option Pick) → slice_get ks core.0 ≡ Some j → P core j) → P (record { 0 = n }) k
-    → (core : CoreId) (j : Option Pick) → slice_get (ks ++ k ∷ []) core.0 ≡ Some j → P core j
-picks-next P ks n k long before this core j at = go (last ks k core.0 j at)
-  where
-    go : (slice_get ks core.0 ≡ Some j) ⊎ ((core.0 ≡ length ks) × (j ≡ k)) → P core j
-    go (inl h) = before core j h
-    go (inr h) = subst (λ i. P (record { 0 = i }) j) (sym (h.0 ∙ long)) (subst (λ x. P (record { 0 = n }) x) (sym h.1) this)
 
 -- the stale picks from a core on, by that core
 pub stale-next : (core user i : ℕ) (ps : List (Option Pick)) (ss : List (List Pick)) (s : List Pick) → slice_get ss i ≡ Some s
@@ -117,9 +92,6 @@ stale-next core user i ps ss s at = rw (drop-at ss i s at) (go (slice_get ps i) 
     go None e = rw (drop-past ps i e, drop-beyond ps i e, e) refl
     go (Some k) e = rw (drop-at ps i k e, e) refl
 
-pub length-more : {A : Type 0} (ks : List A) (k : A) (n : ℕ) → length ks ≡ n → length (ks ++ k ∷ []) ≡ n + 1
-length-more ks k n long = length-append ks (k ∷ []) ∙ ap (λ m. m + 1) long
-
 -- two users in one place are one
 one-user : (users : List User) (i : ℕ) (u v : User) → slice_get users i ≡ Some u → slice_get users i ≡ Some v → u ≡ v
 one-user users i u v e f = some-same (sym e ∙ f)
@@ -127,16 +99,144 @@ one-user users i u v e f = some-same (sym e ∙ f)
     some-same : Some u ≡ Some v → u ≡ v
     some-same h = search rules
 
--- the best stays the best where it goes before the next one
-pub stays-best : (users : List User) (g : Going) (core : CoreId) (n : ℕ) (one before : Candidate) → Gives users g core n one.pick one.thread
-    → IsPickBelow users g core n (Some before) → GoesBefore (log_of g.book) before.thread one.thread → IsPickBelow users g core (n + 1) (Some before)
-stays-best users g core n one before gives best goes = (best.0, λ i u p low can. go i u p can (nat_split i n low))
+-- the best below the next number, where the user there is known to go behind it
+best-next : (users : List User) (g : Going) (core : CoreId) (n : ℕ) (t : ObjId)
+    → ((i : ℕ) (u : User) (p : Position) → i < n → CanGive users g core i u p → GoesBefore (log_of g.book) t u.thread)
+    → ((u : User) (p : Position) → CanGive users g core n u p → GoesBefore (log_of g.book) t u.thread)
+    → (i : ℕ) (u : User) (p : Position) → i < n + 1 → CanGive users g core i u p → GoesBefore (log_of g.book) t u.thread
+best-next users g core n t below here i u p low can = go (nat_split i n low)
   where
-    go : (i : ℕ) (u : User) (p : Position) → CanGive users g core i u p → (i < n) ⊎ (i ≡ n) → GoesBefore (log_of g.book) before.thread u.thread
-    go i u p can (inl h) = best.1 i u p h can
-    go i u p can (inr h) =
-        let same : gives.user ≡ u = one-user users n gives.user u gives.can.user (subst (λ k. slice_get users k ≡ Some u) h can.user) in
-        subst (λ t. GoesBefore (log_of g.book) before.thread t) (gives.thread ∙ ap (λ (v : User). v.thread) same) goes
+    go : (i < n) ⊎ (i ≡ n) → GoesBefore (log_of g.book) t u.thread
+    go (inl h) = below i u p h can
+    go (inr h) = here u p (subst (λ k. CanGive users g core k u p) h can)
+
+-- the threads of two who can give in one place are one
+one-thread : (users : List User) (g : Going) (core : CoreId) (n : ℕ) (k : Pick) (t : ObjId) (u : User) (p : Position) → Gives users g core n k t → CanGive users g core n u p → t ≡ u.thread
+one-thread users g core n k t u p gives can =
+    gives.thread ∙ ap (λ (v : User). v.thread) (one-user users n gives.user u gives.can.user can.user)
+
+-- a thread goes before itself
+before-self : (R : Log) (t : ObjId) → GoesBefore R t t
+before-self R t = record { priority = omega arith; serial = λ e. omega arith }
+
+-- the thread of the best so far
+module _ (users : List User) (g : Going) (n : ℕ) (offer : Offer) (k : Pick) (u : User) (is : IsOffer users g n (Some offer)) (best : IsBestBelow users g offer.core n (Some k)) (at : slice_get users k.user ≡ Some u) where
+  its-thread : best.0 ≡ u.thread
+  its-thread = best.1.thread ∙ ap (λ (v : User). v.thread) (one-user users k.user best.1.user u best.1.can.user at)
+
+  below : (i : ℕ) (v : User) (p : Position) → i < n → CanGive users g offer.core i v p → GoesBefore (log_of g.book) u.thread v.thread
+  below i v p low can = subst (λ t. GoesBefore (log_of g.book) t v.thread) its-thread (best.2 i v p low can)
+
+  -- the best stays the best where it goes before the next one
+  pub goes_behind : GoesBefore (log_of g.book) u.thread offer.thread → IsBestBelow users g offer.core (n + 1) (Some k)
+  goes_behind goes = (
+    u.thread,
+    subst (λ t. Gives users g offer.core k.user k t) its-thread best.1,
+    best-next users g offer.core n u.thread below (λ v p can. subst (λ t. GoesBefore (log_of g.book) u.thread t) (one-thread users g offer.core n offer.pick offer.thread v p is.0 can) goes),
+  )
+
+  -- the next one is the best where it goes before the best so far
+  pub goes_first : GoesBefore (log_of g.book) offer.thread u.thread → IsBestBelow users g offer.core (n + 1) (Some offer.pick)
+  goes_first goes = (
+    offer.thread,
+    subst (λ i. Gives users g offer.core i offer.pick offer.thread) (sym (ap (λ (j : Pick). j.user) is.0.number)) is.0,
+    best-next users g offer.core n offer.thread (λ i v p low can. before-on (log_of g.book) offer.thread u.thread v.thread goes (below i v p low can))
+        (λ v p can. subst (λ t. GoesBefore (log_of g.book) offer.thread t) (one-thread users g offer.core n offer.pick offer.thread v p is.0 can) (before-self (log_of g.book) offer.thread)),
+  )
+
+-- or where there was none
+pub is_first : (users : List User) (g : Going) (n : ℕ) (offer : Offer) → IsOffer users g n (Some offer) → IsBestBelow users g offer.core n None → IsBestBelow users g offer.core (n + 1) (Some offer.pick)
+is_first users g n offer is none = (
+  offer.thread,
+  subst (λ i. Gives users g offer.core i offer.pick offer.thread) (sym (ap (λ (j : Pick). j.user) is.0.number)) is.0,
+  best-next users g offer.core n offer.thread (λ i v p low can. absurd (none i v p low can))
+      (λ v p can. subst (λ t. GoesBefore (log_of g.book) offer.thread t) (one-thread users g offer.core n offer.pick offer.thread v p is.0 can) (before-self (log_of g.book) offer.thread)),
+)
+
+-- the best of a core on which the next user can give nothing is the best still
+best-kept : (users : List User) (g : Going) (core : CoreId) (n : ℕ) (o : Option Pick) → ((u : User) (p : Position) → CanGive users g core n u p → ⊥)
+    → IsBestBelow users g core n o → IsBestBelow users g core (n + 1) o
+best-kept users g core n None nothing best = λ i u p low can. go i u p can (nat_split i n low)
+  where
+    go : (i : ℕ) (u : User) (p : Position) → CanGive users g core i u p → (i < n) ⊎ (i ≡ n) → ⊥
+    go i u p can (inl h) = best i u p h can
+    go i u p can (inr h) = nothing u p (subst (λ k. CanGive users g core k u p) h can)
+best-kept users g core n (Some k) nothing best =
+    (best.0, best.1, best-next users g core n best.0 best.2 (λ u p can. absurd (nothing u p can)))
+
+-- all of them, where the next user can give nothing
+pub all_kept : (users : List User) (g : Going) (n : ℕ) (picks : List (Option Pick)) → IsOffer users g n None → AreBestBelow users g n picks → AreBestBelow users g (n + 1) picks
+all_kept users g n picks none best = record {
+  each = λ core k at. best-kept users g core n k (λ u p can. none core u p can) (best.each core k at);
+}
+
+-- a list with another element in a place
+set-at : {A : Type 0} (xs : List A) (i j : ℕ) (x y : A) → slice_get (set xs i x) j ≡ Some y → ((i ≡ j) × (x ≡ y)) ⊎ (((i ≡ j) → ⊥) × (slice_get xs j ≡ Some y))
+set-at [] i j x y at = absurd cc
+set-at (z ∷ xs) zero zero x y at = inl (refl, cc)
+set-at (z ∷ xs) zero (suc j) x y at = inr ((λ e. absurd cc), at)
+set-at (z ∷ xs) (suc i) zero x y at = inr ((λ e. absurd cc), at)
+set-at (z ∷ xs) (suc i) (suc j) x y at = go (set-at xs i j x y at)
+  where
+    go : ((i ≡ j) × (x ≡ y)) ⊎ (((i ≡ j) → ⊥) × (slice_get xs j ≡ Some y)) → ((suc i ≡ suc j) × (x ≡ y)) ⊎ (((suc i ≡ suc j) → ⊥) × (slice_get xs j ≡ Some y))
+    go (inl h) = inl (ap (λ n. suc n) h.0, h.1)
+    go (inr h) = inr ((λ e. h.0 (pred e)), h.1)
+      where
+        pred : suc i ≡ suc j → i ≡ j
+        pred e = omega (arith, e)
+
+-- and where it gives the best of its core
+pub all_noted : (users : List User) (g : Going) (n : ℕ) (picks : List (Option Pick)) (offer : Offer) (k : Pick) → IsOffer users g n (Some offer) → AreBestBelow users g n picks
+    → IsBestBelow users g offer.core (n + 1) (Some k) → AreBestBelow users g (n + 1) (set picks offer.core.0 (Some k))
+all_noted users g n picks offer k is best new = record { each = λ core j at. go core j (set-at picks offer.core.0 core.0 (Some k) j at) }
+  where
+    go : (core : CoreId) (j : Option Pick) → ((offer.core.0 ≡ core.0) × (Some k ≡ j)) ⊎ (((offer.core.0 ≡ core.0) → ⊥) × (slice_get picks core.0 ≡ Some j)) → IsBestBelow users g core (n + 1) j
+    go core j (inl h) = subst (λ o. IsBestBelow users g core (n + 1) o) h.1 (subst (λ (m : ℕ). IsBestBelow users g (record { 0 = m }) (n + 1) (Some k)) h.0 new)
+    go core j (inr h) = best-kept users g core n j (λ u p can. h.0 (ap (λ (c : CoreId). c.0) (sym (is.1 core u p can)))) (best.each core j h.1)
+
+-- a place of a list is below its length
+in-list : {A : Type 0} (xs : List A) (i : ℕ) (x : A) → slice_get xs i ≡ Some x → i < length xs
+in-list [] i x at = absurd cc
+in-list (y ∷ xs) zero x at = omega arith
+in-list (y ∷ xs) (suc i) x at = let below = in-list xs i x at in omega (arith, below)
+
+-- or where its core is none of these
+pub all_beyond : (users : List User) (g : Going) (n : ℕ) (picks : List (Option Pick)) (offer : Offer) → IsOffer users g n (Some offer) → length picks ≤ offer.core.0 → AreBestBelow users g n picks → AreBestBelow users g (n + 1) picks
+all_beyond users g n picks offer is far best = record { each = λ core k at. best-kept users g core n k (other core k at) (best.each core k at) }
+  where
+    other : (core : CoreId) (k : Option Pick) → slice_get picks core.0 ≡ Some k → (u : User) (p : Position) → CanGive users g core n u p → ⊥
+    other core k at u p can =
+        let low = in-list picks core.0 k at in
+        let same : core.0 ≡ offer.core.0 = ap (λ (c : CoreId). c.0) (is.1 core u p can) in
+        omega (arith, low, far, same)
+
+-- no pick is the best of no user
+none-of : (n i : ℕ) (k : Option Pick) → slice_get (replicate n None) i ≡ Some k → k ≡ None
+none-of zero i k at = absurd cc
+none-of (suc n) zero k at = cc
+none-of (suc n) (suc i) k at = none-of n i k at
+
+pub none_best : (users : List User) (g : Going) (n : ℕ) (picks : List (Option Pick)) → picks ≡ replicate n None → AreBestBelow users g 0 picks
+none_best users g n picks are = record {
+  each = λ core k at. subst (λ o. IsBestBelow users g core 0 o) (sym (none-of n core.0 k (subst (λ ks. slice_get ks core.0 ≡ Some k) are at))) (λ i u p low can. omega (arith, low));
+}
+
+-- the best of all users is the pick
+best-pick : (users : List User) (g : Going) (core : CoreId) (n : ℕ) (o : Option Pick) → length users ≤ n → IsBestBelow users g core n o → IsPickOf users g core o
+best-pick users g core n None all best = λ i u p can. best i u p (let low = in-list users i u can.user in omega (arith, low, all)) can
+best-pick users g core n (Some k) all best = record {
+  user = best.1.user;
+  place = best.1.place;
+  can = best.1.can;
+  number = ap (λ (j : Pick). j.number) best.1.number;
+  best = λ i v q can. subst (λ t. GoesBefore (log_of g.book) t v.thread) best.1.thread (best.2 i v q (let low = in-list users i v can.user in omega (arith, low, all)) can);
+}
+
+pub best_picks : (users : List User) (g : Going) (n : ℕ) (picks : List (Option Pick)) → length users ≤ n → length picks ≡ g.book.boot.cores → AreBestBelow users g n picks → ArePicks users g picks
+best_picks users g n picks all long best = record {
+  cores = long;
+  each = λ core k at. best-pick users g core n k all (best.each core k at);
+}
 
 -- the stale picks so far, and those of one core more
 pub stale-step : (core user i : ℕ) (ps : List (Option Pick)) (ss done : List (List Pick)) (s left : List Pick) → slice_get ss i ≡ Some s → left ≡ left_stale core user ps i s

@@ -16,7 +16,7 @@ use Rattle.mcs_turns.specs.Due.{is_same, with_any_pick, without_user}
 use Rattle.mcs_turns.specs.Turns.{User, Going, CanGive, IsStale, IsTurn, due}
 use Rattle.mcs_kernel.specs.declared.fault.EnterFault.{EnterFault}
 use Rattle.mcs_kernel.specs.declared.fault.EnterFault.TheVariants.{BookFull, OutOfMemory}
-use Rattle.mcs_walks.specs.declared.walk.Candidate.{Candidate}
+use Rattle.mcs_walks.specs.declared.walk.Offer.{Offer}
 use Rattle.mcs_walks.specs.declared.walk.Turn.{Turn}
 
 -- a thread may enter on some core
@@ -32,11 +32,26 @@ pub record Gives (users : List User) (g : Going) (core : CoreId) (i : ℕ) (k : 
   pub number : k ≡ record { user = i; number = due (log_of g.book) user place }
   pub thread : t ≡ user.thread
 
--- the best of those below n
-abbrev pub IsPickBelow : List User → Going → CoreId → ℕ → Option Candidate → Type 0
-IsPickBelow users g core n None = (i : ℕ) (u : User) (p : Position) → i < n → CanGive users g core i u p → ⊥
-IsPickBelow users g core n (Some c) = Gives users g core c.pick.user c.pick c.thread
-    × ((i : ℕ) (u : User) (p : Position) → i < n → CanGive users g core i u p → GoesBefore (log_of g.book) c.thread u.thread)
+-- a thread may enter on this core, and on no other
+abbrev pub IsEntryCore : Log → ObjId → Option CoreId → Type 0
+IsEntryCore R t None = (core : CoreId) → may_enter R core t ≡ true → ⊥
+IsEntryCore R t (Some c) = (may_enter R c t ≡ true) × ((core : CoreId) → may_enter R core t ≡ true → core ≡ c)
+
+-- what the user in a place can give, on one core
+abbrev pub IsOffer : List User → Going → ℕ → Option Offer → Type 0
+IsOffer users g i None = (core : CoreId) (u : User) (p : Position) → CanGive users g core i u p → ⊥
+IsOffer users g i (Some o) = Gives users g o.core i o.pick o.thread
+    × ((core : CoreId) (u : User) (p : Position) → CanGive users g core i u p → core ≡ o.core)
+
+-- the best that those below n can give on a core
+abbrev pub IsBestBelow : List User → Going → CoreId → ℕ → Option Pick → Type 0
+IsBestBelow users g core n None = (i : ℕ) (u : User) (p : Position) → i < n → CanGive users g core i u p → ⊥
+IsBestBelow users g core n (Some k) = (t : ObjId) × Gives users g core k.user k t
+    × ((i : ℕ) (u : User) (p : Position) → i < n → CanGive users g core i u p → GoesBefore (log_of g.book) t u.thread)
+
+-- and on each of all cores
+pub record AreBestBelow (users : List User) (g : Going) (n : ℕ) (picks : List (Option Pick)) : Type 0 where
+  pub each : (core : CoreId) (k : Option Pick) → slice_get picks core.0 ≡ Some k → IsBestBelow users g core n k
 
 -- whether an entry that is turned away for this, if anything, is one of a thread that may enter
 abbrev pub is_let_in : Option EnterFault → Bool

@@ -5,13 +5,15 @@ ghost use Rattle.mcs_turns.specs.Due.{is_same, with_any_pick, without_user};
 
 use mcs_turns::Pick;
 use mcs_types::OutOfMemory;
+use smallvec::SmallVec;
 use std::alloc::Global;
 use std::marker::Model;
 
 /// Some picks, each once, the lower user first, and then the lower entry. Clauses see a list.
 #[derive(Drop)]
 pub struct Picks {
-    picks: Vec<Pick>,
+    // few cores have more than two
+    picks: SmallVec<Pick, 2>,
 }
 
 impl Model for Picks {
@@ -33,13 +35,23 @@ pub(crate) fn push<T: Drop>(items: &mut Vec<T>, item: T) -> Result<(), OutOfMemo
     }
 }
 
+/// Adds a pick to the end. OutOfMemory where a growth was refused.
+fn add(picks: &mut SmallVec<Pick, 2>, pick: Pick) -> Result<(), OutOfMemory>
+    ensures { OnOk result (picks.new.items ≡ picks.old.items ++ pick ∷ []) }
+{
+    match picks.push(pick) {
+        Ok(()) => Ok(()),
+        Err(_) => Err(OutOfMemory),
+    }
+}
+
 impl Picks {
     /// None.
     pub fn new(alloc: Global) -> Picks
         ensures { result ≡ [] }
     {
         Picks {
-            picks: Vec::new(alloc),
+            picks: SmallVec::new(alloc),
         }
     }
 
@@ -61,7 +73,7 @@ impl Picks {
     pub fn with(&self, alloc: Global, pick: Option<Pick>) -> Result<Picks, OutOfMemory>
         ensures { IfOk result (λ p. p ≡ with_any_pick pick self.now) }
     {
-        let mut picks = Vec::new(alloc);
+        let mut picks = SmallVec::new(alloc);
         let mut more = pick;
         for other in self.picks.iter() {
             let other = *other;
@@ -69,14 +81,27 @@ impl Picks {
                 if one.is_same(other) {
                     more = None;
                 } else if one.is_ahead(other) {
-                    push(&mut picks, one)?;
+                    add(&mut picks, one)?;
                     more = None;
                 }
             }
-            push(&mut picks, other)?;
+            add(&mut picks, other)?;
         }
         if let Some(one) = more {
-            push(&mut picks, one)?;
+            add(&mut picks, one)?;
+        }
+        Ok(Picks { picks })
+    }
+
+    /// These without those of a user.
+    fn without(&self, alloc: Global, user: usize) -> Result<Picks, OutOfMemory>
+        ensures { IfOk result (λ p. p ≡ without_user user self.now) }
+    {
+        let mut picks = SmallVec::new(alloc);
+        for other in self.picks.iter() {
+            if other.user != user {
+                add(&mut picks, *other)?;
+            }
         }
         Ok(Picks { picks })
     }
@@ -90,16 +115,15 @@ impl Picks {
     ) -> Result<Picks, OutOfMemory>
         ensures { IfOk result (λ p. p ≡ without_user user (with_any_pick pick self.now)) }
     {
-        let mut picks = self.with(alloc, pick)?;
-        picks.picks.retain(|other| other.user != user);
-        Ok(picks)
+        let picks = self.with(alloc, pick)?;
+        picks.without(alloc, user)
     }
 
     /// The same picks once more. OutOfMemory where memory was refused.
     pub fn copy(&self, alloc: Global) -> Result<Picks, OutOfMemory>
         ensures { IfOk result (λ p. p ≡ self.now) }
     {
-        let picks = Vec::from_slice(alloc, self.picks.as_slice())?;
+        let picks = SmallVec::from_slice(alloc, self.picks.as_slice())?;
         Ok(Picks { picks })
     }
 }

@@ -1,14 +1,14 @@
 //! A kernel, how far each user is, and what each core may enter.
-ghost use Rattle.std.specs.Prelude.{◌≡◌, ◌≤◌, ◌<◌, ◌+◌, ◌^◌, ℕ, true, false, [], IfOk, IfSome, IfNone, OnOk, OnErr, Some, length, map, slice_get, option_copied};
+ghost use Rattle.std.specs.Prelude.{◌≡◌, ◌≤◌, ◌<◌, ◌+◌, ◌^◌, ℕ, true, false, [], IfOk, IfSome, IfNone, OnOk, OnErr, Some, length, map, replicate, slice_get, option_copied};
 ghost use Rattle.mcs_types.specs.declared.id.ObjId.{ObjId};
 ghost use Rattle.mcs_book.specs.History.{IsLegal, log_of};
 ghost use Rattle.mcs_book.specs.Picking.{GoesBefore};
-ghost use Rattle.mcs_book.specs.Statuses.{may_enter};
+ghost use Rattle.mcs_book.specs.Statuses.{is_ready, may_enter, status_of};
 ghost use Rattle.mcs_book.specs.Threads.{prio_of};
 ghost use Rattle.mcs_turns.specs.declared.position.Position.{Position};
 ghost use Rattle.mcs_turns.specs.Due.{begun, none_stale, stale_after};
-ghost use Rattle.mcs_turns.specs.Turns.{User, CanGive, IsPickOf, IsStale, ArePicks, IsTurn, beginning, behind, entered, put_at};
-ghost use Rattle.mcs_walks.specs.Walks.{EntersSomewhere, Gives, HasNoTurn, IsPickBelow, IsPicked, is_let_in, last_answer, left_stale, picked_of, step_of};
+ghost use Rattle.mcs_turns.specs.Turns.{IsStale, ArePicks, IsTurn, beginning, behind, entered, put_at};
+ghost use Rattle.mcs_walks.specs.Walks.{AreBestBelow, EntersSomewhere, HasNoTurn, IsBestBelow, IsEntryCore, IsOffer, IsPicked, is_let_in, last_answer, left_stale, picked_of, step_of};
 
 use crate::fault::{OrdersFault, limit_of};
 use crate::lists::UserList;
@@ -17,7 +17,7 @@ use crate::users::Users;
 use mcs_kernel::{Boot, EnterFault, Kernel};
 use mcs_queues::Lines;
 use mcs_turns::{Pick, Position};
-use mcs_types::{Answer, CoreId, Entry, ObjId, OutOfMemory, copy_rows};
+use mcs_types::{Answer, CoreId, Entry, ObjId, OutOfMemory, Status, copy_rows};
 use std::alloc::Global;
 use std::marker::Model;
 
@@ -28,9 +28,10 @@ pub struct Turn {
     pub pick: Pick,
 }
 
-/// A pick, and the thread of its user.
+/// What a user can give now: the one core on which it can, its pick, and its thread.
 #[derive(Clone, Copy, Drop)]
-struct Candidate {
+struct Offer {
+    core: CoreId,
     pick: Pick,
     thread: ObjId,
 }
@@ -81,6 +82,29 @@ fn may_enter<L: Lines>(kernel: &Kernel<L>, core: CoreId, thread: ObjId) -> bool
     ensures { result ≡ may_enter (log_of kernel.now) core thread }
 {
     is_let_in(kernel.fault(core, thread))
+}
+
+/// Whether a thread with this status can run.
+fn is_ready(status: Option<Status>) -> bool
+    ensures { result ≡ is_ready status }
+{
+    matches!(status, Some(Status::Running | Status::Restart))
+}
+
+/// The core on which a thread with this status may enter; None where it may enter nowhere.
+#[tactic(auto, using(crate::proofs::Walking::not_ready, crate::proofs::Walking::without_context, crate::proofs::Walking::with_context))]
+fn entry_core<L: Lines>(kernel: &Kernel<L>, thread: ObjId, status: Option<Status>) -> Option<CoreId>
+    requires { status ≡ status_of (log_of kernel.now) thread }
+    ensures { IsEntryCore (log_of kernel.now) thread result }
+{
+    kernel.is_fair();
+    if !is_ready(status) {
+        return None;
+    }
+    match kernel.context(thread) {
+        Some(context) => kernel.core(context),
+        None => None,
+    }
 }
 
 /// The priority of a thread that may enter.
@@ -163,6 +187,17 @@ pub fn picked(picks: &[Option<Pick>], core: usize) -> Option<Pick>
     }
 }
 
+/// No pick of so many cores.
+fn no_picks(alloc: Global, cores: u8) -> Result<Vec<Option<Pick>>, OutOfMemory>
+    ensures { IfOk result (λ v. v.items ≡ replicate cores None) }
+{
+    let mut picks = Vec::with_capacity(alloc, cores as usize)?;
+    for core in 0..cores {
+        push(&mut picks, None)?;
+    }
+    Ok(picks)
+}
+
 /// Whether a core picks this, where the cores have these picks.
 fn is_picked(picks: &[Option<Pick>], turn: Turn) -> bool
     ensures yes { result ≡ true → slice_get picks.now turn.core.0 ≡ Some (Some turn.pick) }
@@ -210,68 +245,71 @@ impl<L: Lines> Walk<L> {
         self.stale.get(core.0 as usize)
     }
 
-    /// The number of the entry that a user may give now on a core; None where it has none left, or its thread may not enter there.
-    fn given(&self, users: &Users, core: CoreId, user: usize) -> Option<Candidate>
-        ensures some { IfSome result (λ c. Gives users.now self.now core user c.pick c.thread) }
-        ensures none { IfNone result ((u : User) (p : Position)
-            → CanGive users.now self.now core user u p → ⊥) }
+    /// What a user can give now; None where it has no entry left, or its thread may enter nowhere.
+    fn offer(&self, users: &Users, user: usize) -> Option<Offer>
+        ensures { IsOffer users.now self.now user result }
     {
         let list = users.at(user)?;
         let place = self.place(user)?;
-        let number = place.due(self.kernel.status(list.thread));
-        if number < list.entries.len() && may_enter(&self.kernel, core, list.thread) {
-            Some(Candidate {
-                pick: Pick { user, number },
-                thread: list.thread,
-            })
-        } else {
-            None
+        let status = self.kernel.status(list.thread);
+        let number = place.due(status);
+        if number >= list.entries.len() {
+            return None;
         }
+        let core = entry_core(&self.kernel, list.thread, status)?;
+        Some(Offer {
+            core,
+            pick: Pick { user, number },
+            thread: list.thread,
+        })
     }
 
-    /// The better of a user and of the best of those before it.
-    fn better(
-        &self,
-        users: &Users,
-        core: CoreId,
-        user: usize,
-        best: Option<Candidate>,
-    ) -> Option<Candidate>
-        requires { IsPickBelow users.now self.now core user best }
-        ensures { IsPickBelow users.now self.now core (user + 1) result }
+    /// The better of what a user can give and of the best that those before it can give on that core.
+    #[tactic(auto, using(crate::proofs::Picking::is_first))]
+    fn better(&self, users: &Users, user: usize, offer: Offer, best: Option<Pick>) -> Pick
+        requires offer { IsOffer users.now self.now user (Some offer) }
+        requires best { IsBestBelow users.now self.now offer.core user best }
+        ensures { IsBestBelow users.now self.now offer.core (user + 1) (Some result) }
     {
-        let Some(one) = self.given(users, core, user) else {
-            return best;
+        let Some(before) = best else {
+            return offer.pick;
         };
-        match best {
-            Some(before) if !goes_before(&self.kernel, one.thread, before.thread) => best,
-            _ => Some(one),
+        let Some(list) = users.at(before.user) else {
+            unreachable!();
+        };
+        if goes_before(&self.kernel, offer.thread, list.thread) {
+            offer.pick
+        } else {
+            before
         }
     }
 
-    /// What a core picks: the due entry of the user who can give one and whose thread goes before those of all others who can.
-    pub fn pick(&self, users: &Users, core: CoreId) -> Option<Pick>
-        ensures { IsPickOf users.now self.now core result }
+    /// Notes what a user can give, where it goes before the best that those before it can give.
+    #[tactic(auto, using(crate::proofs::Picking::all_kept, crate::proofs::Picking::all_noted, crate::proofs::Picking::all_beyond))]
+    fn note(&self, users: &Users, user: usize, picks: &mut Vec<Option<Pick>>)
+        requires { AreBestBelow users.now self.now user picks.old.items }
+        ensures best { AreBestBelow users.now self.now (user + 1) picks.new.items }
+        ensures length { length picks.new.items ≡ length picks.old.items }
     {
-        let mut best = None;
-        for user in 0..users.lists().len() {
-            best = self.better(users, core, user, best);
-        }
-        match best {
-            Some(candidate) => Some(candidate.pick),
-            None => None,
+        let Some(offer) = self.offer(users, user) else {
+            return;
+        };
+        let core = offer.core.0 as usize;
+        if core < picks.len() {
+            let best = picks[core];
+            let better = self.better(users, user, offer, best);
+            picks[core] = Some(better);
         }
     }
 
-    /// What each core picks.
+    /// What each core picks: the due entry of the user who can give one and whose thread goes before those of all others who can.
+    #[tactic(auto, using(crate::proofs::Picking::none_best, crate::proofs::Picking::best_picks))]
     pub fn picks(&self, alloc: Global, users: &Users) -> Result<Vec<Option<Pick>>, OutOfMemory>
         ensures { IfOk result (λ v. ArePicks users.now self.now v.items) }
     {
-        let cores = self.kernel.book().cores();
-        let mut picks = Vec::with_capacity(alloc, cores as usize)?;
-        for core in 0..cores {
-            let pick = self.pick(users, CoreId(core));
-            push(&mut picks, pick)?;
+        let mut picks = no_picks(alloc, self.kernel.book().cores())?;
+        for user in 0..users.lists().len() {
+            self.note(users, user, &mut picks);
         }
         Ok(picks)
     }

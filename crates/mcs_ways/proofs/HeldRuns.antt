@@ -78,19 +78,19 @@ module _ (users : List User) (boot : Boot) (whole : IsFaultless boot) (range : A
   legal : (x : Going) → IsReached users boot x → IsLegal x.book
   legal x r = run-legal users boot whole range r.turns x r.run
 
-  abbrev step : Step
+  abbrev pub step : Step
   step = record { core = core; thread = turn.user.thread; entry = turn.entry }
 
-  abbrev then_g : Going
+  abbrev pub then_g : Going
   then_g = entered turn.picks turn.user step k g
 
-  abbrev then_h : Going
+  abbrev pub then_h : Going
   then_h = entered turn.picks turn.user step k h
 
   c : AreClose users boot g h
   c = a.close
 
-  other : IsTurn users core k h then_h
+  pub other : IsTurn users core k h then_h
   other = record {
     user = turn.user;
     entry = turn.entry;
@@ -117,14 +117,14 @@ module _ (users : List User) (boot : Boot) (whole : IsFaultless boot) (range : A
   right : IsReached users boot then_h
   right = record { turns = suc c.right.turns; run = (h, (c.right.run, record { core = core; pick = k; turn = other })) }
 
-  same : outcome g.book step ≡ outcome h.book step
+  pub same : outcome g.book step ≡ outcome h.book step
   same = entry-same (log_of g.book) (log_of h.book) core turn.user.thread turn.entry c.logs (entrant-there (log_of g.book) core turn.user.thread turn.enters)
       (legal-sound _ (legal _ left)) (legal-sound _ (legal _ right))
 
   told-same : told_last then_g.book ≡ told_last then_h.book
   told-same = ap (λ n. lines_told n (line_for step (outcome g.book step))) c.logs.sent ∙ ap (λ (o : Outcome). lines_told (next_message (log_of h.book)) (line_for step o)) same
 
-  places-same : then_g.places ≡ then_h.places
+  pub places-same : then_g.places ≡ then_h.places
   places-same = ap (λ ps. put_at k.user (behind turn.user k.number (outcome g.book step).answer) ps) c.places ∙ ap (λ (o : Outcome). put_at k.user (behind turn.user k.number o.answer) h.places) same
 
   turn-same : (q : Asked) (u : Turn) → fails users q (Some u) then_g ≡ fails users q (Some u) then_h

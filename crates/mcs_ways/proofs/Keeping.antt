@@ -11,7 +11,7 @@ use Rattle.mcs_explore.specs.Search.{Entries, path_of, paths_below}
 use Rattle.mcs_walks.specs.declared.walk.Turn.{Turn}
 use Rattle.mcs_walks.specs.Walks.{last_answer}
 use Rattle.mcs_orders.specs.Trails.{Leads}
-use Rattle.mcs_orders.specs.Shown.{AreShown, HasSeenAll, Made, Shown, nothing, with_state, with_turn}
+use Rattle.mcs_orders.specs.Shown.{AreShown, Counting, HasCounted, HasSeenAll, Made, Shown, nothing, with_state, with_turn}
 use Rattle.mcs_orders.proofs.Paths.{path-one}
 use Rattle.mcs_ways.specs.declared.answers.Told.{Told}
 use Rattle.mcs_ways.specs.declared.asking.Asked.{Asked}
@@ -21,13 +21,14 @@ use Rattle.mcs_ways.specs.Judging.{fails}
 use Rattle.mcs_ways.specs.Judged.{AreJudged, AreJudgedBy, IsJudged, IsShownBy}
 use Rattle.mcs_ways.specs.Standings.{standings}
 use Rattle.mcs_ways.specs.Ends.{AreEndsOf, IsKindAt, IsNotedIf, Kind}
-use Rattle.mcs_ways.specs.Answers.{AreAnswersOf, IsAmong, IsAnswerOf, IsNotedTurn, IsOwnAnswer, IsMailed, IsStillOf, Tables, no_answers, table_of}
+use Rattle.mcs_ways.specs.Answers.{AreAnswersOf, AreNotedMail, IsAmong, IsAnswerOf, IsNotedTurn, IsOwnAnswer, IsMailed, Tables, no_answers, table_of}
+use Rattle.mcs_ways.specs.Mail.{brought}
 use Rattle.mcs_ways.specs.Kept.{IsKept}
-use Rattle.mcs_ways.specs.Found.{AreAnswersFound, AreEndsFound, AreJudgedFound, IsAnswerFound, IsAnswered, IsAt, IsEndFound, IsFailureFound, IsJudgedFound}
+use Rattle.mcs_ways.specs.Found.{AreAnswersFound, AreCountedFound, AreEndsFound, AreJudgedFound, IsAnswerFound, IsAnswered, IsAt, IsEndFound, IsFailureFound, IsJudgedFound, IsMailFound}
 use Rattle.mcs_ways.proofs.Lists.{at-last, at-old, at-split, within-at, some-same}
 use Rattle.mcs_ways.proofs.Judgments.{judged-more, none-judged, state-look, turn-look}
 use Rattle.mcs_ways.proofs.Noting.{no-ends, state-noted}
-use Rattle.mcs_ways.proofs.Telling.{no-turns, turn-noted}
+use Rattle.mcs_ways.proofs.Telling.{mail-more, mail-told, no-mail, no-turns, turn-noted}
 
 -- a state more
 pub kept-state : {E : Type 0} (r : Result (Unit {0}) E) (users : List User) (questions : List AskedLine) (place : ℕ) (g : Going) (over : Bool) (old new : List Kind) (tables : Tables) (failed after : List (Option Sighting))
@@ -37,20 +38,22 @@ kept-state (Err e) users questions place g over old new tables failed after by n
 kept-state (Ok x) users questions place g over old new tables failed after by noted = λ shown kept. record {
   ends = state-noted users shown.states old new place g over noted kept.ends;
   answers = kept.answers;
+  mail = kept.mail;
   judged = judged-more users questions (record { place = place; turn = None }) g shown (with_state place g over shown) (state-look users place g over shown) failed after by kept.judged;
 }
 
 -- a turn more
 pub kept-turn : {E : Type 0} (r : Result (Unit {0}) E) (users : List User) (questions : List AskedLine) (place : ℕ) (t : Turn) (a : Answer) (h : Going) (kinds : List Kind) (start mid after : Tables) (failed then : List (Option Sighting))
     → AreJudgedBy users questions (record { place = place; turn = Some t }) h failed then → IsNotedTurn (record { answer = a; place = place; turn = t }) start mid
-    → OnOk r (IsStillOf users place t h mid after) → OnOk r ((shown : Shown) → IsKept users questions shown kinds start failed → IsKept users questions (with_turn place t a h shown) kinds after then)
+    → OnOk r (AreNotedMail users h place t (brought h.book) mid after) → OnOk r ((shown : Shown) → IsKept users questions shown kinds start failed → IsKept users questions (with_turn place t a h shown) kinds after then)
 kept-turn (Err e) users questions place t a h kinds start mid after failed then by noted mail = mail
 kept-turn (Ok x) users questions place t a h kinds start mid after failed then by noted mail = λ shown kept.
     let m : Made = record { place = place; turn = t; answer = a; going = h } in
     let own = turn-noted users shown.turns start mid m noted kept.answers in
     record {
       ends = kept.ends;
-      answers = mail (shown.turns ++ m ∷ []) (length shown.turns) m (at-last shown.turns m) refl refl refl own;
+      answers = mail-told users (shown.turns ++ m ∷ []) (length shown.turns) m (at-last shown.turns m) (brought h.book) mid after (λ i r there. (i, there)) mail own;
+      mail = mail-more users shown.turns m start mid after noted mail kept.mail;
       judged = judged-more users questions (record { place = place; turn = Some t }) h shown (with_turn place t a h shown) (turn-look users place t a h shown) failed then by kept.judged;
     }
 
@@ -95,6 +98,7 @@ paths-at found (suc n) i p at = go (at-split (paths_below found n) (path_of foun
 pub record AreFound {K : Type 0} (users : List User) (boot : Boot) (found : Entries K Turn) (done : ℕ) (questions : List AskedLine) (kinds : List Kind) (tables : Tables) (failed : List (Option Sighting)) : Type 0 where
   pub ends : AreEndsFound users boot found done kinds
   pub answers : AreAnswersFound users boot found done tables
+  pub mail : IsMailFound users boot found done tables
   pub judged : AreJudgedFound users boot found done questions failed
 
 module _ {K : Type 0} (users : List User) (apart : AreApart users) (boot : Boot) (found : Entries K Turn) (done : ℕ) (questions : List AskedLine) (ends : List Kind) (tables : Tables) (failed : List (Option Sighting)) (shown : Shown)
@@ -160,6 +164,12 @@ module _ {K : Type 0} (users : List User) (apart : AreApart users) (boot : Boot)
           let is : s.made.answer ≡ a = some-same s.made.answer a (sym m.turn.answer ∙ ap (λ (x : Going). last_answer x.book) s.going ∙ answered) in
           subst (λ x. IsAmong told x) is (kept.answers.all s.number s.made told s.at (λ w. not (sym is ∙ w)) (ap (λ (u : Turn). table_of tables u.pick.user u.pick.number) s.turn ∙ there))
 
+  mail-found : IsMailFound users boot found done tables
+  mail-found = λ place t g h user number a told lt at step mail there.
+      let s = are.all place (path_of found place) g h t (at-paths found done place lt) at step in
+      kept.mail s.number s.made user number a told s.at
+      (subst (λ x. IsMailed users x user number s.made.turn a) (sym s.going) (subst (λ u. IsMailed users h user number u a) (sym s.turn) mail)) there
+
   -- a question failed in a state that was found, or by a turn from one
   judged-found : AreJudgedFound users boot found done questions failed
   judged-found = record { long = kept.judged.long; each = λ i q f asks at. one q.asked f (kept.judged.each i q f asks at) }
@@ -205,18 +215,22 @@ module _ {K : Type 0} (users : List User) (apart : AreApart users) (boot : Boot)
 
   -- all that is kept
   pub all-found : AreFound users boot found done questions ends tables failed
-  all-found = record { ends = ends-found; answers = answers-found; judged = judged-found }
+  all-found = record { ends = ends-found; answers = answers-found; mail = mail-found; judged = judged-found }
 
 -- before the search
 pub begun-kept : (users : List User) (questions : List AskedLine) (ends : List Kind) (tables : Tables) (failed : List (Option Sighting)) → ends ≡ [] → tables ≡ no_answers users → failed ≡ replicate (length questions) None → IsKept users questions nothing ends tables failed
 begun-kept users questions ends tables failed none empty none_failed = record {
   ends = subst (λ (ks : List Kind). AreEndsOf users [] ks) (sym none) (no-ends users);
   answers = subst (λ (ts : Tables). AreAnswersOf users [] ts) (sym empty) (no-turns users);
+  mail = no-mail users tables;
   judged = subst (λ (fs : List (Option Sighting)). AreJudged users questions nothing fs) (sym none_failed) (none-judged users questions);
 }
 
 -- behind it
-pub kept-found : {K W : Type 0} {Has : W → List User → Shown → Type 0} {w : W} (users : List User) → AreApart users → (boot : Boot) (found : Entries K Turn) (done : ℕ) → HasSeenAll Has w users (beginning users boot) (paths_below found done)
-    → (questions : List AskedLine) (kinds : List Kind) (tables : Tables) (failed : List (Option Sighting)) → ((shown : Shown) → Has w users shown → IsKept users questions shown kinds tables failed)
-    → AreFound users boot found done questions kinds tables failed
-kept-found users apart boot found done seen questions kinds tables failed is = all-found users apart boot found done questions kinds tables failed seen.shown (is seen.shown seen.has) seen.are
+module _ {K W : Type 0} {Has : W → List User → Shown → Type 0} {w : Counting W} (users : List User) (apart : AreApart users) (boot : Boot) (found : Entries K Turn) (done : ℕ) (seen : HasSeenAll (HasCounted Has) w users (beginning users boot) (paths_below found done)) where
+  pub kept-found : (questions : List AskedLine) (kinds : List Kind) (tables : Tables) (failed : List (Option Sighting)) → ((shown : Shown) → Has w.watch users shown → IsKept users questions shown kinds tables failed)
+      → AreFound users boot found done questions kinds tables failed
+  kept-found questions kinds tables failed is = all-found users apart boot found done questions kinds tables failed seen.shown (is seen.shown seen.has.has) seen.are
+
+  pub counted-found : AreCountedFound users boot found done w.turns w.ends
+  counted-found = record { shown = seen.shown; are = seen.are; counted = seen.has.counted }

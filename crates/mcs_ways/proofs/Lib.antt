@@ -6,3 +6,5 @@ pub mod Keeping
 pub mod Failing
 pub mod Judgments
 pub mod HeldRuns
+mod Waiting
+pub mod KeptRuns

@@ -1,5 +1,5 @@
 -- Places in lists.
-use Rattle.std.specs.Prelude.{ℕ, zero, suc, ◌≡◌, ◌<◌, ◌++◌, ◌⊎◌, List, [], ◌∷◌, Some, length, set, slice_get}
+use Rattle.std.specs.Prelude.{ℕ, zero, suc, ◌≡◌, ◌<◌, ◌+◌, ◌++◌, ◌⊎◌, List, [], ◌∷◌, Some, drop, length, set, slice_get}
 use Rattle.std.proofs.Common.{refl, ap, ◌∙◌, inl, inr, arith}
 
 pub some-same : {A : Type 0} (x y : A) → Some x ≡ Some y → x ≡ y
@@ -45,6 +45,18 @@ set-other (e ∷ xs) zero zero v ne = absurd (ne refl)
 set-other (e ∷ xs) zero (suc j) v ne = refl
 set-other (e ∷ xs) (suc i) zero v ne = refl
 set-other (e ∷ xs) (suc i) (suc j) v ne = set-other xs i j v (λ e. ne (ap (λ n. suc n) e))
+
+-- what stands from a place on begins with what stands there
+pub from-on : {A : Type 0} (xs : List A) (n : ℕ) (x : A) → slice_get xs n ≡ Some x → drop n xs ≡ x ∷ drop (n + 1) xs
+from-on xs n x at = by-suc xs n x at ∙ ap (λ k. x ∷ drop k xs) (up n)
+  where
+    up : (n : ℕ) → suc n ≡ n + 1
+    up n = omega arith
+
+    by-suc : {A : Type 0} (xs : List A) (n : ℕ) (x : A) → slice_get xs n ≡ Some x → drop n xs ≡ x ∷ drop (suc n) xs
+    by-suc [] n x at = absurd cc
+    by-suc (y ∷ xs) zero x at = ap (λ z. z ∷ xs) (some-same y x at)
+    by-suc (y ∷ xs) (suc n) x at = by-suc xs n x at
 
 -- numbers are the same or not
 pub same-or-not : (i j : ℕ) → (i ≡ j) ⊎ (i ≡ j → ⊥)

@@ -1,10 +1,13 @@
 -- What noting an answer says of all answers.
-use Rattle.std.specs.Prelude.{ℕ, zero, suc, ◌≡◌, ◌++◌, ◌⊎◌, ◌+◌, drop, unwrap_or, map, set, List, [], ◌∷◌, Option, Some, None, Result, Ok, Err, length, slice_get}
+use Rattle.std.specs.Prelude.{ℕ, zero, suc, ◌≡◌, ◌++◌, ◌⊎◌, ◌+◌, ◌≤◌, drop, unwrap_or, map, set, List, [], ◌∷◌, Option, Some, None, Result, Ok, Err, length, slice_get}
 use Rattle.std.specs.Result.{OnOk}
-use Rattle.std.proofs.Common.{refl, ap, sym, ◌∙◌, subst, inl, inr, append_assoc, arith}
+use Rattle.std.proofs.Common.{refl, ap, sym, ◌∙◌, subst, inl, inr, append_assoc}
+use Rattle.std.proofs.lemmas.List.{drop_all}
 use Rattle.mcs_types.specs.declared.entry.Answer.{Answer}
 use Rattle.mcs_types.specs.declared.entry.Answer.TheVariants as answer
 use Rattle.mcs_types.specs.declared.entry.Entry.{Entry}
+use Rattle.mcs_book.specs.History.{Book, Line, line_of_number}
+use Rattle.mcs_turns.specs.declared.position.Pick.{Pick}
 use Rattle.mcs_turns.specs.Turns.{User, Going}
 use Rattle.mcs_walks.specs.declared.walk.Turn.{Turn}
 use Rattle.mcs_orders.specs.Shown.{Made}
@@ -12,10 +15,10 @@ use Rattle.mcs_types.specs.declared.record.Rec.{Rec}
 use Rattle.mcs_lab.proofs.Finding.{from-there}
 use Rattle.mcs_ways.specs.declared.answers.Told.{Told}
 use Rattle.mcs_ways.specs.declared.mail.Reached.{Reached}
-use Rattle.mcs_ways.specs.Judging.{place_of}
-use Rattle.mcs_ways.specs.Mail.{IsBrought, got_with, listed, reached_from, reaching}
-use Rattle.mcs_ways.specs.Answers.{AreAnswersOf, IsAmong, IsAnswerOf, IsChangedAt, IsEntry, IsMailed, IsNoted, IsNotedIn, IsNotedOf, IsNotedTurn, IsStillOf, IsWaiting, Tables, no_answers, table_of}
-use Rattle.mcs_ways.proofs.Lists.{at-last, at-old, at-split, same-or-not, set-other, set-same, some-same}
+use Rattle.mcs_ways.specs.Mail.{brought, got_with, listed, reached_from, reaching}
+use Rattle.mcs_ways.specs.Answers.{AreAnswersOf, AreMailOf, AreNotedMail, IsAmong, IsAnswerOf, IsChangedAt, IsEntry, IsMailed, IsNoted, IsNotedFor, IsNotedIn, IsNotedMail, IsNotedOf, IsNotedTurn, Tables, mailed_to, no_answers, table_of}
+use Rattle.mcs_ways.proofs.Failing.{newest-is}
+use Rattle.mcs_ways.proofs.Lists.{at-last, at-old, at-split, from-on, same-or-not, set-other, set-same, some-same}
 
 -- what was changed in a place
 module _ {A : Type 0} (Change : A → A → Type 0) (i : ℕ) (old new : List A) where
@@ -239,14 +242,84 @@ pub turn-noted : (users : List User) (turns : List Made) (old new : Tables) (m :
 turn-noted users turns old new m (inl waits) are = subst (λ (ts : Tables). AreAnswersOf users (turns ++ m ∷ []) ts) (sym waits.1) (waits-more users turns old m waits.0 are)
 turn-noted users turns old new m (inr noted) are = own-more users turns old new m (record { answer = m.answer; place = m.place; turn = m.turn }) refl noted are
 
--- what a turn brought to a user that waits was noted
-pub mail-noted : {E : Type 0} (r : Result (Unit {0}) E) (users : List User) (place user number : ℕ) (t : Turn) (h : Going) (reached : Reached) (old new : Tables) → IsWaiting users h user number t → place_of users reached.thread ≡ Some user
-    → OnOk r (IsNotedOf user number (record { answer = reached.answer; place = place; turn = t }) old new) → OnOk r (IsBrought h.book reached → IsStillOf users place t h old new)
-mail-noted (Err e) users place user number t h reached old new waits thread noted = noted
-mail-noted (Ok x) users place user number t h reached old new waits thread noted = λ brought turns j m at same_place same_turn same_going are.
-    let mail : IsMailed users h user number t reached.answer = record { waits = waits; reached = reached; brought = brought; thread = thread; answer = refl } in
-    let here : IsMailed users m.going user number m.turn reached.answer = subst (λ g. IsMailed users g user number m.turn reached.answer) (sym same_going) (subst (λ u. IsMailed users h user number u reached.answer) (sym same_turn) mail) in
-    answer-noted users turns old new user number (record { answer = reached.answer; place = place; turn = t }) (record { index = j; made = m; at = at; place = same_place; turn = same_turn; is = inr here }) noted are
+-- what is among the answers of an entry still is
+abbrev Grows : Tables → Tables → Type 0
+Grows old new = (a b : ℕ) (after : List Told) (x : Answer) → table_of new a b ≡ Some after → ((told : List Told) → table_of old a b ≡ Some told → IsAmong told x) → IsAmong after x
+
+same-grows : (old new : Tables) → new ≡ old → Grows old new
+same-grows old new same = λ a b after x at was. was after (ap (λ (ts : Tables). table_of ts a b) (sym same) ∙ at)
+
+grows-on : (old mid new : Tables) → Grows old mid → Grows mid new → Grows old new
+grows-on old mid new first then = λ a b after x at was. then a b after x at (λ told there. first a b told x there was)
+
+noted-grows : (user number : ℕ) (t : Told) (old new : Tables) → IsNotedOf user number t old new → Grows old new
+noted-grows user number t old new noted = λ a b after x at was. among-stays user number t old new noted a b after x at was
+
+turn-grows : (t : Told) (old new : Tables) → IsNotedTurn t old new → Grows old new
+turn-grows t old new (inl waits) = same-grows old new waits.1
+turn-grows t old new (inr noted) = noted-grows t.turn.pick.user t.turn.pick.number t old new noted
+
+for-grows : (o : Option Pick) (t : Told) (old new : Tables) → IsNotedFor o t old new → Grows old new
+for-grows None t old new same = same-grows old new same
+for-grows (Some e) t old new noted = noted-grows e.user e.number t old new noted
+
+for-has : (o : Option Pick) (user number : ℕ) (t : Told) (old new : Tables) (told : List Told) → o ≡ Some (record { user = user; number = number }) → IsNotedFor o t old new → table_of new user number ≡ Some told → IsAmong told t.answer
+for-has o user number t old new told is noted there = among-noted user number t old new (subst (λ (p : Option Pick). IsNotedFor p t old new) is noted) told there
+
+-- what a turn brought to an entry that waited was noted
+module _ (users : List User) (g : Going) (place : ℕ) (t : Turn) where
+  mail-grows : (rs : List Reached) (old new : Tables) → AreNotedMail users g place t rs old new → Grows old new
+  mail-grows [] old new same = same-grows old new same
+  mail-grows (r ∷ rs) old new (mid, (one, rest)) = grows-on old mid new (for-grows (mailed_to users g t r) (record { answer = r.answer; place = place; turn = t }) old mid one) (mail-grows rs mid new rest)
+
+  mail-has : (rs : List Reached) (i : ℕ) (r : Reached) (user number : ℕ) (told : List Told) (old new : Tables) → slice_get rs i ≡ Some r → mailed_to users g t r ≡ Some (record { user = user; number = number }) → AreNotedMail users g place t rs old new
+      → table_of new user number ≡ Some told → IsAmong told r.answer
+  mail-has [] i r user number told old new at to noted there = absurd cc
+  mail-has (x ∷ rs) zero r user number told old new at to (mid, (one, rest)) there =
+      let same : x ≡ r = some-same x r at in
+      let here : IsNotedFor (mailed_to users g t r) (record { answer = r.answer; place = place; turn = t }) old mid = subst (λ (y : Reached). IsNotedMail users g place t y old mid) same one in
+      mail-grows rs mid new rest user number told r.answer there (λ ts was. for-has (mailed_to users g t r) user number (record { answer = r.answer; place = place; turn = t }) old mid ts to here was)
+  mail-has (x ∷ rs) (suc i) r user number told old new at to (mid, (one, rest)) there = mail-has rs i r user number told mid new at to rest there
+
+-- all that a turn more brought is there, and all that was is
+pub mail-more : (users : List User) (turns : List Made) (m : Made) (old mid new : Tables) → IsNotedTurn (record { answer = m.answer; place = m.place; turn = m.turn }) old mid → AreNotedMail users m.going m.place m.turn (brought m.going.book) mid new
+    → AreMailOf users turns old → AreMailOf users (turns ++ m ∷ []) new
+mail-more users turns m old mid new own noted are = λ j n user number a told at mail there. go j n user number a told mail there (at-split turns m j n at)
+  where
+    grows : Grows old new
+    grows = grows-on old mid new (turn-grows (record { answer = m.answer; place = m.place; turn = m.turn }) old mid own) (mail-grows users m.going m.place m.turn (brought m.going.book) mid new noted)
+
+    mine : (user number : ℕ) (a : Answer) (told : List Told) → IsMailed users m.going user number m.turn a → table_of new user number ≡ Some told → IsAmong told a
+    mine user number a told mail there =
+        subst (λ x. IsAmong told x) mail.answer (mail-has users m.going m.place m.turn (brought m.going.book) mail.index mail.reached user number told mid new mail.at mail.to noted there)
+
+    go : (j : ℕ) (n : Made) (user number : ℕ) (a : Answer) (told : List Told) → IsMailed users n.going user number n.turn a → table_of new user number ≡ Some told → (slice_get turns j ≡ Some n) ⊎ ((j ≡ length turns) × (n ≡ m)) → IsAmong told a
+    go j n user number a told mail there (inl h) = grows user number told a there (λ ts was. are j n user number a ts h mail was)
+    go j n user number a told mail there (inr e) = mine user number a told (subst (λ (x : Made). IsMailed users x.going user number x.turn a) e.1 mail) there
+
+pub no-mail : (users : List User) (tables : Tables) → AreMailOf users [] tables
+no-mail users tables = λ j m user number a told at. absurd cc
+
+-- and each answer that was noted so came by it
+module _ (users : List User) (turns : List Made) (j : ℕ) (m : Made) (at : slice_get turns j ≡ Some m) where
+  one-told : (r : Reached) (i : ℕ) (old new : Tables) → slice_get (brought m.going.book) i ≡ Some r → IsNotedMail users m.going m.place m.turn r old new → AreAnswersOf users turns old → AreAnswersOf users turns new
+  one-told r i old new there noted are = go (mailed_to users m.going m.turn r) refl noted
+    where
+      t : Told
+      t = record { answer = r.answer; place = m.place; turn = m.turn }
+
+      go : (o : Option Pick) → mailed_to users m.going m.turn r ≡ o → IsNotedFor o t old new → AreAnswersOf users turns new
+      go None none same = subst (λ (ts : Tables). AreAnswersOf users turns ts) (sym same) are
+      go (Some e) to new_one =
+          let mail : IsMailed users m.going e.user e.number m.turn r.answer = record { index = i; reached = r; at = there; to = to; answer = refl } in
+          answer-noted users turns old new e.user e.number t (record { index = j; made = m; at = at; place = refl; turn = refl; is = inr mail }) new_one are
+
+  pub mail-told : (rs : List Reached) (old new : Tables) → ((i : ℕ) (r : Reached) → slice_get rs i ≡ Some r → (k : ℕ) × (slice_get (brought m.going.book) k ≡ Some r)) → AreNotedMail users m.going m.place m.turn rs old new
+      → AreAnswersOf users turns old → AreAnswersOf users turns new
+  mail-told [] old new among same are = subst (λ (ts : Tables). AreAnswersOf users turns ts) (sym same) are
+  mail-told (r ∷ rs) old new among (mid, (one, rest)) are =
+      let here = among zero r refl in
+      mail-told rs mid new (λ i x there. among (suc i) x there) rest (one-told r here.0 old mid here.1 one are)
 
 -- what reaches threads by a record more
 pub reached-on : (got then : Option Answer) (i : ℕ) (rs : List Rec) (r : Rec) (before after all : List Reached) (o : Option Reached) → slice_get rs i ≡ Some r → then ≡ got_with got r → o ≡ reaching then r → after ≡ before ++ listed o
@@ -262,22 +335,26 @@ reached-on got then i rs r before after all o at is_then is_o more so_far =
 pub user-more : (lists : List User) (i : ℕ) (u : User) (old new : Tables) (t : List (List Told)) → slice_get lists i ≡ Some u → t ≡ map (λ (e : Entry). []) u.entries → no_answers lists ≡ old ++ no_answers (drop i lists) → new ≡ old ++ t ∷ []
     → no_answers lists ≡ new ++ no_answers (drop (i + 1) lists)
 user-more lists i u old new t at is so_far more =
-    so_far ∙ ap (λ (us : List User). old ++ no_answers us) (rest lists i at) ∙ ap (λ x. old ++ x ∷ no_answers (drop (i + 1) lists)) (sym is) ∙ sym (append_assoc old (t ∷ []) (no_answers (drop (i + 1) lists))) ∙ ap (λ (xs : Tables). xs ++ no_answers (drop (i + 1) lists)) (sym more)
+    so_far ∙ ap (λ (us : List User). old ++ no_answers us) (from-on lists i u at) ∙ ap (λ x. old ++ x ∷ no_answers (drop (i + 1) lists)) (sym is) ∙ sym (append_assoc old (t ∷ []) (no_answers (drop (i + 1) lists))) ∙ ap (λ (xs : Tables). xs ++ no_answers (drop (i + 1) lists)) (sym more)
+
+-- what is left to note of mail, one thing less
+pub mail-on : (users : List User) (g : Going) (place : ℕ) (t : Turn) (rs : List Reached) (i : ℕ) (r : Reached) (old mid : Tables) → slice_get rs i ≡ Some r → IsNotedMail users g place t r old mid → (new : Tables) → AreNotedMail users g place t (drop (i + 1) rs) mid new
+    → AreNotedMail users g place t (drop i rs) old new
+mail-on users g place t rs i r old mid at one new rest = subst (λ (xs : List Reached). AreNotedMail users g place t xs old new) (sym (from-on rs i r at)) (mid, (one, rest))
+
+-- nothing is left to note
+pub all-noted : (users : List User) (g : Going) (place : ℕ) (t : Turn) (rs : List Reached) (i : ℕ) (old mid : Tables) → length rs ≤ i
+    → ((new : Tables) → AreNotedMail users g place t (drop i rs) mid new → AreNotedMail users g place t rs old new) → AreNotedMail users g place t rs old mid
+all-noted users g place t rs i old mid long noted =
+    noted mid (subst (λ (xs : List Reached). AreNotedMail users g place t xs mid mid) (sym (drop_all i rs long)) refl)
+
+-- the newest line brought what its records did
+pub brought_by : (b : Book) (l : Line) → line_of_number b (length b.lines) ≡ Some l → brought b ≡ reached_from None l.records
+brought_by b l at = go b.lines refl
   where
-    up : (n : ℕ) → suc n ≡ n + 1
-    up n = omega arith
-
-    by-suc : (xs : List User) (n : ℕ) → slice_get xs n ≡ Some u → drop n xs ≡ u ∷ drop (suc n) xs
-    by-suc [] n at = absurd cc
-    by-suc (x ∷ xs) zero at = ap (λ y. y ∷ xs) (some-same x u at)
-    by-suc (x ∷ xs) (suc n) at = by-suc xs n at
-
-    rest : (xs : List User) (n : ℕ) → slice_get xs n ≡ Some u → drop n xs ≡ u ∷ drop (n + 1) xs
-    rest xs n at = by-suc xs n at ∙ ap (λ m. u ∷ drop m xs) (up n)
-
--- what was noted of mail goes on
-pub still-same : (users : List User) (place : ℕ) (t : Turn) (h : Going) (tables : Tables) → IsStillOf users place t h tables tables
-still-same users place t h tables = λ turns j m at a b c are. are
-
-pub still-on : (users : List User) (place : ℕ) (t : Turn) (h : Going) (old mid new : Tables) → IsStillOf users place t h old mid → IsStillOf users place t h mid new → IsStillOf users place t h old new
-still-on users place t h old mid new first then = λ turns j m at a b c are. then turns j m at a b c (first turns j m at a b c are)
+    go : (ls : List Line) → b.lines ≡ ls → brought (record b { lines = b.lines }) ≡ reached_from None l.records
+    go [] none = absurd (nothing none)
+      where
+        nothing : b.lines ≡ [] → ⊥
+        nothing e = let gone = sym at ∙ ap (λ (ls : List Line). line_of_number (record b { lines = ls }) (length ls)) e in absurd cc
+    go (k ∷ ls) is = ap (λ (xs : List Line). brought (record b { lines = xs })) is ∙ ap (λ (x : Line). reached_from None x.records) (newest-is b l k ls is at)

@@ -1,16 +1,16 @@
 -- The answers that entries get (own).
-use Rattle.std.specs.Prelude.{ℕ, ◌≡◌, ◌++◌, ◌⊎◌, map, set, unwrap_or, List, [], ◌∷◌, Option, Some, None, slice_get}
+use Rattle.std.specs.Prelude.{ℕ, ◌≡◌, ◌==◌, ◌++◌, ◌⊎◌, Bool, true, false, cond, map, set, unwrap_or, List, [], ◌∷◌, Option, Some, None, slice_get}
 use Rattle.mcs_types.specs.declared.entry.Answer.{Answer}
 use Rattle.mcs_types.specs.declared.entry.Answer.TheVariants as answer
 use Rattle.mcs_types.specs.declared.entry.Entry.{Entry}
-use Rattle.mcs_turns.specs.declared.position.Position.{Position}
+use Rattle.mcs_turns.specs.declared.position.Pick.{Pick}
 use Rattle.mcs_turns.specs.Turns.{User, Going}
 use Rattle.mcs_walks.specs.declared.walk.Turn.{Turn}
 use Rattle.mcs_orders.specs.Shown.{Made}
 use Rattle.mcs_ways.specs.declared.answers.Told.{Told}
 use Rattle.mcs_ways.specs.declared.mail.Reached.{Reached}
 use Rattle.mcs_ways.specs.Judging.{place_of}
-use Rattle.mcs_ways.specs.Mail.{IsBrought}
+use Rattle.mcs_ways.specs.Mail.{brought, is_send}
 
 -- the answers of the entries of all users
 abbrev pub Tables : Type 0
@@ -74,21 +74,52 @@ pub record IsOwnAnswer (m : Made) (i n : ℕ) (a : Answer) : Type 0 where
   pub number : m.turn.pick.number ≡ n
   pub answer : m.answer ≡ a
 
--- a user of another turn waits with this entry
-pub record IsWaiting (users : List User) (g : Going) (user number : ℕ) (t : Turn) : Type 0 where
-  pub one : User
-  pub position : Position
-  pub is_user : slice_get users user ≡ Some one
-  pub is_position : slice_get g.places user ≡ Some position
-  pub waited : position.waited ≡ Some number
-  pub other : t.pick.user ≡ user → ⊥
+-- whether the entry of a user with this number is Send
+abbrev pub gave_send : List User → ℕ → ℕ → Bool
+gave_send users user number = elim (slice_get users user) [
+  | None ↦ false
+  | Some u ↦ elim (slice_get u.entries number) [ None ↦ false | Some e ↦ is_send e ]
+]
 
--- this answer reached a user whose entry of this number waited, by a turn of another user
+-- whether an entry that waited comes to this: that a thread goes on says so of Send alone
+abbrev pub comes_to : List User → ℕ → ℕ → Answer → Bool
+comes_to users user number answer.Done = gave_send users user number
+comes_to users user number a = true
+
+-- the number of the entry with which a user waited, behind a turn of another user
+abbrev pub waiting : Going → ℕ → Turn → Option ℕ
+waiting g user t = cond (user == t.pick.user) None (elim (slice_get g.places user) [ None ↦ None | Some p ↦ p.waited ])
+
+-- the entry of a user that waited and comes to what reached its thread, if there is one
+abbrev pub mailed_to : List User → Going → Turn → Reached → Option Pick
+mailed_to users g t r = elim (place_of users r.thread) [
+  | None ↦ None
+  | Some user ↦ elim (waiting g user t) [
+    | None ↦ None
+    | Some number ↦ cond (comes_to users user number r.answer) (Some (record { user = user; number = number })) None
+  ]
+]
+
+-- it is noted of this entry, if there is one
+abbrev pub IsNotedFor : Option Pick → Told → Tables → Tables → Type 0
+IsNotedFor None t old new = new ≡ old
+IsNotedFor (Some e) t old new = IsNotedOf e.user e.number t old new
+
+-- what reached a thread by a turn from the state in a place is noted of the entry that comes to it
+abbrev pub IsNotedMail : List User → Going → ℕ → Turn → Reached → Tables → Tables → Type 0
+IsNotedMail users g place t r old new = IsNotedFor (mailed_to users g t r) (record { answer = r.answer; place = place; turn = t }) old new
+
+-- so is all that did, one after the other
+abbrev pub AreNotedMail : List User → Going → ℕ → Turn → List Reached → Tables → Tables → Type 0
+AreNotedMail users g place t [] old new = new ≡ old
+AreNotedMail users g place t (r ∷ rs) old new = (mid : Tables) × (IsNotedMail users g place t r old mid × AreNotedMail users g place t rs mid new)
+
+-- by a turn that led to this state this answer reached a thread, and this entry of its user waited and comes to it
 pub record IsMailed (users : List User) (g : Going) (user number : ℕ) (t : Turn) (a : Answer) : Type 0 where
-  pub waits : IsWaiting users g user number t
+  pub index : ℕ
   pub reached : Reached
-  pub brought : IsBrought g.book reached
-  pub thread : place_of users reached.thread ≡ Some user
+  pub at : slice_get (brought g.book) index ≡ Some reached
+  pub to : mailed_to users g t reached ≡ Some (record { user = user; number = number })
   pub answer : reached.answer ≡ a
 
 -- an answer of an entry is that of a turn that was shown
@@ -106,6 +137,6 @@ pub record AreAnswersOf (users : List User) (turns : List Made) (tables : Tables
   pub each : (user number : ℕ) (told : List Told) (i : ℕ) (t : Told) → table_of tables user number ≡ Some told → slice_get told i ≡ Some t → IsAnswerOf users turns user number t
   pub all : (j : ℕ) (m : Made) (told : List Told) → slice_get turns j ≡ Some m → (m.answer ≡ answer.Waits → ⊥) → table_of tables m.turn.pick.user m.turn.pick.number ≡ Some told → IsAmong told m.answer
 
--- answers that a turn brought are noted, where it was shown
-abbrev pub IsStillOf : List User → ℕ → Turn → Going → Tables → Tables → Type 0
-IsStillOf users place t h old new = (turns : List Made) (j : ℕ) (m : Made) → slice_get turns j ≡ Some m → m.place ≡ place → m.turn ≡ t → m.going ≡ h → AreAnswersOf users turns old → AreAnswersOf users turns new
+-- what a turn that was shown brought to an entry that waited is among the answers of that entry
+abbrev pub AreMailOf : List User → List Made → Tables → Type 0
+AreMailOf users turns tables = (j : ℕ) (m : Made) (user number : ℕ) (a : Answer) (told : List Told) → slice_get turns j ≡ Some m → IsMailed users m.going user number m.turn a → table_of tables user number ≡ Some told → IsAmong told a

@@ -5,9 +5,10 @@ use Rattle.mcs_types.specs.declared.entry.Answer.TheVariants as answer
 use Rattle.mcs_book.specs.Boots.{Boot}
 use Rattle.mcs_turns.specs.Turns.{User, Going, IsOver, IsRun, beginning}
 use Rattle.mcs_explore.specs.Paths.{Path}
-use Rattle.mcs_explore.specs.Search.{Entries, path_of}
+use Rattle.mcs_explore.specs.Search.{Entries, path_of, paths_below}
 use Rattle.mcs_walks.specs.declared.walk.Turn.{Turn}
 use Rattle.mcs_walks.specs.Walks.{last_answer}
+use Rattle.mcs_orders.specs.Shown.{AreCounted, AreShown, Shown}
 use Rattle.mcs_orders.specs.Trails.{Leads}
 use Rattle.mcs_ways.specs.declared.answers.Told.{Told}
 use Rattle.mcs_ways.specs.declared.asking.Asked.{Asked}
@@ -58,6 +59,32 @@ pub record AreAnswersFound {K : Type 0} (users : List User) (boot : Boot) (found
   pub each : (user number : ℕ) (told : List Told) (i : ℕ) (t : Told) → table_of tables user number ≡ Some told → slice_get told i ≡ Some t → IsAnswerFound users boot found done user number t
   pub all : (place : ℕ) (t : Turn) (g h : Going) (a : Answer) (told : List Told) → place < done → IsAt users boot found place g → Leads users t g h → last_answer h.book ≡ Some a → (a ≡ answer.Waits → ⊥)
       → table_of tables t.pick.user t.pick.number ≡ Some told → IsAmong told a
+
+-- what each turn from a state that was looked behind brought to an entry that waited is among the answers of that entry
+abbrev pub IsMailFound : {K : Type 0} → List User → Boot → Entries K Turn → ℕ → Tables → Type 0
+IsMailFound users boot found done tables = (place : ℕ) (t : Turn) (g h : Going) (user number : ℕ) (a : Answer) (told : List Told) → place < done → IsAt users boot found place g → Leads users t g h → IsMailed users h user number t a
+    → table_of tables user number ≡ Some told → IsAmong told a
+
+-- each run of users that is over ends as one of these kinds says
+abbrev pub AreEndsInRuns : List User → Boot → List Kind → Type 0
+AreEndsInRuns users boot kinds = (n : ℕ) (g : Going) → IsRun users boot n g → IsOver users g → (i : ℕ) × IsKindAt kinds (standings users g) i
+
+-- this answer is among those of an entry
+pub record IsKeptOf (tables : Tables) (user number : ℕ) (a : Answer) : Type 0 where
+  pub told : List Told
+  pub at : table_of tables user number ≡ Some told
+  pub among : IsAmong told a
+
+-- what each turn of each run was answered, but Waits, and what it brought to an entry that waited, is among the answers of its entry
+pub record AreAnswersInRuns (users : List User) (boot : Boot) (tables : Tables) : Type 0 where
+  pub own : (n : ℕ) (t : Turn) (g h : Going) (a : Answer) → IsRun users boot n g → Leads users t g h → last_answer h.book ≡ Some a → (a ≡ answer.Waits → ⊥) → IsKeptOf tables t.pick.user t.pick.number a
+  pub mail : (n : ℕ) (t : Turn) (g h : Going) (user number : ℕ) (a : Answer) → IsRun users boot n g → Leads users t g h → IsMailed users h user number t a → IsKeptOf tables user number a
+
+-- so many turns lead from states that were looked behind, and so many of these are over, as far as a count goes
+pub record AreCountedFound {K : Type 0} (users : List User) (boot : Boot) (found : Entries K Turn) (done : ℕ) (made over : ℕ) : Type 0 where
+  pub shown : Shown
+  pub are : AreShown users (beginning users boot) (paths_below found done) shown
+  pub counted : AreCounted shown made over
 
 -- a state itself, or what a turn from it leads to
 abbrev pub IsSeenFrom : List User → Going → Option Turn → Going → Type 0

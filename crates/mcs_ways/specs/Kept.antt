@@ -4,12 +4,13 @@ use Rattle.mcs_turns.specs.Turns.{User}
 use Rattle.mcs_orders.specs.Shown.{Shown}
 use Rattle.mcs_ways.specs.declared.reading.AskedLine.{AskedLine}
 use Rattle.mcs_ways.specs.declared.judging.Sighting.{Sighting}
-use Rattle.mcs_ways.specs.Answers.{AreAnswersOf, Tables}
+use Rattle.mcs_ways.specs.Answers.{AreAnswersOf, AreMailOf, Tables}
 use Rattle.mcs_ways.specs.Ends.{AreEndsOf, Kind}
 use Rattle.mcs_ways.specs.Judged.{AreJudged}
 
--- the ends and the answers of all that was shown, and where questions failed in it
+-- the ends, the answers and the mail of all that was shown, and where questions failed in it
 pub record IsKept (users : List User) (questions : List AskedLine) (shown : Shown) (kinds : List Kind) (tables : Tables) (failed : List (Option Sighting)) : Type 0 where
   pub ends : AreEndsOf users shown.states kinds
   pub answers : AreAnswersOf users shown.turns tables
+  pub mail : AreMailOf users shown.turns tables
   pub judged : AreJudged users questions shown failed

@@ -1,12 +1,14 @@
 -- What reaches threads whose entries wait (own).
-use Rattle.std.specs.Prelude.{ℕ, ◌≡◌, ◌++◌, List, [], ◌∷◌, Option, Some, None, length, slice_get}
+use Rattle.std.specs.Prelude.{◌++◌, Bool, true, false, List, [], ◌∷◌, Option, Some, None}
 use Rattle.mcs_types.specs.declared.id.ObjId.{ObjId}
 use Rattle.mcs_types.specs.declared.entry.Answer.{Answer}
 use Rattle.mcs_types.specs.declared.entry.Answer.TheVariants as answer
+use Rattle.mcs_types.specs.declared.entry.Entry.{Entry}
+use Rattle.mcs_types.specs.declared.entry.Entry.TheVariants as entry
 use Rattle.mcs_types.specs.declared.record.Mode.TheVariants as mode
 use Rattle.mcs_types.specs.declared.record.Rec.{Rec}
 use Rattle.mcs_types.specs.declared.record.Rec.TheVariants as rec
-use Rattle.mcs_book.specs.History.{Book, Line, line_of_number}
+use Rattle.mcs_book.specs.History.{Book, Line}
 use Rattle.mcs_ways.specs.declared.mail.Reached.{Reached}
 
 -- what a taker gets of the message that a line sent last, with a record more
@@ -36,9 +38,15 @@ abbrev pub reached_from : Option Answer → List Rec → List Reached
 reached_from got [] = []
 reached_from got (r ∷ rs) = listed (reaching (got_with got r) r) ++ reached_from (got_with got r) rs
 
--- it reached a thread by the newest line
-pub record IsBrought (b : Book) (r : Reached) : Type 0 where
-  pub line : Line
-  pub newest : line_of_number b (length b.lines) ≡ Some line
-  pub index : ℕ
-  pub is : slice_get (reached_from None line.records) index ≡ Some r
+-- what the newest line of a book brought to threads
+abbrev pub brought : Book → List Reached
+brought b = brought_by b.lines
+  where
+    brought_by : List Line → List Reached
+    brought_by [] = []
+    brought_by (l ∷ ls) = reached_from None l.records
+
+-- whether an entry is Send, whose thread goes on once its message is taken
+abbrev pub is_send : Entry → Bool
+is_send (entry.Send cap message) = true
+is_send e = false

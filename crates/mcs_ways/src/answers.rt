@@ -1,6 +1,7 @@
 //! The answers that entries can get.
 ghost use Rattle.std.specs.Prelude.{◌≡◌, ◌↔◌, ◌++◌, ◌∷◌, [], IsTrue, IfOk, OnOk, map, slice_get, unwrap_or};
 ghost use Rattle.mcs_ways.specs.Answers.{IsAmong, IsNoted, IsNotedIn, IsNotedOf, IsNotedTurn, no_answers, table_of};
+ghost use Rattle.mcs_ways.specs.Mail.{is_send};
 
 use mcs_orders::{OrdersFault, Turn, Users};
 use mcs_types::{Answer, Entry};
@@ -220,6 +221,8 @@ impl Answers {
 }
 
 /// Whether an entry is Send, whose thread goes on once its message is taken.
-pub fn is_send(entry: &Entry) -> bool {
+pub fn is_send(entry: &Entry) -> bool
+    ensures { result ≡ is_send entry.now }
+{
     matches!(entry, Entry::Send { .. })
 }

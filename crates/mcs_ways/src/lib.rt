@@ -25,6 +25,6 @@ mod watching;
 
 pub use exploring::{Wanted, watched};
 pub use reading::AskedLine;
-pub use report::{Explored, Saves, explore_script};
+pub use report::{Explored, Saves, explore_and_tell, explore_script};
 pub use verdicts::{Verdict, verdict_on};
-pub use watching::Watched;
+pub use watching::{Progress, Quiet, Watched};

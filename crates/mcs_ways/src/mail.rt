@@ -1,14 +1,15 @@
 //! What reaches threads whose entries wait, by a line.
-ghost use Rattle.std.specs.Prelude.{◌≡◌, ◌++◌, IfOk, IfSome, None, OnOk, length};
+ghost use Rattle.std.specs.Prelude.{◌≡◌, ◌++◌, IfOk, None, OnOk, length};
 ghost use Rattle.mcs_book.specs.History.{line_of_number};
-ghost use Rattle.mcs_ways.specs.Answers.{IsStillOf, IsWaiting};
-ghost use Rattle.mcs_ways.specs.Mail.{IsBrought, got_with, listed, reached_from, reaching, taken};
+ghost use Rattle.mcs_ways.specs.Answers.{AreNotedMail, IsNotedMail, comes_to, gave_send, mailed_to, waiting};
+ghost use Rattle.mcs_ways.specs.Mail.{brought, got_with, listed, reached_from, reaching, taken};
 
 use crate::answers::{Answers, is_send};
 use mcs_book::Line;
 use mcs_kernel::Kernel;
 use mcs_orders::{OrdersFault, Turn, Users, Walk};
 use mcs_queues::PlainLines;
+use mcs_turns::Pick;
 use mcs_types::{Answer, Badge, Mode, ObjId, Rec};
 use std::alloc::Global;
 
@@ -118,9 +119,11 @@ pub fn newest(kernel: &Kernel<PlainLines>) -> Option<Line<'_>>
     book.line(book.lines().saturating_sub(1))
 }
 
-/// Whether an entry of a user is a Send.
-fn gave_send(users: &Users, user: usize, number: usize) -> bool {
-    match users.lists().get(user) {
+/// Whether the entry of a user with this number is Send.
+fn gave_send(users: &Users, user: usize, number: usize) -> bool
+    ensures { result ≡ gave_send users.now user number }
+{
+    match users.at(user) {
         Some(list) => match list.entries.get(number) {
             Some(entry) => is_send(entry),
             None => false,
@@ -129,16 +132,37 @@ fn gave_send(users: &Users, user: usize, number: usize) -> bool {
     }
 }
 
-/// The number of the entry with which a user waits, where a line of another user made it.
-fn waiting(users: &Users, walk: &Walk<PlainLines>, user: usize, turn: Turn) -> Option<usize>
-    ensures { IfSome result (λ number. IsWaiting users.now walk.now user number turn) }
+/// Whether an entry that waited comes to this: that a thread goes on says so of Send alone.
+fn comes_to(users: &Users, user: usize, number: usize, answer: &Answer) -> bool
+    ensures { result ≡ comes_to users.now user number answer.now }
 {
-    users.at(user)?;
-    let position = walk.place(user)?;
+    match answer {
+        Answer::Done => gave_send(users, user, number),
+        _ => true,
+    }
+}
+
+/// The number of the entry with which a user waited, behind a turn of another user.
+fn waiting(walk: &Walk<PlainLines>, user: usize, turn: Turn) -> Option<usize>
+    ensures { result ≡ waiting walk.now user turn }
+{
     if user == turn.pick.user {
         return None;
     }
-    position.waited
+    walk.place(user)?.waited
+}
+
+/// The entry of a user that waited and comes to what reached its thread, if there is one.
+fn mailed_to(users: &Users, walk: &Walk<PlainLines>, turn: Turn, reached: &Reached) -> Option<Pick>
+    ensures { result ≡ mailed_to users.now walk.now turn reached.now }
+{
+    let user = users.find(reached.thread)?;
+    let number = waiting(walk, user, turn)?;
+    if comes_to(users, user, number, &reached.answer) {
+        Some(Pick { user, number })
+    } else {
+        None
+    }
 }
 
 /// Notes what an entry that waited came to, where this reached a thread.
@@ -150,22 +174,35 @@ fn note_reached(
     place: usize,
     turn: Turn,
 ) -> Result<(), OrdersFault>
-    ensures { OnOk result (IsBrought walk.now.book reached.now
-        → IsStillOf users.now place turn walk.now answers.old answers.new) }
+    ensures { OnOk result (IsNotedMail users.now walk.now place turn
+        reached.now answers.old answers.new) }
 {
-    let Some(user) = users.find(reached.thread) else {
-        return Ok(());
-    };
-    let Some(number) = waiting(users, walk, user, turn) else {
-        return Ok(());
-    };
-    if matches!(reached.answer, Answer::Done) && !gave_send(users, user, number) {
-        return Ok(());
+    match mailed_to(users, walk, turn, reached) {
+        Some(entry) => answers.note(entry.user, entry.number, &reached.answer, place, turn),
+        None => Ok(()),
     }
-    answers.note(user, number, &reached.answer, place, turn)
+}
+
+/// Notes what entries that waited came to, where this reached threads.
+fn note_all(
+    answers: &mut Answers,
+    users: &Users,
+    walk: &Walk<PlainLines>,
+    all: &[Reached],
+    place: usize,
+    turn: Turn,
+) -> Result<(), OrdersFault>
+    ensures { OnOk result (AreNotedMail users.now walk.now place turn
+        all.now answers.old answers.new) }
+{
+    for reached in all {
+        note_reached(answers, users, walk, reached, place, turn)?;
+    }
+    Ok(())
 }
 
 /// Notes what entries that waited came to by the newest line.
+#[tactic(auto, using(crate::proofs::Telling::brought_by))]
 pub fn note_mail(
     alloc: Global,
     answers: &mut Answers,
@@ -174,14 +211,12 @@ pub fn note_mail(
     place: usize,
     turn: Turn,
 ) -> Result<(), OrdersFault>
-    ensures { OnOk result (IsStillOf users.now place turn walk.now answers.old answers.new) }
+    ensures { OnOk result (AreNotedMail users.now walk.now place turn
+        (brought walk.now.book) answers.old answers.new) }
 {
     let Some(line) = newest(walk.kernel()) else {
         return Ok(());
     };
     let all = reached_by(alloc, &line)?;
-    for reached in all.iter() {
-        note_reached(answers, users, walk, reached, place, turn)?;
-    }
-    Ok(())
+    note_all(answers, users, walk, &all, place, turn)
 }

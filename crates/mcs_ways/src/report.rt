@@ -7,7 +7,7 @@ use crate::reading::{AskedLine, UserScript, read_script};
 use crate::saying::text_of;
 use crate::scripts::{script_by, turns_of};
 use crate::verdicts::{Verdict, verdict_on};
-use crate::watching::Watched;
+use crate::watching::{Progress, Quiet, Watched};
 use mcs_lab::LabFault;
 use mcs_orders::Orders;
 use mcs_sim::Source;
@@ -35,11 +35,11 @@ pub trait Saves {
 
 /// What is told, and where it goes.
 #[derive(Drop)]
-struct Report<'a, W, S> {
+struct Report<'a, P: Progress, W, S> {
     alloc: Global,
     script: &'a UserScript,
-    orders: &'a Orders<'a, Watched<'a>>,
-    watched: &'a Watched<'a>,
+    orders: &'a Orders<'a, Watched<'a, P>>,
+    watched: &'a Watched<'a, P>,
     line: Box<Line>,
     to: W,
     saves: &'a mut S,
@@ -58,7 +58,7 @@ fn is_waiting(standing: &Standing) -> bool {
     )
 }
 
-impl<'a, W: Write, S: Saves> Report<'a, W, S> {
+impl<'a, P: Progress, W: Write, S: Saves> Report<'a, P, W, S> {
     /// Keeps the script of what is seen in a state, or by a turn from it, and gives its length.
     fn save(&mut self, name: &str, seen: Sighting) -> Result<usize, LabFault> {
         let turns = turns_of(self.orders, seen)?;
@@ -309,8 +309,27 @@ pub fn explore_script<R: Read, W: Write + Drop, S: Saves>(
     wanted: Wanted,
     saves: &mut S,
 ) -> Result<Explored, LabFault> {
+    explore_and_tell(alloc, from, to, wanted, saves, Quiet)
+}
+
+/// The same, and tells how far it is while it goes.
+pub fn explore_and_tell<R: Read, W: Write + Drop, S: Saves, P: Progress>(
+    alloc: Global,
+    from: &mut Source<R>,
+    to: W,
+    wanted: Wanted,
+    saves: &mut S,
+    progress: P,
+) -> Result<Explored, LabFault> {
     let script = read_script(alloc, from)?;
-    let orders = watched(alloc, &script.boot, &script.users, &script.asked, wanted)?;
+    let orders = watched(
+        alloc,
+        &script.boot,
+        &script.users,
+        &script.asked,
+        wanted,
+        progress,
+    )?;
     let mut report = Report {
         alloc,
         script: &script,

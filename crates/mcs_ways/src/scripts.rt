@@ -4,10 +4,9 @@ ghost use Rattle.mcs_explore.specs.Search.{listed, path_of};
 
 use crate::judging::Sighting;
 use crate::reading::UserScript;
-use crate::watching::Watched;
 use mcs_book::Book;
 use mcs_lab::LabFault;
-use mcs_orders::{Orders, OrdersFault, Turn, Walk, retrace};
+use mcs_orders::{Orders, OrdersFault, Turn, Walk, Watch, retrace};
 use mcs_queues::PlainLines;
 use mcs_trace::{Sink, put_boot_line, put_cores, put_kept_step};
 use std::alloc::Global;
@@ -22,7 +21,7 @@ pub fn fault_of(fault: OrdersFault) -> LabFault {
 }
 
 /// The turns that lead to a state, and the one from it that shows something, where it is one.
-pub fn turns_of(orders: &Orders<'_, Watched<'_>>, seen: Sighting) -> Result<Vec<Turn>, LabFault>
+pub fn turns_of<W: Watch>(orders: &Orders<'_, W>, seen: Sighting) -> Result<Vec<Turn>, LabFault>
     ensures { IfOk result (λ turns.
         turns.items ≡ path_of orders.now.search.map.entries seen.place ++ listed seen.turn) }
 {

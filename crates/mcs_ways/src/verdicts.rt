@@ -8,7 +8,7 @@ use crate::judging::Sighting;
 use crate::patterns::is_match;
 use crate::reading::AskedLine;
 use crate::saying::text_of;
-use crate::watching::Watched;
+use crate::watching::{Progress, Watched};
 use mcs_lab::LabFault;
 use mcs_orders::Users;
 use mcs_trace::Line;
@@ -100,11 +100,11 @@ fn some_is(found: Option<Sighting>) -> Verdict
 }
 
 /// What is told of a question with a number behind a search: answers are spelled in this line.
-pub fn verdict_on(
+pub fn verdict_on<P: Progress>(
     alloc: Global,
     line: &mut Line,
     users: &Users,
-    watched: &Watched<'_>,
+    watched: &Watched<'_, P>,
     number: usize,
     question: &AskedLine,
 ) -> Result<Verdict, LabFault>

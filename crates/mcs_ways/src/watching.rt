@@ -14,9 +14,23 @@ use mcs_trace::Line;
 use mcs_types::Answer;
 use std::alloc::Global;
 
+/// Who is told how far a search is.
+pub trait Progress: Drop {
+    /// One more state is looked behind: so many were before it, and so many turns lead to it.
+    fn looked(&mut self, before: usize, depth: usize);
+}
+
+/// Nobody is told.
+#[derive(Drop)]
+pub struct Quiet;
+
+impl Progress for Quiet {
+    fn looked(&mut self, _before: usize, _depth: usize) {}
+}
+
 /// What is kept of a search.
 #[derive(Drop)]
-pub struct Watched<'a> {
+pub struct Watched<'a, P: Progress> {
     alloc: Global,
     pub asked: &'a [AskedLine],
     text: Box<Line>,
@@ -24,6 +38,7 @@ pub struct Watched<'a> {
     pub answers: Answers,
     /// For each question where it failed first, as far as that is seen in a turn or a state.
     pub failed: Vec<Option<Sighting>>,
+    progress: P,
 }
 
 /// No failure of so many questions.
@@ -37,13 +52,14 @@ fn no_failures(alloc: Global, count: usize) -> Result<Vec<Option<Sighting>>, Lab
     Ok(failed)
 }
 
-impl<'a> Watched<'a> {
+impl<'a, P: Progress> Watched<'a, P> {
     /// Before the search.
     pub fn new(
         alloc: Global,
         users: &Users,
         asked: &'a [AskedLine],
-    ) -> Result<Watched<'a>, LabFault>
+        progress: P,
+    ) -> Result<Watched<'a, P>, LabFault>
         ensures ends { IfOk result (λ w. w.ends ≡ []) }
         ensures answers { IfOk result (λ w. w.answers ≡ no_answers users.now) }
         ensures asked { IfOk result (λ w. w.asked.now ≡ asked.entry.now) }
@@ -56,15 +72,23 @@ impl<'a> Watched<'a> {
             ends: Ends::new(alloc),
             answers: Answers::new(alloc, users)?,
             failed: no_failures(alloc, asked.len())?,
+            progress,
         })
     }
 }
 
-impl Watch for Watched<'_> {
+impl<P: Progress> Watch for Watched<'_, P> {
+    ghost use Rattle.std.specs.Prelude.{List};
+    ghost use Rattle.mcs_ways.specs.declared.reading.AskedLine.{AskedLine};
     ghost use Rattle.mcs_ways.specs.Kept.{IsKept};
 
     ghost HasSeen = { λ w users shown.
         IsKept users w.asked.now shown w.ends w.answers w.failed.items };
+
+    // the questions
+    ghost Aim = { List AskedLine };
+
+    ghost aim = { λ w. w.asked.now };
 
     fn see_state(
         &mut self,
@@ -73,6 +97,7 @@ impl Watch for Watched<'_> {
         walk: &Walk<PlainLines>,
         is_over: bool,
     ) -> Result<(), OrdersFault> {
+        self.progress.looked(place, walk.kernel().book().lines());
         let seen = Sighting { place, turn: None };
         judge(
             &mut self.text,

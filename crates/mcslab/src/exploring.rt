@@ -2,13 +2,17 @@
 use clap::{Arg, ArgAction, ArgMatches, Command as Words, Error, value_parser};
 use mcs_lab::LabFault;
 use mcs_sim::Source;
-use mcs_ways::{Explored, Saves, Wanted, explore_script};
-use std::alloc::Global;
+use mcs_ways::{Explored, Progress, Saves, Wanted, explore_and_tell};
+use std::alloc::{AllocError, Global};
 use std::fs;
-use std::io::{Read, Write};
+use std::io::{IsTerminal, Read, Write};
+use std::time::Instant;
 
 /// How many states are found at most, where nothing else is said.
 const STATES: u64 = 1_000_000;
+
+/// At how many states the clock is read once, since that costs.
+const LOOKS: usize = 16;
 
 /// The exit status where a budget ended the search.
 const STOPPED: u8 = 3;
@@ -119,6 +123,74 @@ impl Saves for Folder<'_> {
     }
 }
 
+/// Tells once a second how far a search is.
+#[derive(Drop)]
+struct Meter<'a> {
+    rt: &'a HostRuntime,
+    /// None where nobody looks at the standard error, or there is no clock.
+    start: Option<Instant>,
+    seconds: u64,
+}
+
+/// A number with a comma before each three digits.
+fn grouped(alloc: Global, number: usize) -> Result<String, AllocError> {
+    let digits = format!(in alloc; "{number}")?;
+    let mut text = String::new(alloc);
+    let mut left = digits.len();
+    for digit in digits.as_bytes() {
+        if left % 3 == 0 && !text.is_empty() {
+            text.push(',')?;
+        }
+        text.push(char::from(*digit))?;
+        left = left.saturating_sub(1);
+    }
+    Ok(text)
+}
+
+impl<'a> Meter<'a> {
+    /// From now on, if the standard error is a terminal.
+    fn new(rt: &'a HostRuntime) -> Meter<'a> {
+        let start = if rt.stderr().is_terminal() {
+            Instant::now(rt).ok()
+        } else {
+            None
+        };
+        Meter {
+            rt,
+            start,
+            seconds: 0,
+        }
+    }
+
+    /// The seconds since the start, where one more has passed since it was told last.
+    fn second(&mut self) -> Option<u64> {
+        let passed = self.start?.elapsed(self.rt).ok()?.as_secs();
+        if passed <= self.seconds {
+            return None;
+        }
+        self.seconds = passed;
+        Some(passed)
+    }
+
+    /// Tells how far the search is. That it cannot be told ends nothing.
+    fn tell(&self, before: usize, depth: usize, seconds: u64) {
+        if let Ok(count) = grouped(self.rt.alloc(), before) {
+            let _ = eprintln!(self.rt; "{count} states looked behind, depth {depth}, {seconds} s");
+        }
+    }
+}
+
+impl Progress for Meter<'_> {
+    fn looked(&mut self, before: usize, depth: usize) {
+        if before % LOOKS != 0 {
+            return;
+        }
+        if let Some(seconds) = self.second() {
+            self.tell(before, depth, seconds);
+        }
+    }
+}
+
 /// Goes through all orders of a script, and gives the exit status.
 pub fn explore<R: Read, W: Write + Drop>(
     rt: &HostRuntime,
@@ -130,6 +202,13 @@ pub fn explore<R: Read, W: Write + Drop>(
         rt,
         path: sought.scripts,
     };
-    let explored = explore_script(rt.alloc(), from, to, sought.wanted, &mut folder)?;
+    let explored = explore_and_tell(
+        rt.alloc(),
+        from,
+        to,
+        sought.wanted,
+        &mut folder,
+        Meter::new(rt),
+    )?;
     Ok(status_of(explored))
 }

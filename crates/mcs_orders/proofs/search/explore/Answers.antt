@@ -1,10 +1,12 @@
-use Rattle.std.proofs.Common.{sym, subst, ◌∙◌}
+use Rattle.std.proofs.Common.{ap, sym, subst, ◌∙◌}
 use Rattle.mcs_book.specs.Boots.{IsFaultless}
 use Rattle.mcs_turns.specs.Turns.{AreInRange}
 use Rattle.mcs_like_runs.proofs.Alikes.{likeness}
 use Rattle.mcs_orders.specs.Exploring.{IsTold}
 use Rattle.mcs_orders.specs.Seen.{AreAllSeen}
-use Rattle.mcs_orders.proofs.Telling.{shown-all}
+use Rattle.mcs_orders.specs.Shown.{HasCounted}
+use Rattle.mcs_orders.specs.Watching.{counting}
+use Rattle.mcs_orders.proofs.Telling.{begun, begun-is, none-counted, shown-all}
 use Rattle.mcs_orders.proofs.Whole.{all-reached, all-seen}
 use Rattle.mcs_orders.proofs.search.explore.Goals as goal
 
@@ -27,4 +29,8 @@ returns-clause-shown g c = λ has.
     let e = c.in_ok-explorer.explorer in
     let f = c.explore.new.system in
     let is = c.in_ok-explorer.ensures in
-    shown-all g.W.Watch.HasSeen c.args.users.now c.args.boot.now e.search f.search e.watch f.watch _ _ is.users is.boot is.watch c.explore.ensures.later c.in_ok-search.ensures.seen has
+    shown-all (HasCounted g.W.Watch.HasSeen) c.args.users.now c.args.boot.now e.search f.search (counting e) (counting f) (begun c.args.watch) _ is.users is.boot (begun-is e c.args.watch is.watch is.turns is.ends)
+    c.explore.ensures.later.search c.in_ok-search.ensures.seen (none-counted g.W.Watch.HasSeen c.args.watch c.args.users.now has)
+
+pub returns-clause-aim : goal.returns-clause-aim
+returns-clause-aim g c = c.explore.ensures.later.aim ∙ ap g.W.Watch.aim c.in_ok-explorer.ensures.watch

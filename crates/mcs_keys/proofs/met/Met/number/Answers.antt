@@ -1,18 +1,8 @@
-use Rattle.std.proofs.Common.{ap, ◌∙◌, map, slice_get}
-use Rattle.mcs_keys.proofs.Naming.{items_of, same_items, stands, still}
+use Rattle.std.proofs.Common.{ap, sym, ◌∙◌, slice_get}
+use Rattle.mcs_keys.proofs.Naming.{found-at, items_of, ok-at}
 use Rattle.mcs_keys.proofs.met.Met.number.Goals as goal
 
--- src/met.rt:56:5
-pub returns-clause-number : goal.returns-clause-number
-returns-clause-number c =
-    let at = c.in-Ok.ensures.stored in
-    ap (λ n. slice_get (map items_of c.insert_full.new.self.keys) n) c.in_ok-number.ensures
-    ∙ stands items_of c.insert_full.new.self.keys c.in-Ok.number at.0 c.args.row.items at.1 at.2
-
--- src/met.rt:56:5
-pub returns-clause-kept : goal.returns-clause-kept
-returns-clause-kept c = λ n r h. still items_of same_items c.self.inside.rows.keys c.insert_full.new.self.keys c.args.row c.in-Ok.ensures.keys n r (ap (λ l. slice_get l n) c.self.view_is ∙ h)
-
--- src/met.rt:63:22
-pub returns-in_err-number-clause-kept : goal.returns-in_err-number-clause-kept
-returns-in_err-number-clause-kept c = λ n r h. still items_of same_items c.self.inside.rows.keys c.insert_full.new.self.keys c.args.row c.in-Ok.ensures.keys n r (ap (λ l. slice_get l n) c.self.view_is ∙ h)
+pub returns-in-Some-clause-number : goal.returns-in-Some-clause-number
+returns-in-Some-clause-number c =
+    ok-at c.narrow.result c.args.self.now c.args.row.now.items c.in-Some.number c.narrow.ensures
+    (ap (λ l. slice_get l c.in-Some.number) (sym c.self.view_is) ∙ found-at items_of c.self.inside.rows.keys c.args.row.now.items c.in-Some.number (sym c.get_index_of.ensures.index ∙ c.in-Some.is))
