@@ -180,7 +180,7 @@ impl<K: Eq + Hash + Drop, L: Copy + Drop> Search<K, L> {
     pub fn path(&self, alloc: Global, place: usize) -> Result<Vec<L>, AllocError>
         ensures { IfOk result (λ labels. labels.items ≡ path_of self.now.map.entries place) }
     {
-        let mut labels = Vec::new(alloc);
+        let mut labels = Vec::with_capacity(alloc, self.depth(place))?;
         let mut at = place;
         for _ in 0..self.depth(place) {
             let (label, parent) = self.back(at);

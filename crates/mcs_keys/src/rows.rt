@@ -21,8 +21,7 @@ fn more(number: Option<usize>) -> u64 {
 fn put_place(row: &mut Row, place: Option<Position>) -> Result<(), AllocError> {
     match place {
         Some(place) => {
-            row.push(place.next as u64)?;
-            row.push(more(place.waited))?;
+            row.extend_from_slice(&[place.next as u64, more(place.waited)])?;
         }
         None => {}
     }
@@ -38,9 +37,9 @@ fn queue_parts(queue: Queue) -> (u64, ObjId) {
     }
 }
 
-/// What a thread does.
-fn put_status(row: &mut Row, names: &Names, status: Option<Status>) -> Result<(), AllocError> {
-    let (number, object) = match status {
+/// What a thread does, and the object for which it waits.
+fn status_parts(names: &Names, status: Option<Status>) -> (u64, u64) {
+    match status {
         None => (0, 0),
         Some(Status::Running) => (1, 0),
         Some(Status::Restart) => (2, 0),
@@ -51,10 +50,7 @@ fn put_status(row: &mut Row, names: &Names, status: Option<Status>) -> Result<()
             let (sort, object) = queue_parts(queue);
             (sort.saturating_add(5), names.name(object))
         }
-    };
-    row.push(number)?;
-    row.push(object)?;
-    Ok(())
+    }
 }
 
 /// A message that nobody has received, without its number.
@@ -62,14 +58,13 @@ fn put_letter(row: &mut Row, names: &Names, letter: Option<&Letter>) -> Result<(
     let Some(letter) = letter else {
         return Ok(());
     };
-    row.push(send_number(letter.mode))?;
-    row.push(names.name(letter.endpoint))?;
-    row.push(letter.badge.0)?;
-    row.push(letter.message.label())?;
-    for word in letter.message.words() {
-        row.push(*word)?;
-    }
-    Ok(())
+    row.extend_from_slice(&[
+        send_number(letter.mode),
+        names.name(letter.endpoint),
+        letter.badge.0,
+        letter.message.label(),
+    ])?;
+    row.extend_from_slice(letter.message.words())
 }
 
 /// The number of a priority.
@@ -89,10 +84,14 @@ pub fn put_thread<L: Lines>(
     place: Option<Position>,
 ) -> Result<(), AllocError> {
     put_place(row, place)?;
-    row.push(names.name_or_none(kernel.context(thread)))?;
-    row.push(names.name_or_none(kernel.bound(thread)))?;
-    row.push(priority_number(kernel.priority(thread)))?;
-    put_status(row, names, kernel.status(thread))?;
+    let (status, object) = status_parts(names, kernel.status(thread));
+    row.extend_from_slice(&[
+        names.name_or_none(kernel.context(thread)),
+        names.name_or_none(kernel.bound(thread)),
+        priority_number(kernel.priority(thread)),
+        status,
+        object,
+    ])?;
     put_letter(row, names, kernel.open(thread))
 }
 

@@ -2,6 +2,7 @@
 ghost use Rattle.std.specs.Prelude.{◌≡◌, ◌∷◌, ◌++◌, [], IfOk, OnOk};
 ghost use Rattle.std.specs.List.{list_any};
 ghost use Rattle.mcs_turns.specs.Due.{is_same, with_any_pick, without_user};
+ghost use Rattle.mcs_walks.specs.Walks.{without_any_user};
 
 use mcs_turns::Pick;
 use mcs_types::OutOfMemory;
@@ -45,6 +46,21 @@ fn add(picks: &mut SmallVec<Pick, 2>, pick: Pick) -> Result<(), OutOfMemory>
     }
 }
 
+/// Adds a pick to the end, unless it is one of this user. OutOfMemory where a growth was refused.
+fn add_of_others(
+    picks: &mut SmallVec<Pick, 2>,
+    pick: Pick,
+    user: Option<usize>,
+) -> Result<(), OutOfMemory>
+    ensures { OnOk result
+        (picks.new.items ≡ picks.old.items ++ without_any_user user (pick ∷ [])) }
+{
+    match user {
+        Some(user) if pick.user == user => Ok(()),
+        _ => add(picks, pick),
+    }
+}
+
 impl Picks {
     /// None.
     pub fn new(alloc: Global) -> Picks
@@ -69,9 +85,14 @@ impl Picks {
         self.picks.iter().any(|other| pick.is_same(*other))
     }
 
-    /// These and one more, if there is one and it is not among them. OutOfMemory where memory was refused.
-    pub fn with(&self, alloc: Global, pick: Option<Pick>) -> Result<Picks, OutOfMemory>
-        ensures { IfOk result (λ p. p ≡ with_any_pick pick self.now) }
+    /// These and one more, if there is one and it is not among them, without those of a user, if there is one.
+    fn merged(
+        &self,
+        alloc: Global,
+        pick: Option<Pick>,
+        user: Option<usize>,
+    ) -> Result<Picks, OutOfMemory>
+        ensures { IfOk result (λ p. p ≡ without_any_user user (with_any_pick pick self.now)) }
     {
         let mut picks = SmallVec::new(alloc);
         let mut more = pick;
@@ -81,29 +102,23 @@ impl Picks {
                 if one.is_same(other) {
                     more = None;
                 } else if one.is_ahead(other) {
-                    add(&mut picks, one)?;
+                    add_of_others(&mut picks, one, user)?;
                     more = None;
                 }
             }
-            add(&mut picks, other)?;
+            add_of_others(&mut picks, other, user)?;
         }
         if let Some(one) = more {
-            add(&mut picks, one)?;
+            add_of_others(&mut picks, one, user)?;
         }
         Ok(Picks { picks })
     }
 
-    /// These without those of a user.
-    fn without(&self, alloc: Global, user: usize) -> Result<Picks, OutOfMemory>
-        ensures { IfOk result (λ p. p ≡ without_user user self.now) }
+    /// These and one more, if there is one and it is not among them. OutOfMemory where memory was refused.
+    pub fn with(&self, alloc: Global, pick: Option<Pick>) -> Result<Picks, OutOfMemory>
+        ensures { IfOk result (λ p. p ≡ with_any_pick pick self.now) }
     {
-        let mut picks = SmallVec::new(alloc);
-        for other in self.picks.iter() {
-            if other.user != user {
-                add(&mut picks, *other)?;
-            }
-        }
-        Ok(Picks { picks })
+        self.merged(alloc, pick, None)
     }
 
     /// These and one more, if there is one and it is not among them, without those of a user.
@@ -115,8 +130,7 @@ impl Picks {
     ) -> Result<Picks, OutOfMemory>
         ensures { IfOk result (λ p. p ≡ without_user user (with_any_pick pick self.now)) }
     {
-        let picks = self.with(alloc, pick)?;
-        picks.without(alloc, user)
+        self.merged(alloc, pick, Some(user))
     }
 
     /// The same picks once more. OutOfMemory where memory was refused.
