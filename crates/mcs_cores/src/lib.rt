@@ -1,6 +1,7 @@
 //! The running machine: one kernel under a lock, entered by the host threads of its cores.
 #![tactic(auto)]
 
+mod core_set;
 mod gate;
 mod machine;
 mod positions;

@@ -1,28 +1,28 @@
-//! How far the users of a run are, and what a core picks of them (own).
+//! How far the users of a run are, what a core picks of them, and which cores wait (own).
+use crate::core_set::CoreSet;
 use crate::machine::Machine;
-use crate::users::Users;
+use crate::users::{UserList, Users};
 use mcs_kernel::Kernel;
 use mcs_queues::Lines;
 use mcs_seats::{Answered, CoreSeat, Turned};
-use mcs_types::{Answer, CoreId, Kind, OBJECTS, ObjId, OutOfMemory, Status, ThreadSet};
+use mcs_turns::Position;
+use mcs_types::{CoreId, Kind, OBJECTS, ObjId, OutOfMemory, Status, ThreadSet};
 use std::alloc::Global;
 use std::sync::Wait;
 use std::sync::ledger::Ledger;
 
-/// How far a user is: the number of its next entry, that of its last one where the answer to it was Waits, and how often
-/// the two were moved.
+/// How far a user is, and how often it moved.
 #[derive(Drop)]
-struct Position {
-    next: usize,
-    waited: Option<usize>,
+struct UserPosition {
+    place: Position,
     moves: u64,
 }
 
-/// How far all users are, how many entries were let in, and whether the run is over.
+/// How far all users are, which cores wait, and whether the run is over.
 #[derive(Drop)]
 pub(crate) struct Positions {
-    users: Vec<Position>,
-    pub(crate) turns: u64,
+    users: Vec<UserPosition>,
+    pub(crate) asleep: CoreSet,
     pub(crate) over: bool,
 }
 
@@ -47,23 +47,36 @@ pub(crate) enum Sight {
     End,
 }
 
-impl Position {
-    /// The number of the entry that the user gives now: the last one again where its thread waited and was restarted.
-    fn due<L: Lines>(&self, kernel: &Kernel<L>, thread: ObjId) -> usize {
-        match self.waited {
-            Some(last) if kernel.status(thread) == Some(Status::Restart) => last,
-            _ => self.next,
+/// The core on which a thread may enter, where it may.
+fn entry_core<L: Lines>(kernel: &Kernel<L>, thread: ObjId) -> Option<CoreId> {
+    match kernel.status(thread) {
+        Some(Status::Running | Status::Restart) => kernel.core(kernel.context(thread)?),
+        _ => None,
+    }
+}
+
+impl UserPosition {
+    /// Before the first entry.
+    fn start() -> UserPosition {
+        UserPosition {
+            place: Position::start(),
+            moves: 0,
         }
     }
 
-    /// Moves it past an entry that was let in. One that is given again is the last before `next`, which it leaves as it is.
-    fn move_past(&mut self, number: usize, answer: &Answer) {
-        self.next = number.saturating_add(1);
-        self.waited = if matches!(answer, Answer::Waits) {
+    /// The number of the entry that the user gives now; None where it has none left.
+    fn due<L: Lines>(&self, kernel: &Kernel<L>, list: &UserList) -> Option<usize> {
+        let number = self.place.due(kernel.status(list.thread));
+        if number < list.entries.len() {
             Some(number)
         } else {
             None
-        };
+        }
+    }
+
+    /// Moves it to another place.
+    fn move_to(&mut self, place: Position) {
+        self.place = place;
         self.moves = self.moves.wrapping_add(1);
     }
 }
@@ -73,16 +86,13 @@ impl Positions {
     pub(crate) fn new(alloc: Global, users: usize) -> Result<Positions, OutOfMemory> {
         let mut positions = Vec::with_capacity(alloc, users)?;
         for _ in 0..users {
-            let start = Position {
-                next: 0,
-                waited: None,
-                moves: 0,
-            };
-            positions.push(start).map_err(|_| OutOfMemory)?;
+            positions
+                .push(UserPosition::start())
+                .map_err(|_| OutOfMemory)?;
         }
         Ok(Positions {
             users: positions,
-            turns: 0,
+            asleep: CoreSet::new(),
             over: false,
         })
     }
@@ -95,24 +105,36 @@ impl Positions {
                 return Sight::Picked(turn);
             }
         }
-        for other in 0..kernel.book().cores() {
-            if kernel.pick(CoreId(other), &done).is_some() {
-                return Sight::Nothing;
+        if self.ready(kernel, users).is_empty() {
+            Sight::End
+        } else {
+            Sight::Nothing
+        }
+    }
+
+    /// The cores that can pick something.
+    pub(crate) fn ready<L: Lines>(&self, kernel: &Kernel<L>, users: &Users) -> CoreSet {
+        let mut ready = CoreSet::new();
+        for (list, position) in users.lists().iter().zip(self.users.iter()) {
+            if position.due(kernel, list).is_some() {
+                if let Some(core) = entry_core(kernel, list.thread) {
+                    ready.insert(core);
+                }
             }
         }
-        Sight::End
+        ready
     }
 
     /// The threads that have nothing left.
     fn done<L: Lines>(&self, kernel: &Kernel<L>, users: &Users) -> ThreadSet {
         let mut left = ThreadSet::new();
         for (list, position) in users.lists().iter().zip(self.users.iter()) {
-            if position.due(kernel, list.thread) < list.entries.len() {
+            if position.due(kernel, list).is_some() {
                 left.insert(list.thread);
             }
         }
         let mut done = ThreadSet::new();
-        for place in 0..u32::from(OBJECTS) {
+        for place in 0..kernel.made(Kind::Thread).min(u32::from(OBJECTS)) {
             let thread = ObjId {
                 kind: Kind::Thread,
                 serial: place + 1,
@@ -128,11 +150,7 @@ impl Positions {
     fn turn_of<L: Lines>(&self, kernel: &Kernel<L>, users: &Users, thread: ObjId) -> Option<Turn> {
         let user = users.find(thread)?;
         let position = self.users.get(user)?;
-        let number = position.due(kernel, thread);
-        let list = users.lists().get(user)?;
-        if list.entries.len() <= number {
-            return None;
-        }
+        let number = position.due(kernel, users.lists().get(user)?)?;
         Some(Turn {
             thread,
             user,
@@ -167,8 +185,7 @@ impl Positions {
         };
         let result = machine.enter(rt, alloc, seat, thread, entry);
         if let Ok(answered) = &result {
-            position.move_past(number, &answered.answer);
-            self.turns = self.turns.wrapping_add(1);
+            position.move_to(Position::past(number, &answered.answer));
         }
         Some(result)
     }

@@ -1,17 +1,18 @@
 //! A run: each core works off the lists of users by a host thread of its own (own).
 ghost use Rattle.std.specs.Prelude.{◌≡◌, ◌≤◌, vec_len, vec_capacity};
 
+use crate::core_set::CoreSet;
 use crate::gate::Gate;
 use crate::machine::Machine;
 use crate::positions::{Positions, Sight, Turn};
 use crate::users::Users;
 use mcs_kernel::EnterFault;
 use mcs_queues::Lines;
-use mcs_seats::{CoreSeat, Turned};
-use mcs_types::CoreId;
+use mcs_seats::{Answered, CoreSeat, Turned};
+use mcs_types::{CORES, CoreId, OutOfMemory};
 use std::alloc::Global;
 use std::sync::ledger::Ledger;
-use std::sync::{Condvar, Mutex, Wait};
+use std::sync::{Condvar, Mutex, MutexGuard, Wait};
 use std::thread;
 use std::thread::Threads;
 
@@ -26,11 +27,11 @@ pub enum RunFault {
     NoThread = 3,
 }
 
-/// How far the users are, and the news that it changed. Its lock is taken before the kernel's.
+/// How far the users are, whose lock is taken before the kernel's, and for each core the news that it need not wait any more.
 #[derive(Drop)]
 struct SharedPositions {
     positions: Mutex<Positions>,
-    changed: Condvar,
+    news: Vec<Condvar>,
 }
 
 /// All that the threads of a run share.
@@ -62,10 +63,58 @@ fn ends_run(turned: Turned) -> Result<(), RunFault> {
 }
 
 impl SharedPositions {
+    /// The beginning of a run of so many users.
+    fn new(alloc: Global, users: usize) -> Result<SharedPositions, OutOfMemory> {
+        let mut news = Vec::with_capacity(alloc, CORES as usize)?;
+        for _ in 0..CORES {
+            news.push(Condvar::new()).map_err(|_| OutOfMemory)?;
+        }
+        Ok(SharedPositions {
+            positions: Mutex::new(Positions::new(alloc, users)?),
+            news,
+        })
+    }
+
     /// Ends the run for all cores: they stop at their next turn.
+    fn end(&self, positions: &mut Positions) {
+        positions.over = true;
+        for news in self.news.iter() {
+            news.notify_all();
+        }
+    }
+
+    /// The same, by who does not have the lock.
     fn close<R: Wait>(&self, rt: &R) {
-        self.positions.lock(rt).over = true;
-        self.changed.notify_all();
+        let mut positions = self.positions.lock(rt);
+        self.end(&mut positions);
+    }
+
+    /// Wakes those of some cores that wait.
+    fn wake(&self, positions: &mut Positions, ready: CoreSet) {
+        for (place, news) in self.news.iter().enumerate() {
+            let core = CoreId(place as u8);
+            if ready.contains(core) && positions.asleep.contains(core) {
+                positions.asleep.remove(core);
+                news.notify_all();
+            }
+        }
+    }
+
+    /// Waits until the core is woken, or the run is over. A core without news of its own does not wait.
+    fn sleep<'a, R: Wait>(
+        &'a self,
+        rt: &R,
+        positions: MutexGuard<'a, Positions>,
+        core: CoreId,
+    ) -> MutexGuard<'a, Positions> {
+        let Some(news) = self.news.get(core.0 as usize) else {
+            return positions;
+        };
+        let mut positions = positions;
+        positions.asleep.insert(core);
+        news.wait_while(rt, positions, |positions| {
+            !positions.over && positions.asleep.contains(core)
+        })
     }
 }
 
@@ -81,15 +130,9 @@ impl<G: Ledger, L: Lines, T: Gate> RunContext<'_, G, L, T> {
             let sight = positions.find(self.machine.lock(rt).kernel(), self.users, core);
             match sight {
                 Sight::Picked(turn) => return Some(turn),
-                Sight::Nothing => {
-                    let seen = positions.turns;
-                    positions = self.shared.changed.wait_while(rt, positions, |positions| {
-                        !positions.over && positions.turns == seen
-                    });
-                }
+                Sight::Nothing => positions = self.shared.sleep(rt, positions, core),
                 Sight::End => {
-                    positions.over = true;
-                    self.shared.changed.notify_all();
+                    self.shared.end(&mut positions);
                     return None;
                 }
             }
@@ -97,19 +140,36 @@ impl<G: Ledger, L: Lines, T: Gate> RunContext<'_, G, L, T> {
         unreachable!()
     }
 
-    /// Enters what the core picked, and tells the others of it. Only what the core looked at may be entered, so the users'
-    /// positions stay locked from the test whether they moved until they are moved on.
-    fn enter<R: Wait>(&self, rt: &R, seat: &mut CoreSeat<G>, turn: Turn) -> Result<(), RunFault> {
-        let entered = self
-            .shared
-            .positions
-            .lock(rt)
-            .enter(rt, self.alloc, self.machine, self.users, seat, turn);
-        match entered {
+    /// Wakes the cores that wait and can pick something now.
+    fn wake<R: Wait>(&self, rt: &R, positions: &mut Positions) {
+        if !positions.asleep.is_empty() {
+            let ready = positions.ready(self.machine.lock(rt).kernel(), self.users);
+            self.shared.wake(positions, ready);
+        }
+    }
+
+    /// Enters what the core picked, where its user has not moved since. Only what the core looked at may be entered, so the
+    /// users' positions stay locked from the test whether they moved until they are moved on, and others are woken.
+    fn enter<R: Wait>(
+        &self,
+        rt: &R,
+        seat: &mut CoreSeat<G>,
+        turn: Turn,
+    ) -> Option<Result<Answered, Turned>> {
+        let mut positions = self.shared.positions.lock(rt);
+        let entered = positions.enter(rt, self.alloc, self.machine, self.users, seat, turn);
+        if let Some(Ok(_)) = &entered {
+            self.wake(rt, &mut positions);
+        }
+        entered
+    }
+
+    /// Enters what the core picked, and calls the gate where it was let in.
+    fn give<R: Wait>(&self, rt: &R, seat: &mut CoreSeat<G>, turn: Turn) -> Result<(), RunFault> {
+        match self.enter(rt, seat, turn) {
             None => Ok(()),
             Some(Err(turned)) => ends_run(turned),
             Some(Ok(answered)) => {
-                self.shared.changed.notify_all();
                 self.gate.answered(seat.core(), answered.line as u64);
                 Ok(())
             }
@@ -123,7 +183,7 @@ impl<G: Ledger, L: Lines, T: Gate> RunContext<'_, G, L, T> {
                 return Ok(());
             };
             self.gate.between(seat.core(), turn.thread);
-            self.enter(rt, seat, turn)?;
+            self.give(rt, seat, turn)?;
         }
         unreachable!()
     }
@@ -267,7 +327,7 @@ impl<G: Ledger + Send + Sync, L: Lines + Send + Sync> Machine<G, L> {
         users: &Users,
         gate: &T,
     ) -> (Vec<CoreSeat<G>>, Result<(), RunFault>) {
-        let Ok(positions) = Positions::new(alloc, users.lists().len()) else {
+        let Ok(shared) = SharedPositions::new(alloc, users.lists().len()) else {
             return (seats, Err(RunFault::OutOfMemory));
         };
         let Ok(running) = Vec::with_capacity(alloc, seats.len()) else {
@@ -275,10 +335,6 @@ impl<G: Ledger + Send + Sync, L: Lines + Send + Sync> Machine<G, L> {
         };
         let Ok(back) = Vec::with_capacity(alloc, seats.len()) else {
             return (seats, Err(RunFault::OutOfMemory));
-        };
-        let shared = SharedPositions {
-            positions: Mutex::new(positions),
-            changed: Condvar::new(),
         };
         let context = RunContext {
             alloc,
