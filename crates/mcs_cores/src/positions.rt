@@ -6,7 +6,7 @@ use mcs_kernel::Kernel;
 use mcs_queues::Lines;
 use mcs_seats::{Answered, CoreSeat, Turned};
 use mcs_turns::Position;
-use mcs_types::{CoreId, Kind, OBJECTS, ObjId, OutOfMemory, Status, ThreadSet};
+use mcs_types::{CoreId, Kind, ObjId, OutOfMemory, Status, ThreadSet};
 use std::alloc::Global;
 use std::sync::Wait;
 use std::sync::ledger::Ledger;
@@ -134,10 +134,10 @@ impl Positions {
             }
         }
         let mut done = ThreadSet::new();
-        for place in 0..kernel.made(Kind::Thread).min(u32::from(OBJECTS)) {
+        for place in 0..kernel.made(Kind::Thread) {
             let thread = ObjId {
                 kind: Kind::Thread,
-                serial: place + 1,
+                serial: place.saturating_add(1),
             };
             if !left.contains(thread) {
                 done.insert(thread);

@@ -91,11 +91,13 @@ impl SharedPositions {
 
     /// Wakes those of some cores that wait.
     fn wake(&self, positions: &mut Positions, ready: CoreSet) {
-        for (place, news) in self.news.iter().enumerate() {
-            let core = CoreId(place as u8);
+        for core in 0..CORES {
+            let core = CoreId(core);
             if ready.contains(core) && positions.asleep.contains(core) {
                 positions.asleep.remove(core);
-                news.notify_all();
+                if let Some(news) = self.news.get(core.0 as usize) {
+                    news.notify_all();
+                }
             }
         }
     }
