@@ -5,7 +5,7 @@ use Rattle.mcs_types.specs.declared.id.ObjId.{ObjId}
 use Rattle.mcs_names.specs.Naming.{with_word}
 use Rattle.mcs_names.specs.Numbers.{number_within}
 use Rattle.mcs_plans.specs.Refusals.{Refusal, Read, ◌>>=◌, not_wanted}
-use Rattle.mcs_laying.specs.declared.laid.Laid.{Laid}
+use Rattle.mcs_laying.specs.Laid.{LaidPlan}
 use Rattle.mcs_compile.specs.declared.fields.Field.{Field}
 use Rattle.mcs_compile.specs.Entries.{Line, number_more, numbers_more, field_more, fields_more}
 
@@ -51,7 +51,7 @@ no_numbers [] line none = (refl, refl)
 no_numbers (word ∷ words) line none = absurd (omega (arith, none))
 
 -- a field, and those behind it
-module _ (laid : Laid) (t : ObjId) (fs : List Field) (i : ℕ) (d : Field) (within : i < length fs) where
+module _ (laid : LaidPlan) (t : ObjId) (fs : List Field) (i : ℕ) (d : Field) (within : i < length fs) where
   field_next : (words : List (List ℕ)) (line : List ℕ) → fields_more laid t (drop i fs) words line
       ≡ (field_more laid t (get_or fs i d) words line >>= (λ (more : Line). fields_more laid t (drop (i + 1) fs) more.1 more.0))
   field_next words line =
@@ -68,6 +68,6 @@ module _ (laid : Laid) (t : ObjId) (fs : List Field) (i : ℕ) (d : Field) (with
   field_refused words line all e is so_far =
       so_far ∙ field_next words line ∙ ap (λ (r : Read Line). r >>= (λ (more : Line). fields_more laid t (drop (i + 1) fs) more.1 more.0)) is
 
-pub no_fields : (laid : Laid) (t : ObjId) (fs : List Field) (i : ℕ) (words : List (List ℕ)) (line : List ℕ) (all : Read Line) → length fs ≤ i
+pub no_fields : (laid : LaidPlan) (t : ObjId) (fs : List Field) (i : ℕ) (words : List (List ℕ)) (line : List ℕ) (all : Read Line) → length fs ≤ i
     → all ≡ fields_more laid t (drop i fs) words line → all ≡ Ok (line, words)
 no_fields laid t fs i words line all past so_far = so_far ∙ ap (λ gs. fields_more laid t gs words line) (drop_of_length-le fs past)

@@ -7,10 +7,13 @@ use Rattle.std.specs.Str.{IsUtf8, is_utf8}
 use Rattle.std.specs.Str.Lossy.{utf8_valid_len}
 use Rattle.std.specs.Str.Lines.{lines}
 use Rattle.mcs_names.specs.declared.fault.PlanFault.{PlanFault}
+use Rattle.mcs_names.specs.declared.fault.Why.{Why}
 use Rattle.mcs_names.specs.Naming.{texts}
-use Rattle.mcs_plans.specs.Refusals.{Read, no_text}
+use Rattle.mcs_plans.specs.Refusals.{Read, Refuses, no_text}
 use Rattle.mcs_plans.specs.Saying.{Said, said, nothing_said}
 use Rattle.mcs_laying.specs.declared.laid.Laid.{Laid}
+use Rattle.mcs_laying.specs.Fitting.{boot_fits}
+use Rattle.mcs_laying.specs.Laid.{LaidPlan, IsLaid, laid_said, laid_of}
 use Rattle.mcs_compile.specs.declared.compiling.Entries.{Entries}
 use Rattle.mcs_compile.specs.Opening.{behind_said, are_users}
 use Rattle.mcs_laying.specs.Starting.{IsStarted, RefusesStarter}
@@ -52,35 +55,53 @@ all_said ls i s all past so_far =
     so_far ∙ ap (λ ms. lines_said i ms s) (drop_of_length-le (texts ls) over)
 
 -- what a script has, from its parts
-pub has_plan : (found : List (List ℕ)) (plan : Said) (script : Script) (laid : Laid) → plan_said found ≡ Ok plan → IsStarted plan (said laid.plan) → script.laid ≡ laid
-    → HasStepsOf found script → HasPlanOfLines found script
-has_plan found plan script laid says started same steps =
-    record { plan = plan; says = says; started = subst (λ (l : Laid). IsStarted plan (said l.plan)) (sym same) started; steps = steps }
+pub has_plan : (found : List (List ℕ)) (plan : Said) (script : Script) (laid : Laid) → plan_said found ≡ Ok plan → IsStarted plan (said laid.plan) → IsLaid laid
+    → script.laid ≡ laid → HasStepsOf found script → HasPlanOfLines found script
+has_plan found plan script laid says started is same steps =
+    record {
+      plan = plan;
+      says = says;
+      started = subst (λ (l : Laid). IsStarted plan (said l.plan)) (sym same) started;
+      laid = subst (λ (l : Laid). IsLaid l) (sym same) is;
+      steps = steps;
+    }
 
 pub has_plan_of : (bytes : List ℕ) (found : List (List ℕ)) (script : Script) → lines_in bytes ≡ Ok found → HasPlanOfLines found script → HasPlanOf bytes script
 has_plan_of bytes found script are says = record { found = found; are = are; says = says }
 
-pub has_steps : (found : List (List ℕ)) (script : Script) (laid : Laid) (taken : Entries) → script.laid ≡ laid → behind_said laid found ≡ Ok taken
+pub has_steps : (found : List (List ℕ)) (script : Script) (laid : Laid) (taken : Entries) → script.laid ≡ laid → behind_said (laid_said laid) found ≡ Ok taken
     → script.is_users ≡ are_users taken → HasStepsOf found script
 has_steps found script laid taken same is users =
-    record { entries = taken; taken = subst (λ l. behind_said l found ≡ Ok taken) (sym same) is; users = users }
+    record { entries = taken; taken = subst (λ (l : Laid). behind_said (laid_said l) found ≡ Ok taken) (sym same) is; users = users }
 
 -- what is told, from where it comes
 pub no_starter : (found : List (List ℕ)) (plan : Said) (fault : PlanFault) → plan_said found ≡ Ok plan → RefusesStarter plan fault → TellsLines found fault
 no_starter found plan fault says told = inr (record { plan = plan; says = says; told = inl told })
 
-pub refused_behind : (found : List (List ℕ)) (plan : Said) (laid : Laid) (fault : PlanFault) → plan_said found ≡ Ok plan → IsStarted plan (said laid.plan)
-    → RefusesLaid laid found fault → TellsLines found fault
-refused_behind found plan laid fault says started told =
-    inr (record { plan = plan; says = says; told = inr (record { laid = laid; started = started; told = told }) })
+pub refused_behind : (found : List (List ℕ)) (plan : Said) (laid : Laid) (fault : PlanFault) → plan_said found ≡ Ok plan → IsStarted plan (said laid.plan) → IsLaid laid
+    → RefusesLaid (laid_said laid) found fault → TellsLines found fault
+refused_behind found plan laid fault says started is told =
+    let same : laid_said laid ≡ laid_of (said laid.plan) = ap (λ ts. record { plan = said laid.plan; tables = ts }) is.tables in
+    inr (record {
+      plan = plan;
+      says = says;
+      told = inr (record { new = said laid.plan; started = started; told = subst (λ l. RefusesLaid l found fault) same told });
+    })
 
 pub refused_lines : (bytes : List ℕ) (found : List (List ℕ)) (fault : PlanFault) → lines_in bytes ≡ Ok found → TellsLines found fault → TellsPlan bytes fault
 refused_lines bytes found fault are told = inr (record { found = found; are = are; told = told })
 
-pub no_boot : (laid : Laid) (ls : List (Bor (List ℕ))) (taken : Entries) (fault : PlanFault) → behind_said laid (texts ls) ≡ Ok taken → fault.line ≡ length ls
-    → RefusesLaid laid (texts ls) fault
-no_boot laid ls taken fault is line =
-    inr (record { entries = taken; taken = is; line = line ∙ sym (length-map ls (λ (m : Bor (List ℕ)). m.now)) })
+pub no_boot : (laid : LaidPlan) (ls : List (Bor (List ℕ))) (taken : Entries) (fault : PlanFault) → behind_said laid (texts ls) ≡ Ok taken → fault.line ≡ length ls
+    → Refuses (boot_fits laid.plan) fault.why → RefusesLaid laid (texts ls) fault
+no_boot laid ls taken fault is line told =
+    inr (record { entries = taken; taken = is; line = line ∙ sym (length-map ls (λ (m : Bor (List ℕ)). m.now)); told = told })
+
+-- what is told of the boot, where that is refused
+pub boot_refused : (r : Result Script Why) (w : Why) (laid now : Laid) → now ≡ laid → IfErr r (Refuses (boot_fits (said now.plan))) → r ≡ Err w
+    → Refuses (boot_fits (said laid.plan)) w
+boot_refused r w laid now same told is =
+    let here : Refuses (boot_fits (said now.plan)) w = subst (λ (s : Result Script Why). IfErr s (Refuses (boot_fits (said now.plan)))) is told in
+    subst (λ (l : Laid). Refuses (boot_fits (said l.plan)) w) same here
 
 -- a fault that is handed on, whatever is told by it
 pub handed : {T : Type 0} (r : Result T PlanFault) (fault : PlanFault) (P : PlanFault → Type 0) → IsErrAnd r (λ e. e ≡ fault) → P fault → IfErr r P

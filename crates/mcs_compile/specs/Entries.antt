@@ -9,7 +9,7 @@ use Rattle.mcs_names.specs.Numbers.{number_of}
 use Rattle.mcs_plans.specs.Capabilities.{rights_of}
 use Rattle.mcs_plans.specs.Refusals.{Read, ◌>>=◌, ◌>>◌, need, limit, not_wanted}
 use Rattle.mcs_plans.specs.Words.{word_then, number_then, end_of}
-use Rattle.mcs_laying.specs.declared.laid.Laid.{Laid}
+use Rattle.mcs_laying.specs.Laid.{LaidPlan}
 use Rattle.mcs_laying.specs.Unnamed.{named_read}
 use Rattle.mcs_compile.specs.declared.fields.Field.{Field}
 use Rattle.mcs_compile.specs.declared.fields.Field.TheVariants as field
@@ -20,11 +20,11 @@ abbrev pub Line : Type 0
 Line = List ℕ × List (List ℕ)
 
 -- the address that a word stands for: a number, or that of what the thread names by it
-abbrev pub address_or : Laid → ObjId → List ℕ → Option ℕ → Read ℕ
+abbrev pub address_or : LaidPlan → ObjId → List ℕ → Option ℕ → Read ℕ
 address_or laid t word (Some n) = Ok n
 address_or laid t word None = named_read laid t word >>= λ named. Ok named.address
 
-abbrev pub address_read : Laid → ObjId → List ℕ → Read ℕ
+abbrev pub address_read : LaidPlan → ObjId → List ℕ → Read ℕ
 address_read laid t word = address_or laid t word (number_of word)
 
 -- the place of an index, with the depth that stands behind it
@@ -34,21 +34,21 @@ place_with index words = do
   Ok (record { index = index; depth = depth }, left)
 
 -- the place of what the thread names by a word
-abbrev pub place_named : Laid → ObjId → List ℕ → Read Place
+abbrev pub place_named : LaidPlan → ObjId → List ℕ → Read Place
 place_named laid t word = named_read laid t word >>= λ named. Ok named.place
 
 -- the place that words stand for: an index and a depth, or a name
-abbrev pub place_or : Laid → ObjId → List ℕ → List (List ℕ) → Option ℕ → Read (Place × List (List ℕ))
+abbrev pub place_or : LaidPlan → ObjId → List ℕ → List (List ℕ) → Option ℕ → Read (Place × List (List ℕ))
 place_or laid t word rest (Some index) = place_with index rest
 place_or laid t word rest None = place_named laid t word >>= λ place. Ok (place, rest)
 
-abbrev pub place_read : Laid → ObjId → List (List ℕ) → Read (Place × List (List ℕ))
+abbrev pub place_read : LaidPlan → ObjId → List (List ℕ) → Read (Place × List (List ℕ))
 place_read laid t words = do
   (word, rest) ← word_then words
   place_or laid t word rest (number_of word)
 
 -- an address more, in decimal
-abbrev pub address_more : Laid → ObjId → List (List ℕ) → List ℕ → Read Line
+abbrev pub address_more : LaidPlan → ObjId → List (List ℕ) → List ℕ → Read Line
 address_more laid t words line = do
   (word, left) ← word_then words
   address ← address_read laid t word
@@ -58,7 +58,7 @@ address_more laid t words line = do
 abbrev pub with_place : List ℕ → Place → List ℕ
 with_place line place = with_word (with_word line (decimal place.index)) (decimal place.depth)
 
-abbrev pub place_more : Laid → ObjId → List (List ℕ) → List ℕ → Read Line
+abbrev pub place_more : LaidPlan → ObjId → List (List ℕ) → List ℕ → Read Line
 place_more laid t words line = do
   (place, left) ← place_read laid t words
   Ok (with_place line place, left)
@@ -112,7 +112,7 @@ message_more words line = do
   Ok (new, [])
 
 -- a field of an entry more
-abbrev pub field_more : Laid → ObjId → Field → List (List ℕ) → List ℕ → Read Line
+abbrev pub field_more : LaidPlan → ObjId → Field → List (List ℕ) → List ℕ → Read Line
 field_more laid t field.Address words line = address_more laid t words line
 field_more laid t field.Place words line = place_more laid t words line
 field_more laid t field.Priority words line = number_more 255 words line
@@ -123,12 +123,12 @@ field_more laid t field.Message words line = message_more words line
 field_more laid t field.End words line = Ok (line, words)
 
 -- all fields more, in order
-abbrev pub fields_more : Laid → ObjId → List Field → List (List ℕ) → List ℕ → Read Line
+abbrev pub fields_more : LaidPlan → ObjId → List Field → List (List ℕ) → List ℕ → Read Line
 fields_more laid t [] words line = Ok (line, words)
 fields_more laid t (f ∷ fs) words line = field_more laid t f words line >>= λ more. fields_more laid t fs more.1 more.0
 
 -- an entry more: its word, and then each of its fields; no word is left
-abbrev pub entry_more : Laid → ObjId → List (List ℕ) → List ℕ → Read (List ℕ)
+abbrev pub entry_more : LaidPlan → ObjId → List (List ℕ) → List ℕ → Read (List ℕ)
 entry_more laid t words line = do
   (key, rest) ← word_then words
   fields ← ok_or (fields_of key) (not_wanted key)

@@ -5,7 +5,7 @@ use Rattle.mcs_types.specs.declared.id.ObjId.{ObjId}
 use Rattle.mcs_text.specs.Spelling.{letter_of}
 use Rattle.mcs_names.specs.Naming.{with_word}
 use Rattle.mcs_plans.specs.Refusals.{Read}
-use Rattle.mcs_laying.specs.declared.laid.Laid.{Laid}
+use Rattle.mcs_laying.specs.Laid.{LaidPlan}
 use Rattle.mcs_compile.specs.declared.steps.Head.{Head}
 use Rattle.mcs_compile.specs.Entries.{entry_more}
 
@@ -23,5 +23,5 @@ abbrev pub head_text : Head → List ℕ
 head_text head = with_word (core_text head.core) (object_text head.thread)
 
 -- the line of a step, or of a user: who enters, and the entry that words spell
-abbrev pub step_read : Laid → Head → List (List ℕ) → Read (List ℕ)
+abbrev pub step_read : LaidPlan → Head → List (List ℕ) → Read (List ℕ)
 step_read laid head words = entry_more laid head.thread words (head_text head)

@@ -2,7 +2,7 @@
 use Rattle.std.specs.Prelude.{Bool, true, false, not, ◌&&◌, List, [], ◌∷◌, Option, Some, None, Ok, is_none}
 use Rattle.mcs_types.specs.declared.id.CoreId.{CoreId}
 use Rattle.mcs_plans.specs.Refusals.{Read, ◌>>◌, need, mixed, passive_user}
-use Rattle.mcs_laying.specs.declared.laid.Laid.{Laid}
+use Rattle.mcs_laying.specs.Laid.{LaidPlan}
 use Rattle.mcs_compile.specs.declared.compiling.Entries.{Entries}
 use Rattle.mcs_compile.specs.declared.compiling.Entries.TheVariants.{Nothing, Steps, Users}
 
@@ -22,11 +22,11 @@ is_any [] = false
 is_any (x ∷ xs) = true
 
 -- a line of a user stands in a plan without passive threads
-abbrev pub may_use : Laid → Option CoreId → Bool
-may_use laid core = not (is_none core && is_any laid.plan.passives.items)
+abbrev pub may_use : LaidPlan → Option CoreId → Bool
+may_use laid core = not (is_none core && is_any laid.plan.passives)
 
 -- what stood so far with a step or a line of a user, where it may stand
-abbrev pub goes_on : Laid → Entries → Option CoreId → Read Entries
+abbrev pub goes_on : LaidPlan → Entries → Option CoreId → Read Entries
 goes_on laid e core = do
   need (not (is_mixed e core)) mixed
   need (may_use laid core) passive_user

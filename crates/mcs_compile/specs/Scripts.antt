@@ -1,6 +1,7 @@
 -- What a script has of its plan.
 use Rattle.std.specs.Prelude.{◌≡◌, ℕ, List, Ok}
 use Rattle.mcs_plans.specs.Saying.{Said, said}
+use Rattle.mcs_laying.specs.Laid.{IsLaid, laid_said}
 use Rattle.mcs_laying.specs.Naming.{cores_of}
 use Rattle.mcs_laying.specs.Boot.{boot_of}
 use Rattle.mcs_laying.specs.Starting.{IsStarted}
@@ -18,14 +19,16 @@ pub record HasBootOfPlan (s : Script) : Type 0 where
 -- the steps that make threads passive, and the lines from the first step on, are taken; a script says whether these are of users
 pub record HasStepsOf (found : List (List ℕ)) (s : Script) : Type 0 where
   pub entries : Entries
-  pub taken : behind_said s.laid found ≡ Ok entries
+  pub taken : behind_said (laid_said s.laid) found ≡ Ok entries
   pub users : s.is_users ≡ are_users entries
 
--- the plan of a script is what lines say before the first step, and the thread that makes others passive where one is
+-- the plan of a script is what lines say before the first step, and the thread that makes others passive where one is; its spaces are
+-- laid out, and what each thread can name is what its space has
 pub record HasPlanOfLines (found : List (List ℕ)) (s : Script) : Type 0 where
   pub plan : Said
   pub says : plan_said found ≡ Ok plan
   pub started : IsStarted plan (said s.laid.plan)
+  pub laid : IsLaid s.laid
   pub steps : HasStepsOf found s
 
 -- the plan of a script is what the lines of a text say

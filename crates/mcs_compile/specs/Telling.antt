@@ -4,9 +4,10 @@ use Rattle.std.specs.Str.{is_utf8}
 use Rattle.std.specs.Str.Lossy.{utf8_valid_len}
 use Rattle.std.specs.Str.Lines.{lines}
 use Rattle.mcs_names.specs.declared.fault.PlanFault.{PlanFault}
-use Rattle.mcs_plans.specs.Refusals.{limit, no_text}
-use Rattle.mcs_plans.specs.Saying.{Said, said}
-use Rattle.mcs_laying.specs.declared.laid.Laid.{Laid}
+use Rattle.mcs_plans.specs.Refusals.{Refuses, limit, no_text}
+use Rattle.mcs_plans.specs.Saying.{Said}
+use Rattle.mcs_laying.specs.Fitting.{boot_fits}
+use Rattle.mcs_laying.specs.Laid.{LaidPlan, laid_of}
 use Rattle.mcs_laying.specs.Starting.{IsStarted, RefusesStarter}
 use Rattle.mcs_compile.specs.declared.compiling.Entries.{Entries}
 use Rattle.mcs_compile.specs.declared.compiling.TheConstants.{LINES}
@@ -25,21 +26,22 @@ few_lines found = if nat_lt LINES (length found) then Err (LINES + 1, limit LINE
 abbrev pub lines_in : List ℕ → ReadAt (List (List ℕ))
 lines_in bytes = if is_utf8 bytes then few_lines (lines bytes) else Err (line_of bytes (utf8_valid_len bytes), no_text)
 
--- all lines are taken, and the boot is refused, which is told at the last
-pub record RefusesBoot (laid : Laid) (found : List (List ℕ)) (fault : PlanFault) : Type 0 where
+-- all lines are taken, and the boot is refused, which is told at the last: a machine may not have what it makes
+pub record RefusesBoot (laid : LaidPlan) (found : List (List ℕ)) (fault : PlanFault) : Type 0 where
   pub entries : Entries
   pub taken : behind_said laid found ≡ Ok entries
   pub line : fault.line ≡ length found
+  pub told : Refuses (boot_fits laid.plan) fault.why
 
 -- what is refused of a plan that is laid out: the first step or line that may not be taken, or in the end its boot
-abbrev pub RefusesLaid : Laid → List (List ℕ) → PlanFault → Type 0
+abbrev pub RefusesLaid : LaidPlan → List (List ℕ) → PlanFault → Type 0
 RefusesLaid laid found fault = RefusesAt (behind_said laid found) fault ⊎ RefusesBoot laid found fault
 
--- what is refused of a plan with the thread that makes others passive, where one is
+-- what is refused of a plan that is laid out with the thread that makes others passive, where one is
 pub record RefusesStarted (plan : Said) (found : List (List ℕ)) (fault : PlanFault) : Type 0 where
-  pub laid : Laid
-  pub started : IsStarted plan (said laid.plan)
-  pub told : RefusesLaid laid found fault
+  pub new : Said
+  pub started : IsStarted plan new
+  pub told : RefusesLaid (laid_of new) found fault
 
 -- what is refused behind the lines before the first step, which say this plan
 pub record RefusesBehind (found : List (List ℕ)) (fault : PlanFault) : Type 0 where

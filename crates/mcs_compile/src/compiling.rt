@@ -4,7 +4,9 @@ ghost use Rattle.std.specs.Str.{is_utf8};
 ghost use Rattle.std.specs.Str.Lines.{lines};
 ghost use Rattle.mcs_names.specs.Naming.{texts};
 ghost use Rattle.mcs_plans.specs.Refusals.{Refuses, need, no_step, told_by};
-ghost use Rattle.mcs_plans.specs.Saying.{said, nothing_said};
+ghost use Rattle.mcs_plans.specs.Saying.{said, said_passive, nothing_said};
+ghost use Rattle.mcs_laying.specs.Fitting.{boot_fits};
+ghost use Rattle.mcs_laying.specs.Laid.{laid_said};
 ghost use Rattle.mcs_compile.specs.declared.compiling.Entries.TheVariants.{Nothing};
 ghost use Rattle.mcs_compile.specs.Mixing.{is_steps, goes_on};
 ghost use Rattle.mcs_compile.specs.Opening.{receive_text, receive_head, starter_head, name_or_none, context_in, unbind_text, step_added, both_added, IsOpeningOf, IsOpeningAt};
@@ -103,7 +105,8 @@ struct Opening {
 
 /// The text by which a passive thread receives.
 fn receive_text(alloc: Global, passive: &Passive) -> Result<String, AllocError>
-    ensures { IfOk result (λ text. string_bytes text ≡ receive_text passive.now) }
+    ensures { IfOk result (λ text. string_bytes text
+        ≡ receive_text (said_passive passive.now)) }
 {
     let mut text = String::from_str(alloc, "recv ")?;
     text.push_str(passive.endpoint.as_str())?;
@@ -114,7 +117,7 @@ fn receive_text(alloc: Global, passive: &Passive) -> Result<String, AllocError>
 
 /// The name of the context that a thread has at the boot.
 fn context_name(plan: &Plan, thread: ObjId) -> &str
-    ensures { result.now ≡ name_or_none plan.now (context_in plan.now thread) }
+    ensures { result.now ≡ name_or_none (said plan.now) (context_in (said plan.now) thread) }
 {
     match plan.context_of(thread) {
         Some(context) => plan.names.name_of(context),
@@ -124,7 +127,8 @@ fn context_name(plan: &Plan, thread: ObjId) -> &str
 
 /// The text by which the context of a passive thread is taken away.
 fn unbind_text(alloc: Global, plan: &Plan, passive: &Passive) -> Result<String, AllocError>
-    ensures { IfOk result (λ text. string_bytes text ≡ unbind_text plan.now passive.now) }
+    ensures { IfOk result (λ text. string_bytes text
+        ≡ unbind_text (said plan.now) (said_passive passive.now)) }
 {
     let mut text = String::from_str(alloc, "unbind ")?;
     text.push_str(context_name(plan, passive.thread))?;
@@ -133,7 +137,7 @@ fn unbind_text(alloc: Global, plan: &Plan, passive: &Passive) -> Result<String, 
 
 /// What makes a thread passive.
 fn opening_of(alloc: Global, plan: &Plan, passive: &Passive) -> Result<Opening, Why>
-    ensures opening { IfOk result (IsOpeningOf plan.now passive.now) }
+    ensures opening { IfOk result (IsOpeningOf (said plan.now) (said_passive passive.now)) }
     ensures told { IfErr result (λ w. told_by w ≡ None) }
 {
     Ok(Opening {
@@ -151,7 +155,7 @@ fn opening_of(alloc: Global, plan: &Plan, passive: &Passive) -> Result<Opening, 
 #[tactic(auto, using(crate::proofs::Opened::opening_there))]
 fn opening_at(alloc: Global, plan: &Plan, place: usize) -> Result<Opening, PlanFault>
     requires { place < length plan.now.passives.items }
-    ensures opening { IfOk result (IsOpeningAt plan.now place) }
+    ensures opening { IfOk result (IsOpeningAt (said plan.now) place) }
     ensures told { IfErr result (λ fault. told_by fault.why ≡ None) }
 {
     at(0, opening_of(alloc, plan, &plan.passives[place]))
@@ -159,7 +163,7 @@ fn opening_at(alloc: Global, plan: &Plan, place: usize) -> Result<Opening, PlanF
 
 /// Who takes the contexts of passive threads away: the last thread.
 fn starter_head(plan: &Plan) -> Head
-    ensures { result ≡ starter_head plan.now }
+    ensures { result ≡ starter_head (said plan.now) }
 {
     Head {
         thread: ObjId {
@@ -173,8 +177,8 @@ fn starter_head(plan: &Plan) -> Head
 impl Compiler {
     /// A step that the plan does not say.
     fn add_step(&mut self, alloc: Global, head: Head, text: &str) -> Result<(), Why>
-        ensures added { OnOk result (step_added self.old.laid head text.now ≡ Ok tt) }
-        ensures told { IfErr result (Refuses (step_added self.old.laid head text.now)) }
+        ensures added { OnOk result (step_added (laid_said self.old.laid) head text.now ≡ Ok tt) }
+        ensures told { IfErr result (Refuses (step_added (laid_said self.old.laid) head text.now)) }
         ensures laid { self.new.laid ≡ self.old.laid }
         ensures entries { self.new.entries ≡ self.old.entries }
     {
@@ -186,9 +190,9 @@ impl Compiler {
 
     /// Does what makes a thread passive.
     fn add_opening(&mut self, alloc: Global, opening: &Opening) -> Result<(), Why>
-        ensures added { OnOk result (both_added self.old.laid opening.now.head
+        ensures added { OnOk result (both_added (laid_said self.old.laid) opening.now.head
             (string_bytes opening.now.receive) (string_bytes opening.now.unbind) ≡ Ok tt) }
-        ensures told { IfErr result (Refuses (both_added self.old.laid opening.now.head
+        ensures told { IfErr result (Refuses (both_added (laid_said self.old.laid) opening.now.head
             (string_bytes opening.now.receive) (string_bytes opening.now.unbind))) }
         ensures laid { self.new.laid ≡ self.old.laid }
         ensures entries { self.new.entries ≡ self.old.entries }
@@ -200,12 +204,12 @@ impl Compiler {
 
     /// The same, where a fault is told at the line of the thread.
     fn do_opening(&mut self, alloc: Global, opening: &Opening) -> Result<(), PlanFault>
-        ensures added { OnOk result (at_line opening.now.line (both_added self.old.laid
-            opening.now.head (string_bytes opening.now.receive) (string_bytes opening.now.unbind))
-            ≡ Ok tt) }
-        ensures told { IfErr result (RefusesAt (at_line opening.now.line (both_added self.old.laid
-            opening.now.head (string_bytes opening.now.receive)
-            (string_bytes opening.now.unbind)))) }
+        ensures added { OnOk result (at_line opening.now.line
+            (both_added (laid_said self.old.laid) opening.now.head
+            (string_bytes opening.now.receive) (string_bytes opening.now.unbind)) ≡ Ok tt) }
+        ensures told { IfErr result (RefusesAt (at_line opening.now.line
+            (both_added (laid_said self.old.laid) opening.now.head
+            (string_bytes opening.now.receive) (string_bytes opening.now.unbind)))) }
         ensures laid { self.new.laid ≡ self.old.laid }
         ensures entries { self.new.entries ≡ self.old.entries }
     {
@@ -215,8 +219,8 @@ impl Compiler {
     /// Does what makes the thread passive that is at this place. A fault is told at the line that makes it so.
     fn open(&mut self, alloc: Global, place: usize) -> Result<(), PlanFault>
         requires { place < length self.old.laid.plan.passives.items }
-        ensures added { OnOk result (opened_at self.old.laid place ≡ Ok tt) }
-        ensures told { IfErr result (RefusesAt (opened_at self.old.laid place)) }
+        ensures added { OnOk result (opened_at (laid_said self.old.laid) place ≡ Ok tt) }
+        ensures told { IfErr result (RefusesAt (opened_at (laid_said self.old.laid) place)) }
         ensures laid { self.new.laid ≡ self.old.laid }
         ensures entries { self.new.entries ≡ self.old.entries }
     {
@@ -227,9 +231,9 @@ impl Compiler {
     /// Makes each passive thread so.
     fn open_each(&mut self, alloc: Global) -> Result<(), PlanFault>
         ensures added { OnOk result
-            (openings_said self.old.laid self.old.laid.plan.passives.items ≡ Ok tt) }
-        ensures told { IfErr result
-            (RefusesAt (openings_said self.old.laid self.old.laid.plan.passives.items)) }
+            (openings_said (laid_said self.old.laid) (said self.old.laid.plan).passives ≡ Ok tt) }
+        ensures told { IfErr result (RefusesAt
+            (openings_said (laid_said self.old.laid) (said self.old.laid.plan).passives)) }
         ensures laid { self.new.laid ≡ self.old.laid }
         ensures entries { self.new.entries ≡ self.old.entries }
     {
@@ -242,9 +246,9 @@ impl Compiler {
     /// The thread that made others passive suspends itself, where one did.
     fn leave(&mut self, alloc: Global) -> Result<(), PlanFault>
         ensures added { OnOk result
-            (left_said self.old.laid self.old.laid.plan.passives.items ≡ Ok tt) }
+            (left_said (laid_said self.old.laid) (said self.old.laid.plan).passives ≡ Ok tt) }
         ensures told { IfErr result
-            (RefusesAt (left_said self.old.laid self.old.laid.plan.passives.items)) }
+            (RefusesAt (left_said (laid_said self.old.laid) (said self.old.laid.plan).passives)) }
         ensures laid { self.new.laid ≡ self.old.laid }
         ensures entries { self.new.entries ≡ self.old.entries }
     {
@@ -258,8 +262,8 @@ impl Compiler {
     /// The steps before the first of the plan: each passive thread receives, and its context is taken
     /// away; then the thread that did this suspends itself.
     fn open_all(&mut self, alloc: Global) -> Result<(), PlanFault>
-        ensures added { OnOk result (opened_said self.old.laid ≡ Ok tt) }
-        ensures told { IfErr result (RefusesAt (opened_said self.old.laid)) }
+        ensures added { OnOk result (opened_said (laid_said self.old.laid) ≡ Ok tt) }
+        ensures told { IfErr result (RefusesAt (opened_said (laid_said self.old.laid))) }
         ensures laid { self.new.laid ≡ self.old.laid }
         ensures entries { self.new.entries ≡ self.old.entries }
     {
@@ -271,8 +275,9 @@ impl Compiler {
     /// passive.
     fn goes_with(&mut self, head: Head) -> Result<(), Why>
         ensures goes { OnOk result
-            (goes_on self.old.laid self.old.entries head.core ≡ Ok self.new.entries) }
-        ensures told { IfErr result (Refuses (goes_on self.old.laid self.old.entries head.core)) }
+            (goes_on (laid_said self.old.laid) self.old.entries head.core ≡ Ok self.new.entries) }
+        ensures told { IfErr result
+            (Refuses (goes_on (laid_said self.old.laid) self.old.entries head.core)) }
         ensures laid { self.new.laid ≡ self.old.laid }
     {
         match (self.entries, head.core) {
@@ -291,9 +296,9 @@ impl Compiler {
 
     /// The line of a step or of a user.
     fn add_entry(&mut self, alloc: Global, head: &str, text: &str) -> Result<(), Why>
-        ensures taken { OnOk result (entry_taken self.old.laid self.old.entries
+        ensures taken { OnOk result (entry_taken (laid_said self.old.laid) self.old.entries
             (Some (head.now, text.now)) ≡ Ok self.new.entries) }
-        ensures told { IfErr result (Refuses (entry_taken self.old.laid self.old.entries
+        ensures told { IfErr result (Refuses (entry_taken (laid_said self.old.laid) self.old.entries
             (Some (head.now, text.now)))) }
         ensures laid { self.new.laid ≡ self.old.laid }
     {
@@ -318,10 +323,10 @@ impl Compiler {
 
     /// What is wanted of the step before.
     fn add_wanted(&mut self, alloc: Global, words: &[&str]) -> Result<(), Why>
-        ensures taken { OnOk result (wanted_taken self.old.laid self.old.entries (texts words.now)
-            ≡ Ok self.new.entries) }
+        ensures taken { OnOk result (wanted_taken (laid_said self.old.laid) self.old.entries
+            (texts words.now) ≡ Ok self.new.entries) }
         ensures told { IfErr result
-            (Refuses (wanted_taken self.old.laid self.old.entries (texts words.now))) }
+            (Refuses (wanted_taken (laid_said self.old.laid) self.old.entries (texts words.now))) }
         ensures laid { self.new.laid ≡ self.old.laid }
     {
         self.has_step()?;
@@ -333,9 +338,9 @@ impl Compiler {
 
     /// A line with `: ` in it. Late where it has none.
     fn add_headed(&mut self, alloc: Global, code: &str) -> Result<(), Why>
-        ensures taken { OnOk result (entry_taken self.old.laid self.old.entries
+        ensures taken { OnOk result (entry_taken (laid_said self.old.laid) self.old.entries
             (cut_at_colon code.now) ≡ Ok self.new.entries) }
-        ensures told { IfErr result (Refuses (entry_taken self.old.laid self.old.entries
+        ensures told { IfErr result (Refuses (entry_taken (laid_said self.old.laid) self.old.entries
             (cut_at_colon code.now))) }
         ensures laid { self.new.laid ≡ self.old.laid }
     {
@@ -347,10 +352,10 @@ impl Compiler {
 
     /// What a line behind the boot says beside its comment.
     fn add_code(&mut self, alloc: Global, code: &str) -> Result<(), Why>
-        ensures taken { OnOk result
-            (code_taken self.old.laid self.old.entries code.now ≡ Ok self.new.entries) }
+        ensures taken { OnOk result (code_taken (laid_said self.old.laid) self.old.entries
+            code.now ≡ Ok self.new.entries) }
         ensures told { IfErr result
-            (Refuses (code_taken self.old.laid self.old.entries code.now)) }
+            (Refuses (code_taken (laid_said self.old.laid) self.old.entries code.now)) }
         ensures laid { self.new.laid ≡ self.old.laid }
     {
         let words = split_words(alloc, code)?;
@@ -365,10 +370,10 @@ impl Compiler {
 
     /// A line behind the boot: its comment stands before it.
     fn add_line(&mut self, alloc: Global, line: &str) -> Result<(), Why>
-        ensures taken { OnOk result
-            (line_taken self.old.laid self.old.entries line.now ≡ Ok self.new.entries) }
+        ensures taken { OnOk result (line_taken (laid_said self.old.laid) self.old.entries
+            line.now ≡ Ok self.new.entries) }
         ensures told { IfErr result
-            (Refuses (line_taken self.old.laid self.old.entries line.now)) }
+            (Refuses (line_taken (laid_said self.old.laid) self.old.entries line.now)) }
         ensures laid { self.new.laid ≡ self.old.laid }
     {
         is_short(line)?;
@@ -432,10 +437,10 @@ fn take_next(
     line: &str,
 ) -> Result<(), PlanFault>
     requires { count + 1 < 2 ^ 64 }
-    ensures taken { OnOk result (line_taken compiler.old.laid compiler.old.entries line.now
-        ≡ Ok compiler.new.entries) }
+    ensures taken { OnOk result (line_taken (laid_said compiler.old.laid) compiler.old.entries
+        line.now ≡ Ok compiler.new.entries) }
     ensures told { IfErr result (RefusesAt (at_line (count + 1)
-        (line_taken compiler.old.laid compiler.old.entries line.now))) }
+        (line_taken (laid_said compiler.old.laid) compiler.old.entries line.now))) }
     ensures laid { compiler.new.laid ≡ compiler.old.laid }
 {
     let number = count as u64 + 1;
@@ -449,9 +454,9 @@ fn read_steps(
     lines: &[&str],
     before: usize,
 ) -> Result<(), PlanFault>
-    ensures taken { OnOk result (lines_taken compiler.old.laid before
+    ensures taken { OnOk result (lines_taken (laid_said compiler.old.laid) before
         (drop before (texts lines.now)) compiler.old.entries ≡ Ok compiler.new.entries) }
-    ensures told { IfErr result (RefusesAt (lines_taken compiler.old.laid before
+    ensures told { IfErr result (RefusesAt (lines_taken (laid_said compiler.old.laid) before
         (drop before (texts lines.now)) compiler.old.entries)) }
     ensures laid { compiler.new.laid ≡ compiler.old.laid }
 {
@@ -466,6 +471,7 @@ fn finish(alloc: Global, compiler: Compiler, comments: Vec<String>) -> Result<Sc
     ensures boot { IfOk result HasBootOfPlan }
     ensures laid { IfOk result (λ s. s.laid ≡ compiler.laid) }
     ensures users { IfOk result (λ s. s.is_users ≡ are_users compiler.entries) }
+    ensures told { IfErr result (Refuses (boot_fits (said compiler.laid.plan))) }
 {
     let Compiler {
         laid,
@@ -495,8 +501,9 @@ fn read_behind(
     requires before { before ≡ count_before (texts lines.now) }
     requires nothing { compiler.old.entries ≡ Nothing }
     ensures taken { OnOk result
-        (behind_said compiler.old.laid (texts lines.now) ≡ Ok compiler.new.entries) }
-    ensures told { IfErr result (RefusesAt (behind_said compiler.old.laid (texts lines.now))) }
+        (behind_said (laid_said compiler.old.laid) (texts lines.now) ≡ Ok compiler.new.entries) }
+    ensures told { IfErr result
+        (RefusesAt (behind_said (laid_said compiler.old.laid) (texts lines.now))) }
     ensures laid { compiler.new.laid ≡ compiler.old.laid }
 {
     compiler.open_all(alloc)?;
@@ -515,7 +522,7 @@ fn compile_laid(
     ensures boot { IfOk result HasBootOfPlan }
     ensures laid { IfOk result (λ s. s.laid ≡ laid) }
     ensures steps { IfOk result (HasStepsOf (texts lines.now)) }
-    ensures told { IfErr result (RefusesLaid laid (texts lines.now)) }
+    ensures told { IfErr result (RefusesLaid (laid_said laid) (texts lines.now)) }
 {
     let mut compiler = Compiler {
         laid,

@@ -2,6 +2,7 @@
 ghost use Rattle.std.specs.Prelude.{◌≡◌, [], Ok, IfOk, IfErr, OnOk, decimal, string_bytes};
 ghost use Rattle.mcs_names.specs.Naming.{with_word};
 ghost use Rattle.mcs_plans.specs.Refusals.{Refuses};
+ghost use Rattle.mcs_laying.specs.Laid.{laid_said};
 ghost use Rattle.mcs_plans.specs.Words.{number_then};
 ghost use Rattle.mcs_compile.specs.Entries.{right_letter, rights_text, is_made, address_read, place_with, place_named, place_read, address_more, place_more, number_more};
 ghost use Rattle.mcs_compile.specs.Entries.{rights_more, kind_more, numbers_more, message_more, field_more, fields_more, entry_more};
@@ -161,9 +162,9 @@ impl<'a> Speaker<'a> {
     /// An address: a name, or a number.
     fn address(&self, alloc: Global, word: &str) -> Result<u64, Why>
         ensures stands { IfOk result
-            (λ a. address_read self.now.laid.now self.now.thread word.now ≡ Ok a) }
+            (λ a. address_read (laid_said self.now.laid.now) self.now.thread word.now ≡ Ok a) }
         ensures told { IfErr result
-            (Refuses (address_read self.now.laid.now self.now.thread word.now)) }
+            (Refuses (address_read (laid_said self.now.laid.now) self.now.thread word.now)) }
     {
         if let Some(n) = number(word) {
             return Ok(n);
@@ -175,9 +176,9 @@ impl<'a> Speaker<'a> {
     /// The place that a name stands for.
     fn named_place(&self, alloc: Global, word: &str) -> Result<Place, Why>
         ensures stands { IfOk result (λ p.
-            place_named self.now.laid.now self.now.thread word.now ≡ Ok p) }
+            place_named (laid_said self.now.laid.now) self.now.thread word.now ≡ Ok p) }
         ensures told { IfErr result
-            (Refuses (place_named self.now.laid.now self.now.thread word.now)) }
+            (Refuses (place_named (laid_said self.now.laid.now) self.now.thread word.now)) }
     {
         let named = self.laid.named(alloc, self.thread, word)?;
         Ok(named.place)
@@ -185,10 +186,10 @@ impl<'a> Speaker<'a> {
 
     /// A place: a name, or an index and a depth.
     fn place(&self, alloc: Global, words: &mut Words<'_>) -> Result<Place, Why>
-        ensures stands { IfOk result (λ p.
-            place_read self.now.laid.now self.now.thread words.old ≡ Ok (p, words.new)) }
+        ensures stands { IfOk result (λ p. place_read (laid_said self.now.laid.now)
+            self.now.thread words.old ≡ Ok (p, words.new)) }
         ensures told { IfErr result
-            (Refuses (place_read self.now.laid.now self.now.thread words.old)) }
+            (Refuses (place_read (laid_said self.now.laid.now) self.now.thread words.old)) }
     {
         let word = words.need("a slot")?;
         match number(word) {
@@ -199,11 +200,10 @@ impl<'a> Speaker<'a> {
 
     /// An address, as a number.
     fn read_address(&self, alloc: Global, to: &mut String, words: &mut Words<'_>) -> Result<(), Why>
-        ensures put { OnOk result
-            (address_more self.now.laid.now self.now.thread words.old (string_bytes to.old)
-            ≡ Ok (string_bytes to.new, words.new)) }
-        ensures told { IfErr result (Refuses
-            (address_more self.now.laid.now self.now.thread words.old (string_bytes to.old))) }
+        ensures put { OnOk result (address_more (laid_said self.now.laid.now) self.now.thread
+            words.old (string_bytes to.old) ≡ Ok (string_bytes to.new, words.new)) }
+        ensures told { IfErr result (Refuses (address_more (laid_said self.now.laid.now)
+            self.now.thread words.old (string_bytes to.old))) }
     {
         let word = words.need("a capability")?;
         let address = self.address(alloc, word)?;
@@ -212,11 +212,10 @@ impl<'a> Speaker<'a> {
 
     /// A place, as two numbers.
     fn read_place(&self, alloc: Global, to: &mut String, words: &mut Words<'_>) -> Result<(), Why>
-        ensures put { OnOk result
-            (place_more self.now.laid.now self.now.thread words.old (string_bytes to.old)
-            ≡ Ok (string_bytes to.new, words.new)) }
-        ensures told { IfErr result (Refuses
-            (place_more self.now.laid.now self.now.thread words.old (string_bytes to.old))) }
+        ensures put { OnOk result (place_more (laid_said self.now.laid.now) self.now.thread
+            words.old (string_bytes to.old) ≡ Ok (string_bytes to.new, words.new)) }
+        ensures told { IfErr result (Refuses (place_more (laid_said self.now.laid.now)
+            self.now.thread words.old (string_bytes to.old))) }
     {
         let place = self.place(alloc, words)?;
         add_number(alloc, to, place.index)?;
@@ -231,11 +230,10 @@ impl<'a> Speaker<'a> {
         words: &mut Words<'_>,
         field: Field,
     ) -> Result<(), Why>
-        ensures put { OnOk result
-            (field_more self.now.laid.now self.now.thread field words.old (string_bytes to.old)
-            ≡ Ok (string_bytes to.new, words.new)) }
-        ensures told { IfErr result (Refuses
-            (field_more self.now.laid.now self.now.thread field words.old (string_bytes to.old))) }
+        ensures put { OnOk result (field_more (laid_said self.now.laid.now) self.now.thread field
+            words.old (string_bytes to.old) ≡ Ok (string_bytes to.new, words.new)) }
+        ensures told { IfErr result (Refuses (field_more (laid_said self.now.laid.now)
+            self.now.thread field words.old (string_bytes to.old))) }
     {
         match field {
             Field::Address => self.read_address(alloc, to, words),
@@ -259,11 +257,11 @@ impl<'a> Speaker<'a> {
         fields: &[Field],
     ) -> Result<(), Why>
         ensures put { OnOk result
-            (fields_more self.now.laid.now self.now.thread fields.now words.old
+            (fields_more (laid_said self.now.laid.now) self.now.thread fields.now words.old
             (string_bytes to.old)
             ≡ Ok (string_bytes to.new, words.new)) }
         ensures told { IfErr result (Refuses
-            (fields_more self.now.laid.now self.now.thread fields.now words.old
+            (fields_more (laid_said self.now.laid.now) self.now.thread fields.now words.old
             (string_bytes to.old))) }
     {
         for field in fields {
@@ -274,12 +272,10 @@ impl<'a> Speaker<'a> {
 
     /// Writes the entry that words spell, behind which no word may be left.
     pub fn read(&self, alloc: Global, to: &mut String, words: &mut Words<'_>) -> Result<(), Why>
-        ensures put { OnOk result
-            (entry_more self.now.laid.now self.now.thread words.old (string_bytes to.old)
-            ≡ Ok (string_bytes to.new)) }
-        ensures told { IfErr result
-            (Refuses (entry_more self.now.laid.now self.now.thread words.old
-            (string_bytes to.old))) }
+        ensures put { OnOk result (entry_more (laid_said self.now.laid.now) self.now.thread
+            words.old (string_bytes to.old) ≡ Ok (string_bytes to.new)) }
+        ensures told { IfErr result (Refuses (entry_more (laid_said self.now.laid.now)
+            self.now.thread words.old (string_bytes to.old))) }
     {
         let key = words.need("an entry")?;
         let Some(fields) = fields_of(key) else {

@@ -6,6 +6,7 @@ ghost use Rattle.mcs_names.specs.Naming.{texts};
 ghost use Rattle.mcs_plans.specs.Objects.{named_as};
 ghost use Rattle.mcs_plans.specs.Refusals.{Refuses};
 ghost use Rattle.mcs_plans.specs.Words.{number_then};
+ghost use Rattle.mcs_laying.specs.Laid.{laid_said};
 ghost use Rattle.mcs_compile.specs.Heads.{object_text, core_text, head_text, step_read};
 ghost use Rattle.mcs_compile.specs.StepLines.{last_core, core_said, core_read, step_head, user_head, is_user, head_read};
 
@@ -37,7 +38,7 @@ pub fn object_text(alloc: Global, object: ObjId) -> Result<String, AllocError>
 
 /// The last core.
 fn last_core(laid: &Laid) -> u8
-    ensures { result ≡ last_core laid.now }
+    ensures { result ≡ last_core (laid_said laid.now) }
 {
     laid.cores().saturating_sub(1)
 }
@@ -53,8 +54,8 @@ fn core_number(alloc: Global, words: &mut Words<'_>, last: u8) -> Result<u8, Why
 
 /// `on core N`.
 fn core_said(alloc: Global, laid: &Laid, words: &mut Words<'_>) -> Result<CoreId, Why>
-    ensures core { IfOk result (λ c. core_said laid.now words.old ≡ Ok (c, words.new)) }
-    ensures told { IfErr result (Refuses (core_said laid.now words.old)) }
+    ensures core { IfOk result (λ c. core_said (laid_said laid.now) words.old ≡ Ok (c, words.new)) }
+    ensures told { IfErr result (Refuses (core_said (laid_said laid.now) words.old)) }
 {
     words.expect(alloc, "on")?;
     words.expect(alloc, "core")?;
@@ -69,8 +70,9 @@ fn read_core(
     thread: ObjId,
     words: &mut Words<'_>,
 ) -> Result<CoreId, Why>
-    ensures core { IfOk result (λ c. core_read laid.now thread words.old ≡ Ok (c, words.new)) }
-    ensures told { IfErr result (Refuses (core_read laid.now thread words.old)) }
+    ensures core { IfOk result
+        (λ c. core_read (laid_said laid.now) thread words.old ≡ Ok (c, words.new)) }
+    ensures told { IfErr result (Refuses (core_read (laid_said laid.now) thread words.old)) }
 {
     if words.peek().is_none() {
         return Ok(laid.plan.core_of(thread));
@@ -89,8 +91,8 @@ fn thread_named(alloc: Global, laid: &Laid, name: &str) -> Result<ObjId, Why>
 
 /// `NAME` or `NAME on core N`.
 fn step_head(alloc: Global, laid: &Laid, name: &str, words: &mut Words<'_>) -> Result<Head, Why>
-    ensures head { IfOk result (λ h. step_head laid.now name.now words.old ≡ Ok h) }
-    ensures told { IfErr result (Refuses (step_head laid.now name.now words.old)) }
+    ensures head { IfOk result (λ h. step_head (laid_said laid.now) name.now words.old ≡ Ok h) }
+    ensures told { IfErr result (Refuses (step_head (laid_said laid.now) name.now words.old)) }
 {
     let thread = thread_named(alloc, laid, name)?;
     let core = read_core(alloc, laid, thread, words)?;
@@ -103,8 +105,8 @@ fn step_head(alloc: Global, laid: &Laid, name: &str, words: &mut Words<'_>) -> R
 
 /// `NAME`, behind `user`.
 fn user_head(alloc: Global, laid: &Laid, words: &mut Words<'_>) -> Result<Head, Why>
-    ensures head { IfOk result (λ h. user_head laid.now words.old ≡ Ok h) }
-    ensures told { IfErr result (Refuses (user_head laid.now words.old)) }
+    ensures head { IfOk result (λ h. user_head (laid_said laid.now) words.old ≡ Ok h) }
+    ensures told { IfErr result (Refuses (user_head (laid_said laid.now) words.old)) }
 {
     let name = words.need("the name of a thread")?;
     let thread = thread_named(alloc, laid, name)?;
@@ -121,8 +123,8 @@ fn is_user(first: &str, words: &Words<'_>) -> bool
 
 /// What stands before the colon: `NAME`, `NAME on core N`, or `user NAME`.
 pub fn read_head(alloc: Global, laid: &Laid, text: &str) -> Result<Head, Why>
-    ensures head { IfOk result (λ h. head_read laid.now (words_of text.now) ≡ Ok h) }
-    ensures told { IfErr result (Refuses (head_read laid.now (words_of text.now))) }
+    ensures head { IfOk result (λ h. head_read (laid_said laid.now) (words_of text.now) ≡ Ok h) }
+    ensures told { IfErr result (Refuses (head_read (laid_said laid.now) (words_of text.now))) }
 {
     let all = split_words(alloc, text)?;
     let mut words = Words::new(&all);
@@ -157,8 +159,8 @@ fn head_text(alloc: Global, head: Head) -> Result<String, AllocError>
 /// The line of a step, or of a user: who enters, and the entry that words spell.
 pub fn write_entry(alloc: Global, laid: &Laid, head: Head, words: &[&str]) -> Result<String, Why>
     ensures put { IfOk result
-        (λ line. step_read laid.now head (texts words.now) ≡ Ok (string_bytes line)) }
-    ensures told { IfErr result (Refuses (step_read laid.now head (texts words.now))) }
+        (λ line. step_read (laid_said laid.now) head (texts words.now) ≡ Ok (string_bytes line)) }
+    ensures told { IfErr result (Refuses (step_read (laid_said laid.now) head (texts words.now))) }
 {
     let mut line = head_text(alloc, head)?;
     let mut words = Words::new(words);

@@ -1,5 +1,5 @@
 -- The boot of a plan whose spaces are laid out.
-use Rattle.std.specs.Prelude.{◌≤◌, ◌+◌, ◌-◌, ◌/◌, ◌%◌, ◌==◌, ◌++◌, ℕ, zero, suc, List, [], ◌∷◌, Option, Some, None, cond, length, take, map, slice_get}
+use Rattle.std.specs.Prelude.{◌+◌, ◌-◌, ◌/◌, ◌%◌, ◌==◌, ◌++◌, ℕ, zero, suc, List, [], ◌∷◌, Option, Some, None, cond, length, take, map, slice_get}
 use Rattle.std.specs.Option.{unwrap_or}
 use Rattle.std.specs.List.{sum_by}
 use Rattle.std.proofs.Math.ListN.{replicate}
@@ -61,8 +61,8 @@ thread_line layouts t =
 abbrev pub tie_line : Tie → BootLine
 tie_line t = line.Tie t.thread t.notification
 
--- the lines of each of so many, from 0
-abbrev pub each : ℕ → (ℕ → List BootLine) → List BootLine
+-- the lines, or whatever comes, of each of so many, from 0
+abbrev pub each : {X : Type 0} → ℕ → (ℕ → List X) → List X
 each zero lines = []
 each (suc n) lines = each n lines ++ lines n
 
@@ -109,8 +109,3 @@ boot_of plan layouts =
     ++ map (thread_line layouts) plan.threads.items
     ++ each (length plan.spaces.items) (λ place. filling layouts plan.spaces.items place (slice_get plan.spaces.items place))
     ++ map tie_line plan.ties.items
-
--- there are no more CNodes than a machine may have
-pub record HasFewCNodes (plan : Plan) : Type 0 where
-  pub spaces : length plan.spaces.items ≤ 64
-  pub leaves : all_leaves plan ≤ 64

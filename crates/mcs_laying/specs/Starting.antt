@@ -1,15 +1,18 @@
 -- The thread that makes others passive, which a plan has more where one is.
-use Rattle.std.specs.Prelude.{◌≡◌, ◌++◌, ◌∷◌, ℕ, true, List, [], length, Option, Some, None, Ok, Err, codes}
+use Rattle.std.specs.Prelude.{◌≡◌, ◌++◌, ◌∷◌, ℕ, true, List, [], length, fold, Option, Some, None, Ok, Err, codes, bytes_eq, option_and_then, if◌then◌else◌}
 use Rattle.std.specs.Option.{ForSome}
 use Rattle.mcs_types.specs.declared.id.ObjId.{ObjId}
 use Rattle.mcs_types.specs.declared.id.Kind.{Kind}
 use Rattle.mcs_types.specs.declared.id.Kind.TheVariants as kind
 use Rattle.mcs_names.specs.declared.fault.PlanFault.{PlanFault}
-use Rattle.mcs_names.specs.Naming.{NameList, next_of}
+use Rattle.mcs_names.specs.Naming.{ByName, NameList, name_of, next_of}
 use Rattle.mcs_plans.specs.declared.plan.Thread.{Thread}
 use Rattle.mcs_plans.specs.Objects.{may_name}
 use Rattle.mcs_plans.specs.Refusals.{Read, ◌>>=◌, ◌>>◌, told_by}
 use Rattle.mcs_plans.specs.Saying.{Said, SaidSpace, SaidPassive, with_name, with_thread}
+use Rattle.mcs_plans.specs.Threads.{thread_at}
+use Rattle.mcs_spaces.specs.Layouts.{zero_guard}
+use Rattle.mcs_laying.specs.Boot.{bare}
 
 -- its name, and those of its context and its space
 abbrev pub own_name : List ℕ
@@ -50,22 +53,50 @@ starter_with context s =
       core = record { 0 = 0 };
     }
 
+-- slots with one of this name that holds this, in the place of one that has the name, or behind the others
+abbrev pub with_slot : {X : Type 0} → List ℕ → X → ByName X → ByName X
+with_slot name x [] = (name, x) ∷ []
+with_slot name x (e ∷ es) = if bytes_eq name e.0 then (e.0, x) ∷ es else e ∷ with_slot name x es
+
+-- a space with a slot of this name that holds a capability to an object
+abbrev pub with_held : List ℕ → ObjId → SaidSpace → SaidSpace
+with_held name obj space = record space { slots = with_slot name (Some (bare obj (zero_guard 0))) space.slots }
+
+-- a space with a slot for a context, under its name
+abbrev pub with_context : Said → SaidSpace → Option ObjId → SaidSpace
+with_context s space None = space
+with_context s space (Some context) = with_held (name_of s.names context) context space
+
+-- a space with a slot for the context of a thread, where it has one
+abbrev pub with_context_of : Said → ObjId → SaidSpace → SaidSpace
+with_context_of s t space = with_context s space (option_and_then (λ th. th.context) (thread_at s.threads t))
+
+-- a space that has no slots, and no radix that is said
+abbrev pub no_slots : SaidSpace
+no_slots = record { radix = None; slots = [] }
+
+-- the space of the thread: the contexts of the passive threads, in order, and itself
+abbrev pub space_started : Said → ObjId → SaidSpace
+space_started s starter = with_held own_name starter (fold (λ space p. with_context_of s p.thread space) no_slots s.passives)
+
 -- a plan with a context on core 0 more, and this space
 abbrev pub with_parts : SaidSpace → Said → Said
 with_parts space s = record s { contexts = s.contexts ++ (record { 0 = 0 }) ∷ []; spaces = s.spaces ++ space ∷ [] }
 
+-- a plan with these names, and with a space for the thread
+abbrev pub with_own_space : NameList → Said → Said
+with_own_space names s =
+    with_parts (space_started (record s { names = names }) (next_of kind.Thread s.names)) (record s { names = names })
+
 -- a plan with the thread more, these names, its context and its space
-abbrev pub with_starter : NameList → SaidSpace → Said → Said
-with_starter names space s =
-    with_thread (starter_with (own_context s.names) s) (with_parts space (record s { names = names }))
+abbrev pub with_starter : NameList → Said → Said
+with_starter names s = with_thread (starter_with (own_context s.names) s) (with_own_space names s)
 
 -- a plan has the thread more
 pub record AddsStarter (old new : Said) : Type 0 where
   pub names : NameList
   pub named : names_started old.names ≡ Ok names
-  pub space : SaidSpace
-  pub radix : space.radix ≡ None
-  pub same : new ≡ with_starter names space old
+  pub same : new ≡ with_starter names old
 
 -- the same where a thread is passive, and nothing more where none is
 abbrev pub StartsFor : List SaidPassive → Said → Said → Type 0

@@ -1,21 +1,26 @@
 //! The lines of the boot.
-ghost use Rattle.std.specs.Prelude.{◌≡◌, ◌≤◌, ◌<◌, ◌+◌, ◌++◌, ℕ, List, [], ◌∷◌, IfOk, OnOk, length, map, slice_get};
+ghost use Rattle.std.specs.Prelude.{◌≡◌, ◌≤◌, ◌<◌, ◌+◌, ◌/◌, ◌++◌, ℕ, true, List, [], ◌∷◌, Ok, IfOk, IfErr, OnOk, length, map, slice_get};
 ghost use Rattle.std.proofs.Math.ListN.{replicate};
 ghost use Rattle.mcs_types.specs.declared.id.Kind.TheVariants as kind;
 ghost use Rattle.mcs_types.specs.declared.boot.BootLine.TheVariants as line;
-ghost use Rattle.mcs_names.specs.Naming.{count_of};
+ghost use Rattle.mcs_types.specs.Limits.{cnode_limit};
+ghost use Rattle.mcs_names.specs.Naming.{count_of, limit_of};
 ghost use Rattle.mcs_plans.specs.Making.{all_leaves};
-ghost use Rattle.mcs_plans.specs.Slots.{slot_count, cap_at};
+ghost use Rattle.mcs_plans.specs.Refusals.{Refuses};
+ghost use Rattle.mcs_plans.specs.Saying.{said};
+ghost use Rattle.mcs_plans.specs.Slots.{slot_count, cap_at, leaves_of};
+ghost use Rattle.mcs_laying.specs.Fitting.{are_housed, boot_fits, HasFewCNodes, Fits, IsWithin};
 ghost use Rattle.mcs_laying.specs.Boot.{cnode_at, cnode_of, guarded, root_line, context_line, thread_line, tie_line, each};
-ghost use Rattle.mcs_laying.specs.Boot.{slot_lines, link_lines, space_lines, before_of, filling, boot_of, HasFewCNodes};
+ghost use Rattle.mcs_laying.specs.Boot.{slot_lines, link_lines, space_lines, before_of, filling, boot_of};
 
+use crate::fitting::fits;
 use crate::laid::Laid;
 use crate::starter::bare;
-use mcs_names::{Why, limit_of, plural};
+use mcs_names::Why;
 use mcs_plans::{Space, Thread};
 use mcs_spaces::LEAF;
-use mcs_types::{BootLine, CNODES, Cap, Guard, Kind, ObjId};
-use std::alloc::Global;
+use mcs_types::{BootLine, Cap, Guard, Kind, ObjId};
+use std::alloc::{AllocError, Global};
 
 /// Where the slots of a space stand: in its root, the CNode at a place, or in so many others, the first of them at another
 /// place.
@@ -26,42 +31,33 @@ pub struct Site {
     pub leaves: u32,
 }
 
-/// The fault of a plan that has more of a kind than a machine.
-fn too_many(kind: Kind) -> Why {
-    Why::Limit {
-        what: plural(kind),
-        limit: limit_of(kind),
-    }
-}
-
-/// The CNode of this place among CNodes. Limit where there is none.
-fn cnode(place: usize) -> Result<ObjId, Why>
-    ensures ok { IfOk result (λ c. c ≡ cnode_at place) }
-    ensures within { OnOk result (place < 64) }
+/// The CNode of this place among CNodes.
+fn cnode(place: usize) -> ObjId
+    requires { place < cnode_limit }
+    ensures { result ≡ cnode_at place }
 {
-    if place >= CNODES as usize {
-        return Err(too_many(Kind::CNode));
-    }
-    Ok(ObjId {
+    ObjId {
         kind: Kind::CNode,
         serial: place as u32 + 1,
-    })
+    }
 }
 
 impl Site {
     /// The CNode that a slot stands in.
-    fn cnode(self, index: u32) -> Result<ObjId, Why>
-        ensures { IfOk result (λ c. c ≡ cnode_of self index) }
+    fn cnode(self, index: u32) -> ObjId
+        requires within { IsWithin self }
+        requires index { 0 < self.leaves → index / 256 < self.leaves }
+        ensures { result ≡ cnode_of self index }
     {
         if self.leaves == 0 {
             return cnode(self.place);
         }
-        cnode(self.before.saturating_add((index / 256) as usize))
+        cnode(self.before + (index / 256) as usize)
     }
 }
 
 /// So many lines more.
-fn add_times(to: &mut Vec<BootLine>, line: &BootLine, times: u32) -> Result<(), Why>
+fn add_times(to: &mut Vec<BootLine>, line: &BootLine, times: u32) -> Result<(), AllocError>
     ensures { OnOk result (to.new.items ≡ to.old.items ++ replicate times line.now) }
 {
     for _ in 0..times {
@@ -71,14 +67,15 @@ fn add_times(to: &mut Vec<BootLine>, line: &BootLine, times: u32) -> Result<(), 
 }
 
 /// The line that puts a further CNode of a space into its root.
-fn add_link(to: &mut Vec<BootLine>, site: Site, leaf: u32) -> Result<(), Why>
+fn add_link(to: &mut Vec<BootLine>, site: Site, leaf: u32) -> Result<(), AllocError>
+    requires within { IsWithin site }
+    requires leaf { leaf < site.leaves }
     ensures { OnOk result (to.new.items ≡ to.old.items ++ link_lines site leaf) }
 {
-    let next = cnode(site.before.saturating_add(leaf as usize))?;
-    let cnode = cnode(site.place)?;
+    let next = cnode(site.before + leaf as usize);
     if let Some(cap) = bare(next, Guard { bits: 0, value: 0 }) {
         to.push(BootLine::Slot {
-            cnode,
+            cnode: cnode(site.place),
             index: leaf as u8,
             cap,
         })?;
@@ -87,7 +84,8 @@ fn add_link(to: &mut Vec<BootLine>, site: Site, leaf: u32) -> Result<(), Why>
 }
 
 /// The slots of a root that hold capabilities to the further CNodes of its space.
-fn add_links(to: &mut Vec<BootLine>, site: Site) -> Result<(), Why>
+fn add_links(to: &mut Vec<BootLine>, site: Site) -> Result<(), AllocError>
+    requires { IsWithin site }
     ensures { OnOk result (to.new.items ≡ to.old.items ++ each site.leaves (link_lines site)) }
 {
     for leaf in 0..site.leaves {
@@ -118,18 +116,8 @@ impl Laid {
         }
     }
 
-    /// Limit where there are more CNodes than a machine may have.
-    fn has_few_cnodes(&self) -> Result<(), Why>
-        ensures { OnOk result (HasFewCNodes self.now.plan) }
-    {
-        if self.plan.spaces.len() <= CNODES as usize && self.plan.leaves() <= CNODES as u32 {
-            return Ok(());
-        }
-        Err(too_many(Kind::CNode))
-    }
-
     /// The lines that make the roots of spaces.
-    fn make_roots(&self, to: &mut Vec<BootLine>) -> Result<(), Why>
+    fn make_roots(&self, to: &mut Vec<BootLine>) -> Result<(), AllocError>
         ensures { OnOk result
             (to.new.items ≡ to.old.items ++ map root_line self.now.layouts.items) }
     {
@@ -139,20 +127,22 @@ impl Laid {
         Ok(())
     }
 
-    /// The lines that make the objects of a kind, all the same. Limit where they are too many.
-    fn make_objects(&self, to: &mut Vec<BootLine>, kind: Kind, line: &BootLine) -> Result<(), Why>
+    /// The lines that make the objects of a kind, all the same.
+    fn make_objects(
+        &self,
+        to: &mut Vec<BootLine>,
+        kind: Kind,
+        line: &BootLine,
+    ) -> Result<(), AllocError>
+        requires { count_of kind self.now.plan.names ≤ limit_of kind }
         ensures { OnOk result
             (to.new.items ≡ to.old.items ++ replicate (count_of kind self.now.plan.names) line.now) }
     {
-        let count = self.plan.names.count(kind);
-        if count > limit_of(kind) {
-            return Err(too_many(kind));
-        }
-        add_times(to, line, count)
+        add_times(to, line, self.plan.names.count(kind))
     }
 
     /// The lines that make the contexts.
-    fn make_contexts(&self, to: &mut Vec<BootLine>) -> Result<(), Why>
+    fn make_contexts(&self, to: &mut Vec<BootLine>) -> Result<(), AllocError>
         ensures { OnOk result
             (to.new.items ≡ to.old.items ++ map context_line self.now.plan.contexts.items) }
     {
@@ -163,34 +153,37 @@ impl Laid {
     }
 
     /// The line that makes a thread.
-    fn thread_line(&self, thread: &Thread) -> Result<BootLine, Why>
-        ensures { IfOk result (λ l. l ≡ thread_line self.now.layouts.items thread.now) }
+    fn thread_line(&self, thread: &Thread) -> BootLine
+        requires { thread.now.space < cnode_limit }
+        ensures { result ≡ thread_line self.now.layouts.items thread.now }
     {
         let layout = self.layout(thread.space);
         let behind = layout
             .root
             .saturating_add(layout.leaf)
             .saturating_add(layout.within);
-        Ok(BootLine::Thread {
+        BootLine::Thread {
             priority: thread.priority,
             maximum: thread.maximum,
-            root: cnode(thread.space)?,
+            root: cnode(thread.space),
             guard: Guard {
                 bits: 64u8.saturating_sub(behind),
                 value: 0,
             },
             runs: thread.runs,
             context: thread.context,
-        })
+        }
     }
 
     /// The lines that make the threads.
-    fn make_threads(&self, to: &mut Vec<BootLine>) -> Result<(), Why>
+    #[tactic(auto, using(crate::proofs::Limits::housed_at))]
+    fn make_threads(&self, to: &mut Vec<BootLine>) -> Result<(), AllocError>
+        requires { are_housed self.now.plan.threads.items ≡ true }
         ensures { OnOk result (to.new.items ≡
             to.old.items ++ map (thread_line self.now.layouts.items) self.now.plan.threads.items) }
     {
         for thread in &self.plan.threads {
-            to.push(self.thread_line(thread)?)?;
+            to.push(self.thread_line(thread))?;
         }
         Ok(())
     }
@@ -202,7 +195,9 @@ impl Laid {
         site: Site,
         index: u32,
         cap: Option<Cap>,
-    ) -> Result<(), Why>
+    ) -> Result<(), AllocError>
+        requires within { IsWithin site }
+        requires index { 0 < site.leaves → index / 256 < site.leaves }
         ensures { OnOk result
             (to.new.items ≡ to.old.items ++ slot_lines self.now.layouts.items site index cap) }
     {
@@ -210,7 +205,7 @@ impl Laid {
             return Ok(());
         };
         to.push(BootLine::Slot {
-            cnode: site.cnode(index)?,
+            cnode: site.cnode(index),
             index: (index % 256) as u8,
             cap: self.guarded(site.place, &cap),
         })?;
@@ -218,7 +213,10 @@ impl Laid {
     }
 
     /// The lines that fill the slots of a space.
-    fn add_slots(&self, to: &mut Vec<BootLine>, site: Site, space: &Space) -> Result<(), Why>
+    #[tactic(auto, using(crate::proofs::Limits::leaf_within))]
+    fn add_slots(&self, to: &mut Vec<BootLine>, site: Site, space: &Space) -> Result<(), AllocError>
+        requires within { IsWithin site }
+        requires leaves { site.leaves ≡ leaves_of space.now }
         ensures { OnOk result (to.new.items ≡ to.old.items ++ each (slot_count space.now)
             (λ i. slot_lines self.now.layouts.items site i (cap_at space.now i))) }
     {
@@ -229,7 +227,9 @@ impl Laid {
     }
 
     /// The lines that fill a space.
-    fn fill(&self, to: &mut Vec<BootLine>, site: Site, space: &Space) -> Result<(), Why>
+    fn fill(&self, to: &mut Vec<BootLine>, site: Site, space: &Space) -> Result<(), AllocError>
+        requires within { IsWithin site }
+        requires leaves { site.leaves ≡ leaves_of space.now }
         ensures { OnOk result
             (to.new.items ≡ to.old.items ++ space_lines self.now.layouts.items site space.now) }
     {
@@ -238,7 +238,7 @@ impl Laid {
     }
 
     /// The lines that fill all spaces.
-    fn fill_all(&self, to: &mut Vec<BootLine>) -> Result<(), Why>
+    fn fill_all(&self, to: &mut Vec<BootLine>) -> Result<(), AllocError>
         requires { HasFewCNodes self.now.plan }
         ensures { OnOk result (to.new.items ≡ to.old.items ++ each (length self.now.plan.spaces.items)
             (λ p. filling self.now.layouts.items self.now.plan.spaces.items p
@@ -259,7 +259,7 @@ impl Laid {
     }
 
     /// The lines that bind notifications to threads.
-    fn bind_all(&self, to: &mut Vec<BootLine>) -> Result<(), Why>
+    fn bind_all(&self, to: &mut Vec<BootLine>) -> Result<(), AllocError>
         ensures { OnOk result
             (to.new.items ≡ to.old.items ++ map tie_line self.now.plan.ties.items) }
     {
@@ -272,11 +272,11 @@ impl Laid {
         Ok(())
     }
 
-    /// The lines of the boot, behind that of its cores. Limit where there are more objects than a machine may have.
-    pub fn boot_lines(&self, alloc: Global) -> Result<Vec<BootLine>, Why>
+    /// The lines of a boot that a machine may have, behind that of its cores.
+    fn lines(&self, alloc: Global) -> Result<Vec<BootLine>, AllocError>
+        requires { Fits self.now.plan }
         ensures { IfOk result (λ ls. ls.items ≡ boot_of self.now.plan self.now.layouts.items) }
     {
-        self.has_few_cnodes()?;
         let mut lines = Vec::new(alloc);
         let to = &mut lines;
         self.make_roots(to)?;
@@ -289,5 +289,15 @@ impl Laid {
         self.fill_all(to)?;
         self.bind_all(to)?;
         Ok(lines)
+    }
+
+    /// The lines of the boot, behind that of its cores. Limit where it makes more of a kind than a machine may have.
+    pub fn boot_lines(&self, alloc: Global) -> Result<Vec<BootLine>, Why>
+        ensures made { IfOk result (λ ls. ls.items ≡ boot_of self.now.plan self.now.layouts.items) }
+        ensures fits { OnOk result (boot_fits (said self.now.plan) ≡ Ok tt) }
+        ensures told { IfErr result (Refuses (boot_fits (said self.now.plan))) }
+    {
+        fits(&self.plan)?;
+        Ok(self.lines(alloc)?)
     }
 }

@@ -3,11 +3,14 @@ ghost use Rattle.std.specs.Prelude.{◌≡◌, None, Some, Ok, IfOk, IfErr, find
 ghost use Rattle.std.specs.Option.{unwrap_or};
 ghost use Rattle.mcs_laying.specs.Naming.{is_row, named_by, cores_of};
 ghost use Rattle.mcs_laying.specs.Starting.{IsStarted, first_line, RefusesStarter};
-ghost use Rattle.mcs_laying.specs.Unnamed.{Tells, cap_in, cnode_held, space_behind, inner_in, named_read, no_inner, outer_in, unnamed};
+ghost use Rattle.mcs_laying.specs.Unnamed.{Tells, cap_in, cnode_held, inner_in, named_read, no_inner, outer_in, unnamed};
+ghost use Rattle.mcs_laying.specs.Laid.{IsLaid, laid_said};
+ghost use Rattle.mcs_laying.specs.Tables.{row_of};
 ghost use Rattle.mcs_plans.specs.Refusals.{Refuses, no_capability};
-ghost use Rattle.mcs_plans.specs.Saying.{said};
+ghost use Rattle.mcs_plans.specs.Saying.{said, said_space};
 
 use crate::layouts::layouts_of;
+use crate::spaces::{has_slot, space_at, space_behind};
 use crate::starter::add_starter;
 use crate::tables::Named;
 use mcs_names::{PlanFault, Why, not};
@@ -93,7 +96,7 @@ fn parts_of<'a>(word: &'a str) -> (&'a str, Option<&'a str>)
 
 /// The capability that the slot of this name holds.
 fn cap_in(space: &Space, name: &str) -> Option<Cap>
-    ensures { result ≡ cap_in space.now name.now }
+    ensures { result ≡ cap_in (said_space space.now) name.now }
 {
     match space.slots.get(name) {
         Some(slot) => slot.cap,
@@ -115,7 +118,8 @@ fn no_slot(alloc: Global, space: &Space, holder: &str, name: &str) -> Result<Why
 impl Laid {
     /// The layouts and the names of a plan that has the thread which it needs.
     fn with_layouts(alloc: Global, plan: Plan) -> Result<Laid, AllocError>
-        ensures { IfOk result (λ laid. laid.plan ≡ plan) }
+        ensures plan { IfOk result (λ laid. laid.plan ≡ plan) }
+        ensures laid { IfOk result IsLaid }
     {
         let layouts = layouts_of(alloc, &plan.spaces)?;
         let mut laid = Laid {
@@ -131,6 +135,7 @@ impl Laid {
     /// a name already.
     pub fn new(alloc: Global, plan: Plan) -> Result<Laid, PlanFault>
         ensures plan { IfOk result (λ laid. IsStarted (said plan) (said laid.plan)) }
+        ensures laid { IfOk result IsLaid }
         ensures told { IfErr result (RefusesStarter (said plan)) }
     {
         let plan = started(alloc, plan)?;
@@ -174,8 +179,11 @@ impl Laid {
 
     /// What a thread names by a word. NoCapability or Not where it has none of that name.
     pub fn named(&self, alloc: Global, thread: ObjId, word: &str) -> Result<&Named, Why>
-        ensures found { IfOk result (λ n. named_read self.now thread word.now ≡ Ok n.now) }
-        ensures told { IfErr result (Refuses (named_read self.now thread word.now)) }
+        ensures found { IfOk result
+            (λ n. named_by self.now.tables.items thread word.now ≡ Some n.now) }
+        ensures read { IfOk result
+            (λ n. named_read (laid_said self.now) thread word.now ≡ Ok (row_of n.now)) }
+        ensures told { IfErr result (Refuses (named_read (laid_said self.now) thread word.now)) }
     {
         match self.find(thread, word) {
             Some(named) => Ok(named),
@@ -185,13 +193,13 @@ impl Laid {
 
     /// The fault of a word that names nothing.
     fn unnamed(&self, alloc: Global, thread: ObjId, word: &str) -> Result<Why, AllocError>
-        ensures { IfOk result (Tells (unnamed self.now.plan thread word.now)) }
+        ensures { IfOk result (Tells (unnamed (said self.now.plan) thread word.now)) }
     {
-        let Some(space) = self.plan.spaces.get(self.plan.space_of(thread)) else {
+        let Some(space) = space_at(&self.plan.spaces, self.plan.space_of(thread)) else {
             return Ok(not(alloc, word, "a capability"));
         };
         let (outer, inner) = parts_of(word);
-        if !space.has(outer) {
+        if !has_slot(space, outer) {
             let holder = self.plan.names.name_of(thread);
             return no_slot(alloc, space, holder, outer);
         }
@@ -209,8 +217,8 @@ impl Laid {
         outer: &str,
         name: &str,
     ) -> Result<Why, AllocError>
-        ensures { IfOk result (Tells (no_inner self.now.plan outer.now name.now
-            (cnode_held self.now.plan.spaces.items space.now outer.now))) }
+        ensures { IfOk result (Tells (no_inner self.now.plan.names outer.now name.now
+            (cnode_held (said self.now.plan).spaces (said_space space.now) outer.now))) }
     {
         match self.held_by(space, outer) {
             Some((cnode, held)) => no_slot(alloc, held, self.plan.names.name_of(cnode), name),
@@ -218,20 +226,13 @@ impl Laid {
         }
     }
 
-    /// The space whose root is a CNode.
-    fn space_behind(&self, cnode: ObjId) -> Option<&Space>
-        ensures { option_copied result ≡ space_behind self.now.plan.spaces.items cnode }
-    {
-        self.plan.spaces.get(cnode.place(Kind::CNode)?)
-    }
-
     /// The CNode that a slot holds a capability to, and its space.
     fn held_by(&self, space: &Space, name: &str) -> Option<(ObjId, &Space)>
         ensures { option_map (λ h. h.0) result
-            ≡ cnode_held self.now.plan.spaces.items space.now name.now }
+            ≡ cnode_held (said self.now.plan).spaces (said_space space.now) name.now }
     {
         let cap = cap_in(space, name)?;
-        let held = self.space_behind(cap.obj)?;
+        let held = space_behind(&self.plan.spaces, cap.obj)?;
         Some((cap.obj, held))
     }
 }

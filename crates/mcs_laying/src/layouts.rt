@@ -1,59 +1,120 @@
 //! A layout for each space.
+ghost use Rattle.std.specs.Prelude.{◌≡◌, ◌≤◌, ◌+◌, IfOk, map, slice_get};
+ghost use Rattle.mcs_plans.specs.Saying.{said_space};
+ghost use Rattle.mcs_laying.specs.Layouts.{bits_for, layout_of_slots, own_layout, own_bits, bits_held, bits_at, bits_within, layout_among, layouts_of};
+
+use crate::spaces::{slot_at, slot_count, space_behind};
 use mcs_plans::Space;
-use mcs_spaces::Layout;
-use mcs_types::Kind;
+use mcs_spaces::{LEAF, Layout};
+use mcs_types::Cap;
 use std::alloc::{AllocError, Global};
 
-/// How the slots of a space are laid out, with no bits behind them.
-fn own_layout(space: &Space) -> Layout {
-    match space.radix {
-        Some(radix) => Layout::of_radix(radix),
-        None => Layout::of_slots(space.slots()),
+/// How many bits name one of so many things: as few as do, from 1 to 8.
+fn bits_for(count: u32) -> u8
+    ensures value { result ≡ bits_for count }
+    ensures few { result ≤ 8 }
+{
+    match count {
+        0..=2 => 1,
+        3..=4 => 2,
+        5..=8 => 3,
+        9..=16 => 4,
+        17..=32 => 5,
+        33..=64 => 6,
+        65..=128 => 7,
+        _ => 8,
     }
 }
 
-/// The layout of the space that a slot holds a capability to.
-fn held(layouts: &[Layout], place: Option<usize>) -> u8 {
-    let Some(place) = place else {
+/// The layout of so many slots: one CNode for up to 256 of them.
+fn layout_of_slots(slots: u32) -> Layout
+    ensures value { result ≡ layout_of_slots slots }
+    ensures few { result.root + result.leaf ≤ 16 }
+{
+    if slots <= 256 {
+        return Layout::of_radix(bits_for(slots));
+    }
+    Layout {
+        root: bits_for((slots - 1) / 256 + 1),
+        leaf: LEAF,
+        within: 0,
+    }
+}
+
+/// How the slots of a space are laid out, with no bits behind them.
+fn own_layout(space: &Space) -> Layout
+    ensures value { result ≡ own_layout (said_space space.now) }
+    ensures few { result.root + result.leaf ≤ 255 }
+{
+    match space.radix {
+        Some(radix) => Layout::of_radix(radix),
+        None => layout_of_slots(space.slots()),
+    }
+}
+
+/// How many bits name one of its slots.
+fn own_bits(space: &Space) -> u8
+    ensures { result ≡ own_bits (said_space space.now) }
+{
+    let layout = own_layout(space);
+    layout.root + layout.leaf
+}
+
+/// How many bits name a slot of the CNode that a slot holds a capability to.
+fn bits_held(spaces: &[Space], cap: Option<Cap>) -> u8
+    ensures { result ≡ bits_held (map said_space spaces.now) cap }
+{
+    let Some(cap) = cap else {
         return 0;
     };
-    match layouts.get(place) {
-        Some(layout) => layout.root.saturating_add(layout.leaf),
+    match space_behind(spaces, cap.obj) {
+        Some(space) => own_bits(space),
+        None => 0,
+    }
+}
+
+/// How many bits the slot at an index, from 0, needs so.
+fn bits_at(spaces: &[Space], space: &Space, index: usize) -> u8
+    ensures { result ≡ bits_at (map said_space spaces.now)
+        (slice_get (said_space space.now).slots index) }
+{
+    match slot_at(space, index) {
+        Some((_, slot)) => bits_held(spaces, slot.cap),
         None => 0,
     }
 }
 
 /// How many bits the slots of the CNodes need that a space holds capabilities to.
-fn within(space: &Space, layouts: &[Layout]) -> u8 {
+#[tactic(auto, using(crate::proofs::Most::most_more))]
+fn bits_within(spaces: &[Space], space: &Space) -> u8
+    ensures { result ≡ bits_within (map said_space spaces.now) (said_space space.now) }
+{
     let mut most: u8 = 0;
-    for slot in space.slots.values() {
-        if let Some(cap) = &slot.cap {
-            most = held(layouts, cap.obj.place(Kind::CNode)).max(most);
-        }
+    for index in 0..slot_count(space) {
+        most = bits_at(spaces, space, index).max(most);
     }
     most
 }
 
-/// The layouts of all spaces, with no bits behind them.
-fn own_layouts(alloc: Global, spaces: &[Space]) -> Result<Vec<Layout>, AllocError> {
-    let mut layouts = Vec::new(alloc);
-    for space in spaces {
-        layouts.push(own_layout(space))?;
+/// The layout of a space among all.
+fn layout_among(spaces: &[Space], space: &Space) -> Layout
+    ensures { result ≡ layout_among (map said_space spaces.now) (said_space space.now) }
+{
+    let own = own_layout(space);
+    Layout {
+        root: own.root,
+        leaf: own.leaf,
+        within: bits_within(spaces, space),
     }
-    Ok(layouts)
 }
 
 /// The layouts of all spaces.
-pub fn layouts_of(alloc: Global, spaces: &[Space]) -> Result<Vec<Layout>, AllocError> {
-    let own = own_layouts(alloc, spaces)?;
+pub fn layouts_of(alloc: Global, spaces: &[Space]) -> Result<Vec<Layout>, AllocError>
+    ensures { IfOk result (λ layouts. layouts.items ≡ layouts_of (map said_space spaces.now)) }
+{
     let mut layouts = Vec::new(alloc);
     for space in spaces {
-        let layout = own_layout(space);
-        layouts.push(Layout {
-            root: layout.root,
-            leaf: layout.leaf,
-            within: within(space, own.as_slice()),
-        })?;
+        layouts.push(layout_among(spaces, space))?;
     }
     Ok(layouts)
 }

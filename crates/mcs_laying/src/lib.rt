@@ -10,8 +10,10 @@
 #![tactic(auto)]
 
 mod boot;
+mod fitting;
 mod laid;
 mod layouts;
+mod spaces;
 mod starter;
 mod tables;
 

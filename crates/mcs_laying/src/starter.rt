@@ -2,10 +2,11 @@
 ghost use Rattle.std.specs.Prelude.{◌≡◌, Some, None, Ok, IfOk, IfErr, OnOk};
 ghost use Rattle.mcs_names.specs.declared.fault.Why.TheVariants as why;
 ghost use Rattle.mcs_names.specs.Naming.{next_of};
+ghost use Rattle.mcs_types.specs.declared.id.Kind.TheVariants as kind;
 ghost use Rattle.mcs_plans.specs.Refusals.{Refuses};
 ghost use Rattle.mcs_plans.specs.Saying.{said, said_space, with_name, with_thread};
 ghost use Rattle.mcs_laying.specs.Boot.{bare};
-ghost use Rattle.mcs_laying.specs.Starting.{name_more, names_started, own_context, starter_with, with_parts, AddsStarter};
+ghost use Rattle.mcs_laying.specs.Starting.{name_more, names_started, own_context, with_held, with_context_of, space_started, starter_with, with_parts, AddsStarter};
 
 use indexmap::IndexMap;
 use mcs_names::{Names, Why};
@@ -33,8 +34,9 @@ pub fn bare(obj: ObjId, guard: Guard) -> Option<Cap>
 }
 
 /// A slot that holds a capability to this object under its name.
+#[tactic(auto, using(crate::proofs::Started::put_held))]
 fn add_slot(alloc: Global, space: &mut Space, obj: ObjId, name: &str) -> Result<(), AllocError>
-    ensures { space.new.radix ≡ space.old.radix }
+    ensures { OnOk result (said_space space.new ≡ with_held name.now obj (said_space space.old)) }
 {
     let slot = Slot {
         cap: bare(obj, Guard { bits: 0, value: 0 }),
@@ -44,16 +46,31 @@ fn add_slot(alloc: Global, space: &mut Space, obj: ObjId, name: &str) -> Result<
     Ok(())
 }
 
+/// The slot of the context of a thread, where it has one.
+fn add_context(
+    alloc: Global,
+    space: &mut Space,
+    plan: &Plan,
+    thread: ObjId,
+) -> Result<(), AllocError>
+    ensures { OnOk result (said_space space.new
+        ≡ with_context_of (said plan.now) thread (said_space space.old)) }
+{
+    match plan.context_of(thread) {
+        Some(context) => add_slot(alloc, space, context, plan.names.name_of(context)),
+        None => Ok(()),
+    }
+}
+
 /// Its space: the contexts of all passive threads, and itself.
+#[tactic(auto, using(crate::proofs::Started::context_more, crate::proofs::Started::no_slots))]
 fn space_of(alloc: Global, plan: &Plan, starter: ObjId) -> Result<Space, Why>
-    ensures radix { IfOk result (λ s. s.radix ≡ None) }
+    ensures space { IfOk result (λ s. said_space s ≡ space_started (said plan.now) starter) }
     ensures told { IfErr result (λ w. w ≡ why.OutOfMemory) }
 {
     let mut space = Space::new(alloc, None);
     for passive in &plan.passives {
-        if let Some(context) = plan.context_of(passive.thread) {
-            add_slot(alloc, &mut space, context, plan.names.name_of(context))?;
-        }
+        add_context(alloc, &mut space, plan, passive.thread)?;
     }
     add_slot(alloc, &mut space, starter, STARTER)?;
     Ok(space)
@@ -72,6 +89,7 @@ fn add_name(alloc: Global, names: &mut Names, kind: Kind, name: &str) -> Result<
 /// Gives it its names, and returns it and its context. Twice where one of them is there already.
 fn add_names(alloc: Global, names: &mut Names) -> Result<(ObjId, ObjId), Why>
     ensures added { OnOk result (names_started names.old ≡ Ok names.new) }
+    ensures thread { IfOk result (λ o. o.0 ≡ next_of kind.Thread names.old) }
     ensures context { IfOk result (λ o. o.1 ≡ own_context names.old) }
     ensures told { IfErr result (Refuses (names_started names.old)) }
 {

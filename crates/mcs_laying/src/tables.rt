@@ -1,6 +1,14 @@
 //! What each thread can name.
+ghost use Rattle.std.specs.Prelude.{◌≡◌, ◌<◌, ◌≤◌, ◌+◌, ◌++◌, ◌∷◌, ◌^◌, [], true, IfOk, OnOk, map, slice_get, string_bytes};
+ghost use Rattle.mcs_plans.specs.Saying.{said, said_space};
+ghost use Rattle.mcs_spaces.specs.Layouts.{IsLaidOut};
+ghost use Rattle.mcs_laying.specs.Tables.{row_of, rows_of, table_rows, row_at, held_then, has_slot, address_in, path_of, inner_row, inner_slot, inner_rows};
+ghost use Rattle.mcs_laying.specs.Tables.{rows_behind, own_rows, table_of, tables_by};
+
 use crate::laid::Laid;
-use mcs_plans::Slot;
+use crate::spaces::{slot_at, slot_count, space_at};
+use mcs_plans::{Slot, Space};
+use mcs_spaces::Layout;
 use mcs_types::{Cap, Kind, Place};
 use std::alloc::{AllocError, Global};
 
@@ -17,100 +25,222 @@ pub struct Named {
     pub place: Place,
 }
 
+/// A space that is held under another name: that name, the address of its slot 0, and its place.
+#[derive(Clone, Copy)]
+struct Held<'a> {
+    outer: &'a str,
+    first: u64,
+    space: usize,
+}
+
 /// A name in a space that is held under another name.
-fn path_of(alloc: Global, outer: &str, inner: &str) -> Result<String, AllocError> {
+fn path_of(alloc: Global, outer: &str, inner: &str) -> Result<String, AllocError>
+    ensures { IfOk result (λ path. string_bytes path ≡ path_of outer.now inner.now) }
+{
     let mut path = String::from_str(alloc, outer)?;
     path.push_str("/")?;
     path.push_str(inner)?;
     Ok(path)
 }
 
+/// Whether a space is laid out so, and has a slot of this index.
+#[tactic(auto, using(crate::proofs::Addresses::few_slots))]
+fn has_slot(layout: &Layout, index: usize) -> bool
+    ensures value { result ≡ has_slot layout.now index }
+    ensures laid_out { result ≡ true → IsLaidOut layout.now }
+    ensures within { result ≡ true → index < 2 ^ (layout.now.root + layout.now.leaf) }
+    ensures few { result ≡ true → index < 65536 }
+{
+    if layout.root < 1 || layout.root > 8 || layout.leaf > 8 || layout.within > 16 {
+        return false;
+    }
+    index < 1usize << (layout.root + layout.leaf)
+}
+
+/// The address of a slot.
+#[tactic(auto, using(crate::proofs::Addresses::address_few))]
+fn address_in(layout: &Layout, index: u32) -> u64
+    requires laid_out { IsLaidOut layout.now }
+    requires within { index < 2 ^ (layout.now.root + layout.now.leaf) }
+    ensures value { result ≡ address_in layout.now index }
+    ensures few { result < 2 ^ 63 }
+{
+    layout.address(index)
+}
+
+/// A row more.
+#[tactic(auto, using(crate::proofs::MoreRows::row_more))]
+fn push(to: &mut Vec<Named>, named: Named) -> Result<(), AllocError>
+    ensures { OnOk result (rows_of to.new.items ≡ rows_of to.old.items ++ row_of named ∷ []) }
+{
+    to.push(named)?;
+    Ok(())
+}
+
 impl Laid {
     /// What a slot of a space holds when the boot has ended.
-    fn held(&self, space: usize, slot: &Slot) -> Option<Cap> {
+    fn held(&self, space: usize, slot: &Slot) -> Option<Cap>
+        ensures { result ≡ held_then self.now.layouts.items space slot.now.cap }
+    {
         match &slot.cap {
             Some(cap) => Some(self.guarded(space, cap)),
             None => None,
         }
     }
 
-    /// The names of the slots of a space that is held under this name, whose slot 0 has this address.
+    /// The row of a slot at this address, in a space that is held under another name.
+    fn inner_row(
+        &self,
+        alloc: Global,
+        held: Held<'_>,
+        address: u64,
+        name: &str,
+        slot: &Slot,
+    ) -> Result<Named, AllocError>
+        ensures { IfOk result (λ n. row_of n ≡ inner_row self.now.layouts.items
+            held.entry.outer.now held.entry.space address name.now slot.now.cap) }
+    {
+        Ok(Named {
+            name: path_of(alloc, held.outer, name)?,
+            written: slot.written.clone()?,
+            cap: self.held(held.space, slot),
+            address,
+            place: Place {
+                index: address,
+                depth: 64,
+            },
+        })
+    }
+
+    /// The row of the slot at an index, from 0, of a space that is held under another name.
+    fn add_inner_slot(
+        &self,
+        alloc: Global,
+        to: &mut Vec<Named>,
+        held: Held<'_>,
+        space: &Space,
+        index: usize,
+    ) -> Result<(), AllocError>
+        requires first { held.first < 2 ^ 63 }
+        requires index { index < 2 ^ 63 }
+        ensures { OnOk result (rows_of to.new.items ≡ rows_of to.old.items
+            ++ row_at (inner_slot self.now.layouts.items held.entry.outer.now held.entry.first
+            held.entry.space) index (slice_get (said_space space.now).slots index)) }
+    {
+        let Some((name, slot)) = slot_at(space, index) else {
+            return Ok(());
+        };
+        let address = held.first + (index as u64 + 1);
+        let named = self.inner_row(alloc, held, address, name, slot)?;
+        push(to, named)
+    }
+
+    /// The rows of a space that is held under another name.
     fn add_inner(
+        &self,
+        alloc: Global,
+        to: &mut Vec<Named>,
+        held: Held<'_>,
+    ) -> Result<(), AllocError>
+        requires { held.first < 2 ^ 63 }
+        ensures { OnOk result (rows_of to.new.items ≡ rows_of to.old.items
+            ++ inner_rows self.now.layouts.items held.entry.outer.now held.entry.first
+            held.entry.space (slice_get (said self.now.plan).spaces held.entry.space)) }
+    {
+        let Some(space) = space_at(&self.plan.spaces, held.space) else {
+            return Ok(());
+        };
+        for index in 0..slot_count(space) {
+            self.add_inner_slot(alloc, to, held, space, index)?;
+        }
+        Ok(())
+    }
+
+    /// The rows behind a slot: those of the CNode that it holds a capability to.
+    fn add_behind(
         &self,
         alloc: Global,
         to: &mut Vec<Named>,
         outer: &str,
         first: u64,
-        space: usize,
-    ) -> Result<(), AllocError> {
-        let Some(held) = self.plan.spaces.get(space) else {
-            return Ok(());
-        };
-        let mut index: u64 = 0;
-        for (name, slot) in held.slots.iter() {
-            index = index.saturating_add(1);
-            let address = first.saturating_add(index);
-            to.push(Named {
-                name: path_of(alloc, outer, name.as_str())?,
-                written: slot.written.clone()?,
-                cap: self.held(space, slot),
-                address,
-                place: Place {
-                    index: address,
-                    depth: 64,
-                },
-            })?;
-        }
-        Ok(())
-    }
-
-    /// The name of a slot of a space, and those behind it where it holds a capability to another space.
-    fn add_own(
-        &self,
-        alloc: Global,
-        to: &mut Vec<Named>,
-        space: usize,
-        index: u32,
-        name: &str,
-        slot: &Slot,
-    ) -> Result<(), AllocError> {
-        let layout = self.layout(space);
-        if !layout.has(index) {
-            return Ok(());
-        }
-        let address = layout.address(index);
-        to.push(Named {
-            name: String::from_str(alloc, name)?,
-            written: slot.written.clone()?,
-            cap: self.held(space, slot),
-            address,
-            place: layout.place(index),
-        })?;
-        let Some(cap) = &slot.cap else {
+        cap: Option<Cap>,
+    ) -> Result<(), AllocError>
+        requires { first < 2 ^ 63 }
+        ensures { OnOk result (rows_of to.new.items ≡ rows_of to.old.items ++ rows_behind
+            self.now.layouts.items (said self.now.plan).spaces outer.now first cap) }
+    {
+        let Some(cap) = cap else {
             return Ok(());
         };
         match cap.obj.place(Kind::CNode) {
-            Some(inner) => self.add_inner(alloc, to, name, address, inner),
+            Some(space) => self.add_inner(
+                alloc,
+                to,
+                Held {
+                    outer,
+                    first,
+                    space,
+                },
+            ),
             None => Ok(()),
         }
     }
 
+    /// The row of the slot at an index, from 0, of the space at a place, and those behind it.
+    #[tactic(auto, using(crate::proofs::MoreRows::behind_one))]
+    fn add_own(
+        &self,
+        alloc: Global,
+        to: &mut Vec<Named>,
+        place: usize,
+        space: &Space,
+        index: usize,
+    ) -> Result<(), AllocError>
+        requires { index < 2 ^ 63 }
+        ensures { OnOk result (rows_of to.new.items ≡ rows_of to.old.items
+            ++ row_at (own_rows self.now.layouts.items (said self.now.plan).spaces place) index
+            (slice_get (said_space space.now).slots index)) }
+    {
+        let Some((name, slot)) = slot_at(space, index) else {
+            return Ok(());
+        };
+        let layout = self.layout(place);
+        if !has_slot(&layout, index + 1) {
+            return Ok(());
+        }
+        let number = index as u32 + 1;
+        let address = address_in(&layout, number);
+        let own = Named {
+            name: String::from_str(alloc, name)?,
+            written: slot.written.clone()?,
+            cap: self.held(place, slot),
+            address,
+            place: layout.place(number),
+        };
+        push(to, own)?;
+        self.add_behind(alloc, to, name, address, slot.cap)
+    }
+
     /// The names of a thread with this space.
-    fn table(&self, alloc: Global, place: usize) -> Result<Vec<Named>, AllocError> {
+    fn table(&self, alloc: Global, place: usize) -> Result<Vec<Named>, AllocError>
+        ensures { IfOk result (λ table. rows_of table.items
+            ≡ table_of self.now.layouts.items (said self.now.plan).spaces place) }
+    {
         let mut table = Vec::new(alloc);
-        let Some(space) = self.plan.spaces.get(place) else {
+        let Some(space) = space_at(&self.plan.spaces, place) else {
             return Ok(table);
         };
-        let mut index: u32 = 0;
-        for (name, slot) in space.slots.iter() {
-            index = index.saturating_add(1);
-            self.add_own(alloc, &mut table, place, index, name.as_str(), slot)?;
+        for index in 0..slot_count(space) {
+            self.add_own(alloc, &mut table, place, space, index)?;
         }
         Ok(table)
     }
 
     /// The names of each thread.
-    pub fn tables_of(&self, alloc: Global) -> Result<Vec<Vec<Named>>, AllocError> {
+    pub fn tables_of(&self, alloc: Global) -> Result<Vec<Vec<Named>>, AllocError>
+        ensures { IfOk result (λ tables. table_rows tables.items
+            ≡ tables_by self.now.layouts.items (said self.now.plan)) }
+    {
         let mut tables = Vec::new(alloc);
         for thread in &self.plan.threads {
             tables.push(self.table(alloc, thread.space)?)?;

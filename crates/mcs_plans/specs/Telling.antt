@@ -1,15 +1,10 @@
--- What is told of a slot that is refused, or is not there.
+-- What is told of a slot that is refused.
 use Rattle.std.specs.Prelude.{◌≡◌, ◌≤◌, ℕ, List, None, IsSome, length, string_bytes}
 use Rattle.mcs_names.specs.declared.fault.Why.{Why}
 use Rattle.mcs_names.specs.declared.fault.Why.TheVariants as why
 use Rattle.mcs_names.specs.Naming.{find}
 use Rattle.mcs_plans.specs.declared.plan.Space.{Space}
 use Rattle.mcs_plans.specs.Slots.{slots_of, most_slots}
-
--- the fault of a word that names no slot of a space, which it tells
-abbrev pub TellsNoCapability : List ℕ → Why → Type 0
-TellsNoCapability word (why.NoCapability holder told there) = string_bytes told ≡ word
-TellsNoCapability word _ = ⊥
 
 -- why a space may not have a slot more of this name: each fault exactly where the one before it does not hold
 abbrev pub MayNotHave : Space → List ℕ → Why → Type 0

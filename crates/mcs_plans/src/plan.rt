@@ -7,7 +7,7 @@ ghost use Rattle.mcs_plans.specs.Making.{all_leaves, is_of_thread, of_starter, o
 ghost use Rattle.mcs_plans.specs.Order.{IsInOrder, IsWhole};
 ghost use Rattle.mcs_plans.specs.Refusals.{Refuses};
 ghost use Rattle.mcs_plans.specs.Slots.{most_slots, slots_of, slot_count, cap_at, leaves_of, AddsSlot};
-ghost use Rattle.mcs_plans.specs.Telling.{TellsNoCapability, MayNotHave};
+ghost use Rattle.mcs_plans.specs.Telling.{MayNotHave};
 ghost use Rattle.mcs_plans.specs.Threads.{thread_in, space_of};
 
 use indexmap::IndexMap;
@@ -183,17 +183,6 @@ impl Space {
             add_word(&mut there, slot.written.as_str())?;
         }
         Ok(there)
-    }
-
-    /// NoCapability: it has no slot of this name.
-    pub fn no_capability(&self, alloc: Global, holder: &str, word: &str) -> Result<Why, AllocError>
-        ensures { IfOk result (TellsNoCapability word.now) }
-    {
-        Ok(Why::NoCapability {
-            holder: String::from_str(alloc, holder)?,
-            word: String::from_str(alloc, word)?,
-            there: self.listed(alloc)?,
-        })
     }
 }
 

@@ -13,5 +13,5 @@ returns-in_err-laid-clause-told c =
 pub returns-clause-told : goal.returns-clause-told
 returns-clause-told c =
     IfErr-weaker c.compile_laid.result _ _
-    (λ fault told. refused_behind (texts c.args.lines.now) (said c.in_ok-plan.plan) c.in_ok-laid.laid fault c.in_ok-plan.ensures.said c.in_ok-laid.ensures.plan told)
+    (λ fault told. refused_behind (texts c.args.lines.now) (said c.in_ok-plan.plan) c.in_ok-laid.laid fault c.in_ok-plan.ensures.said c.in_ok-laid.ensures.plan c.in_ok-laid.ensures.laid told)
     c.compile_laid.ensures.told
