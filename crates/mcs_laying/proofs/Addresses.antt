@@ -11,9 +11,3 @@ address_few l index laid inside =
     let below : index * 2 ^ l.within + 0 < 2 ^ (l.root + l.leaf + l.within) = front-below index (l.root + l.leaf) l.within 0 inside (pow_pos l.within) in
     let most : 2 ^ (l.root + l.leaf + l.within) ≤ 2 ^ 63 = pow_mono {j = 63} (omega (arith, laid.root, laid.leaf, laid.within)) in
     omega (arith, below, most)
-
--- a space has no more slots than this
-pub few_slots : (l : Layout) (index : ℕ) → IsLaidOut l → index < 2 ^ (l.root + l.leaf) → index < 65536
-few_slots l index laid inside =
-    let most : 2 ^ (l.root + l.leaf) ≤ 2 ^ 16 = pow_mono {j = 16} (omega (arith, laid.root, laid.leaf)) in
-    omega (arith, inside, most)

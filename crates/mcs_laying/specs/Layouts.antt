@@ -1,5 +1,5 @@
 -- How the spaces of a plan are laid out (own).
-use Rattle.std.specs.Prelude.{◌+◌, ◌-◌, ◌/◌, ℕ, List, Option, Some, None, length, map, fold, min, max, nat_le, slice_get, option_map, option_and_then, if◌then◌else◌}
+use Rattle.std.specs.Prelude.{◌+◌, ℕ, List, Option, Some, None, length, map, fold, min, max, slice_get, option_map, option_and_then}
 use Rattle.std.specs.Option.{unwrap_or}
 use Rattle.mcs_types.specs.declared.id.ObjId.{ObjId}
 use Rattle.mcs_types.specs.declared.id.Kind.TheVariants as kind
@@ -8,29 +8,7 @@ use Rattle.mcs_types.specs.Ids.{place_of}
 use Rattle.mcs_names.specs.Naming.{ByName}
 use Rattle.mcs_plans.specs.Saying.{SaidSpace}
 use Rattle.mcs_spaces.specs.declared.layout.Layout.{Layout}
-use Rattle.mcs_spaces.specs.declared.layout.TheConstants.{LEAF}
-
--- how many bits name one of so many things: as few as do, from 1 to 8
-abbrev pub bits_for : ℕ → ℕ
-bits_for count =
-    if nat_le count 2 then 1
-    else if nat_le count 4 then 2
-    else if nat_le count 8 then 3
-    else if nat_le count 16 then 4
-    else if nat_le count 32 then 5
-    else if nat_le count 64 then 6
-    else if nat_le count 128 then 7
-    else 8
-
--- the layout of a space that is one CNode, of this radix
-abbrev pub layout_of_radix : ℕ → Layout
-layout_of_radix radix = record { root = radix; leaf = 0; within = 0 }
-
--- the layout of so many slots: one CNode for up to 256 of them, and more in the root for a larger space
-abbrev pub layout_of_slots : ℕ → Layout
-layout_of_slots slots =
-    if nat_le slots 256 then layout_of_radix (bits_for slots)
-    else record { root = bits_for ((slots - 1) / 256 + 1); leaf = LEAF; within = 0 }
+use Rattle.mcs_spaces.specs.Layouts.{layout_of_radix, layout_of_slots}
 
 -- how many slots a space has, with slot 0, up to 65,536
 abbrev pub slots_in : SaidSpace → ℕ

@@ -1,5 +1,5 @@
 -- What each thread of a plan can name.
-use Rattle.std.specs.Prelude.{◌+◌, ◌-◌, ◌*◌, ◌^◌, ◌++◌, ◌&&◌, ℕ, Bool, List, [], ◌∷◌, Option, Some, None, Vec, length, map, nat_le, nat_lt, codes, slice_get, string_bytes, option_map, if◌then◌else◌}
+use Rattle.std.specs.Prelude.{◌+◌, ◌-◌, ◌*◌, ◌^◌, ◌++◌, ℕ, List, [], ◌∷◌, Option, Some, None, Vec, length, map, codes, slice_get, string_bytes, option_map, if◌then◌else◌}
 use Rattle.mcs_types.specs.declared.id.Kind.TheVariants as kind
 use Rattle.mcs_types.specs.declared.cap.Cap.{Cap}
 use Rattle.mcs_types.specs.declared.cap.Place.{Place}
@@ -7,6 +7,7 @@ use Rattle.mcs_types.specs.Ids.{place_of}
 use Rattle.mcs_plans.specs.Saying.{Said, SaidSpace}
 use Rattle.mcs_names.specs.Naming.{ByName}
 use Rattle.mcs_spaces.specs.declared.layout.Layout.{Layout}
+use Rattle.mcs_spaces.specs.Layouts.{has_slot}
 use Rattle.mcs_laying.specs.declared.tables.Named.{Named}
 use Rattle.mcs_laying.specs.Boot.{each, guarded, layout_at}
 use Rattle.mcs_laying.specs.Layouts.{layouts_of}
@@ -38,11 +39,6 @@ rows_by rows slots = each (length slots) (λ i. row_at rows i (slice_get slots i
 -- what a slot of a space holds when the boot has ended: a capability to a CNode has its guard
 abbrev pub held_then : List Layout → ℕ → Option Cap → Option Cap
 held_then layouts space cap = option_map (λ c. guarded layouts space c) cap
-
--- whether a space is laid out so, and has a slot of this index
-abbrev pub has_slot : Layout → ℕ → Bool
-has_slot l index =
-    nat_le 1 l.root && nat_le l.root 8 && nat_le l.leaf 8 && nat_le l.within 16 && nat_lt index (2 ^ (l.root + l.leaf))
 
 -- the address of a slot of a space, which the bits of the CNodes stand behind that it holds capabilities to
 abbrev pub address_in : Layout → ℕ → ℕ

@@ -1,45 +1,13 @@
 //! A layout for each space.
 ghost use Rattle.std.specs.Prelude.{◌≡◌, ◌≤◌, ◌+◌, IfOk, map, slice_get};
 ghost use Rattle.mcs_plans.specs.Saying.{said_space};
-ghost use Rattle.mcs_laying.specs.Layouts.{bits_for, layout_of_slots, own_layout, own_bits, bits_held, bits_at, bits_within, layout_among, layouts_of};
+ghost use Rattle.mcs_laying.specs.Layouts.{own_layout, own_bits, bits_held, bits_at, bits_within, layout_among, layouts_of};
 
 use crate::spaces::{slot_at, slot_count, space_behind};
 use mcs_plans::Space;
-use mcs_spaces::{LEAF, Layout};
+use mcs_spaces::Layout;
 use mcs_types::Cap;
 use std::alloc::{AllocError, Global};
-
-/// How many bits name one of so many things: as few as do, from 1 to 8.
-fn bits_for(count: u32) -> u8
-    ensures value { result ≡ bits_for count }
-    ensures few { result ≤ 8 }
-{
-    match count {
-        0..=2 => 1,
-        3..=4 => 2,
-        5..=8 => 3,
-        9..=16 => 4,
-        17..=32 => 5,
-        33..=64 => 6,
-        65..=128 => 7,
-        _ => 8,
-    }
-}
-
-/// The layout of so many slots: one CNode for up to 256 of them.
-fn layout_of_slots(slots: u32) -> Layout
-    ensures value { result ≡ layout_of_slots slots }
-    ensures few { result.root + result.leaf ≤ 16 }
-{
-    if slots <= 256 {
-        return Layout::of_radix(bits_for(slots));
-    }
-    Layout {
-        root: bits_for((slots - 1) / 256 + 1),
-        leaf: LEAF,
-        within: 0,
-    }
-}
 
 /// How the slots of a space are laid out, with no bits behind them.
 fn own_layout(space: &Space) -> Layout
@@ -48,7 +16,7 @@ fn own_layout(space: &Space) -> Layout
 {
     match space.radix {
         Some(radix) => Layout::of_radix(radix),
-        None => layout_of_slots(space.slots()),
+        None => Layout::of_slots(space.slots()),
     }
 }
 

@@ -1,8 +1,8 @@
 //! What each thread can name.
-ghost use Rattle.std.specs.Prelude.{◌≡◌, ◌<◌, ◌≤◌, ◌+◌, ◌++◌, ◌∷◌, ◌^◌, [], true, IfOk, OnOk, map, slice_get, string_bytes};
+ghost use Rattle.std.specs.Prelude.{◌≡◌, ◌<◌, ◌+◌, ◌++◌, ◌∷◌, ◌^◌, [], IfOk, OnOk, map, slice_get, string_bytes};
 ghost use Rattle.mcs_plans.specs.Saying.{said, said_space};
 ghost use Rattle.mcs_spaces.specs.Layouts.{IsLaidOut};
-ghost use Rattle.mcs_laying.specs.Tables.{row_of, rows_of, table_rows, row_at, held_then, has_slot, address_in, path_of, inner_row, inner_slot, inner_rows};
+ghost use Rattle.mcs_laying.specs.Tables.{row_of, rows_of, table_rows, row_at, held_then, address_in, path_of, inner_row, inner_slot, inner_rows};
 ghost use Rattle.mcs_laying.specs.Tables.{rows_behind, own_rows, table_of, tables_by};
 
 use crate::laid::Laid;
@@ -41,20 +41,6 @@ fn path_of(alloc: Global, outer: &str, inner: &str) -> Result<String, AllocError
     path.push_str("/")?;
     path.push_str(inner)?;
     Ok(path)
-}
-
-/// Whether a space is laid out so, and has a slot of this index.
-#[tactic(auto, using(crate::proofs::Addresses::few_slots))]
-fn has_slot(layout: &Layout, index: usize) -> bool
-    ensures value { result ≡ has_slot layout.now index }
-    ensures laid_out { result ≡ true → IsLaidOut layout.now }
-    ensures within { result ≡ true → index < 2 ^ (layout.now.root + layout.now.leaf) }
-    ensures few { result ≡ true → index < 65536 }
-{
-    if layout.root < 1 || layout.root > 8 || layout.leaf > 8 || layout.within > 16 {
-        return false;
-    }
-    index < 1usize << (layout.root + layout.leaf)
 }
 
 /// The address of a slot.
@@ -205,7 +191,7 @@ impl Laid {
             return Ok(());
         };
         let layout = self.layout(place);
-        if !has_slot(&layout, index + 1) {
+        if !layout.has(index + 1) {
             return Ok(());
         }
         let number = index as u32 + 1;

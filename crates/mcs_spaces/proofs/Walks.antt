@@ -4,6 +4,7 @@ use Rattle.std.proofs.Common.{refl, ap, sym, ◌∙◌, arith, subst, ◌⊎◌,
 use Rattle.std.proofs.lemmas.Grind.{common_steps}
 use Rattle.std.proofs.lemmas.Bool.{eq-eqb}
 use Rattle.std.proofs.lemmas.Nat.{pow-add, pow_pos, div-mul-add, div-add-mod'}
+use Rattle.std.proofs.Math.Pow.{pow_mono}
 use Rattle.std.proofs.Math.Nat.{div-eq_of_lt, mod-eq_of_lt, mod-lt, mod-one, add-mul, mul_assoc, mul-le-mul_right, lt-div-mul-add, div-mul-le_self}
 use Rattle.mcs_types.specs.declared.id.ObjId.{ObjId}
 use Rattle.mcs_types.specs.declared.cap.Cap.{Cap}
@@ -169,3 +170,9 @@ own_is_named l slot laid hs S root cap h =
         (h.of_root.guard ∙ ap (λ k. zero_guard (64 - k)) bits) h.of_root.radix (subst (λ k. slot < 2 ^ k) own hs)
         two.there two.unguarded two.radix
         ((λ i. S.slot (sym two.cnode i) (sym two.index i)) ∙ h.there) h.last
+
+-- a space has no more slots than this
+pub few_slots : (l : Layout) (index : ℕ) → IsLaidOut l → index < 2 ^ (l.root + l.leaf) → index < 65536
+few_slots l index laid inside =
+    let most : 2 ^ (l.root + l.leaf) ≤ 2 ^ 16 = pow_mono {j = 16} (omega (arith, laid.root, laid.leaf)) in
+    omega (arith, inside, most)

@@ -1,6 +1,6 @@
 //! The layout of a space (manual: Capability Spaces).
 ghost use Rattle.std.specs.Prelude.{◌≡◌, ◌<◌, ◌≤◌, ◌+◌, ◌-◌, ◌*◌, ◌^◌, ◌↔◌, IsSome, IfSome, true};
-ghost use Rattle.mcs_spaces.specs.Layouts.{bits_behind, IsLaidOut, zero_guard};
+ghost use Rattle.mcs_spaces.specs.Layouts.{bits_behind, bits_for, has_slot, layout_of_radix, layout_of_slots, IsLaidOut, zero_guard};
 ghost use Rattle.mcs_spaces.specs.Holding.{IsAddressOf};
 
 use mcs_types::{Guard, Place};
@@ -21,6 +21,7 @@ pub struct Layout {
 
 /// How many bits name one of so many things, at least one: a table of powers of 2.
 fn bits_for(count: u32) -> u8
+    ensures value { result ≡ bits_for count }
     ensures some { 1 ≤ result }
     ensures few { result ≤ 8 }
     ensures enough { count ≤ 256 → count ≤ 2 ^ result }
@@ -41,6 +42,7 @@ impl Layout {
     /// The layout of a space with so many slots, up to 65,536: one CNode for up to 256. No slot of it leads further.
     #[tactic(auto, using(crate::proofs::Walks::larger_enough))]
     pub fn of_slots(slots: u32) -> Layout
+        ensures value { result ≡ layout_of_slots slots }
         ensures laid_out { IsLaidOut result }
         ensures enough { slots ≤ 65536 → slots ≤ 2 ^ (result.root + result.leaf) }
         ensures within { result.within ≡ 0 }
@@ -53,7 +55,7 @@ impl Layout {
             };
         }
         Layout {
-            root: bits_for(1 + (slots - 1) / 256),
+            root: bits_for((slots - 1) / 256 + 1),
             leaf: LEAF,
             within: 0,
         }
@@ -61,7 +63,7 @@ impl Layout {
 
     /// The layout of a space that is one CNode.
     pub fn of_radix(radix: u8) -> Layout
-        ensures { result ≡ record { root = radix; leaf = 0; within = 0 } }
+        ensures { result ≡ layout_of_radix radix }
     {
         Layout {
             root: radix,
@@ -70,15 +72,18 @@ impl Layout {
         }
     }
 
-    /// Whether it is laid out, and has this slot.
-    pub fn has(&self, slot: u32) -> bool
+    /// Whether a space is laid out so, and has a slot of this index.
+    #[tactic(auto, using(crate::proofs::Walks::few_slots))]
+    pub fn has(&self, index: usize) -> bool
+        ensures value { result ≡ has_slot self.now index }
         ensures laid_out { result ≡ true → IsLaidOut self.now }
-        ensures within { result ≡ true → slot < 2 ^ (self.now.root + self.now.leaf) }
+        ensures within { result ≡ true → index < 2 ^ (self.now.root + self.now.leaf) }
+        ensures few { result ≡ true → index < 65536 }
     {
         if self.root < 1 || self.root > 8 || self.leaf > 8 || self.within > 16 {
             return false;
         }
-        slot < 1u32 << (self.root + self.leaf)
+        index < 1usize << (self.root + self.leaf)
     }
 
     /// How many bits name a slot.
