@@ -16,8 +16,6 @@ mod lines;
 mod mapping;
 mod script;
 mod steps;
-#[cfg(test)]
-mod tests;
 mod wanting;
 mod writing;
 

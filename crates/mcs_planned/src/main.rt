@@ -1,4 +1,4 @@
-//! Compiles each plan of the gallery, and compares the script with the one that is kept beside it; then
+//! Compiles each plan of the gallery, and a small one, and compares the script with the one that is kept beside it; then
 //! each plan with a fault, and compares what is told; then a plan of two levels, and plans with a byte
 //! changed: so many of each as the argument says, or 50.
 #![tactic(auto)]
@@ -15,7 +15,7 @@ use std::{fs, io};
 const CHANGES: usize = 50;
 
 /// The plans.
-const PLANS: [&str; 10] = [
+const PLANS: [&str; 11] = [
     "passive-server",
     "nested-calls",
     "two-badges",
@@ -26,6 +26,7 @@ const PLANS: [&str; 10] = [
     "two-cores",
     "deadlock",
     "started",
+    "two-threads",
 ];
 
 /// The text of a script.

@@ -20,7 +20,7 @@ use Rattle.mcs_ways.specs.declared.asking.Asked.{Asked}
 use Rattle.mcs_ways.specs.declared.asking.Asked.TheVariants as asked
 use Rattle.mcs_ways.specs.declared.asking.Event.{Event}
 use Rattle.mcs_ways.specs.declared.asking.Span.{Span}
-use Rattle.mcs_ways.specs.Patterns.{is_match}
+use Rattle.mcs_patterns.specs.Patterns.{is_match}
 
 -- the place of the user of a thread
 abbrev pub place_of : List User → ObjId → Option ℕ

@@ -1,4 +1,3 @@
-pub mod Patterns
 pub mod Standings
 pub mod Ends
 pub mod Mail

@@ -10,7 +10,7 @@ use Rattle.mcs_ways.specs.declared.judging.Sighting.{Sighting}
 use Rattle.mcs_ways.specs.declared.verdicts.Verdict.{Verdict}
 use Rattle.mcs_ways.specs.Answers.{Tables, table_of}
 use Rattle.mcs_ways.specs.Judging.{place_of}
-use Rattle.mcs_ways.specs.Patterns.{is_match}
+use Rattle.mcs_patterns.specs.Patterns.{is_match}
 use Rattle.mcs_ways.specs.Saying.{said}
 
 -- whether a pattern stands for an answer

@@ -9,12 +9,12 @@ ghost use Rattle.mcs_ways.specs.Judged.{AreJudgedBy, judged};
 
 use crate::asking::{Asked, Event, Span};
 use crate::mail::newest;
-use crate::patterns::is_match;
 use crate::reading::AskedLine;
 use mcs_book::Line as BookLine;
 use mcs_kernel::Kernel;
 use mcs_orders::{Turn, Users, Walk};
 use mcs_packing::KeptRecord;
+use mcs_patterns::is_match;
 use mcs_queues::PlainLines;
 use mcs_trace::{Line, spell_answer, spell_record};
 use mcs_turns::Position;

@@ -13,13 +13,10 @@ mod ends;
 mod exploring;
 mod judging;
 mod mail;
-mod patterns;
 mod reading;
 mod report;
 mod saying;
 mod scripts;
-#[cfg(test)]
-mod tests;
 mod verdicts;
 mod watching;
 

@@ -5,12 +5,12 @@ ghost use Rattle.mcs_ways.specs.Verdicts.{IsSearched, IsVerdict, answers_of, fai
 use crate::answers::{Answers, Told};
 use crate::asking::{Asked, Event};
 use crate::judging::Sighting;
-use crate::patterns::is_match;
 use crate::reading::AskedLine;
 use crate::saying::text_of;
 use crate::watching::{Progress, Watched};
 use mcs_lab::LabFault;
 use mcs_orders::Users;
+use mcs_patterns::is_match;
 use mcs_trace::Line;
 use std::alloc::Global;
 

@@ -1,7 +1,6 @@
 //! Patterns: lines of words, in which `*` stands for a word and `**`, at the end, for the rest.
 ghost use Rattle.std.specs.Prelude.{◌≡◌};
-ghost use Rattle.mcs_text.specs.Reading.{words_of};
-ghost use Rattle.mcs_ways.specs.Patterns.{are_matched, is_rest, is_word};
+ghost use Rattle.mcs_patterns.specs.Patterns.{is_match, is_rest, is_word};
 
 use mcs_text::Words;
 
@@ -19,9 +18,9 @@ fn is_word(wanted: &[u8], word: &[u8]) -> bool
     wanted == b"*".as_slice() || wanted == word
 }
 
-/// Whether a text is one of those for which a pattern stands.
+/// Whether a text is one of those for which a pattern stands (own), both cut into words at single spaces.
 pub fn is_match(pattern: &[u8], text: &[u8]) -> bool
-    ensures { result ≡ are_matched (words_of pattern.now) (words_of text.now) }
+    ensures { result ≡ is_match pattern.now text.now }
 {
     let mut left = Words::new(pattern);
     let mut words = Words::new(text);
