@@ -377,6 +377,9 @@ const SPARE_WORDS: usize = MESSAGE_ROOM - MOST_WORDS;
 /// The most records of one line, for which there may be room.
 const MOST_RECORDS: usize = 1_000_000;
 
+/// For how many lines with as many records room is made ahead: long lists grow where they stand, so early room saves copies.
+const LINES_AHEAD: usize = 16;
+
 /// The most words, and the most wide records, to which more may be added: so places stay below 2 to the 32.
 const MOST_KEPT: usize = 1 << 31;
 
@@ -531,13 +534,14 @@ impl Book {
         {
             return Err(OutOfMemory);
         }
-        self.heads.reserve(1)?;
-        self.packed.reserve(records)?;
+        let ahead = LINES_AHEAD * records;
+        self.heads.reserve(ahead + 1)?;
+        self.packed.reserve(ahead)?;
         self.arena
             .words
-            .reserve(MOST_WORDS * records + SPARE_WORDS + 2 * MESSAGE_ROOM)?;
-        self.arena.wide.reserve(records)?;
-        self.sent.reserve(records)?;
+            .reserve(MOST_WORDS * ahead + SPARE_WORDS + 2 * MESSAGE_ROOM)?;
+        self.arena.wide.reserve(ahead)?;
+        self.sent.reserve(ahead)?;
         self.arena.spare = SPARE_WORDS;
         self.room = records + 1;
         Ok(())
@@ -649,6 +653,7 @@ impl Book {
     }
 
     /// Adds a line with the records of the open one; the next open one has none, and no room.
+    #[inline(always)]
     pub fn close(&mut self, step: &Step, answer: &Answer)
         requires { 0 < self.old.room }
         ensures line { self.new.book

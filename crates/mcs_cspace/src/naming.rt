@@ -1,14 +1,14 @@
 //! Lookup of a capability by an address, and of a slot by an index and a depth.
-ghost use Rattle.std.specs.Prelude.{◌≡◌, ◌==◌, cond, IfOk, IfErr, Ok, Err};
+ghost use Rattle.std.specs.Prelude.{◌≡◌, ◌==◌, cond, option_copied, IfOk, IfErr, Ok, Err};
 ghost use Rattle.mcs_book.specs.Lookup.{capability_from, slot_from, is_depth};
 ghost use Rattle.mcs_types.specs.declared.entry.Refusal.TheVariants.{Missing, DepthMismatch};
 ghost use Rattle.mcs_book.specs.Checks.{needed};
 ghost use Rattle.mcs_book.specs.Paths.{IsNamedFrom};
 ghost use Rattle.mcs_book.specs.LookupEnds.{IsUnnamedFrom};
-ghost use Rattle.mcs_slots.specs.Pages.{slot_at};
+ghost use Rattle.mcs_slots.specs.Pages.{page_slot};
 ghost use Rattle.mcs_cspace.specs.Spaces.{slots_space, IsWithin, IsThereWithCNode, EndsAt, EndsNowhere, named_by};
 
-use crate::paths::{End, find};
+use crate::paths::{End, find, slot_in};
 use mcs_slots::{SlotId, Slots};
 use mcs_types::{Cap, Guard, ObjId, Place, Refusal};
 
@@ -31,22 +31,26 @@ fn by_fields(cap: &Cap) -> Cap
     }
 }
 
-/// The capability in a slot, which is Missing where the slot is empty.
+/// The capability in the slot at the end of a path, which is Missing where the slot is empty.
 #[inline(always)]
-fn held(slots: &Slots, slot: SlotId) -> Result<Cap, Refusal>
-    ensures { result ≡ needed (slot_at slots.now slot.cnode slot.index) Missing }
+fn held(end: End<'_>) -> Result<Cap, Refusal>
+    ensures { result ≡ needed (page_slot (option_copied end.entry.page) end.entry.slot.index) Missing }
 {
-    match slots.get(slot) {
+    match slot_in(end.page, end.slot.index) {
         None => Err(Refusal::Missing),
         Some(cap) => Ok(by_fields(&cap)),
     }
 }
 
 /// The slot at the end of a path, put together by its fields: so the compiler need not keep the bytes between them.
-fn slot_of(end: End) -> SlotId
-    ensures { result ≡ end.slot }
+fn slot_of(end: End<'_>) -> SlotId
+    ensures { result ≡ end.entry.slot }
 {
-    let End { slot, left: _ } = end;
+    let End {
+        page: _,
+        slot,
+        left: _,
+    } = end;
     SlotId {
         cnode: ObjId {
             kind: slot.cnode.kind,
@@ -57,8 +61,8 @@ fn slot_of(end: End) -> SlotId
 }
 
 /// The slot at the end of a path, where no bits are left.
-fn whole(end: End) -> Result<SlotId, Refusal>
-    ensures { result ≡ cond (end.left == 0) (Ok end.slot) (Err DepthMismatch) }
+fn whole(end: End<'_>) -> Result<SlotId, Refusal>
+    ensures { result ≡ cond (end.entry.left == 0) (Ok end.entry.slot) (Err DepthMismatch) }
 {
     if end.left == 0 {
         Ok(slot_of(end))
@@ -80,7 +84,7 @@ fn cap_from(slots: &Slots, root: &Cap, address: u64) -> Result<Cap, Refusal>
 {
     match find(slots, root, 64, address) {
         Err(refusal) => Err(refusal),
-        Ok(end) => held(slots, end.slot),
+        Ok(end) => held(end),
     }
 }
 

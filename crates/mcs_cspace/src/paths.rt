@@ -1,15 +1,17 @@
 //! The way from a root to the slot at the end of the path that an address spells.
 ghost use Rattle.std.specs.Prelude.{◌≡◌, ◌≤◌, IfOk, option_copied};
 ghost use Rattle.mcs_book.specs.Lookup.{cnode_cap};
+ghost use Rattle.mcs_slots.specs.Pages.{page_at, page_slot};
 ghost use Rattle.mcs_cspace.specs.Spaces.{slots_space, IsWithin, radix_on, next_on, walk_from, walked_by};
 
 use crate::levels::{Step, level};
 use mcs_slots::{Page, SlotId, Slots};
 use mcs_types::{Cap, Kind, ObjId, Refusal};
 
-/// The slot at which lookup ends, and how many bits of the address are left there.
-#[derive(Clone, Copy, PartialEq, Eq, Debug)]
-pub(crate) struct End {
+/// The slot at which lookup ends, with the slots of its CNode, and how many bits of the address are left there.
+#[derive(Clone, Copy)]
+pub(crate) struct End<'a> {
+    pub(crate) page: Option<&'a Page>,
     pub(crate) slot: SlotId,
     pub(crate) left: u32,
 }
@@ -43,6 +45,13 @@ pub fn radix_in(slots: &Slots, cnode: ObjId) -> u8
     radix_of(slots.page(cnode))
 }
 
+/// What a slot of a CNode holds; None where the CNode is not there.
+pub(crate) fn slot_in(page: Option<&Page>, index: u8) -> Option<Cap>
+    ensures { result ≡ page_slot (option_copied page.entry) index }
+{
+    page?.get(index)
+}
+
 /// The capability to the CNode at which lookup goes on: bits are left, and the slot of this CNode holds it.
 fn next_in(page: Option<&Page>, step: Step) -> Option<Cap>
     ensures { result ≡ next_on (option_copied page.entry) step }
@@ -50,12 +59,13 @@ fn next_in(page: Option<&Page>, step: Step) -> Option<Cap>
     if step.left == 0 {
         return None;
     }
-    to_cnode(page?.get(step.index))
+    to_cnode(slot_in(page, step.index))
 }
 
-/// The slot of a CNode at which lookup ends.
-fn end_at(cnode: ObjId, step: Step) -> End
+/// The slot of a CNode with these slots at which lookup ends.
+fn end_at<'a>(page: Option<&'a Page>, cnode: ObjId, step: Step) -> End<'a>
     ensures { result ≡ record {
+      page = page.entry;
       slot = record { cnode = cnode; index = step.index };
       left = step.left;
     } }
@@ -65,6 +75,7 @@ fn end_at(cnode: ObjId, step: Step) -> End
         index: step.index,
     };
     End {
+        page,
         slot,
         left: step.left,
     }
@@ -72,10 +83,17 @@ fn end_at(cnode: ObjId, step: Step) -> End
 
 /// The slot at the end of the path from a root that spells the low `depth` bits of an address, and how many of them are left.
 #[inline(always)]
-pub(crate) fn find(slots: &Slots, root: &Cap, depth: u32, address: u64) -> Result<End, Refusal>
+pub(crate) fn find<'a>(
+    slots: &'a Slots,
+    root: &Cap,
+    depth: u32,
+    address: u64,
+) -> Result<End<'a>, Refusal>
     requires { depth ≤ 64 }
     ensures value { walked_by address result ≡ walk_from slots.now root.now depth address }
     ensures within { IfOk result (λ end. IsWithin slots.now end.slot) }
+    ensures page { IfOk result
+        (λ end. option_copied end.page ≡ page_at slots.now end.slot.cnode) }
 {
     let mut cap = *root;
     let mut left = depth;
@@ -84,7 +102,7 @@ pub(crate) fn find(slots: &Slots, root: &Cap, depth: u32, address: u64) -> Resul
         let step = level(cap.guard, radix_of(page), left, address)?;
         left = step.left;
         match next_in(page, step) {
-            None => return Ok(end_at(cap.obj, step)),
+            None => return Ok(end_at(page, cap.obj, step)),
             Some(next) => cap = next,
         }
     }

@@ -29,7 +29,10 @@ impl Model for Pages {
 fn page_number(cnode: ObjId) -> Option<usize>
     ensures { result ≡ number_of cnode }
 {
-    if cnode.kind as u8 != Kind::CNode as u8 || cnode.serial == 0 {
+    if cnode.kind as u8 != Kind::CNode as u8 {
+        return None;
+    }
+    if cnode.serial == 0 {
         return None;
     }
     Some((cnode.serial - 1) as usize)

@@ -142,6 +142,8 @@ impl Slots {
     }
 
     /// Fills a slot that is there with a capability, or empties it. What the slot held is gone.
+    // a part of its caller, so that the capability is not moved through memory
+    #[inline(always)]
     pub fn set(&mut self, slot: SlotId, cap: Option<Cap>)
         requires { HasSlot self.old slot }
         ensures { self.new ≡ filled self.old slot cap }

@@ -6,9 +6,9 @@ use Rattle.mcs_cspace.proofs.naming.held.Goals as goal
 
 pub returns-in-None : goal.returns-in-None
 unfolding needed
-returns-in-None c = ap (λ o. needed o Missing) (sym c.in-None.is ∙ c.get.ensures)
+returns-in-None c = ap (λ o. needed o Missing) (sym c.in-None.is ∙ c.slot_in.ensures)
 
 pub returns-in-Some : goal.returns-in-Some
 unfolding needed
 returns-in-Some c =
-    ap Ok c.by_fields.ensures ∙ ap (λ o. needed o Missing) (sym c.in-Some.is ∙ c.get.ensures)
+    ap Ok c.by_fields.ensures ∙ ap (λ o. needed o Missing) (sym c.in-Some.is ∙ c.slot_in.ensures)
