@@ -20,6 +20,7 @@ pub struct Placing {
 }
 
 /// The capability that a thread names by its place, and the empty slot that it names.
+#[inline(always)]
 pub fn find_places<W: Waiting>(
     state: &State<W>,
     thread: ObjId,

@@ -1,8 +1,10 @@
 -- Messages that are taken: what is recorded, and what holds between.
-use Rattle.std.specs.Prelude.{ℕ, ◌≡◌, ◌≢◌, true, List, [], ◌∷◌, Option, Some, None, IsTrue}
+use Rattle.std.specs.Prelude.{ℕ, ◌≡◌, ◌≢◌, ◌<◌, ◌+◌, length, Bool, true, List, [], ◌∷◌, Option, Some, None, IsTrue}
 use Rattle.std.specs.Option.{IfSome}
-use Rattle.std.proofs.Common.{refl, ap, sym, ◌∙◌, subst}
+use Rattle.std.proofs.Common.{refl, ap, sym, ◌∙◌, subst, arith}
 use Rattle.mcs_types.specs.declared.id.ObjId.{ObjId}
+use Rattle.mcs_types.specs.Views.{Content}
+use Rattle.mcs_types.specs.declared.cap.Cap.{Cap}
 use Rattle.mcs_types.specs.declared.id.Kind.TheVariants as kind
 use Rattle.mcs_types.specs.declared.record.Letter.{Letter}
 use Rattle.mcs_types.specs.declared.record.Mode.TheVariants.{Running}
@@ -11,10 +13,12 @@ use Rattle.mcs_types.specs.declared.record.Rec.{Rec}
 use Rattle.mcs_types.specs.declared.record.Rec.TheVariants as rec
 use Rattle.mcs_types.specs.declared.record.SendMode.{SendMode}
 use Rattle.mcs_book.specs.Logs.{Log, onto}
-use Rattle.mcs_book.specs.Queues.{queue_of, reply_with}
-use Rattle.mcs_book.specs.Messages.{is_open, open_of}
+use Rattle.mcs_book.specs.Queues.{queue_of, reply_with, first_in}
+use Rattle.mcs_book.specs.Messages.{is_open, open_of, next_message}
 use Rattle.mcs_book.specs.Contexts.{context_of}
-use Rattle.mcs_book.specs.Pieces.{◌then◌, nothing, say}
+use Rattle.mcs_book.specs.Pieces.{Piece, ◌then◌, answers, nothing, say}
+use Rattle.mcs_book.specs.Sending.{sends, sends_to}
+use Rattle.mcs_book.specs.Taking.{handed}
 use Rattle.mcs_book.specs.Taking.{debt, owe, settle}
 use Rattle.mcs_book.specs.Sound.{Sound, Allowed, IsThere, IsIdle, IsFreeReply}
 use Rattle.mcs_book.proofs.Queues.NoneBeside.{left-queue}
@@ -25,9 +29,10 @@ use Rattle.mcs_book.proofs.Threads.HoldingLaws.{context_of-holder}
 use Rattle.mcs_book.proofs.Threads.UserLaws.{one_user}
 use Rattle.mcs_book.proofs.Firm.Cancel.{parted-idle}
 use Rattle.mcs_book.proofs.Firm.Taking.{settle-ready}
-use Rattle.mcs_state.specs.Now.{IsNumberOf}
+use Rattle.mcs_state.specs.Now.{Now, so_far, adds, IsNumberOf}
+use Rattle.mcs_state.specs.Doing.{Makes, HasRoomFor}
 use Rattle.mcs_ipc.specs.Ready.{IsReady, IsSettling, IsCalling}
-use Rattle.mcs_ipc.specs.Rows.{lent_of, lent, resumes, handed_to, taken_by}
+use Rattle.mcs_ipc.specs.Rows.{lent_of, lent, resumes, taken_by, answer_to, send_act}
 use Rattle.mcs_ipc.specs.declared.taking.Delivery.{Delivery}
 
 -- a message of this number is open
@@ -109,11 +114,26 @@ module _ (R : Log) (number : ℕ) (x p e : ObjId) (sound : Sound R) (there : IsT
       let ready = settle-ready mode x p r left (other R x p e idle at) (record { there = standing-thread R p (Receivers e) sound at; idle = parted-idle R p (Receivers e) sound at }) in
       (ready.there, ready.idle)
 
--- what a hand-over records
-pub hand-is : (R : Log) (d : Delivery) (p : ObjId) (r : Option ObjId) → r ≡ reply_with R p
-    → handed_to d p R ≡ (say (rec.Took d.number p) then say (rec.Parts p (Receivers d.endpoint)) then settle d.mode d.sender p r nothing then say (rec.Turns p Running)) R
-unfolding handed_to
-hand-is R d p r is = ap (λ o. (say (rec.Took d.number p) then say (rec.Parts p (Receivers d.endpoint)) then settle d.mode d.sender p o nothing then say (rec.Turns p Running)) R) (sym is)
+-- a message of x that p takes at once, by which it leaves its queue
+unfoldable pub accepted : Log → SendMode → ObjId → Cap → Content → ObjId → Piece
+accepted R mode x cap message p = say (rec.Sent x cap.obj mode cap.badge message) then say (rec.Took (next_message R) p)
+
+-- what a send records where somebody receives
+pub send-hands : (R : Log) (b : Bool) (mode : SendMode) (x : ObjId) (cap : Cap) (message : Content) (p : ObjId) (r : Option ObjId) → first_in R (Receivers cap.obj) ≡ Some p → r ≡ reply_with R p
+    → send_act b mode x cap message R ≡ answers (answer_to mode) (accepted R mode x cap message p then say (rec.Parts p (Receivers cap.obj)) then settle mode x p r nothing then say (rec.Turns p Running)) R
+unfolding send_act sends sends_to handed accepted ◌then◌
+send-hands R b mode x cap message p r first is = rw (first, is) refl
+
+-- both records were made
+pub accepted-made : (n m : Now) (mode : SendMode) (x : ObjId) (cap : Cap) (message : Content) (p : ObjId)
+    → m ≡ adds (rec.Took (next_message (so_far n)) p) (adds (rec.Sent x cap.obj mode cap.badge message) n) → Makes (accepted (so_far n) mode x cap message p) n m
+unfolding accepted ◌then◌
+accepted-made n m mode x cap message p made = made
+
+-- and there was room for them
+pub accepted-room : (n : Now) (mode : SendMode) (x : ObjId) (cap : Cap) (message : Content) (p : ObjId) → HasRoomFor (accepted (so_far n) mode x cap message p) n → length n.hand + 2 < n.room
+unfolding accepted ◌then◌
+accepted-room n mode x cap message p room = omega (arith, room)
 
 -- what a taking records
 pub take-is : (d : Delivery) (t : ObjId) (r : Option ObjId) (R : Log)

@@ -23,8 +23,7 @@ use Rattle.mcs_book.specs.Rights.{may_write}
 use Rattle.mcs_book.specs.Threads.{mode_of}
 use Rattle.mcs_book.specs.Queues.{queue_of, first_in}
 use Rattle.mcs_book.specs.Messages.{next_message, is_open, open_of}
-use Rattle.mcs_book.specs.Pieces.{◌then◌, say, answers}
-use Rattle.mcs_book.specs.Taking.{handed}
+use Rattle.mcs_book.specs.Pieces.{◌then◌}
 use Rattle.mcs_book.specs.Sending.{sends_to, sends, queues}
 use Rattle.mcs_book.specs.Objects.{is_alive}
 use Rattle.mcs_book.specs.Table.{wakes}
@@ -41,7 +40,7 @@ use Rattle.mcs_state.proofs.Woken.{woken, woken-there, woken-stand}
 use Rattle.mcs_ipc.specs.Ready.{IsSending, IsSendingOver}
 use Rattle.mcs_ipc.specs.declared.checks.Target.{Target}
 use Rattle.mcs_ipc.specs.declared.checks.Target.TheVariants as target
-use Rattle.mcs_ipc.specs.Rows.{target_by, target_of, sendable, callable, answer_to, alone_act, send_act, handed_to}
+use Rattle.mcs_ipc.specs.Rows.{target_by, target_of, sendable, callable, alone_act, send_act}
 
 -- who stands in no queue has no open message
 pub none-open : (R : Log) (t : ObjId) → OpenStand R → queue_of R t ≡ None → HasNoneOpen R t
@@ -73,12 +72,6 @@ alone-waits : (R : Log) (mode : SendMode) (t : ObjId) (cap : Cap) (message : Con
     → alone_act true mode t cap message R ≡ record { answer = Waits; records = rec.Sent t cap.obj mode cap.badge message ∷ rec.Joins t (Senders cap.obj) None ∷ [] }
 unfolding queues ◌then◌
 alone-waits R mode t cap message = refl
-
--- a send where somebody receives: the message is accepted, and taken at once
-pub send-hands : (R : Log) (b : Bool) (mode : SendMode) (t : ObjId) (cap : Cap) (message : Content) (p : ObjId) (number : ℕ) → first_in R (Receivers cap.obj) ≡ Some p → number ≡ next_message R
-    → send_act b mode t cap message R ≡ answers (answer_to mode) (say (rec.Sent t cap.obj mode cap.badge message) then handed_to (record { number = number; sender = t; endpoint = cap.obj; mode = mode }) p) R
-unfolding send_act sends sends_to handed handed_to ◌then◌
-send-hands R b mode t cap message p number first e = rw (first, e) refl
 
 -- a reply object is there still when a thread was woken, if there is one
 pub woken-reply : (R : Log) (t : ObjId) (m : Mode) (r : Option ObjId) → IfSome r (λ o. IsThere R kind.Reply o) → IfSome r (λ o. IsThere (onto (wakes m t R) R) kind.Reply o)

@@ -22,7 +22,7 @@ use Rattle.mcs_types.specs.declared.record.Rec.TheVariants.{Took, Parts, Turns}
 use Rattle.mcs_book.specs.Pieces.{Piece, Act, ◌then◌, say, nothing, answers, silently, before}
 use Rattle.mcs_book.specs.Contexts.{context_of}
 use Rattle.mcs_book.specs.Notifications.{bound_of}
-use Rattle.mcs_book.specs.Queues.{reply_with, first_in}
+use Rattle.mcs_book.specs.Queues.{first_in}
 use Rattle.mcs_book.specs.Taking.{settle, pay}
 use Rattle.mcs_book.specs.Sending.{letter_over, sends, queues}
 use Rattle.mcs_book.specs.Receiving.{receive_on, take_open, open_of_any, stand, joins_or, wait_on}
@@ -75,6 +75,11 @@ answer_to how.Plain = Done
 answer_to how.Call = Waits
 answer_to how.Mute = Waits
 answer_to how.Give = Done
+
+-- what is answered to who sent, and waits or not
+abbrev pub said : Bool → Answer
+said true = Waits
+said false = Done
 
 -- what t does where nobody receives: it waits in the queue, or the message is dropped
 abbrev pub alone_act : Bool → SendMode → ObjId → Cap → Content → Act
@@ -138,14 +143,6 @@ lent R x p = lent_of (context_of R p) (context_of R x)
 abbrev pub resumes : Bool → ObjId → Piece
 resumes true x = say (Turns x Running)
 resumes false x = nothing
-
--- a message that was just sent is taken by p, who stands in its queue for it
-unfoldable pub handed_to : Delivery → ObjId → Piece
-handed_to d p R =
-    (say (Took d.number p)
-    then say (Parts p (Receivers d.endpoint))
-    then settle d.mode d.sender p (reply_with R p) nothing
-    then say (Turns p Running)) R
 
 -- the message of a sender who stands in its queue is taken by t, who receives with r
 unfoldable pub taken_by : Delivery → ObjId → Option ObjId → Piece

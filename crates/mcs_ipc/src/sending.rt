@@ -11,15 +11,15 @@ ghost use Rattle.mcs_state.specs.Doing.{Acts, FitsAct, Does, Fits};
 ghost use Rattle.mcs_state.specs.Entering.{IsEntering, OpenStand, OnlyBoundWait};
 ghost use Rattle.mcs_notify.specs.Rows.{signal_act};
 ghost use Rattle.mcs_ipc.specs.Ready.{IsSending, IsSendingOver};
-ghost use Rattle.mcs_ipc.specs.Rows.{answer_to, send_entry, send_act, pay_act, target_act};
+ghost use Rattle.mcs_ipc.specs.Rows.{answer_to, said, send_entry, send_act, pay_act, target_act};
 
 use crate::checks::{Target, cap_to_call, target_to_send};
 use crate::replying::pay;
-use crate::taking::{Delivery, hand};
+use crate::taking::settle;
 use mcs_notify::signal;
 use mcs_object_queues::Waiting;
 use mcs_state::{State, wake};
-use mcs_types::{Answer, BOOK_LINES, Cap, Copies, CoreId, ObjId, Queue, SendMode};
+use mcs_types::{Answer, BOOK_LINES, Cap, Copies, CoreId, Mode, ObjId, Queue, SendMode};
 
 /// How a call over a capability is sent: without Grant and GrantReply it cannot be answered (manual: Message Passing).
 fn call_mode(cap: &Cap) -> SendMode
@@ -32,14 +32,22 @@ fn call_mode(cap: &Cap) -> SendMode
     }
 }
 
-/// What is answered when a message is taken at once: a caller waits for its answer.
-fn answer_to(mode: SendMode) -> Answer
-    ensures { result ≡ answer_to mode }
+/// Whether a thread waits when its message is taken at once: a caller waits for its answer.
+fn waits(mode: SendMode) -> bool
+    ensures { said result ≡ answer_to mode }
 {
     match mode {
-        SendMode::Plain | SendMode::Give => Answer::Done,
-        SendMode::Call | SendMode::Mute => Answer::Waits,
+        SendMode::Plain | SendMode::Give => false,
+        SendMode::Call | SendMode::Mute => true,
     }
+}
+
+/// What is answered to who sent, and waits or not.
+#[inline(always)]
+fn said(waits: bool) -> Answer
+    ensures { result ≡ said waits }
+{
+    if waits { Answer::Waits } else { Answer::Done }
 }
 
 /// Sends a message, and waits in the queue, where nobody receives.
@@ -49,16 +57,17 @@ fn send_alone<W: Waiting>(
     cap: Cap,
     mode: SendMode,
     message: Copies<'_>,
-) -> Answer
+) -> bool
     requires sending { IsSending (so_far state.old) thread cap.obj }
     requires few { length state.old.book.lines < BOOK_LINES }
     requires none { first_in (so_far state.old) (Queue.Receivers cap.obj) ≡ None }
     requires room { FitsAct (send_act true mode thread cap message) state.old }
-    ensures { Acts (send_act true mode thread cap message.entry) state.old result state.new }
+    ensures { Acts (send_act true mode thread cap message.entry) state.old (said result)
+        state.new }
 {
     state.sends(thread, cap.obj, mode, cap.badge, message);
     state.joins(thread, Queue::Senders(cap.obj), None);
-    Answer::Waits
+    true
 }
 
 /// Hands a message that is just sent to the first receiver.
@@ -70,24 +79,22 @@ fn send_to<W: Waiting>(
     message: Copies<'_>,
     receiver: ObjId,
     blocks: bool,
-) -> Answer
+) -> bool
     requires sending { IsSending (so_far state.old) thread cap.obj }
     requires few { length state.old.book.lines < BOOK_LINES }
     requires first { first_in (so_far state.old) (Queue.Receivers cap.obj) ≡ Some receiver }
     requires room { FitsAct (send_act blocks mode thread cap message) state.old }
-    ensures { Acts (send_act blocks mode thread cap message.entry) state.old result state.new }
+    ensures { Acts (send_act blocks mode thread cap message.entry) state.old (said result)
+        state.new }
 {
+    let queue = Queue::Receivers(cap.obj);
     state.is_sound();
-    let number = state.next_message();
-    state.sends(thread, cap.obj, mode, cap.badge, message);
-    let delivery = Delivery {
-        number,
-        sender: thread,
-        endpoint: cap.obj,
-        mode,
-    };
-    hand(state, delivery, receiver);
-    answer_to(mode)
+    let reply = state.reply_with(receiver, queue);
+    state.hands(thread, cap.obj, mode, cap.badge, message, receiver);
+    state.parts(receiver, queue);
+    settle(state, mode, thread, receiver, reply, false);
+    state.turns(receiver, Mode::Running);
+    waits(mode)
 }
 
 /// Sends or calls over a capability to an endpoint: the first receiver takes the message. Where nobody receives, the thread
@@ -99,37 +106,40 @@ fn send_over<W: Waiting>(
     mode: SendMode,
     message: Copies<'_>,
     blocks: bool,
-) -> Answer
+) -> bool
     requires sending { IsSending (so_far state.old) thread cap.obj }
     requires few { length state.old.book.lines < BOOK_LINES }
     requires room { FitsAct (send_act blocks mode thread cap message) state.old }
-    ensures { Acts (send_act blocks mode thread cap message.entry) state.old result state.new }
+    ensures { Acts (send_act blocks mode thread cap message.entry) state.old (said result)
+        state.new }
 {
     match state.first(Queue::Receivers(cap.obj)) {
         Some(receiver) => send_to(state, thread, cap, mode, message, receiver, blocks),
         None if blocks => send_alone(state, thread, cap, mode, message),
-        None => Answer::Done,
+        None => false,
     }
 }
 
 /// Pays a reply object: whom it owes is answered, if it owes anybody.
-fn send_reply<W: Waiting>(state: &mut State<W>, reply: ObjId, message: Copies<'_>) -> Answer
+fn send_reply<W: Waiting>(state: &mut State<W>, reply: ObjId, message: Copies<'_>) -> bool
     requires { FitsAct (pay_act reply message) state.old }
-    ensures { Acts (pay_act reply message.entry) state.old result state.new }
+    ensures { Acts (pay_act reply message.entry) state.old (said result)
+        state.new }
 {
     pay(state, reply, message);
-    Answer::Done
+    false
 }
 
 /// Signals a notification over a capability.
-fn send_signal<W: Waiting>(state: &mut State<W>, cap: Cap) -> Answer
+fn send_signal<W: Waiting>(state: &mut State<W>, cap: Cap) -> bool
     requires there { IsThere (so_far state.old) Kind.Notification cap.obj }
     requires waiting { OnlyBoundWait (so_far state.old) }
     requires room { FitsAct (signal_act cap) state.old }
-    ensures { Acts (signal_act cap) state.old result state.new }
+    ensures { Acts (signal_act cap) state.old (said result)
+        state.new }
 {
     signal(state, cap.obj, cap.badge);
-    Answer::Done
+    false
 }
 
 /// Sends over an endpoint, a notification or a reply object.
@@ -141,12 +151,13 @@ pub fn send_target<W: Waiting>(
     mode: SendMode,
     message: Copies<'_>,
     blocks: bool,
-) -> Answer
+) -> bool
     requires sending { IsSendingOver (so_far state.old) thread target }
     requires waiting { OnlyBoundWait (so_far state.old) }
     requires few { length state.old.book.lines < BOOK_LINES }
     requires room { FitsAct (target_act blocks mode thread message target) state.old }
-    ensures { Acts (target_act blocks mode thread message.entry target) state.old result state.new }
+    ensures { Acts (target_act blocks mode thread message.entry target) state.old (said result)
+        state.new }
 {
     match target {
         Target::Endpoint(cap) => send_over(state, thread, cap, mode, message, blocks),
@@ -182,7 +193,7 @@ pub fn send<W: Waiting>(
         Err(refusal) => Answer::Refused(refusal),
         Ok(target) => {
             wake(state, thread);
-            send_target(state, thread, target, SendMode::Plain, message, blocks)
+            said(send_target(state, thread, target, SendMode::Plain, message, blocks))
         }
     }
 }
@@ -211,7 +222,7 @@ pub fn call<W: Waiting>(
         Ok(cap) => {
             wake(state, thread);
             let mode = call_mode(&cap);
-            send_over(state, thread, cap, mode, message, true)
+            said(send_over(state, thread, cap, mode, message, true))
         }
     }
 }

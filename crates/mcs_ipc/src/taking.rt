@@ -1,15 +1,15 @@
 //! Messages that are taken, and callers that come to be owed an answer.
-ghost use Rattle.std.specs.Prelude.{◌≡◌, true, false, IfSome, Some};
+ghost use Rattle.std.specs.Prelude.{◌≡◌, true, IfSome, Some};
 ghost use Rattle.mcs_types.specs.declared.id.Kind.{Kind};
 ghost use Rattle.mcs_types.specs.declared.record.Queue.{Queue};
 ghost use Rattle.mcs_book.specs.Messages.{open_of};
-ghost use Rattle.mcs_book.specs.Queues.{queue_of, first_in};
-ghost use Rattle.mcs_book.specs.Sound.{IsThere, IsIdle};
+ghost use Rattle.mcs_book.specs.Queues.{first_in};
+ghost use Rattle.mcs_book.specs.Sound.{IsThere};
 ghost use Rattle.mcs_book.specs.Taking.{owe as owed_by, give as given_by, settle as settled};
 ghost use Rattle.mcs_state.specs.Now.{so_far, IsNumberOf};
 ghost use Rattle.mcs_state.specs.Doing.{Makes, HasRoomFor};
 ghost use Rattle.mcs_ipc.specs.Ready.{IsReady, IsSettling, IsCalling};
-ghost use Rattle.mcs_ipc.specs.Rows.{lent, resumes, handed_to, taken_by};
+ghost use Rattle.mcs_ipc.specs.Rows.{lent, resumes, taken_by};
 
 use mcs_object_queues::Waiting;
 use mcs_state::{State, give_back};
@@ -65,7 +65,7 @@ fn give<W: Waiting>(state: &mut State<W>, sender: ObjId, receiver: ObjId)
 /// Passing; own).
 // a part of its callers, which know whether the sender stood in a queue
 #[inline(always)]
-fn settle<W: Waiting>(
+pub fn settle<W: Waiting>(
     state: &mut State<W>,
     mode: SendMode,
     sender: ObjId,
@@ -89,31 +89,6 @@ fn settle<W: Waiting>(
         SendMode::Mute => state.turns(sender, Mode::Inactive),
         SendMode::Give => give(state, sender, receiver),
     }
-}
-
-/// Hands a message that was just sent to a receiver that stands in its queue.
-pub fn hand<W: Waiting>(state: &mut State<W>, delivery: Delivery, receiver: ObjId)
-    requires sender { IsThere (so_far state.old) Kind.Thread delivery.sender }
-    requires idle { IsIdle (so_far state.old) delivery.sender }
-    requires stands { queue_of (so_far state.old) receiver
-        ≡ Some (Queue.Receivers delivery.endpoint) }
-    requires open { IsNumberOf delivery.number (open_of (so_far state.old) delivery.sender) }
-    requires room { HasRoomFor (handed_to delivery receiver) state.old }
-    ensures { Makes (handed_to delivery receiver) state.old state.new }
-{
-    let Delivery {
-        number,
-        sender,
-        endpoint,
-        mode,
-    } = delivery;
-    let queue = Queue::Receivers(endpoint);
-    state.is_sound();
-    let reply = state.reply_with(receiver, queue);
-    state.took(number, sender, receiver);
-    state.parts(receiver, queue);
-    settle(state, mode, sender, receiver, reply, false);
-    state.turns(receiver, Mode::Running);
 }
 
 /// Takes the open message of the first sender for a thread that receives with a reply object, or without one. The answer is an

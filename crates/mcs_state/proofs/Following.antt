@@ -33,8 +33,12 @@ inside r is ok = subst (λ (k : Now). Allowed (so_far k) r) (sym is) ok
 pub inside-room : {n m : Now} → n ≡ m → length m.hand + 1 < m.room → n.room ≤ HAND + 1 → length n.hand < HAND
 inside-room {n} {m} is room few = let here : length n.hand + 1 < n.room = subst (λ (k : Now). length k.hand + 1 < k.room) (sym is) room in omega (arith, here, few)
 
+-- and as much for two records
+pub inside-room-two : {n m : Now} → n ≡ m → length m.hand + 2 < m.room → n.room ≤ HAND + 1 → length n.hand + 1 < HAND
+inside-room-two {n} {m} is room few = let here : length n.hand + 2 < n.room = subst (λ (k : Now). length k.hand + 2 < k.room) (sym is) room in omega (arith, here, few)
+
 -- the number of messages follows a record
-sent-follows : (r : Rec) (sent sent' lines : ℕ) (hand R : Log) → SentFollows r sent sent' → SentAgrees sent lines hand R → SentAgrees sent' lines (r ∷ hand) (r ∷ R)
+pub sent-follows : (r : Rec) (sent sent' lines : ℕ) (hand R : Log) → SentFollows r sent sent' → SentAgrees sent lines hand R → SentAgrees sent' lines (r ∷ hand) (r ∷ R)
 sent-follows (rec.Sent x e mode badge message) sent sent' lines hand R h a = record { all = h ∙ ap (λ n. n + 1) a.all; few = let few = a.few in omega (arith, h, few) }
 sent-follows _ sent sent' lines hand R h a = rw h (record { all = a.all; few = a.few })
 

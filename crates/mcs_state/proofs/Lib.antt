@@ -10,6 +10,7 @@ pub mod ReplyLaws
 pub mod NotificationLaws
 pub mod SlotLaws
 pub mod Following
+mod Handing
 pub mod Answering
 pub mod Asking
 pub mod Walking

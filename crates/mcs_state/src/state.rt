@@ -11,6 +11,7 @@ ghost use Rattle.mcs_state.specs.Tables.{HAND};
 
 mod asking;
 mod closing;
+mod handing;
 mod making;
 mod notifying;
 mod picking;
@@ -229,6 +230,7 @@ impl<W: Waiting> State<W> {
     }
 
     /// Moves the records in hand to a line of the book.
+    #[inline(always)]
     pub fn close(&mut self, step: &Step, answer: &Answer)
         requires { length self.old.hand < self.old.room }
         ensures book { self.new.book
@@ -239,6 +241,7 @@ impl<W: Waiting> State<W> {
     }
 
     /// A slot holds a capability now, or none.
+    #[inline(always)]
     pub fn fills(&mut self, at: SlotId, cap: Option<Cap>)
         requires allowed { Allowed (so_far self.old) (Rec.Slot at.cnode at.index cap) }
         requires room { length self.old.hand + 1 < self.old.room }
@@ -380,6 +383,7 @@ impl<W: Waiting> State<W> {
     }
 
     /// A context is held by this thread now, or by nobody.
+    #[inline(always)]
     pub fn holds(&mut self, context: ObjId, thread: Option<ObjId>)
         requires allowed { Allowed (so_far self.old) (Rec.Holds context thread) }
         requires room { length self.old.hand + 1 < self.old.room }

@@ -6,7 +6,7 @@ use Rattle.mcs_state.specs.Now.{so_far}
 use Rattle.mcs_state.specs.Doing.{Acts, FitsAct}
 use Rattle.mcs_state.proofs.Doing.{so_far-made, refused, acted, room-wakes, room-acts}
 use Rattle.mcs_ipc.specs.Ready.{IsSending}
-use Rattle.mcs_ipc.specs.Rows.{send_act}
+use Rattle.mcs_ipc.specs.Rows.{said, send_act}
 use Rattle.mcs_ipc.proofs.Facts.{woken-calls}
 use Rattle.mcs_ipc.proofs.Rows.{call-row, calls}
 use Rattle.mcs_ipc.proofs.sending.call.Goals as goal
@@ -36,5 +36,5 @@ returns-in-Err g c =
 pub returns-in-Ok : goal.returns-in-Ok
 returns-in-Ok g c =
     let row = call-row (so_far c.args.state.now) c.args.core c.args.thread c.args.address c.args.message _ _ c.cap_to_call.ensures c.in-Ok.is in
-    acted c.args.state.now c.wake.new.state c.send_over.new.state c.args.core c.args.thread (Call c.args.address c.args.message) (calls c.args.thread c.args.message c.in-Ok.cap) c.send_over.result row c.wake.ensures
-    (subst (λ mode. Acts (send_act true mode c.args.thread c.in-Ok.cap c.args.message) c.wake.new.state c.send_over.result c.send_over.new.state) c.call_mode-mode.ensures c.send_over.ensures)
+    rw c.said.ensures (acted c.args.state.now c.wake.new.state c.send_over.new.state c.args.core c.args.thread (Call c.args.address c.args.message) (calls c.args.thread c.args.message c.in-Ok.cap) (said c.send_over.result) row c.wake.ensures
+    (subst (λ mode. Acts (send_act true mode c.args.thread c.in-Ok.cap c.args.message) c.wake.new.state (said c.send_over.result) c.send_over.new.state) c.call_mode-mode.ensures c.send_over.ensures))

@@ -1,4 +1,4 @@
-use Rattle.mcs_book.specs.Taking.{give, give_back}
+use Rattle.mcs_book.specs.Taking.{give}
 use Rattle.mcs_ipc.proofs.taking.give.Goals as goal
 
 pub give_back-requires-clause-room : goal.give_back-requires-clause-room
