@@ -1,5 +1,5 @@
 -- A replay that goes on: line by line, and byte by byte.
-use Rattle.std.specs.Prelude.{◌≡◌, ◌≢◌, ◌⊎◌, ℕ, ◌+◌, ◌<◌, slice_index, List, [], ◌∷◌, ◌++◌, length, Option, Some, None, Result, Ok, Err, nat_lt, ◌==◌, if◌then◌else◌}
+use Rattle.std.specs.Prelude.{◌≡◌, ◌≢◌, ◌⊎◌, ℕ, ◌+◌, ◌<◌, slice_index, Bool, List, [], ◌∷◌, ◌++◌, length, Option, Some, None, Result, Ok, Err, nat_lt, ◌==◌, if◌then◌else◌}
 use Rattle.mcs_types.specs.declared.entry.Step.{Step}
 use Rattle.mcs_types.specs.declared.limits.TheConstants.{SCRIPT_LINES, SCRIPT_LINE_BYTES}
 use Rattle.mcs_book.specs.Boots.{Boot}
@@ -57,6 +57,10 @@ step_spelled cores threads line (w ∷ ws) = behind_boot (boot_key w) (step_of c
 -- the step that the line of this number says, where it is not skipped, behind a boot with so many cores and threads
 unfoldable pub step_line : ℕ → ℕ → ℕ → List ℕ → Result (Option Step) LineFault
 step_line cores threads number line = says_something number line >>= λ says. if says then step_spelled cores threads line (words_of line) else Ok None
+
+-- the step that a line says, where it says one
+abbrev pub said : Bool → Step → Option Step
+said says s = if says then Some s else None
 
 -- what was read of the line of this number
 abbrev pub read_at : {X : Type 0} → ℕ → Result X LineFault → Result X SimFault

@@ -2,26 +2,27 @@
 ghost use Rattle.std.specs.Prelude.{◌≡◌, ◌≤◌, ◌∷◌, IfOk, OnOk, OnErr, IsSome, [], Err, None, option_copied, option_to_list};
 ghost use Rattle.mcs_text.specs.Reading.{Gives};
 ghost use Rattle.mcs_sim.specs.Script.{threads_of, read_line, of_steps};
-ghost use Rattle.mcs_sim.specs.Going.{ComesOf, not_begun, begun_by, stepped, step_line, book_after, read_at, opened, after_line, after_end};
+ghost use Rattle.mcs_sim.specs.Going.{ComesOf, not_begun, begun_by, said, stepped, step_line, book_after, read_at, opened, after_line, after_end};
 ghost use Rattle.mcs_sim.specs.Phases.{opened_to, seen, HasNoItems};
 
 use crate::fault::SimFault;
 use crate::script::{Script, ScriptFault, make_ready, says_something};
 use mcs_kernel::{Boot, Kernel, Replay, ReplayFault};
 use mcs_queues::LinkedLines;
-use mcs_text::{LineFault, first_boot_key, read_step};
+use mcs_text::{LineFault, blank_step, first_boot_key, read_step_into};
 use mcs_types::{Kind, OutOfMemory, Room, SCRIPT_LINES, Step};
 use std::alloc::Global;
 use std::marker::Model;
 
-/// The run of the steps behind a boot, which has so many cores and threads, and room for the words of the next step where it
-/// was made and not used yet.
+/// The run of the steps behind a boot, which has so many cores and threads, room for the words of the next step where it
+/// was made and not used yet, and a step, into which the next is read.
 #[derive(Drop)]
 pub struct StepRun {
     cores: u8,
     threads: u32,
     replay: Replay<LinkedLines>,
     room: Option<Room>,
+    step: Step,
 }
 
 impl Model for StepRun {
@@ -37,6 +38,22 @@ impl Model for StepRun {
         × (s.threads ≡ threads_of s.replay.book.boot) };
 }
 
+/// Takes a step.
+// out of line, since with it each line that is read would save and clear its registers and locals
+#[inline(never)]
+#[tactic(auto, unfolding(crate::specs::Going::stepped))]
+fn take_step(replay: &mut Replay<LinkedLines>, alloc: Global, step: &Step) -> Result<(), SimFault>
+    ensures takes { ComesOf (λ u. replay.new.book) result (stepped replay.old.book step.now) }
+    ensures unchanged { OnErr result (replay.new.book ≡ replay.old.book) }
+    ensures boot { replay.new.book.boot ≡ replay.old.book.boot }
+{
+    match replay.advance(alloc, step) {
+        Ok(_) => Ok(()),
+        Err(ReplayFault::BookFull { step: _ }) => Err(SimFault::BookFull),
+        Err(ReplayFault::OutOfMemory { step: _ }) => Err(SimFault::OutOfMemory),
+    }
+}
+
 impl StepRun {
     /// Before the first step.
     fn new(alloc: Global, boot: Boot) -> Result<StepRun, OutOfMemory>
@@ -50,6 +67,7 @@ impl StepRun {
             threads,
             replay,
             room: None,
+            step: blank_step(),
         })
     }
 
@@ -60,21 +78,6 @@ impl StepRun {
         self.replay.kernel()
     }
 
-    /// Takes a step.
-    // out of line, since with it each line that is read would save and clear its registers and locals
-    #[inline(never)]
-    #[tactic(auto, unfolding(crate::specs::Going::stepped))]
-    fn take(&mut self, alloc: Global, step: &Step) -> Result<(), SimFault>
-        ensures takes { ComesOf (λ u. self.new) result (stepped self.old step.now) }
-        ensures unchanged { OnErr result (self.new ≡ self.old) }
-    {
-        match self.replay.advance(alloc, step) {
-            Ok(_) => Ok(()),
-            Err(ReplayFault::BookFull { step: _ }) => Err(SimFault::BookFull),
-            Err(ReplayFault::OutOfMemory { step: _ }) => Err(SimFault::OutOfMemory),
-        }
-    }
-
     /// Behind this boot, after the first step.
     fn start(alloc: Global, boot: Boot, step: Step) -> Result<StepRun, SimFault>
         ensures { ComesOf (λ k. k) result (stepped (begun_by boot) step) }
@@ -82,7 +85,7 @@ impl StepRun {
         let Ok(mut run) = StepRun::new(alloc, boot) else {
             return Err(SimFault::OutOfMemory);
         };
-        run.take(alloc, &step)?;
+        take_step(&mut run.replay, alloc, &step)?;
         Ok(run)
     }
 
@@ -103,16 +106,17 @@ impl StepRun {
             number,
             line,
             &mut self.room,
+            &mut self.step,
         ) {
-            Ok(None) => Ok(()),
-            Ok(Some(step)) => self.take(alloc, &step),
+            Ok(false) => Ok(()),
+            Ok(true) => take_step(&mut self.replay, alloc, &self.step),
             Err(why) => Err(SimFault::Script { line: number, why }),
         }
     }
 }
 
-/// The step that a line of this number says behind a boot with so many cores and threads, if it is not skipped. The room is used
-/// up by a message of more than four words.
+/// Reads the step that a line of this number says behind a boot with so many cores and threads, if it is not skipped. Answers
+/// whether it says one. The room is used up by a message of more than four words.
 #[tactic(auto, unfolding(crate::specs::Going::step_line))]
 fn read_step_line(
     alloc: Global,
@@ -121,19 +125,21 @@ fn read_step_line(
     number: u64,
     line: &[u8],
     room: &mut Option<Room>,
-) -> Result<Option<Step>, LineFault>
+    step: &mut Step,
+) -> Result<bool, LineFault>
     requires { IsSome room.old }
-    ensures reads { Gives (λ s. s) result (step_line cores threads number line.now) }
+    ensures reads { Gives (λ says. said says step.new) result
+        (step_line cores threads number line.now) }
     ensures numbered { OnOk result (number ≤ SCRIPT_LINES) }
 {
     if !says_something(number, line)? {
-        return Ok(None);
+        return Ok(false);
     }
     if first_boot_key(line).is_some() {
         return Err(LineFault::LateBoot);
     }
-    let step = read_step(alloc, cores, threads, line, room)?;
-    Ok(Some(step))
+    read_step_into(alloc, cores, threads, line, room, step)?;
+    Ok(true)
 }
 
 /// Reads a line of this number while the boot goes on, and answers the step that it says, with which the boot ends.

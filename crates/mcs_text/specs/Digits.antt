@@ -1,0 +1,30 @@
+-- Numbers that are read digit by digit.
+use Rattle.std.specs.Prelude.{◌≡◌, ◌≢◌, ◌+◌, ◌<◌, ◌≤◌, ℕ, List, [], length, take, drop, slice_index, Option, Some, None, Result, Ok, Err, nat_lt, true, if◌then◌else◌}
+use Rattle.mcs_text.specs.Reading.{words_of, all_digits, value}
+use Rattle.mcs_text.specs.declared.fault.LineFault.{LineFault}
+use Rattle.mcs_text.specs.declared.fault.LineFault.TheVariants.{Form}
+use Rattle.mcs_text.specs.declared.words.Spelled.{Spelled}
+use Rattle.mcs_text.specs.declared.words.Spelled.TheVariants as s
+
+-- a text begins with so many digits, and they write this number
+pub record Begins (text : List ℕ) (count n : ℕ) : Type 0 where
+  pub within : count ≤ length text
+  pub digits : all_digits (take count text) ≡ true
+  pub writes : value (take count text) ≡ n
+
+-- the first word of a text is a number of so many digits, of which the first is not 0
+pub record IsFirst (text : List ℕ) (count n : ℕ) : Type 0 where
+  pub begins : Begins text count n
+  pub some : count ≢ 0
+  pub unpadded : slice_index text 0 ≢ 48
+  pub end : count < length text → slice_index text count ≡ 32
+
+-- the words behind a first word of so many bytes
+abbrev pub words_behind : ℕ → List ℕ → List (List ℕ)
+words_behind count text = if nat_lt count (length text) then words_of (drop (count + 1) text) else []
+
+-- what is read of a word that may be a number
+abbrev pub spelled : Spelled → Result (Option ℕ) LineFault
+spelled (s.Number n) = Ok (Some n)
+spelled s.Large = Ok None
+spelled s.Other = Err Form
