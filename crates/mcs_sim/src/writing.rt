@@ -29,6 +29,7 @@ fn count_sent(sent: u128, fact: &KeptRecord<'_>) -> u128
 }
 
 /// Writes the records of a line before which so many messages were sent, and answers how many were sent with them.
+#[inline(always)]
 fn put_records<W: Write>(sink: &mut Sink<W>, sent: u128, line: &Line<'_>) -> u128
     requires { sent + 2 ^ 64 < 2 ^ 128 }
     ensures puts { Puts W.contents sink.old sink.new (records_trace sent line.now.records) }
@@ -49,6 +50,7 @@ fn put_records<W: Write>(sink: &mut Sink<W>, sent: u128, line: &Line<'_>) -> u12
 }
 
 /// Writes a line before which so many messages were sent, and answers how many were sent with it.
+#[inline(always)]
 fn put_book_line<W: Write>(sink: &mut Sink<W>, sent: u128, line: &Line<'_>) -> u128
     requires { sent + 2 ^ 64 < 2 ^ 128 }
     ensures puts { Puts W.contents sink.old sink.new (line_trace sent line.now) }
@@ -77,6 +79,7 @@ impl Told {
 }
 
 /// Puts the lines behind those that were told, and answers how many messages were sent with all of them.
+#[inline(always)]
 fn put_lines<W: Write>(sink: &mut Sink<W>, told: Told, book: &Book) -> u128
     requires fits { told.sent ≤ (told.lines - 1) * 2 ^ 64 }
     requires few { told.lines ≤ length book.now.book.lines + 1 }

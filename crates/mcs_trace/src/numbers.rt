@@ -107,6 +107,7 @@ impl Line {
     }
 
     /// A number below 100,000,000.
+    #[inline(always)]
     fn middle(&mut self, n: u64)
         requires small { n < 100000000 }
         requires room { HasRoom self.old 8 }

@@ -31,6 +31,7 @@ pub fn put_boot_line<W: Write>(sink: &mut Sink<W>, line: &BootLine)
 
 /// Writes the line of a step.
 #[tactic(auto, using(crate::proofs::Outputs::puts_line_then))]
+#[inline(always)]
 pub fn put_kept_step<W: Write>(sink: &mut Sink<W>, step: &KeptStep<'_>)
     ensures { Puts W.contents sink.old sink.new (step_text step.now) }
 {
@@ -53,6 +54,7 @@ pub fn put_kept_answer<W: Write>(sink: &mut Sink<W>, answer: &KeptAnswer<'_>)
 
 /// Writes the line of a record, before which so many messages were sent.
 #[tactic(auto, using(crate::proofs::Outputs::puts_line_then))]
+#[inline(always)]
 pub fn put_kept_record<W: Write>(sink: &mut Sink<W>, sent: u128, fact: &KeptRecord<'_>)
     ensures { Puts W.contents sink.old sink.new (record_text sent fact.now) }
 {

@@ -382,6 +382,7 @@ fn write_record(line: &mut Line, sent: u128, fact: &Rec)
 }
 
 /// The line of a record where it is kept, before which so many messages were sent.
+#[inline(always)]
 pub fn write_kept(line: &mut Line, sent: u128, packed: &Packed, words: &[u64], wide: &[Rec])
     requires fits { Fits packed.now words.now wide.now }
     requires room { HasRoom line.old LINE }

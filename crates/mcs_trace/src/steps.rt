@@ -79,6 +79,7 @@ fn place_of(index: u64, depth: u8) -> Place
 }
 
 /// The line of an entry where it is kept: a table, with an arm for each form.
+#[inline(always)]
 pub fn write_kept_step(line: &mut Line, from: Entrant, entry: &PackedEntry, words: &[u64])
     requires fits { EntryFits entry.now words.now }
     requires room { HasRoom line.old LINE }
