@@ -6,6 +6,8 @@ mod gate;
 mod machine;
 mod positions;
 mod run;
+mod shared;
+mod sight;
 mod users;
 
 pub use gate::{Gate, Open};

@@ -49,7 +49,7 @@ impl<G: Ledger, L: Lines> LockedKernel<G, L> {
     }
 
     /// Lets in an entry of a thread on the seat's core, or turns it away.
-    fn enter(
+    pub(crate) fn enter(
         &mut self,
         alloc: Global,
         seat: &mut CoreSeat<G>,

@@ -1,19 +1,23 @@
-//! How far the users of a run are, what a core picks of them, and which cores wait (own).
+//! How far the users of a run are, what they can give, and which cores wait (own).
+ghost use Rattle.std.specs.Prelude.{◌+◌, ◌<◌, ◌^◌};
+
 use crate::core_set::CoreSet;
-use crate::machine::Machine;
+use crate::machine::LockedKernel;
+use crate::sight::{Offer, Sight, Turn};
 use crate::users::{UserList, Users};
 use mcs_kernel::Kernel;
 use mcs_queues::Lines;
-use mcs_seats::{Answered, CoreSeat, Turned};
+use mcs_seats::{Answered, CoreSeat, Prepared, Turned};
 use mcs_turns::Position;
-use mcs_types::{CoreId, Kind, ObjId, OutOfMemory, Status, ThreadSet};
+use mcs_types::{CoreId, ObjId, OutOfMemory, Status};
 use std::alloc::Global;
-use std::sync::Wait;
 use std::sync::ledger::Ledger;
 
-/// How far a user is, and how often it moved.
+/// How far a user is: its thread, how many entries it has, and how often it moved.
 #[derive(Drop)]
 struct UserPosition {
+    thread: ObjId,
+    entries: usize,
     place: Position,
     moves: u64,
 }
@@ -26,52 +30,41 @@ pub(crate) struct Positions {
     pub(crate) over: bool,
 }
 
-/// An entry that a core picked: the user and its thread, the number of the entry in the user's list, and how often the
-/// user's position had been moved by then.
-#[derive(Drop)]
-pub(crate) struct Turn {
-    pub(crate) thread: ObjId,
-    user: usize,
-    number: usize,
-    moves: u64,
-}
-
-/// What a core finds when it looks.
-#[derive(Drop)]
-pub(crate) enum Sight {
-    /// An entry of its best thread.
-    Picked(Turn),
-    /// Nothing of its own, but another core has something.
-    Nothing,
-    /// Nothing for any core.
-    End,
-}
-
-/// The core on which a thread may enter, where it may.
-fn entry_core<L: Lines>(kernel: &Kernel<L>, thread: ObjId) -> Option<CoreId> {
-    match kernel.status(thread) {
-        Some(Status::Running | Status::Restart) => kernel.core(kernel.context(thread)?),
-        _ => None,
-    }
+/// Whether a thread of this status can run.
+fn is_ready(status: Status) -> bool {
+    matches!(status, Status::Running | Status::Restart)
 }
 
 impl UserPosition {
     /// Before the first entry.
-    fn start() -> UserPosition {
+    fn start(list: &UserList) -> UserPosition {
         UserPosition {
+            thread: list.thread,
+            entries: list.entries.len(),
             place: Position::start(),
             moves: 0,
         }
     }
 
-    /// The number of the entry that the user gives now; None where it has none left.
-    fn due<L: Lines>(&self, kernel: &Kernel<L>, list: &UserList) -> Option<usize> {
-        let number = self.place.due(kernel.status(list.thread));
-        if number < list.entries.len() {
-            Some(number)
-        } else {
-            None
+    /// What the user of this number can give now; None where it has no entry left, or its thread may enter nowhere.
+    fn offer<L: Lines>(&self, kernel: &Kernel<L>, user: usize) -> Option<Offer> {
+        let row = kernel.thread(self.thread)?;
+        let status = row.status();
+        if !is_ready(status) || !self.place.is_left(Some(status), self.entries) {
+            return None;
         }
+        let core = kernel.core(kernel.context(self.thread)?)?;
+        let turn = Turn {
+            thread: self.thread,
+            user,
+            number: self.place.due(Some(status)),
+            moves: self.moves,
+        };
+        Some(Offer {
+            core,
+            priority: row.priority,
+            turn,
+        })
     }
 
     /// Moves it to another place.
@@ -82,12 +75,13 @@ impl UserPosition {
 }
 
 impl Positions {
-    /// The beginning of a run of so many users.
-    pub(crate) fn new(alloc: Global, users: usize) -> Result<Positions, OutOfMemory> {
-        let mut positions = Vec::with_capacity(alloc, users)?;
-        for _ in 0..users {
+    /// The beginning of a run of these users.
+    pub(crate) fn new(alloc: Global, users: &Users) -> Result<Positions, OutOfMemory> {
+        let lists = users.lists();
+        let mut positions = Vec::with_capacity(alloc, lists.len())?;
+        for list in lists {
             positions
-                .push(UserPosition::start())
+                .push(UserPosition::start(list))
                 .map_err(|_| OutOfMemory)?;
         }
         Ok(Positions {
@@ -97,95 +91,36 @@ impl Positions {
         })
     }
 
-    /// What a core can do: an entry of its thread of greatest priority among those that have something left.
-    pub(crate) fn find<L: Lines>(&self, kernel: &Kernel<L>, users: &Users, core: CoreId) -> Sight {
-        let done = self.done(kernel, users);
-        if let Some(thread) = kernel.pick(core, &done) {
-            if let Some(turn) = self.turn_of(kernel, users, thread) {
-                return Sight::Picked(turn);
+    /// What a core sees now. Each user is asked once what it can give, since its thread may enter on one core alone.
+    pub(crate) fn look<L: Lines>(&self, kernel: &Kernel<L>, core: CoreId) -> Sight {
+        let mut sight = Sight::new(core);
+        for (user, position) in self.users.iter().enumerate() {
+            if let Some(offer) = position.offer(kernel, user) {
+                sight.add(offer);
             }
         }
-        if self.ready(kernel, users).is_empty() {
-            Sight::End
-        } else {
-            Sight::Nothing
-        }
-    }
-
-    /// The cores that can pick something.
-    pub(crate) fn ready<L: Lines>(&self, kernel: &Kernel<L>, users: &Users) -> CoreSet {
-        let mut ready = CoreSet::new();
-        for (list, position) in users.lists().iter().zip(self.users.iter()) {
-            if position.due(kernel, list).is_some() {
-                if let Some(core) = entry_core(kernel, list.thread) {
-                    ready.insert(core);
-                }
-            }
-        }
-        ready
-    }
-
-    /// The threads that have nothing left.
-    fn done<L: Lines>(&self, kernel: &Kernel<L>, users: &Users) -> ThreadSet {
-        let mut left = ThreadSet::new();
-        for (list, position) in users.lists().iter().zip(self.users.iter()) {
-            if position.due(kernel, list).is_some() {
-                left.insert(list.thread);
-            }
-        }
-        let mut done = ThreadSet::new();
-        for place in 0..kernel.made(Kind::Thread) {
-            let thread = ObjId {
-                kind: Kind::Thread,
-                serial: place.saturating_add(1),
-            };
-            if !left.contains(thread) {
-                done.insert(thread);
-            }
-        }
-        done
-    }
-
-    /// What a thread gives now.
-    fn turn_of<L: Lines>(&self, kernel: &Kernel<L>, users: &Users, thread: ObjId) -> Option<Turn> {
-        let user = users.find(thread)?;
-        let position = self.users.get(user)?;
-        let number = position.due(kernel, users.lists().get(user)?)?;
-        Some(Turn {
-            thread,
-            user,
-            number,
-            moves: position.moves,
-        })
+        sight
     }
 
     /// Enters what a core picked, and moves the user's position on where it was let in; None where that position was moved
     /// since the pick.
-    pub(crate) fn enter<G: Ledger, L: Lines, R: Wait>(
+    pub(crate) fn enter<G: Ledger, L: Lines>(
         &mut self,
-        rt: &R,
         alloc: Global,
-        machine: &Machine<G, L>,
-        users: &Users,
+        kernel: &mut LockedKernel<G, L>,
         seat: &mut CoreSeat<G>,
         turn: Turn,
-    ) -> Option<Result<Answered, Turned>> {
-        let Turn {
-            thread,
-            user,
-            number,
-            moves,
-        } = turn;
-        let position = self.users.get_mut(user)?;
-        if position.moves != moves {
+        prepared: Prepared,
+    ) -> Option<Result<Answered, Turned>>
+        requires { turn.number + 1 < 2 ^ 64 }
+    {
+        let position = self.users.get_mut(turn.user)?;
+        if position.moves != turn.moves {
             return None;
         }
-        let Ok(entry) = users.lists().get(user)?.entries.get(number)?.copy(alloc) else {
-            return Some(Err(Turned::OutOfMemory));
-        };
-        let result = machine.enter(rt, alloc, seat, thread, entry);
+        let result = kernel.enter(alloc, seat, turn.thread, prepared);
         if let Ok(answered) = &result {
-            position.move_to(Position::past(number, &answered.answer));
+            position.move_to(Position::past(turn.number, &answered.answer));
         }
         Some(result)
     }

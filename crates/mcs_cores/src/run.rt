@@ -1,18 +1,20 @@
 //! A run: each core works off the lists of users by a host thread of its own (own).
-ghost use Rattle.std.specs.Prelude.{◌≡◌, ◌≤◌, vec_len, vec_capacity};
+ghost use Rattle.std.specs.Prelude.{◌≡◌, ◌≤◌, ◌<◌, ◌+◌, ◌^◌, vec_len, vec_capacity};
 
 use crate::core_set::CoreSet;
 use crate::gate::Gate;
 use crate::machine::Machine;
-use crate::positions::{Positions, Sight, Turn};
+use crate::positions::Positions;
+use crate::shared::{Next, SharedPositions};
+use crate::sight::Turn;
 use crate::users::Users;
-use mcs_kernel::EnterFault;
+use mcs_kernel::{EnterFault, Kernel};
 use mcs_queues::Lines;
-use mcs_seats::{Answered, CoreSeat, Turned};
+use mcs_seats::{Answered, CoreSeat, Prepared, Turned};
 use mcs_types::{CORES, CoreId, OutOfMemory};
 use std::alloc::Global;
+use std::sync::Wait;
 use std::sync::ledger::Ledger;
-use std::sync::{Condvar, Mutex, MutexGuard, Wait};
 use std::thread;
 use std::thread::Threads;
 
@@ -25,13 +27,6 @@ pub enum RunFault {
     OutOfMemory = 2,
     /// A host thread could not be started, also for want of memory.
     NoThread = 3,
-}
-
-/// How far the users are, whose lock is taken before the kernel's, and for each core the news that it need not wait any more.
-#[derive(Drop)]
-struct SharedPositions {
-    positions: Mutex<Positions>,
-    news: Vec<Condvar>,
 }
 
 /// All that the threads of a run share.
@@ -62,130 +57,127 @@ fn ends_run(turned: Turned) -> Result<(), RunFault> {
     }
 }
 
-impl SharedPositions {
-    /// The beginning of a run of so many users.
-    fn new(alloc: Global, users: usize) -> Result<SharedPositions, OutOfMemory> {
-        let mut news = Vec::with_capacity(alloc, CORES as usize)?;
-        for _ in 0..CORES {
-            news.push(Condvar::new()).map_err(|_| OutOfMemory)?;
+impl<G: Ledger, L: Lines, T: Gate> RunContext<'_, G, L, T> {
+    /// Tells those of some cores that wait what they pick. They do not wait any more, and have to be woken.
+    fn tell<R: Wait>(
+        &self,
+        rt: &R,
+        positions: &mut Positions,
+        kernel: &Kernel<L>,
+        ready: CoreSet,
+    ) -> CoreSet {
+        let mut told = CoreSet::new();
+        let waiting = ready.common(&positions.asleep);
+        if waiting.is_empty() {
+            return told;
         }
-        Ok(SharedPositions {
-            positions: Mutex::new(Positions::new(alloc, users)?),
-            news,
-        })
-    }
-
-    /// Ends the run for all cores: they stop at their next turn.
-    fn end(&self, positions: &mut Positions) {
-        positions.over = true;
-        for news in self.news.iter() {
-            news.notify_all();
-        }
-    }
-
-    /// The same, by who does not have the lock.
-    fn close<R: Wait>(&self, rt: &R) {
-        let mut positions = self.positions.lock(rt);
-        self.end(&mut positions);
-    }
-
-    /// Wakes those of some cores that wait.
-    fn wake(&self, positions: &mut Positions, ready: CoreSet) {
         for core in 0..CORES {
             let core = CoreId(core);
-            if ready.contains(core) && positions.asleep.contains(core) {
-                positions.asleep.remove(core);
-                if let Some(news) = self.news.get(core.0 as usize) {
-                    news.notify_all();
+            if waiting.contains(core) {
+                if let Some(turn) = positions.look(kernel, core).pick() {
+                    self.shared.tell(rt, core, Next::Enters(turn));
+                    positions.asleep.remove(core);
+                    told.insert(core);
                 }
             }
         }
+        told
     }
 
-    /// Waits until the core is woken, or the run is over. A core without news of its own does not wait.
-    fn sleep<'a, R: Wait>(
-        &'a self,
+    /// What the core does next, by what it sees now, with the cores that have to be woken for that. Where no core can pick
+    /// anything, the run is over.
+    fn look<R: Wait>(
+        &self,
         rt: &R,
-        positions: MutexGuard<'a, Positions>,
+        positions: &mut Positions,
+        kernel: &Kernel<L>,
         core: CoreId,
-    ) -> MutexGuard<'a, Positions> {
-        let Some(news) = self.news.get(core.0 as usize) else {
-            return positions;
+    ) -> (Next, CoreSet) {
+        if positions.over {
+            return (Next::Stops, CoreSet::new());
+        }
+        let sight = positions.look(kernel, core);
+        if sight.ready().is_empty() {
+            return (Next::Stops, self.shared.end(rt, positions));
+        }
+        let told = self.tell(rt, positions, kernel, sight.ready());
+        match sight.pick() {
+            Some(turn) => (Next::Enters(turn), told),
+            None => {
+                positions.asleep.insert(core);
+                (Next::Waits, told)
+            }
+        }
+    }
+
+    /// What the core does next where it enters nothing before.
+    fn begin<R: Wait>(&self, rt: &R, core: CoreId) -> Next {
+        let (next, told) = {
+            let mut positions = self.shared.positions.lock(rt);
+            let kernel = self.machine.lock(rt);
+            self.look(rt, &mut positions, kernel.kernel(), core)
         };
-        let mut positions = positions;
-        positions.asleep.insert(core);
-        news.wait_while(rt, positions, |positions| {
-            !positions.over && positions.asleep.contains(core)
-        })
-    }
-}
-
-impl<G: Ledger, L: Lines, T: Gate> RunContext<'_, G, L, T> {
-    /// Waits until the core can pick something; None where the run is over.
-    fn pick<R: Wait>(&self, rt: &R, core: CoreId) -> Option<Turn> {
-        let mut positions = self.shared.positions.lock(rt);
-        for _ in rt.forever() {
-            if positions.over {
-                return None;
-            }
-            // The kernel's lock is given up here: a core that waits below must not keep it.
-            let sight = positions.find(self.machine.lock(rt).kernel(), self.users, core);
-            match sight {
-                Sight::Picked(turn) => return Some(turn),
-                Sight::Nothing => positions = self.shared.sleep(rt, positions, core),
-                Sight::End => {
-                    self.shared.end(&mut positions);
-                    return None;
-                }
-            }
-        }
-        unreachable!()
+        self.shared.wake(told);
+        next
     }
 
-    /// Wakes the cores that wait and can pick something now.
-    fn wake<R: Wait>(&self, rt: &R, positions: &mut Positions) {
-        if !positions.asleep.is_empty() {
-            let ready = positions.ready(self.machine.lock(rt).kernel(), self.users);
-            self.shared.wake(positions, ready);
-        }
-    }
-
-    /// Enters what the core picked, where its user has not moved since. Only what the core looked at may be entered, so the
-    /// users' positions stay locked from the test whether they moved until they are moved on, and others are woken.
+    /// Enters what the core picked, where its user has not moved since, and looks what the core does next. Only what the core
+    /// looked at may be entered, so the users' positions stay locked from the test whether they moved until they are moved
+    /// on. The locks are taken once for both, and others are woken when they are given up.
     fn enter<R: Wait>(
         &self,
         rt: &R,
         seat: &mut CoreSeat<G>,
         turn: Turn,
-    ) -> Option<Result<Answered, Turned>> {
-        let mut positions = self.shared.positions.lock(rt);
-        let entered = positions.enter(rt, self.alloc, self.machine, self.users, seat, turn);
-        if let Some(Ok(_)) = &entered {
-            self.wake(rt, &mut positions);
-        }
-        entered
+        prepared: Prepared,
+    ) -> (Option<Result<Answered, Turned>>, Next)
+        requires { turn.number + 1 < 2 ^ 64 }
+    {
+        let core = seat.core();
+        let (entered, next, told) = {
+            let mut positions = self.shared.positions.lock(rt);
+            let mut kernel = self.machine.lock(rt);
+            let entered = positions.enter(self.alloc, &mut kernel, seat, turn, prepared);
+            let (next, told) = self.look(rt, &mut positions, kernel.kernel(), core);
+            (entered, next, told)
+        };
+        self.shared.wake(told);
+        (entered, next)
     }
 
     /// Enters what the core picked, and calls the gate where it was let in.
-    fn give<R: Wait>(&self, rt: &R, seat: &mut CoreSeat<G>, turn: Turn) -> Result<(), RunFault> {
-        match self.enter(rt, seat, turn) {
-            None => Ok(()),
-            Some(Err(turned)) => ends_run(turned),
-            Some(Ok(answered)) => {
-                self.gate.answered(seat.core(), answered.line as u64);
-                Ok(())
-            }
+    fn give<R: Wait>(&self, rt: &R, seat: &mut CoreSeat<G>, turn: Turn) -> Result<Next, RunFault> {
+        let Some(entry) = self.users.entry(turn.user, turn.number) else {
+            return Ok(self.begin(rt, seat.core()));
+        };
+        let Ok(entry) = entry.copy(self.alloc) else {
+            return Err(RunFault::OutOfMemory);
+        };
+        let Ok(prepared) = seat.prepare(self.alloc, entry) else {
+            return Err(RunFault::OutOfMemory);
+        };
+        let (entered, next) = self.enter(rt, seat, turn, prepared);
+        match entered {
+            None => {}
+            Some(Err(turned)) => ends_run(turned)?,
+            Some(Ok(answered)) => self.gate.answered(seat.core(), answered.line as u64),
         }
+        Ok(next)
     }
 
     /// The turns of a core, until the run is over.
     fn work<R: Wait>(&self, rt: &R, seat: &mut CoreSeat<G>) -> Result<(), RunFault> {
+        let core = seat.core();
+        let mut next = self.begin(rt, core);
         for _ in rt.forever() {
-            let Some(turn) = self.pick(rt, seat.core()) else {
-                return Ok(());
+            next = match next {
+                Next::Enters(turn) => {
+                    self.gate.between(core, turn.thread);
+                    self.give(rt, seat, turn)?
+                }
+                Next::Waits => self.shared.hear(rt, core),
+                Next::Stops => return Ok(()),
             };
-            self.gate.between(seat.core(), turn.thread);
-            self.give(rt, seat, turn)?;
         }
         unreachable!()
     }
@@ -329,7 +321,7 @@ impl<G: Ledger + Send + Sync, L: Lines + Send + Sync> Machine<G, L> {
         users: &Users,
         gate: &T,
     ) -> (Vec<CoreSeat<G>>, Result<(), RunFault>) {
-        let Ok(shared) = SharedPositions::new(alloc, users.lists().len()) else {
+        let Ok(shared) = SharedPositions::new(alloc, users) else {
             return (seats, Err(RunFault::OutOfMemory));
         };
         let Ok(running) = Vec::with_capacity(alloc, seats.len()) else {

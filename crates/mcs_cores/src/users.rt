@@ -1,5 +1,5 @@
 //! Users: a list of entries for each of some threads (own).
-ghost use Rattle.std.specs.Prelude.{◌≡◌, ◌∷◌, ◌++◌, [], OnOk, OnErr, position};
+ghost use Rattle.std.specs.Prelude.{◌≡◌, ◌<◌, ◌+◌, ◌^◌, ◌∷◌, ◌++◌, [], OnOk, OnErr, IsSome, position};
 ghost use Rattle.mcs_types.specs.Ids.{same};
 ghost use Rattle.mcs_cores.specs.Users.{with_entry};
 
@@ -88,8 +88,15 @@ impl Users {
         self.lists.as_slice()
     }
 
+    /// An entry of a user, by the numbers of both.
+    pub(crate) fn entry(&self, user: usize, number: usize) -> Option<&Entry>
+        ensures { IsSome result → number + 1 < 2 ^ 64 }
+    {
+        self.lists.get(user)?.entries.get(number)
+    }
+
     /// The place of a thread's list.
-    pub(crate) fn find(&self, thread: ObjId) -> Option<usize>
+    fn find(&self, thread: ObjId) -> Option<usize>
         ensures { result ≡ position (λ u. same u.thread thread) self.now }
     {
         self.lists

@@ -1,0 +1,114 @@
+//! What the threads of a run share: how far the users are, and what cores that wait are told (own).
+use crate::core_set::CoreSet;
+use crate::positions::Positions;
+use crate::sight::Turn;
+use crate::users::Users;
+use mcs_types::{CORES, CoreId, OutOfMemory};
+use std::alloc::Global;
+use std::sync::{Condvar, Mutex, Wait};
+
+/// What a core does next.
+#[derive(Clone, Copy, Drop)]
+pub(crate) enum Next {
+    /// It enters what it picked.
+    Enters(Turn),
+    /// It waits until it is told something.
+    Waits,
+    /// It stops, for the run is over.
+    Stops,
+}
+
+/// What a core is told, and where it waits for that.
+#[derive(Drop)]
+struct News {
+    told: Mutex<Next>,
+    changed: Condvar,
+}
+
+/// How far the users are, and the news of each core. The lock of the positions is taken before the kernel's, and either before
+/// that of news.
+#[derive(Drop)]
+pub(crate) struct SharedPositions {
+    pub(crate) positions: Mutex<Positions>,
+    news: Vec<News>,
+}
+
+impl News {
+    /// Nothing yet.
+    fn new() -> News {
+        News {
+            told: Mutex::new(Next::Waits),
+            changed: Condvar::new(),
+        }
+    }
+
+    /// Waits until the core is told something, and forgets it.
+    fn hear<R: Wait>(&self, rt: &R) -> Next {
+        let mut told = self
+            .changed
+            .wait_while(rt, self.told.lock(rt), |told| matches!(told, Next::Waits));
+        let next = *told;
+        *told = Next::Waits;
+        next
+    }
+}
+
+impl SharedPositions {
+    /// The beginning of a run of these users.
+    pub(crate) fn new(alloc: Global, users: &Users) -> Result<SharedPositions, OutOfMemory> {
+        let mut news = Vec::with_capacity(alloc, CORES as usize)?;
+        for _ in 0..CORES {
+            news.push(News::new()).map_err(|_| OutOfMemory)?;
+        }
+        Ok(SharedPositions {
+            positions: Mutex::new(Positions::new(alloc, users)?),
+            news,
+        })
+    }
+
+    /// Tells a core something. Who does so wakes it when the locks are given up, for which it would have to wait.
+    pub(crate) fn tell<R: Wait>(&self, rt: &R, core: CoreId, next: Next) {
+        if let Some(news) = self.news.get(core.0 as usize) {
+            *news.told.lock(rt) = next;
+        }
+    }
+
+    /// Waits until a core is told something. A core without news of its own stops.
+    pub(crate) fn hear<R: Wait>(&self, rt: &R, core: CoreId) -> Next {
+        match self.news.get(core.0 as usize) {
+            Some(news) => news.hear(rt),
+            None => Next::Stops,
+        }
+    }
+
+    /// Wakes cores that were told something.
+    pub(crate) fn wake(&self, told: CoreSet) {
+        if told.is_empty() {
+            return;
+        }
+        for core in 0..CORES {
+            if told.contains(CoreId(core)) {
+                if let Some(news) = self.news.get(core as usize) {
+                    news.changed.notify_all();
+                }
+            }
+        }
+    }
+
+    /// Ends the run for all cores: they stop at their next turn. Those that wait are told so, and have to be woken.
+    pub(crate) fn end<R: Wait>(&self, rt: &R, positions: &mut Positions) -> CoreSet {
+        positions.over = true;
+        for core in 0..CORES {
+            if positions.asleep.contains(CoreId(core)) {
+                self.tell(rt, CoreId(core), Next::Stops);
+            }
+        }
+        positions.asleep
+    }
+
+    /// The same, by who does not have the lock.
+    pub(crate) fn close<R: Wait>(&self, rt: &R) {
+        let told = self.end(rt, &mut self.positions.lock(rt));
+        self.wake(told);
+    }
+}
