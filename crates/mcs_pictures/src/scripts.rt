@@ -132,6 +132,27 @@ fn drawing_of(alloc: Global, boot: &Boot, text: &[u8]) -> Result<Drawn, LabFault
     Ok(drawn)
 }
 
+/// The page of a script that was taken whole; None where it has no boot.
+fn page_of(
+    alloc: Global,
+    script: &Script,
+    format: Format,
+    window: Window,
+) -> Result<Option<String>, LabFault> {
+    let Some(kernel) = script.judge.kernel() else {
+        return Ok(None);
+    };
+    let boot = boot_of(alloc, kernel.book())?;
+    let Drawn { drawing } = drawing_of(alloc, &boot, &script.text)?;
+    let names = ScriptNames(&script.names);
+    let page = match format {
+        Format::Svg => svg_of(alloc, &drawing, &names, window)?,
+        Format::Mermaid => mermaid_of(alloc, &drawing, &names, window)?,
+        Format::Html => html_of(alloc, &drawing, &names, window)?,
+    };
+    Ok(Some(page))
+}
+
 /// Draws a script of steps, or a trace: the lines of the book in a window. Its faults are those of `mcs_lab`: a line that is refused,
 /// a name without its form, a read, a write, a full book, or memory that is refused.
 pub fn draw_script<R: Read, W: Write>(
@@ -148,17 +169,8 @@ pub fn draw_script<R: Read, W: Write>(
     };
     take_lines(alloc, from, &mut script)?;
     script.judge.end(alloc)?;
-    let Some(kernel) = script.judge.kernel() else {
-        return Ok(());
-    };
-    let boot = boot_of(alloc, kernel.book())?;
-    let Drawn { drawing } = drawing_of(alloc, &boot, &script.text)?;
-    let names = ScriptNames(&script.names);
-    let page = match format {
-        Format::Svg => svg_of(alloc, &drawing, &names, window)?,
-        Format::Mermaid => mermaid_of(alloc, &drawing, &names, window)?,
-        Format::Html => html_of(alloc, &drawing, &names, window)?,
-    };
-    to.write_all(page.as_bytes())?;
+    if let Some(page) = page_of(alloc, &script, format, window)? {
+        to.write_all(page.as_bytes())?;
+    }
     Ok(())
 }
