@@ -16,13 +16,25 @@ use std::marker::Model;
 
 /// The run of the steps behind a boot, which has so many cores and threads, room for the words of the next step where it
 /// was made and not used yet, and a step, into which the next is read.
-#[derive(Drop)]
 pub struct StepRun {
     cores: u8,
     threads: u32,
     replay: Replay<LinkedLines>,
     room: Option<Room>,
     step: Step,
+}
+
+// By hand, so that it is a function of its own: a derived drop would be proved anew wherever a run is let go.
+impl Drop for StepRun {
+    fn drop(self) {
+        let StepRun {
+            cores: _,
+            threads: _,
+            replay: _,
+            room: _,
+            step: _,
+        } = self;
+    }
 }
 
 impl Model for StepRun {
