@@ -1,5 +1,5 @@
 //! The line that is written: bytes at the front of a buffer.
-ghost use Rattle.std.specs.Prelude.{◌≡◌, ◌≤◌, ◌+◌, ◌∷◌, [], length};
+ghost use Rattle.std.specs.Prelude.{◌≡◌, ◌≤◌, ◌+◌, ◌∷◌, [], length, take};
 ghost use Rattle.mcs_trace.specs.Room.{Adds, HasRoom};
 
 use std::marker::Model;
@@ -82,6 +82,19 @@ impl Line {
         self.bytes[at..end].copy_from_slice(bytes);
         self.end = end;
     }
+
+    /// The first so many of four bytes. All four are stored, so nothing branches on how many they are.
+    #[inline(always)]
+    pub fn first_of(&mut self, bytes: [u8; 4], count: usize)
+        requires few { count ≤ 4 }
+        requires room { HasRoom self.old 4 }
+        ensures { Adds self.old self.new 4 (take count bytes) }
+    {
+        let at = self.end;
+        self.bytes[at..at + 4].copy_from_slice(&bytes);
+        self.end = at + count;
+    }
+
     /// A few bytes, one after the other: where they are known they are stored together, and no call compares where they stand.
     #[inline(always)]
     pub fn few_bytes(&mut self, bytes: &[u8])

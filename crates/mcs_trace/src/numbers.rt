@@ -1,5 +1,5 @@
 //! Numbers on a line.
-ghost use Rattle.std.specs.Prelude.{◌≡◌, ◌<◌, ◌≤◌, ◌+◌, ◌*◌, ◌/◌, ◌%◌, ◌∷◌, [], ◌++◌, length, decimal};
+ghost use Rattle.std.specs.Prelude.{◌≡◌, ◌<◌, ◌≤◌, ◌+◌, ◌-◌, ◌*◌, ◌/◌, ◌%◌, ◌∷◌, [], ◌++◌, length, take, drop, decimal};
 ghost use Rattle.std.specs.List.{flat_map};
 ghost use Rattle.mcs_trace.specs.Room.{Adds, HasRoom};
 ghost use Rattle.mcs_text.specs.Spelling.{pair, four, eight, then_text};
@@ -30,6 +30,39 @@ fn ones(n: u64) -> u8
     ensures { result ≡ 48 + n % 10 }
 {
     PAIRS[n as usize * 2 + 1]
+}
+
+/// How many digits a number below 10,000 has.
+#[inline(always)]
+fn digit_count(n: u64) -> usize
+    ensures one { n < 10 → result ≡ 1 }
+    ensures two { 10 ≤ n → n < 100 → result ≡ 2 }
+    ensures three { 100 ≤ n → n < 1000 → result ≡ 3 }
+    ensures four { 1000 ≤ n → result ≡ 4 }
+{
+    if n < 10 {
+        1
+    } else if n < 100 {
+        2
+    } else if n < 1000 {
+        3
+    } else {
+        4
+    }
+}
+
+/// The last so many of the two digits of each of two numbers below 100 in front, and anything behind them.
+#[inline(always)]
+fn last_digits(high: u64, low: u64, count: usize) -> [u8; 4]
+    requires high { high < 100 }
+    requires low { low < 100 }
+    requires some { 1 ≤ count }
+    requires few { count ≤ 4 }
+    ensures { take count result ≡ drop (4 - count) (pair high ++ pair low) }
+{
+    let digits = u32::from_le_bytes([tens(high), ones(high), tens(low), ones(low)]);
+    let shift = 8 * (4 - count as u32);
+    (digits >> shift).to_le_bytes()
 }
 
 impl Line {
@@ -76,34 +109,16 @@ impl Line {
         self.four(n % 10_000);
     }
 
-    /// A number below 100.
-    #[inline(always)]
-    #[tactic(auto, using(itoa::proofs::Decimal::decimal_two))]
-    fn small(&mut self, n: u64)
-        requires small { n < 100 }
-        requires room { HasRoom self.old 2 }
-        ensures { Adds self.old self.new 2 (decimal n) }
-    {
-        if n < 10 {
-            self.digit(n);
-        } else {
-            self.pair(n);
-        }
-    }
-
-    /// A number below 10,000.
+    /// A number below 10,000. Its four digits are stored together, and moved to the front by those that are 0, so no branch depends
+    /// on how many there are.
     #[inline(always)]
     fn short(&mut self, n: u64)
         requires small { n < 10000 }
         requires room { HasRoom self.old 4 }
         ensures { Adds self.old self.new 4 (decimal n) }
     {
-        if n < 100 {
-            self.small(n);
-        } else {
-            self.small(n / 100);
-            self.pair(n % 100);
-        }
+        let count = digit_count(n);
+        self.first_of(last_digits(n / 100, n % 100, count), count);
     }
 
     /// A number below 100,000,000.
@@ -139,12 +154,15 @@ impl Line {
         self.eight(n % 100_000_000);
     }
 
-    /// A number of 100 or more. It is a function of its own, as most numbers of a trace are smaller.
+    /// A number of 10 or more. It is a function of its own, as most numbers of a trace have one digit.
+    #[inline(never)]
     fn long(&mut self, n: u64)
         requires { HasRoom self.old NUMBER }
         ensures { Adds self.old self.new NUMBER (decimal n) }
     {
-        if n < 100_000_000 {
+        if n < 10_000 {
+            self.short(n);
+        } else if n < 100_000_000 {
             self.middle(n);
         } else {
             self.huge(n);
@@ -157,8 +175,8 @@ impl Line {
         requires { HasRoom self.old NUMBER }
         ensures { Adds self.old self.new NUMBER (decimal n) }
     {
-        if n < 100 {
-            self.small(n);
+        if n < 10 {
+            self.digit(n);
         } else {
             self.long(n);
         }

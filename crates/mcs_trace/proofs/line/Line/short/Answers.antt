@@ -1,11 +1,9 @@
-use Rattle.std.proofs.Common.{arith}
-use Rattle.itoa.proofs.Decimal.{decimal_pair}
-use Rattle.mcs_trace.proofs.Lines.{text-then}
+use Rattle.std.proofs.Common.{List, ℕ, ◌++◌, ◌∙◌, ap}
+use Rattle.mcs_trace.proofs.Digits.{decimal-last}
 use Rattle.mcs_trace.proofs.line.Line.short.Goals as goal
 
-pub returns-else-n-lt100 : goal.returns-else-n-lt100
-returns-else-n-lt100 c = (
-  rw (decimal_pair c.args.n c.if-n-lt100.false (omega (arith, c.requires.small)))
-      (text-then _ _ _ _ _ c.small-else-n-lt100.ensures.0 c.pair.ensures.0),
-  omega (arith, c.small-else-n-lt100.ensures.1, c.pair.ensures.1),
-)
+pub returns : goal.returns
+returns c =
+    let count = c.digit_count-count in
+    let last = decimal-last c.args.n count.result c.requires.small count.ensures.one count.ensures.two count.ensures.three count.ensures.four in
+    (c.first_of.ensures.0 ∙ ap (λ (l : List ℕ). c.args.self.now ++ l) (c.last_digits.ensures ∙ last), c.first_of.ensures.1)
