@@ -232,6 +232,8 @@ fn line_at<'a>(
     }
 }
 
+// What packs a record, makes room for it or closes its line is inlined where it is made: the kind of the record is known there.
+
 /// Notes where the words of a message that was sent stand, and where those of the line's answer may: those of what was taken
 /// or heard. A place is a hint: what stands there is compared before it is shared.
 #[inline(always)]

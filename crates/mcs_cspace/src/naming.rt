@@ -1,5 +1,5 @@
 //! Lookup of a capability by an address, and of a slot by an index and a depth.
-ghost use Rattle.std.specs.Prelude.{◌≡◌, ◌==◌, cond, option_copied, IfOk, IfErr, Ok, Err};
+ghost use Rattle.std.specs.Prelude.{◌≡◌, ◌==◌, if◌then◌else◌, option_copied, IfOk, IfErr, Ok, Err};
 ghost use Rattle.mcs_book.specs.Lookup.{capability_from, slot_from, is_depth};
 ghost use Rattle.mcs_types.specs.declared.entry.Refusal.TheVariants.{Missing, DepthMismatch};
 ghost use Rattle.mcs_book.specs.Checks.{needed};
@@ -34,7 +34,8 @@ fn by_fields(cap: &Cap) -> Cap
 /// The capability in the slot at the end of a path, which is Missing where the slot is empty.
 #[inline(always)]
 fn held(end: End<'_>) -> Result<Cap, Refusal>
-    ensures { result ≡ needed (page_slot (option_copied end.entry.page) end.entry.slot.index) Missing }
+    ensures { result
+        ≡ needed (page_slot (option_copied end.entry.page) end.entry.slot.index) Missing }
 {
     match slot_in(end.page, end.slot.index) {
         None => Err(Refusal::Missing),
@@ -62,7 +63,7 @@ fn slot_of(end: End<'_>) -> SlotId
 
 /// The slot at the end of a path, where no bits are left.
 fn whole(end: End<'_>) -> Result<SlotId, Refusal>
-    ensures { result ≡ cond (end.entry.left == 0) (Ok end.entry.slot) (Err DepthMismatch) }
+    ensures { result ≡ (if end.entry.left == 0 then Ok end.entry.slot else Err DepthMismatch) }
 {
     if end.left == 0 {
         Ok(slot_of(end))

@@ -82,6 +82,7 @@ fn end_at<'a>(page: Option<&'a Page>, cnode: ObjId, step: Step) -> End<'a>
 }
 
 /// The slot at the end of the path from a root that spells the low `depth` bits of an address, and how many of them are left.
+// a part of its callers, so that the end of a path is not moved
 #[inline(always)]
 pub(crate) fn find<'a>(
     slots: &'a Slots,

@@ -134,6 +134,7 @@ fn receive_on<W: Waiting>(
 }
 
 /// Receives on an endpoint, or waits on a notification.
+// a part of its callers, so that the answer is moved once less
 #[inline(always)]
 pub fn receive_from<W: Waiting>(
     state: &mut State<W>,

@@ -79,6 +79,7 @@ impl Told {
 }
 
 /// Puts the lines behind those that were told, and answers how many messages were sent with all of them.
+// a part of its caller, as what it calls is: the parts of a line that is kept stay in registers
 #[inline(always)]
 fn put_lines<W: Write>(sink: &mut Sink<W>, told: Told, book: &Book) -> u128
     requires fits { told.sent ≤ (told.lines - 1) * 2 ^ 64 }

@@ -11,6 +11,7 @@ use mcs_replies::Replies;
 use mcs_types::{ObjId, Queue};
 
 /// A context that was made is held by this thread now, which holds none, or by nobody.
+// a part of its callers, which know whether a thread is named
 #[inline(always)]
 pub fn give(contexts: &mut Contexts, context: ObjId, thread: Option<ObjId>)
     requires made { IsSome (core_in contexts.old context) }
@@ -47,6 +48,7 @@ pub fn attended(queue: Queue, reply: Option<ObjId>) -> Option<ObjId>
 }
 
 /// The receiver of a reply object that is there, if one is named, is this one now.
+// a part of its callers, which know whether a reply object is named
 #[inline(always)]
 pub fn attend(replies: &mut Replies, reply: Option<ObjId>, receiver: Option<ObjId>)
     requires { IfSome reply (λ r. is_there replies.old r ≡ true) }

@@ -184,6 +184,7 @@ impl Letters {
 }
 
 /// A letter becomes the mail of its receiver, where that is a thread that is there. The answer is an equal message.
+// a part of its caller, so that the letter is moved once less
 #[inline(always)]
 pub fn deliver(threads: &mut Threads, receiver: ObjId, letter: OpenLetter) -> Message
     ensures mails { IsSome (row_of threads.old receiver)

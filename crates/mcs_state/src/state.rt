@@ -229,6 +229,8 @@ impl<W: Waiting> State<W> {
         self.book.add_boot_line(line);
     }
 
+    // The primitives that most lines make are inlined: of the choice among records the one that is made is left.
+
     /// Moves the records in hand to a line of the book.
     #[inline(always)]
     pub fn close(&mut self, step: &Step, answer: &Answer)

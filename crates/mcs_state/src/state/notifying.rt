@@ -43,6 +43,7 @@ fn rebind(notifications: &mut Notifications, thread: ObjId, from: Option<ObjId>,
 }
 
 /// A context that is there and homed nowhere is homed at a notification now; or, where none is named, one that is homed nowhere.
+// a part of its caller, so that no name goes through memory
 #[inline(always)]
 fn home(contexts: &mut Contexts, context: ObjId, notification: Option<ObjId>)
     requires made { IsSome (core_in contexts.old context) }

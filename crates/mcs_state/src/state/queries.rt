@@ -288,6 +288,7 @@ impl<W: Waiting> State<W> {
 
     /// The capability that a thread that is there names by an address: Missing where there is none, GuardMismatch and
     /// DepthMismatch where the address leads nowhere.
+    // a part of its callers, so that the capability is moved once less
     #[inline(always)]
     pub fn capability(&self, thread: ObjId, address: u64) -> Result<Cap, Refusal>
         requires { IsThere (so_far self.now) Kind.Thread thread }
