@@ -1,10 +1,3 @@
-pub mod RoundTrip
-pub mod TextBytes
-pub mod FormWords
-pub mod EntryLines
-mod WordsWritten
-mod StepsWritten
-pub mod BootLinesAgain
 mod Lengths
 mod Lines
 mod Scripts

@@ -1,2 +1,1 @@
 pub mod Readable
-pub mod LineLaws

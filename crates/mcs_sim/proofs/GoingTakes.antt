@@ -248,3 +248,13 @@ piece-longer g [] h (inl is) = subst (IsLonger g.course.stands.book) (sym (ap (�
 piece-longer g [] h (inr is) = subst (IsLonger g.course.stands.book) (sym (ap (λ (g : Going). g.course.stands.book) is.1)) (longer-refl g.course.stands.book)
 piece-longer g (b ∷ bs) h (inl is) = subst (IsLonger g.course.stands.book) (sym (ap (λ (g : Going). g.course.stands.book) is)) (fed-longer (b ∷ bs) g)
 piece-longer g (b ∷ bs) h (inr is) = subst (IsLonger g.course.stands.book) (sym (ap (λ (g : Going). g.course.stands.book) is.stopped)) (fed-longer is.before g)
+
+-- so do bytes
+pub takes-longer : (g : Going) (bytes : List ℕ) (h : Going) → Takes g bytes h → IsLonger g.course.stands.book h.course.stands.book
+takes-longer g bytes h (inl is) = subst (IsLonger g.course.stands.book) (sym (ap (λ (g : Going). g.course.stands.book) is)) (fed-longer bytes g)
+takes-longer g bytes h (inr is) = subst (IsLonger g.course.stands.book) (sym (ap (λ (g : Going). g.course.stands.book) is.stopped)) (fed-longer is.before g)
+
+-- bytes are a piece
+pub piece-takes : (g : Going) (piece : List ℕ) (h : Going) → eqb (length piece) 0 ≡ false → Takes g piece h → TakesPiece g piece h
+piece-takes g [] h some takes = absurd cc
+piece-takes g (b ∷ bs) h some takes = takes

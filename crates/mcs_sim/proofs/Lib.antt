@@ -9,6 +9,7 @@ pub mod GoingScripts
 pub mod GoingBooks
 pub mod GoingRuns
 pub mod GoingTakes
+pub mod GoingLines
 pub mod PhaseLaws
 pub mod GoingWeights
 pub mod SimulateLaws

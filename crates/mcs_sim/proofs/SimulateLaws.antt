@@ -1,5 +1,5 @@
 -- A run of a source to a sink, piece by piece.
-use Rattle.std.proofs.Common.{◌≡◌, ◌⊎◌, ℕ, ◌<◌, ◌≤◌, inl, inr, Bool, true, false, Option, Some, None, Ok, Err, List, [], ◌∷◌, ◌++◌, length, refl, sym, ap, subst, ◌∙◌, append-nil, arith}
+use Rattle.std.proofs.Common.{◌≡◌, ◌⊎◌, ℕ, ◌<◌, ◌≤◌, inl, inr, Bool, true, false, Option, Some, None, Ok, Err, List, [], ◌∷◌, ◌++◌, length, refl, sym, ap, subst, ◌∙◌, append_assoc, append-nil, arith}
 use Rattle.std.specs.Io.KnownBytes.{Appends, Consumes, IsAtEnd}
 use Rattle.mcs_book.specs.History.{Book}
 use Rattle.mcs_trace.specs.declared.sink.Sink.{Sink}
@@ -8,13 +8,14 @@ use Rattle.mcs_trace.proofs.Outputs.{Puts-then, Puts-text}
 use Rattle.mcs_sim.specs.declared.fault.SimFault.{SimFault}
 use Rattle.mcs_sim.specs.declared.fault.SimFault.TheVariants as fault
 use Rattle.mcs_sim.specs.declared.writing.Told.{Told}
-use Rattle.mcs_sim.specs.Trace.{IsToldBy, trace_of, untold_of}
+use Rattle.mcs_sim.specs.Trace.{IsLonger, IsToldBy, trace_of, untold_of}
 use Rattle.mcs_sim.specs.Runs.{Ends, TellsMore, WritesMore, HasFailed, answer_with}
 use Rattle.mcs_sim.specs.Going.{Going, at_line, no_line, fed, IsFairBook, TakesPiece}
 use Rattle.mcs_sim.proofs.GoingLaws.{fed-append}
 use Rattle.mcs_sim.proofs.GoingRuns.{ends-by, ends-write, fault-of-piece}
 use Rattle.mcs_sim.proofs.GoingBooks.{told-more}
-use Rattle.mcs_sim.proofs.GoingTakes.{answer-err, answer-ok, piece-longer}
+use Rattle.mcs_sim.proofs.GoingTakes.{answer-err, answer-ok}
+use Rattle.mcs_sim.proofs.TraceLaws.{puts_nothing, puts_after}
 use Rattle.mcs_sim.proofs.GoingWeights.{weight, IsWithin, HasCome, fed-come}
 
 -- what was put by and by is the trace so far
@@ -32,11 +33,24 @@ appends-out f a s t text same none puts whole empty =
     subst (Appends (f a.writer) (f t.writer)) (sym (moves.split ∙ ap (λ (l : List ℕ). moves.sent ++ l) ((puts.whole whole).1 ∙ empty) ∙ append-nil moves.sent)) moves.grown
 
 -- what a piece adds to the trace was put
-pub tells-piece : {W : Type 0} (f : W → Option (List ℕ)) (told : Told) (g h : Going) (piece : List ℕ) (i : Going) (s t : Sink W) → g ≡ h → IsToldBy told g.course.stands.book → TakesPiece g piece i
+pub tells-longer : {W : Type 0} (f : W → Option (List ℕ)) (told : Told) (g h i : Going) (s t : Sink W) → g ≡ h → IsToldBy told g.course.stands.book → IsLonger g.course.stands.book i.course.stands.book
     → Puts f s t (untold_of told i.course.stands.book) → TellsMore f s t h.course.stands.book i.course.stands.book
-tells-piece f told g h piece i s t same is takes puts =
-    let longer = told-more told g.course.stands.book i.course.stands.book is (piece-longer g piece i takes) in
-    subst (λ (g : Going). TellsMore f s t g.course.stands.book i.course.stands.book) same (untold_of told i.course.stands.book, longer, puts)
+tells-longer f told g h i s t same is longer puts =
+    let more = told-more told g.course.stands.book i.course.stands.book is longer in
+    subst (λ (g : Going). TellsMore f s t g.course.stands.book i.course.stands.book) same (untold_of told i.course.stands.book, more, puts)
+
+-- what was put of a book and then of a longer one
+pub tells-then : {W : Type 0} (f : W → Option (List ℕ)) (s t v : Sink W) (j k l : Option Book) → TellsMore f s t j k → TellsMore f t v k l → TellsMore f s v j l
+tells-then f s t v j k l one other =
+    (one.0 ++ other.0, other.1 ∙ ap (λ (x : List ℕ). x ++ other.0) one.1 ∙ append_assoc (trace_of j) one.0 other.0, Puts-then f s t v one.0 other.0 one.2 other.2)
+
+-- nothing was put
+pub tells-none : {W : Type 0} (f : W → Option (List ℕ)) (s : Sink W) (k : Option Book) → TellsMore f s s k k
+tells-none f s k = ([], sym (append-nil (trace_of k)), puts_nothing f s)
+
+-- what was put, and then sent out
+pub tells-sent : {W : Type 0} (f : W → Option (List ℕ)) (s t v : Sink W) (j k : Option Book) → TellsMore f s t j k → Puts f t v [] → TellsMore f s v j k
+tells-sent f s t v j k one sent = (one.0, one.1, puts_after f s t v one.0 one.2 sent)
 
 -- what a trace has more was written, where nothing is kept back and no call of the writer failed
 pub writes-more : {W : Type 0} (f : W → Option (List ℕ)) (s t : Sink W) (j k : Option Book) → TellsMore f s t j k → kept t ≡ [] → WritesMore f s t j k ⊎ HasFailed s t

@@ -1,5 +1,5 @@
 -- The trace of a book.
-use Rattle.std.specs.Prelude.{◌≡◌, ◌≤◌, ◌*◌, ◌^◌, ℕ, ◌+◌, ◌-◌, ◌==◌, if◌then◌else◌, List, [], ◌∷◌, ◌++◌, drop, length, reverse, Option, Some, None}
+use Rattle.std.specs.Prelude.{◌≡◌, ◌<◌, ◌≤◌, ◌*◌, ◌^◌, ℕ, ◌+◌, ◌-◌, ◌==◌, if◌then◌else◌, List, [], ◌∷◌, ◌++◌, drop, length, reverse, Option, Some, None}
 use Rattle.std.specs.List.{flat_map}
 use Rattle.mcs_types.specs.declared.boot.BootLine.{BootLine}
 use Rattle.mcs_types.specs.declared.record.Rec.{Rec}
@@ -79,6 +79,15 @@ pub record IsToldOf (t : Told) (b : Book) : Type 0 where
   pub fits : t.sent ≤ (t.lines - 1) * 2 ^ 64
   pub few : t.lines ≤ length b.lines + 1
   pub all : sent_in t.sent (untold_lines t b) ≡ sent_in 0 (reverse b.lines)
+
+-- where a book has a single line more than those that were told, its step has this text as its line
+abbrev pub IsReadOf : List ℕ → Told → Book → Type 0
+IsReadOf text t b = (l : Line) → 0 < t.lines → untold_lines t b ≡ l ∷ [] → step_text l.step ≡ text ++ 10 ∷ []
+
+-- the same of a book that there may be
+abbrev pub IsReadOfAny : List ℕ → Told → Option Book → Type 0
+IsReadOfAny text t None = Unit {0}
+IsReadOfAny text t (Some b) = IsReadOf text t b
 
 -- the lines of the boot, where nothing was told
 abbrev pub untold_boot : Told → Book → List ℕ

@@ -1,5 +1,5 @@
 //! A replay that is fed its script piece by piece.
-ghost use Rattle.std.specs.Prelude.{◌≡◌, ◌∷◌, [], ◌++◌, IfOk, Err, None, option_copied};
+ghost use Rattle.std.specs.Prelude.{◌≡◌, ◌∷◌, [], ◌++◌, true, false, IfOk, Err, None, option_copied};
 ghost use Rattle.mcs_sim.specs.Going.{Takes, TakesLine, TakesEnd, TakesPiece, EndsBoot, HasNoNewline, answer_of, no_line, at_line, ended_by, refused_for, book_lent, IsFairBook};
 
 use crate::fault::SimFault;
@@ -70,6 +70,20 @@ impl ReplayRun {
         Some(kernel.book())
     }
 
+    /// Whether no fault has ended it.
+    pub(crate) fn goes_on(&self) -> bool
+        ensures { result ≡ true → self.now.course.fault ≡ None }
+    {
+        self.fault.is_none()
+    }
+
+    /// Whether it is amid a line: a part of it is kept.
+    pub(crate) fn is_amid(&self) -> bool
+        ensures { result ≡ false → self.now.line ≡ [] }
+    {
+        !self.line.is_empty()
+    }
+
     /// Ends the replay with this fault.
     fn end_by(&mut self, fault: SimFault) -> Result<(), SimFault>
         requires goes { self.old.course.fault ≡ None }
@@ -91,7 +105,7 @@ impl ReplayRun {
     }
 
     /// Keeps a part of a line.
-    fn keep(&mut self, part: &[u8]) -> Result<(), SimFault>
+    pub(crate) fn keep(&mut self, part: &[u8]) -> Result<(), SimFault>
         requires goes { self.old.course.fault ≡ None }
         requires one_line { HasNoNewline part.now }
         ensures takes { Takes self.old part.now self.new }
@@ -114,7 +128,7 @@ impl ReplayRun {
 
     /// Takes a line of which nothing was kept.
     #[tactic(auto, unfolding(crate::specs::Going::with_line))]
-    fn take_line(&mut self, alloc: Global, line: &[u8]) -> Result<(), SimFault>
+    pub(crate) fn take_line(&mut self, alloc: Global, line: &[u8]) -> Result<(), SimFault>
         requires goes { self.old.course.fault ≡ None }
         requires begins { self.old.line ≡ [] }
         ensures takes { TakesLine self.old.course line.now self.new.course }
@@ -146,7 +160,7 @@ impl ReplayRun {
     }
 
     /// Takes the rest of a line, and its newline.
-    fn end_line(&mut self, alloc: Global, part: &[u8]) -> Result<(), SimFault>
+    pub(crate) fn end_line(&mut self, alloc: Global, part: &[u8]) -> Result<(), SimFault>
         requires goes { self.old.course.fault ≡ None }
         requires one_line { HasNoNewline part.now }
         ensures takes { Takes self.old (part.now ++ 10 ∷ []) self.new }

@@ -1,16 +1,17 @@
 //! A script of steps, from bytes to bytes.
-ghost use Rattle.std.specs.Prelude.{◌≡◌, ◌⊎◌, ◌<◌, ◌≤◌, [], IfOk, IfErr, OnOk, Err};
+ghost use Rattle.std.specs.Prelude.{◌≡◌, ◌⊎◌, ◌<◌, ◌≤◌, ◌∷◌, [], ◌++◌, IfOk, IfErr, OnOk, Err, None};
 ghost use Rattle.mcs_trace.specs.Output.{Rose, Puts, kept};
-ghost use Rattle.mcs_sim.specs.Trace.{IsToldBy, IsToldUpTo, untold_of};
-ghost use Rattle.mcs_sim.specs.Going.{TakesPiece, IsFairBook, no_line, at_line};
+ghost use Rattle.mcs_sim.specs.Trace.{IsToldBy, IsToldUpTo, IsReadOfAny, untold_of};
+ghost use Rattle.mcs_sim.specs.Going.{Takes, TakesPiece, HasNoNewline, answer_of, IsFairBook, no_line, at_line};
 ghost use Rattle.mcs_sim.specs.Runs.{Finished, EndedBy, TellsMore, WritesMore, HasFailed, answer_with};
 
 use crate::fault::SimFault;
 use crate::feeding::ReplayRun;
 use crate::source::{PIECE, Source};
-use crate::writing::{Told, put_untold};
+use crate::writing::{Told, put_read, put_untold};
 use mcs_trace::Sink;
 use mcs_types::OutOfMemory;
+use memchr::memchr;
 use std::alloc::Global;
 use std::io::{Read, Write};
 use std::marker::Model;
@@ -29,18 +30,19 @@ fn put_more<W: Write>(to: &mut Sink<W>, told: Told, run: &ReplayRun) -> Told
     }
 }
 
-/// Writes what of a run's book was not told, and answers how much is told with it.
-#[tactic(auto, using(crate::proofs::TraceLaws::puts_after))]
-fn tell<W: Write>(to: &mut Sink<W>, told: Told, run: &ReplayRun) -> Told
+/// Puts what of a run's book was not told, if it has one, where the step of a single line more was read of this text, and answers how
+/// much is told with it.
+#[tactic(auto, using(crate::proofs::TraceLaws::puts_nothing))]
+fn put_line<W: Write>(to: &mut Sink<W>, told: Told, run: &ReplayRun, text: &[u8]) -> Told
     requires told { IsToldUpTo told run.now.course.stands.book }
+    requires text { IsReadOfAny text.now told run.now.course.stands.book }
     ensures puts { Puts W.contents to.old to.new (untold_of told run.now.course.stands.book) }
-    ensures kept { kept to.new ≡ [] }
     ensures told { IsToldBy result run.now.course.stands.book }
-    ensures fair { IsFairBook run.now.course.stands.book }
 {
-    let all = put_more(to, told, run);
-    to.flush();
-    all
+    let Some(book) = run.book() else {
+        return told;
+    };
+    put_read(to, told, book, text)
 }
 
 /// A replay of a script that comes in pieces, whose trace goes out with each.
@@ -73,6 +75,80 @@ impl TracedRun {
         })
     }
 
+    /// Takes the rest of a line, and its newline, and puts what that adds to the trace.
+    fn end_line<W: Write>(
+        &mut self,
+        alloc: Global,
+        part: &[u8],
+        to: &mut Sink<W>,
+    ) -> Result<(), SimFault>
+        requires goes { self.old.course.fault ≡ None }
+        requires one_line { HasNoNewline part.now }
+        ensures takes { Takes self.old (part.now ++ 10 ∷ []) self.new }
+        ensures puts { TellsMore W.contents to.old to.new self.old.course.stands.book
+            self.new.course.stands.book }
+        ensures told { result ≡ answer_of self.new.course.fault }
+    {
+        if self.run.is_amid() {
+            let taken = self.run.end_line(alloc, part);
+            self.told = put_more(to, self.told, &self.run);
+            return taken;
+        }
+        let taken = self.run.take_line(alloc, part);
+        self.told = put_line(to, self.told, &self.run, part);
+        taken
+    }
+
+    /// Takes a piece of a script, and puts what each of its lines adds to the trace behind it: the text of a step is its line then.
+    fn feed<W: Write>(
+        &mut self,
+        alloc: Global,
+        piece: &[u8],
+        to: &mut Sink<W>,
+    ) -> Result<(), SimFault>
+        requires goes { self.old.course.fault ≡ None }
+        ensures takes { Takes self.old piece.now self.new }
+        ensures puts { TellsMore W.contents to.old to.new self.old.course.stands.book
+            self.new.course.stands.book }
+        ensures told { result ≡ answer_of self.new.course.fault }
+    {
+        let mut rest = piece;
+        while let Some(i) = memchr(b'\n', rest) {
+            self.end_line(alloc, &rest[..i], to)?;
+            rest = &rest[i + 1..];
+        }
+        let taken = self.run.keep(rest);
+        self.told = put_more(to, self.told, &self.run);
+        taken
+    }
+
+    /// Takes a piece of a script, or its end where the piece is empty, and puts what it adds to the trace.
+    fn put_piece<W: Write>(
+        &mut self,
+        alloc: Global,
+        piece: &[u8],
+        to: &mut Sink<W>,
+    ) -> Result<(), SimFault>
+        ensures takes { TakesPiece self.old piece.now self.new }
+        ensures puts { TellsMore W.contents to.old to.new self.old.course.stands.book
+            self.new.course.stands.book }
+        ensures told { result ≡ answer_of self.new.course.fault }
+    {
+        if !piece.is_empty() && self.run.goes_on() {
+            return self.feed(alloc, piece, to);
+        }
+        let taken = self.run.take_piece(alloc, piece);
+        self.told = put_more(to, self.told, &self.run);
+        taken
+    }
+
+    /// The book is legal and fair, if there is one.
+    fn is_fair(&self)
+        ensures { IsFairBook self.now.course.stands.book }
+    {
+        let _ = self.run.book();
+    }
+
     /// Takes a piece of a script, or its end where the piece is empty, and writes what it adds to the trace: the boot once that
     /// has ended, and each line of the book. So who asks for more only then has written the trace of all lines so far. Fault
     /// Write where a call of the writer failed; else the fault of the script, after which the trace of the steps before it is
@@ -92,8 +168,9 @@ impl TracedRun {
         ensures answer { result ≡ answer_with to.new.is_broken self.new.course.fault }
         ensures fair { IsFairBook self.new.course.stands.book }
     {
-        let taken = self.run.take_piece(alloc, piece);
-        self.told = tell(to, self.told, &self.run);
+        let taken = self.put_piece(alloc, piece, to);
+        to.flush();
+        self.is_fair();
         if to.is_broken() {
             return Err(SimFault::Write);
         }

@@ -1,13 +1,17 @@
 //! The trace of a book.
-ghost use Rattle.std.specs.Prelude.{◌≡◌, ◌+◌, ◌-◌, ◌*◌, ◌^◌, ◌<◌, ◌≤◌, OnOk, OnErr, length, Err, None};
+ghost use Rattle.std.specs.Prelude.{◌≡◌, ◌+◌, ◌-◌, ◌*◌, ◌^◌, ◌<◌, ◌≤◌, ◌∷◌, [], ◌++◌, OnOk, OnErr, length, Err, None};
+ghost use Rattle.mcs_text.specs.Table.{step_text};
 ghost use Rattle.mcs_trace.specs.Output.{Puts, Rose};
-ghost use Rattle.mcs_sim.specs.Trace.{sent_with, sent_after, sent_in, boot_lines_trace, records_trace, line_trace, lines_trace, trace, untold_lines, untold_boot, untold, all_told, told_of, IsToldOf};
+ghost use Rattle.mcs_sim.specs.Trace.{sent_with, sent_after, sent_in, boot_lines_trace, records_trace, line_trace, lines_trace, trace, untold_lines, untold_boot, untold, all_told, told_of, IsToldOf, IsReadOf};
 ghost use Rattle.mcs_sim.specs.Runs.{Writes, WritesPart};
 
 use crate::fault::SimFault;
 use mcs_book::{Book, Line};
 use mcs_packing::KeptRecord;
-use mcs_trace::{Sink, put_boot_line, put_cores, put_kept_answer, put_kept_record, put_kept_step};
+use mcs_trace::{
+    LINE, Sink, put_boot_line, put_cores, put_kept_answer, put_kept_record, put_kept_step,
+    put_spelled,
+};
 use mcs_types::BootLine;
 use std::io::Write;
 
@@ -58,6 +62,21 @@ fn put_book_line<W: Write>(sink: &mut Sink<W>, sent: u128, line: &Line<'_>) -> u
     ensures few { result ≤ sent + 2 ^ 64 }
 {
     put_kept_step(sink, &line.kept_step());
+    put_kept_answer(sink, &line.kept_answer());
+    put_records(sink, sent, line)
+}
+
+/// Writes a line before which so many messages were sent, and whose step was read of this text, as `put_book_line` does.
+#[inline(always)]
+fn put_read_line<W: Write>(sink: &mut Sink<W>, sent: u128, line: &Line<'_>, text: &[u8]) -> u128
+    requires few { sent + 2 ^ 64 < 2 ^ 128 }
+    requires text { step_text line.now.step ≡ text.now ++ 10 ∷ [] }
+    requires short { length text.now < LINE }
+    ensures puts { Puts W.contents sink.old sink.new (line_trace sent line.now) }
+    ensures sent { result ≡ sent_after sent line.now.records }
+    ensures few { result ≤ sent + 2 ^ 64 }
+{
+    put_spelled(sink, text);
     put_kept_answer(sink, &line.kept_answer());
     put_records(sink, sent, line)
 }
@@ -124,6 +143,28 @@ pub fn put_untold<W: Write>(sink: &mut Sink<W>, told: Told, book: &Book) -> Told
     Told {
         lines: book.lines(),
         sent,
+    }
+}
+
+/// Puts what of a book's trace was not told, as `put_untold` does. The step of a single line that the book has more was read of this
+/// text, which is its line, so it is not spelled again.
+#[tactic(auto, unfolding(crate::specs::Trace::untold))]
+pub fn put_read<W: Write>(sink: &mut Sink<W>, told: Told, book: &Book, text: &[u8]) -> Told
+    requires told { IsToldOf told book.now.book }
+    requires text { IsReadOf text.now told book.now.book }
+    ensures puts { Puts W.contents sink.old sink.new (untold told book.now.book) }
+    ensures told { result ≡ all_told book.now.book }
+    ensures fits { result.sent ≤ (result.lines - 1) * 2 ^ 64 }
+{
+    if told.lines == 0 || book.lines() - 1 != told.lines || text.len() >= LINE {
+        return put_untold(sink, told, book);
+    }
+    match book.line(told.lines) {
+        Some(line) => Told {
+            lines: book.lines(),
+            sent: put_read_line(sink, told.sent, &line, text),
+        },
+        None => unreachable!(),
     }
 }
 

@@ -17,6 +17,9 @@ mod steps;
 mod words;
 
 pub use line::Line;
-pub use put::{put_boot_line, put_cores, put_kept_answer, put_kept_record, put_kept_step};
+pub use put::{
+    put_boot_line, put_cores, put_kept_answer, put_kept_record, put_kept_step, put_spelled,
+};
+pub use rooms::LINE;
 pub use sink::{Sink, WriteFault};
 pub use spelling::{spell, spell_answer, spell_record, spell_step};

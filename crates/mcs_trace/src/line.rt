@@ -1,7 +1,8 @@
 //! The line that is written: bytes at the front of a buffer.
-ghost use Rattle.std.specs.Prelude.{◌≡◌, ◌≤◌, ◌+◌, ◌∷◌, [], length, take};
+ghost use Rattle.std.specs.Prelude.{◌≡◌, ◌<◌, ◌≤◌, ◌+◌, ◌∷◌, [], ◌++◌, length, take};
 ghost use Rattle.mcs_trace.specs.Room.{Adds, HasRoom};
 
+use crate::rooms::LINE;
 use std::marker::Model;
 
 /// How many bytes a line under construction holds at most.
@@ -81,6 +82,17 @@ impl Line {
         let end = at + bytes.len();
         self.bytes[at..end].copy_from_slice(bytes);
         self.end = end;
+    }
+
+    /// A line that is spelled already, and its newline.
+    #[inline(always)]
+    pub fn spelled(&mut self, line: &[u8])
+        requires short { length line.now < LINE }
+        requires room { HasRoom self.old LINE }
+        ensures { Adds self.old self.new LINE (line.now ++ 10 ∷ []) }
+    {
+        self.bytes(line);
+        self.byte(b'\n');
     }
 
     /// The first so many of four bytes. All four are stored, so nothing branches on how many they are.

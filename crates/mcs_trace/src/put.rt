@@ -1,9 +1,10 @@
 //! What is put into a sink: a line, from where the book keeps it.
-ghost use Rattle.std.specs.Prelude.{◌≡◌};
+ghost use Rattle.std.specs.Prelude.{◌≡◌, ◌<◌, ◌∷◌, [], ◌++◌, length};
 ghost use Rattle.mcs_text.specs.Table.{cores_text, boot_text, step_text, answer_text, record_text};
 ghost use Rattle.mcs_trace.specs.Output.{Puts};
 
 use crate::records::{write_kept, write_kept_answer};
+use crate::rooms::LINE;
 use crate::sink::Sink;
 use crate::steps::write_kept_step;
 use mcs_packing::{KeptAnswer, KeptRecord, KeptStep, id_of};
@@ -41,6 +42,17 @@ pub fn put_kept_step<W: Write>(sink: &mut Sink<W>, step: &KeptStep<'_>)
         thread: id_of(step.kind, step.serial),
     };
     write_kept_step(&mut sink.line, from, step.entry, step.words);
+}
+
+/// Writes a line that is spelled already, and its newline.
+#[tactic(auto, using(crate::proofs::Outputs::puts_line_then))]
+#[inline(always)]
+pub fn put_spelled<W: Write>(sink: &mut Sink<W>, line: &[u8])
+    requires { length line.now < LINE }
+    ensures { Puts W.contents sink.old sink.new (line.now ++ 10 ∷ []) }
+{
+    sink.make_room();
+    sink.line.spelled(line);
 }
 
 /// Writes the line of an answer.

@@ -14,9 +14,9 @@ use Rattle.mcs_text.specs.Spelling.{letter_of, name_text, maybe_text, rights_tex
 use Rattle.mcs_text.specs.Table.{form_line, cores_form, boot_form, runs_key}
 use Rattle.mcs_text.specs.Reading.{words_of, number_at, name, name_at, end_at}
 use Rattle.mcs_text.specs.BootLines.{cap_kind, badged, guarded, cap_of, cap_at, runs_at, context_at, only_number, thread_at, slot_at, tie_at, bare_line, raw_line}
-use Rattle.mcs_round_trip.specs.LineLaws.{IsName, IsContextName, FitsKind, FitsCap, FitsThread, FitsSlot, FitsTie, FitsLine, raw_context, raw_cap, raw_of, IsLineReadAgain}
-use Rattle.mcs_round_trip.proofs.RoundTrip.{number-decimal, name-decimal, rights_again}
-use Rattle.mcs_round_trip.proofs.FormWords.{cap_words, form_rest, form_line-words}
+use Rattle.mcs_line_laws.specs.LineLaws.{IsName, IsContextName, FitsKind, FitsCap, FitsThread, FitsSlot, FitsTie, FitsLine, raw_context, raw_cap, raw_of, IsLineReadAgain}
+use Rattle.mcs_line_laws.proofs.RoundTrip.{number-decimal, name-decimal, rights_again}
+use Rattle.mcs_line_laws.proofs.FormWords.{cap_words, form_rest, form_line-words}
 
 -- the key of a line of the boot
 abbrev pub line_key : BootLine → Key

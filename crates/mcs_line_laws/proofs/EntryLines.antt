@@ -18,10 +18,10 @@ use Rattle.mcs_text.specs.Spelling.{rights_text}
 use Rattle.mcs_text.specs.Table.{form_line, step_form, entry_form}
 use Rattle.mcs_text.specs.Reading.{◌>>=◌, number_at, end_at, sent_at, pair_at, address_at, place_at, place_of, copy_at, mint_at, move_at, last_place_at, make_at, entry_at, step_of, words_of, word_limit}
 use Rattle.mcs_types.specs.Ranges.{IsWord, IsMessage, IsPlace, InRange}
-use Rattle.mcs_round_trip.specs.LineLaws.{step_with, IsReadAgain}
-use Rattle.mcs_round_trip.proofs.RoundTrip.{number-decimal, below-is, rights_again, sent_again, replied_again, exchanged_again, pair_again, priority_again, address_again, step_again}
-use Rattle.mcs_round_trip.proofs.TextBytes.{is_above, decimal-above}
-use Rattle.mcs_round_trip.proofs.FormWords.{token_words, form_rest, form_line-spread, form_line-words, is_plain, rest-plain, NoSpace-above}
+use Rattle.mcs_line_laws.specs.LineLaws.{step_with, IsReadAgain}
+use Rattle.mcs_line_laws.proofs.RoundTrip.{number-decimal, below-is, rights_again, sent_again, replied_again, exchanged_again, pair_again, priority_again, address_again, step_again}
+use Rattle.mcs_line_laws.proofs.TextBytes.{is_above, decimal-above}
+use Rattle.mcs_line_laws.proofs.FormWords.{token_words, form_rest, form_line-spread, form_line-words, is_plain, rest-plain, NoSpace-above}
 
 -- ---- places
 

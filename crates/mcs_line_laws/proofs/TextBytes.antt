@@ -29,7 +29,7 @@ use Rattle.mcs_text.specs.Keys.{key_text, boot_key}
 use Rattle.mcs_text.specs.Spelling.{letter_of, name_text, letter_if, rights_letters, rights_text, then_text, cap_rest, cap_text, queue_name, queue_end, token_text}
 use Rattle.mcs_text.specs.Table.{Form, form_text, form_line, boot_form, entry_form, answer_form, rec_form}
 use Rattle.mcs_text.specs.Reading.{lines_of}
-use Rattle.mcs_round_trip.proofs.RoundTrip.{form_text-words}
+use Rattle.mcs_line_laws.proofs.RoundTrip.{form_text-words}
 
 -- whether each byte is greater than m
 abbrev pub is_above : ℕ → List ℕ → Bool

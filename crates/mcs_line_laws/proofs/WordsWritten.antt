@@ -15,7 +15,7 @@ use Rattle.mcs_text.specs.RightsReading.{flag_at, after_letter, some_rights, let
 use Rattle.mcs_text.specs.Spelling.{then_text, rights_text}
 use Rattle.mcs_text.specs.Reading.{◌>>=◌, ◌>>◌, words_of, onto_first, value, small, all_digits, is_unpadded, is_number, is_serial, number, number_at, name, name_at, below, made, end_at, kept_after, push_kept, content, place_at, place_of, word_limit}
 use Rattle.mcs_text.proofs.WordLaws.{small-some}
-use Rattle.mcs_round_trip.proofs.RoundTrip.{own}
+use Rattle.mcs_line_laws.proofs.RoundTrip.{own}
 
 pub same-bytes : (xs ys : List ℕ) → bytes_eq xs ys ≡ true → xs ≡ ys
 same-bytes xs ys h = (bytes_eq-Decides xs ys).0 h

@@ -16,11 +16,11 @@ use Rattle.mcs_text.specs.RightsReading.{rights_at}
 use Rattle.mcs_text.specs.Table.{entry_form, form_line}
 use Rattle.mcs_text.specs.Reading.{◌>>=◌, words_of, number_at, name_at, end_at, below, made, content, kept_after, sent_at, replied_at, exchanged_at, pair_at, priority_at, address_at, place_at, place_of, copy_at, mint_at, move_at, last_place_at, make_of, make_at, entry_of, entry_at, step_of, word_limit}
 use Rattle.mcs_book.proofs.Messages.MessageLaws.{find-passes}
-use Rattle.mcs_round_trip.specs.LineLaws.{step_with, IsWrittenAgain}
-use Rattle.mcs_round_trip.proofs.RoundTrip.{form_text-words}
-use Rattle.mcs_round_trip.proofs.FormWords.{form_rest}
-use Rattle.mcs_round_trip.proofs.EntryLines.{step_line-words}
-use Rattle.mcs_round_trip.proofs.WordsWritten.{same-bytes, same-words, reads, passes, ok-same, number-below, name-made, at-end, message-written, rights-written, place-written}
+use Rattle.mcs_line_laws.specs.LineLaws.{step_with, IsWrittenAgain}
+use Rattle.mcs_line_laws.proofs.RoundTrip.{form_text-words}
+use Rattle.mcs_line_laws.proofs.FormWords.{form_rest}
+use Rattle.mcs_line_laws.proofs.EntryLines.{step_line-words}
+use Rattle.mcs_line_laws.proofs.WordsWritten.{same-bytes, same-words, reads, passes, ok-same, number-below, name-made, at-end, message-written, rights-written, place-written}
 
 -- ---- keys
 

@@ -1,11 +1,13 @@
-//! Laws over the texts.
+//! Laws over the lines of steps and of the boot: a line and what it says give each other.
+#![tactic(auto)]
+
 ghost use Rattle.std.specs.Prelude.{◌≡◌, ◌<◌, ℕ, List, ◌∷◌, Ok};
 ghost use Rattle.mcs_types.specs.declared.boot.BootLine.{BootLine};
 ghost use Rattle.mcs_types.specs.declared.entry.Step.{Step};
 ghost use Rattle.mcs_text.specs.Spelling.{rights_text};
 ghost use Rattle.mcs_text.specs.Reading.{step_of};
 ghost use Rattle.mcs_text.specs.RightsReading.{rights_at};
-ghost use Rattle.mcs_round_trip.specs.LineLaws.{FitsLine, IsKnownStep, IsReadAgain, IsWrittenAgain, IsLineReadAgain};
+ghost use Rattle.mcs_line_laws.specs.LineLaws.{FitsLine, IsKnownStep, IsReadAgain, IsWrittenAgain, IsLineReadAgain};
 
 /// The line of a step is read as that step, for each entry that is read.
 pub fn step_is_read_again()

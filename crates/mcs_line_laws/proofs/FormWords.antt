@@ -12,8 +12,8 @@ use Rattle.mcs_text.specs.Keys.{key_text}
 use Rattle.mcs_text.specs.Spelling.{name_text, rights_text, then_text, cap_rest, token_text}
 use Rattle.mcs_text.specs.Table.{Form, form_line}
 use Rattle.mcs_text.specs.Reading.{words_of}
-use Rattle.mcs_round_trip.proofs.RoundTrip.{NoSpace, words_of-line}
-use Rattle.mcs_round_trip.proofs.TextBytes.{is_above, decimal-above, name-above, rights-above}
+use Rattle.mcs_line_laws.proofs.RoundTrip.{NoSpace, words_of-line}
+use Rattle.mcs_line_laws.proofs.TextBytes.{is_above, decimal-above, name-above, rights-above}
 
 -- the words of a capability behind its name
 abbrev pub cap_words : Kind → Cap → List (List ℕ)

@@ -1,0 +1,11 @@
+use Rattle.std.proofs.Common.{Option, ap, sym, subst, ◌∙◌}
+use Rattle.mcs_book.specs.History.{Book}
+use Rattle.mcs_sim.specs.Trace.{IsToldUpTo}
+use Rattle.mcs_sim.specs.Going.{book_lent}
+use Rattle.mcs_sim.proofs.GoingBooks.{told-of}
+use Rattle.mcs_sim.proofs.replaying.put_line.Goals as goal
+
+pub put_read-requires-clause-told : goal.put_read-requires-clause-told
+put_read-requires-clause-told g c =
+    let there = sym c.book.ensures.lent ∙ ap book_lent c.in-Some.is in
+    told-of c.args.told c.in-Some.book.now.book (subst (λ (k : Option Book). IsToldUpTo c.args.told k) there c.requires.told)
