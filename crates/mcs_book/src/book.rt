@@ -7,7 +7,8 @@ ghost use Rattle.mcs_book.specs.History.{with_boot_line, with_line, line_of_numb
 ghost use Rattle.mcs_book.specs.Pages.{EndsWithin, facts, line_head, lines_of, start_at};
 
 use mcs_packing::{
-    Arena, Head, KeptAnswer, KeptRecord, KeptStep, Lent, Packed, PackedAnswer, PackedEntry,
+    Arena, Head, KeptAnswer, KeptRecord, KeptStep, Lent, OverAddress, Packed, PackedAnswer,
+    PackedEntry,
 };
 use mcs_types::{Answer, Badge, BootLine, ObjId, OutOfMemory, Rec, SendMode, Step, copy_rows};
 use std::alloc::Global;
@@ -367,6 +368,9 @@ fn line_head(step: &Step, entry: PackedEntry, answer: PackedAnswer, end: usize) 
     }
 }
 
+/// An entry that stands until it is packed.
+const BLANK: PackedEntry = PackedEntry::Address(OverAddress::Wait, 0);
+
 /// The most words that one record keeps, but for long messages.
 const MOST_WORDS: usize = 6;
 
@@ -665,11 +669,13 @@ impl Book {
         ensures room { self.new.room ≡ 0 }
     {
         let first = self.first.min(MOST_KEPT) as u32;
-        let entry = self.arena.pack_entry(&step.entry, first);
         let told = self.arena.pack_answer(answer, self.place);
         self.start = self.packed.len();
+        let last = self.heads.len();
         self.heads
-            .push_reserved(line_head(step, entry, told, self.start));
+            .push_reserved(line_head(step, BLANK, told, self.start));
+        self.arena
+            .pack_entry(&step.entry, first, &mut self.heads[last].entry);
         self.room = 0;
         self.first = self.arena.words.len();
         self.place = 0;

@@ -5,7 +5,7 @@ ghost use Rattle.mcs_types.specs.declared.id.Kind.{Kind};
 ghost use Rattle.mcs_book.specs.Placing.{has_badge};
 ghost use Rattle.mcs_book.specs.Sound.{IsThere};
 ghost use Rattle.mcs_state.specs.Now.{so_far};
-ghost use Rattle.mcs_state.specs.Doing.{Makes, HasRoomFor, Does, Fits};
+ghost use Rattle.mcs_state.specs.Doing.{Makes, HasRoomFor, Does, Fits, plain_answer};
 ghost use Rattle.mcs_state.specs.Entering.{IsEntering};
 ghost use Rattle.mcs_state.specs.Nexts.{next_of};
 ghost use Rattle.mcs_cancel.specs.Badging.{cancellable, restarts_one, restarts_with, restarts_badged};
@@ -14,7 +14,7 @@ use crate::cancelling::cancel;
 use mcs_object_queues::Waiting;
 use mcs_state::{State, of_kind, wake};
 use mcs_types::{
-    ALL_RIGHTS, Answer, Badge, Cap, CoreId, Kind, Letter, Mode, ObjId, Queue, Refusal,
+    ALL_RIGHTS, Badge, Cap, CoreId, Kind, Letter, Mode, ObjId, Queue, Refusal,
 };
 
 /// Whether there is a message, and it has this badge.
@@ -88,17 +88,17 @@ pub fn cancel_badged<W: Waiting>(
     core: CoreId,
     thread: ObjId,
     address: u64,
-) -> Answer
+) -> Result<(), Refusal>
     requires entering { IsEntering (so_far state.old) thread }
     requires room { Fits state.old core thread (Entry.CancelBadged address) }
-    ensures { Does state.old core thread (Entry.CancelBadged address) result state.new }
+    ensures { Does state.old core thread (Entry.CancelBadged address) (plain_answer result) state.new }
 {
     match badged_endpoint(state, thread, address) {
-        Err(refusal) => Answer::Refused(refusal),
+        Err(refusal) => Err(refusal),
         Ok(cap) => {
             wake(state, thread);
             restart_badged(state, cap);
-            Answer::Done
+            Ok(())
         }
     }
 }

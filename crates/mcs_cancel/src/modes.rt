@@ -1,12 +1,13 @@
 //! Suspend and Resume.
 ghost use Rattle.std.specs.Prelude.{◌≡◌};
+ghost use Rattle.mcs_types.specs.declared.entry.Answer.TheVariants.{Done};
 ghost use Rattle.mcs_types.specs.declared.entry.Entry.{Entry};
 ghost use Rattle.mcs_types.specs.declared.id.Kind.{Kind};
 ghost use Rattle.mcs_book.specs.Pieces.{with_any};
 ghost use Rattle.mcs_book.specs.Cancelling.{cancel as cancelled};
 ghost use Rattle.mcs_book.specs.Sound.{IsThere};
 ghost use Rattle.mcs_state.specs.Now.{so_far};
-ghost use Rattle.mcs_state.specs.Doing.{Makes, HasRoomFor, ActsAwake, FitsAwake, Does, Fits};
+ghost use Rattle.mcs_state.specs.Doing.{Makes, HasRoomFor, ActsAwake, FitsAwake, Does, Fits, plain_answer};
 ghost use Rattle.mcs_state.specs.Entering.{IsEntering};
 ghost use Rattle.mcs_cancel.specs.Turning.{sets_mode, mode_resumed};
 
@@ -14,7 +15,7 @@ use crate::cancelling::cancel;
 use crate::checks::find_thread;
 use mcs_object_queues::Waiting;
 use mcs_state::{State, wake};
-use mcs_types::{Answer, CoreId, Mode, ObjId, Status};
+use mcs_types::{CoreId, Mode, ObjId, Refusal, Status};
 
 /// Cancels what a thread is blocked on, and sets its mode, where one is given.
 fn cancel_any<W: Waiting>(state: &mut State<W>, thread: ObjId, mode: Option<Mode>)
@@ -34,15 +35,14 @@ fn set_mode<W: Waiting>(
     thread: ObjId,
     named: ObjId,
     mode: Option<Mode>,
-) -> Answer
+)
     requires entering { IsEntering (so_far state.old) thread }
     requires there { IsThere (so_far state.old) Kind.Thread named }
     requires room { FitsAwake thread (sets_mode named mode) state.old }
-    ensures { ActsAwake thread (sets_mode named mode) state.old result state.new }
+    ensures { ActsAwake thread (sets_mode named mode) state.old Done state.new }
 {
     wake(state, thread);
     cancel_any(state, named, mode);
-    Answer::Done
 }
 
 /// The mode to which a thread of this status is resumed: none where it can run.
@@ -62,29 +62,33 @@ pub fn suspend<W: Waiting>(
     core: CoreId,
     thread: ObjId,
     address: u64,
-) -> Answer
+) -> Result<(), Refusal>
     requires entering { IsEntering (so_far state.old) thread }
     requires room { Fits state.old core thread (Entry.Suspend address) }
-    ensures { Does state.old core thread (Entry.Suspend address) result state.new }
+    ensures { Does state.old core thread (Entry.Suspend address) (plain_answer result) state.new }
 {
     match find_thread(state, thread, address) {
-        Err(refusal) => Answer::Refused(refusal),
-        Ok(named) => set_mode(state, thread, named, Some(Mode::Inactive)),
+        Err(refusal) => Err(refusal),
+        Ok(named) => {
+            set_mode(state, thread, named, Some(Mode::Inactive));
+            Ok(())
+        }
     }
 }
 
 /// Resume: a thread that cannot run leaves what it is blocked on, and is in Restart from now on; one that is Running or in
 /// Restart stays as it is. The refusals are those of Suspend (manual: Threads and Execution).
-pub fn resume<W: Waiting>(state: &mut State<W>, core: CoreId, thread: ObjId, address: u64) -> Answer
+pub fn resume<W: Waiting>(state: &mut State<W>, core: CoreId, thread: ObjId, address: u64) -> Result<(), Refusal>
     requires entering { IsEntering (so_far state.old) thread }
     requires room { Fits state.old core thread (Entry.Resume address) }
-    ensures { Does state.old core thread (Entry.Resume address) result state.new }
+    ensures { Does state.old core thread (Entry.Resume address) (plain_answer result) state.new }
 {
     match find_thread(state, thread, address) {
-        Err(refusal) => Answer::Refused(refusal),
+        Err(refusal) => Err(refusal),
         Ok(named) => {
             let mode = mode_resumed(state.status(named)); // Before the thread that enters wakes.
-            set_mode(state, thread, named, mode)
+            set_mode(state, thread, named, mode);
+            Ok(())
         }
     }
 }

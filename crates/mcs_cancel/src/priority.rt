@@ -2,13 +2,13 @@
 ghost use Rattle.std.specs.Prelude.{◌≡◌};
 ghost use Rattle.mcs_types.specs.declared.entry.Entry.TheVariants.{SetPriority};
 ghost use Rattle.mcs_state.specs.Now.{so_far};
-ghost use Rattle.mcs_state.specs.Doing.{Does, Fits};
+ghost use Rattle.mcs_state.specs.Doing.{Does, Fits, plain_answer};
 ghost use Rattle.mcs_state.specs.Entering.{IsEntering};
 
 use crate::checks::thread_to_set;
 use mcs_object_queues::Waiting;
 use mcs_state::{Change, State, change_awake};
-use mcs_types::{Answer, CoreId, ObjId, Prio};
+use mcs_types::{CoreId, ObjId, Prio, Refusal};
 
 /// SetPriority: the thread has this priority from now on; where it stands in a queue, it queues anew (own). The refusals are 1
 /// to 3 of the lookups, the thread's first, 4 for a capability of another kind, and 6 where the priority is above the maximum
@@ -20,20 +20,20 @@ pub fn set_priority<W: Waiting>(
     holder: u64,
     authority: u64,
     priority: Prio,
-) -> Answer
+) -> Result<(), Refusal>
     requires entering { IsEntering (so_far state.old) thread }
     requires room { Fits state.old core thread (SetPriority holder authority priority) }
-    ensures { Does state.old core thread (SetPriority holder authority priority) result state.new }
+    ensures { Does state.old core thread (SetPriority holder authority priority) (plain_answer result) state.new }
 {
     match thread_to_set(state, thread, holder, authority, priority) {
-        Err(refusal) => Answer::Refused(refusal),
-        Ok(holder) => change_awake(
-            state,
-            thread,
-            Change::Sets {
+        Err(refusal) => Err(refusal),
+        Ok(holder) => {
+            let change = Change::Sets {
                 thread: holder,
                 priority,
-            },
-        ),
+            };
+            change_awake(state, thread, change);
+            Ok(())
+        }
     }
 }

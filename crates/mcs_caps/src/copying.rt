@@ -1,7 +1,8 @@
 //! CopyCap, MintCap and MoveCap.
 ghost use Rattle.std.specs.Prelude.{◌≡◌};
+ghost use Rattle.mcs_types.specs.declared.entry.Answer.TheVariants.{Done};
 ghost use Rattle.mcs_types.specs.declared.entry.Entry.{Entry};
-ghost use Rattle.mcs_state.specs.Doing.{ActsAwake, FitsAwake, Does, Fits};
+ghost use Rattle.mcs_state.specs.Doing.{ActsAwake, FitsAwake, Does, Fits, plain_answer};
 ghost use Rattle.mcs_state.specs.Entering.{IsEntering};
 ghost use Rattle.mcs_state.specs.Now.{so_far};
 ghost use Rattle.mcs_caps.specs.Placed.{IsPlaced};
@@ -11,34 +12,32 @@ use crate::checks::{Placing, find_places, with_no_badge};
 use mcs_object_queues::Waiting;
 use mcs_slots::{with_badge, with_mask};
 use mcs_state::{State, wake};
-use mcs_types::{Answer, Badge, Cap, CoreId, ObjId, Place, Rights};
+use mcs_types::{Badge, Cap, CoreId, ObjId, Place, Refusal, Rights};
 
 /// Wakes the thread, and puts a capability to the object of the one that was found into the empty slot.
-fn fill<W: Waiting>(state: &mut State<W>, thread: ObjId, at: &Placing, cap: Cap) -> Answer
+fn fill<W: Waiting>(state: &mut State<W>, thread: ObjId, at: &Placing, cap: Cap)
     requires entering { IsEntering (so_far state.old) thread }
     requires placed { IsPlaced (so_far state.old) at.now }
     requires object { cap.obj ≡ at.now.cap.obj }
     requires room { FitsAwake thread (fills_act at.now cap) state.old }
-    ensures { ActsAwake thread (fills_act at.now cap) state.old result state.new }
+    ensures { ActsAwake thread (fills_act at.now cap) state.old Done state.new }
 {
     state.is_sound();
     wake(state, thread);
     state.fills(at.dest, Some(cap));
-    Answer::Done
 }
 
 /// Wakes the thread, puts the capability that was found into the empty slot, and empties its own.
-fn shift<W: Waiting>(state: &mut State<W>, thread: ObjId, at: &Placing) -> Answer
+fn shift<W: Waiting>(state: &mut State<W>, thread: ObjId, at: &Placing)
     requires entering { IsEntering (so_far state.old) thread }
     requires placed { IsPlaced (so_far state.old) at.now }
     requires room { FitsAwake thread (moves_act at.now) state.old }
-    ensures { ActsAwake thread (moves_act at.now) state.old result state.new }
+    ensures { ActsAwake thread (moves_act at.now) state.old Done state.new }
 {
     state.is_sound();
     wake(state, thread);
     state.fills(at.dest, Some(at.cap));
     state.fills(at.source, None);
-    Answer::Done
 }
 
 /// CopyCap: the slot at the destination gets the capability at the source, with those of its rights that are asked for. The
@@ -51,14 +50,17 @@ pub fn copy_cap<W: Waiting>(
     source: Place,
     dest: Place,
     rights: Rights,
-) -> Answer
+) -> Result<(), Refusal>
     requires entering { IsEntering (so_far state.old) thread }
     requires room { Fits state.old core thread (Entry.CopyCap source dest rights) }
-    ensures { Does state.old core thread (Entry.CopyCap source dest rights) result state.new }
+    ensures { Does state.old core thread (Entry.CopyCap source dest rights) (plain_answer result) state.new }
 {
     match find_places(state, thread, source, dest) {
-        Err(refusal) => Answer::Refused(refusal),
-        Ok(at) => fill(state, thread, &at, with_mask(&at.cap, rights)),
+        Err(refusal) => Err(refusal),
+        Ok(at) => {
+            fill(state, thread, &at, with_mask(&at.cap, rights));
+            Ok(())
+        }
     }
 }
 
@@ -72,15 +74,18 @@ pub fn mint_cap<W: Waiting>(
     dest: Place,
     rights: Rights,
     badge: Badge,
-) -> Answer
+) -> Result<(), Refusal>
     requires entering { IsEntering (so_far state.old) thread }
     requires room { Fits state.old core thread (Entry.MintCap source dest rights badge) }
     ensures { Does state.old core thread (Entry.MintCap source dest rights badge)
-        result state.new }
+        (plain_answer result) state.new }
 {
     match with_no_badge(find_places(state, thread, source, dest)) {
-        Err(refusal) => Answer::Refused(refusal),
-        Ok(at) => fill(state, thread, &at, with_badge(&at.cap, rights, badge)),
+        Err(refusal) => Err(refusal),
+        Ok(at) => {
+            fill(state, thread, &at, with_badge(&at.cap, rights, badge));
+            Ok(())
+        }
     }
 }
 
@@ -92,13 +97,16 @@ pub fn move_cap<W: Waiting>(
     thread: ObjId,
     source: Place,
     dest: Place,
-) -> Answer
+) -> Result<(), Refusal>
     requires entering { IsEntering (so_far state.old) thread }
     requires room { Fits state.old core thread (Entry.MoveCap source dest) }
-    ensures { Does state.old core thread (Entry.MoveCap source dest) result state.new }
+    ensures { Does state.old core thread (Entry.MoveCap source dest) (plain_answer result) state.new }
 {
     match find_places(state, thread, source, dest) {
-        Err(refusal) => Answer::Refused(refusal),
-        Ok(at) => shift(state, thread, &at),
+        Err(refusal) => Err(refusal),
+        Ok(at) => {
+            shift(state, thread, &at);
+            Ok(())
+        }
     }
 }

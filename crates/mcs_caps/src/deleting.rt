@@ -1,12 +1,13 @@
 //! DeleteCap.
 ghost use Rattle.std.specs.Prelude.{◌≡◌, false, Some, IfOk, IsTrue};
+ghost use Rattle.mcs_types.specs.declared.entry.Answer.TheVariants.{Done};
 ghost use Rattle.mcs_types.specs.declared.entry.Entry.{Entry};
 ghost use Rattle.mcs_book.specs.Placing.{is_last_cnode, destroy_last as ends_last};
 ghost use Rattle.mcs_book.specs.Objects.{is_alive};
 ghost use Rattle.mcs_book.specs.Slots.{slot, count_of};
 ghost use Rattle.mcs_cancel.specs.Releasing.{IsNoCNode};
 ghost use Rattle.mcs_cspace.specs.Spaces.{named_by};
-ghost use Rattle.mcs_state.specs.Doing.{Makes, HasRoomFor, ActsAwake, FitsAwake, Does, Fits};
+ghost use Rattle.mcs_state.specs.Doing.{Makes, HasRoomFor, ActsAwake, FitsAwake, Does, Fits, plain_answer};
 ghost use Rattle.mcs_state.specs.Entering.{IsEntering};
 ghost use Rattle.mcs_state.specs.Now.{so_far};
 ghost use Rattle.mcs_caps.specs.Deletions.{IsSpared, deletable, deletes, takes_out};
@@ -16,7 +17,7 @@ use mcs_cancel::destroy;
 use mcs_object_queues::Waiting;
 use mcs_slots::SlotId;
 use mcs_state::{State, wake};
-use mcs_types::{Answer, Cap, CoreId, Kind, ObjId, Place, Refusal};
+use mcs_types::{Cap, CoreId, Kind, ObjId, Place, Refusal};
 
 /// Whether it is the last capability to a CNode.
 fn is_last_cnode<W: Waiting>(state: &State<W>, held: Option<Cap>) -> bool
@@ -72,21 +73,17 @@ fn take_out<W: Waiting>(state: &mut State<W>, at: SlotId, cap: Cap)
 }
 
 /// Wakes the thread, and deletes what a slot holds.
-fn delete<W: Waiting>(state: &mut State<W>, thread: ObjId, at: SlotId) -> Answer
+fn delete<W: Waiting>(state: &mut State<W>, thread: ObjId, at: SlotId)
     requires entering { IsEntering (so_far state.old) thread }
     requires slot { IsSlot (so_far state.old) at }
     requires spared { IsSpared (so_far state.old) at }
     requires room { FitsAwake thread (deletes (so_far state.old) at) state.old }
-    ensures { ActsAwake thread (deletes (so_far state.old) at) state.old result state.new }
+    ensures { ActsAwake thread (deletes (so_far state.old) at) state.old Done state.new }
 {
     let held = state.slot(at);
     wake(state, thread);
-    match held {
-        None => Answer::Done,
-        Some(cap) => {
-            take_out(state, at, cap);
-            Answer::Done
-        }
+    if let Some(cap) = held {
+        take_out(state, at, cap);
     }
 }
 
@@ -98,13 +95,16 @@ pub fn delete_cap<W: Waiting>(
     core: CoreId,
     thread: ObjId,
     place: Place,
-) -> Answer
+) -> Result<(), Refusal>
     requires entering { IsEntering (so_far state.old) thread }
     requires room { Fits state.old core thread (Entry.DeleteCap place) }
-    ensures { Does state.old core thread (Entry.DeleteCap place) result state.new }
+    ensures { Does state.old core thread (Entry.DeleteCap place) (plain_answer result) state.new }
 {
     match find_deletable(state, thread, place) {
-        Err(refusal) => Answer::Refused(refusal),
-        Ok(at) => delete(state, thread, at),
+        Err(refusal) => Err(refusal),
+        Ok(at) => {
+            delete(state, thread, at);
+            Ok(())
+        }
     }
 }

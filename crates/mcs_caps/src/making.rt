@@ -1,10 +1,11 @@
 //! MakeEndpoint, MakeNotification, MakeReply and MakeContext.
 ghost use Rattle.std.specs.Prelude.{◌≡◌, ◌<◌, ◌+◌, true, IfOk, length};
+ghost use Rattle.mcs_types.specs.declared.entry.Answer.TheVariants.{Done};
 ghost use Rattle.mcs_types.specs.declared.id.Kind.{Kind};
 ghost use Rattle.mcs_book.specs.Objects.{next_id};
 ghost use Rattle.mcs_book.specs.Sound.{IsFormOf};
 ghost use Rattle.mcs_cspace.specs.Spaces.{named_by};
-ghost use Rattle.mcs_state.specs.Doing.{Makes, HasRoomFor, ActsAwake, FitsAwake, Does, Fits};
+ghost use Rattle.mcs_state.specs.Doing.{Makes, HasRoomFor, ActsAwake, FitsAwake, Does, Fits, plain_answer};
 ghost use Rattle.mcs_state.specs.Entering.{IsEntering};
 ghost use Rattle.mcs_state.specs.Making.{HasRoom, MayMake, makes_next, has_limit};
 ghost use Rattle.mcs_state.specs.Now.{so_far};
@@ -15,7 +16,7 @@ use mcs_object_queues::Waiting;
 use mcs_slots::SlotId;
 use mcs_state::{State, wake};
 use mcs_types::{
-    ALL_RIGHTS, Answer, Badge, Cap, CoreId, Guard, Kind, ObjId, Place, Refusal, Rights,
+    ALL_RIGHTS, Badge, Cap, CoreId, Guard, Kind, ObjId, Place, Refusal, Rights,
 };
 
 /// The capability that comes with an object: one with all rights where its kind carries rights.
@@ -100,18 +101,17 @@ fn make_awake<W: Waiting>(
     thread: ObjId,
     kind: Kind,
     at: SlotId,
-) -> Answer
+)
     requires kind { has_limit kind ≡ true }
     requires form { IsFormOf kind (new_form kind core) }
     requires entering { IsEntering (so_far state.old) thread }
     requires slot { IsSlot (so_far state.old) at }
     requires few { HasRoom (so_far state.old) kind }
     requires room { FitsAwake thread (makes (so_far state.old) kind core at) state.old }
-    ensures { ActsAwake thread (makes (so_far state.old) kind core at) state.old result state.new }
+    ensures { ActsAwake thread (makes (so_far state.old) kind core at) state.old Done state.new }
 {
     wake(state, thread);
     make_at(state, core, kind, at);
-    Answer::Done
 }
 
 /// MakeEndpoint, MakeNotification, MakeReply and MakeContext: an object of a kind is made, and the slot gets a capability to it,
@@ -124,16 +124,19 @@ pub fn make<W: Waiting>(
     thread: ObjId,
     kind: Kind,
     place: Place,
-) -> Answer
+) -> Result<(), Refusal>
     requires kind { has_limit kind ≡ true }
     requires form { IsFormOf kind (new_form kind core) }
     requires entering { IsEntering (so_far state.old) thread }
     requires serials { HasSerials (so_far state.old) }
     requires room { Fits state.old core thread (entry_making kind place) }
-    ensures { Does state.old core thread (entry_making kind place) result state.new }
+    ensures { Does state.old core thread (entry_making kind place) (plain_answer result) state.new }
 {
     match find_vacant(state, thread, kind, place) {
-        Err(refusal) => Answer::Refused(refusal),
-        Ok(at) => make_awake(state, core, thread, kind, at),
+        Err(refusal) => Err(refusal),
+        Ok(at) => {
+            make_awake(state, core, thread, kind, at);
+            Ok(())
+        }
     }
 }

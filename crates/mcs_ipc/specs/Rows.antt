@@ -10,7 +10,7 @@ use Rattle.mcs_types.specs.declared.record.SendMode.TheVariants as how
 use Rattle.mcs_types.specs.declared.entry.Answer.{Answer}
 use Rattle.mcs_types.specs.declared.entry.Entry.{Entry}
 use Rattle.mcs_types.specs.declared.entry.Entry.TheVariants.{Send, NbSend, Recv, NbRecv, Wait, NbWait, NbSendRecv, NbSendWait}
-use Rattle.mcs_types.specs.declared.entry.Answer.TheVariants.{Done, Waits}
+use Rattle.mcs_types.specs.declared.entry.Answer.TheVariants.{Done, Waits, Refused}
 use Rattle.mcs_types.specs.declared.entry.Refusal.TheVariants.{WrongKind, NoRight}
 use Rattle.mcs_book.specs.Logs.{Log}
 use Rattle.mcs_book.specs.Checks.{Checked}
@@ -80,6 +80,11 @@ answer_to how.Give = Done
 abbrev pub said : Bool → Answer
 said true = Waits
 said false = Done
+
+-- the same, or the refusal of a send
+abbrev pub send_answer : Checked Bool → Answer
+send_answer (Ok waits) = said waits
+send_answer (Err why) = Refused why
 
 -- what t does where nobody receives: it waits in the queue, or the message is dropped
 abbrev pub alone_act : Bool → SendMode → ObjId → Cap → Content → Act

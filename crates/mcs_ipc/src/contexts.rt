@@ -1,18 +1,19 @@
 //! BindCtx and UnbindCtx.
 ghost use Rattle.std.specs.Prelude.{◌≡◌};
+ghost use Rattle.mcs_types.specs.declared.entry.Answer.TheVariants.{Done};
 ghost use Rattle.mcs_types.specs.declared.entry.Entry.{Entry};
 ghost use Rattle.mcs_types.specs.declared.id.Kind.{Kind};
 ghost use Rattle.mcs_book.specs.Binding.{is_loose};
 ghost use Rattle.mcs_book.specs.Sound.{IsThere};
 ghost use Rattle.mcs_state.specs.Now.{so_far};
-ghost use Rattle.mcs_state.specs.Doing.{ActsAwake, FitsAwake, Does, Fits};
+ghost use Rattle.mcs_state.specs.Doing.{ActsAwake, FitsAwake, Does, Fits, plain_answer};
 ghost use Rattle.mcs_state.specs.Entering.{IsEntering};
 ghost use Rattle.mcs_ipc.specs.Holding.{given, bindable, unbindable, unbinds};
 
 use mcs_cancel::unbind;
 use mcs_object_queues::Waiting;
 use mcs_state::{Change, State, change_awake, find_object, wake};
-use mcs_types::{Answer, CoreId, Kind, ObjId, Refusal};
+use mcs_types::{CoreId, Kind, ObjId, Refusal};
 
 /// Whether nobody holds a context, it is homed nowhere, and no reply object stands in its chain.
 fn is_loose<W: Waiting>(state: &State<W>, context: ObjId) -> bool
@@ -72,15 +73,18 @@ pub fn bind_context<W: Waiting>(
     thread: ObjId,
     context: u64,
     object: u64,
-) -> Answer
+) -> Result<(), Refusal>
     requires entering { IsEntering (so_far state.old) thread }
     requires room { Fits state.old core thread (Entry.BindCtx context object) }
-    ensures { Does state.old core thread (Entry.BindCtx context object) result state.new }
+    ensures { Does state.old core thread (Entry.BindCtx context object) (plain_answer result) state.new }
 {
     state.is_sound();
     match find_change(state, thread, context, object) {
-        Err(refusal) => Answer::Refused(refusal),
-        Ok(change) => change_awake(state, thread, change),
+        Err(refusal) => Err(refusal),
+        Ok(change) => {
+            change_awake(state, thread, change);
+            Ok(())
+        }
     }
 }
 
@@ -98,14 +102,13 @@ fn find_bound<W: Waiting>(state: &State<W>, thread: ObjId, context: u64) -> Resu
 }
 
 /// Wakes the thread that enters, and takes a context from its home and its holder.
-fn unbind_awake<W: Waiting>(state: &mut State<W>, thread: ObjId, context: ObjId) -> Answer
+fn unbind_awake<W: Waiting>(state: &mut State<W>, thread: ObjId, context: ObjId)
     requires entering { IsEntering (so_far state.old) thread }
     requires room { FitsAwake thread (unbinds context) state.old }
-    ensures { ActsAwake thread (unbinds context) state.old result state.new }
+    ensures { ActsAwake thread (unbinds context) state.old Done state.new }
 {
     wake(state, thread);
     unbind(state, context);
-    Answer::Done
 }
 
 /// UnbindCtx: nobody holds the context, and it is homed nowhere any more. The refusals are 1 to 3 of the lookup, 4 for a capability
@@ -115,14 +118,17 @@ pub fn unbind_context<W: Waiting>(
     core: CoreId,
     thread: ObjId,
     context: u64,
-) -> Answer
+) -> Result<(), Refusal>
     requires entering { IsEntering (so_far state.old) thread }
     requires room { Fits state.old core thread (Entry.UnbindCtx context) }
-    ensures { Does state.old core thread (Entry.UnbindCtx context) result state.new }
+    ensures { Does state.old core thread (Entry.UnbindCtx context) (plain_answer result) state.new }
 {
     state.is_sound();
     match find_bound(state, thread, context) {
-        Err(refusal) => Answer::Refused(refusal),
-        Ok(context) => unbind_awake(state, thread, context),
+        Err(refusal) => Err(refusal),
+        Ok(context) => {
+            unbind_awake(state, thread, context);
+            Ok(())
+        }
     }
 }

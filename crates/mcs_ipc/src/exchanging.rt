@@ -19,17 +19,18 @@ fn send_and_receive<W: Waiting>(
     thread: ObjId,
     at: Exchange,
     message: Copies<'_>,
-) -> Answer
+    answer: &mut Answer,
+)
     requires sending { IsSendingOver (so_far state.old) thread at.target }
     requires receiving { IsReceivingFrom (so_far state.old) thread at.source }
     requires waiting { OnlyBoundWait (so_far state.old) }
     requires few { length state.old.book.lines < BOOK_LINES }
     requires room { FitsAct (exchange_act message thread at) state.old }
-    ensures { Acts (exchange_act message.entry thread at) state.old result state.new }
+    ensures { Acts (exchange_act message.entry thread at) state.old answer.new state.new }
 {
     state.is_sound();
     send_target(state, thread, at.target, SendMode::Give, message, false);
-    receive_from(state, thread, at.source, true)
+    receive_from(state, thread, at.source, true, answer)
 }
 
 /// NBSendRecv where a reply object is named, and NBSendWait where not: the thread sends as by NBSend, and then receives as by Recv or
@@ -44,21 +45,22 @@ pub fn exchange<W: Waiting>(
     source: u64,
     reply: Option<u64>,
     message: Copies<'_>,
-) -> Answer
+    answer: &mut Answer,
+)
     requires entering { IsEntering (so_far state.old) thread }
     requires stand { OpenStand (so_far state.old) }
     requires waiting { OnlyBoundWait (so_far state.old) }
     requires few { length state.old.book.lines < BOOK_LINES }
     requires room { Fits state.old core thread (exchange_entry address source reply message) }
     ensures { Does state.old core thread (exchange_entry address source reply message.entry)
-        result state.new }
+        answer.new state.new }
 {
     state.is_sound();
     match ends_of_exchange(state, thread, address, source, reply) {
-        Err(refusal) => Answer::Refused(refusal), // Nothing is sent yet.
+        Err(refusal) => *answer = Answer::Refused(refusal), // Nothing is sent yet.
         Ok(at) => {
             wake(state, thread);
-            send_and_receive(state, thread, at, message)
+            send_and_receive(state, thread, at, message, answer)
         }
     }
 }

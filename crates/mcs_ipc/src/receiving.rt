@@ -47,10 +47,10 @@ fn free_any<W: Waiting>(state: &mut State<W>, reply: Option<ObjId>)
 }
 
 /// Waits among the receivers, where the thread blocks; its context goes home where that is the notification bound to the thread (own).
-fn stand<W: Waiting>(state: &mut State<W>, thread: ObjId, at: Receiving, blocks: bool) -> Answer
+fn stand<W: Waiting>(state: &mut State<W>, thread: ObjId, at: Receiving, blocks: bool, answer: &mut Answer)
     requires ready { IsReady (so_far state.old) thread at.endpoint at.reply }
     requires room { FitsAct (stand_act (so_far state.old) blocks thread at) state.old }
-    ensures { Acts (stand_act (so_far state.old) blocks thread at) state.old result state.new }
+    ensures { Acts (stand_act (so_far state.old) blocks thread at) state.old answer.new state.new }
 {
     if blocks {
         let notification = state.bound_of(thread);
@@ -61,9 +61,9 @@ fn stand<W: Waiting>(state: &mut State<W>, thread: ObjId, at: Receiving, blocks:
             at.reply,
             notification,
         );
-        Answer::Waits
+        *answer = Answer::Waits;
     } else {
-        Answer::Empty
+        *answer = Answer::Empty;
     }
 }
 
@@ -73,15 +73,16 @@ fn take_first<W: Waiting>(
     thread: ObjId,
     at: Receiving,
     blocks: bool,
-) -> Answer
+    answer: &mut Answer,
+)
     requires ready { IsReady (so_far state.old) thread at.endpoint at.reply }
     requires room { FitsAct (take_act blocks thread at) state.old }
-    ensures { Acts (take_act blocks thread at) state.old result state.new }
+    ensures { Acts (take_act blocks thread at) state.old answer.new state.new }
 {
     match state.first(Queue::Senders(at.endpoint)) {
-        None => stand(state, thread, at, blocks),
+        None => stand(state, thread, at, blocks, answer),
         Some(sender) => match state.letter(sender) {
-            None => stand(state, thread, at, blocks),
+            None => stand(state, thread, at, blocks, answer),
             Some(letter) => {
                 let badge = letter.badge;
                 let delivery = Delivery {
@@ -91,7 +92,7 @@ fn take_first<W: Waiting>(
                     mode: letter.mode,
                 };
                 let message = take(state, delivery, thread, at.reply);
-                Answer::Got { badge, message }
+                *answer = Answer::Got { badge, message };
             }
         },
     }
@@ -104,15 +105,16 @@ fn hear_or_take<W: Waiting>(
     thread: ObjId,
     at: Receiving,
     blocks: bool,
-) -> Answer
+    answer: &mut Answer,
+)
     requires ready { IsReady (so_far state.old) thread at.endpoint at.reply }
     requires room { FitsAct (receive_message thread at.endpoint at.reply blocks) state.old }
-    ensures { Acts (receive_message thread at.endpoint at.reply blocks) state.old result state.new }
+    ensures { Acts (receive_message thread at.endpoint at.reply blocks) state.old answer.new state.new }
 {
     state.is_sound();
     match take_bound(state, thread) {
-        Some(word) => Answer::Heard { word },
-        None => take_first(state, thread, at, blocks),
+        Some(word) => *answer = Answer::Heard { word },
+        None => take_first(state, thread, at, blocks, answer),
     }
 }
 
@@ -123,14 +125,15 @@ fn receive_on<W: Waiting>(
     thread: ObjId,
     at: Receiving,
     blocks: bool,
-) -> Answer
+    answer: &mut Answer,
+)
     requires receiving { IsReceiving (so_far state.old) thread at.endpoint at.reply }
     requires room { FitsAct (receive_act blocks thread at) state.old }
-    ensures { Acts (receive_act blocks thread at) state.old result state.new }
+    ensures { Acts (receive_act blocks thread at) state.old answer.new state.new }
 {
     state.is_sound();
     free_any(state, at.reply);
-    hear_or_take(state, thread, at, blocks)
+    hear_or_take(state, thread, at, blocks, answer)
 }
 
 /// Receives on an endpoint, or waits on a notification.
@@ -141,15 +144,16 @@ pub fn receive_from<W: Waiting>(
     thread: ObjId,
     source: Source,
     blocks: bool,
-) -> Answer
+    answer: &mut Answer,
+)
     requires receiving { IsReceivingFrom (so_far state.old) thread source }
     requires room { FitsAct (source_act blocks thread source) state.old }
-    ensures { Acts (source_act blocks thread source) state.old result state.new }
+    ensures { Acts (source_act blocks thread source) state.old answer.new state.new }
 {
     match source {
-        Source::Endpoint(at) => receive_on(state, thread, at, blocks),
+        Source::Endpoint(at) => receive_on(state, thread, at, blocks, answer),
         Source::Notification(notification) => {
-            mcs_notify::wait(state, thread, notification, blocks)
+            mcs_notify::wait(state, thread, notification, blocks, answer)
         }
     }
 }
@@ -168,18 +172,19 @@ pub fn receive<W: Waiting>(
     address: u64,
     reply: Option<u64>,
     blocks: bool,
-) -> Answer
+    answer: &mut Answer,
+)
     requires entering { IsEntering (so_far state.old) thread }
     requires stand { OpenStand (so_far state.old) }
     requires room { Fits state.old core thread (receive_entry blocks address reply) }
-    ensures { Does state.old core thread (receive_entry blocks address reply) result state.new }
+    ensures { Does state.old core thread (receive_entry blocks address reply) answer.new state.new }
 {
     state.is_sound();
     match source_to_receive(state, thread, address, reply) {
-        Err(refusal) => Answer::Refused(refusal),
+        Err(refusal) => *answer = Answer::Refused(refusal),
         Ok(source) => {
             wake(state, thread);
-            receive_from(state, thread, source, blocks)
+            receive_from(state, thread, source, blocks, answer)
         }
     }
 }
@@ -194,20 +199,21 @@ pub fn reply_receive<W: Waiting>(
     address: u64,
     reply: u64,
     message: Copies<'_>,
-) -> Answer
+    answer: &mut Answer,
+)
     requires entering { IsEntering (so_far state.old) thread }
     requires stand { OpenStand (so_far state.old) }
     requires room { Fits state.old core thread (Entry.ReplyRecv address reply message) }
-    ensures { Does state.old core thread (Entry.ReplyRecv address reply message.entry) result
+    ensures { Does state.old core thread (Entry.ReplyRecv address reply message.entry) answer.new
         state.new }
 {
     state.is_sound();
     match source_to_reply(state, thread, address, reply) {
-        Err(refusal) => Answer::Refused(refusal), // Nobody is paid yet.
+        Err(refusal) => *answer = Answer::Refused(refusal), // Nobody is paid yet.
         Ok(at) => {
             wake(state, thread);
             pay(state, at.reply, message);
-            receive_from(state, thread, at.source, true)
+            receive_from(state, thread, at.source, true, answer)
         }
     }
 }

@@ -11,15 +11,15 @@ ghost use Rattle.mcs_state.specs.Doing.{Acts, FitsAct, Does, Fits};
 ghost use Rattle.mcs_state.specs.Entering.{IsEntering, OpenStand, OnlyBoundWait};
 ghost use Rattle.mcs_notify.specs.Rows.{signal_act};
 ghost use Rattle.mcs_ipc.specs.Ready.{IsSending, IsSendingOver};
-ghost use Rattle.mcs_ipc.specs.Rows.{answer_to, said, send_entry, send_act, pay_act, target_act};
+ghost use Rattle.mcs_ipc.specs.Rows.{answer_to, said, send_entry, send_act, pay_act, target_act, send_answer};
 
-use crate::checks::{Target, cap_to_call, target_to_send};
+use crate::checks::{Target, by_fields, cap_to_call, target_to_send};
 use crate::replying::pay;
 use crate::taking::settle;
 use mcs_notify::signal;
 use mcs_object_queues::Waiting;
 use mcs_state::{State, wake};
-use mcs_types::{Answer, BOOK_LINES, Cap, Copies, CoreId, Mode, ObjId, Queue, SendMode};
+use mcs_types::{BOOK_LINES, Cap, Copies, CoreId, Mode, ObjId, Queue, Refusal, SendMode};
 
 /// How a call over a capability is sent: without Grant and GrantReply it cannot be answered (manual: Message Passing).
 fn call_mode(cap: &Cap) -> SendMode
@@ -40,14 +40,6 @@ fn waits(mode: SendMode) -> bool
         SendMode::Plain | SendMode::Give => false,
         SendMode::Call | SendMode::Mute => true,
     }
-}
-
-/// What is answered to who sent, and waits or not.
-#[inline(always)]
-fn said(waits: bool) -> Answer
-    ensures { result ≡ said waits }
-{
-    if waits { Answer::Waits } else { Answer::Done }
 }
 
 /// Sends a message, and waits in the queue, where nobody receives.
@@ -160,7 +152,7 @@ pub fn send_target<W: Waiting>(
         state.new }
 {
     match target {
-        Target::Endpoint(cap) => send_over(state, thread, cap, mode, message, blocks),
+        Target::Endpoint(cap) => send_over(state, thread, by_fields(&cap), mode, message, blocks),
         Target::Notification(cap) => send_signal(state, cap),
         Target::Reply(reply) => send_reply(state, reply, message),
     }
@@ -179,21 +171,21 @@ pub fn send<W: Waiting>(
     address: u64,
     message: Copies<'_>,
     blocks: bool,
-) -> Answer
+) -> Result<bool, Refusal>
     requires entering { IsEntering (so_far state.old) thread }
     requires stand { OpenStand (so_far state.old) }
     requires waiting { OnlyBoundWait (so_far state.old) }
     requires few { length state.old.book.lines < BOOK_LINES }
     requires room { Fits state.old core thread (send_entry blocks address message) }
-    ensures { Does state.old core thread (send_entry blocks address message.entry) result
+    ensures { Does state.old core thread (send_entry blocks address message.entry) (send_answer result)
         state.new }
 {
     state.is_sound();
     match target_to_send(state, thread, address) {
-        Err(refusal) => Answer::Refused(refusal),
+        Err(refusal) => Err(refusal),
         Ok(target) => {
             wake(state, thread);
-            said(send_target(state, thread, target, SendMode::Plain, message, blocks))
+            Ok(send_target(state, thread, target, SendMode::Plain, message, blocks))
         }
     }
 }
@@ -209,20 +201,21 @@ pub fn call<W: Waiting>(
     thread: ObjId,
     address: u64,
     message: Copies<'_>,
-) -> Answer
+) -> Result<bool, Refusal>
     requires entering { IsEntering (so_far state.old) thread }
     requires stand { OpenStand (so_far state.old) }
     requires few { length state.old.book.lines < BOOK_LINES }
     requires room { Fits state.old core thread (Entry.Call address message) }
-    ensures { Does state.old core thread (Entry.Call address message.entry) result state.new }
+    ensures { Does state.old core thread (Entry.Call address message.entry) (send_answer result)
+        state.new }
 {
     state.is_sound();
     match cap_to_call(state, thread, address) {
-        Err(refusal) => Answer::Refused(refusal),
+        Err(refusal) => Err(refusal),
         Ok(cap) => {
             wake(state, thread);
             let mode = call_mode(&cap);
-            said(send_over(state, thread, cap, mode, message, true))
+            Ok(send_over(state, thread, cap, mode, message, true))
         }
     }
 }

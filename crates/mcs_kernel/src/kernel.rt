@@ -8,8 +8,9 @@ ghost use Rattle.mcs_book.specs.Fair.{EndsOpen, IsWholeLine, TakesFirst, TakesIn
 ghost use Rattle.mcs_book.specs.Statuses.{may_enter};
 ghost use Rattle.mcs_caps.specs.NewObjects.{HasSerials};
 ghost use Rattle.mcs_book.specs.Table.{does};
+ghost use Rattle.mcs_ipc.specs.Rows.{send_answer};
 ghost use Rattle.mcs_state.specs.Now.{so_far};
-ghost use Rattle.mcs_state.specs.Doing.{Does, Fits};
+ghost use Rattle.mcs_state.specs.Doing.{Does, Fits, plain_answer};
 ghost use Rattle.mcs_state.specs.Entering.{IsEntering, OpenStand, OnlyBoundWait};
 ghost use Rattle.mcs_kernel.specs.Faults.{fault_of, entered, with_entry, FailsForMemory};
 
@@ -27,8 +28,8 @@ use mcs_object_queues::{ObjectQueues, Waiting};
 use mcs_queues::Lines;
 use mcs_state::State;
 use mcs_types::{
-    Answer, BOOK_LINES, CORES, Copied, Copies, CoreId, Entry, Kind, ObjId, OutOfMemory, Status,
-    Step,
+    Answer, BOOK_LINES, CORES, Copied, Copies, CoreId, Entry, Kind, ObjId, OutOfMemory, Refusal,
+    Status, Step,
 };
 use std::alloc::Global;
 use std::marker::Model;
@@ -50,6 +51,29 @@ impl<L: Lines> Model for Kernel<L> {
     ghost invariant = { λ k. IsResting k.state };
 }
 
+/// What an entry is answered that is done or refused.
+#[inline(always)]
+fn plain_answer(ended: Result<(), Refusal>) -> Answer
+    ensures { result ≡ plain_answer ended }
+{
+    match ended {
+        Ok(()) => Answer::Done,
+        Err(refusal) => Answer::Refused(refusal),
+    }
+}
+
+/// What a send is answered: whether its thread waits, or the refusal.
+#[inline(always)]
+fn send_answer(waits: Result<bool, Refusal>) -> Answer
+    ensures { result ≡ send_answer waits }
+{
+    match waits {
+        Ok(true) => Answer::Waits,
+        Ok(false) => Answer::Done,
+        Err(refusal) => Answer::Refused(refusal),
+    }
+}
+
 /// Does an entry of a thread that may enter: a table, with an arm for each entry. The copies of its message that take memory are
 /// made before, so it takes none.
 #[inline(always)]
@@ -59,7 +83,8 @@ fn operate<W: Waiting>(
     thread: ObjId,
     entry: &Entry,
     long: Option<Box<Copied>>,
-) -> Answer
+    answer: &mut Answer,
+)
     requires core { core.0 < CORES }
     requires copies { IfSome (message_of entry.now) (IsSpare long) }
     requires entering { IsEntering (so_far state.old) thread }
@@ -68,32 +93,32 @@ fn operate<W: Waiting>(
     requires serials { HasSerials (so_far state.old) }
     requires few { length state.old.book.lines < BOOK_LINES }
     requires room { Fits state.old core thread entry.now }
-    ensures { Does state.old core thread entry.now result state.new }
+    ensures { Does state.old core thread entry.now answer.new state.new }
 {
     match entry {
         Entry::Send { cap, message } => {
             let copies = Copies { message, long };
-            send(state, core, thread, *cap, copies, true)
+            *answer = send_answer(send(state, core, thread, *cap, copies, true));
         }
         Entry::NbSend { cap, message } => {
             let copies = Copies { message, long };
-            send(state, core, thread, *cap, copies, false)
+            *answer = send_answer(send(state, core, thread, *cap, copies, false));
         }
         Entry::Call { cap, message } => {
             let copies = Copies { message, long };
-            call(state, core, thread, *cap, copies)
+            *answer = send_answer(call(state, core, thread, *cap, copies));
         }
-        Entry::Recv { cap, reply } => receive(state, core, thread, *cap, Some(*reply), true),
-        Entry::NbRecv { cap, reply } => receive(state, core, thread, *cap, Some(*reply), false),
-        Entry::Wait { cap } => receive(state, core, thread, *cap, None, true),
-        Entry::NbWait { cap } => receive(state, core, thread, *cap, None, false),
+        Entry::Recv { cap, reply } => receive(state, core, thread, *cap, Some(*reply), true, answer),
+        Entry::NbRecv { cap, reply } => receive(state, core, thread, *cap, Some(*reply), false, answer),
+        Entry::Wait { cap } => receive(state, core, thread, *cap, None, true, answer),
+        Entry::NbWait { cap } => receive(state, core, thread, *cap, None, false, answer),
         Entry::ReplyRecv {
             cap,
             reply,
             message,
         } => {
             let copies = Copies { message, long };
-            reply_receive(state, core, thread, *cap, *reply, copies)
+            reply_receive(state, core, thread, *cap, *reply, copies, answer)
         }
         Entry::NbSendRecv {
             cap,
@@ -102,7 +127,7 @@ fn operate<W: Waiting>(
             message,
         } => {
             let copies = Copies { message, long };
-            exchange(state, core, thread, *cap, *source, Some(*reply), copies)
+            exchange(state, core, thread, *cap, *source, Some(*reply), copies, answer)
         }
         Entry::NbSendWait {
             cap,
@@ -110,44 +135,44 @@ fn operate<W: Waiting>(
             message,
         } => {
             let copies = Copies { message, long };
-            exchange(state, core, thread, *cap, *source, None, copies)
+            exchange(state, core, thread, *cap, *source, None, copies, answer)
         }
-        Entry::Signal { cap } => signal_at(state, core, thread, *cap),
+        Entry::Signal { cap } => *answer = plain_answer(signal_at(state, core, thread, *cap)),
         Entry::SetPriority {
             thread: holder,
             authority,
             priority,
-        } => set_priority(state, core, thread, *holder, *authority, *priority),
-        Entry::Suspend { thread: other } => suspend(state, core, thread, *other),
-        Entry::Resume { thread: other } => resume(state, core, thread, *other),
+        } => *answer = plain_answer(set_priority(state, core, thread, *holder, *authority, *priority)),
+        Entry::Suspend { thread: other } => *answer = plain_answer(suspend(state, core, thread, *other)),
+        Entry::Resume { thread: other } => *answer = plain_answer(resume(state, core, thread, *other)),
         Entry::BindNtfn {
             thread: holder,
             notification,
-        } => bind(state, core, thread, *holder, *notification),
-        Entry::UnbindNtfn { thread: holder } => unbind(state, core, thread, *holder),
+        } => *answer = plain_answer(bind(state, core, thread, *holder, *notification)),
+        Entry::UnbindNtfn { thread: holder } => *answer = plain_answer(unbind(state, core, thread, *holder)),
         Entry::BindCtx {
             context,
             thread: holder,
-        } => bind_context(state, core, thread, *context, *holder),
-        Entry::UnbindCtx { context } => unbind_context(state, core, thread, *context),
-        Entry::CancelBadged { endpoint } => cancel_badged(state, core, thread, *endpoint),
+        } => *answer = plain_answer(bind_context(state, core, thread, *context, *holder)),
+        Entry::UnbindCtx { context } => *answer = plain_answer(unbind_context(state, core, thread, *context)),
+        Entry::CancelBadged { endpoint } => *answer = plain_answer(cancel_badged(state, core, thread, *endpoint)),
         Entry::CopyCap {
             source,
             dest,
             rights,
-        } => copy_cap(state, core, thread, *source, *dest, *rights),
+        } => *answer = plain_answer(copy_cap(state, core, thread, *source, *dest, *rights)),
         Entry::MintCap {
             source,
             dest,
             rights,
             badge,
-        } => mint_cap(state, core, thread, *source, *dest, *rights, *badge),
-        Entry::MoveCap { source, dest } => move_cap(state, core, thread, *source, *dest),
-        Entry::DeleteCap { place } => delete_cap(state, core, thread, *place),
-        Entry::MakeEndpoint { place } => make(state, core, thread, Kind::Endpoint, *place),
-        Entry::MakeNotification { place } => make(state, core, thread, Kind::Notification, *place),
-        Entry::MakeReply { place } => make(state, core, thread, Kind::Reply, *place),
-        Entry::MakeContext { place } => make(state, core, thread, Kind::Context, *place),
+        } => *answer = plain_answer(mint_cap(state, core, thread, *source, *dest, *rights, *badge)),
+        Entry::MoveCap { source, dest } => *answer = plain_answer(move_cap(state, core, thread, *source, *dest)),
+        Entry::DeleteCap { place } => *answer = plain_answer(delete_cap(state, core, thread, *place)),
+        Entry::MakeEndpoint { place } => *answer = plain_answer(make(state, core, thread, Kind::Endpoint, *place)),
+        Entry::MakeNotification { place } => *answer = plain_answer(make(state, core, thread, Kind::Notification, *place)),
+        Entry::MakeReply { place } => *answer = plain_answer(make(state, core, thread, Kind::Reply, *place)),
+        Entry::MakeContext { place } => *answer = plain_answer(make(state, core, thread, Kind::Context, *place)),
     }
 }
 
@@ -231,7 +256,8 @@ impl<L: Lines> Kernel<L> {
         let long = step.entry.copied(alloc)?;
         step.entry.is_in_range();
         self.state.is_sound();
-        let answer = operate(&mut self.state, step.core, step.thread, &step.entry, long);
+        let mut answer = Answer::Done;
+        operate(&mut self.state, step.core, step.thread, &step.entry, long, &mut answer);
         self.state.is_sound();
         self.state.close(step, &answer);
         Ok(answer)

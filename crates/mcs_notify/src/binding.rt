@@ -4,13 +4,13 @@ ghost use Rattle.mcs_types.specs.declared.entry.Entry.{Entry};
 ghost use Rattle.mcs_types.specs.declared.id.Kind.{Kind};
 ghost use Rattle.mcs_book.specs.Sound.{IsThere};
 ghost use Rattle.mcs_state.specs.Now.{so_far};
-ghost use Rattle.mcs_state.specs.Doing.{Does, Fits};
+ghost use Rattle.mcs_state.specs.Doing.{Does, Fits, plain_answer};
 ghost use Rattle.mcs_state.specs.Entering.{IsEntering};
 ghost use Rattle.mcs_notify.specs.Tying.{bindable, unbindable};
 
 use mcs_object_queues::Waiting;
 use mcs_state::{Change, State, change_awake, find_object, of_kind, with_read};
-use mcs_types::{Answer, CoreId, Kind, ObjId, Queue, Refusal};
+use mcs_types::{CoreId, Kind, ObjId, Queue, Refusal};
 
 /// What a bind changes: the thread has no notification, and the notification is bound to nobody, and nobody waits on it.
 fn tie_to_make<W: Waiting>(
@@ -60,27 +60,33 @@ pub fn bind<W: Waiting>(
     thread: ObjId,
     holder: u64,
     notification: u64,
-) -> Answer
+) -> Result<(), Refusal>
     requires entering { IsEntering (so_far state.old) thread }
     requires room { Fits state.old core thread (Entry.BindNtfn holder notification) }
-    ensures { Does state.old core thread (Entry.BindNtfn holder notification) result state.new }
+    ensures { Does state.old core thread (Entry.BindNtfn holder notification) (plain_answer result) state.new }
 {
     state.is_sound();
     match tie_to_make(state, thread, holder, notification) {
-        Err(refusal) => Answer::Refused(refusal),
-        Ok(change) => change_awake(state, thread, change),
+        Err(refusal) => Err(refusal),
+        Ok(change) => {
+            change_awake(state, thread, change);
+            Ok(())
+        }
     }
 }
 
 /// UnbindNtfn: no notification is bound to the thread from now on. The refusals are 1 to 3 of the lookup, 4 for a
 /// capability of another kind, and 10 where none is bound; they change nothing (manual: Notifications).
-pub fn unbind<W: Waiting>(state: &mut State<W>, core: CoreId, thread: ObjId, holder: u64) -> Answer
+pub fn unbind<W: Waiting>(state: &mut State<W>, core: CoreId, thread: ObjId, holder: u64) -> Result<(), Refusal>
     requires entering { IsEntering (so_far state.old) thread }
     requires room { Fits state.old core thread (Entry.UnbindNtfn holder) }
-    ensures { Does state.old core thread (Entry.UnbindNtfn holder) result state.new }
+    ensures { Does state.old core thread (Entry.UnbindNtfn holder) (plain_answer result) state.new }
 {
     match tie_to_end(state, thread, holder) {
-        Err(refusal) => Answer::Refused(refusal),
-        Ok(change) => change_awake(state, thread, change),
+        Err(refusal) => Err(refusal),
+        Ok(change) => {
+            change_awake(state, thread, change);
+            Ok(())
+        }
     }
 }

@@ -8,7 +8,7 @@ ghost use Rattle.mcs_book.specs.Contexts.{homed_at};
 ghost use Rattle.mcs_book.specs.Signalling.{signal as signalled, if_spare};
 ghost use Rattle.mcs_book.specs.Sound.{IsThere};
 ghost use Rattle.mcs_state.specs.Now.{so_far};
-ghost use Rattle.mcs_state.specs.Doing.{Makes, HasRoomFor, Does, Fits};
+ghost use Rattle.mcs_state.specs.Doing.{Makes, HasRoomFor, Does, Fits, plain_answer};
 ghost use Rattle.mcs_state.specs.Entering.{IsEntering, OnlyBoundWait};
 ghost use Rattle.mcs_notify.specs.Hearing.{bound_receiver, first_waiter, next_hearer, reached, left_by, goes_on, heard_by};
 ghost use Rattle.mcs_notify.specs.Rows.{signalable};
@@ -16,7 +16,7 @@ ghost use Rattle.mcs_notify.specs.Waiting.{NoneElseBound};
 
 use mcs_object_queues::Waiting;
 use mcs_state::{State, give_back, of_kind, wake, with_write};
-use mcs_types::{Answer, Badge, Cap, CoreId, Kind, Mode, ObjId, Queue, Refusal};
+use mcs_types::{Badge, Cap, CoreId, Kind, Mode, ObjId, Queue, Refusal};
 
 /// A thread that a word reaches, and the queue in which it stands.
 #[derive(Clone, Copy)]
@@ -150,19 +150,19 @@ pub fn signal_at<W: Waiting>(
     core: CoreId,
     thread: ObjId,
     address: u64,
-) -> Answer
+) -> Result<(), Refusal>
     requires entering { IsEntering (so_far state.old) thread }
     requires waiting { OnlyBoundWait (so_far state.old) }
     requires room { Fits state.old core thread (Entry.Signal address) }
-    ensures { Does state.old core thread (Entry.Signal address) result state.new }
+    ensures { Does state.old core thread (Entry.Signal address) (plain_answer result) state.new }
 {
     state.is_sound();
     match cap_to_signal(state, thread, address) {
-        Err(refusal) => Answer::Refused(refusal),
+        Err(refusal) => Err(refusal),
         Ok(cap) => {
             wake(state, thread);
             signal(state, cap.obj, cap.badge);
-            Answer::Done
+            Ok(())
         }
     }
 }

@@ -31,17 +31,18 @@ pub fn wait<W: Waiting>(
     thread: ObjId,
     notification: ObjId,
     blocks: bool,
-) -> Answer
+    answer: &mut Answer,
+)
     requires acting { IsActing (so_far state.old) thread }
     requires there { IsThere (so_far state.old) Kind.Notification notification }
     requires alone { NoneElseBound (so_far state.old) notification thread }
     requires room { FitsAct (wait_on thread notification blocks) state.old }
-    ensures { Acts (wait_on thread notification blocks) state.old result state.new }
+    ensures { Acts (wait_on thread notification blocks) state.old answer.new state.new }
 {
     match state.pending(notification) {
         Some(word) => {
             state.hears(thread, notification, word);
-            Answer::Heard { word }
+            *answer = Answer::Heard { word };
         }
         None if blocks => {
             stand(
@@ -51,9 +52,9 @@ pub fn wait<W: Waiting>(
                 None,
                 Some(notification),
             );
-            Answer::Waits
+            *answer = Answer::Waits;
         }
-        None => Answer::Empty,
+        None => *answer = Answer::Empty,
     }
 }
 

@@ -145,15 +145,15 @@ impl Arena {
         }
     }
 
-    /// Packs an entry, for which there is room: a table, a row for each entry. Its message or its badge may stand at a place
-    /// already. What was packed before stands for what it stood for.
-    pub fn pack_entry(&mut self, entry: &Entry, place: u32) -> PackedEntry
+    /// Packs an entry, for which there is room, into `into`: a table, a row for each entry. Its message or its badge may stand
+    /// at a place already. What was packed before stands for what it stood for.
+    pub fn pack_entry(&mut self, entry: &Entry, place: u32, into: &mut PackedEntry)
         requires { HasMessageRoom self.old 1 }
-        ensures value { entry_of result self.new.words.items ≡ entry.now }
-        ensures fits { EntryFits result self.new.words.items }
+        ensures value { entry_of into.new self.new.words.items ≡ entry.now }
+        ensures fits { EntryFits into.new self.new.words.items }
         ensures grew { GrewHead self.old self.new }
     {
-        match entry {
+        *into = match entry {
             Entry::Send { cap, message } => self.pack_sending(Sending::Send, *cap, message, place),
             Entry::NbSend { cap, message } => self.pack_sending(
                 Sending::NbSend,
@@ -256,7 +256,7 @@ impl Arena {
                 source: source.index,
                 dest: dest.index,
             },
-        }
+        };
     }
 }
 

@@ -18,10 +18,16 @@ pub fn id_of(kind: Kind, serial: u32) -> ObjId
 pub fn queue_of(side: Side, serial: u32) -> Queue
     ensures { result ≡ queue_on side serial }
 {
+    // the object is made once, so it stays in a register
+    let kind = match side {
+        Side::Senders | Side::Receivers => Kind::Endpoint,
+        Side::Waiters => Kind::Notification,
+    };
+    let object = id_of(kind, serial);
     match side {
-        Side::Senders => Queue::Senders(id_of(Kind::Endpoint, serial)),
-        Side::Receivers => Queue::Receivers(id_of(Kind::Endpoint, serial)),
-        Side::Waiters => Queue::Waiters(id_of(Kind::Notification, serial)),
+        Side::Senders => Queue::Senders(object),
+        Side::Receivers => Queue::Receivers(object),
+        Side::Waiters => Queue::Waiters(object),
     }
 }
 

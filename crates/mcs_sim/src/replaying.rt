@@ -16,33 +16,30 @@ use std::alloc::Global;
 use std::io::{Read, Write};
 use std::marker::Model;
 
-/// Puts what of a run's book was not told, if it has one, and answers how much is told with it.
+/// Puts what of a run's book was not told, if it has one.
 #[tactic(auto, using(crate::proofs::TraceLaws::puts_nothing))]
-fn put_more<W: Write>(to: &mut Sink<W>, told: Told, run: &ReplayRun) -> Told
-    requires told { IsToldUpTo told run.now.course.stands.book }
-    ensures puts { Puts W.contents to.old to.new (untold_of told run.now.course.stands.book) }
-    ensures told { IsToldBy result run.now.course.stands.book }
+fn put_more<W: Write>(to: &mut Sink<W>, told: &mut Told, run: &ReplayRun)
+    requires told { IsToldUpTo told.old run.now.course.stands.book }
+    ensures puts { Puts W.contents to.old to.new (untold_of told.old run.now.course.stands.book) }
+    ensures told { IsToldBy told.new run.now.course.stands.book }
     ensures fair { IsFairBook run.now.course.stands.book }
 {
-    match run.book() {
-        Some(book) => put_untold(to, told, book),
-        None => told,
+    if let Some(book) = run.book() {
+        put_untold(to, told, book);
     }
 }
 
-/// Puts what of a run's book was not told, if it has one, where the step of a single line more was read of this text, and answers how
-/// much is told with it.
+/// Puts what of a run's book was not told, if it has one, where the step of a single line more was read of this text.
 #[tactic(auto, using(crate::proofs::TraceLaws::puts_nothing))]
-fn put_line<W: Write>(to: &mut Sink<W>, told: Told, run: &ReplayRun, text: &[u8]) -> Told
-    requires told { IsToldUpTo told run.now.course.stands.book }
-    requires text { IsReadOfAny text.now told run.now.course.stands.book }
-    ensures puts { Puts W.contents to.old to.new (untold_of told run.now.course.stands.book) }
-    ensures told { IsToldBy result run.now.course.stands.book }
+fn put_line<W: Write>(to: &mut Sink<W>, told: &mut Told, run: &ReplayRun, text: &[u8])
+    requires told { IsToldUpTo told.old run.now.course.stands.book }
+    requires text { IsReadOfAny text.now told.old run.now.course.stands.book }
+    ensures puts { Puts W.contents to.old to.new (untold_of told.old run.now.course.stands.book) }
+    ensures told { IsToldBy told.new run.now.course.stands.book }
 {
-    let Some(book) = run.book() else {
-        return told;
-    };
-    put_read(to, told, book, text)
+    if let Some(book) = run.book() {
+        put_read(to, told, book, text);
+    }
 }
 
 /// A replay of a script that comes in pieces, whose trace goes out with each.
@@ -91,11 +88,11 @@ impl TracedRun {
     {
         if self.run.is_amid() {
             let taken = self.run.end_line(alloc, part);
-            self.told = put_more(to, self.told, &self.run);
+            put_more(to, &mut self.told, &self.run);
             return taken;
         }
         let taken = self.run.take_line(alloc, part);
-        self.told = put_line(to, self.told, &self.run, part);
+        put_line(to, &mut self.told, &self.run, part);
         taken
     }
 
@@ -118,7 +115,7 @@ impl TracedRun {
             rest = &rest[i + 1..];
         }
         let taken = self.run.keep(rest);
-        self.told = put_more(to, self.told, &self.run);
+        put_more(to, &mut self.told, &self.run);
         taken
     }
 
@@ -138,7 +135,7 @@ impl TracedRun {
             return self.feed(alloc, piece, to);
         }
         let taken = self.run.take_piece(alloc, piece);
-        self.told = put_more(to, self.told, &self.run);
+        put_more(to, &mut self.told, &self.run);
         taken
     }
 

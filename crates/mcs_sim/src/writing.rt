@@ -130,40 +130,38 @@ fn put_untold_boot<W: Write>(sink: &mut Sink<W>, told: Told, book: &Book)
     put_boot(sink, book.boot());
 }
 
-/// Puts what of a book's trace was not told, and answers how much is told with it.
+/// Puts what of a book's trace was not told, so that all of it is told then.
 #[tactic(auto, unfolding(crate::specs::Trace::untold))]
-pub fn put_untold<W: Write>(sink: &mut Sink<W>, told: Told, book: &Book) -> Told
-    requires told { IsToldOf told book.now.book }
-    ensures puts { Puts W.contents sink.old sink.new (untold told book.now.book) }
-    ensures told { result ≡ all_told book.now.book }
-    ensures fits { result.sent ≤ (result.lines - 1) * 2 ^ 64 }
+pub fn put_untold<W: Write>(sink: &mut Sink<W>, told: &mut Told, book: &Book)
+    requires told { IsToldOf told.old book.now.book }
+    ensures puts { Puts W.contents sink.old sink.new (untold told.old book.now.book) }
+    ensures told { told.new ≡ all_told book.now.book }
+    ensures fits { told.new.sent ≤ (told.new.lines - 1) * 2 ^ 64 }
 {
-    put_untold_boot(sink, told, book);
-    let sent = put_lines(sink, told, book);
-    Told {
-        lines: book.lines(),
-        sent,
-    }
+    put_untold_boot(sink, *told, book);
+    told.sent = put_lines(sink, *told, book);
+    told.lines = book.lines();
 }
 
 /// Puts what of a book's trace was not told, as `put_untold` does. The step of a single line that the book has more was read of this
 /// text, which is its line, so it is not spelled again.
 #[tactic(auto, unfolding(crate::specs::Trace::untold))]
-pub fn put_read<W: Write>(sink: &mut Sink<W>, told: Told, book: &Book, text: &[u8]) -> Told
-    requires told { IsToldOf told book.now.book }
-    requires text { IsReadOf text.now told book.now.book }
-    ensures puts { Puts W.contents sink.old sink.new (untold told book.now.book) }
-    ensures told { result ≡ all_told book.now.book }
-    ensures fits { result.sent ≤ (result.lines - 1) * 2 ^ 64 }
+pub fn put_read<W: Write>(sink: &mut Sink<W>, told: &mut Told, book: &Book, text: &[u8])
+    requires told { IsToldOf told.old book.now.book }
+    requires text { IsReadOf text.now told.old book.now.book }
+    ensures puts { Puts W.contents sink.old sink.new (untold told.old book.now.book) }
+    ensures told { told.new ≡ all_told book.now.book }
+    ensures fits { told.new.sent ≤ (told.new.lines - 1) * 2 ^ 64 }
 {
     if told.lines == 0 || book.lines() - 1 != told.lines || text.len() >= LINE {
-        return put_untold(sink, told, book);
+        put_untold(sink, told, book);
+        return;
     }
     match book.line(told.lines) {
-        Some(line) => Told {
-            lines: book.lines(),
-            sent: put_read_line(sink, told.sent, &line, text),
-        },
+        Some(line) => {
+            told.sent = put_read_line(sink, told.sent, &line, text);
+            told.lines = book.lines();
+        }
         None => unreachable!(),
     }
 }
@@ -178,7 +176,7 @@ pub fn trace<W: Write>(book: &Book, sink: &mut Sink<W>) -> Result<(), SimFault>
     ensures count { sink.old.failed ≤ sink.new.failed }
 {
     sink.start();
-    put_untold(sink, Told::nothing(), book);
+    put_untold(sink, &mut Told::nothing(), book);
     sink.flush();
     if sink.is_broken() {
         return Err(SimFault::Write);

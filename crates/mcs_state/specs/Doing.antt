@@ -1,9 +1,11 @@
 -- What an operation claims: its answer, and the records that it adds.
-use Rattle.std.specs.Prelude.{◌≡◌, ◌<◌, ◌+◌, length, List}
+use Rattle.std.specs.Prelude.{◌≡◌, ◌<◌, ◌+◌, length, List, Ok, Err}
 use Rattle.mcs_types.specs.declared.id.ObjId.{ObjId}
 use Rattle.mcs_types.specs.declared.id.CoreId.{CoreId}
 use Rattle.mcs_types.specs.declared.record.Rec.{Rec}
 use Rattle.mcs_types.specs.declared.entry.Answer.{Answer}
+use Rattle.mcs_types.specs.declared.entry.Answer.TheVariants.{Done, Refused}
+use Rattle.mcs_book.specs.Checks.{Checked}
 use Rattle.mcs_types.specs.declared.entry.Entry.{Entry}
 use Rattle.mcs_book.specs.Pieces.{Piece, Act, Outcome, before}
 use Rattle.mcs_book.specs.Table.{does, wakes}
@@ -50,3 +52,8 @@ Does old core t entry answer new = Gives (does (so_far old) core t entry) old an
 -- the hand has room for an entry's records
 abbrev pub Fits : Now → CoreId → ObjId → Entry → Type 0
 Fits old core t entry = Holds (does (so_far old) core t entry).records old
+
+-- what is answered where an entry is done or refused
+abbrev pub plain_answer : Checked (Unit {0}) → Answer
+plain_answer (Ok _) = Done
+plain_answer (Err why) = Refused why

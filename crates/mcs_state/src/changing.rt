@@ -1,5 +1,6 @@
 //! Entries that change one thing, by one record.
 ghost use Rattle.std.specs.Prelude.{◌≡◌, ◌<◌, length, ◌+◌};
+ghost use Rattle.mcs_types.specs.declared.entry.Answer.TheVariants.{Done};
 ghost use Rattle.mcs_book.specs.Sound.{Allowed};
 ghost use Rattle.mcs_state.specs.Changing.{record_of, changes};
 ghost use Rattle.mcs_state.specs.Doing.{ActsAwake, FitsAwake};
@@ -9,7 +10,7 @@ ghost use Rattle.mcs_state.specs.Now.{so_far, adds};
 use crate::state::State;
 use crate::waking::wake;
 use mcs_object_queues::Waiting;
-use mcs_types::{Answer, ObjId, Prio};
+use mcs_types::{ObjId, Prio};
 
 /// One thing that an entry changes: who holds a context, where it is homed, which notification is bound to a thread, or a thread's
 /// priority.
@@ -54,13 +55,12 @@ fn make_change<W: Waiting>(state: &mut State<W>, change: Change)
 }
 
 /// Wakes the thread that enters, and changes one thing, which may be changed (own).
-pub fn change_awake<W: Waiting>(state: &mut State<W>, thread: ObjId, change: Change) -> Answer
+pub fn change_awake<W: Waiting>(state: &mut State<W>, thread: ObjId, change: Change)
     requires entering { IsEntering (so_far state.old) thread }
     requires allowed { Allowed (so_far state.old) (record_of change) }
     requires room { FitsAwake thread (changes change) state.old }
-    ensures { ActsAwake thread (changes change) state.old result state.new }
+    ensures { ActsAwake thread (changes change) state.old Done state.new }
 {
     wake(state, thread);
     make_change(state, change);
-    Answer::Done
 }

@@ -1,3 +1,4 @@
 pub mod Digits
 pub mod Lines
 pub mod Outputs
+pub mod Parts

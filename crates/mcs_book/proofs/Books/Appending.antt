@@ -1,5 +1,6 @@
 -- A line added to a packed book.
-use Rattle.std.proofs.Common.{◌≡◌, ◌∙◌, ◌≤◌, ◌+◌, ℕ, List, [], ◌∷◌, ◌++◌, length, drop, reverse, ap, append-nil, arith}
+use Rattle.std.proofs.Common.{◌≡◌, ◌∙◌, ◌≤◌, ◌+◌, ℕ, List, [], ◌∷◌, ◌++◌, length, drop, reverse, slice_index_or, slice_set, ap, append-nil, arith}
+use Rattle.std.proofs.Math.Seq.{get_or-append_seam, set-append_seam}
 use Rattle.std.proofs.lemmas.List.{drop-append-le, reverse-append, reverse-reverse}
 use Rattle.mcs_types.specs.declared.record.Rec.{Rec}
 use Rattle.mcs_types.specs.declared.entry.Step.{Step}
@@ -13,22 +14,31 @@ use Rattle.mcs_packing.specs.Packing.{GrowsBy, HasMessageRoom, HasRoom, records_
 use Rattle.mcs_packing.specs.Entries.{EntryFits, entry_of}
 use Rattle.mcs_packing.specs.Heads.{Entered, AllHeadsFit, AnswerFits, HeadFits, answer_of, entered_of, all_entered}
 use Rattle.mcs_book.specs.Pages.{EndsRise, EndsWithin, cut, line_head}
-use Rattle.mcs_packing.proofs.HeadLaws.{EntryFits-grows, entry_of-grows, all_entered-grows, all_entered-push}
+use Rattle.mcs_packing.proofs.HeadLaws.{AnswerFits-grows, answer_of-grows, all_entered-grows, all_entered-push}
 use Rattle.mcs_book.proofs.Books.Cuts.{cut-beyond, cut-close}
 
 -- the entry of a step
 abbrev pub entered_with : Step → Answer → ℕ → Entered
 entered_with s told end = record { step = s; answer = told; end = end }
 
--- a head stands for its step and its answer, also where the entry was packed before the answer
+-- a head stands for its step and its answer, also where the answer was packed before the entry
 pub entered_of-of : (s : Step) (told : Answer) (e : PackedEntry) (a : PackedAnswer) (end : ℕ) (ws vs : List ℕ) → GrowsBy ws vs
-    → entry_of e ws ≡ s.entry → EntryFits e ws → answer_of a vs ≡ told → entered_of (line_head s e a end) vs ≡ entered_with s told end
-entered_of-of s told e a end ws vs w entry fits answer =
-    let e3 : entry_of e vs ≡ s.entry = ap (entry_of e) w.is ∙ entry_of-grows e ws w.more fits ∙ entry in
-    ap (λ x. record { step = record { core = s.core; thread = s.thread; entry = x }; answer = answer_of a vs; end = end }) e3 ∙ ap (λ x. record { step = s; answer = x; end = end }) answer
+    → answer_of a ws ≡ told → AnswerFits a ws → entry_of e vs ≡ s.entry → entered_of (line_head s e a end) vs ≡ entered_with s told end
+entered_of-of s told e a end ws vs w answer fits entry =
+    let a3 : answer_of a vs ≡ told = ap (answer_of a) w.is ∙ answer_of-grows a ws w.more fits ∙ answer in
+    ap (λ x. record { step = record { core = s.core; thread = s.thread; entry = x }; answer = answer_of a vs; end = end }) entry ∙ ap (λ x. record { step = s; answer = x; end = end }) a3
 
-pub HeadFits-of : (s : Step) (e : PackedEntry) (a : PackedAnswer) (end : ℕ) (ws vs : List ℕ) → GrowsBy ws vs → EntryFits e ws → AnswerFits a vs → HeadFits (line_head s e a end) vs
-HeadFits-of s e a end ws vs w fits answer = record { entry = rw w.is (EntryFits-grows e ws w.more fits); answer = answer }
+pub HeadFits-of : (s : Step) (e : PackedEntry) (a : PackedAnswer) (end : ℕ) (ws vs : List ℕ) → GrowsBy ws vs → AnswerFits a ws → EntryFits e vs → HeadFits (line_head s e a end) vs
+HeadFits-of s e a end ws vs w answer fits = record { entry = fits; answer = rw w.is (AnswerFits-grows a ws w.more answer) }
+
+-- the heads with that of a line, whose entry was set after it was pushed
+pub heads-set : (hs gs : List Head) (p q : Head) (s : Step) (blank e : PackedEntry) (a : PackedAnswer) (end last : ℕ)
+    → gs ≡ hs ++ p ∷ [] → p ≡ line_head s blank a end → last ≡ length hs → q ≡ slice_index_or gs last q
+    → slice_set gs last (record q { entry = e }) ≡ hs ++ line_head s e a end ∷ []
+heads-set hs gs p q s blank e a end last pushed is at read =
+    let found : slice_index_or gs last q ≡ p = rw (pushed, at) (get_or-append_seam hs p [] q) in
+    let head : q ≡ line_head s blank a end = read ∙ found ∙ is in
+    ap (λ (h : Head). slice_set gs last (record h { entry = e })) head ∙ rw (pushed, at) (set-append_seam hs p [] (line_head s e a end))
 
 -- the heads, with one more
 pub heads-of : (hs : List Head) (h : Head) (k : Entered) (ws vs : List ℕ) → GrowsBy ws vs → AllHeadsFit hs ws → entered_of h vs ≡ k

@@ -1,4 +1,5 @@
 use Rattle.std.proofs.Common.{ap, sym, ◌∙◌, subst}
+use Rattle.mcs_types.specs.declared.entry.Answer.TheVariants.{Done}
 use Rattle.mcs_types.specs.declared.entry.Entry.TheVariants.{Resume}
 use Rattle.mcs_state.specs.Checks.{act_of}
 use Rattle.mcs_state.specs.Doing.{ActsAwake, FitsAwake}
@@ -26,4 +27,4 @@ returns-in-Ok g c =
     let R = so_far c.args.state.now in
     let row = row-resume R c.args.core c.args.thread c.args.address ∙ ap (λ m. act_of m (resumes R)) (sym c.find_thread.ensures.found ∙ c.in-Ok.is) in
     let mode = c.mode_resumed-mode.ensures ∙ ap mode_resumed c.status.ensures in
-    did c.args.state.now c.set_mode.new.state c.args.core c.args.thread (Resume c.args.address) (resumes R c.in-Ok.named) c.set_mode.result row (subst (λ m. ActsAwake c.args.thread (sets_mode c.in-Ok.named m) c.args.state.now c.set_mode.result c.set_mode.new.state) mode c.set_mode.ensures)
+    did c.args.state.now c.set_mode.new.state c.args.core c.args.thread (Resume c.args.address) (resumes R c.in-Ok.named) Done row (subst (λ m. ActsAwake c.args.thread (sets_mode c.in-Ok.named m) c.args.state.now Done c.set_mode.new.state) mode c.set_mode.ensures)

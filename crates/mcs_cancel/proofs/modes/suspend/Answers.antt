@@ -1,4 +1,5 @@
 use Rattle.std.proofs.Common.{ap, sym, ◌∙◌}
+use Rattle.mcs_types.specs.declared.entry.Answer.TheVariants.{Done}
 use Rattle.mcs_types.specs.declared.entry.Entry.TheVariants.{Suspend}
 use Rattle.mcs_state.specs.Checks.{act_of}
 use Rattle.mcs_state.specs.Now.{so_far}
@@ -19,4 +20,4 @@ returns-in-Err g c =
 pub returns-in-Ok : goal.returns-in-Ok
 returns-in-Ok g c =
     let row = row-suspend (so_far c.args.state.now) c.args.core c.args.thread c.args.address ∙ ap (λ m. act_of m suspends) (sym c.find_thread.ensures.found ∙ c.in-Ok.is) in
-    did c.args.state.now c.set_mode.new.state c.args.core c.args.thread (Suspend c.args.address) (suspends c.in-Ok.named) c.set_mode.result row c.set_mode.ensures
+    did c.args.state.now c.set_mode.new.state c.args.core c.args.thread (Suspend c.args.address) (suspends c.in-Ok.named) Done row c.set_mode.ensures

@@ -21,10 +21,10 @@ take_out-requires-clause-room g c =
     let room = room-then (wakes (mode_of R c.args.thread) c.args.thread) (deletes R c.args.at) c.args.state.now c.wake.new.state c.wake.ensures c.requires.room in
     subst (λ (act : Act). FitsAct act c.wake.new.state) (deletes-some R c.args.at c.in-Some.cap (sym c.slot-held.ensures ∙ c.in-Some.is)) room
 
-pub returns-in-None : goal.returns-in-None
-returns-in-None g c =
+pub returns-in_default : goal.returns-in_default
+returns-in_default g c =
     let R = so_far c.args.state.now in
-    let is = deletes-none R c.args.at (sym c.slot-held.ensures ∙ c.in-None.is) in
+    let is = deletes-none R c.args.at (sym c.slot-held.ensures ∙ c.in_default.is) in
     after (wakes (mode_of R c.args.thread) c.args.thread) (deletes R c.args.at) c.args.state.now c.wake.new.state c.wake.new.state _ c.wake.ensures
     (subst (λ (act : Act). Acts act c.wake.new.state Done c.wake.new.state) (sym is) (record { records = refl; answer = refl }))
 

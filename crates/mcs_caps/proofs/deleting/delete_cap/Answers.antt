@@ -1,4 +1,5 @@
 use Rattle.std.proofs.Common.{ap, sym, ◌∙◌}
+use Rattle.mcs_types.specs.declared.entry.Answer.TheVariants.{Done}
 use Rattle.mcs_types.specs.declared.entry.Entry.TheVariants.{DeleteCap}
 use Rattle.mcs_book.specs.Lookup.{slot_named}
 use Rattle.mcs_cspace.specs.Spaces.{name_of, named_by}
@@ -30,4 +31,4 @@ pub returns-in-Ok : goal.returns-in-Ok
 returns-in-Ok g c =
     let R = so_far c.args.state.now in
     let row = row-delete R c.args.core c.args.thread c.args.place ∙ ap (λ m. act_of m (deletes_named R)) (sym c.find_deletable.ensures.found ∙ ap (λ m. named_by m) c.in-Ok.is) in
-    did c.args.state.now c.delete.new.state c.args.core c.args.thread (DeleteCap c.args.place) (deletes R c.in-Ok.at) c.delete.result row c.delete.ensures
+    did c.args.state.now c.delete.new.state c.args.core c.args.thread (DeleteCap c.args.place) (deletes R c.in-Ok.at) Done row c.delete.ensures

@@ -1,5 +1,6 @@
 use Rattle.std.proofs.Common.{ap, sym, ◌∙◌, arith}
 use Rattle.std.proofs.lemmas.Grind.{common_steps}
+use Rattle.mcs_types.specs.declared.entry.Answer.TheVariants.{Done}
 use Rattle.mcs_book.specs.Lookup.{slot_named}
 use Rattle.mcs_cspace.specs.Spaces.{name_of, named_by}
 use Rattle.mcs_state.specs.Checks.{act_of}
@@ -31,4 +32,4 @@ pub returns-in-Ok : goal.returns-in-Ok
 returns-in-Ok g c =
     let R = so_far c.args.state.now in
     let row = row-make R c.args.core c.args.thread c.args.kind c.args.place c.requires.kind ∙ ap (λ m. act_of m (makes_named R c.args.kind c.args.core)) (sym c.find_vacant.ensures.found ∙ ap (λ m. named_by m) c.in-Ok.is) in
-    did c.args.state.now c.make_awake.new.state c.args.core c.args.thread (entry_making c.args.kind c.args.place) (makes R c.args.kind c.args.core c.in-Ok.at) c.make_awake.result row c.make_awake.ensures
+    did c.args.state.now c.make_awake.new.state c.args.core c.args.thread (entry_making c.args.kind c.args.place) (makes R c.args.kind c.args.core c.in-Ok.at) Done row c.make_awake.ensures

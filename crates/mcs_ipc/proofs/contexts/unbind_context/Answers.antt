@@ -1,4 +1,5 @@
 use Rattle.std.proofs.Common.{ap, sym, ◌∙◌}
+use Rattle.mcs_types.specs.declared.entry.Answer.TheVariants.{Done}
 use Rattle.mcs_types.specs.declared.entry.Entry.TheVariants.{UnbindCtx}
 use Rattle.mcs_state.specs.Checks.{act_of}
 use Rattle.mcs_state.specs.Now.{so_far}
@@ -20,4 +21,4 @@ returns-in-Err g c =
 pub returns-in-Ok : goal.returns-in-Ok
 returns-in-Ok g c =
     let row = row-unbind (so_far c.args.state.now) c.args.core c.args.thread c.args.context ∙ ap (λ m. act_of m unbinds) (sym c.find_bound.ensures ∙ c.in-Ok.is) in
-    did c.args.state.now c.unbind_awake.new.state c.args.core c.args.thread (UnbindCtx c.args.context) (unbinds c.in-Ok.context) c.unbind_awake.result row c.unbind_awake.ensures
+    did c.args.state.now c.unbind_awake.new.state c.args.core c.args.thread (UnbindCtx c.args.context) (unbinds c.in-Ok.context) Done row c.unbind_awake.ensures

@@ -59,4 +59,4 @@ pub returns-in-Ok : goal.returns-in-Ok
 returns-in-Ok g c =
     let a = c.args in
     let row = exchange-row (so_far a.state.now) a.core a.thread a.address a.source a.reply a.message _ _ c.ends_of_exchange.ensures c.in-Ok.is in
-    acted a.state.now c.wake.new.state c.send_and_receive.new.state a.core a.thread (exchange_entry a.address a.source a.reply a.message) (exchange_act a.message a.thread c.in-Ok.at) c.send_and_receive.result row c.wake.ensures c.send_and_receive.ensures
+    acted a.state.now c.wake.new.state c.send_and_receive.new.state a.core a.thread (exchange_entry a.address a.source a.reply a.message) (exchange_act a.message a.thread c.in-Ok.at) c.send_and_receive.new.answer row c.wake.ensures c.send_and_receive.ensures

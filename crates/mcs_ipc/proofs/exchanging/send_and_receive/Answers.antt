@@ -29,4 +29,4 @@ receive_from-requires-clause-room g c =
 pub returns : goal.returns
 returns g c =
     let sending : Piece = silently (target_act false Give c.args.thread c.args.message c.args.at.target) in
-    after sending (source_act true c.args.thread c.args.at.source) c.args.state.now c.send_target.new.state c.receive_from.new.state c.receive_from.result c.send_target.ensures.records c.receive_from.ensures
+    after sending (source_act true c.args.thread c.args.at.source) c.args.state.now c.send_target.new.state c.receive_from.new.state c.receive_from.new.answer c.send_target.ensures.records c.receive_from.ensures

@@ -29,5 +29,5 @@ pub returns-in-None : goal.returns-in-None
 returns-in-None g c =
     let none = sym c.take_bound.ensures.word ∙ c.in-None.is in
     let same = made-silent c.args.state.now c.take_bound.new.state c.args.thread none c.take_bound.ensures.heard in
-    subst (λ (o : Outcome). Gives o c.args.state.now c.take_first.result c.take_first.new.state) (sym (receive-silent (so_far c.args.state.now) c.args.blocks c.args.thread c.args.at none))
+    subst (λ (o : Outcome). Gives o c.args.state.now c.take_first.new.answer c.take_first.new.state) (sym (receive-silent (so_far c.args.state.now) c.args.blocks c.args.thread c.args.at none))
     (rw (sym same) c.take_first.ensures)

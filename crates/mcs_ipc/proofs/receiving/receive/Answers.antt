@@ -34,4 +34,4 @@ returns-in-Err g c =
 pub returns-in-Ok : goal.returns-in-Ok
 returns-in-Ok g c =
     let row = receive-row (so_far c.args.state.now) c.args.core c.args.thread c.args.blocks c.args.address c.args.reply _ _ c.source_to_receive.ensures c.in-Ok.is in
-    acted c.args.state.now c.wake.new.state c.receive_from.new.state c.args.core c.args.thread (receive_entry c.args.blocks c.args.address c.args.reply) (source_act c.args.blocks c.args.thread c.in-Ok.source) c.receive_from.result row c.wake.ensures c.receive_from.ensures
+    acted c.args.state.now c.wake.new.state c.receive_from.new.state c.args.core c.args.thread (receive_entry c.args.blocks c.args.address c.args.reply) (source_act c.args.blocks c.args.thread c.in-Ok.source) c.receive_from.new.answer row c.wake.ensures c.receive_from.ensures

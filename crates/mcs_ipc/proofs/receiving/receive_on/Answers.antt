@@ -27,5 +27,5 @@ hear_or_take-requires-clause-room g c =
 pub returns : goal.returns
 returns g c =
     let parts = receive-parts c.args.blocks c.args.thread c.args.at in
-    subst (λ (act : Act). Acts act c.args.state.now c.hear_or_take.result c.hear_or_take.new.state) (sym parts)
-    (after (with_any c.args.at.reply free) (receive_message c.args.thread c.args.at.endpoint c.args.at.reply c.args.blocks) c.args.state.now c.free_any.new.state c.hear_or_take.new.state c.hear_or_take.result c.free_any.ensures c.hear_or_take.ensures)
+    subst (λ (act : Act). Acts act c.args.state.now c.hear_or_take.new.answer c.hear_or_take.new.state) (sym parts)
+    (after (with_any c.args.at.reply free) (receive_message c.args.thread c.args.at.endpoint c.args.at.reply c.args.blocks) c.args.state.now c.free_any.new.state c.hear_or_take.new.state c.hear_or_take.new.answer c.free_any.ensures c.hear_or_take.ensures)

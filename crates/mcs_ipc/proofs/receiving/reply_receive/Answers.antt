@@ -46,5 +46,5 @@ returns-in-Err g c =
 pub returns-in-Ok : goal.returns-in-Ok
 returns-in-Ok g c =
     let row = reply_receive-row (so_far c.args.state.now) c.args.core c.args.thread c.args.address c.args.reply c.args.message _ _ c.source_to_reply.ensures c.in-Ok.is in
-    acted c.args.state.now c.wake.new.state c.receive_from.new.state c.args.core c.args.thread (ReplyRecv c.args.address c.args.reply c.args.message) (reply_receive_act c.args.message c.args.thread c.in-Ok.at) c.receive_from.result row c.wake.ensures
-    (after (pay c.in-Ok.at.reply c.args.message) (source_act true c.args.thread c.in-Ok.at.source) c.wake.new.state c.pay.new.state c.receive_from.new.state c.receive_from.result c.pay.ensures c.receive_from.ensures)
+    acted c.args.state.now c.wake.new.state c.receive_from.new.state c.args.core c.args.thread (ReplyRecv c.args.address c.args.reply c.args.message) (reply_receive_act c.args.message c.args.thread c.in-Ok.at) c.receive_from.new.answer row c.wake.ensures
+    (after (pay c.in-Ok.at.reply c.args.message) (source_act true c.args.thread c.in-Ok.at.source) c.wake.new.state c.pay.new.state c.receive_from.new.state c.receive_from.new.answer c.pay.ensures c.receive_from.ensures)

@@ -39,13 +39,13 @@ pub returns-in-None : goal.returns-in-None
 returns-in-None g c =
     let R : Log = so_far c.args.state.now in
     let none : open_of_any R (first_in R (Senders c.args.at.endpoint)) ≡ None = ap (λ o. open_of_any R o) (sym c.first.ensures ∙ c.in-None.is) in
-    subst (λ (o : Outcome). Gives o c.args.state.now c.stand.result c.stand.new.state) (sym (take-alone R c.args.blocks c.args.thread c.args.at none)) c.stand.ensures
+    subst (λ (o : Outcome). Gives o c.args.state.now c.stand.new.answer c.stand.new.state) (sym (take-alone R c.args.blocks c.args.thread c.args.at none)) c.stand.ensures
 
 pub returns-in-None-letter : goal.returns-in-None-letter
 returns-in-None-letter g c =
     let R : Log = so_far c.args.state.now in
     let none : open_of_any R (first_in R (Senders c.args.at.endpoint)) ≡ None = ap (λ o. open_of_any R o) (sym c.first.ensures ∙ c.in-Some.is) ∙ sym c.letter.ensures ∙ ap (λ o. option_copied o) c.in-None-letter.is in
-    subst (λ (o : Outcome). Gives o c.args.state.now c.stand-in-None-letter.result c.stand-in-None-letter.new.state) (sym (take-alone R c.args.blocks c.args.thread c.args.at none)) c.stand-in-None-letter.ensures
+    subst (λ (o : Outcome). Gives o c.args.state.now c.stand-in-None-letter.new.answer c.stand-in-None-letter.new.state) (sym (take-alone R c.args.blocks c.args.thread c.args.at none)) c.stand-in-None-letter.ensures
 
 pub returns-in-Some-letter : goal.returns-in-Some-letter
 returns-in-Some-letter g c =

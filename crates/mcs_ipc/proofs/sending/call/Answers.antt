@@ -36,5 +36,5 @@ returns-in-Err g c =
 pub returns-in-Ok : goal.returns-in-Ok
 returns-in-Ok g c =
     let row = call-row (so_far c.args.state.now) c.args.core c.args.thread c.args.address c.args.message _ _ c.cap_to_call.ensures c.in-Ok.is in
-    rw c.said.ensures (acted c.args.state.now c.wake.new.state c.send_over.new.state c.args.core c.args.thread (Call c.args.address c.args.message) (calls c.args.thread c.args.message c.in-Ok.cap) (said c.send_over.result) row c.wake.ensures
-    (subst (λ mode. Acts (send_act true mode c.args.thread c.in-Ok.cap c.args.message) c.wake.new.state (said c.send_over.result) c.send_over.new.state) c.call_mode-mode.ensures c.send_over.ensures))
+    acted c.args.state.now c.wake.new.state c.send_over.new.state c.args.core c.args.thread (Call c.args.address c.args.message) (calls c.args.thread c.args.message c.in-Ok.cap) (said c.send_over.result) row c.wake.ensures
+    (subst (λ mode. Acts (send_act true mode c.args.thread c.in-Ok.cap c.args.message) c.wake.new.state (said c.send_over.result) c.send_over.new.state) c.call_mode-mode.ensures c.send_over.ensures)

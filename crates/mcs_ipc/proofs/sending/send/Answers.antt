@@ -42,4 +42,4 @@ returns-in-Err g c =
 pub returns-in-Ok : goal.returns-in-Ok
 returns-in-Ok g c =
     let row = send-row (so_far c.args.state.now) c.args.core c.args.thread c.args.blocks c.args.address c.args.message _ _ c.target_to_send.ensures c.in-Ok.is in
-    rw c.said.ensures (acted c.args.state.now c.wake.new.state c.send_target.new.state c.args.core c.args.thread (send_entry c.args.blocks c.args.address c.args.message) (target_act c.args.blocks Plain c.args.thread c.args.message c.in-Ok.target) (said c.send_target.result) row c.wake.ensures c.send_target.ensures)
+    acted c.args.state.now c.wake.new.state c.send_target.new.state c.args.core c.args.thread (send_entry c.args.blocks c.args.address c.args.message) (target_act c.args.blocks Plain c.args.thread c.args.message c.in-Ok.target) (said c.send_target.result) row c.wake.ensures c.send_target.ensures

@@ -1,4 +1,5 @@
 use Rattle.std.proofs.Common.{ap, sym, ◌∙◌}
+use Rattle.mcs_types.specs.declared.entry.Answer.TheVariants.{Done}
 use Rattle.mcs_types.specs.declared.entry.Entry.TheVariants.{BindNtfn}
 use Rattle.mcs_state.specs.Changing.{changes}
 use Rattle.mcs_state.specs.Checks.{act_of}
@@ -23,4 +24,4 @@ returns-in-Err g c =
 pub returns-in-Ok : goal.returns-in-Ok
 returns-in-Ok g c =
     let row = row-bind (so_far c.args.state.now) c.args.core c.args.thread c.args.holder c.args.notification ∙ ap (λ m. act_of m changes) (sym c.tie_to_make.ensures ∙ c.in-Ok.is) in
-    did c.args.state.now c.change_awake.new.state c.args.core c.args.thread (BindNtfn c.args.holder c.args.notification) (changes c.in-Ok.change) c.change_awake.result row c.change_awake.ensures
+    did c.args.state.now c.change_awake.new.state c.args.core c.args.thread (BindNtfn c.args.holder c.args.notification) (changes c.in-Ok.change) Done row c.change_awake.ensures

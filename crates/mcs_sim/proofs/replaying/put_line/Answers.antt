@@ -8,4 +8,4 @@ use Rattle.mcs_sim.proofs.replaying.put_line.Goals as goal
 pub put_read-requires-clause-told : goal.put_read-requires-clause-told
 put_read-requires-clause-told g c =
     let there = sym c.book.ensures.lent ∙ ap book_lent c.in-Some.is in
-    told-of c.args.told c.in-Some.book.now.book (subst (λ (k : Option Book). IsToldUpTo c.args.told k) there c.requires.told)
+    told-of c.args.told.now c.in-Some.book.now.book (subst (λ (k : Option Book). IsToldUpTo c.args.told.now k) there c.requires.told)

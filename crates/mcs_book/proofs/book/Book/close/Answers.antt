@@ -6,33 +6,35 @@ use Rattle.mcs_book.specs.Pages.{Written, cut, line_head}
 use Rattle.mcs_packing.proofs.Packings.{AllFit-grows, GrowsBy-then, length-record_of, records_of-grows}
 use Rattle.mcs_packing.proofs.HeadLaws.{AllHeadsFit-grows, AllHeadsFit-push}
 use Rattle.mcs_book.proofs.Books.Cuts.{EndsRise-push}
-use Rattle.mcs_book.proofs.Books.Appending.{HasRoom-head, HeadFits-of, entered_with, heads-of, lines-closed, entered_of-of}
+use Rattle.mcs_book.proofs.Books.Appending.{HasRoom-head, HeadFits-of, entered_with, heads-of, heads-set, lines-closed, entered_of-of}
 use Rattle.mcs_book.proofs.book.Book.close.Goals as goal
 
-pub pack_answer-told-requires : goal.pack_answer-told-requires
-pack_answer-told-requires c =
+pub pack_entry-requires : goal.pack_entry-requires
+pack_entry-requires c =
     let b = c.self.inside in
     let room : b.room ≡ c.args.self.now.room = ap (λ (w : Written). w.room) c.self.view_is in
     let some : 0 < b.room = omega (arith, room, c.requires) in
-    c.pack_entry-entry.ensures.grew.room 1 (HasRoom-head b.arena _ (c.self.invariant.4 some))
+    c.pack_answer-told.ensures.grew.room 1 (HasRoom-head b.arena _ (c.self.invariant.4 some))
 
 pub invariant_of-self : goal.invariant_of-self
 invariant_of-self c =
     let b = c.self.inside in
     let i = c.self.invariant in
-    let e = c.pack_entry-entry in
     let a = c.pack_answer-told in
-    let w13 = GrowsBy-then _ _ _ e.ensures.grew.words a.ensures.grew.words in
-    let r13 = GrowsBy-then _ _ _ e.ensures.grew.wide a.ensures.grew.wide in
-    let ws = a.new.self.words.items in
-    let h = line_head c.args.step.now e.result a.result c.len-self-inside.result in
+    let e = c.pack_entry in
+    let w13 = GrowsBy-then _ _ _ a.ensures.grew.words e.ensures.grew.words in
+    let r13 = GrowsBy-then _ _ _ a.ensures.grew.wide e.ensures.grew.wide in
+    let ws = e.new.self.words.items in
+    let h = line_head c.args.step.now e.new.into a.result c.len-self-inside.result in
+    let at : c.len-last.result ≡ length b.heads.items = omega (arith, c.len-last.ensures, b.heads.ok.0) in
+    let set = heads-set b.heads.items _ _ c.index_mut.result.now c.args.step.now _ e.new.into a.result c.len-self-inside.result c.len-last.result c.push_reserved.ensures.items c.line_head.ensures at c.index_mut.ensures.value in
     let k = entered_with c.args.step.now c.args.answer.now c.len-self-inside.result in
-    let is = entered_of-of c.args.step.now c.args.answer.now e.result a.result c.len-self-inside.result e.new.self.words.items ws a.ensures.grew.words e.ensures.value e.ensures.fits a.ensures.value in
+    let is = entered_of-of c.args.step.now c.args.answer.now e.new.into a.result c.len-self-inside.result a.new.self.words.items ws e.ensures.grew.words a.ensures.value a.ensures.fits e.ensures.value in
     let heads = heads-of b.heads.items h k b.arena.words.items ws w13 i.0 is in
     let le : b.start ≤ c.len-self-inside.result = omega (arith, c.len-self-inside.ensures, i.3) in (
-      rw (c.push_reserved.ensures.items, c.line_head.ensures) (AllHeadsFit-push b.heads.items h ws (AllHeadsFit-grows b.heads.items b.arena.words.items ws w13 i.0) (HeadFits-of c.args.step.now e.result a.result c.len-self-inside.result e.new.self.words.items ws a.ensures.grew.words e.ensures.fits a.ensures.fits)),
+      rw set (AllHeadsFit-push b.heads.items h ws (AllHeadsFit-grows b.heads.items b.arena.words.items ws w13 i.0) (HeadFits-of c.args.step.now e.new.into a.result c.len-self-inside.result a.new.self.words.items ws e.ensures.grew.words a.ensures.fits e.ensures.fits)),
       AllFit-grows b.packed.items _ _ _ _ w13 r13 i.1,
-      rw (c.push_reserved.ensures.items, c.line_head.ensures, heads) (EndsRise-push 0 (all_entered b.heads.items b.arena.words.items) b.start k i.2 le),
+      rw (set, heads) (EndsRise-push 0 (all_entered b.heads.items b.arena.words.items) b.start k i.2 le),
       omega (arith, c.len-self-inside.ensures),
       λ z. absurd (omega arith),
       λ z. absurd (omega arith),
@@ -43,16 +45,18 @@ pub returns-clause-line : goal.returns-clause-line
 returns-clause-line c =
     let b = c.self.inside in
     let i = c.self.invariant in
-    let e = c.pack_entry-entry in
     let a = c.pack_answer-told in
-    let w13 = GrowsBy-then _ _ _ e.ensures.grew.words a.ensures.grew.words in
-    let r13 = GrowsBy-then _ _ _ e.ensures.grew.wide a.ensures.grew.wide in
-    let ws = a.new.self.words.items in
-    let h = line_head c.args.step.now e.result a.result c.len-self-inside.result in
+    let e = c.pack_entry in
+    let w13 = GrowsBy-then _ _ _ a.ensures.grew.words e.ensures.grew.words in
+    let r13 = GrowsBy-then _ _ _ a.ensures.grew.wide e.ensures.grew.wide in
+    let ws = e.new.self.words.items in
+    let h = line_head c.args.step.now e.new.into a.result c.len-self-inside.result in
+    let at : c.len-last.result ≡ length b.heads.items = omega (arith, c.len-last.ensures, b.heads.ok.0) in
+    let set = heads-set b.heads.items _ _ c.index_mut.result.now c.args.step.now _ e.new.into a.result c.len-self-inside.result c.len-last.result c.push_reserved.ensures.items c.line_head.ensures at c.index_mut.ensures.value in
     let k = entered_with c.args.step.now c.args.answer.now c.len-self-inside.result in
-    let is = entered_of-of c.args.step.now c.args.answer.now e.result a.result c.len-self-inside.result e.new.self.words.items ws a.ensures.grew.words e.ensures.value e.ensures.fits a.ensures.value in
+    let is = entered_of-of c.args.step.now c.args.answer.now e.new.into a.result c.len-self-inside.result a.new.self.words.items ws e.ensures.grew.words a.ensures.value a.ensures.fits e.ensures.value in
     let heads = heads-of b.heads.items h k b.arena.words.items ws w13 i.0 is in
-    let rs = a.new.self.wide.items in
+    let rs = e.new.self.wide.items in
     let was = records_of b.packed.items b.arena.words.items b.arena.wide.items in
     let records : records_of b.packed.items ws rs ≡ was = records_of-grows b.packed.items _ ws _ rs w13 r13 i.1 in
     let all = length-record_of b.packed.items b.arena.words.items b.arena.wide.items in
@@ -60,13 +64,13 @@ returns-clause-line c =
     let end : c.len-self-inside.result ≡ length was = omega (arith, c.len-self-inside.ensures, b.packed.ok.0, all) in
     let lines = lines-closed b.heads.items h k b.arena.words.items ws b.packed.items b.arena.wide.items rs b.start heads records within i.2 end in
     let turned = ap (λ l. cut 0 (all_entered b.heads.items b.arena.words.items) was ++ (record { step = c.args.step.now; answer = c.args.answer.now; records = l }) ∷ []) (sym (reverse-reverse (drop b.start was))) in
-    rw (c.push_reserved.ensures.items, c.line_head.ensures, lines ∙ turned, reverse-append)
+    rw (set, lines ∙ turned, reverse-append)
     (ap (λ (w : Written). record w.book { lines = (record { step = c.args.step.now; answer = c.args.answer.now; records = reverse w.hand }) ∷ w.book.lines }) c.self.view_is)
 
 pub returns-clause-hand : goal.returns-clause-hand
 returns-clause-hand c =
     let ps = c.self.inside.packed in
-    let ws = c.pack_answer-told.new.self.words.items in
-    let rs = c.pack_answer-told.new.self.wide.items in
+    let ws = c.pack_entry.new.self.words.items in
+    let rs = c.pack_entry.new.self.wide.items in
     let short : length (records_of ps.items ws rs) ≤ c.len-self-inside.result = omega (arith, length-record_of ps.items ws rs, ps.ok.0, c.len-self-inside.ensures) in
     ap reverse (drop_all c.len-self-inside.result (records_of ps.items ws rs) short)

@@ -1,41 +1,42 @@
-use Rattle.std.proofs.Common.{◌≡◌, [], ◌∷◌, ◌++◌, None, ap, subst, ◌∙◌}
+use Rattle.std.proofs.Common.{[], ◌∷◌, ◌++◌, ap, subst, ◌∙◌}
 use Rattle.mcs_sim.specs.Going.{Going, Takes}
 use Rattle.mcs_sim.proofs.GoingTakes.{takes-longer, line-whole}
 use Rattle.mcs_sim.proofs.GoingLines.{line-read}
 use Rattle.mcs_sim.proofs.SimulateLaws.{tells-longer}
+use Rattle.mcs_sim.proofs.replaying.TracedRun.end_line.Given.{Over}
 use Rattle.mcs_sim.proofs.replaying.TracedRun.end_line.Goals as goal
+use Rattle.mcs_sim.proofs.replaying.TracedRun.end_line.Goals.{After-take_line-taken}
 
-pub put_more-self-inside-requires : goal.put_more-self-inside-requires
-put_more-self-inside-requires g c =
+-- a line that begins and ends here was taken whole
+whole : (g : Over) (c : After-take_line-taken g) → Takes c.self.inside.run (c.args.part.now ++ 10 ∷ []) c.take_line-taken.new.self
+whole g c =
+    line-whole c.self.inside.run c.take_line-taken.new.self c.args.part.now (ap (λ (g : Going). g.course.fault) c.self.view_is ∙ c.requires.goes) c.requires.one_line (c.is_amid.ensures c.if-is_amid.false)
+    c.take_line-taken.ensures.takes c.take_line-taken.ensures.begins
+
+pub put_more-requires : goal.put_more-requires
+put_more-requires g c =
     record { told = (c.self.inside.run.course.stands.book, c.self.invariant, takes-longer c.self.inside.run (c.args.part.now ++ 10 ∷ []) c.end_line-taken.new.self c.end_line-taken.ensures.takes) }
 
 pub returns-then-is_amid-clause-puts : goal.returns-then-is_amid-clause-puts
 returns-then-is_amid-clause-puts g c =
-    tells-longer g.W.Write.contents c.self.inside.told c.self.inside.run c.args.self.now c.end_line-taken.new.self c.args.to.now c.put_more-self-inside.new.to c.self.view_is c.self.invariant
-    (takes-longer c.self.inside.run (c.args.part.now ++ 10 ∷ []) c.end_line-taken.new.self c.end_line-taken.ensures.takes) c.put_more-self-inside.ensures.puts
+    tells-longer g.W.Write.contents c.self.inside.told c.self.inside.run c.args.self.now c.end_line-taken.new.self c.args.to.now c.put_more.new.to c.self.view_is c.self.invariant
+    (takes-longer c.self.inside.run (c.args.part.now ++ 10 ∷ []) c.end_line-taken.new.self c.end_line-taken.ensures.takes) c.put_more.ensures.puts
 
-pub put_line-self-inside-requires-clause-told : goal.put_line-self-inside-requires-clause-told
-put_line-self-inside-requires-clause-told g c =
+pub put_line-requires-clause-told : goal.put_line-requires-clause-told
+put_line-requires-clause-told g c =
     let run = c.self.inside.run in
-    let goes : run.course.fault ≡ None = ap (λ (g : Going). g.course.fault) c.self.view_is ∙ c.requires.goes in
-    let takes = line-whole run c.take_line-taken.new.self c.args.part.now goes c.requires.one_line (c.is_amid.ensures c.if-is_amid.false) c.take_line-taken.ensures.takes c.take_line-taken.ensures.begins in
-    (run.course.stands.book, c.self.invariant, takes-longer run (c.args.part.now ++ 10 ∷ []) c.take_line-taken.new.self takes)
+    (run.course.stands.book, c.self.invariant, takes-longer run (c.args.part.now ++ 10 ∷ []) c.take_line-taken.new.self (whole g (goal.at.put_line-requires-clause-told g c).After-take_line-taken))
 
-pub put_line-self-inside-requires-clause-text : goal.put_line-self-inside-requires-clause-text
-put_line-self-inside-requires-clause-text g c =
+pub put_line-requires-clause-text : goal.put_line-requires-clause-text
+put_line-requires-clause-text g c =
     line-read c.self.inside.run.course c.take_line-taken.new.self.course c.args.part.now c.self.inside.told c.take_line-taken.ensures.takes c.self.invariant
 
 pub returns-clause-takes : goal.returns-clause-takes
 returns-clause-takes g c =
-    let run = c.self.inside.run in
-    let goes : run.course.fault ≡ None = ap (λ (g : Going). g.course.fault) c.self.view_is ∙ c.requires.goes in
-    let takes = line-whole run c.take_line-taken.new.self c.args.part.now goes c.requires.one_line (c.is_amid.ensures c.if-is_amid.false) c.take_line-taken.ensures.takes c.take_line-taken.ensures.begins in
-    subst (λ (g : Going). Takes g (c.args.part.now ++ 10 ∷ []) c.take_line-taken.new.self) c.self.view_is takes
+    subst (λ (g : Going). Takes g (c.args.part.now ++ 10 ∷ []) c.take_line-taken.new.self) c.self.view_is (whole g (goal.at.returns-clause-takes g c).After-take_line-taken)
 
 pub returns-clause-puts : goal.returns-clause-puts
 returns-clause-puts g c =
     let run = c.self.inside.run in
-    let goes : run.course.fault ≡ None = ap (λ (g : Going). g.course.fault) c.self.view_is ∙ c.requires.goes in
-    let takes = line-whole run c.take_line-taken.new.self c.args.part.now goes c.requires.one_line (c.is_amid.ensures c.if-is_amid.false) c.take_line-taken.ensures.takes c.take_line-taken.ensures.begins in
-    tells-longer g.W.Write.contents c.self.inside.told run c.args.self.now c.take_line-taken.new.self c.args.to.now c.put_line-self-inside.new.to c.self.view_is c.self.invariant
-    (takes-longer run (c.args.part.now ++ 10 ∷ []) c.take_line-taken.new.self takes) c.put_line-self-inside.ensures.puts
+    tells-longer g.W.Write.contents c.self.inside.told run c.args.self.now c.take_line-taken.new.self c.args.to.now c.put_line.new.to c.self.view_is c.self.invariant
+    (takes-longer run (c.args.part.now ++ 10 ∷ []) c.take_line-taken.new.self (whole g (goal.at.returns-clause-puts g c).After-take_line-taken)) c.put_line.ensures.puts

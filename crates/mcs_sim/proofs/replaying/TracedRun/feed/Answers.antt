@@ -42,8 +42,8 @@ loop-i-preserved g c =
           c.loop-i.invariant.puts c.end_line.ensures.puts;
     }
 
-pub put_more-self-inside-requires : goal.put_more-self-inside-requires
-put_more-self-inside-requires g c =
+pub put_more-requires : goal.put_more-requires
+put_more-requires g c =
     record { told = (c.self.inside.run.course.stands.book, c.self.invariant, takes-longer c.self.inside.run c.loop-i.rest.now c.keep-taken.new.self c.keep-taken.ensures.takes) }
 
 pub returns-clause-takes : goal.returns-clause-takes
@@ -54,7 +54,7 @@ returns-clause-takes g c =
 
 pub returns-clause-puts : goal.returns-clause-puts
 returns-clause-puts g c =
-    tells-then g.W.Write.contents c.args.to.now c.loop-i.to c.put_more-self-inside.new.to c.args.self.now.course.stands.book c.loop-i.self.course.stands.book c.keep-taken.new.self.course.stands.book
+    tells-then g.W.Write.contents c.args.to.now c.loop-i.to c.put_more.new.to c.args.self.now.course.stands.book c.loop-i.self.course.stands.book c.keep-taken.new.self.course.stands.book
     c.loop-i.invariant.puts
-    (tells-longer g.W.Write.contents c.self.inside.told c.self.inside.run c.loop-i.self c.keep-taken.new.self c.loop-i.to c.put_more-self-inside.new.to c.self.view_is c.self.invariant
-    (takes-longer c.self.inside.run c.loop-i.rest.now c.keep-taken.new.self c.keep-taken.ensures.takes) c.put_more-self-inside.ensures.puts)
+    (tells-longer g.W.Write.contents c.self.inside.told c.self.inside.run c.loop-i.self c.keep-taken.new.self c.loop-i.to c.put_more.new.to c.self.view_is c.self.invariant
+    (takes-longer c.self.inside.run c.loop-i.rest.now c.keep-taken.new.self c.keep-taken.ensures.takes) c.put_more.ensures.puts)
