@@ -8,15 +8,14 @@ use Rattle.mcs_packing.specs.declared.heads.PackedAnswer.TheVariants.{Done, Got,
 use Rattle.mcs_packing.specs.Packing.{GrowsBy}
 use Rattle.mcs_packing.specs.Entries.{EntryFits, entry_of}
 use Rattle.mcs_packing.specs.Heads.{answer_of, entered_of, all_entered, AnswerFits, HeadFits, AllHeadsFit}
-use Rattle.mcs_packing.proofs.Packings.{word_at-grows, content_at-grows, IsMessageAt-grows}
+use Rattle.mcs_packing.proofs.Packings.{word_at-grows, content_at-grows, IsMessageAt-grows, IsBadgedAt-grows}
 
 -- an entry
 pub entry_of-grows : (e : PackedEntry) (ws more : List ℕ) → EntryFits e ws → entry_of e (ws ++ more) ≡ entry_of e ws
 entry_of-grows (Sends form len at cap) ws more h = rw (content_at-grows ws more at len h) refl
 entry_of-grows (ReplyRecv len at cap reply) ws more h = rw (content_at-grows ws more at len h) refl
 entry_of-grows (NbSendRecv len at cap source) ws more h =
-    let reply : at + 1 + len < length ws = omega (arith, h.ends) in
-    rw (content_at-grows ws more at len h, word_at-grows ws more (at + 1 + len) reply) refl
+    rw (content_at-grows ws more at len h.message, word_at-grows ws more (at + 1 + len) h.badge) refl
 entry_of-grows (NbSendWait len at cap source) ws more h = rw (content_at-grows ws more at len h) refl
 entry_of-grows (Pair _ _ _) ws more h = refl
 entry_of-grows (Address _ _) ws more h = refl
@@ -29,7 +28,7 @@ entry_of-grows (MoveCap _ _ _ _) ws more h = refl
 pub EntryFits-grows : (e : PackedEntry) (ws more : List ℕ) → EntryFits e ws → EntryFits e (ws ++ more)
 EntryFits-grows (Sends form len at cap) ws more h = IsMessageAt-grows ws more at len h
 EntryFits-grows (ReplyRecv len at cap reply) ws more h = IsMessageAt-grows ws more at len h
-EntryFits-grows (NbSendRecv len at cap source) ws more h = IsMessageAt-grows ws more at len h
+EntryFits-grows (NbSendRecv len at cap source) ws more h = IsBadgedAt-grows ws more at len h
 EntryFits-grows (NbSendWait len at cap source) ws more h = IsMessageAt-grows ws more at len h
 EntryFits-grows (Pair _ _ _) ws more h = h
 EntryFits-grows (Address _ _) ws more h = h
@@ -43,8 +42,7 @@ EntryFits-grows (MoveCap _ _ _ _) ws more h = h
 pub answer_of-grows : (a : PackedAnswer) (ws more : List ℕ) → AnswerFits a ws → answer_of a (ws ++ more) ≡ answer_of a ws
 answer_of-grows Done ws more h = refl
 answer_of-grows (Got len at) ws more h =
-    let badge : at + 1 + len < length ws = omega (arith, h.ends) in
-    rw (content_at-grows ws more at len h, word_at-grows ws more (at + 1 + len) badge) refl
+    rw (content_at-grows ws more at len h.message, word_at-grows ws more (at + 1 + len) h.badge) refl
 answer_of-grows (Heard at) ws more h = rw (word_at-grows ws more at h) refl
 answer_of-grows Empty ws more h = refl
 answer_of-grows Waits ws more h = refl
@@ -52,7 +50,7 @@ answer_of-grows (Refused _) ws more h = refl
 
 pub AnswerFits-grows : (a : PackedAnswer) (ws more : List ℕ) → AnswerFits a ws → AnswerFits a (ws ++ more)
 AnswerFits-grows Done ws more h = h
-AnswerFits-grows (Got len at) ws more h = IsMessageAt-grows ws more at len h
+AnswerFits-grows (Got len at) ws more h = IsBadgedAt-grows ws more at len h
 AnswerFits-grows (Heard at) ws more h = omega (arith, h, length-append ws more)
 AnswerFits-grows Empty ws more h = h
 AnswerFits-grows Waits ws more h = h

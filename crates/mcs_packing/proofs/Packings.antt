@@ -6,7 +6,7 @@ use Rattle.mcs_types.specs.declared.record.Rec.{Rec}
 use Rattle.mcs_packing.specs.declared.arena.Arena.{Arena}
 use Rattle.mcs_packing.specs.declared.packed.Packed.{Packed}
 use Rattle.mcs_packing.specs.declared.packed.Packed.TheVariants.{FilledBadged, FilledGuarded, Sent, Paid, Heard, Wide}
-use Rattle.mcs_packing.specs.Packing.{word_at, content_at, record_of, records_of, IsMessageAt, Fits, AllFit, GrowsBy, Grew, no_record}
+use Rattle.mcs_packing.specs.Packing.{word_at, content_at, record_of, records_of, IsMessageAt, IsBadgedAt, Fits, AllFit, GrowsBy, Grew, no_record}
 
 -- a word
 pub word_at-grows : (ws more : List ℕ) (at : ℕ) → at < length ws → word_at (ws ++ more) at ≡ word_at ws at
@@ -25,13 +25,15 @@ IsMessageAt-grows ws more at len h =
     let first : at < length ws = omega (arith, h.ends) in
     record { ends = omega (arith, h.ends, length-append ws more); label = rw (word_at-grows ws more at first) h.label; few = h.few }
 
+pub IsBadgedAt-grows : (ws more : List ℕ) (at len : ℕ) → IsBadgedAt ws at len → IsBadgedAt (ws ++ more) at len
+IsBadgedAt-grows ws more at len h = record { message = IsMessageAt-grows ws more at len h.message; badge = omega (arith, h.badge, length-append ws more) }
+
 -- a record
 pub record_of-grows : (p : Packed) (ws more : List ℕ) (rs others : List Rec) → Fits p ws rs → record_of p (ws ++ more) (rs ++ others) ≡ record_of p ws rs
 record_of-grows (FilledBadged i rights k c n at) ws more rs others h = rw (word_at-grows ws more at h) refl
 record_of-grows (FilledGuarded i rights bits c n at) ws more rs others h = rw (word_at-grows ws more at h) refl
 record_of-grows (Sent m len t e at) ws more rs others h =
-    let badge : at + 1 + len < length ws = omega (arith, h.ends) in
-    rw (content_at-grows ws more at len h, word_at-grows ws more (at + 1 + len) badge) refl
+    rw (content_at-grows ws more at len h.message, word_at-grows ws more (at + 1 + len) h.badge) refl
 record_of-grows (Paid len r t at) ws more rs others h = rw (content_at-grows ws more at len h) refl
 record_of-grows (Heard t n at) ws more rs others h = rw (word_at-grows ws more at h) refl
 record_of-grows (Wide at) ws more rs others h = get_or_append_left rs others no_record at h
@@ -40,7 +42,7 @@ record_of-grows _ ws more rs others h = refl
 pub Fits-grows : (p : Packed) (ws more : List ℕ) (rs others : List Rec) → Fits p ws rs → Fits p (ws ++ more) (rs ++ others)
 Fits-grows (FilledBadged i rights k c n at) ws more rs others h = omega (arith, h, length-append ws more)
 Fits-grows (FilledGuarded i rights bits c n at) ws more rs others h = omega (arith, h, length-append ws more)
-Fits-grows (Sent m len t e at) ws more rs others h = IsMessageAt-grows ws more at len h
+Fits-grows (Sent m len t e at) ws more rs others h = IsBadgedAt-grows ws more at len h
 Fits-grows (Paid len r t at) ws more rs others h = IsMessageAt-grows ws more at len h
 Fits-grows (Heard t n at) ws more rs others h = omega (arith, h, length-append ws more)
 Fits-grows (Wide at) ws more rs others h = omega (arith, h, length-append rs others)
@@ -84,21 +86,15 @@ Grew-self a = record {
   room = λ n h. record { words = omega (arith, h.words); named = omega (arith, h.named); wide = omega (arith, h.wide); named_wide = omega (arith, h.named_wide) };
 }
 
--- a block of words that was just added
-pub content_at-block : (ws us : List ℕ) (label badge : ℕ) → content_at (((ws ++ label ∷ []) ++ us) ++ badge ∷ []) (length ws) (length us) ≡ record { label = label; words = us }
-content_at-block ws us label badge =
+-- a message that was just added
+pub message-block : (ws us : List ℕ) (label : ℕ) → content_at ((ws ++ label ∷ []) ++ us) (length ws) (length us) ≡ record { label = label; words = us }
+message-block ws us label =
     let long : length (ws ++ label ∷ []) ≡ length ws + 1 = length-append ws (label ∷ []) in
-    let first : word_at (ws ++ label ∷ (us ++ badge ∷ [])) (length ws) ≡ label = get_or_at ws label (us ++ badge ∷ []) 0 (length ws) refl in
-    let rest : drop (length ws + 1) ((ws ++ label ∷ []) ++ (us ++ badge ∷ [])) ≡ us ++ badge ∷ [] = drop_at (ws ++ label ∷ []) (us ++ badge ∷ []) (length ws + 1) long in
-    let front : take (length us) (us ++ badge ∷ []) ≡ us = take-append-le (length us) us (badge ∷ []) (omega arith) ∙ take-length us in
-    let one : ((ws ++ label ∷ []) ++ us) ++ badge ∷ [] ≡ (ws ++ label ∷ []) ++ (us ++ badge ∷ []) = append_assoc (ws ++ label ∷ []) us (badge ∷ []) in
-    let two : (ws ++ label ∷ []) ++ (us ++ badge ∷ []) ≡ ws ++ label ∷ (us ++ badge ∷ []) = append_assoc ws (label ∷ []) (us ++ badge ∷ []) in
-    let words : take (length us) (drop (length ws + 1) (((ws ++ label ∷ []) ++ us) ++ badge ∷ [])) ≡ us = ap (λ l. take (length us) (drop (length ws + 1) l)) one ∙ ap (take (length us)) rest ∙ front in
-    let head : word_at (((ws ++ label ∷ []) ++ us) ++ badge ∷ []) (length ws) ≡ label = ap (λ l. word_at l (length ws)) (one ∙ two) ∙ first in
+    let first : word_at (ws ++ label ∷ us) (length ws) ≡ label = get_or_at ws label us 0 (length ws) refl in
+    let rest : drop (length ws + 1) ((ws ++ label ∷ []) ++ us) ≡ us = drop_at (ws ++ label ∷ []) us (length ws + 1) long in
+    let words : take (length us) (drop (length ws + 1) ((ws ++ label ∷ []) ++ us)) ≡ us = ap (take (length us)) rest ∙ take-length us in
+    let head : word_at ((ws ++ label ∷ []) ++ us) (length ws) ≡ label = ap (λ l. word_at l (length ws)) (append_assoc ws (label ∷ []) us) ∙ first in
     rw (words, head) refl
-
-pub badge-block : (ws us : List ℕ) (label badge : ℕ) → word_at (((ws ++ label ∷ []) ++ us) ++ badge ∷ []) (length ws + 1 + length us) ≡ badge
-badge-block ws us label badge = get_or_at ((ws ++ label ∷ []) ++ us) badge [] 0 (length ws + 1 + length us) (length-append (ws ++ label ∷ []) us ∙ ap (λ n. n + length us) (length-append ws (label ∷ [])))
 
 -- one of the records
 pub slice_get-record_of : (ps : List Packed) (ws : List ℕ) (rs : List Rec) (i : ℕ) (p : Packed) → slice_get ps i ≡ Some p → slice_get (records_of ps ws rs) i ≡ Some (record_of p ws rs)

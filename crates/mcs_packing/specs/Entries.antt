@@ -14,7 +14,7 @@ use Rattle.mcs_packing.specs.declared.entries.OverPlace.{OverPlace}
 use Rattle.mcs_packing.specs.declared.entries.OverPlace.TheVariants as place
 use Rattle.mcs_packing.specs.declared.entries.PackedEntry.{PackedEntry}
 use Rattle.mcs_packing.specs.declared.entries.PackedEntry.TheVariants.{Sends, ReplyRecv, NbSendRecv, NbSendWait, Pair, Address, AtPlace, SetPriority, CopyCap, MintCap, MoveCap}
-use Rattle.mcs_packing.specs.Packing.{word_at, content_at, IsMessageAt}
+use Rattle.mcs_packing.specs.Packing.{word_at, content_at, IsMessageAt, IsBadgedAt}
 
 -- a place of an index and a depth
 abbrev pub place_of : ℕ → ℕ → Place
@@ -70,7 +70,7 @@ entry_of (MoveCap source_depth dest_depth source dest) ws = entry.MoveCap (place
 abbrev pub EntryFits : PackedEntry → List ℕ → Type 0
 EntryFits (Sends form len at cap) ws = IsMessageAt ws at len
 EntryFits (ReplyRecv len at cap reply) ws = IsMessageAt ws at len
-EntryFits (NbSendRecv len at cap source) ws = IsMessageAt ws at len
+EntryFits (NbSendRecv len at cap source) ws = IsBadgedAt ws at len
 EntryFits (NbSendWait len at cap source) ws = IsMessageAt ws at len
 EntryFits (MintCap source_depth dest_depth rights at source dest) ws = at < length ws
 EntryFits _ ws = Unit {0}

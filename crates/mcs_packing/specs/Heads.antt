@@ -6,7 +6,7 @@ use Rattle.mcs_types.specs.declared.entry.Answer.TheVariants.{Done as done, Got 
 use Rattle.mcs_packing.specs.declared.heads.Head.{Head}
 use Rattle.mcs_packing.specs.declared.heads.PackedAnswer.{PackedAnswer}
 use Rattle.mcs_packing.specs.declared.heads.PackedAnswer.TheVariants.{Done, Got, Heard, Empty, Waits, Refused}
-use Rattle.mcs_packing.specs.Packing.{word_at, content_at, IsMessageAt}
+use Rattle.mcs_packing.specs.Packing.{word_at, content_at, IsBadgedAt}
 use Rattle.mcs_packing.specs.Entries.{EntryFits, entry_of}
 
 -- the answer that a packed one stands for
@@ -20,7 +20,7 @@ answer_of (Refused r) ws = refused r
 
 -- what an answer names is there
 abbrev pub AnswerFits : PackedAnswer → List ℕ → Type 0
-AnswerFits (Got len at) ws = IsMessageAt ws at len
+AnswerFits (Got len at) ws = IsBadgedAt ws at len
 AnswerFits (Heard at) ws = at < length ws
 AnswerFits _ ws = Unit {0}
 

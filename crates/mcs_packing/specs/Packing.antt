@@ -30,7 +30,7 @@ queue_on Waiters n = in_waiters (object Notification n)
 abbrev pub word_at : List ℕ → ℕ → ℕ
 word_at ws at = slice_index_or ws at 0
 
--- the message at a place: its label, and then so many words; behind them stands a badge
+-- the message at a place: its label, and then so many words; behind them a badge may stand
 abbrev pub content_at : List ℕ → ℕ → ℕ → Content
 content_at ws at n = record { label = word_at ws at; words = take n (drop (at + 1) ws) }
 
@@ -142,15 +142,20 @@ IsOfMessage _ = ⊥
 
 -- a message of so many words stands there
 pub record IsMessageAt (ws : List ℕ) (at len : ℕ) : Type 0 where
-  pub ends : at + len + 1 < length ws
+  pub ends : at + len < length ws
   pub label : word_at ws at < 2 ^ 52
   pub few : len ≤ 120
+
+-- the same, with a badge behind it
+pub record IsBadgedAt (ws : List ℕ) (at len : ℕ) : Type 0 where
+  pub message : IsMessageAt ws at len
+  pub badge : at + 1 + len < length ws
 
 -- what a packed record names is there
 abbrev pub Fits : Packed → List ℕ → List Rec → Type 0
 Fits (FilledBadged i rights k c n at) ws rs = at < length ws
 Fits (FilledGuarded i rights bits c n at) ws rs = at < length ws
-Fits (Sent m len t e at) ws rs = IsMessageAt ws at len
+Fits (Sent m len t e at) ws rs = IsBadgedAt ws at len
 Fits (Paid len r t at) ws rs = IsMessageAt ws at len
 Fits (Heard t n at) ws rs = at < length ws
 Fits (Wide at) ws rs = at < length rs

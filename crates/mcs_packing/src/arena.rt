@@ -1,13 +1,13 @@
 //! The words of messages, each once, and the records that fit no packed form.
-ghost use Rattle.std.specs.Prelude.{ℕ, ◌≡◌, ◌<◌, ◌≤◌, ◌+◌, ◌^◌, [], ◌∷◌, ◌++◌, IsTrue, IfOk, IfSome, IfNone, length, vec_len, vec_capacity};
-ghost use Rattle.mcs_packing.specs.Packing.{FitsIn, Grew, GrewHead, GrowsBy, HasBadgeAt, HasMessageRoom, HasRoom, HoldsAt, IsMessageAt, content_at, record_in, word_at};
+ghost use Rattle.std.specs.Prelude.{ℕ, ◌≡◌, ◌<◌, ◌≤◌, ◌+◌, ◌-◌, ◌^◌, [], ◌∷◌, ◌++◌, IsTrue, IfOk, IfSome, IfNone, length, vec_len, vec_capacity};
+ghost use Rattle.mcs_packing.specs.Packing.{FitsIn, Grew, GrewHead, GrowsBy, HasBadgeAt, HasMessageRoom, HasRoom, HoldsAt, IsBadgedAt, IsMessageAt, content_at, record_in, word_at};
 
 use crate::packed::Packed;
 use mcs_types::{Badge, INLINE_WORDS, Message, OutOfMemory, Rec, copy_rows, emptied};
 use std::alloc::Global;
 
 /// The words that packed records, entries and answers name by their places, and the records that fit no packed form. A
-/// message stands as its label, its words and a badge. Both lists only grow. `spare` is how many words the long messages of
+/// message stands as its label and its words, and a badge behind them where one is kept with it. Both lists only grow. `spare` is how many words the long messages of
 /// records may still take beyond six each.
 #[derive(Drop)]
 pub struct Arena {
@@ -65,7 +65,7 @@ fn is_at(words: &[u64], at: u32, message: &Message) -> bool
     message.is_in_range();
     let place = at as usize;
     let end = place + 1 + message.words().len();
-    end < words.len()
+    end <= words.len()
         && words[place] == message.label()
         && &words[place + 1..end] == message.words()
 }
@@ -73,9 +73,18 @@ fn is_at(words: &[u64], at: u32, message: &Message) -> bool
 /// Whether this badge stands behind a message of this length.
 fn is_badge_at(words: &[u64], at: u32, message: &Message, badge: Badge) -> bool
     requires { IsMessageAt words.now at (length message.now.words) }
-    ensures { IsTrue result → HasBadgeAt words.now at message.now badge.0 }
+    ensures there { IsTrue result → IsBadgedAt words.now at (length message.now.words) }
+    ensures value { IsTrue result → HasBadgeAt words.now at message.now badge.0 }
 {
-    words[at as usize + 1 + message.words().len()] == badge.0
+    let end = at as usize + 1 + message.words().len();
+    end < words.len() && words[end] == badge.0
+}
+
+/// How many words a message has beyond those that stand in it.
+fn long_words(message: &Message) -> usize
+    ensures { result ≡ length message.now.words - INLINE_WORDS }
+{
+    message.words().len().saturating_sub(INLINE_WORDS)
 }
 
 /// Adds a word, for which there is room.
@@ -101,21 +110,36 @@ fn push_words(words: &mut Vec<u64>, more: &[u64])
     }
 }
 
-/// Keeps a message and a badge, for which there is room, and answers where.
-fn keep_words(words: &mut Vec<u64>, message: &Message, badge: Badge) -> u32
-    requires room { vec_len words.old + length message.now.words + 2 ≤ vec_capacity words.old }
+/// Keeps a message, for which there is room, and answers where.
+fn keep_message(words: &mut Vec<u64>, message: &Message) -> u32
+    requires room { vec_len words.old + length message.now.words + 1 ≤ vec_capacity words.old }
     requires named { vec_len words.old < 2 ^ 32 }
     ensures value { HoldsAt words.new.items result message.now }
-    ensures badge { HasBadgeAt words.new.items result message.now badge.0 }
     ensures fits { IsMessageAt words.new.items result (length message.now.words) }
+    ensures last { result + 1 + length message.now.words ≡ length words.new.items }
     ensures grew { GrowsBy words.old.items words.new.items }
-    ensures len { vec_len words.new ≡ vec_len words.old + length message.now.words + 2 }
+    ensures len { vec_len words.new ≡ vec_len words.old + length message.now.words + 1 }
     ensures capacity { vec_capacity words.old ≤ vec_capacity words.new }
 {
     message.is_in_range();
     let at = words.len() as u32;
     push_word(words, message.label());
     push_words(words, message.words());
+    at
+}
+
+/// Keeps a message and a badge behind it, for which there is room, and answers where.
+fn keep_badged(words: &mut Vec<u64>, message: &Message, badge: Badge) -> u32
+    requires room { vec_len words.old + length message.now.words + 2 ≤ vec_capacity words.old }
+    requires named { vec_len words.old < 2 ^ 32 }
+    ensures value { HoldsAt words.new.items result message.now }
+    ensures badge { HasBadgeAt words.new.items result message.now badge.0 }
+    ensures fits { IsBadgedAt words.new.items result (length message.now.words) }
+    ensures grew { GrowsBy words.old.items words.new.items }
+    ensures len { vec_len words.new ≡ vec_len words.old + length message.now.words + 2 }
+    ensures capacity { vec_capacity words.old ≤ vec_capacity words.new }
+{
+    let at = keep_message(words, message);
     push_word(words, badge.0);
     at
 }
@@ -153,39 +177,50 @@ impl Arena {
         })
     }
 
-    /// Keeps the message of a record and a badge, and answers where. None, and nothing changes, where the message is long and
-    /// the spare words are used up.
-    pub(crate) fn keep(&mut self, message: &Message, badge: Badge) -> Option<u32>
+    /// Keeps the message of a record, and answers where. None, and nothing changes, where the message is long and the spare words are
+    /// used up.
+    pub(crate) fn keep(&mut self, message: &Message) -> Option<u32>
         requires { HasRoom self.old 1 }
         ensures value { IfSome result (λ at. HoldsAt self.new.words.items at message.now) }
-        ensures badge { IfSome result
-            (λ at. HasBadgeAt self.new.words.items at message.now badge.0) }
         ensures fits { IfSome result
             (λ at. IsMessageAt self.new.words.items at (length message.now.words)) }
         ensures grew { Grew self.old self.new }
         ensures none { IfNone result (self.new ≡ self.old) }
     {
-        let more = message.words().len().saturating_sub(INLINE_WORDS);
-        if self.spare < more {
-            return None;
-        }
-        self.spare -= more;
-        Some(keep_words(&mut self.words, message, badge))
+        self.spare = self.spare.checked_sub(long_words(message))?;
+        message.is_in_range();
+        Some(keep_message(&mut self.words, message))
     }
 
-    /// Keeps the message of an answer and a badge, and answers where: at this place, if they stand there already.
+    /// Keeps the message of a record and a badge behind it, as `keep` does.
+    pub(crate) fn keep_with_badge(&mut self, message: &Message, badge: Badge) -> Option<u32>
+        requires { HasRoom self.old 1 }
+        ensures value { IfSome result (λ at. HoldsAt self.new.words.items at message.now) }
+        ensures badge { IfSome result
+            (λ at. HasBadgeAt self.new.words.items at message.now badge.0) }
+        ensures fits { IfSome result
+            (λ at. IsBadgedAt self.new.words.items at (length message.now.words)) }
+        ensures grew { Grew self.old self.new }
+        ensures none { IfNone result (self.new ≡ self.old) }
+    {
+        self.spare = self.spare.checked_sub(long_words(message))?;
+        message.is_in_range();
+        Some(keep_badged(&mut self.words, message, badge))
+    }
+
+    /// Keeps the message of an answer and a badge behind it, and answers where: at this place, if they stand there already.
     pub(crate) fn share(&mut self, message: &Message, badge: Badge, place: u32) -> u32
         requires { HasMessageRoom self.old 1 }
         ensures value { HoldsAt self.new.words.items result message.now }
         ensures badge { HasBadgeAt self.new.words.items result message.now badge.0 }
-        ensures fits { IsMessageAt self.new.words.items result (length message.now.words) }
+        ensures fits { IsBadgedAt self.new.words.items result (length message.now.words) }
         ensures grew { GrewHead self.old self.new }
     {
         if is_at(&self.words, place, message) && is_badge_at(&self.words, place, message, badge) {
             place
         } else {
             message.is_in_range();
-            keep_words(&mut self.words, message, badge)
+            keep_badged(&mut self.words, message, badge)
         }
     }
 
@@ -200,7 +235,7 @@ impl Arena {
             place
         } else {
             message.is_in_range();
-            keep_words(&mut self.words, message, Badge(0))
+            keep_message(&mut self.words, message)
         }
     }
 

@@ -452,7 +452,7 @@ impl Arena {
         let sender = serial_of(sender, Kind::Thread)?;
         let endpoint = serial_of(endpoint, Kind::Endpoint)?;
         let len = length_of(message);
-        let at = self.keep(message, badge)?;
+        let at = self.keep_with_badge(message, badge)?;
         Some(Packed::Sent {
             mode,
             len,
@@ -470,7 +470,7 @@ impl Arena {
         let reply = serial_of(reply, Kind::Reply)?;
         let caller = serial_of(caller, Kind::Thread)?;
         let len = length_of(message);
-        let at = self.keep(message, Badge(0))?;
+        let at = self.keep(message)?;
         Some(Packed::Paid {
             len,
             reply,
