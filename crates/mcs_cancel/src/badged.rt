@@ -93,12 +93,8 @@ pub fn cancel_badged<W: Waiting>(
     requires room { Fits state.old core thread (Entry.CancelBadged address) }
     ensures { Does state.old core thread (Entry.CancelBadged address) (plain_answer result) state.new }
 {
-    match badged_endpoint(state, thread, address) {
-        Err(refusal) => Err(refusal),
-        Ok(cap) => {
-            wake(state, thread);
-            restart_badged(state, cap);
-            Ok(())
-        }
-    }
+    let cap = badged_endpoint(state, thread, address)?;
+    wake(state, thread);
+    restart_badged(state, cap);
+    Ok(())
 }

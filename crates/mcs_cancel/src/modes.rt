@@ -67,13 +67,9 @@ pub fn suspend<W: Waiting>(
     requires room { Fits state.old core thread (Entry.Suspend address) }
     ensures { Does state.old core thread (Entry.Suspend address) (plain_answer result) state.new }
 {
-    match find_thread(state, thread, address) {
-        Err(refusal) => Err(refusal),
-        Ok(named) => {
-            set_mode(state, thread, named, Some(Mode::Inactive));
-            Ok(())
-        }
-    }
+    let named = find_thread(state, thread, address)?;
+    set_mode(state, thread, named, Some(Mode::Inactive));
+    Ok(())
 }
 
 /// Resume: a thread that cannot run leaves what it is blocked on, and is in Restart from now on; one that is Running or in
@@ -83,12 +79,8 @@ pub fn resume<W: Waiting>(state: &mut State<W>, core: CoreId, thread: ObjId, add
     requires room { Fits state.old core thread (Entry.Resume address) }
     ensures { Does state.old core thread (Entry.Resume address) (plain_answer result) state.new }
 {
-    match find_thread(state, thread, address) {
-        Err(refusal) => Err(refusal),
-        Ok(named) => {
-            let mode = mode_resumed(state.status(named)); // Before the thread that enters wakes.
-            set_mode(state, thread, named, mode);
-            Ok(())
-        }
-    }
+    let named = find_thread(state, thread, address)?;
+    let mode = mode_resumed(state.status(named)); // Before the thread that enters wakes.
+    set_mode(state, thread, named, mode);
+    Ok(())
 }

@@ -25,15 +25,11 @@ pub fn set_priority<W: Waiting>(
     requires room { Fits state.old core thread (SetPriority holder authority priority) }
     ensures { Does state.old core thread (SetPriority holder authority priority) (plain_answer result) state.new }
 {
-    match thread_to_set(state, thread, holder, authority, priority) {
-        Err(refusal) => Err(refusal),
-        Ok(holder) => {
-            let change = Change::Sets {
-                thread: holder,
-                priority,
-            };
-            change_awake(state, thread, change);
-            Ok(())
-        }
-    }
+    let holder = thread_to_set(state, thread, holder, authority, priority)?;
+    let change = Change::Sets {
+        thread: holder,
+        priority,
+    };
+    change_awake(state, thread, change);
+    Ok(())
 }

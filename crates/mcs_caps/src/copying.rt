@@ -55,13 +55,9 @@ pub fn copy_cap<W: Waiting>(
     requires room { Fits state.old core thread (Entry.CopyCap source dest rights) }
     ensures { Does state.old core thread (Entry.CopyCap source dest rights) (plain_answer result) state.new }
 {
-    match find_places(state, thread, source, dest) {
-        Err(refusal) => Err(refusal),
-        Ok(at) => {
-            fill(state, thread, &at, with_mask(&at.cap, rights));
-            Ok(())
-        }
-    }
+    let at = find_places(state, thread, source, dest)?;
+    fill(state, thread, &at, with_mask(&at.cap, rights));
+    Ok(())
 }
 
 /// MintCap: as CopyCap, and the capability gets a badge. Refused like CopyCap, and then with 4 where the source is to no
@@ -80,13 +76,9 @@ pub fn mint_cap<W: Waiting>(
     ensures { Does state.old core thread (Entry.MintCap source dest rights badge)
         (plain_answer result) state.new }
 {
-    match with_no_badge(find_places(state, thread, source, dest)) {
-        Err(refusal) => Err(refusal),
-        Ok(at) => {
-            fill(state, thread, &at, with_badge(&at.cap, rights, badge));
-            Ok(())
-        }
-    }
+    let at = with_no_badge(find_places(state, thread, source, dest))?;
+    fill(state, thread, &at, with_badge(&at.cap, rights, badge));
+    Ok(())
 }
 
 /// MoveCap: the slot at the destination gets the capability at the source as it is, and the source is emptied. Refused like
@@ -102,11 +94,7 @@ pub fn move_cap<W: Waiting>(
     requires room { Fits state.old core thread (Entry.MoveCap source dest) }
     ensures { Does state.old core thread (Entry.MoveCap source dest) (plain_answer result) state.new }
 {
-    match find_places(state, thread, source, dest) {
-        Err(refusal) => Err(refusal),
-        Ok(at) => {
-            shift(state, thread, &at);
-            Ok(())
-        }
-    }
+    let at = find_places(state, thread, source, dest)?;
+    shift(state, thread, &at);
+    Ok(())
 }

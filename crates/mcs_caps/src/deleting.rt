@@ -100,11 +100,7 @@ pub fn delete_cap<W: Waiting>(
     requires room { Fits state.old core thread (Entry.DeleteCap place) }
     ensures { Does state.old core thread (Entry.DeleteCap place) (plain_answer result) state.new }
 {
-    match find_deletable(state, thread, place) {
-        Err(refusal) => Err(refusal),
-        Ok(at) => {
-            delete(state, thread, at);
-            Ok(())
-        }
-    }
+    let at = find_deletable(state, thread, place)?;
+    delete(state, thread, at);
+    Ok(())
 }

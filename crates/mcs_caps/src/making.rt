@@ -132,11 +132,7 @@ pub fn make<W: Waiting>(
     requires room { Fits state.old core thread (entry_making kind place) }
     ensures { Does state.old core thread (entry_making kind place) (plain_answer result) state.new }
 {
-    match find_vacant(state, thread, kind, place) {
-        Err(refusal) => Err(refusal),
-        Ok(at) => {
-            make_awake(state, core, thread, kind, at);
-            Ok(())
-        }
-    }
+    let at = find_vacant(state, thread, kind, place)?;
+    make_awake(state, core, thread, kind, at);
+    Ok(())
 }

@@ -79,13 +79,9 @@ pub fn bind_context<W: Waiting>(
     ensures { Does state.old core thread (Entry.BindCtx context object) (plain_answer result) state.new }
 {
     state.is_sound();
-    match find_change(state, thread, context, object) {
-        Err(refusal) => Err(refusal),
-        Ok(change) => {
-            change_awake(state, thread, change);
-            Ok(())
-        }
-    }
+    let change = find_change(state, thread, context, object)?;
+    change_awake(state, thread, change);
+    Ok(())
 }
 
 /// The context that an unbind names: somebody holds it, or it is homed.
@@ -124,11 +120,7 @@ pub fn unbind_context<W: Waiting>(
     ensures { Does state.old core thread (Entry.UnbindCtx context) (plain_answer result) state.new }
 {
     state.is_sound();
-    match find_bound(state, thread, context) {
-        Err(refusal) => Err(refusal),
-        Ok(context) => {
-            unbind_awake(state, thread, context);
-            Ok(())
-        }
-    }
+    let context = find_bound(state, thread, context)?;
+    unbind_awake(state, thread, context);
+    Ok(())
 }

@@ -181,13 +181,9 @@ pub fn send<W: Waiting>(
         state.new }
 {
     state.is_sound();
-    match target_to_send(state, thread, address) {
-        Err(refusal) => Err(refusal),
-        Ok(target) => {
-            wake(state, thread);
-            Ok(send_target(state, thread, target, SendMode::Plain, message, blocks))
-        }
-    }
+    let target = target_to_send(state, thread, address)?;
+    wake(state, thread);
+    Ok(send_target(state, thread, target, SendMode::Plain, message, blocks))
 }
 
 /// Call: over an endpoint the first receiver takes the message, and its reply object owes the thread an answer, or else the
@@ -210,12 +206,8 @@ pub fn call<W: Waiting>(
         state.new }
 {
     state.is_sound();
-    match cap_to_call(state, thread, address) {
-        Err(refusal) => Err(refusal),
-        Ok(cap) => {
-            wake(state, thread);
-            let mode = call_mode(&cap);
-            Ok(send_over(state, thread, cap, mode, message, true))
-        }
-    }
+    let cap = cap_to_call(state, thread, address)?;
+    wake(state, thread);
+    let mode = call_mode(&cap);
+    Ok(send_over(state, thread, cap, mode, message, true))
 }

@@ -66,13 +66,9 @@ pub fn bind<W: Waiting>(
     ensures { Does state.old core thread (Entry.BindNtfn holder notification) (plain_answer result) state.new }
 {
     state.is_sound();
-    match tie_to_make(state, thread, holder, notification) {
-        Err(refusal) => Err(refusal),
-        Ok(change) => {
-            change_awake(state, thread, change);
-            Ok(())
-        }
-    }
+    let change = tie_to_make(state, thread, holder, notification)?;
+    change_awake(state, thread, change);
+    Ok(())
 }
 
 /// UnbindNtfn: no notification is bound to the thread from now on. The refusals are 1 to 3 of the lookup, 4 for a
@@ -82,11 +78,7 @@ pub fn unbind<W: Waiting>(state: &mut State<W>, core: CoreId, thread: ObjId, hol
     requires room { Fits state.old core thread (Entry.UnbindNtfn holder) }
     ensures { Does state.old core thread (Entry.UnbindNtfn holder) (plain_answer result) state.new }
 {
-    match tie_to_end(state, thread, holder) {
-        Err(refusal) => Err(refusal),
-        Ok(change) => {
-            change_awake(state, thread, change);
-            Ok(())
-        }
-    }
+    let change = tie_to_end(state, thread, holder)?;
+    change_awake(state, thread, change);
+    Ok(())
 }

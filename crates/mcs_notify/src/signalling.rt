@@ -157,12 +157,8 @@ pub fn signal_at<W: Waiting>(
     ensures { Does state.old core thread (Entry.Signal address) (plain_answer result) state.new }
 {
     state.is_sound();
-    match cap_to_signal(state, thread, address) {
-        Err(refusal) => Err(refusal),
-        Ok(cap) => {
-            wake(state, thread);
-            signal(state, cap.obj, cap.badge);
-            Ok(())
-        }
-    }
+    let cap = cap_to_signal(state, thread, address)?;
+    wake(state, thread);
+    signal(state, cap.obj, cap.badge);
+    Ok(())
 }

@@ -1,4 +1,5 @@
 use Rattle.std.proofs.Common.{ap, sym, ◌∙◌}
+use Rattle.std.proofs.lemmas.Result.{err_from_is_err_and}
 use Rattle.mcs_types.specs.declared.entry.Answer.TheVariants.{Done}
 use Rattle.mcs_types.specs.declared.entry.Entry.TheVariants.{BindCtx}
 use Rattle.mcs_state.specs.Changing.{changes}
@@ -9,19 +10,20 @@ use Rattle.mcs_ipc.proofs.Binding.{row-bind, bind-allowed}
 use Rattle.mcs_ipc.proofs.contexts.bind_context.Goals as goal
 
 pub change_awake-requires-clause-allowed : goal.change_awake-requires-clause-allowed
-change_awake-requires-clause-allowed g c = bind-allowed (so_far c.args.state.now) c.args.thread c.args.context c.args.object c.in-Ok.change c.is_sound.ensures.sound (sym c.find_change.ensures ∙ c.in-Ok.is)
+change_awake-requires-clause-allowed g c = bind-allowed (so_far c.args.state.now) c.args.thread c.args.context c.args.object c.in_ok-change.change c.is_sound.ensures.sound (sym c.find_change.ensures ∙ c.in_ok-change.was)
 
 pub change_awake-requires-clause-room : goal.change_awake-requires-clause-room
 change_awake-requires-clause-room g c =
-    let row = row-bind (so_far c.args.state.now) c.args.core c.args.thread c.args.context c.args.object ∙ ap (λ m. act_of m changes) (sym c.find_change.ensures ∙ c.in-Ok.is) in
-    room-did c.args.state.now c.args.core c.args.thread (BindCtx c.args.context c.args.object) (changes c.in-Ok.change) row c.requires.room
+    let row = row-bind (so_far c.args.state.now) c.args.core c.args.thread c.args.context c.args.object ∙ ap (λ m. act_of m changes) (sym c.find_change.ensures ∙ c.in_ok-change.was) in
+    room-did c.args.state.now c.args.core c.args.thread (BindCtx c.args.context c.args.object) (changes c.in_ok-change.change) row c.requires.room
 
-pub returns-in-Err : goal.returns-in-Err
-returns-in-Err g c =
-    let row = row-bind (so_far c.args.state.now) c.args.core c.args.thread c.args.context c.args.object ∙ ap (λ m. act_of m changes) (sym c.find_change.ensures ∙ c.in-Err.is) in
-    refused c.args.state.now c.args.core c.args.thread (BindCtx c.args.context c.args.object) c.in-Err.refusal row
+pub returns-in_err-change : goal.returns-in_err-change
+returns-in_err-change g c =
+    let row = row-bind (so_far c.args.state.now) c.args.core c.args.thread c.args.context c.args.object ∙ ap (λ m. act_of m changes) (sym c.find_change.ensures ∙ c.in_err-change.was) in
+    let p = err_from_is_err_and c.from_residual.result c.from_residual.ensures.1 in
+    rw (p.1, p.2) (refused c.args.state.now c.args.core c.args.thread (BindCtx c.args.context c.args.object) c.in_err-change.field-0.0 row)
 
-pub returns-in-Ok : goal.returns-in-Ok
-returns-in-Ok g c =
-    let row = row-bind (so_far c.args.state.now) c.args.core c.args.thread c.args.context c.args.object ∙ ap (λ m. act_of m changes) (sym c.find_change.ensures ∙ c.in-Ok.is) in
-    did c.args.state.now c.change_awake.new.state c.args.core c.args.thread (BindCtx c.args.context c.args.object) (changes c.in-Ok.change) Done row c.change_awake.ensures
+pub returns : goal.returns
+returns g c =
+    let row = row-bind (so_far c.args.state.now) c.args.core c.args.thread c.args.context c.args.object ∙ ap (λ m. act_of m changes) (sym c.find_change.ensures ∙ c.in_ok-change.was) in
+    did c.args.state.now c.change_awake.new.state c.args.core c.args.thread (BindCtx c.args.context c.args.object) (changes c.in_ok-change.change) Done row c.change_awake.ensures
