@@ -13,9 +13,7 @@ ghost use Rattle.mcs_cancel.specs.Badging.{cancellable, restarts_one, restarts_w
 use crate::cancelling::cancel;
 use mcs_object_queues::Waiting;
 use mcs_state::{State, of_kind, wake};
-use mcs_types::{
-    ALL_RIGHTS, Badge, Cap, CoreId, Kind, Letter, Mode, ObjId, Queue, Refusal,
-};
+use mcs_types::{ALL_RIGHTS, Badge, Cap, CoreId, Kind, Letter, Mode, ObjId, Queue, Refusal};
 
 /// Whether there is a message, and it has this badge.
 fn has_badge(letter: Option<&Letter>, badge: Badge) -> bool

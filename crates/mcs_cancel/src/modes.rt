@@ -30,12 +30,7 @@ fn cancel_any<W: Waiting>(state: &mut State<W>, thread: ObjId, mode: Option<Mode
 }
 
 /// Wakes the thread that enters, and sets the mode of the one that it names, where one is given.
-fn set_mode<W: Waiting>(
-    state: &mut State<W>,
-    thread: ObjId,
-    named: ObjId,
-    mode: Option<Mode>,
-)
+fn set_mode<W: Waiting>(state: &mut State<W>, thread: ObjId, named: ObjId, mode: Option<Mode>)
     requires entering { IsEntering (so_far state.old) thread }
     requires there { IsThere (so_far state.old) Kind.Thread named }
     requires room { FitsAwake thread (sets_mode named mode) state.old }
@@ -74,7 +69,12 @@ pub fn suspend<W: Waiting>(
 
 /// Resume: a thread that cannot run leaves what it is blocked on, and is in Restart from now on; one that is Running or in
 /// Restart stays as it is. The refusals are those of Suspend (manual: Threads and Execution).
-pub fn resume<W: Waiting>(state: &mut State<W>, core: CoreId, thread: ObjId, address: u64) -> Result<(), Refusal>
+pub fn resume<W: Waiting>(
+    state: &mut State<W>,
+    core: CoreId,
+    thread: ObjId,
+    address: u64,
+) -> Result<(), Refusal>
     requires entering { IsEntering (so_far state.old) thread }
     requires room { Fits state.old core thread (Entry.Resume address) }
     ensures { Does state.old core thread (Entry.Resume address) (plain_answer result) state.new }

@@ -15,9 +15,7 @@ ghost use Rattle.mcs_caps.specs.Placed.{IsSlot};
 use mcs_object_queues::Waiting;
 use mcs_slots::SlotId;
 use mcs_state::{State, wake};
-use mcs_types::{
-    ALL_RIGHTS, Badge, Cap, CoreId, Guard, Kind, ObjId, Place, Refusal, Rights,
-};
+use mcs_types::{ALL_RIGHTS, Badge, Cap, CoreId, Guard, Kind, ObjId, Place, Refusal, Rights};
 
 /// The capability that comes with an object: one with all rights where its kind carries rights.
 fn new_cap(object: ObjId) -> Cap
@@ -95,13 +93,7 @@ fn make_at<W: Waiting>(state: &mut State<W>, core: CoreId, kind: Kind, at: SlotI
 }
 
 /// Wakes the thread, and makes an object of a kind with a capability in an empty slot.
-fn make_awake<W: Waiting>(
-    state: &mut State<W>,
-    core: CoreId,
-    thread: ObjId,
-    kind: Kind,
-    at: SlotId,
-)
+fn make_awake<W: Waiting>(state: &mut State<W>, core: CoreId, thread: ObjId, kind: Kind, at: SlotId)
     requires kind { has_limit kind ≡ true }
     requires form { IsFormOf kind (new_form kind core) }
     requires entering { IsEntering (so_far state.old) thread }

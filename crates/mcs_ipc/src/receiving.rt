@@ -47,7 +47,13 @@ fn free_any<W: Waiting>(state: &mut State<W>, reply: Option<ObjId>)
 }
 
 /// Waits among the receivers, where the thread blocks; its context goes home where that is the notification bound to the thread (own).
-fn stand<W: Waiting>(state: &mut State<W>, thread: ObjId, at: Receiving, blocks: bool, answer: &mut Answer)
+fn stand<W: Waiting>(
+    state: &mut State<W>,
+    thread: ObjId,
+    at: Receiving,
+    blocks: bool,
+    answer: &mut Answer,
+)
     requires ready { IsReady (so_far state.old) thread at.endpoint at.reply }
     requires room { FitsAct (stand_act (so_far state.old) blocks thread at) state.old }
     ensures { Acts (stand_act (so_far state.old) blocks thread at) state.old answer.new state.new }

@@ -108,8 +108,24 @@ fn operate<W: Waiting>(
             let copies = Copies { message, long };
             *answer = send_answer(call(state, core, thread, *cap, copies));
         }
-        Entry::Recv { cap, reply } => receive(state, core, thread, *cap, Some(*reply), true, answer),
-        Entry::NbRecv { cap, reply } => receive(state, core, thread, *cap, Some(*reply), false, answer),
+        Entry::Recv { cap, reply } => receive(
+            state,
+            core,
+            thread,
+            *cap,
+            Some(*reply),
+            true,
+            answer,
+        ),
+        Entry::NbRecv { cap, reply } => receive(
+            state,
+            core,
+            thread,
+            *cap,
+            Some(*reply),
+            false,
+            answer,
+        ),
         Entry::Wait { cap } => receive(state, core, thread, *cap, None, true, answer),
         Entry::NbWait { cap } => receive(state, core, thread, *cap, None, false, answer),
         Entry::ReplyRecv {
@@ -127,7 +143,16 @@ fn operate<W: Waiting>(
             message,
         } => {
             let copies = Copies { message, long };
-            exchange(state, core, thread, *cap, *source, Some(*reply), copies, answer)
+            exchange(
+                state,
+                core,
+                thread,
+                *cap,
+                *source,
+                Some(*reply),
+                copies,
+                answer,
+            )
         }
         Entry::NbSendWait {
             cap,
@@ -142,20 +167,32 @@ fn operate<W: Waiting>(
             thread: holder,
             authority,
             priority,
-        } => *answer = plain_answer(set_priority(state, core, thread, *holder, *authority, *priority)),
-        Entry::Suspend { thread: other } => *answer = plain_answer(suspend(state, core, thread, *other)),
-        Entry::Resume { thread: other } => *answer = plain_answer(resume(state, core, thread, *other)),
+        } => *answer = plain_answer(set_priority(
+            state, core, thread, *holder, *authority, *priority,
+        )),
+        Entry::Suspend { thread: other } => *answer = plain_answer(suspend(
+            state, core, thread, *other,
+        )),
+        Entry::Resume { thread: other } => *answer = plain_answer(resume(
+            state, core, thread, *other,
+        )),
         Entry::BindNtfn {
             thread: holder,
             notification,
         } => *answer = plain_answer(bind(state, core, thread, *holder, *notification)),
-        Entry::UnbindNtfn { thread: holder } => *answer = plain_answer(unbind(state, core, thread, *holder)),
+        Entry::UnbindNtfn { thread: holder } => *answer = plain_answer(unbind(
+            state, core, thread, *holder,
+        )),
         Entry::BindCtx {
             context,
             thread: holder,
         } => *answer = plain_answer(bind_context(state, core, thread, *context, *holder)),
-        Entry::UnbindCtx { context } => *answer = plain_answer(unbind_context(state, core, thread, *context)),
-        Entry::CancelBadged { endpoint } => *answer = plain_answer(cancel_badged(state, core, thread, *endpoint)),
+        Entry::UnbindCtx { context } => *answer = plain_answer(unbind_context(
+            state, core, thread, *context,
+        )),
+        Entry::CancelBadged { endpoint } => *answer = plain_answer(cancel_badged(
+            state, core, thread, *endpoint,
+        )),
         Entry::CopyCap {
             source,
             dest,
@@ -167,12 +204,40 @@ fn operate<W: Waiting>(
             rights,
             badge,
         } => *answer = plain_answer(mint_cap(state, core, thread, *source, *dest, *rights, *badge)),
-        Entry::MoveCap { source, dest } => *answer = plain_answer(move_cap(state, core, thread, *source, *dest)),
-        Entry::DeleteCap { place } => *answer = plain_answer(delete_cap(state, core, thread, *place)),
-        Entry::MakeEndpoint { place } => *answer = plain_answer(make(state, core, thread, Kind::Endpoint, *place)),
-        Entry::MakeNotification { place } => *answer = plain_answer(make(state, core, thread, Kind::Notification, *place)),
-        Entry::MakeReply { place } => *answer = plain_answer(make(state, core, thread, Kind::Reply, *place)),
-        Entry::MakeContext { place } => *answer = plain_answer(make(state, core, thread, Kind::Context, *place)),
+        Entry::MoveCap { source, dest } => *answer = plain_answer(move_cap(
+            state, core, thread, *source, *dest,
+        )),
+        Entry::DeleteCap { place } => *answer = plain_answer(delete_cap(
+            state, core, thread, *place,
+        )),
+        Entry::MakeEndpoint { place } => *answer = plain_answer(make(
+            state,
+            core,
+            thread,
+            Kind::Endpoint,
+            *place,
+        )),
+        Entry::MakeNotification { place } => *answer = plain_answer(make(
+            state,
+            core,
+            thread,
+            Kind::Notification,
+            *place,
+        )),
+        Entry::MakeReply { place } => *answer = plain_answer(make(
+            state,
+            core,
+            thread,
+            Kind::Reply,
+            *place,
+        )),
+        Entry::MakeContext { place } => *answer = plain_answer(make(
+            state,
+            core,
+            thread,
+            Kind::Context,
+            *place,
+        )),
     }
 }
 
@@ -257,7 +322,14 @@ impl<L: Lines> Kernel<L> {
         step.entry.is_in_range();
         self.state.is_sound();
         let mut answer = Answer::Done;
-        operate(&mut self.state, step.core, step.thread, &step.entry, long, &mut answer);
+        operate(
+            &mut self.state,
+            step.core,
+            step.thread,
+            &step.entry,
+            long,
+            &mut answer,
+        );
         self.state.is_sound();
         self.state.close(step, &answer);
         Ok(answer)

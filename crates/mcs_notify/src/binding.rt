@@ -73,7 +73,12 @@ pub fn bind<W: Waiting>(
 
 /// UnbindNtfn: no notification is bound to the thread from now on. The refusals are 1 to 3 of the lookup, 4 for a
 /// capability of another kind, and 10 where none is bound; they change nothing (manual: Notifications).
-pub fn unbind<W: Waiting>(state: &mut State<W>, core: CoreId, thread: ObjId, holder: u64) -> Result<(), Refusal>
+pub fn unbind<W: Waiting>(
+    state: &mut State<W>,
+    core: CoreId,
+    thread: ObjId,
+    holder: u64,
+) -> Result<(), Refusal>
     requires entering { IsEntering (so_far state.old) thread }
     requires room { Fits state.old core thread (Entry.UnbindNtfn holder) }
     ensures { Does state.old core thread (Entry.UnbindNtfn holder) (plain_answer result) state.new }

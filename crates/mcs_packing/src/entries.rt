@@ -147,6 +147,8 @@ impl Arena {
 
     /// Packs an entry, for which there is room, into `into`: a table, a row for each entry. Its message or its badge may stand
     /// at a place already. What was packed before stands for what it stood for.
+    // a part of its caller: so the entry is packed where it stays, and no place for it is handed on
+    #[inline(always)]
     pub fn pack_entry(&mut self, entry: &Entry, place: u32, into: &mut PackedEntry)
         requires { HasMessageRoom self.old 1 }
         ensures value { entry_of into.new self.new.words.items ≡ entry.now }
