@@ -1,5 +1,5 @@
 -- What is added to an arena leaves earlier heads as they were.
-use Rattle.std.proofs.Common.{◌≡◌, ℕ, zero, suc, Some, None, slice_get, ◌<◌, ◌+◌, List, [], ◌∷◌, ◌++◌, length, refl, ap, arith, length-append}
+use Rattle.std.proofs.Common.{◌≡◌, ℕ, zero, suc, Some, None, slice_get, ◌+◌, List, [], ◌∷◌, ◌++◌, length, refl, ap, arith, length-append}
 use Rattle.mcs_packing.specs.declared.heads.Head.{Head}
 use Rattle.mcs_packing.specs.declared.entries.PackedEntry.{PackedEntry}
 use Rattle.mcs_packing.specs.declared.entries.PackedEntry.TheVariants.{Sends, ReplyRecv, NbSendRecv, NbSendWait, Pair, Address, AtPlace, SetPriority, CopyCap, MintCap, MoveCap}
