@@ -89,7 +89,8 @@ pub fn cancel_badged<W: Waiting>(
 ) -> Result<(), Refusal>
     requires entering { IsEntering (so_far state.old) thread }
     requires room { Fits state.old core thread (Entry.CancelBadged address) }
-    ensures { Does state.old core thread (Entry.CancelBadged address) (plain_answer result) state.new }
+    ensures { Does state.old core thread (Entry.CancelBadged address)
+        (plain_answer result) state.new }
 {
     let cap = badged_endpoint(state, thread, address)?;
     wake(state, thread);

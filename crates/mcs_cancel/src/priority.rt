@@ -23,7 +23,8 @@ pub fn set_priority<W: Waiting>(
 ) -> Result<(), Refusal>
     requires entering { IsEntering (so_far state.old) thread }
     requires room { Fits state.old core thread (SetPriority holder authority priority) }
-    ensures { Does state.old core thread (SetPriority holder authority priority) (plain_answer result) state.new }
+    ensures { Does state.old core thread (SetPriority holder authority priority)
+        (plain_answer result) state.new }
 {
     let holder = thread_to_set(state, thread, holder, authority, priority)?;
     let change = Change::Sets {

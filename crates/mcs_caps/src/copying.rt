@@ -53,7 +53,8 @@ pub fn copy_cap<W: Waiting>(
 ) -> Result<(), Refusal>
     requires entering { IsEntering (so_far state.old) thread }
     requires room { Fits state.old core thread (Entry.CopyCap source dest rights) }
-    ensures { Does state.old core thread (Entry.CopyCap source dest rights) (plain_answer result) state.new }
+    ensures { Does state.old core thread (Entry.CopyCap source dest rights)
+        (plain_answer result) state.new }
 {
     let at = find_places(state, thread, source, dest)?;
     fill(state, thread, &at, with_mask(&at.cap, rights));
@@ -92,7 +93,8 @@ pub fn move_cap<W: Waiting>(
 ) -> Result<(), Refusal>
     requires entering { IsEntering (so_far state.old) thread }
     requires room { Fits state.old core thread (Entry.MoveCap source dest) }
-    ensures { Does state.old core thread (Entry.MoveCap source dest) (plain_answer result) state.new }
+    ensures { Does state.old core thread (Entry.MoveCap source dest)
+        (plain_answer result) state.new }
 {
     let at = find_places(state, thread, source, dest)?;
     shift(state, thread, &at);

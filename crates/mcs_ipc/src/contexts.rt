@@ -76,7 +76,8 @@ pub fn bind_context<W: Waiting>(
 ) -> Result<(), Refusal>
     requires entering { IsEntering (so_far state.old) thread }
     requires room { Fits state.old core thread (Entry.BindCtx context object) }
-    ensures { Does state.old core thread (Entry.BindCtx context object) (plain_answer result) state.new }
+    ensures { Does state.old core thread (Entry.BindCtx context object)
+        (plain_answer result) state.new }
 {
     state.is_sound();
     let change = find_change(state, thread, context, object)?;

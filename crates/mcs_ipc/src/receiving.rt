@@ -115,7 +115,8 @@ fn hear_or_take<W: Waiting>(
 )
     requires ready { IsReady (so_far state.old) thread at.endpoint at.reply }
     requires room { FitsAct (receive_message thread at.endpoint at.reply blocks) state.old }
-    ensures { Acts (receive_message thread at.endpoint at.reply blocks) state.old answer.new state.new }
+    ensures { Acts (receive_message thread at.endpoint at.reply blocks) state.old answer.new
+        state.new }
 {
     state.is_sound();
     match take_bound(state, thread) {

@@ -177,8 +177,8 @@ pub fn send<W: Waiting>(
     requires waiting { OnlyBoundWait (so_far state.old) }
     requires few { length state.old.book.lines < BOOK_LINES }
     requires room { Fits state.old core thread (send_entry blocks address message) }
-    ensures { Does state.old core thread (send_entry blocks address message.entry) (send_answer result)
-        state.new }
+    ensures { Does state.old core thread (send_entry blocks address message.entry)
+        (send_answer result) state.new }
 {
     state.is_sound();
     let target = target_to_send(state, thread, address)?;

@@ -63,7 +63,8 @@ pub fn bind<W: Waiting>(
 ) -> Result<(), Refusal>
     requires entering { IsEntering (so_far state.old) thread }
     requires room { Fits state.old core thread (Entry.BindNtfn holder notification) }
-    ensures { Does state.old core thread (Entry.BindNtfn holder notification) (plain_answer result) state.new }
+    ensures { Does state.old core thread (Entry.BindNtfn holder notification)
+        (plain_answer result) state.new }
 {
     state.is_sound();
     let change = tie_to_make(state, thread, holder, notification)?;

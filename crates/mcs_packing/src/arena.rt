@@ -7,8 +7,8 @@ use mcs_types::{Badge, INLINE_WORDS, Message, OutOfMemory, Rec, copy_rows, empti
 use std::alloc::Global;
 
 /// The words that packed records, entries and answers name by their places, and the records that fit no packed form. A
-/// message stands as its label and its words, and a badge behind them where one is kept with it. Both lists only grow. `spare` is how many words the long messages of
-/// records may still take beyond six each.
+/// message stands as its label and its words, and a badge behind them where one is kept with it. Both lists only grow. `spare` is
+/// how many words the long messages of records may still take beyond six each.
 #[derive(Drop)]
 pub struct Arena {
     pub words: Vec<u64>,
@@ -177,8 +177,8 @@ impl Arena {
         })
     }
 
-    /// Keeps the message of a record, and answers where. None, and nothing changes, where the message is long and the spare words are
-    /// used up.
+    /// Keeps the message of a record, and answers where. None, and nothing changes, where the message is long and the spare words
+    /// are used up.
     pub(crate) fn keep(&mut self, message: &Message) -> Option<u32>
         requires { HasRoom self.old 1 }
         ensures value { IfSome result (λ at. HoldsAt self.new.words.items at message.now) }
