@@ -9,8 +9,8 @@ use crate::fault::SimFault;
 use mcs_book::{Book, Line};
 use mcs_packing::KeptRecord;
 use mcs_trace::{
-    LINE, Sink, put_boot_line, put_cores, put_kept_answer, put_kept_record, put_kept_step,
-    put_spelled,
+    LINE, ReadStep, Sink, put_boot_line, put_cores, put_kept_answer, put_kept_step,
+    put_read_record, put_spelled,
 };
 use mcs_types::BootLine;
 use std::io::Write;
@@ -32,9 +32,15 @@ fn count_sent(sent: u128, fact: &KeptRecord<'_>) -> u128
     if fact.is_sent() { sent + 1 } else { sent }
 }
 
-/// Writes the records of a line before which so many messages were sent, and answers how many were sent with them.
+/// Writes the records of a line before which so many messages were sent, and answers how many were sent with them. The text of a
+/// message is copied where its step was read.
 #[inline(always)]
-fn put_records<W: Write>(sink: &mut Sink<W>, sent: u128, line: &Line<'_>) -> u128
+fn put_records<W: Write>(
+    sink: &mut Sink<W>,
+    sent: u128,
+    line: &Line<'_>,
+    read: Option<&ReadStep<'_>>,
+) -> u128
     requires { sent + 2 ^ 64 < 2 ^ 128 }
     ensures puts { Puts W.contents sink.old sink.new (records_trace sent line.now.records) }
     ensures sent { result ≡ sent_after sent line.now.records }
@@ -44,7 +50,7 @@ fn put_records<W: Write>(sink: &mut Sink<W>, sent: u128, line: &Line<'_>) -> u12
     for i in 0..line.record_count() {
         match line.kept_record(i) {
             Some(fact) => {
-                put_kept_record(sink, count, &fact);
+                put_read_record(sink, count, &fact, read);
                 count = count_sent(count, &fact);
             }
             None => unreachable!(),
@@ -63,7 +69,7 @@ fn put_book_line<W: Write>(sink: &mut Sink<W>, sent: u128, line: &Line<'_>) -> u
 {
     put_kept_step(sink, &line.kept_step());
     put_kept_answer(sink, &line.kept_answer());
-    put_records(sink, sent, line)
+    put_records(sink, sent, line, None)
 }
 
 /// Writes a line before which so many messages were sent, and whose step was read of this text, as `put_book_line` does.
@@ -78,7 +84,11 @@ fn put_read_line<W: Write>(sink: &mut Sink<W>, sent: u128, line: &Line<'_>, text
 {
     put_spelled(sink, text);
     put_kept_answer(sink, &line.kept_answer());
-    put_records(sink, sent, line)
+    let read = ReadStep {
+        step: line.kept_step(),
+        line: text,
+    };
+    put_records(sink, sent, line, Some(&read))
 }
 
 /// How much of a book's trace was told: so many of its lines, with that of the boot, and so many messages sent with them.

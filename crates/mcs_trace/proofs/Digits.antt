@@ -1,10 +1,11 @@
 -- The text of a number, digit by digit.
-use Rattle.std.proofs.Common.{◌≡◌, ℕ, zero, suc, ◌+◌, ◌-◌, ◌*◌, ◌/◌, ◌%◌, ◌<◌, ◌≤◌, [], ◌∷◌, take, drop, Bool, true, ◌&&◌, T, eqb, get_or, ◌++◌, append_assoc, ◌^◌, refl, eq-zero-or-pos, eqb→eq, inl, inr, arith}
+use Rattle.std.proofs.Common.{◌≡◌, ℕ, zero, suc, ◌+◌, ◌-◌, ◌*◌, ◌/◌, ◌%◌, ◌<◌, ◌≤◌, [], ◌∷◌, take, drop, Bool, true, ◌&&◌, T, eqb, get_or, ◌++◌, append_assoc, ◌^◌, refl, eq-zero-or-pos, eqb→eq, inl, inr, arith, length, sym, ap, ◌∙◌}
 use lib.Ieee.Fits.{and_l, and_r}
 use Rattle.std.specs.Fmt.{decimal}
 use Rattle.std.specs.Int.{w32, to_le_bytes}
 use Rattle.itoa.proofs.Decimal.{decimal_four, decimal_two, decimal_pair}
 use Rattle.std.proofs.lemmas.Fmt.{decimal_digit}
+use Rattle.std.proofs.lemmas.List.{length-drop}
 use Rattle.std.proofs.lemmas.Bool.{cases_lt}
 use Rattle.mcs_trace.specs.declared.numbers.TheConstants.{PAIRS}
 use Rattle.mcs_text.specs.Spelling.{four, eight}
@@ -66,3 +67,21 @@ decimal-last n count small one two three more =
         ]
       ]
     ]
+
+-- how many digits a number below 10,000 has
+pub decimal-length : (n count : ℕ) → n < 10000 → (n < 10 → count ≡ 1) → (10 ≤ n → n < 100 → count ≡ 2) → (100 ≤ n → n < 1000 → count ≡ 3) → (1000 ≤ n → count ≡ 4)
+    → count ≡ length (decimal n)
+decimal-length n count small one two three more =
+    let last = decimal-last n count small one two three more in
+    let long : length (drop (4 - count) (four n)) ≡ 4 - (4 - count) = length-drop (4 - count) (four n) in
+    let few : count ≤ 4 = elim (cases_lt n 10) [
+      | inl a ↦ omega (arith, one a)
+      | inr a ↦ elim (cases_lt n 100) [
+        | inl b ↦ omega (arith, two a b)
+        | inr b ↦ elim (cases_lt n 1000) [
+          | inl c ↦ omega (arith, three b c)
+          | inr c ↦ omega (arith, more c)
+        ]
+      ]
+    ] in
+    omega (arith, sym long ∙ ap length last)

@@ -1,3 +1,4 @@
+pub mod Behind
 pub mod Digits
 pub mod Lines
 pub mod Outputs

@@ -1,7 +1,8 @@
 //! The lines of answers and records: each form once. The room that they ask for is that of any line. They are inlined where the
 //! trace is written: so a replay of messages takes two to three in a hundred fewer instructions.
-ghost use Rattle.std.specs.Prelude.{◌≡◌, ◌≤◌, ◌+◌, ◌∷◌, ◌++◌, [], length};
+ghost use Rattle.std.specs.Prelude.{◌≡◌, ◌≤◌, ◌+◌, ◌∷◌, ◌++◌, [], IfSome, length};
 ghost use Rattle.mcs_trace.specs.Room.{Adds, HasRoom};
+ghost use Rattle.mcs_trace.specs.Reading.{IsMessageText};
 ghost use Rattle.mcs_text.specs.Spelling.{then_text, token_text};
 ghost use Rattle.mcs_text.specs.Table.{form, how_key, end_key, joins_form, refusal_number, form_text, fact_text, record_text};
 
@@ -188,8 +189,10 @@ impl Line {
         badge: u64,
         label: u64,
         words: &[u64],
+        text: Option<&[u8]>,
     )
         requires few { length words.now ≤ MESSAGE_WORDS }
+        requires text { IfSome text (λ t. IsMessageText t.now label words.now) }
         requires room { HasRoom self.old LINE }
         ensures { self.new ≡ self.old ++ form_text (form (Token.Key Key.Sent)
             (Token.Message sent ∷ Token.Name between.0 ∷ Token.Name between.1 ∷ how_key mode ∷ [])
@@ -201,15 +204,23 @@ impl Line {
         self.spaced_name(between.1);
         self.how(mode);
         self.spaced(badge);
-        self.message(label, words);
+        self.message_or_text(label, words, text);
         self.byte(b'\n');
     }
 
     /// The record of an answer to a caller.
     #[inline(always)]
     #[tactic(auto, unfolding(mcs_text::specs::Spelling::line_text))]
-    pub fn paid(&mut self, reply: ObjId, caller: ObjId, label: u64, words: &[u64])
+    pub fn paid(
+        &mut self,
+        reply: ObjId,
+        caller: ObjId,
+        label: u64,
+        words: &[u64],
+        text: Option<&[u8]>,
+    )
         requires few { length words.now ≤ MESSAGE_WORDS }
+        requires text { IfSome text (λ t. IsMessageText t.now label words.now) }
         requires room { HasRoom self.old LINE }
         ensures { self.new ≡ self.old ++ form_text (form (Token.Key Key.Paid)
             (Token.Name reply ∷ Token.Name caller ∷ []) (label ∷ words.now)) }
@@ -217,7 +228,7 @@ impl Line {
         self.key(Key::Paid);
         self.spaced_name(reply);
         self.spaced_name(caller);
-        self.message(label, words);
+        self.message_or_text(label, words, text);
         self.byte(b'\n');
     }
 

@@ -9,6 +9,7 @@ mod facts;
 mod line;
 mod numbers;
 mod put;
+mod reading;
 mod records;
 mod rooms;
 mod sink;
@@ -18,8 +19,10 @@ mod words;
 
 pub use line::Line;
 pub use put::{
-    put_boot_line, put_cores, put_kept_answer, put_kept_record, put_kept_step, put_spelled,
+    put_boot_line, put_cores, put_kept_answer, put_kept_record, put_kept_step, put_read_record,
+    put_spelled,
 };
+pub use reading::ReadStep;
 pub use rooms::LINE;
 pub use sink::{Sink, WriteFault};
 pub use spelling::{spell, spell_answer, spell_record, spell_step};

@@ -9,14 +9,14 @@ use std::simd::Simd;
 /// How many bytes a line under construction holds at most.
 pub const SIZE: usize = 65_536;
 
-/// How many bytes are moved at once.
-const PART: usize = 8;
+/// How many bytes of a long text are moved at once.
+const PART: usize = 16;
 
 /// Text that is put together at the front of a buffer. Clauses see the text alone, as a list of its bytes.
 #[derive(Drop)]
 pub struct Line {
-    end: usize,
-    bytes: [u8; SIZE],
+    pub(crate) end: usize,
+    pub(crate) bytes: [u8; SIZE],
 }
 
 impl Model for Line {
@@ -76,37 +76,71 @@ impl Line {
         self.end = end + 1;
     }
 
-    /// Eight bytes of a text from a position on, stored behind the first so many of a buffer.
+    /// So many bytes of a text from a position on, stored behind the first so many of a buffer.
     // of the buffer alone: so the end is stored once, and not with each part
     #[inline(always)]
-    fn part(buffer: &mut [u8], front: usize, text: &[u8], at: usize)
-        requires room { front + PART ≤ length buffer.old }
-        requires within { at + PART ≤ length text.now }
-        ensures { take (front + PART) buffer.new
-            ≡ take front buffer.old ++ take PART (drop at text.now) }
+    fn part<const N: usize>(buffer: &mut [u8], front: usize, text: &[u8], at: usize)
+        requires room { front + N ≤ length buffer.old }
+        requires within { at + N ≤ length text.now }
+        ensures { take (front + N) buffer.new
+            ≡ take front buffer.old ++ take N (drop at text.now) }
     {
-        Simd::<u8, PART>::from_slice(&text[at..]).copy_to_slice(&mut buffer[front..]);
+        Simd::<u8, N>::from_slice(&text[at..]).copy_to_slice(&mut buffer[front..]);
     }
 
-    /// Bytes. They are moved eight at a time, and the last eight whichever of them stand there already.
+    /// Bytes, N to twice as many: the first N, and the last N whichever of them stand there already.
+    #[inline(always)]
+    fn ends<const N: usize>(&mut self, bytes: &[u8])
+        requires least { N ≤ length bytes.now }
+        requires most { length bytes.now ≤ N + N }
+        requires room { HasRoom self.old (length bytes.now) }
+        ensures { Adds self.old self.new (length bytes.now) bytes.now }
+    {
+        let front = self.end;
+        let last = bytes.len() - N;
+        Line::part::<N>(&mut self.bytes, front, bytes, 0);
+        Line::part::<N>(&mut self.bytes, front + last, bytes, last);
+        self.end = front + bytes.len();
+    }
+
+    /// Bytes. They are moved 4, 8 or 16 at a time, and the last so many whichever of them stand there already.
     // a copy of a length that is not known would go byte by byte
     #[inline(always)]
     pub fn bytes(&mut self, bytes: &[u8])
         requires { HasRoom self.old (length bytes.now) }
         ensures { Adds self.old self.new (length bytes.now) bytes.now }
     {
-        if bytes.len() < PART {
-            self.few_bytes(bytes);
-            return;
+        let count = bytes.len();
+        if count < 4 {
+            return self.few_bytes(bytes);
         }
+        if count <= 8 {
+            return self.ends::<4>(bytes);
+        }
+        if count <= 16 {
+            return self.ends::<8>(bytes);
+        }
+        if count <= 32 {
+            return self.ends::<16>(bytes);
+        }
+        self.many_bytes(bytes);
+    }
+
+    /// Bytes, more than 32.
+    #[inline(always)]
+    fn many_bytes(&mut self, bytes: &[u8])
+        requires many { PART ≤ length bytes.now }
+        requires room { HasRoom self.old (length bytes.now) }
+        ensures { Adds self.old self.new (length bytes.now) bytes.now }
+    {
         let front = self.end;
         let last = bytes.len() - PART;
         let mut at = 0;
         while at < last {
-            Line::part(&mut self.bytes, front + at, bytes, at);
+            Line::part::<PART>(&mut self.bytes, front + at, bytes, at);
             at += PART;
         }
-        Line::part(&mut self.bytes, front + last, bytes, last);
+        Line::part::<PART>(&mut self.bytes, front + last, bytes, last);
         self.end = front + bytes.len();
     }
 
@@ -119,18 +153,6 @@ impl Line {
     {
         self.bytes(line);
         self.byte(b'\n');
-    }
-
-    /// The first so many of four bytes. All four are stored, so nothing branches on how many they are.
-    #[inline(always)]
-    pub fn first_of(&mut self, bytes: [u8; 4], count: usize)
-        requires few { count ≤ 4 }
-        requires room { HasRoom self.old 4 }
-        ensures { Adds self.old self.new 4 (take count bytes) }
-    {
-        let at = self.end;
-        self.bytes[at..at + 4].copy_from_slice(&bytes);
-        self.end = at + count;
     }
 
     /// A few bytes, one after the other: where they are known they are stored together, and no call compares where they stand.

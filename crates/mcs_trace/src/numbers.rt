@@ -1,7 +1,8 @@
 //! Numbers on a line.
-ghost use Rattle.std.specs.Prelude.{◌≡◌, ◌<◌, ◌≤◌, ◌+◌, ◌-◌, ◌*◌, ◌/◌, ◌%◌, ◌∷◌, [], ◌++◌, length, take, drop, decimal};
+ghost use Rattle.std.specs.Prelude.{◌≡◌, ◌<◌, ◌≤◌, ◌+◌, ◌-◌, ◌*◌, ◌/◌, ◌%◌, ◌∷◌, [], ◌++◌, IfSome, length, take, drop, decimal};
 ghost use Rattle.std.specs.List.{flat_map};
 ghost use Rattle.mcs_trace.specs.Room.{Adds, HasRoom};
+ghost use Rattle.mcs_trace.specs.Reading.{IsMessageText, message_text};
 ghost use Rattle.mcs_text.specs.Spelling.{pair, four, eight, then_text};
 
 use crate::line::Line;
@@ -65,6 +66,142 @@ fn last_digits(high: u64, low: u64, count: usize) -> [u8; 4]
     (digits >> shift).to_le_bytes()
 }
 
+/// How many digits a number of five or more has.
+#[cold]
+#[inline(never)]
+fn long_length(n: u64) -> usize
+    ensures value { result ≡ length (decimal n) }
+    ensures few { result ≤ NUMBER }
+{
+    let mut digits = Buffer::new();
+    digits.format(n).len()
+}
+
+/// How many digits a number has.
+#[inline(always)]
+pub fn number_length(n: u64) -> usize
+    ensures value { result ≡ length (decimal n) }
+    ensures few { result ≤ NUMBER }
+{
+    if n < 10_000 {
+        digit_count(n)
+    } else {
+        long_length(n)
+    }
+}
+
+/// Two digits of a number below 100, also where the first is 0. Answers where what follows them stands.
+#[inline(always)]
+fn put_pair(buffer: &mut [u8], at: usize, n: u64) -> usize
+    requires small { n < 100 }
+    requires room { at + 2 ≤ length buffer.old }
+    ensures text { take result buffer.new ≡ take at buffer.old ++ pair n }
+    ensures end { result ≡ at + 2 }
+{
+    buffer[at] = tens(n);
+    buffer[at + 1] = ones(n);
+    at + 2
+}
+
+/// The four digits of a number below 10,000, also where the first are 0.
+#[inline(always)]
+fn put_four(buffer: &mut [u8], at: usize, n: u64) -> usize
+    requires small { n < 10000 }
+    requires room { at + 4 ≤ length buffer.old }
+    ensures text { take result buffer.new ≡ take at buffer.old ++ four n }
+    ensures end { result ≡ at + 4 }
+{
+    let at = put_pair(buffer, at, n / 100);
+    put_pair(buffer, at, n % 100)
+}
+
+/// The eight digits of a number below 100,000,000, also where the first are 0.
+fn put_eight(buffer: &mut [u8], at: usize, n: u64) -> usize
+    requires small { n < 100000000 }
+    requires room { at + 8 ≤ length buffer.old }
+    ensures text { take result buffer.new ≡ take at buffer.old ++ eight n }
+    ensures end { result ≡ at + 8 }
+{
+    let at = put_four(buffer, at, n / 10_000);
+    put_four(buffer, at, n % 10_000)
+}
+
+/// The first so many of four bytes. All four are stored, so nothing branches on how many they are.
+#[inline(always)]
+fn put_first_of(buffer: &mut [u8], at: usize, bytes: [u8; 4], count: usize) -> usize
+    requires few { count ≤ 4 }
+    requires room { at + 4 ≤ length buffer.old }
+    ensures text { take result buffer.new ≡ take at buffer.old ++ take count bytes }
+    ensures end { result ≡ at + count }
+{
+    buffer[at..at + 4].copy_from_slice(&bytes);
+    at + count
+}
+
+/// A number below 10,000. Its four digits are stored together, and moved to the front by those that are 0, so no branch depends
+/// on how many there are.
+#[inline(always)]
+fn put_short(buffer: &mut [u8], at: usize, n: u64) -> usize
+    requires small { n < 10000 }
+    requires room { at + 4 ≤ length buffer.old }
+    ensures text { take result buffer.new ≡ take at buffer.old ++ decimal n }
+    ensures end { result ≤ at + 4 }
+{
+    let count = digit_count(n);
+    put_first_of(buffer, at, last_digits(n / 100, n % 100, count), count)
+}
+
+/// A number below 100,000,000.
+#[inline(always)]
+fn put_middle(buffer: &mut [u8], at: usize, n: u64) -> usize
+    requires small { n < 100000000 }
+    requires room { at + 8 ≤ length buffer.old }
+    ensures text { take result buffer.new ≡ take at buffer.old ++ decimal n }
+    ensures end { result ≤ at + 8 }
+{
+    if n < 10_000 {
+        return put_short(buffer, at, n);
+    }
+    let at = put_short(buffer, at, n / 10_000);
+    put_four(buffer, at, n % 10_000)
+}
+
+/// A number of nine digits or more. It is never a part of `put_long`, which saves no registers for it so.
+#[inline(never)]
+fn put_huge(buffer: &mut [u8], at: usize, n: u64) -> usize
+    requires large { 100000000 ≤ n }
+    requires room { at + NUMBER ≤ length buffer.old }
+    ensures text { take result buffer.new ≡ take at buffer.old ++ decimal n }
+    ensures end { result ≤ at + NUMBER }
+{
+    if n < 10_000_000_000_000_000 {
+        let at = put_middle(buffer, at, n / 100_000_000);
+        return put_eight(buffer, at, n % 100_000_000);
+    }
+    let high = n / 100_000_000;
+    let at = put_short(buffer, at, high / 100_000_000);
+    let at = put_eight(buffer, at, high % 100_000_000);
+    put_eight(buffer, at, n % 100_000_000)
+}
+
+/// A number of 10 or more. It is a function of its own, as most numbers of a trace have one digit; where it ends is answered in a
+/// register, so that nobody reads it back from the line.
+#[inline(never)]
+fn put_long(buffer: &mut [u8], at: usize, n: u64) -> usize
+    requires large { 10 ≤ n }
+    requires room { at + NUMBER ≤ length buffer.old }
+    ensures text { take result buffer.new ≡ take at buffer.old ++ decimal n }
+    ensures end { result ≤ at + NUMBER }
+{
+    if n < 10_000 {
+        put_short(buffer, at, n)
+    } else if n < 100_000_000 {
+        put_middle(buffer, at, n)
+    } else {
+        put_huge(buffer, at, n)
+    }
+}
+
 impl Line {
     /// A digit.
     #[inline(always)]
@@ -77,96 +214,14 @@ impl Line {
         self.byte(b'0' + n as u8);
     }
 
-    /// The two digits of a number below 100, also where the first is 0.
+    /// A number of 10 or more.
     #[inline(always)]
-    fn pair(&mut self, n: u64)
-        requires small { n < 100 }
-        requires room { HasRoom self.old 2 }
-        ensures { Adds self.old self.new 2 (pair n) }
-    {
-        self.byte(tens(n));
-        self.byte(ones(n));
-    }
-
-    /// The four digits of a number below 10,000, also where the first are 0.
-    #[inline(always)]
-    fn four(&mut self, n: u64)
-        requires small { n < 10000 }
-        requires room { HasRoom self.old 4 }
-        ensures { Adds self.old self.new 4 (four n) }
-    {
-        self.pair(n / 100);
-        self.pair(n % 100);
-    }
-
-    /// The eight digits of a number below 100,000,000, also where the first are 0.
-    fn eight(&mut self, n: u64)
-        requires small { n < 100000000 }
-        requires room { HasRoom self.old 8 }
-        ensures { Adds self.old self.new 8 (eight n) }
-    {
-        self.four(n / 10_000);
-        self.four(n % 10_000);
-    }
-
-    /// A number below 10,000. Its four digits are stored together, and moved to the front by those that are 0, so no branch depends
-    /// on how many there are.
-    #[inline(always)]
-    fn short(&mut self, n: u64)
-        requires small { n < 10000 }
-        requires room { HasRoom self.old 4 }
-        ensures { Adds self.old self.new 4 (decimal n) }
-    {
-        let count = digit_count(n);
-        self.first_of(last_digits(n / 100, n % 100, count), count);
-    }
-
-    /// A number below 100,000,000.
-    #[inline(always)]
-    fn middle(&mut self, n: u64)
-        requires small { n < 100000000 }
-        requires room { HasRoom self.old 8 }
-        ensures { Adds self.old self.new 8 (decimal n) }
-    {
-        if n < 10_000 {
-            self.short(n);
-            return;
-        }
-        self.short(n / 10_000);
-        self.four(n % 10_000);
-    }
-
-    /// A number of nine digits or more. It is never a part of `long`, which saves no registers for it so.
-    #[inline(never)]
-    fn huge(&mut self, n: u64)
-        requires large { 100000000 ≤ n }
+    fn long(&mut self, n: u64)
+        requires large { 10 ≤ n }
         requires room { HasRoom self.old NUMBER }
         ensures { Adds self.old self.new NUMBER (decimal n) }
     {
-        if n < 10_000_000_000_000_000 {
-            self.middle(n / 100_000_000);
-            self.eight(n % 100_000_000);
-            return;
-        }
-        let high = n / 100_000_000;
-        self.short(high / 100_000_000);
-        self.eight(high % 100_000_000);
-        self.eight(n % 100_000_000);
-    }
-
-    /// A number of 10 or more. It is a function of its own, as most numbers of a trace have one digit.
-    #[inline(never)]
-    fn long(&mut self, n: u64)
-        requires { HasRoom self.old NUMBER }
-        ensures { Adds self.old self.new NUMBER (decimal n) }
-    {
-        if n < 10_000 {
-            self.short(n);
-        } else if n < 100_000_000 {
-            self.middle(n);
-        } else {
-            self.huge(n);
-        }
+        self.end = put_long(&mut self.bytes, self.end, n);
     }
 
     /// A number.
@@ -237,5 +292,19 @@ impl Line {
     {
         self.spaced(label);
         self.numbers(words);
+    }
+
+    /// The same, copied where its text is known.
+    #[inline(always)]
+    pub fn message_or_text(&mut self, label: u64, words: &[u64], text: Option<&[u8]>)
+        requires few { length words.now ≤ MESSAGE_WORDS }
+        requires text { IfSome text (λ t. IsMessageText t.now label words.now) }
+        requires room { HasRoom self.old MESSAGE }
+        ensures { Adds self.old self.new MESSAGE (message_text label words.now) }
+    {
+        match text {
+            Some(text) => self.bytes(text),
+            None => self.message(label, words),
+        }
     }
 }

@@ -3,6 +3,7 @@ ghost use Rattle.std.specs.Prelude.{◌≡◌, ◌<◌, ◌∷◌, [], ◌++◌,
 ghost use Rattle.mcs_text.specs.Table.{cores_text, boot_text, step_text, answer_text, record_text};
 ghost use Rattle.mcs_trace.specs.Output.{Puts};
 
+use crate::reading::ReadStep;
 use crate::records::{write_kept, write_kept_answer};
 use crate::rooms::LINE;
 use crate::sink::Sink;
@@ -57,6 +58,8 @@ pub fn put_spelled<W: Write>(sink: &mut Sink<W>, line: &[u8])
 
 /// Writes the line of an answer.
 #[tactic(auto, using(crate::proofs::Outputs::puts_line_then))]
+// a part of its caller, as most answers are one word, and the end of the line need not be read back
+#[inline(always)]
 pub fn put_kept_answer<W: Write>(sink: &mut Sink<W>, answer: &KeptAnswer<'_>)
     ensures { Puts W.contents sink.old sink.new (answer_text answer.now) }
 {
@@ -64,12 +67,33 @@ pub fn put_kept_answer<W: Write>(sink: &mut Sink<W>, answer: &KeptAnswer<'_>)
     write_kept_answer(&mut sink.line, answer.answer, answer.words);
 }
 
-/// Writes the line of a record, before which so many messages were sent.
+/// Writes the line of a record, before which so many messages were sent. Where it has the message of this step, whose line was read,
+/// the text of that is copied.
 #[tactic(auto, using(crate::proofs::Outputs::puts_line_then))]
+#[inline(always)]
+pub fn put_read_record<W: Write>(
+    sink: &mut Sink<W>,
+    sent: u128,
+    fact: &KeptRecord<'_>,
+    read: Option<&ReadStep<'_>>,
+)
+    ensures { Puts W.contents sink.old sink.new (record_text sent fact.now) }
+{
+    sink.make_room();
+    write_kept(
+        &mut sink.line,
+        sent,
+        fact.packed,
+        fact.words,
+        fact.wide,
+        read,
+    );
+}
+
+/// Writes the line of a record, of which no text was read.
 #[inline(always)]
 pub fn put_kept_record<W: Write>(sink: &mut Sink<W>, sent: u128, fact: &KeptRecord<'_>)
     ensures { Puts W.contents sink.old sink.new (record_text sent fact.now) }
 {
-    sink.make_room();
-    write_kept(&mut sink.line, sent, fact.packed, fact.words, fact.wide);
+    put_read_record(sink, sent, fact, None);
 }

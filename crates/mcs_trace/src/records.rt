@@ -1,12 +1,14 @@
 //! The lines of records, and of answers, as they are kept.
-ghost use Rattle.std.specs.Prelude.{◌≡◌, ◌≤◌, ◌+◌, ◌++◌, length};
+ghost use Rattle.std.specs.Prelude.{◌≡◌, ◌≤◌, ◌+◌, ◌++◌, IfSome, length};
 ghost use Rattle.mcs_trace.specs.Room.{HasRoom};
+ghost use Rattle.mcs_trace.specs.Reading.{IsMessageText};
 ghost use Rattle.mcs_text.specs.Table.{record_text, answer_text};
 ghost use Rattle.mcs_packing.specs.Packing.{Fits, IsMessageAt, IsOfBond, IsOfDebt, IsOfMessage, IsOfObject, IsOfSlot, IsOfThread, IsOfWord, content_at, record_of, object};
 ghost use Rattle.mcs_packing.specs.Heads.{AnswerFits, answer_of};
 
 use crate::facts::{end_word, number_of};
 use crate::line::Line;
+use crate::reading::ReadStep;
 use crate::rooms::LINE;
 use mcs_packing::{Packed, PackedAnswer, guarded, id_of, plain, queue_of};
 use mcs_text::{Key, Token};
@@ -253,9 +255,28 @@ fn write_word(line: &mut Line, sent: u128, packed: &Packed, words: &[u64], wide:
     }
 }
 
-/// What was sent and paid.
+/// The text of a message, where an equal one was read.
 #[inline(always)]
-fn write_message(line: &mut Line, sent: u128, packed: &Packed, words: &[u64], wide: &[Rec])
+fn text_of<'a>(read: Option<&'a ReadStep<'_>>, label: u64, words: &[u64]) -> Option<&'a [u8]>
+    ensures { IfSome result (λ t. IsMessageText t.now label words.now) }
+{
+    match read {
+        Some(read) => read.message_text(label, words),
+        None => None,
+    }
+}
+
+/// What was sent and paid.
+// out of line, since the text of a message would take registers of who writes the other records
+#[inline(never)]
+fn write_message(
+    line: &mut Line,
+    sent: u128,
+    packed: &Packed,
+    words: &[u64],
+    wide: &[Rec],
+    read: Option<&ReadStep<'_>>,
+)
     requires of { IsOfMessage packed.now }
     requires fits { Fits packed.now words.now wide.now }
     requires room { HasRoom line.old LINE }
@@ -276,7 +297,15 @@ fn write_message(line: &mut Line, sent: u128, packed: &Packed, words: &[u64], wi
             let badge = words[*at as usize + 1 + *len as usize];
             let label = words[*at as usize];
             let rest = words_at(words, *at, *len);
-            line.sent(sent, between, *mode, badge, label, rest)
+            line.sent(
+                sent,
+                between,
+                *mode,
+                badge,
+                label,
+                rest,
+                text_of(read, label, rest),
+            )
         }
         Packed::Paid {
             len,
@@ -286,7 +315,8 @@ fn write_message(line: &mut Line, sent: u128, packed: &Packed, words: &[u64], wi
         } => {
             let (reply, caller) = (id_of(Kind::Reply, *reply), id_of(Kind::Thread, *caller));
             let label = words[*at as usize];
-            line.paid(reply, caller, label, words_at(words, *at, *len))
+            let rest = words_at(words, *at, *len);
+            line.paid(reply, caller, label, rest, text_of(read, label, rest))
         }
         _ => unreachable!(),
     }
@@ -326,6 +356,7 @@ fn write_record(line: &mut Line, sent: u128, fact: &Rec)
                 badge.0,
                 message.label(),
                 message.words(),
+                None,
             )
         }
         Rec::Took { message, thread } => {
@@ -347,7 +378,7 @@ fn write_record(line: &mut Line, sent: u128, fact: &Rec)
             message,
         } => {
             message.is_in_range();
-            line.paid(*reply, *caller, message.label(), message.words())
+            line.paid(*reply, *caller, message.label(), message.words(), None)
         }
         Rec::Void {
             reply,
@@ -381,9 +412,16 @@ fn write_record(line: &mut Line, sent: u128, fact: &Rec)
     }
 }
 
-/// The line of a record where it is kept, before which so many messages were sent.
+/// The line of a record where it is kept, before which so many messages were sent. The text of a message that was read is copied.
 #[inline(always)]
-pub fn write_kept(line: &mut Line, sent: u128, packed: &Packed, words: &[u64], wide: &[Rec])
+pub fn write_kept(
+    line: &mut Line,
+    sent: u128,
+    packed: &Packed,
+    words: &[u64],
+    wide: &[Rec],
+    read: Option<&ReadStep<'_>>,
+)
     requires fits { Fits packed.now words.now wide.now }
     requires room { HasRoom line.old LINE }
     ensures { line.new ≡ line.old ++ record_text sent (record_of packed.now words.now wide.now) }
@@ -416,13 +454,14 @@ pub fn write_kept(line: &mut Line, sent: u128, packed: &Packed, words: &[u64], w
             write_word(line, sent, packed, words, wide)
         }
         Packed::Sent { .. } | Packed::Paid { .. } => {
-            write_message(line, sent, packed, words, wide)
+            write_message(line, sent, packed, words, wide, read)
         }
         Packed::Wide { at } => write_record(line, sent, &wide[*at as usize]),
     }
 }
 
 /// The line of an answer where it is kept.
+#[inline(always)]
 pub fn write_kept_answer(line: &mut Line, answer: &PackedAnswer, words: &[u64])
     requires fits { AnswerFits answer.now words.now }
     requires room { HasRoom line.old LINE }

@@ -42,5 +42,5 @@ pub fn spell_record(line: &mut Line, sent: u128, fact: &KeptRecord<'_>)
     ensures { line.new ≡ record_text sent fact.now }
 {
     line.clear();
-    write_kept(line, sent, fact.packed, fact.words, fact.wide);
+    write_kept(line, sent, fact.packed, fact.words, fact.wide, None);
 }

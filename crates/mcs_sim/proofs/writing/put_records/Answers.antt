@@ -12,7 +12,7 @@ loop-i-preserved g c =
     let within : i < length rs = omega (arith, c.loop-i-test.true, c.record_count-i-end.ensures) in
     let it = get_or-at rs i r (sym c.kept_record.ensures ∙ c.in-Some.is) in
     record {
-      puts = Puts-text _ _ _ _ _ (Puts-then _ _ _ _ _ _ before.puts c.put_kept_record.ensures) (records_trace-next c.args.sent rs i r c.loop-i.count within it before.sent);
+      puts = Puts-text _ _ _ _ _ (Puts-then _ _ _ _ _ _ before.puts c.put_read_record.ensures) (records_trace-next c.args.sent rs i r c.loop-i.count within it before.sent);
       sent = c.count_sent-count.ensures ∙ sent_after-next c.args.sent rs i r c.loop-i.count within it before.sent;
       few = omega (arith, before.few, c.count_sent-count.ensures, sent_with-le c.loop-i.count r);
     }

@@ -2,7 +2,7 @@ use Rattle.std.proofs.Common.{◌≡◌, ◌+◌, ◌-◌, ◌++◌, length, tak
 use Rattle.std.proofs.lemmas.List.{take_all}
 use Rattle.mcs_trace.specs.declared.line.TheConstants.{PART}
 use Rattle.mcs_trace.proofs.Parts.{part-behind}
-use Rattle.mcs_trace.proofs.line.Line.bytes.Goals as goal
+use Rattle.mcs_trace.proofs.line.Line.many_bytes.Goals as goal
 
 pub loop-at-preserved : goal.loop-at-preserved
 loop-at-preserved c =

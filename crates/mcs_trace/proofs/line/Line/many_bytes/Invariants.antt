@@ -1,6 +1,6 @@
 use Rattle.std.proofs.Common.{◌≡◌, ◌≤◌, ◌+◌, ◌-◌, ◌++◌, length, take}
 use Rattle.mcs_trace.specs.declared.line.TheConstants.{SIZE}
-use Rattle.mcs_trace.proofs.line.Line.bytes.Given as goal
+use Rattle.mcs_trace.proofs.line.Line.many_bytes.Given as goal
 
 abbrev pub invariant-loop-at : goal.invariant-loop-at
 invariant-loop-at l =

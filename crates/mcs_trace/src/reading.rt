@@ -1,0 +1,154 @@
+//! Lines that were read: where their messages are written again, the text is copied.
+ghost use Rattle.std.specs.Prelude.{◌≡◌, ◌≤◌, ◌∷◌, [], ◌++◌, IfSome, length};
+ghost use Rattle.mcs_types.specs.declared.entry.Entry.{Entry};
+ghost use Rattle.mcs_packing.specs.Entries.{sending};
+ghost use Rattle.mcs_text.specs.Table.{step_by, step_text};
+ghost use Rattle.mcs_text.specs.Keys.{key_text};
+ghost use Rattle.mcs_trace.specs.Reading.{IsMessageText, StandsBehind, front_text, sending_key};
+
+use crate::numbers::number_length;
+use crate::records::words_at;
+use crate::rooms::{FRONT, KEY, MESSAGE};
+use mcs_packing::{KeptStep, PackedEntry, Sending, id_of};
+use mcs_text::{Entrant, Key};
+use std::marker::Model;
+
+/// How many bytes a fixed word has.
+#[inline(always)]
+fn key_length(key: Key) -> usize
+    ensures value { result ≡ length (key_text key) }
+    ensures few { result ≤ KEY }
+{
+    key.text().len()
+}
+
+/// How many bytes stand before the message of an entry: who enters, the word of the entry, and an address.
+#[inline(always)]
+fn front_length(from: Entrant, key: Key, address: u64) -> usize
+    ensures value { result ≡ length (front_text from key address) }
+    ensures few { result ≤ FRONT }
+{
+    let core = number_length(from.core.0 as u64);
+    let thread = number_length(from.thread.serial as u64);
+    core + 2 + thread + 1 + key_length(key) + 1 + number_length(address)
+}
+
+/// The key of an entry that sends a message.
+#[inline(always)]
+fn sending_key(form: Sending) -> Key
+    ensures { result ≡ sending_key form }
+{
+    match form {
+        Sending::Send => Key::Send,
+        Sending::NbSend => Key::NbSend,
+        Sending::Call => Key::Call,
+    }
+}
+
+/// The text of a message, where it is the one whose text stands in a line behind so many bytes.
+#[inline(always)]
+fn text_behind<'a>(
+    line: &'a [u8],
+    front: usize,
+    read: (u64, &[u64]),
+    label: u64,
+    words: &[u64],
+) -> Option<&'a [u8]>
+    requires { StandsBehind line.now front read.0 read.1.now }
+    ensures { IfSome result (λ t. IsMessageText t.now label words.now) }
+{
+    let text = &line[front..];
+    if label == read.0 && words == read.1 && text.len() <= MESSAGE {
+        Some(text)
+    } else {
+        None
+    }
+}
+
+/// The same, of the line of a step that sends what was read.
+#[inline(always)]
+fn sent_text<'a>(
+    line: &'a [u8],
+    from: Entrant,
+    form: Sending,
+    address: u64,
+    read: (u64, &[u64]),
+    label: u64,
+    words: &[u64],
+) -> Option<&'a [u8]>
+    requires { step_text (step_by from (sending form address
+        (record { label = read.0; words = read.1.now }))) ≡ line.now ++ 10 ∷ [] }
+    ensures { IfSome result (λ t. IsMessageText t.now label words.now) }
+{
+    let front = front_length(from, sending_key(form), address);
+    text_behind(line, front, read, label, words)
+}
+
+/// The same, of the line of a step that replies with what was read, and receives.
+#[inline(always)]
+fn replied_text<'a>(
+    line: &'a [u8],
+    from: Entrant,
+    cap: u64,
+    reply: u64,
+    read: (u64, &[u64]),
+    label: u64,
+    words: &[u64],
+) -> Option<&'a [u8]>
+    requires { step_text (step_by from (Entry.ReplyRecv cap reply
+        (record { label = read.0; words = read.1.now }))) ≡ line.now ++ 10 ∷ [] }
+    ensures { IfSome result (λ t. IsMessageText t.now label words.now) }
+{
+    let first = front_length(from, Key::ReplyRecv, cap);
+    let last = number_length(reply);
+    text_behind(line, first + 1 + last, read, label, words)
+}
+
+/// A step that is kept, and its line, of which it was read. Clauses see the step.
+#[derive(Drop)]
+pub struct ReadStep<'a> {
+    pub step: KeptStep<'a>,
+    pub line: &'a [u8],
+}
+
+impl<'a> Model for ReadStep<'a> {
+    ghost use Rattle.std.specs.Prelude.{◌≡◌, ◌∷◌, [], ◌++◌};
+    ghost use Rattle.mcs_types.specs.declared.entry.Step.{Step};
+    ghost use Rattle.mcs_text.specs.Table.{step_text};
+
+    ghost Value = { Step };
+
+    ghost view = { λ r. r.step };
+
+    ghost invariant = { λ r. step_text r.step ≡ r.line.now ++ 10 ∷ [] };
+}
+
+impl<'a> ReadStep<'a> {
+    /// The text of a message, where it is that of the step, and stands behind one address or two. None says nothing.
+    #[inline(always)]
+    pub fn message_text(&self, label: u64, words: &[u64]) -> Option<&[u8]>
+        ensures { IfSome result (λ t. IsMessageText t.now label words.now) }
+    {
+        let from = Entrant {
+            core: self.step.core,
+            thread: id_of(self.step.kind, self.step.serial),
+        };
+        let kept = self.step.words;
+        match self.step.entry {
+            PackedEntry::Sends { form, len, at, cap } => {
+                let read = (kept[*at as usize], words_at(kept, *at, *len));
+                sent_text(self.line, from, *form, *cap, read, label, words)
+            }
+            PackedEntry::ReplyRecv {
+                len,
+                at,
+                cap,
+                reply,
+            } => {
+                let read = (kept[*at as usize], words_at(kept, *at, *len));
+                replied_text(self.line, from, *cap, *reply, read, label, words)
+            }
+            _ => None,
+        }
+    }
+}
