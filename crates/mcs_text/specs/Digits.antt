@@ -1,10 +1,15 @@
 -- Numbers that are read digit by digit.
-use Rattle.std.specs.Prelude.{◌≡◌, ◌≢◌, ◌+◌, ◌<◌, ◌≤◌, ℕ, List, [], length, take, drop, slice_index, Option, Some, None, Result, Ok, Err, nat_lt, true, if◌then◌else◌}
+use Rattle.std.specs.Prelude.{◌≡◌, ◌≢◌, ◌+◌, ◌<◌, ◌≤◌, ◌==◌, ℕ, List, [], length, take, drop, slice_index, Option, Some, None, Result, Ok, Err, nat_lt, true, if◌then◌else◌}
+use Rattle.std.specs.Int.{w64, trailing_zeros}
 use Rattle.mcs_text.specs.Reading.{words_of, all_digits, value}
 use Rattle.mcs_text.specs.declared.fault.LineFault.{LineFault}
 use Rattle.mcs_text.specs.declared.fault.LineFault.TheVariants.{Form}
 use Rattle.mcs_text.specs.declared.words.Spelled.{Spelled}
 use Rattle.mcs_text.specs.declared.words.Spelled.TheVariants as s
+
+-- the place of the lowest bit that is set, or 16
+abbrev pub first_set : ℕ → ℕ
+first_set mask = if mask == 0 then 16 else trailing_zeros w64 mask
 
 -- a text begins with so many digits, and they write this number
 pub record Begins (text : List ℕ) (count n : ℕ) : Type 0 where

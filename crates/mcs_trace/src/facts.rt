@@ -32,16 +32,6 @@ pub fn number_of(refusal: Refusal) -> u64
     }
 }
 
-/// The word for how a debt ended.
-pub fn end_word(ending: Ending) -> Token
-    ensures { result ≡ end_key ending }
-{
-    match ending {
-        Ending::Deleted => Token::Key(Key::Deleted),
-        Ending::Cancelled => Token::Key(Key::Cancelled),
-    }
-}
-
 impl Line {
     /// A line of one word.
     #[inline(always)]
@@ -81,43 +71,103 @@ impl Line {
         self.byte(b'\n');
     }
 
-    /// A record that names one word.
+    /// A record that names one object.
     #[inline(always)]
     #[tactic(auto, unfolding(mcs_text::specs::Spelling::line_text))]
-    pub fn one(&mut self, key: Key, first: Token)
+    pub fn named(&mut self, key: Key, object: ObjId)
         requires { HasRoom self.old LINE }
-        ensures { self.new ≡ self.old ++ fact_text (Token.Key key) (first ∷ []) }
+        ensures { self.new ≡ self.old ++ fact_text (Token.Key key) (Token.Name object ∷ []) }
     {
         self.key(key);
-        self.spaced_word(&first);
+        self.spaced_name(object);
         self.byte(b'\n');
     }
 
-    /// A record that names two words.
+    /// A record that names an object, and another or none.
     #[inline(always)]
     #[tactic(auto, unfolding(mcs_text::specs::Spelling::line_text))]
-    pub fn two(&mut self, key: Key, first: Token, second: Token)
-        requires { HasRoom self.old LINE }
-        ensures { self.new ≡ self.old ++ fact_text (Token.Key key) (first ∷ second ∷ []) }
-    {
-        self.key(key);
-        self.spaced_word(&first);
-        self.spaced_word(&second);
-        self.byte(b'\n');
-    }
-
-    /// How a debt of a reply object begins or ends: it names the reply object, the caller and a word.
-    #[inline(always)]
-    #[tactic(auto, unfolding(mcs_text::specs::Spelling::line_text))]
-    pub fn owing(&mut self, key: Key, reply: ObjId, caller: ObjId, word: Token)
+    pub fn bound(&mut self, key: Key, object: ObjId, other: Option<ObjId>)
         requires { HasRoom self.old LINE }
         ensures { self.new ≡ self.old ++ fact_text (Token.Key key)
-            (Token.Name reply ∷ Token.Name caller ∷ word ∷ []) }
+            (Token.Name object ∷ Token.Maybe other ∷ []) }
     {
         self.key(key);
+        self.spaced_name(object);
+        self.spaced_maybe(other);
+        self.byte(b'\n');
+    }
+
+    /// A record that names a thread and its queue.
+    #[inline(always)]
+    #[tactic(auto, unfolding(mcs_text::specs::Spelling::line_text))]
+    pub fn stands(&mut self, key: Key, thread: ObjId, queue: Queue)
+        requires { HasRoom self.old LINE }
+        ensures { self.new ≡ self.old ++ fact_text (Token.Key key)
+            (Token.Name thread ∷ Token.Line queue ∷ []) }
+    {
+        self.key(key);
+        self.spaced_name(thread);
+        self.spaced_queue(queue);
+        self.byte(b'\n');
+    }
+
+    /// The record of a message that was taken.
+    #[inline(always)]
+    #[tactic(auto, unfolding(mcs_text::specs::Spelling::line_text))]
+    pub fn took(&mut self, message: u32, thread: ObjId)
+        requires { HasRoom self.old LINE }
+        ensures { self.new ≡ self.old ++ fact_text (Token.Key Key.Took)
+            (Token.Message message ∷ Token.Name thread ∷ []) }
+    {
+        self.key(Key::Took);
+        self.spaced_message(message as u128);
+        self.spaced_name(thread);
+        self.byte(b'\n');
+    }
+
+    /// The record of a message that was dropped.
+    #[inline(always)]
+    #[tactic(auto, unfolding(mcs_text::specs::Spelling::line_text))]
+    pub fn dropped(&mut self, message: u32)
+        requires { HasRoom self.old LINE }
+        ensures { self.new ≡ self.old ++ fact_text (Token.Key Key.Dropped)
+            (Token.Message message ∷ []) }
+    {
+        self.key(Key::Dropped);
+        self.spaced_message(message as u128);
+        self.byte(b'\n');
+    }
+
+    /// The record of a caller that is owed an answer, with the context that it brought along, if it brought one.
+    #[inline(always)]
+    #[tactic(auto, unfolding(mcs_text::specs::Spelling::line_text))]
+    pub fn owes(&mut self, reply: ObjId, caller: ObjId, context: Option<ObjId>)
+        requires { HasRoom self.old LINE }
+        ensures { self.new ≡ self.old ++ fact_text (Token.Key Key.Owes)
+            (Token.Name reply ∷ Token.Name caller ∷ Token.Maybe context ∷ []) }
+    {
+        self.key(Key::Owes);
         self.spaced_name(reply);
         self.spaced_name(caller);
-        self.spaced_word(&word);
+        self.spaced_maybe(context);
+        self.byte(b'\n');
+    }
+
+    /// The record of a debt that ended without an answer.
+    #[inline(always)]
+    #[tactic(auto, unfolding(mcs_text::specs::Spelling::line_text))]
+    pub fn void(&mut self, reply: ObjId, caller: ObjId, ending: Ending)
+        requires { HasRoom self.old LINE }
+        ensures { self.new ≡ self.old ++ fact_text (Token.Key Key.Void)
+            (Token.Name reply ∷ Token.Name caller ∷ end_key ending ∷ []) }
+    {
+        self.key(Key::Void);
+        self.spaced_name(reply);
+        self.spaced_name(caller);
+        match ending {
+            Ending::Deleted => self.spaced_key(Key::Deleted),
+            Ending::Cancelled => self.spaced_key(Key::Cancelled),
+        }
         self.byte(b'\n');
     }
 
@@ -131,8 +181,9 @@ impl Line {
     {
         self.key(Key::SlotIs);
         self.spaced_name(cnode);
-        self.spaced_word(&Token::Number(index as u64));
-        self.spaced_word(&Token::Held(cap));
+        self.spaced(index as u64);
+        self.byte(b' ');
+        self.held(&cap);
         self.byte(b'\n');
     }
 
@@ -152,16 +203,19 @@ impl Line {
 
     /// The record of the mode of a thread.
     #[inline(always)]
+    #[tactic(auto, unfolding(mcs_text::specs::Spelling::line_text))]
     pub fn turns(&mut self, thread: ObjId, mode: Mode)
         requires { HasRoom self.old LINE }
         ensures { self.new ≡ self.old ++ record_text 0 (Rec.Turns thread mode) }
     {
-        let name = Token::Name(thread);
+        self.key(Key::Turns);
+        self.spaced_name(thread);
         match mode {
-            Mode::Running => self.two(Key::Turns, name, Token::Key(Key::Running)),
-            Mode::Restart => self.two(Key::Turns, name, Token::Key(Key::Restart)),
-            Mode::Inactive => self.two(Key::Turns, name, Token::Key(Key::Inactive)),
+            Mode::Running => self.spaced_key(Key::Running),
+            Mode::Restart => self.spaced_key(Key::Restart),
+            Mode::Inactive => self.spaced_key(Key::Inactive),
         }
+        self.byte(b'\n');
     }
 
     /// A space, and how a message was sent.
@@ -171,10 +225,10 @@ impl Line {
         ensures { Adds self.old self.new (1 + WORD) (then_text (token_text (how_key mode))) }
     {
         match mode {
-            SendMode::Plain => self.spaced_word(&Token::Key(Key::Send)),
-            SendMode::Call => self.spaced_word(&Token::Key(Key::Call)),
-            SendMode::Mute => self.spaced_word(&Token::Key(Key::Mute)),
-            SendMode::Give => self.spaced_word(&Token::Key(Key::Give)),
+            SendMode::Plain => self.spaced_key(Key::Send),
+            SendMode::Call => self.spaced_key(Key::Call),
+            SendMode::Mute => self.spaced_key(Key::Mute),
+            SendMode::Give => self.spaced_key(Key::Give),
         }
     }
 
@@ -199,7 +253,7 @@ impl Line {
             (badge ∷ label ∷ words.now)) }
     {
         self.key(Key::Sent);
-        self.spaced_word(&Token::Message(sent));
+        self.spaced_message(sent);
         self.spaced_name(between.0);
         self.spaced_name(between.1);
         self.how(mode);
@@ -256,8 +310,8 @@ impl Line {
     {
         self.key(Key::Joins);
         self.spaced_name(thread);
-        self.spaced_word(&Token::Line(queue));
-        self.spaced_word(&Token::Maybe(reply));
+        self.spaced_queue(queue);
+        self.spaced_maybe(reply);
         self.byte(b'\n');
     }
 
@@ -270,7 +324,7 @@ impl Line {
         match queue {
             Queue::Receivers(_) => self.receiver(thread, queue, reply),
             Queue::Senders(_) | Queue::Waiters(_) => {
-                self.two(Key::Joins, Token::Name(thread), Token::Line(queue));
+                self.stands(Key::Joins, thread, queue);
             }
         }
     }

@@ -6,21 +6,13 @@ ghost use Rattle.mcs_text.specs.Table.{record_text, answer_text};
 ghost use Rattle.mcs_packing.specs.Packing.{Fits, IsMessageAt, IsOfBond, IsOfDebt, IsOfMessage, IsOfObject, IsOfSlot, IsOfThread, IsOfWord, content_at, record_of, object};
 ghost use Rattle.mcs_packing.specs.Heads.{AnswerFits, answer_of};
 
-use crate::facts::{end_word, number_of};
+use crate::facts::number_of;
 use crate::line::Line;
 use crate::reading::ReadStep;
 use crate::rooms::LINE;
 use mcs_packing::{Packed, PackedAnswer, guarded, id_of, plain, queue_of};
-use mcs_text::{Key, Token};
+use mcs_text::Key;
 use mcs_types::{Cap, Kind, MESSAGE_WORDS, Rec};
-
-/// The name of an object.
-#[inline(always)]
-fn name(kind: Kind, serial: u32) -> Token
-    ensures { result ≡ Token.Name (object kind serial) }
-{
-    Token::Name(id_of(kind, serial))
-}
 
 /// The words of a message that stands at a place.
 #[inline(always)]
@@ -50,11 +42,11 @@ fn write_object(line: &mut Line, sent: u128, packed: &Packed, words: &[u64], wid
     ensures { line.new ≡ line.old ++ record_text sent (record_of packed.now words.now wide.now) }
 {
     match packed {
-        Packed::Made { kind, serial } => line.one(Key::Made, name(*kind, *serial)),
+        Packed::Made { kind, serial } => line.named(Key::Made, id_of(*kind, *serial)),
         Packed::MadeOn { core: _, context } => {
-            line.one(Key::Made, name(Kind::Context, *context))
+            line.named(Key::Made, id_of(Kind::Context, *context))
         }
-        Packed::Closed { kind, serial } => line.one(Key::Closed, name(*kind, *serial)),
+        Packed::Closed { kind, serial } => line.named(Key::Closed, id_of(*kind, *serial)),
         _ => unreachable!(),
     }
 }
@@ -117,8 +109,8 @@ fn write_thread(line: &mut Line, sent: u128, packed: &Packed, words: &[u64], wid
             thread,
             object,
         } => {
-            let queue = Token::Line(queue_of(*side, *object));
-            line.two(Key::Parts, name(Kind::Thread, *thread), queue)
+            let thread = id_of(Kind::Thread, *thread);
+            line.stands(Key::Parts, thread, queue_of(*side, *object))
         }
         _ => unreachable!(),
     }
@@ -132,14 +124,11 @@ fn write_debt(line: &mut Line, sent: u128, packed: &Packed, words: &[u64], wide:
     ensures { line.new ≡ line.old ++ record_text sent (record_of packed.now words.now wide.now) }
 {
     match packed {
-        Packed::Took { message, thread } => {
-            let message = Token::Message(*message as u128);
-            line.two(Key::Took, message, name(Kind::Thread, *thread))
-        }
-        Packed::Dropped { message } => { line.one(Key::Dropped, Token::Message(*message as u128)) }
+        Packed::Took { message, thread } => { line.took(*message, id_of(Kind::Thread, *thread)) }
+        Packed::Dropped { message } => line.dropped(*message),
         Packed::Owes { reply, caller } => {
             let (reply, caller) = (id_of(Kind::Reply, *reply), id_of(Kind::Thread, *caller));
-            line.owing(Key::Owes, reply, caller, Token::Maybe(None))
+            line.owes(reply, caller, None)
         }
         Packed::OwesWith {
             reply,
@@ -147,8 +136,7 @@ fn write_debt(line: &mut Line, sent: u128, packed: &Packed, words: &[u64], wide:
             context,
         } => {
             let (reply, caller) = (id_of(Kind::Reply, *reply), id_of(Kind::Thread, *caller));
-            let context = Token::Maybe(Some(id_of(Kind::Context, *context)));
-            line.owing(Key::Owes, reply, caller, context)
+            line.owes(reply, caller, Some(id_of(Kind::Context, *context)))
         }
         Packed::Void {
             ending,
@@ -156,7 +144,7 @@ fn write_debt(line: &mut Line, sent: u128, packed: &Packed, words: &[u64], wide:
             caller,
         } => {
             let (reply, caller) = (id_of(Kind::Reply, *reply), id_of(Kind::Thread, *caller));
-            line.owing(Key::Void, reply, caller, end_word(*ending))
+            line.void(reply, caller, *ending)
         }
         _ => unreachable!(),
     }
@@ -171,12 +159,11 @@ fn write_bond(line: &mut Line, sent: u128, packed: &Packed, words: &[u64], wide:
 {
     match packed {
         Packed::Held { context, thread } => {
-            let thread = Token::Maybe(Some(id_of(Kind::Thread, *thread)));
-            line.two(Key::Holds, name(Kind::Context, *context), thread)
+            let thread = id_of(Kind::Thread, *thread);
+            line.bound(Key::Holds, id_of(Kind::Context, *context), Some(thread))
         }
         Packed::Unheld { context } => {
-            let context = name(Kind::Context, *context);
-            line.two(Key::Holds, context, Token::Maybe(None))
+            line.bound(Key::Holds, id_of(Kind::Context, *context), None)
         }
         Packed::Raised {
             notification,
@@ -189,23 +176,23 @@ fn write_bond(line: &mut Line, sent: u128, packed: &Packed, words: &[u64], wide:
             thread,
             notification,
         } => {
-            let notification = Token::Maybe(Some(id_of(Kind::Notification, *notification)));
-            line.two(Key::Tied, name(Kind::Thread, *thread), notification)
+            let notification = id_of(Kind::Notification, *notification);
+            line.bound(Key::Tied, id_of(Kind::Thread, *thread), Some(notification))
         }
-        Packed::Untied { thread } => {
-            let thread = name(Kind::Thread, *thread);
-            line.two(Key::Tied, thread, Token::Maybe(None))
-        }
+        Packed::Untied { thread } => { line.bound(Key::Tied, id_of(Kind::Thread, *thread), None) }
         Packed::Homed {
             context,
             notification,
         } => {
-            let notification = Token::Maybe(Some(id_of(Kind::Notification, *notification)));
-            line.two(Key::Homed, name(Kind::Context, *context), notification)
+            let notification = id_of(Kind::Notification, *notification);
+            line.bound(
+                Key::Homed,
+                id_of(Kind::Context, *context),
+                Some(notification),
+            )
         }
         Packed::Unhomed { context } => {
-            let context = name(Kind::Context, *context);
-            line.two(Key::Homed, context, Token::Maybe(None))
+            line.bound(Key::Homed, id_of(Kind::Context, *context), None)
         }
         _ => unreachable!(),
     }
@@ -328,8 +315,8 @@ fn write_record(line: &mut Line, sent: u128, fact: &Rec)
     ensures { line.new ≡ line.old ++ record_text sent fact.now }
 {
     match fact {
-        Rec::Made { object, form: _ } => line.one(Key::Made, Token::Name(*object)),
-        Rec::Closed { object } => line.one(Key::Closed, Token::Name(*object)),
+        Rec::Made { object, form: _ } => line.named(Key::Made, *object),
+        Rec::Closed { object } => line.named(Key::Closed, *object),
         Rec::Slot { cnode, index, cap } => line.slot(*cnode, *index, *cap),
         Rec::Prio { thread, priority } => line.object_number(Key::Prio, *thread, priority.0 as u64),
         Rec::Turns { thread, mode } => line.turns(*thread, *mode),
@@ -338,9 +325,7 @@ fn write_record(line: &mut Line, sent: u128, fact: &Rec)
             queue,
             reply,
         } => line.joins(*thread, *queue, *reply),
-        Rec::Parts { thread, queue } => {
-            line.two(Key::Parts, Token::Name(*thread), Token::Line(*queue))
-        }
+        Rec::Parts { thread, queue } => { line.stands(Key::Parts, *thread, *queue) }
         Rec::Sent {
             sender,
             endpoint,
@@ -359,19 +344,13 @@ fn write_record(line: &mut Line, sent: u128, fact: &Rec)
                 None,
             )
         }
-        Rec::Took { message, thread } => {
-            let message = Token::Message(*message as u128);
-            line.two(Key::Took, message, Token::Name(*thread))
-        }
-        Rec::Dropped { message } => { line.one(Key::Dropped, Token::Message(*message as u128)) }
+        Rec::Took { message, thread } => { line.took(*message, *thread) }
+        Rec::Dropped { message } => line.dropped(*message),
         Rec::Owes {
             reply,
             caller,
             context,
-        } => {
-            let context = Token::Maybe(*context);
-            line.owing(Key::Owes, *reply, *caller, context)
-        }
+        } => line.owes(*reply, *caller, *context),
         Rec::Paid {
             reply,
             caller,
@@ -384,10 +363,8 @@ fn write_record(line: &mut Line, sent: u128, fact: &Rec)
             reply,
             caller,
             ending,
-        } => line.owing(Key::Void, *reply, *caller, end_word(*ending)),
-        Rec::Holds { context, thread } => {
-            line.two(Key::Holds, Token::Name(*context), Token::Maybe(*thread))
-        }
+        } => line.void(*reply, *caller, *ending),
+        Rec::Holds { context, thread } => { line.bound(Key::Holds, *context, *thread) }
         Rec::Raised {
             notification,
             badge,
@@ -400,15 +377,11 @@ fn write_record(line: &mut Line, sent: u128, fact: &Rec)
         Rec::Tied {
             thread,
             notification,
-        } => line.two(Key::Tied, Token::Name(*thread), Token::Maybe(*notification)),
+        } => line.bound(Key::Tied, *thread, *notification),
         Rec::Homed {
             context,
             notification,
-        } => line.two(
-            Key::Homed,
-            Token::Name(*context),
-            Token::Maybe(*notification),
-        ),
+        } => line.bound(Key::Homed, *context, *notification),
     }
 }
 

@@ -40,6 +40,16 @@ impl Line {
         self.few_bytes(key.text());
     }
 
+    /// A space, and the fixed word.
+    #[inline(always)]
+    pub fn spaced_key(&mut self, key: Key)
+        requires { HasRoom self.old (1 + KEY) }
+        ensures { Adds self.old self.new (1 + KEY) (then_text (key_text key)) }
+    {
+        self.byte(b' ');
+        self.key(key);
+    }
+
     #[inline(always)]
     fn letter_if(&mut self, flag: u8, letter: u8, rights: Rights)
         requires { HasRoom self.old 1 }
@@ -118,6 +128,16 @@ impl Line {
         }
     }
 
+    /// A space, and a name or a dash.
+    #[inline(always)]
+    pub fn spaced_maybe(&mut self, o: Option<ObjId>)
+        requires { HasRoom self.old (1 + NAME) }
+        ensures { Adds self.old self.new (1 + NAME) (then_text (maybe_text o)) }
+    {
+        self.byte(b' ');
+        self.maybe(o);
+    }
+
     #[inline(always)]
     fn message_name(&mut self, number: u128)
         requires { HasRoom self.old (1 + COUNT) }
@@ -127,8 +147,18 @@ impl Line {
         self.count(number);
     }
 
+    /// A space, and the name of a message.
+    #[inline(always)]
+    pub fn spaced_message(&mut self, number: u128)
+        requires { HasRoom self.old (2 + COUNT) }
+        ensures { Adds self.old self.new (2 + COUNT) (then_text (109 ∷ decimal number)) }
+    {
+        self.byte(b' ');
+        self.message_name(number);
+    }
+
     /// A capability, or a dash.
-    fn held(&mut self, cap: &Option<Cap>)
+    pub fn held(&mut self, cap: &Option<Cap>)
         requires { HasRoom self.old CAP }
         ensures { Adds self.old self.new CAP (held_text cap.now) }
     {
@@ -151,6 +181,16 @@ impl Line {
         };
         self.name(o);
         self.few_bytes(suffix);
+    }
+
+    /// A space, and the queue.
+    #[inline(always)]
+    pub fn spaced_queue(&mut self, queue: Queue)
+        requires { HasRoom self.old (1 + QUEUE) }
+        ensures { Adds self.old self.new (1 + QUEUE) (then_text (queue_text queue)) }
+    {
+        self.byte(b' ');
+        self.queue(queue);
     }
 
     /// A capability.
