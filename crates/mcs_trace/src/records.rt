@@ -1,18 +1,19 @@
 //! The lines of records, and of answers, as they are kept.
-ghost use Rattle.std.specs.Prelude.{◌≡◌, ◌≤◌, ◌+◌, ◌++◌, IfSome, length};
+ghost use Rattle.std.specs.Prelude.{◌≡◌, ◌≤◌, ◌+◌, ◌∷◌, [], ◌++◌, IfSome, length};
 ghost use Rattle.mcs_trace.specs.Room.{HasRoom};
 ghost use Rattle.mcs_trace.specs.Reading.{IsMessageText};
-ghost use Rattle.mcs_text.specs.Table.{record_text, answer_text};
+ghost use Rattle.mcs_text.specs.Table.{record_text, answer_text, step_text};
 ghost use Rattle.mcs_packing.specs.Packing.{Fits, IsMessageAt, IsOfBond, IsOfDebt, IsOfMessage, IsOfObject, IsOfSlot, IsOfThread, IsOfWord, content_at, record_of, object};
+ghost use Rattle.mcs_packing.specs.Entries.{EntryFits, entry_of};
 ghost use Rattle.mcs_packing.specs.Heads.{AnswerFits, answer_of};
 
 use crate::facts::number_of;
 use crate::line::Line;
 use crate::reading::ReadStep;
 use crate::rooms::LINE;
-use mcs_packing::{Packed, PackedAnswer, guarded, id_of, plain, queue_of};
+use mcs_packing::{KeptStep, Packed, PackedAnswer, PackedEntry, guarded, id_of, plain, queue_of};
 use mcs_text::Key;
-use mcs_types::{Cap, Kind, MESSAGE_WORDS, Rec};
+use mcs_types::{Cap, CoreId, Kind, MESSAGE_WORDS, ObjId, Rec};
 
 /// The words of a message that stands at a place.
 #[inline(always)]
@@ -253,10 +254,9 @@ fn text_of<'a>(read: Option<&'a ReadStep<'_>>, label: u64, words: &[u64]) -> Opt
     }
 }
 
-/// What was sent and paid.
-// out of line, since the text of a message would take registers of who writes the other records
-#[inline(never)]
-fn write_message(
+/// What was sent and paid, whose text is copied where it is that of this step.
+#[inline(always)]
+fn write_message_of(
     line: &mut Line,
     sent: u128,
     packed: &Packed,
@@ -307,6 +307,54 @@ fn write_message(
         }
         _ => unreachable!(),
     }
+}
+
+/// What was sent and paid, of which no text was read.
+#[inline(never)]
+fn write_message(line: &mut Line, sent: u128, packed: &Packed, words: &[u64], wide: &[Rec])
+    requires of { IsOfMessage packed.now }
+    requires fits { Fits packed.now words.now wide.now }
+    requires room { HasRoom line.old LINE }
+    ensures { line.new ≡ line.old ++ record_text sent (record_of packed.now words.now wide.now) }
+{
+    write_message_of(line, sent, packed, words, wide, None)
+}
+
+/// What was sent and paid, whose text is copied where it is that of this step, which was read.
+// out of line, with the parts of the step each for itself: so who writes other records puts nothing together for it
+#[inline(never)]
+fn write_read_message(
+    line: &mut Line,
+    sent: u128,
+    packed: &Packed,
+    words: &[u64],
+    wide: &[Rec],
+    core: CoreId,
+    thread: ObjId,
+    entry: &PackedEntry,
+    kept: &[u64],
+    text: &[u8],
+)
+    requires of { IsOfMessage packed.now }
+    requires fits { Fits packed.now words.now wide.now }
+    requires entry { EntryFits entry.now kept.now }
+    requires text { step_text (record {
+      core = core;
+      thread = thread;
+      entry = entry_of entry.now kept.now;
+    }) ≡ text.now ++ 10 ∷ [] }
+    requires room { HasRoom line.old LINE }
+    ensures { line.new ≡ line.old ++ record_text sent (record_of packed.now words.now wide.now) }
+{
+    let step = KeptStep {
+        core,
+        kind: thread.kind,
+        serial: thread.serial,
+        entry,
+        words: kept,
+    };
+    let read = ReadStep { step, line: text };
+    write_message_of(line, sent, packed, words, wide, Some(&read))
 }
 
 /// The line of a record that stands as it is, before which so many messages were sent: a table, with an arm for each record.
@@ -426,9 +474,17 @@ pub fn write_kept(
         Packed::FilledBadged { .. } | Packed::FilledGuarded { .. } | Packed::Heard { .. } => {
             write_word(line, sent, packed, words, wide)
         }
-        Packed::Sent { .. } | Packed::Paid { .. } => {
-            write_message(line, sent, packed, words, wide, read)
-        }
+        Packed::Sent { .. } | Packed::Paid { .. } => match read {
+            None => write_message(line, sent, packed, words, wide),
+            Some(read) => {
+                let thread = id_of(read.step.kind, read.step.serial);
+                let (core, entry) = (read.step.core, read.step.entry);
+                let (kept, text) = (read.step.words, read.line);
+                write_read_message(
+                    line, sent, packed, words, wide, core, thread, entry, kept, text,
+                )
+            }
+        },
         Packed::Wide { at } => write_record(line, sent, &wide[*at as usize]),
     }
 }
