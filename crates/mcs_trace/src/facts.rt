@@ -1,5 +1,5 @@
-//! The lines of answers and records: each form once. The room that they ask for is that of any line. They are inlined where the
-//! trace is written: so a replay of messages takes two to three in a hundred fewer instructions.
+//! The lines of answers and records: each form once. The room that they ask for is that of any line. Those of most lines are inlined
+//! where the trace is written; those that come seldom are not, since a function takes in only so much.
 ghost use Rattle.std.specs.Prelude.{◌≡◌, ◌≤◌, ◌+◌, ◌∷◌, ◌++◌, [], IfSome, length};
 ghost use Rattle.mcs_trace.specs.Room.{Adds, HasRoom};
 ghost use Rattle.mcs_trace.specs.Reading.{IsMessageText};
@@ -126,7 +126,6 @@ impl Line {
     }
 
     /// The record of a message that was dropped.
-    #[inline(always)]
     #[tactic(auto, unfolding(mcs_text::specs::Spelling::line_text))]
     pub fn dropped(&mut self, message: u32)
         requires { HasRoom self.old LINE }
@@ -154,7 +153,6 @@ impl Line {
     }
 
     /// The record of a debt that ended without an answer.
-    #[inline(always)]
     #[tactic(auto, unfolding(mcs_text::specs::Spelling::line_text))]
     pub fn void(&mut self, reply: ObjId, caller: ObjId, ending: Ending)
         requires { HasRoom self.old LINE }
@@ -188,7 +186,6 @@ impl Line {
     }
 
     /// A record that names an object and a number.
-    #[inline(always)]
     #[tactic(auto, unfolding(mcs_text::specs::Spelling::line_text))]
     pub fn object_number(&mut self, key: Key, object: ObjId, number: u64)
         requires { HasRoom self.old LINE }

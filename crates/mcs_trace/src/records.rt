@@ -152,7 +152,6 @@ fn write_debt(line: &mut Line, sent: u128, packed: &Packed, words: &[u64], wide:
 }
 
 /// Who holds a context, is bound to a notification, and what was signalled.
-#[inline(always)]
 fn write_bond(line: &mut Line, sent: u128, packed: &Packed, words: &[u64], wide: &[Rec])
     requires of { IsOfBond packed.now }
     requires room { HasRoom line.old LINE }
@@ -200,7 +199,6 @@ fn write_bond(line: &mut Line, sent: u128, packed: &Packed, words: &[u64], wide:
 }
 
 /// What keeps one word: a badge, the value of a guard, or what was heard.
-#[inline(always)]
 fn write_word(line: &mut Line, sent: u128, packed: &Packed, words: &[u64], wide: &[Rec])
     requires of { IsOfWord packed.now }
     requires fits { Fits packed.now words.now wide.now }
