@@ -52,4 +52,4 @@ start_at start (h ∷ hs) (suc i) = start_at h.end hs i
 
 -- the head of a line: who entered on which core, the entry and the answer as they were packed, and where its records end
 abbrev pub line_head : Step → PackedEntry → PackedAnswer → ℕ → Head
-line_head s entry answer end = record { entry = entry; end = end; answer = answer; serial = s.thread.serial; kind = s.thread.kind; core = s.core }
+line_head s entry answer end = record { entry = entry; end = end; serial = s.thread.serial; answer_at = answer.at; answer = answer.form; kind = s.thread.kind; core = s.core }

@@ -1,5 +1,5 @@
 //! The book: all lines, kept packed, with their records side by side.
-ghost use Rattle.std.specs.Prelude.{◌≡◌, ◌<◌, ◌≤◌, ◌∷◌, ◌++◌, [], ◌+◌, ◌-◌, take, drop, IsTrue, false, IfOk, OnOk, OnErr, max, reverse, length, slice_get, vec_len, vec_capacity};
+ghost use Rattle.std.specs.Prelude.{◌≡◌, ◌<◌, ◌≤◌, ◌∷◌, ◌++◌, [], ◌+◌, ◌-◌, ◌^◌, take, drop, IsTrue, false, IfOk, OnOk, OnErr, max, reverse, length, slice_get, vec_len, vec_capacity};
 ghost use Rattle.mcs_types.specs.declared.record.Rec.{Rec};
 ghost use Rattle.mcs_packing.specs.Packing.{AllFit, Grew, HasRoom, records_of};
 ghost use Rattle.mcs_packing.specs.Heads.{AllHeadsFit, all_entered};
@@ -7,8 +7,8 @@ ghost use Rattle.mcs_book.specs.History.{with_boot_line, with_line, line_of_numb
 ghost use Rattle.mcs_book.specs.Pages.{EndsWithin, facts, line_head, lines_of, start_at};
 
 use mcs_packing::{
-    Arena, Head, KeptAnswer, KeptRecord, KeptStep, Lent, OverAddress, Packed, PackedAnswer,
-    PackedEntry,
+    Arena, Head, KeptAnswer, KeptRecord, KeptStep, Lent, OverAddress, Packed, PackedAddress,
+    PackedAnswer, PackedEntry,
 };
 use mcs_types::{Answer, Badge, BootLine, ObjId, OutOfMemory, Rec, SendMode, Step, copy_rows};
 use std::alloc::Global;
@@ -68,7 +68,8 @@ impl<'a> Line<'a> {
         ensures { result ≡ self.now.answer }
     {
         KeptAnswer {
-            answer: &self.head.answer,
+            form: self.head.answer,
+            at: self.head.answer_at,
             words: self.words,
         }
     }
@@ -162,7 +163,7 @@ impl Drop for Book {
 }
 
 impl Model for Book {
-    ghost use Rattle.std.specs.Prelude.{reverse, drop, vec_len, vec_capacity, ◌<◌, ◌≤◌, ◌+◌, ◌-◌};
+    ghost use Rattle.std.specs.Prelude.{reverse, drop, vec_len, vec_capacity, ◌<◌, ◌≤◌, ◌+◌, ◌-◌, ◌^◌};
     ghost use Rattle.mcs_packing.specs.Packing.{AllFit, HasRoom};
     ghost use Rattle.mcs_packing.specs.Heads.{AllHeadsFit, all_entered};
     ghost use Rattle.mcs_book.specs.Pages.{EndsRise, Written, facts, lines_of};
@@ -186,7 +187,8 @@ impl Model for Book {
         × (b.start ≤ vec_len b.packed)
         × (0 < b.room → HasRoom b.arena (b.room - 1))
         × (0 < b.room → vec_len b.packed + b.room ≤ vec_capacity b.packed + 1)
-        × (0 < b.room → vec_len b.heads < vec_capacity b.heads) };
+        × (0 < b.room → vec_len b.heads < vec_capacity b.heads)
+        × (0 < b.room → vec_len b.packed + b.room ≤ 2 ^ 32) };
 }
 
 /// Where the records of an entry begin: where those of the one before it end.
@@ -194,7 +196,11 @@ fn start_of(heads: &[Head], words: &[u64], at: usize) -> usize
     requires { at < length heads.now }
     ensures { result ≡ start_at 0 (all_entered heads.now words.now) at }
 {
-    if at == 0 { 0 } else { heads[at - 1].end }
+    if at == 0 {
+        0
+    } else {
+        heads[at - 1].end as usize
+    }
 }
 
 /// The packed records from one position to another.
@@ -225,7 +231,7 @@ fn line_at<'a>(
             let start = start_of(heads, words, at);
             Some(Line {
                 head,
-                packed: part(packed, start, head.end),
+                packed: part(packed, start, head.end as usize),
                 words,
                 wide,
             })
@@ -354,28 +360,40 @@ fn keep_first(packed: &mut Vec<Packed>, count: usize)
     packed.truncate(count);
 }
 
+/// Where the packed records end.
+fn end_of(packed: &Vec<Packed>) -> u32
+    requires { vec_len packed.now < 2 ^ 32 }
+    ensures { result ≡ vec_len packed.now }
+{
+    packed.len() as u32
+}
+
 /// The head of a line whose records end at a position.
-fn line_head(step: &Step, entry: PackedEntry, answer: PackedAnswer, end: usize) -> Head
+fn line_head(step: &Step, entry: PackedEntry, answer: PackedAnswer, end: u32) -> Head
     ensures { result ≡ line_head step.now entry answer end }
 {
     Head {
         entry,
         end,
-        answer,
         serial: step.thread.serial,
+        answer_at: answer.at,
+        answer: answer.form,
         kind: step.thread.kind,
         core: step.core,
     }
 }
 
 /// An entry that stands until it is packed.
-const BLANK: PackedEntry = PackedEntry::Address(OverAddress::Wait, 0);
+const BLANK: PackedEntry = PackedEntry::Address(OverAddress::Wait, PackedAddress(0));
 
 /// The most words that one record keeps, but for long messages.
 const MOST_WORDS: usize = 6;
 
-/// The most words that one entry or one answer keeps, and a record with a long message.
+/// The most words that a record with a long message keeps, and an answer.
 const MESSAGE_ROOM: usize = 122;
+
+/// The most words that one entry keeps: two large addresses besides.
+const ENTRY_ROOM: usize = MESSAGE_ROOM + 2;
 
 /// How many words long messages of records may take beyond six each: a line has at most one record with a message.
 const SPARE_WORDS: usize = MESSAGE_ROOM - MOST_WORDS;
@@ -386,7 +404,7 @@ const MOST_RECORDS: usize = 1_000_000;
 /// For how many lines with as many records room is made ahead: long lists grow where they stand, so early room saves copies.
 const LINES_AHEAD: usize = 16;
 
-/// The most words, and the most wide records, to which more may be added: so places stay below 2 to the 32.
+/// The most records, words and wide records, to which more may be added: so places stay below 3 times 2 to the 30.
 const MOST_KEPT: usize = 1 << 31;
 
 impl Book {
@@ -509,12 +527,13 @@ impl Book {
         if records > MOST_RECORDS {
             return false;
         }
-        let words = MOST_WORDS * records + SPARE_WORDS + 2 * MESSAGE_ROOM;
+        let words = MOST_WORDS * records + SPARE_WORDS + 2 * ENTRY_ROOM;
         let has_room = self.heads.len() < self.heads.capacity()
             && records <= self.packed.capacity() - self.packed.len()
             && words <= self.arena.words.capacity() - self.arena.words.len()
             && records <= self.arena.wide.capacity() - self.arena.wide.len()
             && records <= self.sent.capacity() - self.sent.len()
+            && self.packed.len() <= MOST_KEPT
             && self.arena.words.len() <= MOST_KEPT
             && self.arena.wide.len() <= MOST_KEPT;
         if has_room {
@@ -535,6 +554,7 @@ impl Book {
         ensures hand { self.new.hand ≡ self.old.hand }
     {
         if MOST_RECORDS < records
+            || MOST_KEPT < self.packed.len()
             || MOST_KEPT < self.arena.words.len()
             || MOST_KEPT < self.arena.wide.len()
         {
@@ -545,7 +565,7 @@ impl Book {
         self.packed.reserve(ahead)?;
         self.arena
             .words
-            .reserve(MOST_WORDS * ahead + SPARE_WORDS + 2 * MESSAGE_ROOM)?;
+            .reserve(MOST_WORDS * ahead + SPARE_WORDS + 2 * ENTRY_ROOM)?;
         self.arena.wide.reserve(ahead)?;
         self.sent.reserve(ahead)?;
         self.arena.spare = SPARE_WORDS;
@@ -554,7 +574,7 @@ impl Book {
     }
 
     /// Makes room for one line with that many records beside those that it has; where there is room it takes no memory. The
-    /// book is as it was. It is out of memory as well for more than 1,000,000 records, and where 2 to the 31 words are kept.
+    /// book is as it was. It is out of memory as well for more than 1,000,000 records, and where 2 to the 31 records or words are kept.
     #[inline(always)]
     pub fn reserve(&mut self, records: usize) -> Result<(), OutOfMemory>
         ensures room { OnOk result (records < self.new.room) }
@@ -670,10 +690,10 @@ impl Book {
     {
         let first = self.first.min(MOST_KEPT) as u32;
         let told = self.arena.pack_answer(answer, self.place);
-        self.start = self.packed.len();
+        let end = end_of(&self.packed);
+        self.start = end as usize;
         let last = self.heads.len();
-        self.heads
-            .push_reserved(line_head(step, BLANK, told, self.start));
+        self.heads.push_reserved(line_head(step, BLANK, told, end));
         self.arena
             .pack_entry(&step.entry, first, &mut self.heads[last].entry);
         self.room = 0;

@@ -1,2 +1,3 @@
 pub mod Packings
+pub mod AddressLaws
 pub mod HeadLaws

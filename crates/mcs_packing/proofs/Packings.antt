@@ -5,8 +5,8 @@ use Rattle.std.proofs.lemmas.List.{take-append-le, drop-append-le, get_or_append
 use Rattle.mcs_types.specs.declared.record.Rec.{Rec}
 use Rattle.mcs_packing.specs.declared.arena.Arena.{Arena}
 use Rattle.mcs_packing.specs.declared.packed.Packed.{Packed}
-use Rattle.mcs_packing.specs.declared.packed.Packed.TheVariants.{FilledBadged, FilledGuarded, Sent, Paid, Heard, Wide}
-use Rattle.mcs_packing.specs.Packing.{word_at, content_at, record_of, records_of, IsMessageAt, IsBadgedAt, Fits, AllFit, GrowsBy, Grew, no_record}
+use Rattle.mcs_packing.specs.declared.packed.Packed.TheVariants.{FilledBadged, FilledGuarded, Sent, Paid, RaisedAt, Heard, Wide}
+use Rattle.mcs_packing.specs.Packing.{word_at, content_at, record_of, records_of, IsMessageAt, IsBadgedAt, IsPairAt, Fits, AllFit, GrowsBy, Grew, no_record}
 
 -- a word
 pub word_at-grows : (ws more : List ℕ) (at : ℕ) → at < length ws → word_at (ws ++ more) at ≡ word_at ws at
@@ -28,22 +28,31 @@ IsMessageAt-grows ws more at len h =
 pub IsBadgedAt-grows : (ws more : List ℕ) (at len : ℕ) → IsBadgedAt ws at len → IsBadgedAt (ws ++ more) at len
 IsBadgedAt-grows ws more at len h = record { message = IsMessageAt-grows ws more at len h.message; badge = omega (arith, h.badge, length-append ws more) }
 
+pub IsPairAt-grows : (ws more : List ℕ) (at : ℕ) → IsPairAt ws at → IsPairAt (ws ++ more) at
+IsPairAt-grows ws more at h = record { ends = omega (arith, h.ends, length-append ws more); serial = rw (word_at-grows ws more (at + 1) h.ends) h.serial }
+
 -- a record
 pub record_of-grows : (p : Packed) (ws more : List ℕ) (rs others : List Rec) → Fits p ws rs → record_of p (ws ++ more) (rs ++ others) ≡ record_of p ws rs
-record_of-grows (FilledBadged i rights k c n at) ws more rs others h = rw (word_at-grows ws more at h) refl
-record_of-grows (FilledGuarded i rights bits c n at) ws more rs others h = rw (word_at-grows ws more at h) refl
+record_of-grows (FilledBadged i rights k n at) ws more rs others h =
+    let first : at < length ws = omega (arith, h.ends) in
+    rw (word_at-grows ws more at first, word_at-grows ws more (at + 1) h.ends) refl
+record_of-grows (FilledGuarded i rights bits n at) ws more rs others h =
+    let first : at < length ws = omega (arith, h.ends) in
+    rw (word_at-grows ws more at first, word_at-grows ws more (at + 1) h.ends) refl
 record_of-grows (Sent m len t e at) ws more rs others h =
     rw (content_at-grows ws more at len h.message, word_at-grows ws more (at + 1 + len) h.badge) refl
-record_of-grows (Paid len r t at) ws more rs others h = rw (content_at-grows ws more at len h) refl
+record_of-grows (Paid len t r at) ws more rs others h = rw (content_at-grows ws more at len h) refl
+record_of-grows (RaisedAt n at) ws more rs others h = rw (word_at-grows ws more at h) refl
 record_of-grows (Heard t n at) ws more rs others h = rw (word_at-grows ws more at h) refl
 record_of-grows (Wide at) ws more rs others h = get_or_append_left rs others no_record at h
 record_of-grows _ ws more rs others h = refl
 
 pub Fits-grows : (p : Packed) (ws more : List ℕ) (rs others : List Rec) → Fits p ws rs → Fits p (ws ++ more) (rs ++ others)
-Fits-grows (FilledBadged i rights k c n at) ws more rs others h = omega (arith, h, length-append ws more)
-Fits-grows (FilledGuarded i rights bits c n at) ws more rs others h = omega (arith, h, length-append ws more)
+Fits-grows (FilledBadged i rights k n at) ws more rs others h = IsPairAt-grows ws more at h
+Fits-grows (FilledGuarded i rights bits n at) ws more rs others h = IsPairAt-grows ws more at h
 Fits-grows (Sent m len t e at) ws more rs others h = IsBadgedAt-grows ws more at len h
-Fits-grows (Paid len r t at) ws more rs others h = IsMessageAt-grows ws more at len h
+Fits-grows (Paid len t r at) ws more rs others h = IsMessageAt-grows ws more at len h
+Fits-grows (RaisedAt n at) ws more rs others h = omega (arith, h, length-append ws more)
 Fits-grows (Heard t n at) ws more rs others h = omega (arith, h, length-append ws more)
 Fits-grows (Wide at) ws more rs others h = omega (arith, h, length-append rs others)
 Fits-grows _ ws more rs others h = h

@@ -14,6 +14,7 @@ use Rattle.mcs_packing.specs.declared.entries.OverPlace.{OverPlace}
 use Rattle.mcs_packing.specs.declared.entries.OverPlace.TheVariants as place
 use Rattle.mcs_packing.specs.declared.entries.PackedEntry.{PackedEntry}
 use Rattle.mcs_packing.specs.declared.entries.PackedEntry.TheVariants.{Sends, ReplyRecv, NbSendRecv, NbSendWait, Pair, Address, AtPlace, SetPriority, CopyCap, MintCap, MoveCap}
+use Rattle.mcs_packing.specs.Addresses.{AddressFits, address_of}
 use Rattle.mcs_packing.specs.Packing.{word_at, content_at, IsMessageAt, IsBadgedAt}
 
 -- a place of an index and a depth
@@ -54,23 +55,43 @@ over_place place.MakeContext at = entry.MakeContext at
 
 -- the entry that a packed one stands for
 abbrev pub entry_of : PackedEntry → List ℕ → Entry
-entry_of (Sends form len at cap) ws = sending form cap (content_at ws at len)
-entry_of (ReplyRecv len at cap reply) ws = entry.ReplyRecv cap reply (content_at ws at len)
-entry_of (NbSendRecv len at cap source) ws = entry.NbSendRecv cap source (word_at ws (at + 1 + len)) (content_at ws at len)
-entry_of (NbSendWait len at cap source) ws = entry.NbSendWait cap source (content_at ws at len)
-entry_of (Pair form first second) ws = over_pair form first second
-entry_of (Address form address) ws = over_address form address
-entry_of (AtPlace form depth index) ws = over_place form (place_of index depth)
-entry_of (SetPriority priority thread authority) ws = entry.SetPriority thread authority priority
-entry_of (CopyCap source_depth dest_depth rights source dest) ws = entry.CopyCap (place_of source source_depth) (place_of dest dest_depth) rights
-entry_of (MintCap source_depth dest_depth rights at source dest) ws = entry.MintCap (place_of source source_depth) (place_of dest dest_depth) rights (record { 0 = word_at ws at })
-entry_of (MoveCap source_depth dest_depth source dest) ws = entry.MoveCap (place_of source source_depth) (place_of dest dest_depth)
+entry_of (Sends form len at cap) ws = sending form (address_of cap ws) (content_at ws at len)
+entry_of (ReplyRecv len at cap reply) ws = entry.ReplyRecv (address_of cap ws) (address_of reply ws) (content_at ws at len)
+entry_of (NbSendRecv len at cap source) ws = entry.NbSendRecv (address_of cap ws) (address_of source ws) (word_at ws (at + 1 + len)) (content_at ws at len)
+entry_of (NbSendWait len at cap source) ws = entry.NbSendWait (address_of cap ws) (address_of source ws) (content_at ws at len)
+entry_of (Pair form first second) ws = over_pair form (address_of first ws) (address_of second ws)
+entry_of (Address form address) ws = over_address form (address_of address ws)
+entry_of (AtPlace form depth index) ws = over_place form (place_of (address_of index ws) depth)
+entry_of (SetPriority priority thread authority) ws = entry.SetPriority (address_of thread ws) (address_of authority ws) priority
+entry_of (CopyCap source_depth dest_depth rights source dest) ws = entry.CopyCap (place_of (address_of source ws) source_depth) (place_of (address_of dest ws) dest_depth) rights
+entry_of (MintCap source_depth dest_depth rights at source dest) ws = entry.MintCap (place_of (address_of source ws) source_depth) (place_of (address_of dest ws) dest_depth) rights (record { 0 = word_at ws at })
+entry_of (MoveCap source_depth dest_depth source dest) ws = entry.MoveCap (place_of (address_of source ws) source_depth) (place_of (address_of dest ws) dest_depth)
+
+-- an entry that neither sends nor receives: it invokes an object
+abbrev pub IsInvocation : Entry → Type 0
+IsInvocation (entry.Send cap m) = ⊥
+IsInvocation (entry.NbSend cap m) = ⊥
+IsInvocation (entry.Call cap m) = ⊥
+IsInvocation (entry.ReplyRecv cap reply m) = ⊥
+IsInvocation (entry.NbSendRecv cap source reply m) = ⊥
+IsInvocation (entry.NbSendWait cap source m) = ⊥
+IsInvocation (entry.Recv cap reply) = ⊥
+IsInvocation (entry.NbRecv cap reply) = ⊥
+IsInvocation (entry.Wait cap) = ⊥
+IsInvocation (entry.NbWait cap) = ⊥
+IsInvocation (entry.Signal cap) = ⊥
+IsInvocation _ = Unit {0}
 
 -- what a packed entry names is there
 abbrev pub EntryFits : PackedEntry → List ℕ → Type 0
-EntryFits (Sends form len at cap) ws = IsMessageAt ws at len
-EntryFits (ReplyRecv len at cap reply) ws = IsMessageAt ws at len
-EntryFits (NbSendRecv len at cap source) ws = IsBadgedAt ws at len
-EntryFits (NbSendWait len at cap source) ws = IsMessageAt ws at len
-EntryFits (MintCap source_depth dest_depth rights at source dest) ws = at < length ws
-EntryFits _ ws = Unit {0}
+EntryFits (Sends form len at cap) ws = IsMessageAt ws at len × AddressFits cap ws
+EntryFits (ReplyRecv len at cap reply) ws = IsMessageAt ws at len × AddressFits cap ws × AddressFits reply ws
+EntryFits (NbSendRecv len at cap source) ws = IsBadgedAt ws at len × AddressFits cap ws × AddressFits source ws
+EntryFits (NbSendWait len at cap source) ws = IsMessageAt ws at len × AddressFits cap ws × AddressFits source ws
+EntryFits (Pair form first second) ws = AddressFits first ws × AddressFits second ws
+EntryFits (Address form address) ws = AddressFits address ws
+EntryFits (AtPlace form depth index) ws = AddressFits index ws
+EntryFits (SetPriority priority thread authority) ws = AddressFits thread ws × AddressFits authority ws
+EntryFits (CopyCap source_depth dest_depth rights source dest) ws = AddressFits source ws × AddressFits dest ws
+EntryFits (MintCap source_depth dest_depth rights at source dest) ws = (at < length ws) × AddressFits source ws × AddressFits dest ws
+EntryFits (MoveCap source_depth dest_depth source dest) ws = AddressFits source ws × AddressFits dest ws

@@ -1,4 +1,5 @@
 pub mod Packing
+pub mod Addresses
 pub mod Entries
 pub mod Heads
 pub mod Kept

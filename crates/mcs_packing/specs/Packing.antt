@@ -14,7 +14,7 @@ use Rattle.mcs_packing.specs.declared.arena.Arena.{Arena}
 use Rattle.mcs_packing.specs.declared.packed.Side.{Side}
 use Rattle.mcs_packing.specs.declared.packed.Side.TheVariants.{Senders, Receivers, Waiters}
 use Rattle.mcs_packing.specs.declared.packed.Packed.{Packed}
-use Rattle.mcs_packing.specs.declared.packed.Packed.TheVariants.{Made, MadeOn, Closed, Emptied, Filled, FilledBadged, FilledGuarded, Prio, Turns, Joins, JoinsWith, Parts, Sent, Took, Dropped, Owes, OwesWith, Paid, Void, Held, Unheld, Raised, Heard, Tied, Untied, Homed, Unhomed, Wide}
+use Rattle.mcs_packing.specs.declared.packed.Packed.TheVariants.{Made, MadeOn, Closed, Emptied, Filled, FilledBadged, FilledGuarded, Prio, Turns, Joins, JoinsWith, Parts, Sent, Took, Dropped, Owes, OwesWith, Paid, Void, Held, Unheld, Raised, RaisedAt, Heard, Tied, Untied, Homed, Unhomed, Wide}
 
 -- an object of a kind
 abbrev pub object : Kind → ℕ → ObjId
@@ -29,6 +29,10 @@ queue_on Waiters n = in_waiters (object Notification n)
 -- the word at a place of the arena
 abbrev pub word_at : List ℕ → ℕ → ℕ
 word_at ws at = slice_index_or ws at 0
+
+-- the serial that stands behind the word at a place
+abbrev pub serial_behind : List ℕ → ℕ → ℕ
+serial_behind ws at = word_at ws (at + 1)
 
 -- the message at a place: its label, and then so many words; behind them a badge may stand
 abbrev pub content_at : List ℕ → ℕ → ℕ → Content
@@ -54,33 +58,34 @@ guarded_cap n rights bits value = record { obj = object CNode n; rights = rights
 abbrev pub no_record : Rec
 no_record = rec.Dropped 0
 
--- the record that a packed one stands for
+-- the record that a packed one stands for: a thread is its serial less 1
 abbrev pub record_of : Packed → List ℕ → List Rec → Rec
 record_of (Made k n) ws rs = rec.Made (object k n) form.Plain
 record_of (MadeOn core n) ws rs = rec.Made (object Context n) (form.OnCore core)
 record_of (Closed k n) ws rs = rec.Closed (object k n)
 record_of (Emptied i c) ws rs = rec.Slot (object CNode c) i None
 record_of (Filled i rights k c n) ws rs = rec.Slot (object CNode c) i (Some (plain_cap (object k n) rights 0))
-record_of (FilledBadged i rights k c n at) ws rs = rec.Slot (object CNode c) i (Some (plain_cap (object k n) rights (word_at ws at)))
-record_of (FilledGuarded i rights bits c n at) ws rs = rec.Slot (object CNode c) i (Some (guarded_cap n rights bits (word_at ws at)))
-record_of (Prio p t) ws rs = rec.Prio (object Thread t) p
-record_of (Turns m t) ws rs = rec.Turns (object Thread t) m
-record_of (Joins s t n) ws rs = rec.Joins (object Thread t) (queue_on s n) None
-record_of (JoinsWith s t n r) ws rs = rec.Joins (object Thread t) (queue_on s n) (Some (object Reply r))
-record_of (Parts s t n) ws rs = rec.Parts (object Thread t) (queue_on s n)
-record_of (Sent m len t e at) ws rs = rec.Sent (object Thread t) (object Endpoint e) m (record { 0 = word_at ws (at + 1 + len) }) (content_at ws at len)
-record_of (Took m t) ws rs = rec.Took m (object Thread t)
+record_of (FilledBadged i rights k n at) ws rs = rec.Slot (object CNode (serial_behind ws at)) i (Some (plain_cap (object k n) rights (word_at ws at)))
+record_of (FilledGuarded i rights bits n at) ws rs = rec.Slot (object CNode (serial_behind ws at)) i (Some (guarded_cap n rights bits (word_at ws at)))
+record_of (Prio p t) ws rs = rec.Prio (object Thread (t + 1)) p
+record_of (Turns m t) ws rs = rec.Turns (object Thread (t + 1)) m
+record_of (Joins s t n) ws rs = rec.Joins (object Thread (t + 1)) (queue_on s n) None
+record_of (JoinsWith s t n r) ws rs = rec.Joins (object Thread (t + 1)) (queue_on s n) (Some (object Reply r))
+record_of (Parts s t n) ws rs = rec.Parts (object Thread (t + 1)) (queue_on s n)
+record_of (Sent m len t e at) ws rs = rec.Sent (object Thread (t + 1)) (object Endpoint e) m (record { 0 = word_at ws (at + 1 + len) }) (content_at ws at len)
+record_of (Took t m) ws rs = rec.Took m (object Thread (t + 1))
 record_of (Dropped m) ws rs = rec.Dropped m
-record_of (Owes r t) ws rs = rec.Owes (object Reply r) (object Thread t) None
-record_of (OwesWith r t s) ws rs = rec.Owes (object Reply r) (object Thread t) (Some (object Context s))
-record_of (Paid len r t at) ws rs = rec.Paid (object Reply r) (object Thread t) (content_at ws at len)
-record_of (Void ending r t) ws rs = rec.Void (object Reply r) (object Thread t) ending
-record_of (Held s t) ws rs = rec.Holds (object Context s) (Some (object Thread t))
+record_of (Owes t r) ws rs = rec.Owes (object Reply r) (object Thread (t + 1)) None
+record_of (OwesWith t r s) ws rs = rec.Owes (object Reply r) (object Thread (t + 1)) (Some (object Context s))
+record_of (Paid len t r at) ws rs = rec.Paid (object Reply r) (object Thread (t + 1)) (content_at ws at len)
+record_of (Void ending t r) ws rs = rec.Void (object Reply r) (object Thread (t + 1)) ending
+record_of (Held t s) ws rs = rec.Holds (object Context s) (Some (object Thread (t + 1)))
 record_of (Unheld s) ws rs = rec.Holds (object Context s) None
-record_of (Raised n b) ws rs = rec.Raised (object Notification n) b
-record_of (Heard t n at) ws rs = rec.Heard (object Thread t) (object Notification n) (word_at ws at)
-record_of (Tied t n) ws rs = rec.Tied (object Thread t) (Some (object Notification n))
-record_of (Untied t) ws rs = rec.Tied (object Thread t) None
+record_of (Raised n b) ws rs = rec.Raised (object Notification n) (record { 0 = b })
+record_of (RaisedAt n at) ws rs = rec.Raised (object Notification n) (record { 0 = word_at ws at })
+record_of (Heard t n at) ws rs = rec.Heard (object Thread (t + 1)) (object Notification n) (word_at ws at)
+record_of (Tied t n) ws rs = rec.Tied (object Thread (t + 1)) (Some (object Notification n))
+record_of (Untied t) ws rs = rec.Tied (object Thread (t + 1)) None
 record_of (Homed s n) ws rs = rec.Homed (object Context s) (Some (object Notification n))
 record_of (Unhomed s) ws rs = rec.Homed (object Context s) None
 record_of (Wide at) ws rs = slice_index_or rs at no_record
@@ -127,10 +132,15 @@ IsOfBond (Homed _ _) = Unit {0}
 IsOfBond (Unhomed _) = Unit {0}
 IsOfBond _ = ⊥
 
--- what keeps one word
+-- a slot with a capability that has a badge or a guard
+abbrev pub IsOfMarked : Packed → Type 0
+IsOfMarked (FilledBadged _ _ _ _ _) = Unit {0}
+IsOfMarked (FilledGuarded _ _ _ _ _) = Unit {0}
+IsOfMarked _ = ⊥
+
+-- what keeps one word: what was signalled or heard
 abbrev pub IsOfWord : Packed → Type 0
-IsOfWord (FilledBadged _ _ _ _ _ _) = Unit {0}
-IsOfWord (FilledGuarded _ _ _ _ _ _) = Unit {0}
+IsOfWord (RaisedAt _ _) = Unit {0}
 IsOfWord (Heard _ _ _) = Unit {0}
 IsOfWord _ = ⊥
 
@@ -151,12 +161,18 @@ pub record IsBadgedAt (ws : List ℕ) (at len : ℕ) : Type 0 where
   pub message : IsMessageAt ws at len
   pub badge : at + 1 + len < length ws
 
+-- a word stands there, and the serial of an object behind it
+pub record IsPairAt (ws : List ℕ) (at : ℕ) : Type 0 where
+  pub ends : at + 1 < length ws
+  pub serial : serial_behind ws at < 2 ^ 32
+
 -- what a packed record names is there
 abbrev pub Fits : Packed → List ℕ → List Rec → Type 0
-Fits (FilledBadged i rights k c n at) ws rs = at < length ws
-Fits (FilledGuarded i rights bits c n at) ws rs = at < length ws
+Fits (FilledBadged i rights k n at) ws rs = IsPairAt ws at
+Fits (FilledGuarded i rights bits n at) ws rs = IsPairAt ws at
 Fits (Sent m len t e at) ws rs = IsBadgedAt ws at len
-Fits (Paid len r t at) ws rs = IsMessageAt ws at len
+Fits (Paid len t r at) ws rs = IsMessageAt ws at len
+Fits (RaisedAt n at) ws rs = at < length ws
 Fits (Heard t n at) ws rs = at < length ws
 Fits (Wide at) ws rs = at < length rs
 Fits _ ws rs = Unit {0}
@@ -184,17 +200,17 @@ AllFit [] ws rs = Unit {0}
 AllFit (p ∷ ps) ws rs = Fits p ws rs × AllFit ps ws rs
 
 -- there is room for what so many records keep in the arena, and for a head: a record keeps six words, and long messages of records
--- may use up the spare words besides; an entry keeps 122 words, and so does an answer
+-- may use up the spare words besides; an entry keeps 124 words, and an answer fewer
 pub record HasRoom (a : Arena) (n : ℕ) : Type 0 where
-  pub words : vec_len a.words + (6 * n + (a.spare + 244)) ≤ vec_capacity a.words
-  pub named : vec_len a.words + (6 * n + (a.spare + 244)) ≤ 2 ^ 32
+  pub words : vec_len a.words + (6 * n + (a.spare + 248)) ≤ vec_capacity a.words
+  pub named : vec_len a.words + (6 * n + (a.spare + 248)) ≤ 3 * 2 ^ 30
   pub wide : vec_len a.wide + n ≤ vec_capacity a.wide
   pub named_wide : vec_len a.wide + n ≤ 2 ^ 32
 
--- there is room for so many messages of any length
+-- there is room for so many entries and answers, each with a message of any length
 pub record HasMessageRoom (a : Arena) (n : ℕ) : Type 0 where
-  pub words : vec_len a.words + 122 * n ≤ vec_capacity a.words
-  pub named : vec_len a.words + 122 * n ≤ 2 ^ 32
+  pub words : vec_len a.words + 124 * n ≤ vec_capacity a.words
+  pub named : vec_len a.words + 124 * n ≤ 3 * 2 ^ 30
 
 -- an arena after one record more
 pub record Grew (a b : Arena) : Type 0 where

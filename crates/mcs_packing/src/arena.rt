@@ -1,14 +1,15 @@
 //! The words of messages, each once, and the records that fit no packed form.
 ghost use Rattle.std.specs.Prelude.{ℕ, ◌≡◌, ◌<◌, ◌≤◌, ◌+◌, ◌-◌, ◌^◌, [], ◌∷◌, ◌++◌, IsTrue, IfOk, IfSome, IfNone, length, vec_len, vec_capacity};
-ghost use Rattle.mcs_packing.specs.Packing.{FitsIn, Grew, GrewHead, GrowsBy, HasBadgeAt, HasMessageRoom, HasRoom, HoldsAt, IsBadgedAt, IsMessageAt, content_at, record_in, word_at};
+ghost use Rattle.mcs_packing.specs.Addresses.{GrewWords};
+ghost use Rattle.mcs_packing.specs.Packing.{FitsIn, Grew, GrewHead, GrowsBy, HasBadgeAt, HasMessageRoom, HasRoom, HoldsAt, IsBadgedAt, IsMessageAt, IsPairAt, content_at, record_in, serial_behind, word_at};
 
 use crate::packed::Packed;
 use mcs_types::{Badge, INLINE_WORDS, Message, OutOfMemory, Rec, copy_rows, emptied};
 use std::alloc::Global;
 
 /// The words that packed records, entries and answers name by their places, and the records that fit no packed form. A
-/// message stands as its label and its words, and a badge behind them where one is kept with it. Both lists only grow. `spare` is
-/// how many words the long messages of records may still take beyond six each.
+/// message stands as its label and its words, and a badge behind them where one is kept with it; a large address stands alone. Both
+/// lists only grow. `spare` is how many words the long messages of records may still take beyond six each.
 #[derive(Drop)]
 pub struct Arena {
     pub words: Vec<u64>,
@@ -145,17 +146,33 @@ fn keep_badged(words: &mut Vec<u64>, message: &Message, badge: Badge) -> u32
 }
 
 /// Keeps a word, for which there is room, and answers where.
-fn keep_one(words: &mut Vec<u64>, word: u64) -> u32
+pub(crate) fn keep_one(words: &mut Vec<u64>, word: u64) -> u32
     requires room { vec_len words.old < vec_capacity words.old }
     requires named { vec_len words.old < 2 ^ 32 }
     ensures value { word_at words.new.items result ≡ word }
-    ensures there { result < length words.new.items }
+    ensures last { result + 1 ≡ length words.new.items }
     ensures grew { GrowsBy words.old.items words.new.items }
     ensures len { vec_len words.new ≡ vec_len words.old + 1 }
     ensures capacity { vec_capacity words.old ≤ vec_capacity words.new }
 {
     let at = words.len() as u32;
     push_word(words, word);
+    at
+}
+
+/// Keeps a word and the serial of an object behind it, for which there is room, and answers where.
+fn keep_two(words: &mut Vec<u64>, word: u64, serial: u32) -> u32
+    requires room { vec_len words.old + 2 ≤ vec_capacity words.old }
+    requires named { vec_len words.old < 2 ^ 32 }
+    ensures value { word_at words.new.items result ≡ word }
+    ensures serial { serial_behind words.new.items result ≡ serial }
+    ensures there { result + 1 < length words.new.items }
+    ensures grew { GrowsBy words.old.items words.new.items }
+    ensures len { vec_len words.new ≡ vec_len words.old + 2 }
+    ensures capacity { vec_capacity words.old ≤ vec_capacity words.new }
+{
+    let at = keep_one(words, word);
+    push_word(words, serial as u64);
     at
 }
 
@@ -215,6 +232,7 @@ impl Arena {
         ensures badge { HasBadgeAt self.new.words.items result message.now badge.0 }
         ensures fits { IsBadgedAt self.new.words.items result (length message.now.words) }
         ensures grew { GrewHead self.old self.new }
+        ensures few { GrewWords 122 self.old self.new }
     {
         if is_at(&self.words, place, message) && is_badge_at(&self.words, place, message, badge) {
             place
@@ -229,7 +247,7 @@ impl Arena {
         requires { HasMessageRoom self.old 1 }
         ensures value { HoldsAt self.new.words.items result message.now }
         ensures fits { IsMessageAt self.new.words.items result (length message.now.words) }
-        ensures grew { GrewHead self.old self.new }
+        ensures grew { GrewWords 121 self.old self.new }
     {
         if is_at(&self.words, place, message) {
             place
@@ -249,12 +267,24 @@ impl Arena {
         keep_one(&mut self.words, word)
     }
 
+    /// Keeps the word of a record and the serial of an object behind it, and answers where.
+    pub(crate) fn keep_pair(&mut self, word: u64, serial: u32) -> u32
+        requires { HasRoom self.old 1 }
+        ensures value { word_at self.new.words.items result ≡ word }
+        ensures serial { serial_behind self.new.words.items result ≡ serial }
+        ensures fits { IsPairAt self.new.words.items result }
+        ensures grew { Grew self.old self.new }
+    {
+        keep_two(&mut self.words, word, serial)
+    }
+
     /// Keeps the word of an entry or an answer, and answers where: at this place, if it stands there already.
     pub(crate) fn share_word(&mut self, word: u64, place: u32) -> u32
         requires { HasMessageRoom self.old 1 }
         ensures value { word_at self.new.words.items result ≡ word }
         ensures there { result < length self.new.words.items }
         ensures grew { GrewHead self.old self.new }
+        ensures few { GrewWords 1 self.old self.new }
     {
         if (place as usize) < self.words.len() && self.words[place as usize] == word {
             place

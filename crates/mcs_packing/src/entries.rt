@@ -1,9 +1,11 @@
-//! Entries in 24 bytes each, their messages and badges among the words.
+//! Entries in 16 bytes each, their messages, badges and large addresses among the words.
 ghost use Rattle.std.specs.Prelude.{◌≡◌, IfOk};
+ghost use Rattle.mcs_types.specs.declared.entry.Entry.{Entry};
 ghost use Rattle.mcs_packing.specs.Packing.{GrewHead, HasMessageRoom};
-ghost use Rattle.mcs_packing.specs.declared.entries.PackedEntry.TheVariants.{AtPlace};
-ghost use Rattle.mcs_packing.specs.Entries.{EntryFits, sending, over_pair, over_address, over_place, place_of, entry_of};
+ghost use Rattle.mcs_packing.specs.Addresses.{AddressFits, address_of};
+ghost use Rattle.mcs_packing.specs.Entries.{EntryFits, IsInvocation, sending, over_pair, over_address, over_place, place_of, entry_of};
 
+use crate::addresses::{PackedAddress, address_at};
 use crate::arena::{Arena, length_of, message_at};
 use mcs_types::{Badge, Entry, Message, OutOfMemory, Place, Prio, Rights};
 use std::alloc::Global;
@@ -56,98 +58,337 @@ pub enum PackedEntry {
         form: Sending,
         len: u8,
         at: u32,
-        cap: u64,
+        cap: PackedAddress,
     },
     ReplyRecv {
         len: u8,
         at: u32,
-        cap: u64,
-        reply: u64,
+        cap: PackedAddress,
+        reply: PackedAddress,
     },
     /// The address of the reply object stands behind the message, where a badge does.
     NbSendRecv {
         len: u8,
         at: u32,
-        cap: u64,
-        source: u64,
+        cap: PackedAddress,
+        source: PackedAddress,
     },
     NbSendWait {
         len: u8,
         at: u32,
-        cap: u64,
-        source: u64,
+        cap: PackedAddress,
+        source: PackedAddress,
     },
-    Pair(OverPair, u64, u64),
-    Address(OverAddress, u64),
-    AtPlace(OverPlace, u8, u64),
+    Pair(OverPair, PackedAddress, PackedAddress),
+    Address(OverAddress, PackedAddress),
+    AtPlace(OverPlace, u8, PackedAddress),
     SetPriority {
         priority: Prio,
-        thread: u64,
-        authority: u64,
+        thread: PackedAddress,
+        authority: PackedAddress,
     },
     CopyCap {
         source_depth: u8,
         dest_depth: u8,
         rights: Rights,
-        source: u64,
-        dest: u64,
+        source: PackedAddress,
+        dest: PackedAddress,
     },
     MintCap {
         source_depth: u8,
         dest_depth: u8,
         rights: Rights,
         at: u32,
-        source: u64,
-        dest: u64,
+        source: PackedAddress,
+        dest: PackedAddress,
     },
     MoveCap {
         source_depth: u8,
         dest_depth: u8,
-        source: u64,
-        dest: u64,
+        source: PackedAddress,
+        dest: PackedAddress,
     },
 }
 
-const _: () = prove!(size_of::<PackedEntry>() == 24);
+const _: () = prove!(size_of::<PackedEntry>() == 16);
 
-fn place_of(index: u64, depth: u8) -> Place
-    ensures { result ≡ place_of index depth }
-{
-    Place { index, depth }
-}
-
-/// An entry with one place, packed.
-fn at_place(form: OverPlace, place: &Place) -> PackedEntry
-    ensures { result ≡ AtPlace form place.now.depth place.now.index }
-{
-    PackedEntry::AtPlace(form, place.depth, place.index)
-}
+// Each form is packed as a part of `pack_entry`, but for the one that three entries share. A message goes first: so no packed
+// address waits for its call.
 
 impl Arena {
     /// Packs an entry that sends a message.
+    #[inline]
     fn pack_sending(
         &mut self,
         form: Sending,
         cap: u64,
         message: &Message,
         place: u32,
-    ) -> PackedEntry
+        into: &mut PackedEntry,
+    )
         requires { HasMessageRoom self.old 1 }
-        ensures value { entry_of result self.new.words.items ≡ sending form cap message.now }
-        ensures fits { EntryFits result self.new.words.items }
+        ensures value { entry_of into.new self.new.words.items ≡ sending form cap message.now }
+        ensures fits { EntryFits into.new self.new.words.items }
         ensures grew { GrewHead self.old self.new }
     {
-        PackedEntry::Sends {
-            form,
-            len: length_of(message),
-            at: self.share_plain(message, place),
+        let len = length_of(message);
+        let at = self.share_plain(message, place);
+        let cap = self.pack_address(cap);
+        *into = PackedEntry::Sends { form, len, at, cap };
+    }
+
+    /// Packs an entry that answers a caller and receives.
+    #[inline]
+    fn pack_reply_recv(
+        &mut self,
+        cap: u64,
+        reply: u64,
+        message: &Message,
+        place: u32,
+        into: &mut PackedEntry,
+    )
+        requires { HasMessageRoom self.old 1 }
+        ensures value { entry_of into.new self.new.words.items
+            ≡ Entry.ReplyRecv cap reply message.now }
+        ensures fits { EntryFits into.new self.new.words.items }
+        ensures grew { GrewHead self.old self.new }
+    {
+        let len = length_of(message);
+        let at = self.share_plain(message, place);
+        let (cap, reply) = self.pack_two(cap, reply);
+        *into = PackedEntry::ReplyRecv {
+            len,
+            at,
             cap,
+            reply,
+        };
+    }
+
+    /// Packs an entry that sends and receives, with the reply object behind the message.
+    fn pack_send_recv(
+        &mut self,
+        cap: u64,
+        source: u64,
+        reply: u64,
+        message: &Message,
+        place: u32,
+        into: &mut PackedEntry,
+    )
+        requires { HasMessageRoom self.old 1 }
+        ensures value { entry_of into.new self.new.words.items
+            ≡ Entry.NbSendRecv cap source reply message.now }
+        ensures fits { EntryFits into.new self.new.words.items }
+        ensures grew { GrewHead self.old self.new }
+    {
+        let len = length_of(message);
+        let at = self.share(message, Badge(reply), place);
+        let (cap, source) = self.pack_two(cap, source);
+        *into = PackedEntry::NbSendRecv {
+            len,
+            at,
+            cap,
+            source,
+        };
+    }
+
+    /// Packs an entry that sends and waits.
+    fn pack_send_wait(
+        &mut self,
+        cap: u64,
+        source: u64,
+        message: &Message,
+        place: u32,
+        into: &mut PackedEntry,
+    )
+        requires { HasMessageRoom self.old 1 }
+        ensures value { entry_of into.new self.new.words.items
+            ≡ Entry.NbSendWait cap source message.now }
+        ensures fits { EntryFits into.new self.new.words.items }
+        ensures grew { GrewHead self.old self.new }
+    {
+        let len = length_of(message);
+        let at = self.share_plain(message, place);
+        let (cap, source) = self.pack_two(cap, source);
+        *into = PackedEntry::NbSendWait {
+            len,
+            at,
+            cap,
+            source,
+        };
+    }
+
+    /// Packs an entry of two addresses.
+    #[inline(always)]
+    fn pack_pair(&mut self, form: OverPair, first: u64, second: u64, into: &mut PackedEntry)
+        requires { HasMessageRoom self.old 1 }
+        ensures value { entry_of into.new self.new.words.items ≡ over_pair form first second }
+        ensures fits { EntryFits into.new self.new.words.items }
+        ensures grew { GrewHead self.old self.new }
+    {
+        let (first, second) = self.pack_two(first, second);
+        *into = PackedEntry::Pair(form, first, second);
+    }
+
+    /// Packs an entry of one address.
+    #[inline(always)]
+    fn pack_over(&mut self, form: OverAddress, address: u64, into: &mut PackedEntry)
+        requires { HasMessageRoom self.old 1 }
+        ensures value { entry_of into.new self.new.words.items ≡ over_address form address }
+        ensures fits { EntryFits into.new self.new.words.items }
+        ensures grew { GrewHead self.old self.new }
+    {
+        *into = PackedEntry::Address(form, self.pack_address(address));
+    }
+
+    /// Packs an entry of one place.
+    #[inline(always)]
+    fn pack_at(&mut self, form: OverPlace, place: &Place, into: &mut PackedEntry)
+        requires { HasMessageRoom self.old 1 }
+        ensures value { entry_of into.new self.new.words.items ≡ over_place form place.now }
+        ensures fits { EntryFits into.new self.new.words.items }
+        ensures grew { GrewHead self.old self.new }
+    {
+        *into = PackedEntry::AtPlace(form, place.depth, self.pack_address(place.index));
+    }
+
+    /// Packs an entry that sets a priority.
+    #[inline(always)]
+    fn pack_priority(&mut self, thread: u64, authority: u64, priority: Prio, into: &mut PackedEntry)
+        requires { HasMessageRoom self.old 1 }
+        ensures value { entry_of into.new self.new.words.items
+            ≡ Entry.SetPriority thread authority priority }
+        ensures fits { EntryFits into.new self.new.words.items }
+        ensures grew { GrewHead self.old self.new }
+    {
+        let (thread, authority) = self.pack_two(thread, authority);
+        *into = PackedEntry::SetPriority {
+            priority,
+            thread,
+            authority,
+        };
+    }
+
+    /// Packs an entry that copies a capability.
+    #[inline(always)]
+    fn pack_copy(&mut self, source: &Place, dest: &Place, rights: Rights, into: &mut PackedEntry)
+        requires { HasMessageRoom self.old 1 }
+        ensures value { entry_of into.new self.new.words.items
+            ≡ Entry.CopyCap source.now dest.now rights }
+        ensures fits { EntryFits into.new self.new.words.items }
+        ensures grew { GrewHead self.old self.new }
+    {
+        let (from, to) = self.pack_two(source.index, dest.index);
+        *into = PackedEntry::CopyCap {
+            source_depth: source.depth,
+            dest_depth: dest.depth,
+            rights,
+            source: from,
+            dest: to,
+        };
+    }
+
+    /// Packs an entry that copies a capability and gives it a badge.
+    #[inline(always)]
+    fn pack_mint(
+        &mut self,
+        source: &Place,
+        dest: &Place,
+        rights: Rights,
+        badge: Badge,
+        place: u32,
+        into: &mut PackedEntry,
+    )
+        requires { HasMessageRoom self.old 1 }
+        ensures value { entry_of into.new self.new.words.items
+            ≡ Entry.MintCap source.now dest.now rights badge }
+        ensures fits { EntryFits into.new self.new.words.items }
+        ensures grew { GrewHead self.old self.new }
+    {
+        let at = self.share_word(badge.0, place);
+        let (from, to) = self.pack_two(source.index, dest.index);
+        *into = PackedEntry::MintCap {
+            source_depth: source.depth,
+            dest_depth: dest.depth,
+            rights,
+            at,
+            source: from,
+            dest: to,
+        };
+    }
+
+    /// Packs an entry that moves a capability.
+    #[inline(always)]
+    fn pack_move(&mut self, source: &Place, dest: &Place, into: &mut PackedEntry)
+        requires { HasMessageRoom self.old 1 }
+        ensures value { entry_of into.new self.new.words.items ≡ Entry.MoveCap source.now dest.now }
+        ensures fits { EntryFits into.new self.new.words.items }
+        ensures grew { GrewHead self.old self.new }
+    {
+        let (from, to) = self.pack_two(source.index, dest.index);
+        *into = PackedEntry::MoveCap {
+            source_depth: source.depth,
+            dest_depth: dest.depth,
+            source: from,
+            dest: to,
+        };
+    }
+
+    /// Packs an invocation of an object into `into`.
+    fn pack_invocation(&mut self, entry: &Entry, place: u32, into: &mut PackedEntry)
+        requires room { HasMessageRoom self.old 1 }
+        requires of { IsInvocation entry.now }
+        ensures value { entry_of into.new self.new.words.items ≡ entry.now }
+        ensures fits { EntryFits into.new self.new.words.items }
+        ensures grew { GrewHead self.old self.new }
+    {
+        match entry {
+            Entry::BindNtfn {
+                thread,
+                notification,
+            } => self.pack_pair(OverPair::BindNtfn, *thread, *notification, into),
+            Entry::BindCtx { context, thread } => {
+                self.pack_pair(OverPair::BindCtx, *context, *thread, into)
+            }
+            Entry::Suspend { thread } => self.pack_over(OverAddress::Suspend, *thread, into),
+            Entry::Resume { thread } => self.pack_over(OverAddress::Resume, *thread, into),
+            Entry::UnbindNtfn { thread } => self.pack_over(OverAddress::UnbindNtfn, *thread, into),
+            Entry::UnbindCtx { context } => self.pack_over(OverAddress::UnbindCtx, *context, into),
+            Entry::CancelBadged { endpoint } => {
+                self.pack_over(OverAddress::CancelBadged, *endpoint, into)
+            }
+            Entry::DeleteCap { place } => self.pack_at(OverPlace::DeleteCap, place, into),
+            Entry::MakeEndpoint { place } => self.pack_at(OverPlace::MakeEndpoint, place, into),
+            Entry::MakeNotification { place } => self.pack_at(
+                OverPlace::MakeNotification,
+                place,
+                into,
+            ),
+            Entry::MakeReply { place } => self.pack_at(OverPlace::MakeReply, place, into),
+            Entry::MakeContext { place } => self.pack_at(OverPlace::MakeContext, place, into),
+            Entry::SetPriority {
+                thread,
+                authority,
+                priority,
+            } => self.pack_priority(*thread, *authority, *priority, into),
+            Entry::CopyCap {
+                source,
+                dest,
+                rights,
+            } => self.pack_copy(source, dest, *rights, into),
+            Entry::MintCap {
+                source,
+                dest,
+                rights,
+                badge,
+            } => self.pack_mint(source, dest, *rights, *badge, place, into),
+            Entry::MoveCap { source, dest } => self.pack_move(source, dest, into),
+            _ => unreachable!(),
         }
     }
 
-    /// Packs an entry, for which there is room, into `into`: a table, a row for each entry. Its message or its badge may stand
-    /// at a place already. What was packed before stands for what it stood for.
-    // a part of its caller: so the entry is packed where it stays, and no place for it is handed on
+    /// Packs an entry, for which there is room, into `into`. Its message or its badge may stand at a place already. What was packed
+    /// before stands for what it stood for.
+    // a part of its caller, but for invocations: so the entry is packed where it stays, and no place for it is handed on
     #[inline(always)]
     pub fn pack_entry(&mut self, entry: &Entry, place: u32, into: &mut PackedEntry)
         requires { HasMessageRoom self.old 1 }
@@ -155,110 +396,63 @@ impl Arena {
         ensures fits { EntryFits into.new self.new.words.items }
         ensures grew { GrewHead self.old self.new }
     {
-        *into = match entry {
-            Entry::Send { cap, message } => self.pack_sending(Sending::Send, *cap, message, place),
+        match entry {
+            Entry::Send { cap, message } => self.pack_sending(
+                Sending::Send,
+                *cap,
+                message,
+                place,
+                into,
+            ),
             Entry::NbSend { cap, message } => self.pack_sending(
                 Sending::NbSend,
                 *cap,
                 message,
                 place,
+                into,
             ),
-            Entry::Call { cap, message } => self.pack_sending(Sending::Call, *cap, message, place),
+            Entry::Call { cap, message } => self.pack_sending(
+                Sending::Call,
+                *cap,
+                message,
+                place,
+                into,
+            ),
             Entry::ReplyRecv {
                 cap,
                 reply,
                 message,
-            } => PackedEntry::ReplyRecv {
-                len: length_of(message),
-                at: self.share_plain(message, place),
-                cap: *cap,
-                reply: *reply,
-            },
+            } => self.pack_reply_recv(*cap, *reply, message, place, into),
             Entry::NbSendRecv {
                 cap,
                 source,
                 reply,
                 message,
-            } => PackedEntry::NbSendRecv {
-                len: length_of(message),
-                at: self.share(message, Badge(*reply), place),
-                cap: *cap,
-                source: *source,
-            },
+            } => self.pack_send_recv(*cap, *source, *reply, message, place, into),
             Entry::NbSendWait {
                 cap,
                 source,
                 message,
-            } => PackedEntry::NbSendWait {
-                len: length_of(message),
-                at: self.share_plain(message, place),
-                cap: *cap,
-                source: *source,
-            },
-            Entry::Recv { cap, reply } => PackedEntry::Pair(OverPair::Recv, *cap, *reply),
-            Entry::NbRecv { cap, reply } => PackedEntry::Pair(OverPair::NbRecv, *cap, *reply),
-            Entry::BindNtfn {
-                thread,
-                notification,
-            } => PackedEntry::Pair(OverPair::BindNtfn, *thread, *notification),
-            Entry::BindCtx { context, thread } => {
-                PackedEntry::Pair(OverPair::BindCtx, *context, *thread)
-            }
-            Entry::Wait { cap } => PackedEntry::Address(OverAddress::Wait, *cap),
-            Entry::NbWait { cap } => PackedEntry::Address(OverAddress::NbWait, *cap),
-            Entry::Signal { cap } => PackedEntry::Address(OverAddress::Signal, *cap),
-            Entry::Suspend { thread } => PackedEntry::Address(OverAddress::Suspend, *thread),
-            Entry::Resume { thread } => PackedEntry::Address(OverAddress::Resume, *thread),
-            Entry::UnbindNtfn { thread } => PackedEntry::Address(OverAddress::UnbindNtfn, *thread),
-            Entry::UnbindCtx { context } => PackedEntry::Address(OverAddress::UnbindCtx, *context),
-            Entry::CancelBadged { endpoint } => {
-                PackedEntry::Address(OverAddress::CancelBadged, *endpoint)
-            }
-            Entry::DeleteCap { place } => at_place(OverPlace::DeleteCap, place),
-            Entry::MakeEndpoint { place } => at_place(OverPlace::MakeEndpoint, place),
-            Entry::MakeNotification { place } => at_place(OverPlace::MakeNotification, place),
-            Entry::MakeReply { place } => at_place(OverPlace::MakeReply, place),
-            Entry::MakeContext { place } => at_place(OverPlace::MakeContext, place),
-            Entry::SetPriority {
-                thread,
-                authority,
-                priority,
-            } => PackedEntry::SetPriority {
-                priority: *priority,
-                thread: *thread,
-                authority: *authority,
-            },
-            Entry::CopyCap {
-                source,
-                dest,
-                rights,
-            } => PackedEntry::CopyCap {
-                source_depth: source.depth,
-                dest_depth: dest.depth,
-                rights: *rights,
-                source: source.index,
-                dest: dest.index,
-            },
-            Entry::MintCap {
-                source,
-                dest,
-                rights,
-                badge,
-            } => PackedEntry::MintCap {
-                source_depth: source.depth,
-                dest_depth: dest.depth,
-                rights: *rights,
-                at: self.share_word(badge.0, place),
-                source: source.index,
-                dest: dest.index,
-            },
-            Entry::MoveCap { source, dest } => PackedEntry::MoveCap {
-                source_depth: source.depth,
-                dest_depth: dest.depth,
-                source: source.index,
-                dest: dest.index,
-            },
-        };
+            } => self.pack_send_wait(*cap, *source, message, place, into),
+            Entry::Recv { cap, reply } => self.pack_pair(OverPair::Recv, *cap, *reply, into),
+            Entry::NbRecv { cap, reply } => self.pack_pair(OverPair::NbRecv, *cap, *reply, into),
+            Entry::Wait { cap } => self.pack_over(OverAddress::Wait, *cap, into),
+            Entry::NbWait { cap } => self.pack_over(OverAddress::NbWait, *cap, into),
+            Entry::Signal { cap } => self.pack_over(OverAddress::Signal, *cap, into),
+            _ => self.pack_invocation(entry, place, into),
+        }
+    }
+}
+
+/// The place of a packed index.
+#[inline(always)]
+pub fn place_at(words: &[u64], index: PackedAddress, depth: u8) -> Place
+    requires { AddressFits index words.now }
+    ensures { result ≡ place_of (address_of index words.now) depth }
+{
+    Place {
+        index: address_at(words, index),
+        depth,
     }
 }
 
@@ -333,7 +527,11 @@ pub fn unpack_entry(alloc: Global, entry: &PackedEntry, words: &[u64]) -> Result
 {
     Ok(match entry {
         PackedEntry::Sends { form, len, at, cap } => {
-            unpack_sending(*form, *cap, message_at(alloc, words, *at, *len)?)
+            unpack_sending(
+                *form,
+                address_at(words, *cap),
+                message_at(alloc, words, *at, *len)?,
+            )
         }
         PackedEntry::ReplyRecv {
             len,
@@ -341,8 +539,8 @@ pub fn unpack_entry(alloc: Global, entry: &PackedEntry, words: &[u64]) -> Result
             cap,
             reply,
         } => Entry::ReplyRecv {
-            cap: *cap,
-            reply: *reply,
+            cap: address_at(words, *cap),
+            reply: address_at(words, *reply),
             message: message_at(alloc, words, *at, *len)?,
         },
         PackedEntry::NbSendRecv {
@@ -351,8 +549,8 @@ pub fn unpack_entry(alloc: Global, entry: &PackedEntry, words: &[u64]) -> Result
             cap,
             source,
         } => Entry::NbSendRecv {
-            cap: *cap,
-            source: *source,
+            cap: address_at(words, *cap),
+            source: address_at(words, *source),
             reply: words[*at as usize + 1 + *len as usize],
             message: message_at(alloc, words, *at, *len)?,
         },
@@ -362,20 +560,27 @@ pub fn unpack_entry(alloc: Global, entry: &PackedEntry, words: &[u64]) -> Result
             cap,
             source,
         } => Entry::NbSendWait {
-            cap: *cap,
-            source: *source,
+            cap: address_at(words, *cap),
+            source: address_at(words, *source),
             message: message_at(alloc, words, *at, *len)?,
         },
-        PackedEntry::Pair(form, first, second) => unpack_pair(*form, *first, *second),
-        PackedEntry::Address(form, address) => unpack_address(*form, *address),
-        PackedEntry::AtPlace(form, depth, index) => unpack_at(*form, place_of(*index, *depth)),
+        PackedEntry::Pair(form, first, second) => unpack_pair(
+            *form,
+            address_at(words, *first),
+            address_at(words, *second),
+        ),
+        PackedEntry::Address(form, address) => unpack_address(*form, address_at(words, *address)),
+        PackedEntry::AtPlace(form, depth, index) => unpack_at(
+            *form,
+            place_at(words, *index, *depth),
+        ),
         PackedEntry::SetPriority {
             priority,
             thread,
             authority,
         } => Entry::SetPriority {
-            thread: *thread,
-            authority: *authority,
+            thread: address_at(words, *thread),
+            authority: address_at(words, *authority),
             priority: *priority,
         },
         PackedEntry::CopyCap {
@@ -385,8 +590,8 @@ pub fn unpack_entry(alloc: Global, entry: &PackedEntry, words: &[u64]) -> Result
             source,
             dest,
         } => Entry::CopyCap {
-            source: place_of(*source, *source_depth),
-            dest: place_of(*dest, *dest_depth),
+            source: place_at(words, *source, *source_depth),
+            dest: place_at(words, *dest, *dest_depth),
             rights: *rights,
         },
         PackedEntry::MintCap {
@@ -397,8 +602,8 @@ pub fn unpack_entry(alloc: Global, entry: &PackedEntry, words: &[u64]) -> Result
             source,
             dest,
         } => Entry::MintCap {
-            source: place_of(*source, *source_depth),
-            dest: place_of(*dest, *dest_depth),
+            source: place_at(words, *source, *source_depth),
+            dest: place_at(words, *dest, *dest_depth),
             rights: *rights,
             badge: Badge(words[*at as usize]),
         },
@@ -408,8 +613,8 @@ pub fn unpack_entry(alloc: Global, entry: &PackedEntry, words: &[u64]) -> Result
             source,
             dest,
         } => Entry::MoveCap {
-            source: place_of(*source, *source_depth),
-            dest: place_of(*dest, *dest_depth),
+            source: place_at(words, *source, *source_depth),
+            dest: place_at(words, *dest, *dest_depth),
         },
     })
 }

@@ -1,4 +1,4 @@
-//! Heads of lines, in 48 bytes each.
+//! Heads of lines, in 32 bytes each.
 ghost use Rattle.std.specs.Prelude.{◌≡◌, IfOk};
 ghost use Rattle.mcs_packing.specs.Packing.{GrewHead, HasMessageRoom};
 ghost use Rattle.mcs_packing.specs.Heads.{AnswerFits, answer_of};
@@ -8,52 +8,71 @@ use crate::entries::PackedEntry;
 use mcs_types::{Answer, Badge, CoreId, Kind, OutOfMemory, Refusal};
 use std::alloc::Global;
 
-/// An answer, packed: `at` is a place among the words, of a message with so many words or of a word.
+/// Which answer it is: a message has so many words.
 #[derive(Clone, Copy)]
-pub enum PackedAnswer {
+pub enum AnswerForm {
     Done,
-    Got { len: u8, at: u32 },
-    Heard { at: u32 },
+    Got { len: u8 },
+    Heard,
     Empty,
     Waits,
     Refused(Refusal),
 }
 
-/// The head of a line: who entered on which core, the entry, the answer, and where the records end among those of all
-/// lines.
+/// An answer, packed: `at` is the place among the words of a message that was got or of a word that was heard.
+#[derive(Clone, Copy)]
+pub struct PackedAnswer {
+    pub form: AnswerForm,
+    pub at: u32,
+}
+
+/// The head of a line: who entered on which core, the entry, the answer as `PackedAnswer` has it, and where the records end
+/// among those of all lines.
 #[derive(Clone, Copy)]
 pub struct Head {
     pub entry: PackedEntry,
-    pub end: usize,
-    pub answer: PackedAnswer,
+    pub end: u32,
     pub serial: u32,
+    pub answer_at: u32,
+    pub answer: AnswerForm,
     pub kind: Kind,
     pub core: CoreId,
 }
 
-const _: () = prove!(size_of::<Head>() == 48);
+const _: () = prove!(size_of::<Head>() == 32);
+
+/// An answer that names no place.
+fn placeless(form: AnswerForm) -> PackedAnswer
+    ensures form { result.form ≡ form }
+    ensures at { result.at ≡ 0 }
+{
+    PackedAnswer { form, at: 0 }
+}
 
 impl Arena {
     /// Packs an answer, for which there is room. Its message or its word may stand at a place already. What was packed before
     /// stands for what it stood for.
     pub fn pack_answer(&mut self, answer: &Answer, place: u32) -> PackedAnswer
         requires { HasMessageRoom self.old 1 }
-        ensures value { answer_of result self.new.words.items ≡ answer.now }
-        ensures fits { AnswerFits result self.new.words.items }
+        ensures value { answer_of result.form result.at self.new.words.items ≡ answer.now }
+        ensures fits { AnswerFits result.form result.at self.new.words.items }
         ensures grew { GrewHead self.old self.new }
     {
         match answer {
-            Answer::Done => PackedAnswer::Done,
-            Answer::Got { badge, message } => PackedAnswer::Got {
-                len: length_of(message),
+            Answer::Done => placeless(AnswerForm::Done),
+            Answer::Got { badge, message } => PackedAnswer {
+                form: AnswerForm::Got {
+                    len: length_of(message),
+                },
                 at: self.share(message, *badge, place),
             },
-            Answer::Heard { word } => PackedAnswer::Heard {
+            Answer::Heard { word } => PackedAnswer {
+                form: AnswerForm::Heard,
                 at: self.share_word(*word, place),
             },
-            Answer::Empty => PackedAnswer::Empty,
-            Answer::Waits => PackedAnswer::Waits,
-            Answer::Refused(refusal) => PackedAnswer::Refused(*refusal),
+            Answer::Empty => placeless(AnswerForm::Empty),
+            Answer::Waits => placeless(AnswerForm::Waits),
+            Answer::Refused(refusal) => placeless(AnswerForm::Refused(*refusal)),
         }
     }
 }
@@ -61,23 +80,24 @@ impl Arena {
 /// The answer that a packed one stands for. A message of four words takes no memory.
 pub fn unpack_answer(
     alloc: Global,
-    answer: &PackedAnswer,
+    form: AnswerForm,
+    at: u32,
     words: &[u64],
 ) -> Result<Answer, OutOfMemory>
-    requires { AnswerFits answer.now words.now }
-    ensures { IfOk result (λ a. a ≡ answer_of answer.now words.now) }
+    requires { AnswerFits form at words.now }
+    ensures { IfOk result (λ a. a ≡ answer_of form at words.now) }
 {
-    Ok(match answer {
-        PackedAnswer::Done => Answer::Done,
-        PackedAnswer::Got { len, at } => Answer::Got {
-            badge: Badge(words[*at as usize + 1 + *len as usize]),
-            message: message_at(alloc, words, *at, *len)?,
+    Ok(match form {
+        AnswerForm::Done => Answer::Done,
+        AnswerForm::Got { len } => Answer::Got {
+            badge: Badge(words[at as usize + 1 + len as usize]),
+            message: message_at(alloc, words, at, len)?,
         },
-        PackedAnswer::Heard { at } => Answer::Heard {
-            word: words[*at as usize],
+        AnswerForm::Heard => Answer::Heard {
+            word: words[at as usize],
         },
-        PackedAnswer::Empty => Answer::Empty,
-        PackedAnswer::Waits => Answer::Waits,
-        PackedAnswer::Refused(refusal) => Answer::Refused(*refusal),
+        AnswerForm::Empty => Answer::Empty,
+        AnswerForm::Waits => Answer::Waits,
+        AnswerForm::Refused(refusal) => Answer::Refused(refusal),
     })
 }

@@ -3,7 +3,7 @@ ghost use Rattle.std.specs.Prelude.{◌≡◌, IfOk};
 ghost use Rattle.mcs_packing.specs.Kept.{is_sent};
 
 use crate::entries::{PackedEntry, unpack_entry};
-use crate::heads::{PackedAnswer, unpack_answer};
+use crate::heads::{AnswerForm, unpack_answer};
 use crate::packed::Packed;
 use crate::unpacking::unpack;
 use mcs_types::{Answer, CoreId, Kind, ObjId, OutOfMemory, Rec, Step};
@@ -93,7 +93,8 @@ impl<'a> KeptStep<'a> {
 /// An answer where it is kept. Clauses see the answer.
 #[derive(Drop)]
 pub struct KeptAnswer<'a> {
-    pub answer: &'a PackedAnswer,
+    pub form: AnswerForm,
+    pub at: u32,
     pub words: &'a [u64],
 }
 
@@ -103,9 +104,9 @@ impl<'a> Model for KeptAnswer<'a> {
 
     ghost Value = { Answer };
 
-    ghost view = { λ a. answer_of a.answer.now a.words.now };
+    ghost view = { λ a. answer_of a.form a.at a.words.now };
 
-    ghost invariant = { λ a. AnswerFits a.answer.now a.words.now };
+    ghost invariant = { λ a. AnswerFits a.form a.at a.words.now };
 }
 
 impl<'a> KeptAnswer<'a> {
@@ -113,6 +114,6 @@ impl<'a> KeptAnswer<'a> {
     pub fn unpack(&self, alloc: Global) -> Result<Answer, OutOfMemory>
         ensures { IfOk result (λ a. a ≡ self.now) }
     {
-        unpack_answer(alloc, self.answer, self.words)
+        unpack_answer(alloc, self.form, self.at, self.words)
     }
 }

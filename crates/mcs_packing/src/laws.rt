@@ -29,8 +29,9 @@ pub fn entries_kept()
 /// A packed answer stands for the same answer once its arena grew.
 pub fn answers_kept()
     ghost at: { PackedAnswer × Arena × Arena }
-    requires fits { AnswerFits at.0 at.1.words.items }
+    requires fits { AnswerFits at.0.form at.0.at at.1.words.items }
     requires grew { Grew at.1 at.2 }
-    ensures value { answer_of at.0 at.2.words.items ≡ answer_of at.0 at.1.words.items }
-    ensures fits { AnswerFits at.0 at.2.words.items }
+    ensures value { answer_of at.0.form at.0.at at.2.words.items
+        ≡ answer_of at.0.form at.0.at at.1.words.items }
+    ensures fits { AnswerFits at.0.form at.0.at at.2.words.items }
 {}

@@ -1,7 +1,7 @@
-//! Records in 16 bytes each: objects by their serials, the words of messages by their place.
-ghost use Rattle.std.specs.Prelude.{◌≡◌, IfSome, Some};
+//! Records in 12 bytes each: objects by their serials, the words of messages by their place.
+ghost use Rattle.std.specs.Prelude.{◌≡◌, ◌+◌, IfSome, Some};
 ghost use Rattle.mcs_types.specs.declared.record.Rec.{Rec};
-ghost use Rattle.mcs_packing.specs.Packing.{FitsIn, Grew, HasRoom, IsPlain, Packs, queue_on, record_in};
+ghost use Rattle.mcs_packing.specs.Packing.{FitsIn, Grew, HasRoom, IsPlain, Packs, object, queue_on, record_in};
 
 use crate::arena::{Arena, length_of};
 use crate::lent::Lent;
@@ -18,7 +18,8 @@ pub enum Side {
     Waiters,
 }
 
-/// A record, packed: an object whose kind the record tells is its serial, and `at` is a place among the words.
+/// A record, packed: an object whose kind the record tells is its serial, a thread the serial less 1, and `at` is a place among
+/// the words.
 #[derive(Clone, Copy)]
 pub enum Packed {
     /// An object that keeps nothing was made.
@@ -48,109 +49,114 @@ pub enum Packed {
         cnode: u32,
         serial: u32,
     },
-    /// A slot holds a capability with a badge, which stands among the words.
+    /// A slot holds a capability with a badge, which stands among the words, and behind it the serial of the slot's CNode.
     FilledBadged {
         index: u8,
         rights: Rights,
         kind: Kind,
-        cnode: u32,
         serial: u32,
         at: u32,
     },
-    /// A slot holds a capability to a CNode with a guard of so many bits, whose value stands among the words.
+    /// A slot holds a capability to a CNode with a guard of so many bits, whose value stands among the words, and behind it the
+    /// serial of the slot's CNode.
     FilledGuarded {
         index: u8,
         rights: Rights,
         bits: u8,
-        cnode: u32,
         serial: u32,
         at: u32,
     },
     Prio {
         priority: Prio,
-        thread: u32,
+        thread: u8,
     },
     Turns {
         mode: Mode,
-        thread: u32,
+        thread: u8,
     },
     Joins {
         side: Side,
-        thread: u32,
+        thread: u8,
         object: u32,
     },
     /// A thread stands in a queue with a reply object.
     JoinsWith {
         side: Side,
-        thread: u32,
+        thread: u8,
         object: u32,
         reply: u32,
     },
     Parts {
         side: Side,
-        thread: u32,
+        thread: u8,
         object: u32,
     },
     Sent {
         mode: SendMode,
         len: u8,
-        sender: u32,
+        sender: u8,
         endpoint: u32,
         at: u32,
     },
     Took {
+        thread: u8,
         message: u32,
-        thread: u32,
     },
     Dropped {
         message: u32,
     },
     /// A reply object owes a caller that brought no context.
     Owes {
+        caller: u8,
         reply: u32,
-        caller: u32,
     },
     /// A reply object owes a caller that brought a context.
     OwesWith {
+        caller: u8,
         reply: u32,
-        caller: u32,
         context: u32,
     },
     Paid {
         len: u8,
+        caller: u8,
         reply: u32,
-        caller: u32,
         at: u32,
     },
     Void {
         ending: Ending,
+        caller: u8,
         reply: u32,
-        caller: u32,
     },
     Held {
+        thread: u8,
         context: u32,
-        thread: u32,
     },
     /// Nobody holds a context now.
     Unheld {
         context: u32,
     },
+    /// A badge of at most 32 bits was signalled.
     Raised {
         notification: u32,
-        badge: Badge,
+        badge: u32,
+    },
+    /// A badge of more bits was signalled, which stands among the words.
+    RaisedAt {
+        notification: u32,
+        at: u32,
     },
     Heard {
-        thread: u32,
+        thread: u8,
         notification: u32,
         at: u32,
     },
     Tied {
-        thread: u32,
+        thread: u8,
         notification: u32,
     },
     /// A thread is bound to no notification now.
     Untied {
-        thread: u32,
+        thread: u8,
     },
     Homed {
         context: u32,
@@ -166,7 +172,10 @@ pub enum Packed {
     },
 }
 
-const _: () = prove!(size_of::<Packed>() == 16);
+const _: () = prove!(size_of::<Packed>() == 12);
+
+/// How many threads a byte tells apart: those of the serials 1 to this, and legal books have no others.
+const THREADS: u32 = 256;
 
 /// The serial of an object of a kind.
 #[inline(always)]
@@ -175,6 +184,19 @@ fn serial_of(id: &ObjId, kind: Kind) -> Option<u32>
 {
     if id.kind.is_same(kind) {
         Some(id.serial)
+    } else {
+        None
+    }
+}
+
+/// The serial of a thread less 1, where a byte holds it.
+#[inline(always)]
+fn thread_of(id: &ObjId) -> Option<u8>
+    ensures { IfSome result (λ t. id.now ≡ object Kind.Thread (t + 1)) }
+{
+    let before = id.serial.wrapping_sub(1);
+    if id.kind.is_same(Kind::Thread) && before < THREADS {
+        Some(before as u8)
     } else {
         None
     }
@@ -225,7 +247,7 @@ fn pack_object(fact: &Rec) -> Option<Packed>
 fn pack_joins(thread: &ObjId, queue: &Queue, reply: &Option<ObjId>) -> Option<Packed>
     ensures { IsPlain result (Rec.Joins thread.now queue.now reply.now) }
 {
-    let thread = serial_of(thread, Kind::Thread)?;
+    let thread = thread_of(thread)?;
     let (side, object) = side_of(queue)?;
     Some(match reply {
         None => Packed::Joins {
@@ -248,12 +270,12 @@ fn pack_owes(reply: &ObjId, caller: &ObjId, context: &Option<ObjId>) -> Option<P
     ensures { IsPlain result (Rec.Owes reply.now caller.now context.now) }
 {
     let reply = serial_of(reply, Kind::Reply)?;
-    let caller = serial_of(caller, Kind::Thread)?;
+    let caller = thread_of(caller)?;
     Some(match context {
-        None => Packed::Owes { reply, caller },
+        None => Packed::Owes { caller, reply },
         Some(context) => Packed::OwesWith {
-            reply,
             caller,
+            reply,
             context: serial_of(context, Kind::Context)?,
         },
     })
@@ -267,11 +289,11 @@ fn pack_thread(fact: &Rec) -> Option<Packed>
     Some(match fact {
         Rec::Prio { thread, priority } => Packed::Prio {
             priority: *priority,
-            thread: serial_of(thread, Kind::Thread)?,
+            thread: thread_of(thread)?,
         },
         Rec::Turns { thread, mode } => Packed::Turns {
             mode: *mode,
-            thread: serial_of(thread, Kind::Thread)?,
+            thread: thread_of(thread)?,
         },
         Rec::Joins {
             thread,
@@ -282,7 +304,7 @@ fn pack_thread(fact: &Rec) -> Option<Packed>
             let (side, object) = side_of(queue)?;
             Packed::Parts {
                 side,
-                thread: serial_of(thread, Kind::Thread)?,
+                thread: thread_of(thread)?,
                 object,
             }
         }
@@ -297,8 +319,8 @@ fn pack_debt(fact: &Rec) -> Option<Packed>
 {
     Some(match fact {
         Rec::Took { message, thread } => Packed::Took {
+            thread: thread_of(thread)?,
             message: *message,
-            thread: serial_of(thread, Kind::Thread)?,
         },
         Rec::Dropped { message } => Packed::Dropped { message: *message },
         Rec::Owes {
@@ -312,8 +334,8 @@ fn pack_debt(fact: &Rec) -> Option<Packed>
             ending,
         } => Packed::Void {
             ending: *ending,
+            caller: thread_of(caller)?,
             reply: serial_of(reply, Kind::Reply)?,
-            caller: serial_of(caller, Kind::Thread)?,
         },
         _ => return None,
     })
@@ -328,18 +350,17 @@ fn pack_holds(context: &ObjId, thread: &Option<ObjId>) -> Option<Packed>
     Some(match thread {
         None => Packed::Unheld { context },
         Some(thread) => Packed::Held {
+            thread: thread_of(thread)?,
             context,
-            thread: serial_of(thread, Kind::Thread)?,
         },
     })
 }
 
 /// Packs which notification a thread is bound to.
-#[inline(always)]
 fn pack_tied(thread: &ObjId, notification: &Option<ObjId>) -> Option<Packed>
     ensures { IsPlain result (Rec.Tied thread.now notification.now) }
 {
-    let thread = serial_of(thread, Kind::Thread)?;
+    let thread = thread_of(thread)?;
     Some(match notification {
         None => Packed::Untied { thread },
         Some(notification) => Packed::Tied {
@@ -350,7 +371,6 @@ fn pack_tied(thread: &ObjId, notification: &Option<ObjId>) -> Option<Packed>
 }
 
 /// Packs at which notification a context is homed.
-#[inline(always)]
 fn pack_homed(context: &ObjId, notification: &Option<ObjId>) -> Option<Packed>
     ensures { IsPlain result (Rec.Homed context.now notification.now) }
 {
@@ -364,6 +384,20 @@ fn pack_homed(context: &ObjId, notification: &Option<ObjId>) -> Option<Packed>
     })
 }
 
+/// Packs a badge of at most 32 bits that was signalled.
+#[inline(always)]
+fn pack_raised(notification: &ObjId, badge: Badge) -> Option<Packed>
+    ensures { IsPlain result (Rec.Raised notification.now badge) }
+{
+    if badge.0 > u32::MAX as u64 {
+        return None;
+    }
+    Some(Packed::Raised {
+        notification: serial_of(notification, Kind::Notification)?,
+        badge: badge.0 as u32,
+    })
+}
+
 /// Packs who holds a context, is bound to a notification, and what was signalled.
 #[inline(always)]
 fn pack_bond(fact: &Rec) -> Option<Packed>
@@ -374,10 +408,7 @@ fn pack_bond(fact: &Rec) -> Option<Packed>
         Rec::Raised {
             notification,
             badge,
-        } => Some(Packed::Raised {
-            notification: serial_of(notification, Kind::Notification)?,
-            badge: *badge,
-        }),
+        } => pack_raised(notification, *badge),
         Rec::Tied {
             thread,
             notification,
@@ -449,7 +480,7 @@ impl Arena {
         ensures { Packs self.old self.new result
             (Rec.Sent sender.now endpoint.now mode badge message.now) }
     {
-        let sender = serial_of(sender, Kind::Thread)?;
+        let sender = thread_of(sender)?;
         let endpoint = serial_of(endpoint, Kind::Endpoint)?;
         let len = length_of(message);
         let at = self.keep_with_badge(message, badge)?;
@@ -468,13 +499,13 @@ impl Arena {
         ensures { Packs self.old self.new result (Rec.Paid reply.now caller.now message.now) }
     {
         let reply = serial_of(reply, Kind::Reply)?;
-        let caller = serial_of(caller, Kind::Thread)?;
+        let caller = thread_of(caller)?;
         let len = length_of(message);
         let at = self.keep(message)?;
         Some(Packed::Paid {
             len,
-            reply,
             caller,
+            reply,
             at,
         })
     }
@@ -484,7 +515,7 @@ impl Arena {
         requires { HasRoom self.old 1 }
         ensures { Packs self.old self.new result (Rec.Heard thread.now notification.now word) }
     {
-        let thread = serial_of(thread, Kind::Thread)?;
+        let thread = thread_of(thread)?;
         let notification = serial_of(notification, Kind::Notification)?;
         let at = self.keep_word(word);
         Some(Packed::Heard {
@@ -494,6 +525,16 @@ impl Arena {
         })
     }
 
+    /// Packs a badge that was signalled, of any number of bits.
+    fn pack_raised_at(&mut self, notification: &ObjId, badge: Badge) -> Option<Packed>
+        requires { HasRoom self.old 1 }
+        ensures { Packs self.old self.new result (Rec.Raised notification.now badge) }
+    {
+        let notification = serial_of(notification, Kind::Notification)?;
+        let at = self.keep_word(badge.0);
+        Some(Packed::RaisedAt { notification, at })
+    }
+
     /// Packs a slot with a capability that has a badge and no guard, or is to a CNode and has a guard and no badge.
     fn pack_marked(&mut self, cnode: &ObjId, index: u8, cap: &Cap) -> Option<Packed>
         requires { HasRoom self.old 1 }
@@ -501,12 +542,11 @@ impl Arena {
     {
         let cnode = serial_of(cnode, Kind::CNode)?;
         if cap.guard.bits == 0 && cap.guard.value == 0 {
-            let at = self.keep_word(cap.badge.0);
+            let at = self.keep_pair(cap.badge.0, cnode);
             return Some(Packed::FilledBadged {
                 index,
                 rights: cap.rights,
                 kind: cap.obj.kind,
-                cnode,
                 serial: cap.obj.serial,
                 at,
             });
@@ -515,12 +555,11 @@ impl Arena {
             return None;
         }
         let serial = serial_of(&cap.obj, Kind::CNode)?;
-        let at = self.keep_word(cap.guard.value);
+        let at = self.keep_pair(cap.guard.value, cnode);
         Some(Packed::FilledGuarded {
             index,
             rights: cap.rights,
             bits: cap.guard.bits,
-            cnode,
             serial,
             at,
         })
@@ -550,6 +589,10 @@ impl Arena {
                 notification,
                 word,
             } => self.pack_heard(thread, notification, *word),
+            Rec::Raised {
+                notification,
+                badge,
+            } => self.pack_raised_at(notification, *badge),
             Rec::Slot {
                 cnode,
                 index,

@@ -1,6 +1,6 @@
 //! What packed records stand for.
-ghost use Rattle.std.specs.Prelude.{◌≡◌, IfOk};
-ghost use Rattle.mcs_packing.specs.Packing.{Fits, IsOfBond, IsOfDebt, IsOfMessage, IsOfObject, IsOfSlot, IsOfThread, IsOfWord, guarded_cap, queue_on, object, plain_cap, record_of};
+ghost use Rattle.std.specs.Prelude.{◌≡◌, ◌+◌, IfOk};
+ghost use Rattle.mcs_packing.specs.Packing.{Fits, IsOfBond, IsOfDebt, IsOfMarked, IsOfMessage, IsOfObject, IsOfSlot, IsOfThread, IsOfWord, IsPairAt, guarded_cap, queue_on, object, plain_cap, record_of, serial_behind};
 
 use crate::arena::message_at;
 use crate::packed::{Packed, Side};
@@ -12,6 +12,13 @@ pub fn id_of(kind: Kind, serial: u32) -> ObjId
     ensures { result ≡ object kind serial }
 {
     ObjId { kind, serial }
+}
+
+/// The thread whose serial less 1 is this.
+pub fn thread_id(thread: u8) -> ObjId
+    ensures { result ≡ object Kind.Thread (thread + 1) }
+{
+    id_of(Kind::Thread, thread as u32 + 1)
 }
 
 /// The queue of this side of an object.
@@ -29,6 +36,15 @@ pub fn queue_of(side: Side, serial: u32) -> Queue
         Side::Receivers => Queue::Receivers(object),
         Side::Waiters => Queue::Waiters(object),
     }
+}
+
+/// The serial that stands behind the word at a place.
+#[inline(always)]
+pub fn serial_behind(words: &[u64], at: u32) -> u32
+    requires { IsPairAt words.now at }
+    ensures { result ≡ serial_behind words.now at }
+{
+    words[at as usize + 1] as u32
 }
 
 /// A capability without a guard.
@@ -65,21 +81,21 @@ fn slot(cnode: u32, index: u8, cap: Option<Cap>) -> Rec
     }
 }
 
-fn joins(thread: u32, queue: Queue, reply: Option<ObjId>) -> Rec
-    ensures { result ≡ Rec.Joins (object Kind.Thread thread) queue reply }
+fn joins(thread: u8, queue: Queue, reply: Option<ObjId>) -> Rec
+    ensures { result ≡ Rec.Joins (object Kind.Thread (thread + 1)) queue reply }
 {
     Rec::Joins {
-        thread: id_of(Kind::Thread, thread),
+        thread: thread_id(thread),
         queue,
         reply,
     }
 }
 
-fn heard(thread: u32, on: u32, word: u64) -> Rec
-    ensures { result ≡ Rec.Heard (object Kind.Thread thread) (object Kind.Notification on) word }
+fn heard(thread: u8, on: u32, word: u64) -> Rec
+    ensures { result ≡ Rec.Heard (object Kind.Thread (thread + 1)) (object Kind.Notification on) word }
 {
     Rec::Heard {
-        thread: id_of(Kind::Thread, thread),
+        thread: thread_id(thread),
         notification: id_of(Kind::Notification, on),
         word,
     }
@@ -134,11 +150,11 @@ fn unpack_thread(packed: &Packed, words: &[u64], wide: &[Rec]) -> Rec
 {
     match packed {
         Packed::Prio { priority, thread } => Rec::Prio {
-            thread: id_of(Kind::Thread, *thread),
+            thread: thread_id(*thread),
             priority: *priority,
         },
         Packed::Turns { mode, thread } => Rec::Turns {
-            thread: id_of(Kind::Thread, *thread),
+            thread: thread_id(*thread),
             mode: *mode,
         },
         Packed::Joins {
@@ -160,7 +176,7 @@ fn unpack_thread(packed: &Packed, words: &[u64], wide: &[Rec]) -> Rec
             thread,
             object,
         } => Rec::Parts {
-            thread: id_of(Kind::Thread, *thread),
+            thread: thread_id(*thread),
             queue: queue_of(*side, *object),
         },
         _ => unreachable!(),
@@ -173,32 +189,32 @@ fn unpack_debt(packed: &Packed, words: &[u64], wide: &[Rec]) -> Rec
     ensures { result ≡ record_of packed.now words.now wide.now }
 {
     match packed {
-        Packed::Took { message, thread } => Rec::Took {
+        Packed::Took { thread, message } => Rec::Took {
             message: *message,
-            thread: id_of(Kind::Thread, *thread),
+            thread: thread_id(*thread),
         },
         Packed::Dropped { message } => Rec::Dropped { message: *message },
-        Packed::Owes { reply, caller } => Rec::Owes {
+        Packed::Owes { caller, reply } => Rec::Owes {
             reply: id_of(Kind::Reply, *reply),
-            caller: id_of(Kind::Thread, *caller),
+            caller: thread_id(*caller),
             context: None,
         },
         Packed::OwesWith {
-            reply,
             caller,
+            reply,
             context,
         } => Rec::Owes {
             reply: id_of(Kind::Reply, *reply),
-            caller: id_of(Kind::Thread, *caller),
+            caller: thread_id(*caller),
             context: Some(id_of(Kind::Context, *context)),
         },
         Packed::Void {
             ending,
-            reply,
             caller,
+            reply,
         } => Rec::Void {
             reply: id_of(Kind::Reply, *reply),
-            caller: id_of(Kind::Thread, *caller),
+            caller: thread_id(*caller),
             ending: *ending,
         },
         _ => unreachable!(),
@@ -211,9 +227,9 @@ fn unpack_bond(packed: &Packed, words: &[u64], wide: &[Rec]) -> Rec
     ensures { result ≡ record_of packed.now words.now wide.now }
 {
     match packed {
-        Packed::Held { context, thread } => Rec::Holds {
+        Packed::Held { thread, context } => Rec::Holds {
             context: id_of(Kind::Context, *context),
-            thread: Some(id_of(Kind::Thread, *thread)),
+            thread: Some(thread_id(*thread)),
         },
         Packed::Unheld { context } => Rec::Holds {
             context: id_of(Kind::Context, *context),
@@ -224,17 +240,17 @@ fn unpack_bond(packed: &Packed, words: &[u64], wide: &[Rec]) -> Rec
             badge,
         } => Rec::Raised {
             notification: id_of(Kind::Notification, *notification),
-            badge: *badge,
+            badge: Badge(*badge as u64),
         },
         Packed::Tied {
             thread,
             notification,
         } => Rec::Tied {
-            thread: id_of(Kind::Thread, *thread),
+            thread: thread_id(*thread),
             notification: Some(id_of(Kind::Notification, *notification)),
         },
         Packed::Untied { thread } => Rec::Tied {
-            thread: id_of(Kind::Thread, *thread),
+            thread: thread_id(*thread),
             notification: None,
         },
         Packed::Homed {
@@ -252,9 +268,9 @@ fn unpack_bond(packed: &Packed, words: &[u64], wide: &[Rec]) -> Rec
     }
 }
 
-/// What keeps one word: a badge, the value of a guard, or what was heard.
-fn unpack_word(packed: &Packed, words: &[u64], wide: &[Rec]) -> Rec
-    requires of { IsOfWord packed.now }
+/// A slot with a capability that has a badge or a guard.
+fn unpack_marked(packed: &Packed, words: &[u64], wide: &[Rec]) -> Rec
+    requires of { IsOfMarked packed.now }
     requires fits { Fits packed.now words.now wide.now }
     ensures { result ≡ record_of packed.now words.now wide.now }
 {
@@ -263,24 +279,37 @@ fn unpack_word(packed: &Packed, words: &[u64], wide: &[Rec]) -> Rec
             index,
             rights,
             kind,
-            cnode,
             serial,
             at,
         } => {
             let cap = plain(id_of(*kind, *serial), *rights, words[*at as usize]);
-            slot(*cnode, *index, Some(cap))
+            slot(serial_behind(words, *at), *index, Some(cap))
         }
         Packed::FilledGuarded {
             index,
             rights,
             bits,
-            cnode,
             serial,
             at,
         } => {
             let cap = guarded(*serial, *rights, *bits, words[*at as usize]);
-            slot(*cnode, *index, Some(cap))
+            slot(serial_behind(words, *at), *index, Some(cap))
         }
+        _ => unreachable!(),
+    }
+}
+
+/// What keeps one word: what was signalled or heard.
+fn unpack_word(packed: &Packed, words: &[u64], wide: &[Rec]) -> Rec
+    requires of { IsOfWord packed.now }
+    requires fits { Fits packed.now words.now wide.now }
+    ensures { result ≡ record_of packed.now words.now wide.now }
+{
+    match packed {
+        Packed::RaisedAt { notification, at } => Rec::Raised {
+            notification: id_of(Kind::Notification, *notification),
+            badge: Badge(words[*at as usize]),
+        },
         Packed::Heard {
             thread,
             notification,
@@ -309,7 +338,7 @@ fn unpack_message(
             endpoint,
             at,
         } => Rec::Sent {
-            sender: id_of(Kind::Thread, *sender),
+            sender: thread_id(*sender),
             endpoint: id_of(Kind::Endpoint, *endpoint),
             mode: *mode,
             badge: Badge(words[*at as usize + 1 + *len as usize]),
@@ -317,12 +346,12 @@ fn unpack_message(
         },
         Packed::Paid {
             len,
-            reply,
             caller,
+            reply,
             at,
         } => Rec::Paid {
             reply: id_of(Kind::Reply, *reply),
-            caller: id_of(Kind::Thread, *caller),
+            caller: thread_id(*caller),
             message: message_at(alloc, words, *at, *len)?,
         },
         _ => unreachable!(),
@@ -361,9 +390,10 @@ pub fn unpack(
         | Packed::Untied { .. }
         | Packed::Homed { .. }
         | Packed::Unhomed { .. } => unpack_bond(packed, words, wide),
-        Packed::FilledBadged { .. } | Packed::FilledGuarded { .. } | Packed::Heard { .. } => {
-            unpack_word(packed, words, wide)
+        Packed::FilledBadged { .. } | Packed::FilledGuarded { .. } => {
+            unpack_marked(packed, words, wide)
         }
+        Packed::RaisedAt { .. } | Packed::Heard { .. } => unpack_word(packed, words, wide),
         Packed::Sent { .. } | Packed::Paid { .. } => unpack_message(alloc, packed, words, wide)?,
         Packed::Wide { at } => wide[*at as usize].copy(alloc)?,
     })

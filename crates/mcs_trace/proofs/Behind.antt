@@ -1,6 +1,5 @@
 -- Messages at the ends of lines.
-use Rattle.std.proofs.Common.{◌≡◌, ℕ, ◌+◌, ◌≤◌, List, [], ◌∷◌, ◌++◌, length, drop, sym, ap, subst, ◌∙◌, refl, arith, append_assoc, append-nil, length-append}
-use Rattle.std.specs.List.{flat_map}
+use Rattle.std.proofs.Common.{◌≡◌, ℕ, ◌+◌, List, [], ◌∷◌, ◌++◌, length, drop, sym, ap, subst, ◌∙◌, arith, append_assoc, length-append}
 use Rattle.std.specs.Fmt.{decimal}
 use Rattle.std.proofs.lemmas.List.{append_cancel_right}
 use Rattle.std.proofs.lemmas.List.Concat.{flat_map-cons}
@@ -14,8 +13,7 @@ use Rattle.mcs_text.specs.declared.key.Key.{Key}
 use Rattle.mcs_text.specs.declared.key.Key.TheVariants as k
 use Rattle.mcs_text.specs.declared.token.Entrant.{Entrant}
 use Rattle.mcs_text.specs.declared.token.Token.TheVariants.{Number, Name, Key as Fixed}
-use Rattle.mcs_text.specs.Keys.{key_text}
-use Rattle.mcs_text.specs.Spelling.{name_text, then_text, token_text, line_text}
+use Rattle.mcs_text.specs.Spelling.{then_text, line_text}
 use Rattle.mcs_text.specs.Table.{step_by, step_text}
 use Rattle.mcs_trace.specs.Reading.{StandsBehind, front_text, message_text, sending_key}
 

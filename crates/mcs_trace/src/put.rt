@@ -64,7 +64,7 @@ pub fn put_kept_answer<W: Write>(sink: &mut Sink<W>, answer: &KeptAnswer<'_>)
     ensures { Puts W.contents sink.old sink.new (answer_text answer.now) }
 {
     sink.make_room();
-    write_kept_answer(&mut sink.line, answer.answer, answer.words);
+    write_kept_answer(&mut sink.line, answer.form, answer.at, answer.words);
 }
 
 /// Writes the line of a record, before which so many messages were sent. Where it has the message of this step, whose line was read,

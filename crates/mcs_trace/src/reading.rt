@@ -9,7 +9,7 @@ ghost use Rattle.mcs_trace.specs.Reading.{IsMessageText, StandsBehind, front_tex
 use crate::numbers::number_length;
 use crate::records::words_at;
 use crate::rooms::{FRONT, KEY, MESSAGE};
-use mcs_packing::{KeptStep, PackedEntry, Sending, id_of};
+use mcs_packing::{KeptStep, PackedEntry, Sending, address_at, id_of};
 use mcs_text::{Entrant, Key};
 use std::marker::Model;
 
@@ -137,7 +137,15 @@ impl<'a> ReadStep<'a> {
         match self.step.entry {
             PackedEntry::Sends { form, len, at, cap } => {
                 let read = (kept[*at as usize], words_at(kept, *at, *len));
-                sent_text(self.line, from, *form, *cap, read, label, words)
+                sent_text(
+                    self.line,
+                    from,
+                    *form,
+                    address_at(kept, *cap),
+                    read,
+                    label,
+                    words,
+                )
             }
             PackedEntry::ReplyRecv {
                 len,
@@ -146,7 +154,8 @@ impl<'a> ReadStep<'a> {
                 reply,
             } => {
                 let read = (kept[*at as usize], words_at(kept, *at, *len));
-                replied_text(self.line, from, *cap, *reply, read, label, words)
+                let (cap, reply) = (address_at(kept, *cap), address_at(kept, *reply));
+                replied_text(self.line, from, cap, reply, read, label, words)
             }
             _ => None,
         }

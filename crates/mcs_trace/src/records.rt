@@ -3,7 +3,7 @@ ghost use Rattle.std.specs.Prelude.{◌≡◌, ◌≤◌, ◌+◌, ◌∷◌, []
 ghost use Rattle.mcs_trace.specs.Room.{HasRoom};
 ghost use Rattle.mcs_trace.specs.Reading.{IsMessageText};
 ghost use Rattle.mcs_text.specs.Table.{record_text, answer_text, step_text};
-ghost use Rattle.mcs_packing.specs.Packing.{Fits, IsMessageAt, IsOfBond, IsOfDebt, IsOfMessage, IsOfObject, IsOfSlot, IsOfThread, IsOfWord, content_at, record_of, object};
+ghost use Rattle.mcs_packing.specs.Packing.{Fits, IsMessageAt, IsOfBond, IsOfDebt, IsOfMarked, IsOfMessage, IsOfObject, IsOfSlot, IsOfThread, IsOfWord, content_at, record_of, object};
 ghost use Rattle.mcs_packing.specs.Entries.{EntryFits, entry_of};
 ghost use Rattle.mcs_packing.specs.Heads.{AnswerFits, answer_of};
 
@@ -11,7 +11,10 @@ use crate::facts::number_of;
 use crate::line::Line;
 use crate::reading::ReadStep;
 use crate::rooms::LINE;
-use mcs_packing::{KeptStep, Packed, PackedAnswer, PackedEntry, guarded, id_of, plain, queue_of};
+use mcs_packing::{
+    AnswerForm, KeptStep, Packed, PackedEntry, guarded, id_of, plain, queue_of, serial_behind,
+    thread_id,
+};
 use mcs_text::Key;
 use mcs_types::{Cap, CoreId, Kind, MESSAGE_WORDS, ObjId, Rec};
 
@@ -83,16 +86,16 @@ fn write_thread(line: &mut Line, sent: u128, packed: &Packed, words: &[u64], wid
 {
     match packed {
         Packed::Prio { priority, thread } => {
-            let thread = id_of(Kind::Thread, *thread);
+            let thread = thread_id(*thread);
             line.object_number(Key::Prio, thread, priority.0 as u64)
         }
-        Packed::Turns { mode, thread } => line.turns(id_of(Kind::Thread, *thread), *mode),
+        Packed::Turns { mode, thread } => line.turns(thread_id(*thread), *mode),
         Packed::Joins {
             side,
             thread,
             object,
         } => {
-            let thread = id_of(Kind::Thread, *thread);
+            let thread = thread_id(*thread);
             line.joins(thread, queue_of(*side, *object), None)
         }
         Packed::JoinsWith {
@@ -101,7 +104,7 @@ fn write_thread(line: &mut Line, sent: u128, packed: &Packed, words: &[u64], wid
             object,
             reply,
         } => {
-            let thread = id_of(Kind::Thread, *thread);
+            let thread = thread_id(*thread);
             let reply = id_of(Kind::Reply, *reply);
             line.joins(thread, queue_of(*side, *object), Some(reply))
         }
@@ -110,7 +113,7 @@ fn write_thread(line: &mut Line, sent: u128, packed: &Packed, words: &[u64], wid
             thread,
             object,
         } => {
-            let thread = id_of(Kind::Thread, *thread);
+            let thread = thread_id(*thread);
             line.stands(Key::Parts, thread, queue_of(*side, *object))
         }
         _ => unreachable!(),
@@ -125,26 +128,26 @@ fn write_debt(line: &mut Line, sent: u128, packed: &Packed, words: &[u64], wide:
     ensures { line.new ≡ line.old ++ record_text sent (record_of packed.now words.now wide.now) }
 {
     match packed {
-        Packed::Took { message, thread } => { line.took(*message, id_of(Kind::Thread, *thread)) }
+        Packed::Took { thread, message } => { line.took(*message, thread_id(*thread)) }
         Packed::Dropped { message } => line.dropped(*message),
-        Packed::Owes { reply, caller } => {
-            let (reply, caller) = (id_of(Kind::Reply, *reply), id_of(Kind::Thread, *caller));
+        Packed::Owes { caller, reply } => {
+            let (reply, caller) = (id_of(Kind::Reply, *reply), thread_id(*caller));
             line.owes(reply, caller, None)
         }
         Packed::OwesWith {
-            reply,
             caller,
+            reply,
             context,
         } => {
-            let (reply, caller) = (id_of(Kind::Reply, *reply), id_of(Kind::Thread, *caller));
+            let (reply, caller) = (id_of(Kind::Reply, *reply), thread_id(*caller));
             line.owes(reply, caller, Some(id_of(Kind::Context, *context)))
         }
         Packed::Void {
             ending,
-            reply,
             caller,
+            reply,
         } => {
-            let (reply, caller) = (id_of(Kind::Reply, *reply), id_of(Kind::Thread, *caller));
+            let (reply, caller) = (id_of(Kind::Reply, *reply), thread_id(*caller));
             line.void(reply, caller, *ending)
         }
         _ => unreachable!(),
@@ -158,8 +161,8 @@ fn write_bond(line: &mut Line, sent: u128, packed: &Packed, words: &[u64], wide:
     ensures { line.new ≡ line.old ++ record_text sent (record_of packed.now words.now wide.now) }
 {
     match packed {
-        Packed::Held { context, thread } => {
-            let thread = id_of(Kind::Thread, *thread);
+        Packed::Held { thread, context } => {
+            let thread = thread_id(*thread);
             line.bound(Key::Holds, id_of(Kind::Context, *context), Some(thread))
         }
         Packed::Unheld { context } => {
@@ -170,16 +173,16 @@ fn write_bond(line: &mut Line, sent: u128, packed: &Packed, words: &[u64], wide:
             badge,
         } => {
             let notification = id_of(Kind::Notification, *notification);
-            line.object_number(Key::Raised, notification, badge.0)
+            line.object_number(Key::Raised, notification, *badge as u64)
         }
         Packed::Tied {
             thread,
             notification,
         } => {
             let notification = id_of(Kind::Notification, *notification);
-            line.bound(Key::Tied, id_of(Kind::Thread, *thread), Some(notification))
+            line.bound(Key::Tied, thread_id(*thread), Some(notification))
         }
-        Packed::Untied { thread } => { line.bound(Key::Tied, id_of(Kind::Thread, *thread), None) }
+        Packed::Untied { thread } => { line.bound(Key::Tied, thread_id(*thread), None) }
         Packed::Homed {
             context,
             notification,
@@ -198,9 +201,9 @@ fn write_bond(line: &mut Line, sent: u128, packed: &Packed, words: &[u64], wide:
     }
 }
 
-/// What keeps one word: a badge, the value of a guard, or what was heard.
-fn write_word(line: &mut Line, sent: u128, packed: &Packed, words: &[u64], wide: &[Rec])
-    requires of { IsOfWord packed.now }
+/// A slot with a capability that has a badge or a guard.
+fn write_marked_slot(line: &mut Line, sent: u128, packed: &Packed, words: &[u64], wide: &[Rec])
+    requires of { IsOfMarked packed.now }
     requires fits { Fits packed.now words.now wide.now }
     requires room { HasRoom line.old LINE }
     ensures { line.new ≡ line.old ++ record_text sent (record_of packed.now words.now wide.now) }
@@ -210,30 +213,44 @@ fn write_word(line: &mut Line, sent: u128, packed: &Packed, words: &[u64], wide:
             index,
             rights,
             kind,
-            cnode,
             serial,
             at,
         } => {
             let cap = plain(id_of(*kind, *serial), *rights, words[*at as usize]);
-            write_slot(line, *cnode, *index, Some(cap))
+            write_slot(line, serial_behind(words, *at), *index, Some(cap))
         }
         Packed::FilledGuarded {
             index,
             rights,
             bits,
-            cnode,
             serial,
             at,
         } => {
             let cap = guarded(*serial, *rights, *bits, words[*at as usize]);
-            write_slot(line, *cnode, *index, Some(cap))
+            write_slot(line, serial_behind(words, *at), *index, Some(cap))
+        }
+        _ => unreachable!(),
+    }
+}
+
+/// What keeps one word: what was signalled or heard.
+fn write_word(line: &mut Line, sent: u128, packed: &Packed, words: &[u64], wide: &[Rec])
+    requires of { IsOfWord packed.now }
+    requires fits { Fits packed.now words.now wide.now }
+    requires room { HasRoom line.old LINE }
+    ensures { line.new ≡ line.old ++ record_text sent (record_of packed.now words.now wide.now) }
+{
+    match packed {
+        Packed::RaisedAt { notification, at } => {
+            let notification = id_of(Kind::Notification, *notification);
+            line.object_number(Key::Raised, notification, words[*at as usize])
         }
         Packed::Heard {
             thread,
             notification,
             at,
         } => {
-            let thread = id_of(Kind::Thread, *thread);
+            let thread = thread_id(*thread);
             let notification = id_of(Kind::Notification, *notification);
             line.heard(thread, notification, words[*at as usize])
         }
@@ -275,10 +292,7 @@ fn write_message_of(
             endpoint,
             at,
         } => {
-            let between = (
-                id_of(Kind::Thread, *sender),
-                id_of(Kind::Endpoint, *endpoint),
-            );
+            let between = (thread_id(*sender), id_of(Kind::Endpoint, *endpoint));
             let badge = words[*at as usize + 1 + *len as usize];
             let label = words[*at as usize];
             let rest = words_at(words, *at, *len);
@@ -294,11 +308,11 @@ fn write_message_of(
         }
         Packed::Paid {
             len,
-            reply,
             caller,
+            reply,
             at,
         } => {
-            let (reply, caller) = (id_of(Kind::Reply, *reply), id_of(Kind::Thread, *caller));
+            let (reply, caller) = (id_of(Kind::Reply, *reply), thread_id(*caller));
             let label = words[*at as usize];
             let rest = words_at(words, *at, *len);
             line.paid(reply, caller, label, rest, text_of(read, label, rest))
@@ -469,7 +483,10 @@ pub fn write_kept(
         | Packed::Untied { .. }
         | Packed::Homed { .. }
         | Packed::Unhomed { .. } => write_bond(line, sent, packed, words, wide),
-        Packed::FilledBadged { .. } | Packed::FilledGuarded { .. } | Packed::Heard { .. } => {
+        Packed::FilledBadged { .. } | Packed::FilledGuarded { .. } => {
+            write_marked_slot(line, sent, packed, words, wide)
+        }
+        Packed::RaisedAt { .. } | Packed::Heard { .. } => {
             write_word(line, sent, packed, words, wide)
         }
         Packed::Sent { .. } | Packed::Paid { .. } => match read {
@@ -489,21 +506,21 @@ pub fn write_kept(
 
 /// The line of an answer where it is kept.
 #[inline(always)]
-pub fn write_kept_answer(line: &mut Line, answer: &PackedAnswer, words: &[u64])
-    requires fits { AnswerFits answer.now words.now }
+pub fn write_kept_answer(line: &mut Line, form: AnswerForm, at: u32, words: &[u64])
+    requires fits { AnswerFits form at words.now }
     requires room { HasRoom line.old LINE }
-    ensures { line.new ≡ line.old ++ answer_text (answer_of answer.now words.now) }
+    ensures { line.new ≡ line.old ++ answer_text (answer_of form at words.now) }
 {
-    match answer {
-        PackedAnswer::Done => line.bare(Key::Done),
-        PackedAnswer::Got { len, at } => {
-            let badge = words[*at as usize + 1 + *len as usize];
-            let label = words[*at as usize];
-            line.got(badge, label, words_at(words, *at, *len))
+    match form {
+        AnswerForm::Done => line.bare(Key::Done),
+        AnswerForm::Got { len } => {
+            let badge = words[at as usize + 1 + len as usize];
+            let label = words[at as usize];
+            line.got(badge, label, words_at(words, at, len))
         }
-        PackedAnswer::Heard { at } => { line.numbered(Key::HeardWord, words[*at as usize]) }
-        PackedAnswer::Empty => line.bare(Key::Empty),
-        PackedAnswer::Waits => line.bare(Key::Waits),
-        PackedAnswer::Refused(refusal) => { line.numbered(Key::Refused, number_of(*refusal)) }
+        AnswerForm::Heard => line.numbered(Key::HeardWord, words[at as usize]),
+        AnswerForm::Empty => line.bare(Key::Empty),
+        AnswerForm::Waits => line.bare(Key::Waits),
+        AnswerForm::Refused(refusal) => line.numbered(Key::Refused, number_of(refusal)),
     }
 }

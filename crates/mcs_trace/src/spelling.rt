@@ -34,7 +34,7 @@ pub fn spell_answer(line: &mut Line, answer: &KeptAnswer<'_>)
     ensures { line.new ≡ answer_text answer.now }
 {
     line.clear();
-    write_kept_answer(line, answer.answer, answer.words);
+    write_kept_answer(line, answer.form, answer.at, answer.words);
 }
 
 /// The line of a record, before which so many messages were sent.

@@ -7,7 +7,7 @@ ghost use Rattle.mcs_packing.specs.Entries.{EntryFits, entry_of, over_address, o
 use crate::line::Line;
 use crate::records::words_at;
 use crate::rooms::LINE;
-use mcs_packing::{OverAddress, OverPair, OverPlace, PackedEntry, Sending};
+use mcs_packing::{OverAddress, OverPair, OverPlace, PackedEntry, Sending, address_at, place_at};
 use mcs_text::{Entrant, Key};
 use mcs_types::{Badge, MESSAGE_WORDS, Place};
 
@@ -72,12 +72,6 @@ fn write_at_place(line: &mut Line, from: Entrant, form: OverPlace, place: Place)
     }
 }
 
-fn place_of(index: u64, depth: u8) -> Place
-    ensures { result ≡ record { index = index; depth = depth } }
-{
-    Place { index, depth }
-}
-
 /// The line of an entry where it is kept: a table, with an arm for each form.
 #[inline(always)]
 pub fn write_kept_step(line: &mut Line, from: Entrant, entry: &PackedEntry, words: &[u64])
@@ -89,7 +83,7 @@ pub fn write_kept_step(line: &mut Line, from: Entrant, entry: &PackedEntry, word
         PackedEntry::Sends { form, len, at, cap } => {
             let label = words[*at as usize];
             let rest = words_at(words, *at, *len);
-            write_sending(line, from, *form, *cap, label, rest)
+            write_sending(line, from, *form, address_at(words, *cap), label, rest)
         }
         PackedEntry::ReplyRecv {
             len,
@@ -99,7 +93,8 @@ pub fn write_kept_step(line: &mut Line, from: Entrant, entry: &PackedEntry, word
         } => {
             let label = words[*at as usize];
             let rest = words_at(words, *at, *len);
-            line.send_receive(from, Key::ReplyRecv, *cap, *reply, label, rest)
+            let (cap, reply) = (address_at(words, *cap), address_at(words, *reply));
+            line.send_receive(from, Key::ReplyRecv, cap, reply, label, rest)
         }
         PackedEntry::NbSendRecv {
             len,
@@ -110,7 +105,8 @@ pub fn write_kept_step(line: &mut Line, from: Entrant, entry: &PackedEntry, word
             let label = words[*at as usize];
             let rest = words_at(words, *at, *len);
             let reply = words[*at as usize + 1 + *len as usize];
-            line.exchange(from, *cap, *source, reply, label, rest)
+            let (cap, source) = (address_at(words, *cap), address_at(words, *source));
+            line.exchange(from, cap, source, reply, label, rest)
         }
         PackedEntry::NbSendWait {
             len,
@@ -120,18 +116,27 @@ pub fn write_kept_step(line: &mut Line, from: Entrant, entry: &PackedEntry, word
         } => {
             let label = words[*at as usize];
             let rest = words_at(words, *at, *len);
-            line.send_receive(from, Key::NbSendWait, *cap, *source, label, rest)
+            let (cap, source) = (address_at(words, *cap), address_at(words, *source));
+            line.send_receive(from, Key::NbSendWait, cap, source, label, rest)
         }
-        PackedEntry::Pair(form, first, second) => { write_pair(line, from, *form, *first, *second) }
-        PackedEntry::Address(form, address) => write_over_address(line, from, *form, *address),
+        PackedEntry::Pair(form, first, second) => {
+            let (first, second) = (address_at(words, *first), address_at(words, *second));
+            write_pair(line, from, *form, first, second)
+        }
+        PackedEntry::Address(form, address) => {
+            write_over_address(line, from, *form, address_at(words, *address))
+        }
         PackedEntry::AtPlace(form, depth, index) => {
-            write_at_place(line, from, *form, place_of(*index, *depth))
+            write_at_place(line, from, *form, place_at(words, *index, *depth))
         }
         PackedEntry::SetPriority {
             priority,
             thread,
             authority,
-        } => line.priority(from, *thread, *authority, *priority),
+        } => {
+            let (thread, authority) = (address_at(words, *thread), address_at(words, *authority));
+            line.priority(from, thread, authority, *priority)
+        }
         PackedEntry::CopyCap {
             source_depth,
             dest_depth,
@@ -140,8 +145,8 @@ pub fn write_kept_step(line: &mut Line, from: Entrant, entry: &PackedEntry, word
             dest,
         } => {
             let places = (
-                place_of(*source, *source_depth),
-                place_of(*dest, *dest_depth),
+                place_at(words, *source, *source_depth),
+                place_at(words, *dest, *dest_depth),
             );
             line.copy(from, places, *rights)
         }
@@ -154,8 +159,8 @@ pub fn write_kept_step(line: &mut Line, from: Entrant, entry: &PackedEntry, word
             dest,
         } => {
             let places = (
-                place_of(*source, *source_depth),
-                place_of(*dest, *dest_depth),
+                place_at(words, *source, *source_depth),
+                place_at(words, *dest, *dest_depth),
             );
             line.mint(from, places, *rights, Badge(words[*at as usize]))
         }
@@ -166,8 +171,8 @@ pub fn write_kept_step(line: &mut Line, from: Entrant, entry: &PackedEntry, word
             dest,
         } => {
             let (source, dest) = (
-                place_of(*source, *source_depth),
-                place_of(*dest, *dest_depth),
+                place_at(words, *source, *source_depth),
+                place_at(words, *dest, *dest_depth),
             );
             line.move_cap(from, source, dest)
         }

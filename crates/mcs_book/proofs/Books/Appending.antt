@@ -23,13 +23,13 @@ entered_with s told end = record { step = s; answer = told; end = end }
 
 -- a head stands for its step and its answer, also where the answer was packed before the entry
 pub entered_of-of : (s : Step) (told : Answer) (e : PackedEntry) (a : PackedAnswer) (end : ℕ) (ws vs : List ℕ) → GrowsBy ws vs
-    → answer_of a ws ≡ told → AnswerFits a ws → entry_of e vs ≡ s.entry → entered_of (line_head s e a end) vs ≡ entered_with s told end
+    → answer_of a.form a.at ws ≡ told → AnswerFits a.form a.at ws → entry_of e vs ≡ s.entry → entered_of (line_head s e a end) vs ≡ entered_with s told end
 entered_of-of s told e a end ws vs w answer fits entry =
-    let a3 : answer_of a vs ≡ told = ap (answer_of a) w.is ∙ answer_of-grows a ws w.more fits ∙ answer in
-    ap (λ x. record { step = record { core = s.core; thread = s.thread; entry = x }; answer = answer_of a vs; end = end }) entry ∙ ap (λ x. record { step = s; answer = x; end = end }) a3
+    let a3 : answer_of a.form a.at vs ≡ told = ap (answer_of a.form a.at) w.is ∙ answer_of-grows a.form a.at ws w.more fits ∙ answer in
+    ap (λ x. record { step = record { core = s.core; thread = s.thread; entry = x }; answer = answer_of a.form a.at vs; end = end }) entry ∙ ap (λ x. record { step = s; answer = x; end = end }) a3
 
-pub HeadFits-of : (s : Step) (e : PackedEntry) (a : PackedAnswer) (end : ℕ) (ws vs : List ℕ) → GrowsBy ws vs → AnswerFits a ws → EntryFits e vs → HeadFits (line_head s e a end) vs
-HeadFits-of s e a end ws vs w answer fits = record { entry = fits; answer = rw w.is (AnswerFits-grows a ws w.more answer) }
+pub HeadFits-of : (s : Step) (e : PackedEntry) (a : PackedAnswer) (end : ℕ) (ws vs : List ℕ) → GrowsBy ws vs → AnswerFits a.form a.at ws → EntryFits e vs → HeadFits (line_head s e a end) vs
+HeadFits-of s e a end ws vs w answer fits = record { entry = fits; answer = rw w.is (AnswerFits-grows a.form a.at ws w.more answer) }
 
 -- the heads with that of a line, whose entry was set after it was pushed
 pub heads-set : (hs gs : List Head) (p q : Head) (s : Step) (blank e : PackedEntry) (a : PackedAnswer) (end last : ℕ)

@@ -20,4 +20,5 @@ invariant_of-result c =
       λ z. c.in_ok-copy.ensures.room _ (i.4 z),
       λ z. omega (arith, i.5 z, packed_count, packed_room),
       λ z. omega (arith, i.6 z, head_count, head_room),
+      λ z. omega (arith, i.7 z, packed_count),
     )

@@ -20,6 +20,7 @@ invariant_of-self c =
       i.4,
       λ z. omega (arith, i.5 z, i.3, long, c.keep_first.new.packed.ok.0, c.keep_first.ensures.capacity),
       i.6,
+      λ z. omega (arith, i.7 z, i.3, long, c.keep_first.new.packed.ok.0),
     )
 
 pub returns-clause-hand : goal.returns-clause-hand

@@ -24,6 +24,7 @@ invariant_of-self c =
       λ z. p.grew.room (b.room - 1 - 1) (HasRoom-fewer b.arena (b.room - 1) ((b.room - 1 - 1) + 1) fewer (i.4 some)),
       λ z. omega (arith, i.5 some, p.len, p.capacity, some),
       λ z. i.6 some,
+      λ z. omega (arith, i.7 some, p.len, some),
     )
 
 pub returns-clause-hand : goal.returns-clause-hand
