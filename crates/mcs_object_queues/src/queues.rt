@@ -79,6 +79,8 @@ fn thread_id(thread: ThreadNo) -> ObjId
 }
 
 /// The number of the line of a queue, if its object is there.
+// a part of its callers, which know the kind of the queue
+#[inline(always)]
 fn line_no(endpoints: &Store<()>, notifications: &Store<()>, queue: Queue) -> Option<LineNo>
     requires endpoints { (shape endpoints.now).room ≤ 256 }
     requires notifications { (shape notifications.now).room ≤ 256 }

@@ -1,5 +1,6 @@
 pub mod ChangeLaws
 pub mod FingerLaws
+pub mod FingerRowLaws
 pub mod LinkLaws
 pub mod LinkSteps
 pub mod NeighbourLaws

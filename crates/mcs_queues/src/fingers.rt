@@ -1,135 +1,194 @@
 //! Where a walk along a line may begin.
-ghost use Rattle.std.specs.Prelude.{◌≡◌, ◌<◌, ◌/◌, length, replicate, IfOk, IfSome};
-ghost use Rattle.mcs_queues.specs.Fingers.{Points, IsReleased, IsLower, finger, no_fingers};
+ghost use Rattle.std.specs.Prelude.{◌≡◌, ◌≢◌, ◌<◌, length, slice_index_or, IfOk, IfSome, Some, None, is_none, cond, not, ◌==◌};
+ghost use Rattle.mcs_queues.specs.Fingers.{Points, IsReleased, IsLower, SameFingers, finger, row_of, no_fingers, blank_rows};
 
 use crate::lines::{LineNo, ThreadNo};
 use mcs_types::{OutOfMemory, Prio, copy_rows};
 use std::alloc::Global;
 use std::marker::Model;
 
-/// How many priorities stand in a band.
-const BAND: u8 = 4;
+/// How many priorities there are.
+const PRIORITIES: usize = 256;
 
-/// How many bands there are.
-const BANDS: usize = 64;
+/// How many words have a bit for each priority.
+const WORDS: usize = 4;
 
-/// The fingers of a line, and a bit for each band that has one.
+/// The fingers of a line, and a bit for each priority that has one.
 #[derive(Clone, Copy)]
 pub struct LineFingers {
-    known: u64,
-    threads: [Option<ThreadNo>; BANDS],
+    known: [u64; WORDS],
+    threads: [Option<ThreadNo>; PRIORITIES],
 }
 
-/// For each line and each band of four priorities a finger: the thread that joined the line last with a priority of the band, as
-/// long as it stands there (own).
+impl LineFingers {
+    /// No finger.
+    fn none() -> LineFingers
+        ensures { result ≡ no_fingers }
+    {
+        LineFingers {
+            known: [0; WORDS],
+            threads: [None; PRIORITIES],
+        }
+    }
+
+    /// The nearest priority below another that has a finger, or any other where none has. No clause says so: what is found there
+    /// is compared.
+    fn known_below(&self, p: Prio) -> u8 {
+        let mut word = p.0 / 64;
+        let mut bits = self.known[word as usize] & ((1 << (p.0 % 64)) - 1);
+        while bits == 0 && 0 < word {
+            word -= 1;
+            bits = self.known[word as usize];
+        }
+        word * 64 + (63 - bits.leading_zeros().min(63) as u8)
+    }
+}
+
+/// For each line and each priority a finger: a thread that stands in the line with that priority (own). The first that joins while
+/// there is none becomes it, so most often no other of its priority stands ahead of it.
+///
+/// Lines without fingers share the first row, in which there are none: no memory is written for a line before it has a finger.
 #[derive(Drop)]
 pub struct Fingers {
     rows: Vec<LineFingers>,
+    places: Vec<u16>,
 }
 
 impl Model for Fingers {
-    ghost use Rattle.std.specs.Prelude.{List};
-    ghost use Rattle.mcs_queues.specs.declared.fingers.LineFingers.{LineFingers};
+    ghost use Rattle.std.specs.Prelude.{◌<◌, length, vec_capacity};
+    ghost use Rattle.mcs_queues.specs.Fingers.{FingerRows, IsKept};
 
-    ghost Value = { List LineFingers };
+    ghost Value = { FingerRows };
 
-    ghost view = { λ f. f.rows.items };
-}
+    ghost view = { λ f. record { rows = f.rows.items; places = f.places.items } };
 
-/// The band of a priority.
-#[inline(always)]
-fn band_of(p: Prio) -> u8
-    ensures band { result ≡ p.0 / BAND }
-    ensures within { result < BANDS }
-{
-    p.0 / BAND
+    ghost invariant = { λ f. (length f.places.items < vec_capacity f.rows)
+        × IsKept (record { rows = f.rows.items; places = f.places.items }) };
 }
 
 impl Fingers {
     /// That many lines, with no finger.
     pub fn new(alloc: Global, lines: u16) -> Result<Fingers, OutOfMemory>
-        ensures { IfOk result (λ f. f ≡ replicate lines no_fingers) }
+        ensures { IfOk result (λ f. f ≡ blank_rows lines) }
     {
-        let row = LineFingers {
-            known: 0,
-            threads: [None; BANDS],
-        };
-        Ok(Fingers {
-            rows: Vec::from_elem(alloc, row, lines as usize)?,
-        })
+        let mut rows = Vec::with_capacity(alloc, lines as usize + 1)?;
+        rows.push_reserved(LineFingers::none());
+        let places = Vec::from_elem(alloc, 0, lines as usize)?;
+        Ok(Fingers { rows, places })
     }
 
     /// The same fingers, in the memory of spare ones. OutOfMemory where memory is refused.
     pub fn copy(&self, alloc: Global, spare: Option<Fingers>) -> Result<Fingers, OutOfMemory>
         ensures { IfOk result (λ f. f ≡ self.now) }
     {
-        let rows = match spare {
-            Some(Fingers { rows }) => rows,
-            None => Vec::new(alloc),
+        let (rows, places) = match spare {
+            Some(Fingers { rows, places }) => (rows, places),
+            None => (Vec::new(alloc), Vec::new(alloc)),
         };
-        Ok(Fingers {
-            rows: copy_rows(rows, &self.rows, self.rows.len())?,
-        })
+        let rows = copy_rows(rows, &self.rows, self.places.len() + 1)?;
+        let places = copy_rows(places, &self.places, self.places.len())?;
+        Ok(Fingers { rows, places })
     }
 
-    /// The finger of a band of a line.
-    fn at(&self, q: LineNo, band: u8) -> Option<ThreadNo>
-        requires line { q.0 < length self.now }
-        requires band { band < BANDS }
-        ensures { result ≡ finger self.now q.0 band }
+    /// The fingers of a line.
+    fn row(&self, q: LineNo) -> &LineFingers
+        requires { q.0 < length self.now.places }
+        ensures row { result.now ≡ row_of self.now q.0 }
+        ensures shared { slice_index_or self.now.places q.0 0 ≡ 0 → result.now ≡ no_fingers }
     {
-        let row = &self.rows[q.0 as usize];
-        row.threads[band as usize]
+        &self.rows[self.places[q.0 as usize] as usize]
     }
 
-    /// The bands below that of a priority which have a finger, a bit for each. No clause says so: what is looked for there is compared.
-    fn known_below(&self, q: LineNo, p: Prio) -> u64
-        requires { q.0 < length self.now }
+    /// Whether a line has a row of its own.
+    fn has_row(&self, q: LineNo) -> bool
+        requires { q.0 < length self.now.places }
+        ensures { result ≡ not (slice_index_or self.now.places q.0 0 == 0) }
     {
-        let row = &self.rows[q.0 as usize];
-        row.known & ((1 << band_of(p)) - 1)
+        self.places[q.0 as usize] != 0
     }
 
-    /// The finger of the nearest band below that of a priority, where there is one.
+    /// The finger of a priority in a line.
+    fn at(&self, q: LineNo, p: Prio) -> Option<ThreadNo>
+        requires { q.0 < length self.now.places }
+        ensures finger { result ≡ finger self.now q.0 p.0 }
+        ensures own { IfSome result (λ t. slice_index_or self.now.places q.0 0 ≢ 0) }
+    {
+        let row = self.row(q);
+        row.threads[p.0 as usize]
+    }
+
+    /// The finger of the nearest priority below another, where there is one.
     pub fn below(&self, q: LineNo, p: Prio) -> Option<ThreadNo>
-        requires { q.0 < length self.now }
+        requires { q.0 < length self.now.places }
         ensures { IfSome result (IsLower self.now q.0 p.0) }
     {
-        let known = self.known_below(q, p);
-        if known == 0 {
+        let found = self.row(q).known_below(p);
+        if p.0 <= found {
             return None;
         }
-        let band = 63 - known.leading_zeros().min(63) as u8;
-        if band_of(p) <= band {
-            return None;
-        }
-        self.at(q, band)
+        self.at(q, Prio(found))
     }
 
-    /// Points the finger of a priority's band at a thread, or at none.
-    pub fn point(&mut self, q: LineNo, p: Prio, to: Option<ThreadNo>)
-        requires { q.0 < length self.old }
-        ensures points { Points self.old self.new q.0 (p.0 / BAND) to }
-        ensures lines { length self.new ≡ length self.old }
+    /// Gives a line a row of its own, where it has none.
+    fn open(&mut self, q: LineNo)
+        requires { q.0 < length self.old.places }
+        ensures own { slice_index_or self.new.places q.0 0 ≢ 0 }
+        ensures same { SameFingers self.old self.new }
+        ensures lines { length self.new.places ≡ length self.old.places }
     {
-        let band = band_of(p);
-        let bit = 1 << band;
-        let row = &mut self.rows[q.0 as usize];
-        row.threads[band as usize] = to;
-        row.known = match to {
-            Some(_) => row.known | bit,
-            None => row.known & !bit,
+        if self.places[q.0 as usize] == 0 {
+            self.places[q.0 as usize] = self.rows.len() as u16;
+            self.rows.push_reserved(LineFingers::none());
+        }
+    }
+
+    /// Points the finger of a priority at a thread, or at none, in a line that has a row of its own.
+    fn point(&mut self, q: LineNo, p: Prio, to: Option<ThreadNo>)
+        requires line { q.0 < length self.old.places }
+        requires own { slice_index_or self.old.places q.0 0 ≢ 0 }
+        ensures points { Points self.old self.new q.0 p.0 to }
+        ensures places { self.new.places ≡ self.old.places }
+    {
+        let word = (p.0 / 64) as usize;
+        let bit = 1 << (p.0 % 64);
+        let row = &mut self.rows[self.places[q.0 as usize] as usize];
+        row.threads[p.0 as usize] = to;
+        row.known[word] = match to {
+            Some(_) => row.known[word] | bit,
+            None => row.known[word] & !bit,
         };
     }
 
-    /// Takes the finger of a priority's band from a thread, if it points there.
-    pub fn release(&mut self, q: LineNo, p: Prio, t: ThreadNo)
-        requires { q.0 < length self.old }
-        ensures released { IsReleased self.old self.new q.0 (p.0 / BAND) t }
-        ensures lines { length self.new ≡ length self.old }
+    /// Makes a thread the finger of its priority, if that has none. Answers whether.
+    pub fn claim(&mut self, q: LineNo, p: Prio, t: ThreadNo) -> bool
+        requires { q.0 < length self.old.places }
+        ensures answer { result ≡ is_none (finger self.old q.0 p.0) }
+        ensures points { Points self.old self.new q.0 p.0
+            (cond result (Some t) (finger self.old q.0 p.0)) }
+        ensures lines { length self.new.places ≡ length self.old.places }
     {
-        if self.at(q, band_of(p)) == Some(t) {
-            self.point(q, p, None);
+        let here = self.at(q, p);
+        self.open(q);
+        // Written in either case: which it is cannot be foreseen, and a wrong guess costs more than a write.
+        let to = match here {
+            Some(u) => u,
+            None => t,
+        };
+        self.point(q, p, Some(to));
+        here.is_none()
+    }
+
+    /// Takes the finger of a priority from a thread, if it points there.
+    pub fn release(&mut self, q: LineNo, p: Prio, t: ThreadNo)
+        requires { q.0 < length self.old.places }
+        ensures released { IsReleased self.old self.new q.0 p.0 t }
+        ensures lines { length self.new.places ≡ length self.old.places }
+    {
+        let here = self.at(q, p);
+        if !self.has_row(q) {
+            return;
         }
+        let to = if here == Some(t) { None } else { here };
+        self.point(q, p, to);
     }
 }

@@ -1,11 +1,11 @@
 //! Lines as links between slots.
-ghost use Rattle.std.specs.Prelude.{IfOk, ◌≡◌, ℕ, ◌+◌, ◌-◌, ◌<◌, ◌≤◌, true, Some, None, is_some, length, IfSome};
+ghost use Rattle.std.specs.Prelude.{IfOk, cond, ◌≡◌, ℕ, ◌+◌, ◌-◌, ◌<◌, ◌≤◌, true, Some, None, is_some, length, IfSome};
 ghost use Rattle.mcs_types.specs.Waiters.{without, lower, first_waiter, behind_in, NeverRises, IsPut};
 ghost use Rattle.mcs_queues.specs.Changes.{waiter, may_join, JoinsLine, JoinsPlace, LeavesPlace, ShiftsLine, IsPutAnew, StandsAtPlace};
 ghost use Rattle.mcs_queues.specs.Numbers.{thread_number, line_number};
 ghost use Rattle.mcs_queues.specs.Links.{Ranged, relinked, rooms_of, spelled, stands_at, link_changes};
 ghost use Rattle.mcs_queues.specs.Linked.{Linked, Between, Walked};
-ghost use Rattle.mcs_queues.specs.Fingers.{Pointed, AtMostOneGoes};
+ghost use Rattle.mcs_queues.specs.Fingers.{Pointed, Points, AtMostOneGoes, finger};
 
 use crate::fingers::Fingers;
 use crate::lines::{LineNo, Lines, ThreadNo};
@@ -17,7 +17,7 @@ use std::sync::ledger::{Blank, Ledger};
 
 /// Lines as links: each thread's slot names the threads before and behind it, and each line's slot its first and its last. To
 /// leave a line or to ask for a neighbour reads no other thread's slot; to join one walks past threads of a lower priority,
-/// from a finger of the nearest lower band that has one, or from the line's end (own). `new` takes all slots and fingers.
+/// from the finger of the nearest lower one that has a finger, or from the line's end (own). `new` takes all memory.
 #[derive(Drop)]
 pub struct LinkedLines {
     slots: LinkSlots,
@@ -37,7 +37,7 @@ impl Model for LinkedLines {
         × Pointed s.fingers s.slots };
 }
 
-/// Where a walk to a priority begins: ahead of a finger of a lower band, or at the line's end. It answers the thread that is to be
+/// Where a walk to a priority begins: ahead of a finger of a lower one, or at the line's end. It answers the thread that is to be
 /// visited next, and the one behind it.
 fn begin<G: Ledger>(
     slots: &LinkSlots,
@@ -52,9 +52,13 @@ fn begin<G: Ledger>(
     ensures more { steps.old ≤ steps.new }
     ensures walked { Walked (spelled slots.now q.0) p.0 result.0 result.1 (steps.new - steps.old) }
 {
+    let end = (slots.ends(q).last, None);
+    if end.0.is_none() {
+        return end;
+    }
     match fingers.below(q, p) {
         Some(t) => (slots.visit(t, steps).previous, Some(t)),
-        None => (slots.ends(q).last, None),
+        None => end,
     }
 }
 
@@ -140,6 +144,26 @@ fn leave(slots: &mut LinkSlots, fingers: &mut Fingers, t: ThreadNo) -> Option<Li
     Some(q)
 }
 
+/// Makes a thread the finger of its priority, if that has none. Answers whether. A thread that stands alone needs none, so a line
+/// that never has two takes no memory for fingers.
+fn offer(
+    fingers: &mut Fingers,
+    q: LineNo,
+    p: Prio,
+    t: ThreadNo,
+    around: (Option<ThreadNo>, Option<ThreadNo>),
+) -> bool
+    requires { q.0 < length fingers.old.places }
+    ensures points { Points fingers.old fingers.new q.0 p.0
+        (cond result (Some t) (finger fingers.old q.0 p.0)) }
+    ensures lines { length fingers.new.places ≡ length fingers.old.places }
+{
+    if around.0.is_none() && around.1.is_none() {
+        return false;
+    }
+    fingers.claim(q, p, t)
+}
+
 /// Puts a thread that stands in no line behind all of its priority.
 fn enter<G: Ledger>(
     slots: &mut LinkSlots,
@@ -171,7 +195,7 @@ fn enter<G: Ledger>(
         next: after,
     };
     relink(slots, q, t, (before, after), (Some(t), Some(t)), slot);
-    fingers.point(q, p, Some(t));
+    let _is_finger = offer(fingers, q, p, t, (before, after));
 }
 
 /// The first thread of a line.

@@ -48,4 +48,4 @@ returns-clause-pointed g c =
     let a = c.seek-before.result.1 in
     let t = Some c.args.t in
     let r = relinked-is c.args.q.0 c.args.t.0 b a t t s l (enter-ranged l c.args.t c.args.q.0 c.args.p.0 b a c.requires.linked c.requires.thread c.requires.line c.seek-before.ensures.between) in
-    rw c.relink.ensures (pointed-enter c.args.fingers.now c.point.new.self c.args.q.0 c.args.t b a t t s l (relinked c.args.q.0 c.args.t.0 b a t t s l) c.requires.pointed r c.requires.free refl c.point.ensures.points c.point.ensures.lines)
+    rw c.relink.ensures (pointed-enter c.args.fingers.now c.offer-is_finger.new.fingers c.args.q.0 c.args.t b a t t s l (relinked c.args.q.0 c.args.t.0 b a t t s l) c.requires.pointed r c.requires.free refl c.offer-is_finger.result c.offer-is_finger.ensures.points c.offer-is_finger.ensures.lines)

@@ -1,11 +1,10 @@
-use Rattle.std.proofs.Common.{◌≡◌, ◌/◌, Some, None, refl, subst, arith}
+use Rattle.std.proofs.Common.{◌≡◌, Some, None, refl, subst, arith}
 use Rattle.std.proofs.lemmas.Grind.{common_steps}
 use Rattle.mcs_queues.specs.declared.slots.ThreadSlot.{ThreadSlot}
 use Rattle.mcs_queues.specs.Numbers.{line_number}
 use Rattle.mcs_queues.specs.Links.{stands_at, slot_at, spelled, relinked}
 use Rattle.mcs_types.specs.Waiters.{without}
 use Rattle.mcs_queues.specs.Fingers.{IsReleased}
-use Rattle.mcs_queues.specs.declared.fingers.TheConstants.{BAND}
 use Rattle.mcs_queues.proofs.LinkLaws.{relinked-is, relinked-place, linked-spelled, spells-is}
 use Rattle.mcs_queues.proofs.FingerLaws.{pointed-leave}
 use Rattle.mcs_queues.proofs.ChangeLaws.{unchanged, relinked-changes}
@@ -95,5 +94,5 @@ returns-clause-pointed c =
     let a = (slot_at l c.args.t.0).next in
     let s : ThreadSlot = record { line = None; priority = (slot_at l c.args.t.0).priority; previous = None; next = None } in
     let r = relinked-is c.in_ok-q.q.0 c.args.t.0 b a a b s l (leave-ranged l c.args.t c.in_ok-q.q.0 c.requires.linked in_q) in
-    let P : ThreadSlot → Type 0 = λ z. IsReleased c.args.fingers.now c.release.new.self c.in_ok-q.q.0 (z.priority.0 / BAND) c.args.t in
+    let P : ThreadSlot → Type 0 = λ z. IsReleased c.args.fingers.now c.release.new.self c.in_ok-q.q.0 (z.priority.0) c.args.t in
     rw c.relink.ensures (rw c.named-slot.ensures (pointed-leave c.args.fingers.now c.release.new.self c.in_ok-q.q.0 c.args.t b a a b s l (relinked c.in_ok-q.q.0 c.args.t.0 b a a b s l) c.requires.pointed r in_q (subst P c.named-slot.ensures c.release.ensures.released) c.release.ensures.lines))
