@@ -13,6 +13,7 @@ mod taking;
 use checks::{check, exists_as};
 use mcs_object_queues::{ObjectQueues, Waiting};
 use mcs_queues::PlainLines;
+use mcs_slots::Tallied;
 use mcs_state::State;
 use mcs_types::{BootFault, BootLine, CORES, Kind, ObjId, OutOfMemory};
 use std::alloc::Global;
@@ -23,7 +24,7 @@ use taking::takes_line;
 /// first.
 #[derive(Drop)]
 pub struct Boot {
-    // No thread waits yet, so these lines stay empty, and no room for links is cleared twice.
+    // No thread waits yet, so these lines stay empty, and no room for links is cleared twice; nor is one for all tallies.
     state: State<ObjectQueues<PlainLines>>,
 }
 
@@ -51,7 +52,7 @@ impl Boot {
         if cores < 1 || cores > CORES {
             return Err(BootFault::Number);
         }
-        match State::new(alloc, cores) {
+        match State::new(alloc, cores, Tallied::First) {
             Ok(state) => Ok(Boot { state }),
             Err(OutOfMemory) => Err(BootFault::OutOfMemory),
         }
@@ -119,7 +120,7 @@ pub(crate) fn boot_state<W: Waiting>(alloc: Global, boot: &Boot) -> Result<State
     ensures hand { IfOk result (λ s. s.hand ≡ []) }
 {
     boot.is_faultless();
-    let mut state = State::new(alloc, boot.cores())?;
+    let mut state = State::new(alloc, boot.cores(), Tallied::All)?;
     for line in boot.lines() {
         takes_line(&mut state, *line)?;
     }

@@ -13,3 +13,4 @@ pub use caps::{takes_badge, with_badge, with_mask};
 pub use laws::one_slot_changes;
 pub use page::Page;
 pub use slots::{SlotId, Slots};
+pub use tallies::Tallied;

@@ -4,7 +4,7 @@ ghost use Rattle.std.specs.Prelude.{◌≡◌, ◌≤◌, ◌<◌, ◌++◌, ◌
 use crate::caps::{takes_badge, with_badge, with_mask};
 use crate::page::Page;
 use crate::pages::Pages;
-use crate::tallies::Tallies;
+use crate::tallies::{Tallied, Tallies};
 use mcs_types::{Badge, Cap, ObjId, OutOfMemory, Refusal, Rights, cap_again};
 use std::alloc::Global;
 use std::marker::Model;
@@ -51,13 +51,14 @@ impl Slots {
     ghost use Rattle.mcs_slots.specs.Filling.{filled, Fills, Moves};
     ghost use Rattle.mcs_slots.specs.Copying.{source_cap, copy_of, mint_of, answered};
 
-    /// Empty CNodes of these radices, each 1 to 8, in order: their serials are 1, 2 and so on. There are 64 at most.
-    pub fn new(alloc: Global, radices: &[u8]) -> Result<Slots, OutOfMemory>
+    /// Empty CNodes of these radices, each 1 to 8, in order: their serials are 1, 2 and so on. There are 64 at most. What is tallied
+    /// changes no answer, but how long a count takes.
+    pub fn new(alloc: Global, radices: &[u8], tallied: Tallied) -> Result<Slots, OutOfMemory>
         requires few { length radices.now ≤ 64 }
         requires radices { All (λ r. (1 ≤ r) × (r ≤ 8)) radices.now }
         ensures { IfOk result (λ s. s ≡ map empty_page radices.now) }
     {
-        let tallies = Tallies::new(alloc)?;
+        let tallies = Tallies::new(alloc, tallied)?;
         let pages = Pages::new(alloc, radices)?;
         Ok(Slots { pages, tallies })
     }

@@ -16,6 +16,23 @@ const BUCKETS: usize = 6 * SERIALS as usize;
 /// How many buckets a copy has tallies of, the first: copies are made of small systems, again and again (own).
 const COPIED: usize = 6 * 64;
 
+/// Which buckets have a tally: all, or the first, where capabilities to one object are hardly ever counted (own).
+#[derive(Clone, Copy, PartialEq, Eq, Debug)]
+pub enum Tallied {
+    All,
+    First,
+}
+
+impl Tallied {
+    /// How many buckets these are.
+    fn count(self) -> usize {
+        match self {
+            Tallied::All => BUCKETS,
+            Tallied::First => COPIED,
+        }
+    }
+}
+
 /// What is known of the objects of a bucket, which are of one kind: the serial of the one that came first, the owner, how many slots
 /// hold a capability to it, and how many to any of them. There are fewer slots than 16 bits count.
 #[derive(Clone, Copy)]
@@ -108,11 +125,11 @@ impl Tallies {
     ghost use Rattle.mcs_slots.specs.Tallies.{LetsGo, Counts, AreFrom};
 
     /// The tallies of slots that are empty.
-    pub(crate) fn new(alloc: Global) -> Result<Tallies, OutOfMemory>
+    pub(crate) fn new(alloc: Global, tallied: Tallied) -> Result<Tallies, OutOfMemory>
         ensures { IfOk result (All (λ t. t ≡ no_tally)) }
     {
         Ok(Tallies {
-            tallies: no_tallies(alloc, BUCKETS)?,
+            tallies: no_tallies(alloc, tallied.count())?,
         })
     }
 

@@ -26,7 +26,7 @@ use mcs_notifications::Notifications;
 use mcs_object_queues::Waiting;
 use mcs_packing::Lent;
 use mcs_replies::Replies;
-use mcs_slots::{SlotId, Slots};
+use mcs_slots::{SlotId, Slots, Tallied};
 use mcs_threads::{Block, Threads};
 use mcs_types::{
     Answer, BOOK_LINES, Badge, BootLine, Cap, Copied, Copies, Kind, LINE_RECORDS, Letter, Message,
@@ -122,8 +122,8 @@ impl<W: Waiting> Model for State<W> {
 }
 
 impl<W: Waiting> State<W> {
-    /// A state with nothing made, and the room of all tables.
-    pub fn new(alloc: Global, cores: u8) -> Result<State<W>, OutOfMemory>
+    /// A state with nothing made, and the room of all tables. What is tallied changes no answer.
+    pub fn new(alloc: Global, cores: u8, tallied: Tallied) -> Result<State<W>, OutOfMemory>
         ensures cores { IfOk result (λ s. s.book.boot.cores ≡ cores) }
         ensures boot { IfOk result (λ s. s.book.boot.lines ≡ []) }
         ensures lines { IfOk result (λ s. s.book.lines ≡ []) }
@@ -131,7 +131,7 @@ impl<W: Waiting> State<W> {
     {
         // Those whose letting go is long to prove come last.
         Ok(State {
-            slots: Slots::new(alloc, &[])?,
+            slots: Slots::new(alloc, &[], tallied)?,
             threads: Threads::new(alloc)?,
             contexts: Contexts::new(alloc)?,
             replies: Replies::new(alloc)?,

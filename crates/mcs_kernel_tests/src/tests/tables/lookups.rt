@@ -1,6 +1,6 @@
 //! Lookup in capability spaces.
 use mcs_cspace::{lookup, lookup_slot};
-use mcs_slots::{SlotId, Slots};
+use mcs_slots::{SlotId, Slots, Tallied};
 use mcs_types::{Badge, Cap, Guard, Kind, ObjId, Place, Refusal, Rights};
 use std::alloc::Global;
 use std::test::Fail;
@@ -26,7 +26,7 @@ fn root(cnode: u32, rights: Rights, guard: Guard) -> Cap {
 /// Two CNodes, of 16 and of 8 slots: slot 2 of the first leads with the guard 01 to the second, whose slot 5 holds a capability
 /// to an endpoint. Beside it the root, with a guard of 55 zeros, and that capability.
 fn two_levels(alloc: Global) -> Result<(Slots, Cap, Cap), Fail> {
-    let mut slots = Slots::new(alloc, &[4, 3])?;
+    let mut slots = Slots::new(alloc, &[4, 3], Tallied::All)?;
     let none = Rights::new(0).ok_or("no right")?;
     let endpoint = Cap {
         obj: ObjId {
@@ -87,7 +87,7 @@ fn slots_are_found(rt: HostRuntime) -> Result<(), Fail> {
 
 #[test]
 fn any_root_may_be_given(rt: HostRuntime) -> Result<(), Fail> {
-    let slots = Slots::new(rt.alloc(), &[4])?;
+    let slots = Slots::new(rt.alloc(), &[4], Tallied::All)?;
     let none = Rights::new(0).ok_or("no right")?;
     let found = [
         // of a guard's value its low bits count, here 10

@@ -1,5 +1,5 @@
 //! Slots of CNodes.
-use mcs_slots::{SlotId, Slots};
+use mcs_slots::{SlotId, Slots, Tallied};
 use mcs_types::{Badge, Cap, Guard, Kind, ObjId, Refusal, Rights};
 use std::test::Fail;
 
@@ -297,7 +297,7 @@ fn are_as(slots: &Slots, [a, b, c]: [Option<Held>; 3], counts: [u32; 2]) -> bool
 
 #[test]
 fn calls_on_slots_answer(rt: HostRuntime) -> Result<(), Fail> {
-    let mut slots = Slots::new(rt.alloc(), &[3, 1])?;
+    let mut slots = Slots::new(rt.alloc(), &[3, 1], Tallied::All)?;
     for (i, (call, answer, held, counts)) in CALLS.into_iter().enumerate() {
         assert!(rt;
             call.on(&mut slots) == Some(answer),
@@ -321,7 +321,7 @@ const SLOTS: [(u32, u8, bool); 7] = [
 
 #[test]
 fn cnodes_have_their_slots(rt: HostRuntime) -> Result<(), Fail> {
-    let slots = Slots::new(rt.alloc(), &[3, 1])?;
+    let slots = Slots::new(rt.alloc(), &[3, 1], Tallied::All)?;
     slots.are_pages();
     let radices = [1, 2, 3, 0].map(|serial| slots.radix(object(Kind::CNode, serial)));
     assert!(rt; radices == [Some(3), Some(1), None, None]);
