@@ -8,7 +8,8 @@ ghost use Rattle.mcs_book.specs.Fair.{EndsOpen, IsWholeLine, TakesFirst, TakesIn
 ghost use Rattle.mcs_book.specs.Statuses.{may_enter};
 ghost use Rattle.mcs_caps.specs.NewObjects.{HasSerials};
 ghost use Rattle.mcs_book.specs.Table.{does};
-ghost use Rattle.mcs_ipc.specs.Rows.{send_answer};
+ghost use Rattle.mcs_types.specs.declared.entry.Entry.{Entry};
+ghost use Rattle.mcs_ipc.specs.Rows.{send_answer, send_entry, exchange_entry};
 ghost use Rattle.mcs_state.specs.Now.{so_far};
 ghost use Rattle.mcs_state.specs.Doing.{Does, Fits, plain_answer};
 ghost use Rattle.mcs_state.specs.Entering.{IsEntering, OpenStand, OnlyBoundWait};
@@ -28,8 +29,8 @@ use mcs_object_queues::{ObjectQueues, Waiting};
 use mcs_queues::Lines;
 use mcs_state::State;
 use mcs_types::{
-    Answer, BOOK_LINES, CORES, Copied, Copies, CoreId, Entry, Kind, ObjId, OutOfMemory, Refusal,
-    Status, Step,
+    Answer, BOOK_LINES, CORES, Copied, Copies, CoreId, Entry, Kind, Message, ObjId, OutOfMemory,
+    Refusal, Status, Step,
 };
 use std::alloc::Global;
 use std::marker::Model;
@@ -52,7 +53,7 @@ impl<L: Lines> Model for Kernel<L> {
 }
 
 /// What an entry is answered that is done or refused.
-#[inline(always)]
+#[inline]
 fn plain_answer(ended: Result<(), Refusal>) -> Answer
     ensures { result ≡ plain_answer ended }
 {
@@ -72,6 +73,100 @@ fn send_answer(waits: Result<bool, Refusal>) -> Answer
         Ok(false) => Answer::Done,
         Err(refusal) => Answer::Refused(refusal),
     }
+}
+
+// Who sends a message is a function of its own, so that what is lent with it is cleared where it is lent alone.
+
+/// Send and NBSend, with the copies of their message that take memory.
+#[inline(always)]
+fn send_by<W: Waiting>(
+    state: &mut State<W>,
+    core: CoreId,
+    thread: ObjId,
+    cap: u64,
+    message: &Message,
+    long: Option<Box<Copied>>,
+    blocks: bool,
+) -> Answer
+    requires copies { IsSpare long message.now }
+    requires entering { IsEntering (so_far state.old) thread }
+    requires stand { OpenStand (so_far state.old) }
+    requires waiting { OnlyBoundWait (so_far state.old) }
+    requires few { length state.old.book.lines < BOOK_LINES }
+    requires room { Fits state.old core thread (send_entry blocks cap message.now) }
+    ensures { Does state.old core thread (send_entry blocks cap message.now) result state.new }
+{
+    let copies = Copies { message, long };
+    send_answer(send(state, core, thread, cap, copies, blocks))
+}
+
+/// Call, likewise.
+#[inline(always)]
+fn call_by<W: Waiting>(
+    state: &mut State<W>,
+    core: CoreId,
+    thread: ObjId,
+    cap: u64,
+    message: &Message,
+    long: Option<Box<Copied>>,
+) -> Answer
+    requires copies { IsSpare long message.now }
+    requires entering { IsEntering (so_far state.old) thread }
+    requires stand { OpenStand (so_far state.old) }
+    requires few { length state.old.book.lines < BOOK_LINES }
+    requires room { Fits state.old core thread (Entry.Call cap message.now) }
+    ensures { Does state.old core thread (Entry.Call cap message.now) result state.new }
+{
+    let copies = Copies { message, long };
+    send_answer(call(state, core, thread, cap, copies))
+}
+
+/// ReplyRecv, likewise.
+#[inline]
+fn reply_by<W: Waiting>(
+    state: &mut State<W>,
+    core: CoreId,
+    thread: ObjId,
+    cap: u64,
+    reply: u64,
+    message: &Message,
+    long: Option<Box<Copied>>,
+    answer: &mut Answer,
+)
+    requires copies { IsSpare long message.now }
+    requires entering { IsEntering (so_far state.old) thread }
+    requires stand { OpenStand (so_far state.old) }
+    requires room { Fits state.old core thread (Entry.ReplyRecv cap reply message.now) }
+    ensures { Does state.old core thread (Entry.ReplyRecv cap reply message.now) answer.new
+        state.new }
+{
+    let copies = Copies { message, long };
+    reply_receive(state, core, thread, cap, reply, copies, answer)
+}
+
+/// NBSendRecv where a reply object is named, and NBSendWait where not, likewise.
+fn exchange_by<W: Waiting>(
+    state: &mut State<W>,
+    core: CoreId,
+    thread: ObjId,
+    cap: u64,
+    source: u64,
+    reply: Option<u64>,
+    message: &Message,
+    long: Option<Box<Copied>>,
+    answer: &mut Answer,
+)
+    requires copies { IsSpare long message.now }
+    requires entering { IsEntering (so_far state.old) thread }
+    requires stand { OpenStand (so_far state.old) }
+    requires waiting { OnlyBoundWait (so_far state.old) }
+    requires few { length state.old.book.lines < BOOK_LINES }
+    requires room { Fits state.old core thread (exchange_entry cap source reply message.now) }
+    ensures { Does state.old core thread (exchange_entry cap source reply message.now) answer.new
+        state.new }
+{
+    let copies = Copies { message, long };
+    exchange(state, core, thread, cap, source, reply, copies, answer)
 }
 
 /// Does an entry of a thread that may enter: a table, with an arm for each entry. The copies of its message that take memory are
@@ -97,16 +192,13 @@ fn operate<W: Waiting>(
 {
     match entry {
         Entry::Send { cap, message } => {
-            let copies = Copies { message, long };
-            *answer = send_answer(send(state, core, thread, *cap, copies, true));
+            *answer = send_by(state, core, thread, *cap, message, long, true)
         }
         Entry::NbSend { cap, message } => {
-            let copies = Copies { message, long };
-            *answer = send_answer(send(state, core, thread, *cap, copies, false));
+            *answer = send_by(state, core, thread, *cap, message, long, false)
         }
         Entry::Call { cap, message } => {
-            let copies = Copies { message, long };
-            *answer = send_answer(call(state, core, thread, *cap, copies));
+            *answer = call_by(state, core, thread, *cap, message, long)
         }
         Entry::Recv { cap, reply } => receive(
             state,
@@ -132,36 +224,30 @@ fn operate<W: Waiting>(
             cap,
             reply,
             message,
-        } => {
-            let copies = Copies { message, long };
-            reply_receive(state, core, thread, *cap, *reply, copies, answer)
-        }
+        } => reply_by(state, core, thread, *cap, *reply, message, long, answer),
         Entry::NbSendRecv {
             cap,
             source,
             reply,
             message,
-        } => {
-            let copies = Copies { message, long };
-            exchange(
-                state,
-                core,
-                thread,
-                *cap,
-                *source,
-                Some(*reply),
-                copies,
-                answer,
-            )
-        }
+        } => exchange_by(
+            state,
+            core,
+            thread,
+            *cap,
+            *source,
+            Some(*reply),
+            message,
+            long,
+            answer,
+        ),
         Entry::NbSendWait {
             cap,
             source,
             message,
-        } => {
-            let copies = Copies { message, long };
-            exchange(state, core, thread, *cap, *source, None, copies, answer)
-        }
+        } => exchange_by(
+            state, core, thread, *cap, *source, None, message, long, answer,
+        ),
         Entry::Signal { cap } => *answer = plain_answer(signal_at(state, core, thread, *cap)),
         Entry::SetPriority {
             thread: holder,

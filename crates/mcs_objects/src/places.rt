@@ -44,10 +44,8 @@ pub fn keep<T: Drop>(kind: Kind, places: &mut Vec<Option<T>>, id: ObjId, kept: O
     ensures places { length places.new.items ≡ length places.old.items }
     ensures capacity { vec_capacity places.new ≡ vec_capacity places.old }
 {
-    match id.place(kind) {
-        None => unreachable!(),
-        Some(place) => places[place] = kept,
-    }
+    // it has a place, so nothing is tested
+    places[(id.serial - 1) as usize] = kept;
 }
 
 /// Takes out what is kept of an object of a kind. None, and nothing changes, where nothing is kept of it, and for an object of
