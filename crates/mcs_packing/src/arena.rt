@@ -243,6 +243,7 @@ impl Arena {
     }
 
     /// Keeps the message of an entry, and answers where: at this place, if it stands there already.
+    #[inline(always)]
     pub(crate) fn share_plain(&mut self, message: &Message, place: u32) -> u32
         requires { HasMessageRoom self.old 1 }
         ensures value { HoldsAt self.new.words.items result message.now }

@@ -6,8 +6,8 @@ ghost use Rattle.mcs_packing.specs.Packing.{FitsIn, Grew, HasRoom, IsPlain, Pack
 use crate::arena::{Arena, length_of};
 use crate::lent::Lent;
 use mcs_types::{
-    Badge, Cap, CoreId, Ending, Form, Kind, Message, Mode, ObjId, Prio, Queue, Rec, Rights,
-    SendMode,
+    Badge, Cap, CoreId, Ending, Form, Kind, Message, Mode, OBJECTS, ObjId, Prio, Queue, Rec,
+    Rights, SendMode,
 };
 
 /// Which line of an object.
@@ -174,9 +174,6 @@ pub enum Packed {
 
 const _: () = prove!(size_of::<Packed>() == 12);
 
-/// How many threads a byte tells apart: those of the serials 1 to this, and legal books have no others.
-const THREADS: u32 = 256;
-
 /// The serial of an object of a kind.
 #[inline(always)]
 fn serial_of(id: &ObjId, kind: Kind) -> Option<u32>
@@ -189,13 +186,13 @@ fn serial_of(id: &ObjId, kind: Kind) -> Option<u32>
     }
 }
 
-/// The serial of a thread less 1, where a byte holds it.
+/// The serial of a thread less 1, where a byte holds it: threads of legal books have the serials 1 to 256.
 #[inline(always)]
 fn thread_of(id: &ObjId) -> Option<u8>
     ensures { IfSome result (λ t. id.now ≡ object Kind.Thread (t + 1)) }
 {
     let before = id.serial.wrapping_sub(1);
-    if id.kind.is_same(Kind::Thread) && before < THREADS {
+    if id.kind.is_same(Kind::Thread) && before < OBJECTS as u32 {
         Some(before as u8)
     } else {
         None

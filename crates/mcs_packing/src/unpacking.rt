@@ -92,7 +92,8 @@ fn joins(thread: u8, queue: Queue, reply: Option<ObjId>) -> Rec
 }
 
 fn heard(thread: u8, on: u32, word: u64) -> Rec
-    ensures { result ≡ Rec.Heard (object Kind.Thread (thread + 1)) (object Kind.Notification on) word }
+    ensures { result ≡ Rec.Heard (object Kind.Thread (thread + 1))
+        (object Kind.Notification on) word }
 {
     Rec::Heard {
         thread: thread_id(thread),

@@ -11,7 +11,7 @@ use std::marker::Model;
 const PRIORITIES: usize = 256;
 
 /// How many words have a bit for each priority.
-const WORDS: usize = 4;
+const WORDS: usize = PRIORITIES / 64;
 
 /// The fingers of a line, and a bit for each priority that has one.
 #[derive(Clone, Copy)]

@@ -270,7 +270,7 @@ fn text_of<'a>(read: Option<&'a ReadStep<'_>>, label: u64, words: &[u64]) -> Opt
 }
 
 /// What was sent and paid, whose text is copied where it is that of this step.
-#[inline(always)]
+#[inline(never)]
 fn write_message_of(
     line: &mut Line,
     sent: u128,
@@ -333,8 +333,8 @@ fn write_message(line: &mut Line, sent: u128, packed: &Packed, words: &[u64], wi
 }
 
 /// What was sent and paid, whose text is copied where it is that of this step, which was read.
-// out of line, with the parts of the step each for itself: so who writes other records puts nothing together for it
-#[inline(never)]
+// the parts of the step each for itself: so who writes other records puts nothing together for it
+#[inline(always)]
 fn write_read_message(
     line: &mut Line,
     sent: u128,
