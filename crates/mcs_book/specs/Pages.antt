@@ -1,5 +1,5 @@
 -- How a book is kept: the records of all lines side by side, and where each line ends, over what was packed.
-use Rattle.std.specs.Prelude.{ℕ, zero, suc, ◌≡◌, ◌≤◌, ◌-◌, List, [], ◌∷◌, take, drop}
+use Rattle.std.specs.Prelude.{ℕ, zero, suc, ◌≡◌, ◌≤◌, ◌<◌, ◌+◌, ◌-◌, ◌*◌, ◌^◌, List, [], ◌∷◌, take, drop, Vec, vec_len, vec_capacity}
 use Rattle.mcs_types.specs.declared.record.Rec.{Rec}
 use Rattle.mcs_types.specs.declared.entry.Step.{Step}
 use Rattle.mcs_packing.specs.declared.arena.Arena.{Arena}
@@ -19,6 +19,16 @@ pub record Written : Type 0 where
   pub hand : Log
   pub boot_room : ℕ
   pub room : ℕ
+
+-- the lists have room for so many records, of six words each, and for as many heads, at places that can be named
+pub record HasSpace {Z : Type 0} (hs : Vec Head Z) (ps : Vec Packed Z) (a : Arena) (n : ℕ) : Type 0 where
+  pub heads : vec_len hs + n ≤ vec_capacity hs
+  pub packed : vec_len ps + n ≤ vec_capacity ps
+  pub words : vec_len a.words + 6 * n ≤ vec_capacity a.words
+  pub wide : vec_len a.wide + n ≤ vec_capacity a.wide
+  pub named : vec_len ps + n < 2 ^ 32
+  pub named_words : vec_len a.words + 6 * n ≤ 3 * 2 ^ 30
+  pub named_wide : vec_len a.wide + n ≤ 2 ^ 32
 
 -- the lines that the entries cut from the records that begin at a position, the oldest first
 abbrev pub cut : ℕ → List Entered → List Rec → List Line

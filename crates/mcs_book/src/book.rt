@@ -1,10 +1,10 @@
 //! The book: all lines, kept packed, with their records side by side.
-ghost use Rattle.std.specs.Prelude.{◌≡◌, ◌<◌, ◌≤◌, ◌∷◌, ◌++◌, [], ◌+◌, ◌-◌, ◌^◌, take, drop, IsTrue, false, IfOk, OnOk, OnErr, max, reverse, length, slice_get, vec_len, vec_capacity};
+ghost use Rattle.std.specs.Prelude.{ℕ, ◌≡◌, ◌<◌, ◌≤◌, ◌∷◌, ◌++◌, [], ◌+◌, ◌-◌, ◌^◌, take, drop, IsTrue, false, IfOk, OnOk, OnErr, max, reverse, length, slice_get, vec_len, vec_capacity};
 ghost use Rattle.mcs_types.specs.declared.record.Rec.{Rec};
 ghost use Rattle.mcs_packing.specs.Packing.{AllFit, Grew, HasRoom, records_of};
 ghost use Rattle.mcs_packing.specs.Heads.{AllHeadsFit, all_entered};
 ghost use Rattle.mcs_book.specs.History.{with_boot_line, with_line, line_of_number};
-ghost use Rattle.mcs_book.specs.Pages.{EndsWithin, facts, line_head, lines_of, start_at};
+ghost use Rattle.mcs_book.specs.Pages.{EndsWithin, HasSpace, facts, line_head, lines_of, start_at};
 
 use mcs_packing::{
     Arena, Head, KeptAnswer, KeptRecord, KeptStep, Lent, OverAddress, Packed, PackedAddress,
@@ -129,8 +129,9 @@ fn record_at<'a>(
 
 /// The boot, and a line for each entry that was let in. All is kept packed: a head for each line, the records of all
 /// lines side by side, and the words that they name. `sent` has the place of the words of each message. The packed records
-/// from `start` on are those of the open line, and `room` is 0 or how many more it may have, and one more. Two hints for its
-/// head: the words of the line stand from `first` on, and those of its answer may stand at `place`.
+/// from `start` on are those of the open line, and `room` is 0 or how many more it may have, and one more. Beside these the lists
+/// have room for `ahead` records, heads and all. Two hints for the open line's head: the words of the line stand from `first` on, and
+/// those of its answer may stand at `place`.
 pub struct Book {
     cores: u8,
     boot: Vec<BootLine>,
@@ -140,6 +141,7 @@ pub struct Book {
     sent: Vec<u32>,
     start: usize,
     room: usize,
+    ahead: usize,
     first: usize,
     place: u32,
 }
@@ -156,6 +158,7 @@ impl Drop for Book {
             sent: _,
             start: _,
             room: _,
+            ahead: _,
             first: _,
             place: _,
         } = self;
@@ -166,7 +169,7 @@ impl Model for Book {
     ghost use Rattle.std.specs.Prelude.{reverse, drop, vec_len, vec_capacity, ◌<◌, ◌≤◌, ◌+◌, ◌-◌, ◌^◌};
     ghost use Rattle.mcs_packing.specs.Packing.{AllFit, HasRoom};
     ghost use Rattle.mcs_packing.specs.Heads.{AllHeadsFit, all_entered};
-    ghost use Rattle.mcs_book.specs.Pages.{EndsRise, Written, facts, lines_of};
+    ghost use Rattle.mcs_book.specs.Pages.{EndsRise, HasSpace, Written, facts, lines_of};
 
     ghost Value = { Written };
 
@@ -185,10 +188,11 @@ impl Model for Book {
         × AllFit b.packed.items b.arena.words.items b.arena.wide.items
         × EndsRise 0 (all_entered b.heads.items b.arena.words.items) b.start
         × (b.start ≤ vec_len b.packed)
-        × (0 < b.room → HasRoom b.arena (b.room - 1))
-        × (0 < b.room → vec_len b.packed + b.room ≤ vec_capacity b.packed + 1)
-        × (0 < b.room → vec_len b.heads < vec_capacity b.heads)
-        × (0 < b.room → vec_len b.packed + b.room ≤ 2 ^ 32) };
+        × (0 < b.room → HasRoom b.arena (b.room - 1 + b.ahead))
+        × (0 < b.room → vec_len b.packed + b.room + b.ahead ≤ vec_capacity b.packed + 1)
+        × (0 < b.room → vec_len b.heads + b.ahead < vec_capacity b.heads)
+        × (0 < b.room → vec_len b.packed + b.room + b.ahead ≤ 2 ^ 32)
+        × HasSpace b.heads b.packed b.arena b.ahead };
 }
 
 /// Where the records of an entry begin: where those of the one before it end.
@@ -398,6 +402,9 @@ const ENTRY_ROOM: usize = MESSAGE_ROOM + 2;
 /// How many words long messages of records may take beyond six each: a line has at most one record with a message.
 const SPARE_WORDS: usize = MESSAGE_ROOM - MOST_WORDS;
 
+/// The room of how many records the words of one line's entry, answer and long messages take.
+const HEAD_RECORDS: usize = (SPARE_WORDS + 2 * ENTRY_ROOM) / MOST_WORDS + 1;
+
 /// The most records of one line, for which there may be room.
 const MOST_RECORDS: usize = 1_000_000;
 
@@ -406,6 +413,27 @@ const LINES_AHEAD: usize = 16;
 
 /// The most records, words and wide records, to which more may be added: so places stay below 3 times 2 to the 30.
 const MOST_KEPT: usize = 1 << 31;
+
+/// The most records for which there is room ahead.
+const MOST_AHEAD: usize = 1 << 27;
+
+/// For how many records, with the heads of their lines, the lists have room.
+fn space_of(heads: &Vec<Head>, packed: &Vec<Packed>, arena: &Arena, sent: &Vec<u32>) -> usize
+    requires packed { vec_len packed.now ≤ MOST_KEPT }
+    requires words { vec_len arena.now.words ≤ MOST_KEPT }
+    requires wide { vec_len arena.now.wide ≤ MOST_KEPT }
+    ensures space { HasSpace heads.now packed.now arena.now result }
+    ensures most { (n : ℕ) → HasSpace heads.now packed.now arena.now n
+        → vec_len sent.now + n ≤ vec_capacity sent.now → n ≤ MOST_AHEAD → n ≤ result }
+{
+    let words = (arena.words.capacity() - arena.words.len()) / MOST_WORDS;
+    (heads.capacity() - heads.len())
+        .min(packed.capacity() - packed.len())
+        .min(words)
+        .min(arena.wide.capacity() - arena.wide.len())
+        .min(sent.capacity() - sent.len())
+        .min(MOST_AHEAD)
+}
 
 impl Book {
     /// A book whose boot has no line but that of the cores.
@@ -429,6 +457,7 @@ impl Book {
             sent: Vec::new(alloc),
             start: 0,
             room: 0,
+            ahead: 0,
             first: 0,
             place: 0,
         }
@@ -445,6 +474,7 @@ impl Book {
             boot: _,
             start: _,
             room: _,
+            ahead: _,
             first: _,
             place: _,
         } = self;
@@ -472,6 +502,7 @@ impl Book {
             sent: copy_rows(sent, &self.sent, self.sent.capacity())?,
             start: self.start,
             room: self.room,
+            ahead: self.ahead,
             first: self.first,
             place: self.place,
         })
@@ -515,7 +546,7 @@ impl Book {
         }
     }
 
-    /// Gives the open line room for so many more records, where the lists have it. Whether they do.
+    /// Gives the open line room for so many more records, of the room ahead. Whether that is enough.
     #[inline(always)]
     fn give_room(&mut self, records: usize) -> bool
         ensures room { IsTrue result → records < self.new.room }
@@ -524,27 +555,18 @@ impl Book {
         ensures hand { self.new.hand ≡ self.old.hand }
         ensures none { result ≡ false → self.new.room ≡ self.old.room }
     {
-        if records > MOST_RECORDS {
+        // a number kept, not a test of each list: every line asks
+        if MOST_RECORDS < records || self.ahead < records + HEAD_RECORDS {
             return false;
         }
-        let words = MOST_WORDS * records + SPARE_WORDS + 2 * ENTRY_ROOM;
-        let has_room = self.heads.len() < self.heads.capacity()
-            && records <= self.packed.capacity() - self.packed.len()
-            && words <= self.arena.words.capacity() - self.arena.words.len()
-            && records <= self.arena.wide.capacity() - self.arena.wide.len()
-            && records <= self.sent.capacity() - self.sent.len()
-            && self.packed.len() <= MOST_KEPT
-            && self.arena.words.len() <= MOST_KEPT
-            && self.arena.wide.len() <= MOST_KEPT;
-        if has_room {
-            self.arena.spare = SPARE_WORDS;
-            self.room = records + 1;
-        }
-        has_room
+        self.ahead -= records + HEAD_RECORDS;
+        self.arena.spare = SPARE_WORDS;
+        self.room = records + 1;
+        true
     }
 
     /// Makes room in the lists, as `reserve` says.
-    // out of line, so that a line for which there is room pays for the tests alone
+    // out of line, so that a line for which there is room pays for the test alone
     #[cold]
     #[inline(never)]
     fn grow(&mut self, records: usize) -> Result<(), OutOfMemory>
@@ -560,21 +582,22 @@ impl Book {
         {
             return Err(OutOfMemory);
         }
-        let ahead = LINES_AHEAD * records;
-        self.heads.reserve(ahead + 1)?;
+        let ahead = LINES_AHEAD * (records + HEAD_RECORDS);
+        self.heads.reserve(ahead)?;
         self.packed.reserve(ahead)?;
-        self.arena
-            .words
-            .reserve(MOST_WORDS * ahead + SPARE_WORDS + 2 * ENTRY_ROOM)?;
+        self.arena.words.reserve(MOST_WORDS * ahead)?;
         self.arena.wide.reserve(ahead)?;
         self.sent.reserve(ahead)?;
+        let space = space_of(&self.heads, &self.packed, &self.arena, &self.sent);
+        self.ahead = space - (records + HEAD_RECORDS);
         self.arena.spare = SPARE_WORDS;
         self.room = records + 1;
         Ok(())
     }
 
     /// Makes room for one line with that many records beside those that it has; where there is room it takes no memory. The
-    /// book is as it was. It is out of memory as well for more than 1,000,000 records, and where 2 to the 31 records or words are kept.
+    /// book is as it was. It is out of memory as well for more than 1,000,000 records, and where more than 2 to the 31 records or
+    /// words are kept and what there is room for ahead is used up.
     #[inline(always)]
     pub fn reserve(&mut self, records: usize) -> Result<(), OutOfMemory>
         ensures room { OnOk result (records < self.new.room) }

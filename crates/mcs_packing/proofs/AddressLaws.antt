@@ -1,5 +1,5 @@
 -- What is added to an arena leaves earlier addresses as they were.
-use Rattle.std.proofs.Common.{◌≡◌, ℕ, Bool, true, false, cond, nat_lt, ◌≤◌, ◌+◌, ◌-◌, List, ◌++◌, refl, arith, length-append}
+use Rattle.std.proofs.Common.{◌≡◌, ℕ, Bool, true, false, cond, nat_lt, ◌≤◌, ◌+◌, ◌-◌, List, ◌++◌, ◌∙◌, refl, arith, length-append}
 use Rattle.mcs_packing.specs.declared.addresses.PackedAddress.{PackedAddress}
 use Rattle.mcs_packing.specs.declared.addresses.TheConstants.{FIRST_FAR}
 use Rattle.mcs_packing.specs.declared.arena.Arena.{Arena}
@@ -24,7 +24,7 @@ AddressFits-grows a ws more h = omega (arith, h, length-append ws more)
 pub GrewWords-then : (j k : ℕ) (a b c : Arena) → GrewWords j a b → GrewWords k b c → GrewWords (j + k) a c
 GrewWords-then j k a b c g h = record {
   words = GrowsBy-then _ _ _ g.words h.words;
-  wide = GrowsBy-then _ _ _ g.wide h.wide;
+  wide = h.wide ∙ g.wide;
   few = omega (arith, g.few, h.few);
   capacity = omega (arith, g.capacity, h.capacity);
 }
@@ -34,5 +34,7 @@ pub GrewHead-of : (n : ℕ) (a b : Arena) → n ≤ 124 → GrewWords n a b → 
 GrewHead-of n a b le g = record {
   words = g.words;
   wide = g.wide;
+  few = omega (arith, le, g.few);
+  capacity = g.capacity;
   room = λ k h. record { words = omega (arith, le, h.words, g.few, g.capacity); named = omega (arith, le, h.named, g.few) };
 }

@@ -1,5 +1,5 @@
 -- What is added to an arena leaves earlier unpackings as they were.
-use Rattle.std.proofs.Common.{◌≡◌, ◌∙◌, ℕ, zero, suc, Some, None, slice_get, ◌<◌, ◌≤◌, ◌+◌, List, [], ◌∷◌, ◌++◌, length, take, drop, refl, sym, ap, arith, length-drop, length-append, append-nil, append_assoc, drop_at}
+use Rattle.std.proofs.Common.{Vec, ◌≡◌, ◌∙◌, ℕ, zero, suc, Some, None, slice_get, ◌<◌, ◌≤◌, ◌+◌, List, [], ◌∷◌, ◌++◌, length, take, drop, refl, sym, ap, arith, length-drop, length-append, append-nil, append_assoc, drop_at}
 use Rattle.std.proofs.Math.Seq.{take-length}
 use Rattle.std.proofs.lemmas.List.{take-append-le, drop-append-le, get_or_append_left, get_or_at}
 use Rattle.mcs_types.specs.declared.record.Rec.{Rec}
@@ -81,6 +81,11 @@ AllFit-push (q ∷ ps) p ws rs h f = (h.0, AllFit-push ps p ws rs h.1 f)
 pub GrowsBy-self : {X : Type 0} (xs : List X) → GrowsBy xs xs
 GrowsBy-self xs = record { more = []; is = sym (append-nil xs) }
 
+-- the same
+pub GrowsBy-same : {X Z : Type 0} (v w : Vec X Z) → w ≡ v → GrowsBy v.items w.items
+GrowsBy-same v w is = record { more = []; is = ap (λ z. z.items) is ∙ sym (append-nil v.items) }
+
+-- some more twice
 pub GrowsBy-then : {X : Type 0} (xs ys zs : List X) → GrowsBy xs ys → GrowsBy ys zs → GrowsBy xs zs
 GrowsBy-then xs ys zs g h = record { more = g.more ++ h.more; is = h.is ∙ ap (λ l. l ++ h.more) g.is ∙ append_assoc xs g.more h.more }
 

@@ -1,5 +1,5 @@
 -- What a packed address stands for, over the words.
-use Rattle.std.specs.Prelude.{ℕ, ◌≤◌, ◌<◌, ◌+◌, ◌-◌, ◌*◌, ◌^◌, cond, nat_lt, List, length, vec_len, vec_capacity}
+use Rattle.std.specs.Prelude.{ℕ, ◌≡◌, ◌≤◌, ◌<◌, ◌+◌, ◌-◌, ◌*◌, ◌^◌, cond, nat_lt, List, length, vec_len, vec_capacity}
 use Rattle.mcs_packing.specs.declared.addresses.PackedAddress.{PackedAddress}
 use Rattle.mcs_packing.specs.declared.addresses.TheConstants.{FIRST_FAR}
 use Rattle.mcs_packing.specs.declared.arena.Arena.{Arena}
@@ -21,6 +21,6 @@ pub record HasWordRoom (a : Arena) (n : ℕ) : Type 0 where
 -- an arena after at most so many words more
 pub record GrewWords (n : ℕ) (a b : Arena) : Type 0 where
   pub words : GrowsBy a.words.items b.words.items
-  pub wide : GrowsBy a.wide.items b.wide.items
+  pub wide : b.wide ≡ a.wide
   pub few : vec_len b.words ≤ vec_len a.words + n
   pub capacity : vec_capacity a.words ≤ vec_capacity b.words

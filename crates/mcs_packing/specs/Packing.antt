@@ -221,7 +221,9 @@ pub record Grew (a b : Arena) : Type 0 where
 -- an arena after one entry or answer more
 pub record GrewHead (a b : Arena) : Type 0 where
   pub words : GrowsBy a.words.items b.words.items
-  pub wide : GrowsBy a.wide.items b.wide.items
+  pub wide : b.wide ≡ a.wide
+  pub few : vec_len b.words ≤ vec_len a.words + 124
+  pub capacity : vec_capacity a.words ≤ vec_capacity b.words
   pub room : (n : ℕ) → HasMessageRoom a (n + 1) → HasMessageRoom b n
 
 -- an answer stands for this record over an arena, if there is one

@@ -182,6 +182,8 @@ impl Arena {
         ensures words { IfOk result (λ a. a.words.items ≡ self.now.words.items) }
         ensures wide { IfOk result (λ a. a.wide.items ≡ self.now.wide.items) }
         ensures room { IfOk result (λ a. (n : ℕ) → HasRoom self.now n → HasRoom a n) }
+        ensures word_room { IfOk result (λ a. vec_capacity self.now.words ≤ vec_capacity a.words) }
+        ensures wide_room { IfOk result (λ a. vec_capacity self.now.wide ≤ vec_capacity a.wide) }
     {
         let (words, wide) = match spare {
             Some(Arena { words, wide, .. }) => (words, wide),

@@ -1,5 +1,5 @@
 -- A line added to a packed book.
-use Rattle.std.proofs.Common.{◌≡◌, ◌∙◌, ◌≤◌, ◌+◌, ℕ, List, [], ◌∷◌, ◌++◌, length, drop, reverse, slice_index_or, slice_set, ap, append-nil, arith}
+use Rattle.std.proofs.Common.{◌≡◌, ◌∙◌, ◌≤◌, ◌<◌, ◌+◌, ◌^◌, ℕ, Vec, vec_len, vec_capacity, List, [], ◌∷◌, ◌++◌, length, drop, reverse, slice_index_or, slice_set, ap, append-nil, arith}
 use Rattle.std.proofs.Math.Seq.{get_or-append_seam, set-append_seam}
 use Rattle.std.proofs.lemmas.List.{drop-append-le, reverse-append, reverse-reverse}
 use Rattle.mcs_types.specs.declared.record.Rec.{Rec}
@@ -13,7 +13,7 @@ use Rattle.mcs_packing.specs.declared.arena.Arena.{Arena}
 use Rattle.mcs_packing.specs.Packing.{GrowsBy, HasMessageRoom, HasRoom, records_of}
 use Rattle.mcs_packing.specs.Entries.{EntryFits, entry_of}
 use Rattle.mcs_packing.specs.Heads.{Entered, AllHeadsFit, AnswerFits, HeadFits, answer_of, entered_of, all_entered}
-use Rattle.mcs_book.specs.Pages.{EndsRise, EndsWithin, cut, line_head}
+use Rattle.mcs_book.specs.Pages.{EndsRise, EndsWithin, HasSpace, cut, line_head}
 use Rattle.mcs_packing.proofs.HeadLaws.{AnswerFits-grows, answer_of-grows, all_entered-grows, all_entered-push}
 use Rattle.mcs_book.proofs.Books.Cuts.{cut-beyond, cut-close}
 
@@ -66,6 +66,18 @@ lines-noted hs ws vs qs ps rs os new n w fits records le rise =
 -- there is room for fewer
 pub HasRoom-fewer : (a : Arena) (n m : ℕ) → m ≤ n → HasRoom a n → HasRoom a m
 HasRoom-fewer a n m le h = record { words = omega (arith, h.words, le); named = omega (arith, h.named, le); wide = omega (arith, h.wide, le); named_wide = omega (arith, h.named_wide, le) }
+
+-- where there is room for records the lists have as much space
+pub HasSpace-of : {Z : Type 0} (hs : Vec Head Z) (ps : Vec Packed Z) (a : Arena) (n m : ℕ) → n ≤ m → HasRoom a m → vec_len hs + n ≤ vec_capacity hs → vec_len ps + n ≤ vec_capacity ps → vec_len ps + n < 2 ^ 32 → HasSpace hs ps a n
+HasSpace-of hs ps a n m le h heads packed named = record {
+  heads = heads;
+  packed = packed;
+  words = omega (arith, h.words, le);
+  wide = omega (arith, h.wide, le);
+  named = named;
+  named_words = omega (arith, h.named, le);
+  named_wide = omega (arith, h.named_wide, le);
+}
 
 -- where there is room for records there is room for the head
 pub HasRoom-head : (a : Arena) (n : ℕ) → HasRoom a n → HasMessageRoom a 2

@@ -3,7 +3,7 @@ use Rattle.std.proofs.lemmas.List.{drop_all, reverse-append, reverse-reverse}
 use Rattle.mcs_packing.specs.Packing.{records_of}
 use Rattle.mcs_packing.specs.Heads.{all_entered}
 use Rattle.mcs_book.specs.Pages.{Written, cut, line_head}
-use Rattle.mcs_packing.proofs.Packings.{AllFit-grows, GrowsBy-then, length-record_of, records_of-grows}
+use Rattle.mcs_packing.proofs.Packings.{AllFit-grows, GrowsBy-same, GrowsBy-then, length-record_of, records_of-grows}
 use Rattle.mcs_packing.proofs.HeadLaws.{AllHeadsFit-grows, AllHeadsFit-push}
 use Rattle.mcs_book.proofs.Books.Cuts.{EndsRise-push}
 use Rattle.mcs_book.proofs.Books.Appending.{HasRoom-head, HeadFits-of, entered_with, heads-of, heads-set, lines-closed, entered_of-of}
@@ -30,7 +30,10 @@ invariant_of-self c =
     let a = c.pack_answer-told in
     let e = c.pack_entry in
     let w13 = GrowsBy-then _ _ _ a.ensures.grew.words e.ensures.grew.words in
-    let r13 = GrowsBy-then _ _ _ a.ensures.grew.wide e.ensures.grew.wide in
+    let wide = e.ensures.grew.wide ∙ a.ensures.grew.wide in
+    let r13 = GrowsBy-same _ _ wide in
+    let room : b.room ≡ c.args.self.now.room = ap (λ (w : Written). w.room) c.self.view_is in
+    let some : 0 < b.room = omega (arith, room, c.requires) in
     let ws = e.new.self.words.items in
     let h = line_head c.args.step.now e.new.into a.result c.end_of-end.result in
     let at : c.len-last.result ≡ length b.heads.items = omega (arith, c.len-last.ensures, b.heads.ok.0) in
@@ -47,6 +50,15 @@ invariant_of-self c =
       λ z. absurd (omega arith),
       λ z. absurd (omega arith),
       λ z. absurd (omega arith),
+      record {
+        heads = omega (arith, i.6 some);
+        packed = i.8.packed;
+        words = omega (arith, (i.4 some).words, a.ensures.grew.few, e.ensures.grew.few, a.ensures.grew.capacity, e.ensures.grew.capacity);
+        wide = rw wide i.8.wide;
+        named = i.8.named;
+        named_words = omega (arith, (i.4 some).named, a.ensures.grew.few, e.ensures.grew.few);
+        named_wide = rw wide i.8.named_wide;
+      },
     )
 
 pub returns-clause-line : goal.returns-clause-line
@@ -56,7 +68,7 @@ returns-clause-line c =
     let a = c.pack_answer-told in
     let e = c.pack_entry in
     let w13 = GrowsBy-then _ _ _ a.ensures.grew.words e.ensures.grew.words in
-    let r13 = GrowsBy-then _ _ _ a.ensures.grew.wide e.ensures.grew.wide in
+    let r13 = GrowsBy-same _ _ (e.ensures.grew.wide ∙ a.ensures.grew.wide) in
     let ws = e.new.self.words.items in
     let h = line_head c.args.step.now e.new.into a.result c.end_of-end.result in
     let at : c.len-last.result ≡ length b.heads.items = omega (arith, c.len-last.ensures, b.heads.ok.0) in

@@ -21,6 +21,15 @@ invariant_of-self c =
       λ z. omega (arith, i.5 z, i.3, long, c.keep_first.new.packed.ok.0, c.keep_first.ensures.capacity),
       i.6,
       λ z. omega (arith, i.7 z, i.3, long, c.keep_first.new.packed.ok.0),
+      record {
+        heads = i.8.heads;
+        packed = omega (arith, i.8.packed, i.3, long, c.keep_first.new.packed.ok.0, c.keep_first.ensures.capacity);
+        words = i.8.words;
+        wide = i.8.wide;
+        named = omega (arith, i.8.named, i.3, long, c.keep_first.new.packed.ok.0);
+        named_words = i.8.named_words;
+        named_wide = i.8.named_wide;
+      },
     )
 
 pub returns-clause-hand : goal.returns-clause-hand

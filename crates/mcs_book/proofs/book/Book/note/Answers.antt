@@ -4,7 +4,7 @@ use Rattle.mcs_packing.specs.Packing.{records_of}
 use Rattle.mcs_book.specs.Pages.{Written}
 use Rattle.mcs_packing.proofs.Packings.{length-record_of}
 use Rattle.mcs_packing.proofs.HeadLaws.{AllHeadsFit-grows, all_entered-grows}
-use Rattle.mcs_book.proofs.Books.Appending.{HasRoom-fewer, hand-noted, lines-noted}
+use Rattle.mcs_book.proofs.Books.Appending.{HasRoom-fewer, HasSpace-of, hand-noted, lines-noted}
 use Rattle.mcs_book.proofs.book.Book.note.Goals as goal
 
 pub invariant_of-self : goal.invariant_of-self
@@ -15,15 +15,17 @@ invariant_of-self c =
     let ws = c.push_packed.new.arena.words.items in
     let room : b.room ≡ c.args.self.now.room = ap (λ (w : Written). w.room) c.self.view_is in
     let some : 0 < b.room = omega (arith, room, c.requires) in
-    let fewer : (b.room - 1 - 1) + 1 ≤ b.room - 1 = omega (arith, room, c.requires) in (
+    let fewer : (b.room - 1 - 1 + b.ahead) + 1 ≤ b.room - 1 + b.ahead = omega (arith, room, c.requires) in
+    let left = p.grew.room (b.room - 1 - 1 + b.ahead) (HasRoom-fewer b.arena (b.room - 1 + b.ahead) ((b.room - 1 - 1 + b.ahead) + 1) fewer (i.4 some)) in (
       AllHeadsFit-grows b.heads.items b.arena.words.items ws p.grew.words i.0,
       p.fit,
       rw (all_entered-grows b.heads.items b.arena.words.items ws p.grew.words i.0) i.2,
       omega (arith, i.3, p.len),
-      λ z. p.grew.room (b.room - 1 - 1) (HasRoom-fewer b.arena (b.room - 1) ((b.room - 1 - 1) + 1) fewer (i.4 some)),
+      λ z. left,
       λ z. omega (arith, i.5 some, p.len, p.capacity, some),
       λ z. i.6 some,
       λ z. omega (arith, i.7 some, p.len, some),
+      HasSpace-of _ _ _ b.ahead _ (omega arith) left i.8.heads (omega (arith, i.5 some, p.len, p.capacity, room, c.requires)) (omega (arith, i.7 some, p.len, room, c.requires)),
     )
 
 pub returns-clause-hand : goal.returns-clause-hand
