@@ -96,6 +96,19 @@ fn keep_caller(rows: &mut Store<ReplyRow>, reply: ObjId, caller: Option<ObjId>)
     }
 }
 
+/// The place of a reply object that is there.
+// asked before its row is written: so the row is looked up once for both
+#[inline(always)]
+fn place_of(rows: &Store<ReplyRow>, reply: ObjId) -> PlaceNo
+    requires { has_row rows.now reply ≡ true }
+    ensures { place_at rows.now reply ≡ Some result.0 }
+{
+    match rows.place(reply) {
+        Some(number) => PlaceNo(number),
+        None => unreachable!(),
+    }
+}
+
 impl Replies {
     /// No reply object, and room for 256 (own).
     pub fn new(alloc: Global) -> Result<Replies, OutOfMemory>
@@ -217,13 +230,10 @@ impl Replies {
     {
         // A law for the proof: reply objects that owe have different places, so there is room for a debt.
         self.rows.are_apart();
+        let place = place_of(&self.rows, reply);
         keep_caller(&mut self.rows, reply, Some(caller));
         let Some(context) = brought else {
             return;
-        };
-        let place = match self.rows.place(reply) {
-            Some(number) => PlaceNo(number),
-            None => unreachable!(),
         };
         links::lay(&mut self.links, &mut self.tops, place, reply, context);
     }
@@ -286,11 +296,8 @@ impl Replies {
     {
         let caller = self.owed(reply)?;
         self.rows.are_apart();
+        let place = place_of(&self.rows, reply);
         keep_caller(&mut self.rows, reply, None);
-        let place = match self.rows.place(reply) {
-            Some(number) => PlaceNo(number),
-            None => unreachable!(),
-        };
         let topped = links::leave(&mut self.links, &mut self.tops, place, how);
         Some(Ended { caller, topped })
     }

@@ -1,7 +1,6 @@
 use Rattle.std.proofs.Common.{◌≡◌, ◌<◌, Some, ap, sym, cond, ◌∙◌, ◌∷◌, subst}
 use Rattle.mcs_types.specs.Ids.{same}
 use Rattle.mcs_types.specs.Limits.{object_limit}
-use Rattle.mcs_objects.specs.Store.{place_at}
 use Rattle.mcs_replies.specs.Links.{linked_of}
 use Rattle.mcs_replies.specs.Owing.{chain_in, chain_with}
 use Rattle.mcs_replies.proofs.OwingLaws.{free-out, free-link, few-tops, same-sym}
@@ -14,8 +13,8 @@ returns-in_default-clause-chains c = λ s.
 pub lay-requires-clause-free : goal.lay-requires-clause-free
 lay-requires-clause-free c =
     let s = c.self.inside in
-    let at : place_at s.rows c.args.reply ≡ Some c.in-Some-place.number = sym (c.keep_caller.ensures.places c.args.reply) ∙ sym c.in-Some-place.ensures in
-    free-link s.rows s.links.items c.args.reply c.in-Some-place.number c.are_apart.ensures c.self.invariant.owners c.self.invariant.owing (rw (← c.self.view_is) at c.requires.free) at
+    let at = c.place_of-place.ensures in
+    free-link s.rows s.links.items c.args.reply c.place_of-place.result.0 c.are_apart.ensures c.self.invariant.owners c.self.invariant.owing (rw (← c.self.view_is) at c.requires.free) at
 
 pub lay-requires-clause-out : goal.lay-requires-clause-out
 lay-requires-clause-out c = free-out c.self.inside.rows c.self.inside.links.items c.args.reply c.self.invariant.owing (rw (← c.self.view_is) at c.requires.free)
@@ -23,10 +22,10 @@ lay-requires-clause-out c = free-out c.self.inside.rows c.self.inside.links.item
 pub lay-requires-clause-room : goal.lay-requires-clause-room
 lay-requires-clause-room c =
     let s = c.self.inside in
-    let at : place_at s.rows c.args.reply ≡ Some c.in-Some-place.number = sym (c.keep_caller.ensures.places c.args.reply) ∙ sym c.in-Some-place.ensures in
-    let free = free-link s.rows s.links.items c.args.reply c.in-Some-place.number c.are_apart.ensures c.self.invariant.owners c.self.invariant.owing (rw (← c.self.view_is) at c.requires.free) at in
-    let within : c.in-Some-place.number < object_limit = subst (λ n. c.in-Some-place.number < n) c.self.invariant.room (c.are_apart.ensures.room c.args.reply c.in-Some-place.number at) in
-    let few = few-tops s.links.items s.tops c.in-Some-place.number c.self.invariant.sound within free in
+    let at = c.place_of-place.ensures in
+    let free = free-link s.rows s.links.items c.args.reply c.place_of-place.result.0 c.are_apart.ensures c.self.invariant.owners c.self.invariant.owing (rw (← c.self.view_is) at c.requires.free) at in
+    let within : c.place_of-place.result.0 < object_limit = subst (λ n. c.place_of-place.result.0 < n) c.self.invariant.room (c.are_apart.ensures.room c.args.reply c.place_of-place.result.0 at) in
+    let few = few-tops s.links.items s.tops c.place_of-place.result.0 c.self.invariant.sound within free in
     few
 
 pub returns-clause-chains : goal.returns-clause-chains
