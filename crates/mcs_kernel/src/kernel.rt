@@ -79,7 +79,7 @@ fn send_answer(waits: Result<bool, Refusal>) -> Answer
 
 /// Send and NBSend, with the copies of their message that take memory.
 #[inline(always)]
-fn send_by<W: Waiting>(
+fn do_send<W: Waiting>(
     state: &mut State<W>,
     core: CoreId,
     thread: ObjId,
@@ -102,7 +102,7 @@ fn send_by<W: Waiting>(
 
 /// Call, likewise.
 #[inline(always)]
-fn call_by<W: Waiting>(
+fn do_call<W: Waiting>(
     state: &mut State<W>,
     core: CoreId,
     thread: ObjId,
@@ -123,7 +123,7 @@ fn call_by<W: Waiting>(
 
 /// ReplyRecv, likewise.
 #[inline]
-fn reply_by<W: Waiting>(
+fn do_reply_receive<W: Waiting>(
     state: &mut State<W>,
     core: CoreId,
     thread: ObjId,
@@ -145,7 +145,7 @@ fn reply_by<W: Waiting>(
 }
 
 /// NBSendRecv where a reply object is named, and NBSendWait where not, likewise.
-fn exchange_by<W: Waiting>(
+fn do_exchange<W: Waiting>(
     state: &mut State<W>,
     core: CoreId,
     thread: ObjId,
@@ -192,13 +192,13 @@ fn operate<W: Waiting>(
 {
     match entry {
         Entry::Send { cap, message } => {
-            *answer = send_by(state, core, thread, *cap, message, long, true)
+            *answer = do_send(state, core, thread, *cap, message, long, true)
         }
         Entry::NbSend { cap, message } => {
-            *answer = send_by(state, core, thread, *cap, message, long, false)
+            *answer = do_send(state, core, thread, *cap, message, long, false)
         }
         Entry::Call { cap, message } => {
-            *answer = call_by(state, core, thread, *cap, message, long)
+            *answer = do_call(state, core, thread, *cap, message, long)
         }
         Entry::Recv { cap, reply } => receive(
             state,
@@ -224,13 +224,13 @@ fn operate<W: Waiting>(
             cap,
             reply,
             message,
-        } => reply_by(state, core, thread, *cap, *reply, message, long, answer),
+        } => do_reply_receive(state, core, thread, *cap, *reply, message, long, answer),
         Entry::NbSendRecv {
             cap,
             source,
             reply,
             message,
-        } => exchange_by(
+        } => do_exchange(
             state,
             core,
             thread,
@@ -245,7 +245,7 @@ fn operate<W: Waiting>(
             cap,
             source,
             message,
-        } => exchange_by(
+        } => do_exchange(
             state, core, thread, *cap, *source, None, message, long, answer,
         ),
         Entry::Signal { cap } => *answer = plain_answer(signal_at(state, core, thread, *cap)),
