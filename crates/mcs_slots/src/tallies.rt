@@ -1,5 +1,6 @@
 //! How many slots hold a capability to each object, as a memo of the slots.
 ghost use Rattle.std.specs.Prelude.{◌≡◌, All, IfOk, length, slice_get};
+ghost use Rattle.mcs_slots.specs.declared.tallies.Tallied.{Tallied};
 ghost use Rattle.mcs_slots.specs.Buckets.{bucket_of, owns};
 ghost use Rattle.mcs_slots.specs.Tallies.{no_tally};
 
@@ -25,7 +26,10 @@ pub enum Tallied {
 
 impl Tallied {
     /// How many buckets these are.
-    fn count(self) -> usize {
+    fn count(self) -> usize
+        ensures all { self ≡ Tallied.All → result ≡ BUCKETS }
+        ensures first { self ≡ Tallied.First → result ≡ COPIED }
+    {
         match self {
             Tallied::All => BUCKETS,
             Tallied::First => COPIED,
