@@ -3,8 +3,8 @@ use Rattle.std.specs.Prelude.{ℕ, ◌≡◌, ◌≢◌, ◌<◌, ◌+◌, lengt
 use Rattle.std.specs.Option.{IfSome}
 use Rattle.std.proofs.Common.{refl, ap, sym, ◌∙◌, subst, arith}
 use Rattle.mcs_types.specs.declared.id.ObjId.{ObjId}
+use Rattle.mcs_types.specs.declared.id.Badge.{Badge}
 use Rattle.mcs_types.specs.Views.{Content}
-use Rattle.mcs_types.specs.declared.cap.Cap.{Cap}
 use Rattle.mcs_types.specs.declared.id.Kind.TheVariants as kind
 use Rattle.mcs_types.specs.declared.record.Letter.{Letter}
 use Rattle.mcs_types.specs.declared.record.Mode.TheVariants.{Running}
@@ -115,25 +115,25 @@ module _ (R : Log) (number : ℕ) (x p e : ObjId) (sound : Sound R) (there : IsT
       (ready.there, ready.idle)
 
 -- a message of x that p takes at once, by which it leaves its queue
-unfoldable pub accepted : Log → SendMode → ObjId → Cap → Content → ObjId → Piece
-accepted R mode x cap message p = say (rec.Sent x cap.obj mode cap.badge message) then say (rec.Took (next_message R) p)
+unfoldable pub accepted : Log → SendMode → ObjId → ObjId → Badge → Content → ObjId → Piece
+accepted R mode x e badge message p = say (rec.Sent x e mode badge message) then say (rec.Took (next_message R) p)
 
 -- what a send records where somebody receives
-pub send-hands : (R : Log) (b : Bool) (mode : SendMode) (x : ObjId) (cap : Cap) (message : Content) (p : ObjId) (r : Option ObjId) → first_in R (Receivers cap.obj) ≡ Some p → r ≡ reply_with R p
-    → send_act b mode x cap message R ≡ answers (answer_to mode) (accepted R mode x cap message p then say (rec.Parts p (Receivers cap.obj)) then settle mode x p r nothing then say (rec.Turns p Running)) R
+pub send-hands : (R : Log) (b : Bool) (mode : SendMode) (x e : ObjId) (badge : Badge) (message : Content) (p : ObjId) (r : Option ObjId) → first_in R (Receivers e) ≡ Some p → r ≡ reply_with R p
+    → send_act b mode x e badge message R ≡ answers (answer_to mode) (accepted R mode x e badge message p then say (rec.Parts p (Receivers e)) then settle mode x p r nothing then say (rec.Turns p Running)) R
 unfolding send_act sends sends_to handed accepted ◌then◌
-send-hands R b mode x cap message p r first is = rw (first, is) refl
+send-hands R b mode x e badge message p r first is = rw (first, is) refl
 
 -- both records were made
-pub accepted-made : (n m : Now) (mode : SendMode) (x : ObjId) (cap : Cap) (message : Content) (p : ObjId)
-    → m ≡ adds (rec.Took (next_message (so_far n)) p) (adds (rec.Sent x cap.obj mode cap.badge message) n) → Makes (accepted (so_far n) mode x cap message p) n m
+pub accepted-made : (n m : Now) (mode : SendMode) (x e : ObjId) (badge : Badge) (message : Content) (p : ObjId)
+    → m ≡ adds (rec.Took (next_message (so_far n)) p) (adds (rec.Sent x e mode badge message) n) → Makes (accepted (so_far n) mode x e badge message p) n m
 unfolding accepted ◌then◌
-accepted-made n m mode x cap message p made = made
+accepted-made n m mode x e badge message p made = made
 
 -- and there was room for them
-pub accepted-room : (n : Now) (mode : SendMode) (x : ObjId) (cap : Cap) (message : Content) (p : ObjId) → HasRoomFor (accepted (so_far n) mode x cap message p) n → length n.hand + 2 < n.room
+pub accepted-room : (n : Now) (mode : SendMode) (x e : ObjId) (badge : Badge) (message : Content) (p : ObjId) → HasRoomFor (accepted (so_far n) mode x e badge message p) n → length n.hand + 2 < n.room
 unfolding accepted ◌then◌
-accepted-room n mode x cap message p room = omega (arith, room)
+accepted-room n mode x e badge message p room = omega (arith, room)
 
 -- what a taking records
 pub take-is : (d : Delivery) (t : ObjId) (r : Option ObjId) (R : Log)

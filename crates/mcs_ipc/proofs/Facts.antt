@@ -63,15 +63,15 @@ pub sent-opens : (R : Log) (t e : ObjId) (mode : SendMode) (badge : Badge) (mess
 sent-opens R t e mode badge message sound = sent-open R (record { number = next_message R; sender = t; endpoint = e; mode = mode; badge = badge; message = message }) (sound-ends R sound)
 
 -- a send where nobody receives
-send-alone : (R : Log) (b : Bool) (mode : SendMode) (t : ObjId) (cap : Cap) (message : Content) → first_in R (Receivers cap.obj) ≡ None → send_act b mode t cap message R ≡ alone_act b mode t cap message R
+send-alone : (R : Log) (b : Bool) (mode : SendMode) (t e : ObjId) (badge : Badge) (message : Content) → first_in R (Receivers e) ≡ None → send_act b mode t e badge message R ≡ alone_act b mode t e badge message R
 unfolding send_act sends sends_to
-send-alone R b mode t cap message none = rw none refl
+send-alone R b mode t e badge message none = rw none refl
 
 -- it waits, and stands in its queue
-alone-waits : (R : Log) (mode : SendMode) (t : ObjId) (cap : Cap) (message : Content)
-    → alone_act true mode t cap message R ≡ record { answer = Waits; records = rec.Sent t cap.obj mode cap.badge message ∷ rec.Joins t (Senders cap.obj) None ∷ [] }
+alone-waits : (R : Log) (mode : SendMode) (t e : ObjId) (badge : Badge) (message : Content)
+    → alone_act true mode t e badge message R ≡ record { answer = Waits; records = rec.Sent t e mode badge message ∷ rec.Joins t (Senders e) None ∷ [] }
 unfolding queues ◌then◌
-alone-waits R mode t cap message = refl
+alone-waits R mode t e badge message = refl
 
 -- a reply object is there still when a thread was woken, if there is one
 pub woken-reply : (R : Log) (t : ObjId) (m : Mode) (r : Option ObjId) → IfSome r (λ o. IsThere R kind.Reply o) → IfSome r (λ o. IsThere (onto (wakes m t R) R) kind.Reply o)
@@ -137,10 +137,10 @@ pub woken-calls : (R : Log) (t : ObjId) (a : ℕ) (c : Cap) → Sound R → IsEn
 woken-calls R t a c sound enters stand e = woken-over R t c.obj enters stand (callable-there R t a c sound e)
 
 -- it is accepted, and its sender stands in its queue
-pub alone-is : (R : Log) (mode : SendMode) (t : ObjId) (cap : Cap) (message : Content) → first_in R (Receivers cap.obj) ≡ None
-    → send_act true mode t cap message R ≡ record { answer = Waits; records = rec.Sent t cap.obj mode cap.badge message ∷ rec.Joins t (Senders cap.obj) None ∷ [] }
-alone-is R mode t cap message none = send-alone R true mode t cap message none ∙ alone-waits R mode t cap message
+pub alone-is : (R : Log) (mode : SendMode) (t e : ObjId) (badge : Badge) (message : Content) → first_in R (Receivers e) ≡ None
+    → send_act true mode t e badge message R ≡ record { answer = Waits; records = rec.Sent t e mode badge message ∷ rec.Joins t (Senders e) None ∷ [] }
+alone-is R mode t e badge message none = send-alone R true mode t e badge message none ∙ alone-waits R mode t e badge message
 
 -- or it is dropped
-pub dropped-is : (R : Log) (mode : SendMode) (t : ObjId) (cap : Cap) (message : Content) → first_in R (Receivers cap.obj) ≡ None → send_act false mode t cap message R ≡ record { answer = Done; records = [] }
-dropped-is R mode t cap message none = send-alone R false mode t cap message none
+pub dropped-is : (R : Log) (mode : SendMode) (t e : ObjId) (badge : Badge) (message : Content) → first_in R (Receivers e) ≡ None → send_act false mode t e badge message R ≡ record { answer = Done; records = [] }
+dropped-is R mode t e badge message none = send-alone R false mode t e badge message none

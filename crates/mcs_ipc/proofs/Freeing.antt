@@ -35,7 +35,6 @@ use Rattle.mcs_notify.proofs.Words.{bound-silent}
 use Rattle.mcs_state.specs.Doing.{Makes, HasRoomFor, FitsAct, Holds}
 use Rattle.mcs_state.specs.Entering.{OpenStand}
 use Rattle.mcs_state.specs.Now.{Now, so_far, adds_all}
-use Rattle.mcs_ipc.specs.declared.checks.Receiving.{Receiving}
 use Rattle.mcs_ipc.specs.Ready.{IsReceiving, IsReady}
 use Rattle.mcs_ipc.specs.Rows.{stand_act, take_act, taken_by}
 
@@ -145,12 +144,12 @@ receive-hears R b t e r word is = go (bound_of R t) refl is
     go (Some n) bound h = rw (bound, h) refl
 
 -- one where none is
-pub receive-silent : (R : Log) (b : Bool) (t : ObjId) (at : Receiving) → pending_of_any R (bound_of R t) ≡ None → receive_message t at.endpoint at.reply b R ≡ take_act b t at R
+pub receive-silent : (R : Log) (b : Bool) (t e : ObjId) (r : Option ObjId) → pending_of_any R (bound_of R t) ≡ None → receive_message t e r b R ≡ take_act b t e r R
 unfolding receive_message hear take_act
-receive-silent R b t at none = go (bound_of R t) (pending_of_any R (bound_of R t)) none
+receive-silent R b t e r none = go (bound_of R t) (pending_of_any R (bound_of R t)) none
   where
     rest : Act
-    rest = take_open t at.reply (open_of_any R (first_in R (Senders at.endpoint))) (joins_or b (stand t (Receivers at.endpoint) at.reply (bound_of R t)))
+    rest = take_open t r (open_of_any R (first_in R (Senders e))) (joins_or b (stand t (Receivers e) r (bound_of R t)))
 
     go : (n : Option ObjId) (o : Option ℕ) → o ≡ None → hear t n o rest R ≡ rest R
     go None o is = refl
@@ -170,9 +169,9 @@ pub made-silent : (n m : Now) (t : ObjId) → pending_of_any (so_far n) (bound_o
 made-silent n m t none made = made ∙ ap (λ (more : List Rec). adds_all more n) (bound-silent (so_far n) t none)
 
 -- a taking where nobody sends
-pub take-alone : (R : Log) (b : Bool) (t : ObjId) (at : Receiving) → open_of_any R (first_in R (Senders at.endpoint)) ≡ None → take_act b t at R ≡ stand_act R b t at R
+pub take-alone : (R : Log) (b : Bool) (t e : ObjId) (r : Option ObjId) → open_of_any R (first_in R (Senders e)) ≡ None → take_act b t e r R ≡ stand_act R b t e r R
 unfolding take_act take_open
-take-alone R b t at none = rw none refl
+take-alone R b t e r none = rw none refl
 
 -- it waits, or nothing is there
 pub joins-waits : (R : Log) (stands : Piece) → joins_or true stands R ≡ record { answer = Waits; records = stands R }
@@ -184,14 +183,14 @@ unfolding joins_or
 joins-empty R stands = refl
 
 -- a taking where somebody sends
-pub take-takes : (R : Log) (b : Bool) (t : ObjId) (at : Receiving) (x : ObjId) (s : Letter) → OpenStand R → first_in R (Senders at.endpoint) ≡ Some x → open_of R x ≡ Some s
-    → take_act b t at R ≡ answers (Got s.badge s.message) (taken_by (record { number = s.number; sender = x; endpoint = at.endpoint; mode = s.mode }) t at.reply) R
+pub take-takes : (R : Log) (b : Bool) (t e : ObjId) (r : Option ObjId) (x : ObjId) (s : Letter) → OpenStand R → first_in R (Senders e) ≡ Some x → open_of R x ≡ Some s
+    → take_act b t e r R ≡ answers (Got s.badge s.message) (taken_by (record { number = s.number; sender = x; endpoint = e; mode = s.mode }) t r) R
 unfolding take_act take_open taken taken_by ◌then◌
-take-takes R b t at x s stand first is =
+take-takes R b t e r x s stand first is =
     let o = open_of-open R x s is in
     let own : s.sender ≡ x = same-equal s.sender x o.0 in
     let there : letter R s.number ≡ Some s = open_of-letter R x s is in
     let of_it : IsOpenOf R x s.endpoint s.number = record { sent = s; is_letter = there; is_open = o.1; of_sender = own; on_endpoint = refl } in
-    let two : Some (Senders s.endpoint) ≡ Some (Senders at.endpoint) = sym (stand x s.endpoint s.number of_it) ∙ first-stands R (Senders at.endpoint) x first in
-    let place : s.endpoint ≡ at.endpoint = cc in
+    let two : Some (Senders s.endpoint) ≡ Some (Senders e) = sym (stand x s.endpoint s.number of_it) ∙ first-stands R (Senders e) x first in
+    let place : s.endpoint ≡ e = cc in
     rw (first, is, own, place) refl

@@ -8,7 +8,6 @@ use Rattle.mcs_types.specs.declared.id.ObjId.{ObjId}
 use Rattle.mcs_types.specs.declared.id.Badge.{Badge}
 use Rattle.mcs_types.specs.declared.id.Kind.{Kind}
 use Rattle.mcs_types.specs.declared.id.Kind.TheVariants as kind
-use Rattle.mcs_types.specs.declared.cap.Cap.{Cap}
 use Rattle.mcs_types.specs.declared.record.Letter.{Letter}
 use Rattle.mcs_types.specs.declared.record.Mode.TheVariants.{Running}
 use Rattle.mcs_types.specs.declared.record.Queue.{Queue}
@@ -26,7 +25,7 @@ use Rattle.mcs_book.specs.Fair.{IsOpenOf}
 use Rattle.mcs_book.specs.Messages.{next_message}
 use Rattle.mcs_book.specs.Pieces.{◌then◌, nothing, say, with_any, answers}
 use Rattle.mcs_book.specs.Queues.{queue_of, first_in, reply_with}
-use Rattle.mcs_book.specs.Sending.{letter_over, sent, sends_to, sends}
+use Rattle.mcs_book.specs.Sending.{sent, sends_to, sends}
 use Rattle.mcs_book.specs.Signalling.{signal, spare_at}
 use Rattle.mcs_book.specs.Sound.{Sound, IsThere}
 use Rattle.mcs_book.specs.Taking.{back_to, give_back, give, settle, handed}
@@ -47,7 +46,7 @@ use Rattle.mcs_ipc.specs.declared.checks.Source.TheVariants as source
 use Rattle.mcs_ipc.specs.declared.checks.Target.{Target}
 use Rattle.mcs_ipc.specs.declared.checks.Target.TheVariants as target
 use Rattle.mcs_ipc.specs.Ready.{IsWaiting, IsReceivingFrom}
-use Rattle.mcs_ipc.specs.Rows.{send_act, pay_act, target_act}
+use Rattle.mcs_ipc.specs.Rows.{letter_to, send_act, pay_act, target_act}
 use Rattle.mcs_ipc.specs.Sources.{exchange_found}
 use Rattle.mcs_ipc.proofs.Paying.{paid-receives}
 
@@ -193,14 +192,14 @@ still-receives R S t (source.Endpoint at) outlasts stands h = record {
     reply (Some d) there = outlasts (λ L. IsThere L kind.Reply d) (there-send kind.Reply d) there
 
 -- a message was handed over with its sender's context, or nobody receives
-sent-receives : (R : Log) (t : ObjId) (c : Cap) (message : Content) (s : Source) → IsReceivingFrom R t s → IsReceivingFrom (onto ((send_act false how.Give t c message R).records) R) t s
+sent-receives : (R : Log) (t e : ObjId) (badge : Badge) (message : Content) (s : Source) → IsReceivingFrom R t s → IsReceivingFrom (onto ((send_act false how.Give t e badge message R).records) R) t s
 unfolding send_act sends sends_to
-sent-receives R t c message s h = go (first_in R (Receivers c.obj)) refl
+sent-receives R t e badge message s h = go (first_in R (Receivers e)) refl
   where
     l : Letter
-    l = letter_over t c how.Give message R
+    l = letter_to t e badge how.Give message R
 
-    go : (o : Option ObjId) → first_in R (Receivers c.obj) ≡ o → IsReceivingFrom (onto ((sends_to l Done (answers Done nothing) o R).records) R) t s
+    go : (o : Option ObjId) → first_in R (Receivers e) ≡ o → IsReceivingFrom (onto ((sends_to l Done (answers Done nothing) o R).records) R) t s
     go None first = h
     go (Some p) first = then-next (λ L. IsReceivingFrom L t s) (sent l) (handed l p) R
         (still-receives R (onto (handed l p (sent_record l ∷ R)) (sent_record l ∷ R)) t s (λ F f k. outlasts-handed F f l p (sent_record l ∷ R) refl (f.sends R l k)) (handed-stand R l p refl refl first) h)
@@ -208,6 +207,6 @@ sent-receives R t c message s h = go (first_in R (Receivers c.obj)) refl
 -- who is to receive still is, when it has sent what does not wait
 pub given-receives : (R : Log) (t : ObjId) (x : Target) (message : Content) (s : Source) → Sound R → OnlyBoundWait R → IsReceivingFrom R t s → IsReceivingFrom (onto ((target_act false how.Give t message x R).records) R) t s
 unfolding signal_act pay_act
-given-receives R t (target.Endpoint c) message s sound only h = sent-receives R t c message s h
+given-receives R t (target.Endpoint c) message s sound only h = sent-receives R t c.obj c.badge message s h
 given-receives R t (target.Notification c) message s sound only h = still-receives R (onto (signal c.obj c.badge R) R) t s (λ F f k. outlasts-signal F f c.obj c.badge R k) (signal-stand R c.obj c.badge sound only) h
 given-receives R t (target.Reply r) message s sound only h = paid-receives R t s r message h

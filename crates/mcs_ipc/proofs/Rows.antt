@@ -27,7 +27,6 @@ use Rattle.mcs_state.specs.Checks.{kinded, writable, readable, object_found, obj
 use Rattle.mcs_notify.specs.Rows.{signal_act}
 use Rattle.mcs_state.proofs.Named.{bind-ok, bind-err, object-is}
 use Rattle.mcs_ipc.specs.declared.checks.Exchange.{Exchange}
-use Rattle.mcs_ipc.specs.declared.checks.Receiving.{Receiving}
 use Rattle.mcs_ipc.specs.declared.checks.Replying.{Replying}
 use Rattle.mcs_ipc.specs.declared.checks.Source.{Source}
 use Rattle.mcs_ipc.specs.declared.checks.Source.TheVariants as source
@@ -43,10 +42,10 @@ tested true x f = refl
 tested false x f = refl
 
 -- a send over a capability of each kind, in a mode that is answered at once
-sent-over : (k : Kind) (b : Bool) (mode : SendMode) (t : ObjId) (c : Cap) (message : Content) → answer_to mode ≡ Done → send_by k mode t c message (alone_act b mode t c message) ≡ act_of (target_by k c) (target_act b mode t message)
+sent-over : (k : Kind) (b : Bool) (mode : SendMode) (t : ObjId) (c : Cap) (message : Content) → answer_to mode ≡ Done → send_by k mode t c message (alone_act b mode t c.obj c.badge message) ≡ act_of (target_by k c) (target_act b mode t message)
 unfolding send_by send_act signal_act pay_act ◌>>◌ need
 sent-over kind.Endpoint b mode t c message done =
-    ap (λ answer. need (may_write c) NoRight >> Ok (sends (letter_over t c mode message) answer (alone_act b mode t c message))) (sym done)
+    ap (λ answer. need (may_write c) NoRight >> Ok (sends (letter_over t c mode message) answer (alone_act b mode t c.obj c.badge message))) (sym done)
     ∙ tested (may_write c) (target.Endpoint c) (target_act b mode t message)
 sent-over kind.Notification b mode t c message done = tested (may_write c) (target.Notification c) (target_act b mode t message)
 sent-over kind.Reply b mode t c message done = refl
@@ -56,7 +55,7 @@ sent-over kind.Context b mode t c message done = refl
 
 -- a send over what was found
 sent-found : (b : Bool) (mode : SendMode) (t : ObjId) (message : Content) (m : Checked Cap) → answer_to mode ≡ Done
-    → (m >>= λ c. send_by c.obj.kind mode t c message (alone_act b mode t c message)) ≡ act_of (target_of m) (target_act b mode t message)
+    → (m >>= λ c. send_by c.obj.kind mode t c message (alone_act b mode t c.obj c.badge message)) ≡ act_of (target_of m) (target_act b mode t message)
 sent-found b mode t message (Err why) done = bind-err why _
 sent-found b mode t message (Ok c) done = bind-ok c _ ∙ sent-over c.obj.kind b mode t c message done
 
@@ -71,7 +70,7 @@ row-send R core t b a message = go b
 
 -- the act of a call
 abbrev pub calls : ObjId → Content → Cap → Act
-calls t message c = send_act true (call_mode c) t c message
+calls t message c = send_act true (call_mode c) t c.obj c.badge message
 
 -- the row of Call
 row-call : (R : Log) (core : CoreId) (t : ObjId) (a : ℕ) (message : Content) → row R core t (Call a message) ≡ act_of (callable R t a) (calls t message)
@@ -81,7 +80,7 @@ row-call R core t a message = rw (object-is R t kind.Endpoint a) (go (kinded kin
     act : Cap → SendMode → Act
     act c mode = sends (letter_over t c mode message) Waits (queues (letter_over t c mode message))
 
-    answered : (c : Cap) (b : Bool) → act c (cond b how.Call how.Mute) ≡ send_act true (cond b how.Call how.Mute) t c message
+    answered : (c : Cap) (b : Bool) → act c (cond b how.Call how.Mute) ≡ send_act true (cond b how.Call how.Mute) t c.obj c.badge message
     answered c true = refl
     answered c false = refl
 
@@ -220,7 +219,7 @@ row-exchange R core t a s r message = named r ∙ ap (λ send. over send r) (sen
     over send r = send >>= λ act. capability R t s >>= λ c. receive_by c.obj.kind R t c (reply_named R t r) true >>= λ receive. Ok (before (silently act) receive)
 
     sending : Checked Act
-    sending = capability R t a >>= λ c. send_by c.obj.kind how.Give t c message (alone_act false how.Give t c message)
+    sending = capability R t a >>= λ c. send_by c.obj.kind how.Give t c message (alone_act false how.Give t c.obj c.badge message)
 
     named : (r : Option ℕ) → row R core t (exchange_entry a s r message) ≡ over sending r
     named None = refl
@@ -251,6 +250,6 @@ pub exchange-row : (R : Log) (core : CoreId) (t : ObjId) (a s : ℕ) (r : Option
 exchange-row R core t a s r message m n e h = done _ _ m n (exchange_act message t) (row-exchange R core t a s r message) e h
 
 -- a receive is a reply object freed, and then a word heard or a message taken
-pub receive-parts : (b : Bool) (t : ObjId) (at : Receiving) → receive_act b t at ≡ before (with_any at.reply free) (receive_message t at.endpoint at.reply b)
+pub receive-parts : (b : Bool) (t e : ObjId) (r : Option ObjId) → receive_act b t e r ≡ before (with_any r free) (receive_message t e r b)
 unfolding receive_on
-receive-parts b t at = refl
+receive-parts b t e r = refl

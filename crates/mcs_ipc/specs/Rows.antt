@@ -2,11 +2,13 @@
 use Rattle.std.specs.Prelude.{ℕ, Bool, true, false, cond, Option, Some, None, Ok, Err}
 use Rattle.mcs_types.specs.Views.{Content}
 use Rattle.mcs_types.specs.declared.id.ObjId.{ObjId}
+use Rattle.mcs_types.specs.declared.id.Badge.{Badge}
 use Rattle.mcs_types.specs.declared.id.Kind.{Kind}
 use Rattle.mcs_types.specs.declared.id.Kind.TheVariants as kind
 use Rattle.mcs_types.specs.declared.cap.Cap.{Cap}
 use Rattle.mcs_types.specs.declared.record.SendMode.{SendMode}
 use Rattle.mcs_types.specs.declared.record.SendMode.TheVariants as how
+use Rattle.mcs_types.specs.declared.record.Letter.{Letter}
 use Rattle.mcs_types.specs.declared.entry.Answer.{Answer}
 use Rattle.mcs_types.specs.declared.entry.Entry.{Entry}
 use Rattle.mcs_types.specs.declared.entry.Entry.TheVariants.{Send, NbSend, Recv, NbRecv, Wait, NbWait, NbSendRecv, NbSendWait}
@@ -22,14 +24,14 @@ use Rattle.mcs_types.specs.declared.record.Rec.TheVariants.{Took, Parts, Turns}
 use Rattle.mcs_book.specs.Pieces.{Piece, Act, ◌then◌, say, nothing, answers, silently, before}
 use Rattle.mcs_book.specs.Contexts.{context_of}
 use Rattle.mcs_book.specs.Notifications.{bound_of}
+use Rattle.mcs_book.specs.Messages.{next_message}
 use Rattle.mcs_book.specs.Queues.{first_in}
 use Rattle.mcs_book.specs.Taking.{settle, pay}
-use Rattle.mcs_book.specs.Sending.{letter_over, sends, queues}
+use Rattle.mcs_book.specs.Sending.{sends, queues}
 use Rattle.mcs_book.specs.Receiving.{receive_on, take_open, open_of_any, stand, joins_or, wait_on}
 use Rattle.mcs_notify.specs.Rows.{signal_act}
 use Rattle.mcs_state.specs.Checks.{kinded, writable}
 use Rattle.mcs_ipc.specs.declared.checks.Exchange.{Exchange}
-use Rattle.mcs_ipc.specs.declared.checks.Receiving.{Receiving}
 use Rattle.mcs_ipc.specs.declared.checks.Replying.{Replying}
 use Rattle.mcs_ipc.specs.declared.checks.Source.{Source}
 use Rattle.mcs_ipc.specs.declared.checks.Source.TheVariants as source
@@ -86,14 +88,18 @@ abbrev pub send_answer : Checked Bool → Answer
 send_answer (Ok waits) = said waits
 send_answer (Err why) = Refused why
 
--- what t does where nobody receives: it waits in the queue, or the message is dropped
-abbrev pub alone_act : Bool → SendMode → ObjId → Cap → Content → Act
-alone_act true mode t cap message = queues (letter_over t cap mode message)
-alone_act false mode t cap message = answers Done nothing
+-- a message of t to the endpoint e with a badge, as the next of the log
+abbrev pub letter_to : ObjId → ObjId → Badge → SendMode → Content → Log → Letter
+letter_to t e badge mode message R = record { number = next_message R; sender = t; endpoint = e; mode = mode; badge = badge; message = message }
 
--- t sends over a capability to an endpoint, or calls
-unfoldable pub send_act : Bool → SendMode → ObjId → Cap → Content → Act
-send_act blocks mode t cap message = sends (letter_over t cap mode message) (answer_to mode) (alone_act blocks mode t cap message)
+-- what t does where nobody receives: it waits in the queue, or the message is dropped
+abbrev pub alone_act : Bool → SendMode → ObjId → ObjId → Badge → Content → Act
+alone_act true mode t e badge message = queues (letter_to t e badge mode message)
+alone_act false mode t e badge message = answers Done nothing
+
+-- t sends to the endpoint e with a badge, or calls
+unfoldable pub send_act : Bool → SendMode → ObjId → ObjId → Badge → Content → Act
+send_act blocks mode t e badge message = sends (letter_to t e badge mode message) (answer_to mode) (alone_act blocks mode t e badge message)
 
 -- a reply object is paid
 unfoldable pub pay_act : ObjId → Content → Act
@@ -101,25 +107,25 @@ pay_act r message = answers Done (pay r message)
 
 -- t sends over an endpoint, a notification or a reply object
 abbrev pub target_act : Bool → SendMode → ObjId → Content → Target → Act
-target_act blocks mode t message (target.Endpoint cap) = send_act blocks mode t cap message
+target_act blocks mode t message (target.Endpoint cap) = send_act blocks mode t cap.obj cap.badge message
 target_act blocks mode t message (target.Notification cap) = signal_act cap
 target_act blocks mode t message (target.Reply r) = pay_act r message
 
 -- what t does where nobody sends: it waits among the receivers, or is answered at once
-abbrev pub stand_act : Log → Bool → ObjId → Receiving → Act
-stand_act R blocks t at = joins_or blocks (stand t (Receivers at.endpoint) at.reply (bound_of R t))
+abbrev pub stand_act : Log → Bool → ObjId → ObjId → Option ObjId → Act
+stand_act R blocks t e r = joins_or blocks (stand t (Receivers e) r (bound_of R t))
 
 -- t takes the message of the first sender, where no word is pending for it
-unfoldable pub take_act : Bool → ObjId → Receiving → Act
-take_act blocks t at R = take_open t at.reply (open_of_any R (first_in R (Senders at.endpoint))) (stand_act R blocks t at) R
+unfoldable pub take_act : Bool → ObjId → ObjId → Option ObjId → Act
+take_act blocks t e r R = take_open t r (open_of_any R (first_in R (Senders e))) (stand_act R blocks t e r) R
 
 -- t receives on an endpoint, with a reply object or without
-abbrev pub receive_act : Bool → ObjId → Receiving → Act
-receive_act blocks t at = receive_on t at.endpoint at.reply blocks
+abbrev pub receive_act : Bool → ObjId → ObjId → Option ObjId → Act
+receive_act blocks t e r = receive_on t e r blocks
 
 -- t receives on an endpoint, or waits on a notification
 abbrev pub source_act : Bool → ObjId → Source → Act
-source_act blocks t (source.Endpoint at) = receive_act blocks t at
+source_act blocks t (source.Endpoint at) = receive_act blocks t at.endpoint at.reply
 source_act blocks t (source.Notification n) = wait_on t n blocks
 
 -- t pays its reply object, and then receives

@@ -50,7 +50,7 @@ pub struct Exchange {
 
 /// An equal capability, put together by its fields: so the compiler need not keep the bytes between them.
 #[inline(always)]
-pub(crate) fn by_fields(cap: &Cap) -> Cap
+fn by_fields(cap: &Cap) -> Cap
     ensures { result ≡ cap.now }
 {
     Cap {

@@ -11,7 +11,7 @@ ghost use Rattle.mcs_state.specs.Entering.{IsEntering, OpenStand};
 ghost use Rattle.mcs_ipc.specs.Ready.{IsReceiving, IsReceivingFrom, IsReady};
 ghost use Rattle.mcs_ipc.specs.Rows.{receive_entry, stand_act, take_act, receive_act, source_act};
 
-use crate::checks::{Receiving, Source, source_to_receive, source_to_reply};
+use crate::checks::{Source, source_to_receive, source_to_reply};
 use crate::replying::pay;
 use crate::taking::{Delivery, take};
 use mcs_cancel::cancel;
@@ -50,21 +50,23 @@ fn free_any<W: Waiting>(state: &mut State<W>, reply: Option<ObjId>)
 fn stand<W: Waiting>(
     state: &mut State<W>,
     thread: ObjId,
-    at: Receiving,
+    endpoint: ObjId,
+    reply: Option<ObjId>,
     blocks: bool,
     answer: &mut Answer,
 )
-    requires ready { IsReady (so_far state.old) thread at.endpoint at.reply }
-    requires room { FitsAct (stand_act (so_far state.old) blocks thread at) state.old }
-    ensures { Acts (stand_act (so_far state.old) blocks thread at) state.old answer.new state.new }
+    requires ready { IsReady (so_far state.old) thread endpoint reply }
+    requires room { FitsAct (stand_act (so_far state.old) blocks thread endpoint reply) state.old }
+    ensures { Acts (stand_act (so_far state.old) blocks thread endpoint reply) state.old answer.new
+        state.new }
 {
     if blocks {
         let notification = state.bound_of(thread);
         mcs_state::stand(
             state,
             thread,
-            Queue::Receivers(at.endpoint),
-            at.reply,
+            Queue::Receivers(endpoint),
+            reply,
             notification,
         );
         *answer = Answer::Waits;
@@ -77,27 +79,28 @@ fn stand<W: Waiting>(
 fn take_first<W: Waiting>(
     state: &mut State<W>,
     thread: ObjId,
-    at: Receiving,
+    endpoint: ObjId,
+    reply: Option<ObjId>,
     blocks: bool,
     answer: &mut Answer,
 )
-    requires ready { IsReady (so_far state.old) thread at.endpoint at.reply }
-    requires room { FitsAct (take_act blocks thread at) state.old }
-    ensures { Acts (take_act blocks thread at) state.old answer.new state.new }
+    requires ready { IsReady (so_far state.old) thread endpoint reply }
+    requires room { FitsAct (take_act blocks thread endpoint reply) state.old }
+    ensures { Acts (take_act blocks thread endpoint reply) state.old answer.new state.new }
 {
-    match state.first(Queue::Senders(at.endpoint)) {
-        None => stand(state, thread, at, blocks, answer),
+    match state.first(Queue::Senders(endpoint)) {
+        None => stand(state, thread, endpoint, reply, blocks, answer),
         Some(sender) => match state.letter(sender) {
-            None => stand(state, thread, at, blocks, answer),
+            None => stand(state, thread, endpoint, reply, blocks, answer),
             Some(letter) => {
                 let badge = letter.badge;
                 let delivery = Delivery {
                     number: letter.number,
                     sender,
-                    endpoint: at.endpoint,
+                    endpoint,
                     mode: letter.mode,
                 };
-                let message = take(state, delivery, thread, at.reply);
+                let message = take(state, delivery, thread, reply);
                 *answer = Answer::Got { badge, message };
             }
         },
@@ -109,19 +112,20 @@ fn take_first<W: Waiting>(
 fn hear_or_take<W: Waiting>(
     state: &mut State<W>,
     thread: ObjId,
-    at: Receiving,
+    endpoint: ObjId,
+    reply: Option<ObjId>,
     blocks: bool,
     answer: &mut Answer,
 )
-    requires ready { IsReady (so_far state.old) thread at.endpoint at.reply }
-    requires room { FitsAct (receive_message thread at.endpoint at.reply blocks) state.old }
-    ensures { Acts (receive_message thread at.endpoint at.reply blocks) state.old answer.new
+    requires ready { IsReady (so_far state.old) thread endpoint reply }
+    requires room { FitsAct (receive_message thread endpoint reply blocks) state.old }
+    ensures { Acts (receive_message thread endpoint reply blocks) state.old answer.new
         state.new }
 {
     state.is_sound();
     match take_bound(state, thread) {
         Some(word) => *answer = Answer::Heard { word },
-        None => take_first(state, thread, at, blocks, answer),
+        None => take_first(state, thread, endpoint, reply, blocks, answer),
     }
 }
 
@@ -130,17 +134,18 @@ fn hear_or_take<W: Waiting>(
 fn receive_on<W: Waiting>(
     state: &mut State<W>,
     thread: ObjId,
-    at: Receiving,
+    endpoint: ObjId,
+    reply: Option<ObjId>,
     blocks: bool,
     answer: &mut Answer,
 )
-    requires receiving { IsReceiving (so_far state.old) thread at.endpoint at.reply }
-    requires room { FitsAct (receive_act blocks thread at) state.old }
-    ensures { Acts (receive_act blocks thread at) state.old answer.new state.new }
+    requires receiving { IsReceiving (so_far state.old) thread endpoint reply }
+    requires room { FitsAct (receive_act blocks thread endpoint reply) state.old }
+    ensures { Acts (receive_act blocks thread endpoint reply) state.old answer.new state.new }
 {
     state.is_sound();
-    free_any(state, at.reply);
-    hear_or_take(state, thread, at, blocks, answer)
+    free_any(state, reply);
+    hear_or_take(state, thread, endpoint, reply, blocks, answer)
 }
 
 /// Receives on an endpoint, or waits on a notification.
@@ -158,7 +163,7 @@ pub fn receive_from<W: Waiting>(
     ensures { Acts (source_act blocks thread source) state.old answer.new state.new }
 {
     match source {
-        Source::Endpoint(at) => receive_on(state, thread, at, blocks, answer),
+        Source::Endpoint(at) => receive_on(state, thread, at.endpoint, at.reply, blocks, answer),
         Source::Notification(notification) => {
             mcs_notify::wait(state, thread, notification, blocks, answer)
         }

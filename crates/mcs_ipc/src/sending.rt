@@ -13,13 +13,13 @@ ghost use Rattle.mcs_notify.specs.Rows.{signal_act};
 ghost use Rattle.mcs_ipc.specs.Ready.{IsSending, IsSendingOver};
 ghost use Rattle.mcs_ipc.specs.Rows.{answer_to, said, send_entry, send_act, pay_act, target_act, send_answer};
 
-use crate::checks::{Target, by_fields, cap_to_call, target_to_send};
+use crate::checks::{Target, cap_to_call, target_to_send};
 use crate::replying::pay;
 use crate::taking::settle;
 use mcs_notify::signal;
 use mcs_object_queues::Waiting;
 use mcs_state::{State, wake};
-use mcs_types::{BOOK_LINES, Cap, Copies, CoreId, Mode, ObjId, Queue, Refusal, SendMode};
+use mcs_types::{BOOK_LINES, Badge, Cap, Copies, CoreId, Mode, ObjId, Queue, Refusal, SendMode};
 
 /// How a call over a capability is sent: without Grant and GrantReply it cannot be answered (manual: Message Passing).
 fn call_mode(cap: &Cap) -> SendMode
@@ -46,19 +46,20 @@ fn waits(mode: SendMode) -> bool
 fn send_alone<W: Waiting>(
     state: &mut State<W>,
     thread: ObjId,
-    cap: Cap,
+    endpoint: ObjId,
+    badge: Badge,
     mode: SendMode,
     message: Copies<'_>,
 ) -> bool
-    requires sending { IsSending (so_far state.old) thread cap.obj }
+    requires sending { IsSending (so_far state.old) thread endpoint }
     requires few { length state.old.book.lines < BOOK_LINES }
-    requires none { first_in (so_far state.old) (Queue.Receivers cap.obj) ≡ None }
-    requires room { FitsAct (send_act true mode thread cap message) state.old }
-    ensures { Acts (send_act true mode thread cap message.entry) state.old (said result)
-        state.new }
+    requires none { first_in (so_far state.old) (Queue.Receivers endpoint) ≡ None }
+    requires room { FitsAct (send_act true mode thread endpoint badge message) state.old }
+    ensures { Acts (send_act true mode thread endpoint badge message.entry) state.old
+        (said result) state.new }
 {
-    state.sends(thread, cap.obj, mode, cap.badge, message);
-    state.joins(thread, Queue::Senders(cap.obj), None);
+    state.sends(thread, endpoint, mode, badge, message);
+    state.joins(thread, Queue::Senders(endpoint), None);
     true
 }
 
@@ -66,48 +67,52 @@ fn send_alone<W: Waiting>(
 fn send_to<W: Waiting>(
     state: &mut State<W>,
     thread: ObjId,
-    cap: Cap,
+    endpoint: ObjId,
+    badge: Badge,
     mode: SendMode,
     message: Copies<'_>,
     receiver: ObjId,
     blocks: bool,
 ) -> bool
-    requires sending { IsSending (so_far state.old) thread cap.obj }
+    requires sending { IsSending (so_far state.old) thread endpoint }
     requires few { length state.old.book.lines < BOOK_LINES }
-    requires first { first_in (so_far state.old) (Queue.Receivers cap.obj) ≡ Some receiver }
-    requires room { FitsAct (send_act blocks mode thread cap message) state.old }
-    ensures { Acts (send_act blocks mode thread cap message.entry) state.old (said result)
-        state.new }
+    requires first { first_in (so_far state.old) (Queue.Receivers endpoint) ≡ Some receiver }
+    requires room { FitsAct (send_act blocks mode thread endpoint badge message) state.old }
+    ensures { Acts (send_act blocks mode thread endpoint badge message.entry) state.old
+        (said result) state.new }
 {
-    let queue = Queue::Receivers(cap.obj);
+    let queue = Queue::Receivers(endpoint);
     state.is_sound();
     let reply = state.reply_with(receiver, queue);
-    state.hands(thread, cap.obj, mode, cap.badge, message, receiver);
+    state.hands(thread, endpoint, mode, badge, message, receiver);
     state.parts(receiver, queue);
     settle(state, mode, thread, receiver, reply, false);
     state.turns(receiver, Mode::Running);
     waits(mode)
 }
 
-/// Sends or calls over a capability to an endpoint: the first receiver takes the message. Where nobody receives, the thread
+/// Sends to an endpoint with a badge, or calls: the first receiver takes the message. Where nobody receives, the thread
 /// waits if it blocks, and otherwise the message is dropped.
 fn send_over<W: Waiting>(
     state: &mut State<W>,
     thread: ObjId,
-    cap: Cap,
+    endpoint: ObjId,
+    badge: Badge,
     mode: SendMode,
     message: Copies<'_>,
     blocks: bool,
 ) -> bool
-    requires sending { IsSending (so_far state.old) thread cap.obj }
+    requires sending { IsSending (so_far state.old) thread endpoint }
     requires few { length state.old.book.lines < BOOK_LINES }
-    requires room { FitsAct (send_act blocks mode thread cap message) state.old }
-    ensures { Acts (send_act blocks mode thread cap message.entry) state.old (said result)
-        state.new }
+    requires room { FitsAct (send_act blocks mode thread endpoint badge message) state.old }
+    ensures { Acts (send_act blocks mode thread endpoint badge message.entry) state.old
+        (said result) state.new }
 {
-    match state.first(Queue::Receivers(cap.obj)) {
-        Some(receiver) => send_to(state, thread, cap, mode, message, receiver, blocks),
-        None if blocks => send_alone(state, thread, cap, mode, message),
+    match state.first(Queue::Receivers(endpoint)) {
+        Some(receiver) => send_to(
+            state, thread, endpoint, badge, mode, message, receiver, blocks,
+        ),
+        None if blocks => send_alone(state, thread, endpoint, badge, mode, message),
         None => false,
     }
 }
@@ -152,7 +157,9 @@ pub fn send_target<W: Waiting>(
         state.new }
 {
     match target {
-        Target::Endpoint(cap) => send_over(state, thread, by_fields(&cap), mode, message, blocks),
+        Target::Endpoint(cap) => send_over(
+            state, thread, cap.obj, cap.badge, mode, message, blocks,
+        ),
         Target::Notification(cap) => send_signal(state, cap),
         Target::Reply(reply) => send_reply(state, reply, message),
     }
@@ -209,5 +216,5 @@ pub fn call<W: Waiting>(
     let cap = cap_to_call(state, thread, address)?;
     wake(state, thread);
     let mode = call_mode(&cap);
-    Ok(send_over(state, thread, cap, mode, message, true))
+    Ok(send_over(state, thread, cap.obj, cap.badge, mode, message, true))
 }

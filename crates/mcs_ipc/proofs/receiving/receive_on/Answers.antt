@@ -11,21 +11,21 @@ use Rattle.mcs_ipc.proofs.receiving.receive_on.Goals as goal
 
 pub free_any-requires-clause-room : goal.free_any-requires-clause-room
 free_any-requires-clause-room g c =
-    let parts = receive-parts c.args.blocks c.args.thread c.args.at in
-    room-before (with_any c.args.at.reply free) (receive_message c.args.thread c.args.at.endpoint c.args.at.reply c.args.blocks) c.args.state.now (subst (λ (act : Act). FitsAct act c.args.state.now) parts c.requires.room)
+    let parts = receive-parts c.args.blocks c.args.thread c.args.endpoint c.args.reply in
+    room-before (with_any c.args.reply free) (receive_message c.args.thread c.args.endpoint c.args.reply c.args.blocks) c.args.state.now (subst (λ (act : Act). FitsAct act c.args.state.now) parts c.requires.room)
 
 pub hear_or_take-requires-clause-ready : goal.hear_or_take-requires-clause-ready
 hear_or_take-requires-clause-ready g c =
-    let freed = so_far-made (with_any c.args.at.reply free) c.args.state.now c.free_any.new.state c.free_any.ensures in
-    subst (λ S. IsReady S c.args.thread c.args.at.endpoint c.args.at.reply) (sym freed) (freed-ready (so_far c.args.state.now) c.args.thread c.args.at.endpoint c.args.at.reply c.is_sound.ensures.sound c.requires.receiving)
+    let freed = so_far-made (with_any c.args.reply free) c.args.state.now c.free_any.new.state c.free_any.ensures in
+    subst (λ S. IsReady S c.args.thread c.args.endpoint c.args.reply) (sym freed) (freed-ready (so_far c.args.state.now) c.args.thread c.args.endpoint c.args.reply c.is_sound.ensures.sound c.requires.receiving)
 
 pub hear_or_take-requires-clause-room : goal.hear_or_take-requires-clause-room
 hear_or_take-requires-clause-room g c =
-    let parts = receive-parts c.args.blocks c.args.thread c.args.at in
-    room-then (with_any c.args.at.reply free) (receive_message c.args.thread c.args.at.endpoint c.args.at.reply c.args.blocks) c.args.state.now c.free_any.new.state c.free_any.ensures (subst (λ (act : Act). FitsAct act c.args.state.now) parts c.requires.room)
+    let parts = receive-parts c.args.blocks c.args.thread c.args.endpoint c.args.reply in
+    room-then (with_any c.args.reply free) (receive_message c.args.thread c.args.endpoint c.args.reply c.args.blocks) c.args.state.now c.free_any.new.state c.free_any.ensures (subst (λ (act : Act). FitsAct act c.args.state.now) parts c.requires.room)
 
 pub returns : goal.returns
 returns g c =
-    let parts = receive-parts c.args.blocks c.args.thread c.args.at in
+    let parts = receive-parts c.args.blocks c.args.thread c.args.endpoint c.args.reply in
     subst (λ (act : Act). Acts act c.args.state.now c.hear_or_take.new.answer c.hear_or_take.new.state) (sym parts)
-    (after (with_any c.args.at.reply free) (receive_message c.args.thread c.args.at.endpoint c.args.at.reply c.args.blocks) c.args.state.now c.free_any.new.state c.hear_or_take.new.state c.hear_or_take.new.answer c.free_any.ensures c.hear_or_take.ensures)
+    (after (with_any c.args.reply free) (receive_message c.args.thread c.args.endpoint c.args.reply c.args.blocks) c.args.state.now c.free_any.new.state c.hear_or_take.new.state c.hear_or_take.new.answer c.free_any.ensures c.hear_or_take.ensures)

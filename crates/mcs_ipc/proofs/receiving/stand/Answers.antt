@@ -12,14 +12,14 @@ use Rattle.mcs_ipc.proofs.receiving.stand.Goals as goal
 pub stand-requires-clause-room : goal.stand-requires-clause-room
 stand-requires-clause-room g c =
     let R = so_far c.args.state.now in
-    let stands : Piece = stand c.args.thread (Receivers c.args.at.endpoint) c.args.at.reply (bound_of R c.args.thread) in
+    let stands : Piece = stand c.args.thread (Receivers c.args.endpoint) c.args.reply (bound_of R c.args.thread) in
     let is = ap (λ b. joins_or b stands R) c.if-blocks.true ∙ joins-waits R stands in
     rw c.bound_of-notification.ensures (subst (λ (o : Outcome). Holds o.records c.args.state.now) is c.requires.room)
 
 pub returns-then-blocks : goal.returns-then-blocks
 returns-then-blocks g c =
     let R = so_far c.args.state.now in
-    let stands : Piece = stand c.args.thread (Receivers c.args.at.endpoint) c.args.at.reply (bound_of R c.args.thread) in
+    let stands : Piece = stand c.args.thread (Receivers c.args.endpoint) c.args.reply (bound_of R c.args.thread) in
     let is = ap (λ b. joins_or b stands R) c.if-blocks.true ∙ joins-waits R stands in
     let made = rw c.bound_of-notification.ensures at c.stand.ensures in
     subst (λ (o : Outcome). Gives o c.args.state.now Waits c.stand.new.state) (sym is) (record { records = made; answer = refl })
@@ -27,6 +27,6 @@ returns-then-blocks g c =
 pub returns-else-blocks : goal.returns-else-blocks
 returns-else-blocks g c =
     let R = so_far c.args.state.now in
-    let stands : Piece = stand c.args.thread (Receivers c.args.at.endpoint) c.args.at.reply (bound_of R c.args.thread) in
+    let stands : Piece = stand c.args.thread (Receivers c.args.endpoint) c.args.reply (bound_of R c.args.thread) in
     let is = ap (λ b. joins_or b stands R) c.if-blocks.false ∙ joins-empty R stands in
     subst (λ (o : Outcome). Gives o c.args.state.now Empty c.args.state.now) (sym is) (record { records = refl; answer = refl })

@@ -26,7 +26,7 @@ send_over-requires-clause-sending g c =
 pub send_over-requires-clause-room : goal.send_over-requires-clause-room
 send_over-requires-clause-room g c =
     let row = call-row (so_far c.args.state.now) c.args.core c.args.thread c.args.address c.args.message _ _ c.cap_to_call.ensures c.in_ok-cap.was in
-    subst (λ mode. FitsAct (send_act true mode c.args.thread c.in_ok-cap.cap c.args.message) c.wake.new.state) (sym c.call_mode-mode.ensures)
+    subst (λ mode. FitsAct (send_act true mode c.args.thread c.in_ok-cap.cap.obj c.in_ok-cap.cap.badge c.args.message) c.wake.new.state) (sym c.call_mode-mode.ensures)
     (room-acts c.args.state.now c.wake.new.state c.args.core c.args.thread (Call c.args.address c.args.message) (calls c.args.thread c.args.message c.in_ok-cap.cap) row c.wake.ensures c.requires.room)
 
 pub returns-in_err-cap : goal.returns-in_err-cap
@@ -39,4 +39,4 @@ pub returns : goal.returns
 returns g c =
     let row = call-row (so_far c.args.state.now) c.args.core c.args.thread c.args.address c.args.message _ _ c.cap_to_call.ensures c.in_ok-cap.was in
     acted c.args.state.now c.wake.new.state c.send_over.new.state c.args.core c.args.thread (Call c.args.address c.args.message) (calls c.args.thread c.args.message c.in_ok-cap.cap) (said c.send_over.result) row c.wake.ensures
-    (subst (λ mode. Acts (send_act true mode c.args.thread c.in_ok-cap.cap c.args.message) c.wake.new.state (said c.send_over.result) c.send_over.new.state) c.call_mode-mode.ensures c.send_over.ensures)
+    (subst (λ mode. Acts (send_act true mode c.args.thread c.in_ok-cap.cap.obj c.in_ok-cap.cap.badge c.args.message) c.wake.new.state (said c.send_over.result) c.send_over.new.state) c.call_mode-mode.ensures c.send_over.ensures)

@@ -10,5 +10,5 @@ use Rattle.mcs_ipc.proofs.sending.send_over.Goals as goal
 pub returns-in-None-2 : goal.returns-in-None-2
 returns-in-None-2 g c =
     let R = so_far c.args.state.now in
-    let is = ap (λ b. send_act b c.args.mode c.args.thread c.args.cap c.args.message R) c.if-blocks.false ∙ dropped-is R c.args.mode c.args.thread c.args.cap c.args.message (sym c.first.ensures ∙ c.in-None-2.is) in
+    let is = ap (λ b. send_act b c.args.mode c.args.thread c.args.endpoint c.args.badge c.args.message R) c.if-blocks.false ∙ dropped-is R c.args.mode c.args.thread c.args.endpoint c.args.badge c.args.message (sym c.first.ensures ∙ c.in-None-2.is) in
     subst (λ (o : Outcome). Gives o c.args.state.now Done c.args.state.now) (sym is) (record { records = refl; answer = refl })
