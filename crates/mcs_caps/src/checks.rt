@@ -7,7 +7,7 @@ ghost use Rattle.mcs_caps.specs.Placed.{IsPlaced};
 ghost use Rattle.mcs_caps.specs.Rows.{placed_by, mintable};
 
 use mcs_object_queues::Waiting;
-use mcs_slots::{SlotId, takes_badge};
+use mcs_slots::{SlotId, by_fields, takes_badge};
 use mcs_state::State;
 use mcs_types::{Cap, ObjId, Place, Refusal};
 
@@ -32,17 +32,21 @@ pub fn find_places<W: Waiting>(
     ensures placed { IfOk result (IsPlaced (so_far state.now)) }
 {
     state.is_sound();
-    let source = state.slot_named(thread, source)?;
+    let source = state.slot_named(thread, source)?.by_fields();
     // Read here, so that the processor need not wait for it when it has found the other slot.
     let held = state.slot(source);
-    let dest = state.slot_named(thread, dest)?;
+    let dest = state.slot_named(thread, dest)?.by_fields();
     let Some(cap) = held else {
         return Err(Refusal::SlotEmpty);
     };
     if state.slot(dest).is_some() {
         return Err(Refusal::SlotFull);
     }
-    Ok(Placing { cap, source, dest })
+    Ok(Placing {
+        cap: by_fields(&cap),
+        source,
+        dest,
+    })
 }
 
 /// What was found, where a badge may be set on it.

@@ -15,6 +15,8 @@ use mcs_state::{State, wake};
 use mcs_types::{Badge, Cap, CoreId, ObjId, Place, Refusal, Rights};
 
 /// Wakes the thread, and puts a capability to the object of the one that was found into the empty slot.
+// a part of its callers, so that what was found does not go through memory
+#[inline(always)]
 fn fill<W: Waiting>(state: &mut State<W>, thread: ObjId, at: &Placing, cap: Cap)
     requires entering { IsEntering (so_far state.old) thread }
     requires placed { IsPlaced (so_far state.old) at.now }

@@ -40,7 +40,7 @@ fn find_deletable<W: Waiting>(
     ensures slot { IfOk result (IsSlot (so_far state.now)) }
 {
     state.is_sound();
-    let at = state.slot_named(thread, place)?;
+    let at = state.slot_named(thread, place)?.by_fields();
     if is_last_cnode(state, state.slot(at)) {
         return Err(Refusal::LastCNode);
     }

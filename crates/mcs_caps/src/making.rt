@@ -49,7 +49,7 @@ fn find_vacant<W: Waiting>(
     ensures slot { IfOk result (IsSlot (so_far state.now)) }
 {
     state.is_sound();
-    let at = state.slot_named(thread, place)?;
+    let at = state.slot_named(thread, place)?.by_fields();
     if state.slot(at).is_some() {
         return Err(Refusal::SlotFull);
     }

@@ -9,27 +9,8 @@ ghost use Rattle.mcs_slots.specs.Pages.{page_slot};
 ghost use Rattle.mcs_cspace.specs.Spaces.{slots_space, IsWithin, IsThereWithCNode, EndsAt, EndsNowhere, named_by};
 
 use crate::paths::{End, find, slot_in};
-use mcs_slots::{SlotId, Slots};
-use mcs_types::{Cap, Guard, ObjId, Place, Refusal};
-
-/// An equal capability, put together by its fields: so the compiler need not keep the bytes between them.
-#[inline(always)]
-fn by_fields(cap: &Cap) -> Cap
-    ensures { result ≡ cap.now }
-{
-    Cap {
-        obj: ObjId {
-            kind: cap.obj.kind,
-            serial: cap.obj.serial,
-        },
-        rights: cap.rights,
-        badge: cap.badge,
-        guard: Guard {
-            bits: cap.guard.bits,
-            value: cap.guard.value,
-        },
-    }
-}
+use mcs_slots::{SlotId, Slots, by_fields};
+use mcs_types::{Cap, Place, Refusal};
 
 /// The capability in the slot at the end of a path, which is Missing where the slot is empty.
 #[inline(always)]
@@ -43,30 +24,12 @@ fn held(end: End<'_>) -> Result<Cap, Refusal>
     }
 }
 
-/// The slot at the end of a path, put together by its fields: so the compiler need not keep the bytes between them.
-fn slot_of(end: End<'_>) -> SlotId
-    ensures { result ≡ end.entry.slot }
-{
-    let End {
-        page: _,
-        slot,
-        left: _,
-    } = end;
-    SlotId {
-        cnode: ObjId {
-            kind: slot.cnode.kind,
-            serial: slot.cnode.serial,
-        },
-        index: slot.index,
-    }
-}
-
 /// The slot at the end of a path, where no bits are left.
 fn whole(end: End<'_>) -> Result<SlotId, Refusal>
     ensures { result ≡ (if end.entry.left == 0 then Ok end.entry.slot else Err DepthMismatch) }
 {
     if end.left == 0 {
-        Ok(slot_of(end))
+        Ok(end.slot.by_fields())
     } else {
         Err(Refusal::DepthMismatch)
     }

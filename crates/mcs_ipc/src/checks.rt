@@ -8,9 +8,9 @@ ghost use Rattle.mcs_ipc.specs.Rows.{sendable, callable};
 
 use mcs_notify::may_wait;
 use mcs_object_queues::Waiting;
-use mcs_slots::takes_badge;
+use mcs_slots::{by_fields, takes_badge};
 use mcs_state::{State, find_object, of_kind, with_read, with_write};
-use mcs_types::{Cap, Guard, Kind, ObjId, Refusal};
+use mcs_types::{Cap, Kind, ObjId, Refusal};
 
 /// What a thread sends over: an endpoint or a notification, by this capability, or a reply object, which it pays.
 #[derive(Clone, Copy)]
@@ -46,25 +46,6 @@ pub struct Replying {
 pub struct Exchange {
     pub target: Target,
     pub source: Source,
-}
-
-/// An equal capability, put together by its fields: so the compiler need not keep the bytes between them.
-#[inline(always)]
-fn by_fields(cap: &Cap) -> Cap
-    ensures { result ≡ cap.now }
-{
-    Cap {
-        obj: ObjId {
-            kind: cap.obj.kind,
-            serial: cap.obj.serial,
-        },
-        rights: cap.rights,
-        badge: cap.badge,
-        guard: Guard {
-            bits: cap.guard.bits,
-            value: cap.guard.value,
-        },
-    }
 }
 
 /// The reply object at an address, where one is named.

@@ -3,17 +3,34 @@ ghost use Rattle.std.specs.Prelude.{◌≡◌};
 ghost use Rattle.mcs_book.specs.Rights.{can_badge};
 ghost use Rattle.mcs_slots.specs.Masks.{masked, badged};
 
-use mcs_types::{Badge, Cap, Kind, Rights};
+use mcs_types::{Badge, Cap, Guard, Kind, ObjId, Rights};
+
+/// An equal capability, put together by its fields: so the compiler need not keep the bytes between them.
+#[inline(always)]
+pub fn by_fields(cap: &Cap) -> Cap
+    ensures { result ≡ cap.now }
+{
+    Cap {
+        obj: ObjId {
+            kind: cap.obj.kind,
+            serial: cap.obj.serial,
+        },
+        rights: cap.rights,
+        badge: cap.badge,
+        guard: Guard {
+            bits: cap.guard.bits,
+            value: cap.guard.value,
+        },
+    }
+}
 
 /// A capability with those of its rights that are asked for (manual: Capability Spaces).
 pub fn with_mask(cap: &Cap, mask: Rights) -> Cap
     ensures { result ≡ masked cap.now mask }
 {
     Cap {
-        obj: cap.obj,
         rights: cap.rights.masked(&mask),
-        badge: cap.badge,
-        guard: cap.guard,
+        ..by_fields(cap)
     }
 }
 
@@ -22,10 +39,9 @@ pub fn with_badge(cap: &Cap, mask: Rights, badge: Badge) -> Cap
     ensures { result ≡ badged cap.now mask badge }
 {
     Cap {
-        obj: cap.obj,
         rights: cap.rights.masked(&mask),
         badge,
-        guard: cap.guard,
+        ..by_fields(cap)
     }
 }
 

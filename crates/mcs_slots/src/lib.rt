@@ -9,7 +9,7 @@ mod pages;
 mod slots;
 mod tallies;
 
-pub use caps::{takes_badge, with_badge, with_mask};
+pub use caps::{by_fields, takes_badge, with_badge, with_mask};
 pub use laws::one_slot_changes;
 pub use page::Page;
 pub use slots::{SlotId, Slots};

@@ -16,6 +16,22 @@ pub struct SlotId {
     pub index: u8,
 }
 
+impl SlotId {
+    /// The same slot, put together by its fields: so the compiler need not keep the bytes between them.
+    #[inline(always)]
+    pub fn by_fields(self) -> SlotId
+        ensures { result ≡ self }
+    {
+        SlotId {
+            cnode: ObjId {
+                kind: self.cnode.kind,
+                serial: self.cnode.serial,
+            },
+            index: self.index,
+        }
+    }
+}
+
 /// The slots of up to 64 CNodes, whose serials count from 1 (own). The memory of a CNode is taken when it is added, as a boot does;
 /// beside `new` and `add` no call takes any. The tallies are a memo of what the slots hold, and change with them.
 pub struct Slots {
