@@ -1,4 +1,4 @@
-use Rattle.std.proofs.Common.{rules, ◌≡◌, ◌<◌, ◌≤◌, ◌+◌, ◌*◌, ◌^◌, vec_len, vec_capacity, arith}
+use Rattle.std.proofs.Common.{rules, ◌≤◌, ◌+◌, ◌*◌, ◌^◌, vec_len, vec_capacity, arith}
 use Rattle.mcs_book.proofs.book.Book.grow.Goals as goal
 
 pub overflow_sub-self : goal.overflow_sub-self

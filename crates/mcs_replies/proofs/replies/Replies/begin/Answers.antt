@@ -1,4 +1,4 @@
-use Rattle.std.proofs.Common.{◌≡◌, ◌<◌, Some, ap, sym, cond, ◌∙◌, ◌∷◌, subst}
+use Rattle.std.proofs.Common.{◌<◌, ap, sym, cond, ◌∙◌, ◌∷◌, subst}
 use Rattle.mcs_types.specs.Ids.{same}
 use Rattle.mcs_types.specs.Limits.{object_limit}
 use Rattle.mcs_replies.specs.Links.{linked_of}
