@@ -213,6 +213,8 @@ impl<L: Lines> Waiting for ObjectQueues<L> {
         self.notifications.are_apart();
     }
 
+    // a part of its callers, which know the kind of the queue
+    #[inline(always)]
     fn join(&mut self, thread: ObjId, into: Queue, priority: Prio) {
         // Laws for the proof: a place tells its object.
         self.endpoints.are_apart();

@@ -1,5 +1,6 @@
 //! A store of objects in a slab, and which serial lies where.
 ghost use Rattle.std.specs.Prelude.{ℕ, ◌≡◌, ◌<◌, ◌≤◌, ◌↔◌, is_some, IsTrue, IfOk, OnOk, IfErr, OnErr, IsErr, IfNone, OnSome, IsSome, Some, None, false, option_copied, position};
+ghost use Rattle.std.specs.List.{position_or_len};
 ghost use Rattle.std.specs.Option.{option_copied_mut};
 ghost use Rattle.std.specs.Borrow.{sem};
 ghost use Rattle.mcs_objects.specs.Store.{IsMap, Adds, next_id, is_full, shape, empty_shape, one_more, IsOneFewer, WritesAt, PlacesOthers, HasPlaces, value_at, place_at, removed};
@@ -50,21 +51,24 @@ impl<T> Model for Store<T> {
     ghost invariant = { λ s. IsSound s.room s.given s.rows.items (vec_capacity s.rows) s.values };
 }
 
-/// Where the row of a serial stands, among rows whose serials rise.
+/// Where the row of a serial stands, among rows whose serials rise; their number where none has it.
 #[inline(always)]
-fn row_of(rows: &[Row], serial: u32) -> Option<usize>
+fn position_of(rows: &[Row], serial: u32) -> usize
     requires { Rises 0 rows.now }
-    ensures { result ≡ position (is_of serial) rows.now }
+    ensures { result ≡ position_or_len (is_of serial) rows.now }
 {
     // it stands where its serial says, until an object that was made before it ends
-    let first = serial.saturating_sub(1) as usize;
+    let first = serial.wrapping_sub(1) as usize;
     if first < rows.len() && rows[first].serial == serial {
-        return Some(first);
+        return first;
     }
-    search_row(rows, serial)
+    match search_row(rows, serial) {
+        Some(at) => at,
+        None => rows.len(),
+    }
 }
 
-/// The same by search.
+/// The same by search, if it is there.
 #[inline(never)]
 fn search_row(rows: &[Row], serial: u32) -> Option<usize>
     requires { Rises 0 rows.now }
@@ -84,8 +88,12 @@ fn find(rows: &[Row], kind: Kind, id: ObjId) -> Option<Row>
     if !id.kind.is_same(kind) {
         return None;
     }
-    let at = row_of(rows, id.serial)?;
-    Some(rows[at])
+    let at = position_of(rows, id.serial);
+    if at < rows.len() {
+        Some(rows[at])
+    } else {
+        None
+    }
 }
 
 /// A slab with the same values under the same keys, and room for so many.
@@ -263,6 +271,15 @@ impl<T: Drop> Store<T> {
         self.values.get_mut(row.place as usize)
     }
 
+    /// The value for writing of an object that has this place (own).
+    pub fn get_mut_at(&mut self, id: ObjId, place: u16) -> Option<&mut T>
+        requires { place_at self.old id ≡ Some place }
+        ensures* writes_back { sem 𝓛 (lends_value T.row self.entry id result) }
+        ensures value { option_copied_mut result ≡ value_at self.old id }
+    {
+        self.values.get_mut(place as usize)
+    }
+
     /// Keeps another value for an object that is there (own).
     pub fn set(&mut self, id: ObjId, value: T)
         requires { IsSome (value_at self.old id) }
@@ -285,7 +302,7 @@ impl<T: Drop> Store<T> {
         if !id.kind.is_same(self.kind) {
             return None;
         }
-        let at = row_of(&self.rows, id.serial)?;
+        let at = search_row(&self.rows, id.serial)?;
         let row = self.rows.remove(at);
         Some(self.values.remove(row.place as usize))
     }

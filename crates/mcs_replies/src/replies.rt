@@ -80,17 +80,17 @@ fn keep_receiver(rows: &mut Store<ReplyRow>, reply: ObjId, receiver: Option<ObjI
     }
 }
 
-/// Keeps another caller of a reply object that is there.
+/// Keeps another caller of a reply object that has this place.
 #[inline(always)]
-fn keep_caller(rows: &mut Store<ReplyRow>, reply: ObjId, caller: Option<ObjId>)
-    requires { has_row rows.old reply ≡ true }
+fn keep_caller(rows: &mut Store<ReplyRow>, reply: ObjId, place: PlaceNo, caller: Option<ObjId>)
+    requires { place_at rows.old reply ≡ Some place.0 }
     ensures shape { shape rows.new ≡ shape rows.old }
     ensures there { (r : ObjId) → has_row rows.new r ≡ has_row rows.old r }
     ensures places { (r : ObjId) → place_at rows.new r ≡ place_at rows.old r }
     ensures receivers { (r : ObjId) → receiver_at rows.new r ≡ receiver_at rows.old r }
     ensures owed { ChangesAt (owed_at rows.old) (owed_at rows.new) reply caller }
 {
-    match rows.get_mut(reply) {
+    match rows.get_mut_at(reply, place.0) {
         None => unreachable!(),
         Some(row) => row.caller = caller,
     }
@@ -231,7 +231,7 @@ impl Replies {
         // A law for the proof: reply objects that owe have different places, so there is room for a debt.
         self.rows.are_apart();
         let place = place_of(&self.rows, reply);
-        keep_caller(&mut self.rows, reply, Some(caller));
+        keep_caller(&mut self.rows, reply, place, Some(caller));
         let Some(context) = brought else {
             return;
         };
@@ -297,7 +297,7 @@ impl Replies {
         let caller = self.owed(reply)?;
         self.rows.are_apart();
         let place = place_of(&self.rows, reply);
-        keep_caller(&mut self.rows, reply, None);
+        keep_caller(&mut self.rows, reply, place, None);
         let topped = links::leave(&mut self.links, &mut self.tops, place, how);
         Some(Ended { caller, topped })
     }

@@ -10,17 +10,17 @@ returns-clause-shape c = shape-written c.args.rows.now c.args.reply _
 
 pub returns-clause-there : goal.returns-clause-there
 returns-clause-there c = λ x.
-    let was : value_at c.args.rows.now c.args.reply ≡ Some c.in-Some.row.now = sym c.get_mut.ensures.value ∙ ap option_copied_mut c.in-Some.is in
+    let was : value_at c.args.rows.now c.args.reply ≡ Some c.in-Some.row.now = sym c.get_mut_at.ensures.value ∙ ap option_copied_mut c.in-Some.is in
     row_stays c.args.rows.now c.args.reply x _ (rw was refl)
 
 pub returns-clause-receivers : goal.returns-clause-receivers
 returns-clause-receivers c = λ x.
-    let was : value_at c.args.rows.now c.args.reply ≡ Some c.in-Some.row.now = sym c.get_mut.ensures.value ∙ ap option_copied_mut c.in-Some.is in
+    let was : value_at c.args.rows.now c.args.reply ≡ Some c.in-Some.row.now = sym c.get_mut_at.ensures.value ∙ ap option_copied_mut c.in-Some.is in
     field_stays (λ r. r.receiver) c.args.rows.now c.args.reply x c.in-Some.row.now _ was refl
 
 pub returns-clause-owed : goal.returns-clause-owed
 returns-clause-owed c = λ x.
-    let was : value_at c.args.rows.now c.args.reply ≡ Some c.in-Some.row.now = sym c.get_mut.ensures.value ∙ ap option_copied_mut c.in-Some.is in
+    let was : value_at c.args.rows.now c.args.reply ≡ Some c.in-Some.row.now = sym c.get_mut_at.ensures.value ∙ ap option_copied_mut c.in-Some.is in
     field_changes (λ r. r.caller) c.args.rows.now c.args.reply x _ (rw was refl)
 
 pub returns-clause-places : goal.returns-clause-places
