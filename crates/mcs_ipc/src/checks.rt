@@ -9,7 +9,7 @@ ghost use Rattle.mcs_ipc.specs.Rows.{sendable, callable};
 use mcs_notify::may_wait;
 use mcs_object_queues::Waiting;
 use mcs_slots::{by_fields, takes_badge};
-use mcs_state::{State, find_object, of_kind, with_read, with_write};
+use mcs_state::{State, find_object, object_at, of_kind, with_read, with_write};
 use mcs_types::{Cap, Kind, ObjId, Refusal};
 
 /// What a thread sends over: an endpoint or a notification, by this capability, or a reply object, which it pays.
@@ -164,7 +164,7 @@ fn reply_to_pay<W: Waiting>(
     ensures { result ≡ reply_to_pay (so_far state.now) thread cap reply }
 {
     with_read(Ok(cap))?;
-    find_object(state, thread, Kind::Reply, reply)
+    object_at(state, thread, Kind::Reply, reply)
 }
 
 /// The reply object that a thread pays, and what it then receives from.

@@ -43,7 +43,9 @@ pub fn with_read(found: Result<Cap, Refusal>) -> Result<Cap, Refusal>
 }
 
 /// The object of a kind that a thread that is there names by an address.
-pub fn find_object<W: Waiting>(
+// a part of its caller, so that the answer does not go through memory
+#[inline(always)]
+pub fn object_at<W: Waiting>(
     state: &State<W>,
     thread: ObjId,
     kind: Kind,
@@ -54,4 +56,17 @@ pub fn find_object<W: Waiting>(
 {
     let cap = of_kind(state.capability(thread, address), kind)?;
     Ok(cap.obj)
+}
+
+/// The same, out of line.
+pub fn find_object<W: Waiting>(
+    state: &State<W>,
+    thread: ObjId,
+    kind: Kind,
+    address: u64,
+) -> Result<ObjId, Refusal>
+    requires { IsThere (so_far state.now) Kind.Thread thread }
+    ensures { result ≡ object_named (so_far state.now) thread kind address }
+{
+    object_at(state, thread, kind, address)
 }

@@ -25,7 +25,7 @@ mod state;
 mod waking;
 
 pub use changing::{Change, change_awake};
-pub use checks::{find_object, of_kind, with_read, with_write};
+pub use checks::{find_object, object_at, of_kind, with_read, with_write};
 pub use mcs_replies::Chain;
 pub use mcs_threads::ThreadRow;
 pub use queued::Queued;
