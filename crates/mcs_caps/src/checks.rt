@@ -32,10 +32,10 @@ pub fn find_places<W: Waiting>(
     ensures placed { IfOk result (IsPlaced (so_far state.now)) }
 {
     state.is_sound();
-    let source = state.slot_named(thread, source)?.by_fields();
+    let source = state.slot_named(thread, source)?;
     // Read here, so that the processor need not wait for it when it has found the other slot.
     let held = state.slot(source);
-    let dest = state.slot_named(thread, dest)?.by_fields();
+    let dest = state.slot_named(thread, dest)?;
     let Some(cap) = held else {
         return Err(Refusal::SlotEmpty);
     };
@@ -44,8 +44,8 @@ pub fn find_places<W: Waiting>(
     }
     Ok(Placing {
         cap: by_fields(&cap),
-        source,
-        dest,
+        source: source.by_fields(),
+        dest: dest.by_fields(),
     })
 }
 

@@ -40,11 +40,11 @@ fn find_deletable<W: Waiting>(
     ensures slot { IfOk result (IsSlot (so_far state.now)) }
 {
     state.is_sound();
-    let at = state.slot_named(thread, place)?.by_fields();
+    let at = state.slot_named(thread, place)?;
     if is_last_cnode(state, state.slot(at)) {
         return Err(Refusal::LastCNode);
     }
-    Ok(at)
+    Ok(at.by_fields())
 }
 
 /// Destroys an object that is there, where no slot names it any more; this is never asked of a CNode that no slot names.

@@ -49,14 +49,14 @@ fn find_vacant<W: Waiting>(
     ensures slot { IfOk result (IsSlot (so_far state.now)) }
 {
     state.is_sound();
-    let at = state.slot_named(thread, place)?.by_fields();
+    let at = state.slot_named(thread, place)?;
     if state.slot(at).is_some() {
         return Err(Refusal::SlotFull);
     }
     if !state.has_room(kind) {
         return Err(Refusal::NoRoom);
     }
-    Ok(at)
+    Ok(at.by_fields())
 }
 
 /// Makes an object of a kind; a context is of this core.

@@ -42,15 +42,15 @@ returns-clause-places g c =
     let from = looked R c.args.thread c.args.source _ _ c.slot_named.ensures c.in_ok-source.was in
     let to = looked R c.args.thread c.args.dest _ _ c.slot_named-2.ensures c.in_ok-dest.was in
     let all = source-holds R c.args.thread c.args.source c.args.dest c.in_ok-source.source c.in_ok-dest.dest c.in-Some.cap c.slot.result from to (sym c.slot-held.ensures ∙ c.in-Some.is) c.slot.ensures in
-    rw (sym c.is_some.ensures ∙ c.if-is_some.false) at all
+    rw (c.by_fields.ensures, c.by_fields-2.ensures, c.by_fields-3.ensures) (rw (sym c.is_some.ensures ∙ c.if-is_some.false) at all)
 
 pub returns-clause-placed : goal.returns-clause-placed
 returns-clause-placed g c =
     let R : Log = so_far c.args.state.now in
     let from = looked R c.args.thread c.args.source _ _ c.slot_named.ensures c.in_ok-source.was in
     let to = looked R c.args.thread c.args.dest _ _ c.slot_named-2.ensures c.in_ok-dest.was in
-    record {
+    rw (c.by_fields.ensures, c.by_fields-2.ensures, c.by_fields-3.ensures) (record {
       source = named-slot R c.args.thread c.args.source c.in_ok-source.source c.is_sound.ensures.sound c.requires from;
       dest = named-slot R c.args.thread c.args.dest c.in_ok-dest.dest c.is_sound.ensures.sound c.requires to;
       held = sym c.slot-held.ensures ∙ c.in-Some.is;
-    }
+    })
