@@ -11,6 +11,7 @@ use Rattle.mcs_packing.specs.Packing.{records_of}
 use Rattle.mcs_packing.specs.Heads.{Entered, all_entered}
 use Rattle.mcs_book.specs.Logs.{Log}
 use Rattle.mcs_book.specs.History.{Line, Book}
+use Rattle.mcs_book.specs.declared.book.TheConstants.{MOST_WORDS}
 
 -- a book, the records of the line that is open (the newest first), how many more lines its boot has room for, and the room
 -- that is left in the open line: room 0 has no room, and room n + 1 has room for n more records and the head of the line
@@ -20,14 +21,14 @@ pub record Written : Type 0 where
   pub boot_room : ℕ
   pub room : ℕ
 
--- the lists have room for so many records, of six words each, and for as many heads, at places that can be named
+-- the lists have room for so many records, of MOST_WORDS words each, and for as many heads, at places that can be named
 pub record HasSpace {Z : Type 0} (hs : Vec Head Z) (ps : Vec Packed Z) (a : Arena) (n : ℕ) : Type 0 where
   pub heads : vec_len hs + n ≤ vec_capacity hs
   pub packed : vec_len ps + n ≤ vec_capacity ps
-  pub words : vec_len a.words + 6 * n ≤ vec_capacity a.words
+  pub words : vec_len a.words + MOST_WORDS * n ≤ vec_capacity a.words
   pub wide : vec_len a.wide + n ≤ vec_capacity a.wide
   pub named : vec_len ps + n < 2 ^ 32
-  pub named_words : vec_len a.words + 6 * n ≤ 3 * 2 ^ 30
+  pub named_words : vec_len a.words + MOST_WORDS * n ≤ 3 * 2 ^ 30
   pub named_wide : vec_len a.wide + n ≤ 2 ^ 32
 
 -- the lines that the entries cut from the records that begin at a position, the oldest first

@@ -2,6 +2,7 @@
 use Rattle.std.specs.Prelude.{Option, Some, None, Ok, Err}
 use Rattle.mcs_types.specs.Views.{Content}
 use Rattle.mcs_types.specs.declared.id.ObjId.{ObjId}
+use Rattle.mcs_types.specs.declared.id.Badge.{Badge}
 use Rattle.mcs_types.specs.declared.id.Kind.{Kind}
 use Rattle.mcs_types.specs.declared.id.Kind.TheVariants.{Endpoint, Notification, Reply}
 use Rattle.mcs_types.specs.declared.cap.Cap.{Cap}
@@ -21,9 +22,13 @@ use Rattle.mcs_book.specs.Pieces.{Piece, ◌then◌, say, Act, answers}
 use Rattle.mcs_book.specs.Taking.{handed, pay}
 use Rattle.mcs_book.specs.Signalling.{signal}
 
--- a message of t over a capability to an endpoint, as the next of the log
+-- a message of t to the endpoint e with a badge, as the next of the log
+abbrev pub letter_to : ObjId → ObjId → Badge → SendMode → Content → Log → Letter
+letter_to t e badge mode message R = record { number = next_message R; sender = t; endpoint = e; mode = mode; badge = badge; message = message }
+
+-- the same over a capability to an endpoint
 abbrev pub letter_over : ObjId → Cap → SendMode → Content → Log → Letter
-letter_over t cap mode message R = record { number = next_message R; sender = t; endpoint = cap.obj; mode = mode; badge = cap.badge; message = message }
+letter_over t cap mode message R = letter_to t cap.obj cap.badge mode message R
 
 -- a message is accepted
 abbrev pub sent : Letter → Piece

@@ -25,7 +25,7 @@ use Rattle.mcs_book.specs.Fair.{IsOpenOf}
 use Rattle.mcs_book.specs.Messages.{next_message}
 use Rattle.mcs_book.specs.Pieces.{◌then◌, nothing, say, with_any, answers}
 use Rattle.mcs_book.specs.Queues.{queue_of, first_in, reply_with}
-use Rattle.mcs_book.specs.Sending.{sent, sends_to, sends}
+use Rattle.mcs_book.specs.Sending.{letter_to, sent, sends_to, sends}
 use Rattle.mcs_book.specs.Signalling.{signal, spare_at}
 use Rattle.mcs_book.specs.Sound.{Sound, IsThere}
 use Rattle.mcs_book.specs.Taking.{back_to, give_back, give, settle, handed}
@@ -46,7 +46,7 @@ use Rattle.mcs_ipc.specs.declared.checks.Source.TheVariants as source
 use Rattle.mcs_ipc.specs.declared.checks.Target.{Target}
 use Rattle.mcs_ipc.specs.declared.checks.Target.TheVariants as target
 use Rattle.mcs_ipc.specs.Ready.{IsWaiting, IsReceivingFrom}
-use Rattle.mcs_ipc.specs.Rows.{letter_to, send_act, pay_act, target_act}
+use Rattle.mcs_ipc.specs.Rows.{send_act, pay_act, target_act}
 use Rattle.mcs_ipc.specs.Sources.{exchange_found}
 use Rattle.mcs_ipc.proofs.Paying.{paid-receives}
 

@@ -8,7 +8,6 @@ use Rattle.mcs_types.specs.declared.id.Kind.TheVariants as kind
 use Rattle.mcs_types.specs.declared.cap.Cap.{Cap}
 use Rattle.mcs_types.specs.declared.record.SendMode.{SendMode}
 use Rattle.mcs_types.specs.declared.record.SendMode.TheVariants as how
-use Rattle.mcs_types.specs.declared.record.Letter.{Letter}
 use Rattle.mcs_types.specs.declared.entry.Answer.{Answer}
 use Rattle.mcs_types.specs.declared.entry.Entry.{Entry}
 use Rattle.mcs_types.specs.declared.entry.Entry.TheVariants.{Send, NbSend, Recv, NbRecv, Wait, NbWait, NbSendRecv, NbSendWait}
@@ -24,10 +23,9 @@ use Rattle.mcs_types.specs.declared.record.Rec.TheVariants.{Took, Parts, Turns}
 use Rattle.mcs_book.specs.Pieces.{Piece, Act, ◌then◌, say, nothing, answers, silently, before}
 use Rattle.mcs_book.specs.Contexts.{context_of}
 use Rattle.mcs_book.specs.Notifications.{bound_of}
-use Rattle.mcs_book.specs.Messages.{next_message}
 use Rattle.mcs_book.specs.Queues.{first_in}
 use Rattle.mcs_book.specs.Taking.{settle, pay}
-use Rattle.mcs_book.specs.Sending.{sends, queues}
+use Rattle.mcs_book.specs.Sending.{letter_to, sends, queues}
 use Rattle.mcs_book.specs.Receiving.{receive_on, take_open, open_of_any, stand, joins_or, wait_on}
 use Rattle.mcs_notify.specs.Rows.{signal_act}
 use Rattle.mcs_state.specs.Checks.{kinded, writable}
@@ -87,10 +85,6 @@ said false = Done
 abbrev pub send_answer : Checked Bool → Answer
 send_answer (Ok waits) = said waits
 send_answer (Err why) = Refused why
-
--- a message of t to the endpoint e with a badge, as the next of the log
-abbrev pub letter_to : ObjId → ObjId → Badge → SendMode → Content → Log → Letter
-letter_to t e badge mode message R = record { number = next_message R; sender = t; endpoint = e; mode = mode; badge = badge; message = message }
 
 -- what t does where nobody receives: it waits in the queue, or the message is dropped
 abbrev pub alone_act : Bool → SendMode → ObjId → ObjId → Badge → Content → Act
