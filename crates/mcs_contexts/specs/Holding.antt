@@ -84,6 +84,19 @@ SetsHome old new s home = ChangesAt (home_in old) (home_in new) s home
 abbrev pub FreesHolder : Holding → Holding → ObjId → Type 0
 FreesHolder old new s = (x : ObjId) → context_in new x ≡ context_but old s x
 
+-- what a thread x holds, after this is held by a thread, if one is named
+abbrev pub held_after : ObjId → Option ObjId → Option ObjId → Option ObjId → Option ObjId
+held_after x None context o = o
+held_after x (Some t) context o = value_after x t context o
+
+-- what a thread x holds, after s went from who held it to a thread, or to nobody
+abbrev pub given_context : Holding → ObjId → Option ObjId → ObjId → Option ObjId
+given_context v s t x = held_after x t (Some s) (held_after x (holder_in v s) None (context_in v x))
+
+-- the contexts of threads after that
+abbrev pub GivesTo : Holding → Holding → ObjId → Option ObjId → Type 0
+GivesTo old new s t = (x : ObjId) → context_in new x ≡ given_context old s t x
+
 -- the holders after the context of one thread went to another
 abbrev pub LendsHolders : Holding → Holding → ObjId → ObjId → Type 0
 LendsHolders old new from to = (x : ObjId) → holder_in new x ≡ lent_holder old from to x

@@ -1,11 +1,11 @@
 //! The scheduling contexts and their holders.
-ghost use Rattle.std.specs.Prelude.{◌≡◌, IfOk, OnOk, OnErr, IsSome, false, Some, None};
+ghost use Rattle.std.specs.Prelude.{◌≡◌, IfOk, IfSome, OnOk, OnErr, IsSome, false, Some, None};
 ghost use Rattle.std.specs.Bool.{OnTrue, OnFalse};
 ghost use Rattle.mcs_types.specs.declared.id.ObjId.{ObjId};
-ghost use Rattle.mcs_types.specs.Ids.{IsThread, ChangesAt, value_after};
+ghost use Rattle.mcs_types.specs.Ids.{IsThread, ChangesAt};
 ghost use Rattle.mcs_types.specs.declared.id.Kind.{Kind};
 ghost use Rattle.mcs_objects.specs.Store.{shape, empty_shape, one_more, is_full, IsOneFewer};
-ghost use Rattle.mcs_contexts.specs.Holding.{counts, no_room, next_context, core_at, holder_at, home_at, core_in, holder_in, home_in, context_in, is_holder, bound, unbound, homed, unhomed, may_lend, may_wake, SetsHolder, SetsContext, SetsHome, FreesHolder, LendsHolders, LendsContexts, HoldersDiffer, IsOneToOne};
+ghost use Rattle.mcs_contexts.specs.Holding.{counts, no_room, next_context, core_at, holder_at, home_at, core_in, holder_in, home_in, context_in, is_holder, bound, unbound, homed, unhomed, may_lend, may_wake, SetsHolder, SetsContext, SetsHome, FreesHolder, GivesTo, LendsHolders, LendsContexts, HoldersDiffer, IsOneToOne};
 
 use mcs_objects::{Store, keep, kept_at};
 use mcs_types::{CoreId, Kind, ObjId, OutOfMemory, Refusal, copy_rows};
@@ -46,10 +46,15 @@ impl Model for Contexts {
     ghost invariant = { λ s. IsHolding (record { rows = s.rows; held = s.held.items }) };
 }
 
-/// Keeps another holder of a context that is there.
+/// Keeps another holder of a context that is there, and answers the one before.
 #[inline(always)]
-fn set_holder(rows: &mut Store<ContextRow>, context: ObjId, holder: Option<ObjId>)
+fn replace_holder(
+    rows: &mut Store<ContextRow>,
+    context: ObjId,
+    holder: Option<ObjId>,
+) -> Option<ObjId>
     requires { IsSome (core_at rows.old context) }
+    ensures before { result ≡ holder_at rows.old context }
     ensures shape { shape rows.new ≡ shape rows.old }
     ensures cores { (x : ObjId) → core_at rows.new x ≡ core_at rows.old x }
     ensures holders { ChangesAt (holder_at rows.old) (holder_at rows.new) context holder }
@@ -57,7 +62,11 @@ fn set_holder(rows: &mut Store<ContextRow>, context: ObjId, holder: Option<ObjId
 {
     match rows.get_mut(context) {
         None => unreachable!(),
-        Some(row) => row.holder = holder,
+        Some(row) => {
+            let before = row.holder;
+            row.holder = holder;
+            before
+        }
     }
 }
 
@@ -206,50 +215,28 @@ impl Contexts {
         let _ = &self.held;
     }
 
-    /// Gives a context that nobody holds to a thread that holds none.
-    fn attach(&mut self, context: ObjId, thread: ObjId)
+    /// A context that was made is held by this thread from now on, which holds none, or by nobody (manual: Threads and Execution).
+    // a part of its callers, which know whether a thread is named
+    #[inline(always)]
+    pub fn give(&mut self, context: ObjId, thread: Option<ObjId>)
         requires made { IsSome (core_in self.old context) }
-        requires thread { IsThread thread }
-        requires free { holder_in self.old context ≡ None }
-        requires idle { context_in self.old thread ≡ None }
-        ensures holders { SetsHolder self.old self.new context (Some thread) }
-        ensures contexts { SetsContext self.old self.new thread (Some context) }
+        requires thread { IfSome thread IsThread }
+        requires idle { IfSome thread (λ t. context_in self.old t ≡ None) }
+        ensures holders { SetsHolder self.old self.new context thread }
+        ensures contexts { GivesTo self.old self.new context thread }
         ensures counts { counts self.new ≡ counts self.old }
         ensures cores { (x : ObjId) → core_in self.new x ≡ core_in self.old x }
         ensures homes { (x : ObjId) → home_in self.new x ≡ home_in self.old x }
     {
-        set_holder(&mut self.rows, context, Some(thread));
-        keep(Kind::Thread, &mut self.held, thread, Some(context));
-    }
-
-    /// Takes a context from the thread that holds it.
-    fn release(&mut self, context: ObjId, thread: ObjId)
-        requires { holder_in self.old context ≡ Some thread }
-        ensures holders { SetsHolder self.old self.new context None }
-        ensures contexts { SetsContext self.old self.new thread None }
-        ensures counts { counts self.new ≡ counts self.old }
-        ensures cores { (x : ObjId) → core_in self.new x ≡ core_in self.old x }
-        ensures homes { (x : ObjId) → home_in self.new x ≡ home_in self.old x }
-    {
-        set_holder(&mut self.rows, context, None);
-        keep(Kind::Thread, &mut self.held, thread, None);
-    }
-
-    /// Gives the context of one thread to another, which holds none.
-    fn hand_on(&mut self, context: ObjId, from: ObjId, to: ObjId)
-        requires held { holder_in self.old context ≡ Some from }
-        requires thread { IsThread to }
-        requires idle { context_in self.old to ≡ None }
-        ensures holders { SetsHolder self.old self.new context (Some to) }
-        ensures contexts { (x : ObjId) → context_in self.new x
-            ≡ value_after x to (Some context) (value_after x from None (context_in self.old x)) }
-        ensures counts { counts self.new ≡ counts self.old }
-        ensures cores { (x : ObjId) → core_in self.new x ≡ core_in self.old x }
-        ensures homes { (x : ObjId) → home_in self.new x ≡ home_in self.old x }
-    {
-        set_holder(&mut self.rows, context, Some(to));
-        keep(Kind::Thread, &mut self.held, from, None);
-        keep(Kind::Thread, &mut self.held, to, Some(context));
+        match (replace_holder(&mut self.rows, context, thread), thread) {
+            (None, None) => {}
+            (None, Some(to)) => keep(Kind::Thread, &mut self.held, to, Some(context)),
+            (Some(from), None) => keep(Kind::Thread, &mut self.held, from, None),
+            (Some(from), Some(to)) => {
+                keep(Kind::Thread, &mut self.held, from, None);
+                keep(Kind::Thread, &mut self.held, to, Some(context));
+            }
+        }
     }
 
     /// Gives a context to a thread. Refused, in this order, where the context was not made or was closed (Missing; own), where
@@ -276,7 +263,7 @@ impl Contexts {
         {
             return Err(Refusal::AlreadyBound);
         }
-        self.attach(context, thread);
+        self.give(context, Some(thread));
         Ok(())
     }
 
@@ -298,7 +285,7 @@ impl Contexts {
         {
             return false;
         }
-        self.attach(context, thread);
+        self.give(context, Some(thread));
         true
     }
 
@@ -314,9 +301,9 @@ impl Contexts {
     {
         match self.holder(context) {
             None => Err(Refusal::NotBound),
-            Some(thread) => {
+            Some(_) => {
                 self.is_one_to_one();
-                self.release(context, thread);
+                self.give(context, None);
                 Ok(())
             }
         }
@@ -378,7 +365,7 @@ impl Contexts {
         match self.of(from) {
             Some(context) if is_holder(to) && self.of(to).is_none() => {
                 self.is_one_to_one();
-                self.hand_on(context, from, to);
+                self.give(context, Some(to));
                 true
             }
             _ => false,

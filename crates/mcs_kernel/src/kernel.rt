@@ -1,5 +1,6 @@
 //! The kernel.
 ghost use Rattle.std.specs.Prelude.{◌≡◌, ◌<◌, [], IfOk, OnOk, OnErr, IfSome, IfNone, length, Err, None};
+ghost use Rattle.mcs_types.specs.declared.entry.Answer.TheVariants.{Done};
 ghost use Rattle.mcs_types.specs.Brings.{message_of};
 ghost use Rattle.mcs_types.specs.Messages.{IsSpare};
 ghost use Rattle.mcs_book.specs.History.{IsLegal, log_of};
@@ -52,26 +53,30 @@ impl<L: Lines> Model for Kernel<L> {
     ghost invariant = { λ k. IsResting k.state };
 }
 
-/// What an entry is answered that is done or refused.
-#[inline]
-fn plain_answer(ended: Result<(), Refusal>) -> Answer
-    ensures { result ≡ plain_answer ended }
+// An answer is Done before its entry, so that an entry which is done writes none.
+
+/// Answers an entry that is done or refused.
+#[inline(always)]
+fn answer_plain(answer: &mut Answer, ended: Result<(), Refusal>)
+    requires { answer.old ≡ Done }
+    ensures { answer.new ≡ plain_answer ended }
 {
     match ended {
-        Ok(()) => Answer::Done,
-        Err(refusal) => Answer::Refused(refusal),
+        Ok(()) => {}
+        Err(refusal) => *answer = Answer::Refused(refusal),
     }
 }
 
-/// What a send is answered: whether its thread waits, or the refusal.
+/// Answers a send: whether its thread waits, or the refusal.
 #[inline(always)]
-fn send_answer(waits: Result<bool, Refusal>) -> Answer
-    ensures { result ≡ send_answer waits }
+fn answer_send(answer: &mut Answer, waits: Result<bool, Refusal>)
+    requires { answer.old ≡ Done }
+    ensures { answer.new ≡ send_answer waits }
 {
     match waits {
-        Ok(true) => Answer::Waits,
-        Ok(false) => Answer::Done,
-        Err(refusal) => Answer::Refused(refusal),
+        Ok(true) => *answer = Answer::Waits,
+        Ok(false) => {}
+        Err(refusal) => *answer = Answer::Refused(refusal),
     }
 }
 
@@ -87,17 +92,19 @@ fn do_send<W: Waiting>(
     message: &Message,
     long: Option<Box<Copied>>,
     blocks: bool,
-) -> Answer
+    answer: &mut Answer,
+)
     requires copies { IsSpare long message.now }
     requires entering { IsEntering (so_far state.old) thread }
     requires stand { OpenStand (so_far state.old) }
     requires waiting { OnlyBoundWait (so_far state.old) }
     requires few { length state.old.book.lines < BOOK_LINES }
     requires room { Fits state.old core thread (send_entry blocks cap message.now) }
-    ensures { Does state.old core thread (send_entry blocks cap message.now) result state.new }
+    requires done { answer.old ≡ Done }
+    ensures { Does state.old core thread (send_entry blocks cap message.now) answer.new state.new }
 {
     let copies = Copies { message, long };
-    send_answer(send(state, core, thread, cap, copies, blocks))
+    answer_send(answer, send(state, core, thread, cap, copies, blocks))
 }
 
 /// Call, likewise.
@@ -109,16 +116,18 @@ fn do_call<W: Waiting>(
     cap: u64,
     message: &Message,
     long: Option<Box<Copied>>,
-) -> Answer
+    answer: &mut Answer,
+)
     requires copies { IsSpare long message.now }
     requires entering { IsEntering (so_far state.old) thread }
     requires stand { OpenStand (so_far state.old) }
     requires few { length state.old.book.lines < BOOK_LINES }
     requires room { Fits state.old core thread (Entry.Call cap message.now) }
-    ensures { Does state.old core thread (Entry.Call cap message.now) result state.new }
+    requires done { answer.old ≡ Done }
+    ensures { Does state.old core thread (Entry.Call cap message.now) answer.new state.new }
 {
     let copies = Copies { message, long };
-    send_answer(call(state, core, thread, cap, copies))
+    answer_send(answer, call(state, core, thread, cap, copies))
 }
 
 /// ReplyRecv, likewise.
@@ -188,18 +197,17 @@ fn operate<W: Waiting>(
     requires serials { HasSerials (so_far state.old) }
     requires few { length state.old.book.lines < BOOK_LINES }
     requires room { Fits state.old core thread entry.now }
+    requires done { answer.old ≡ Done }
     ensures { Does state.old core thread entry.now answer.new state.new }
 {
     match entry {
-        Entry::Send { cap, message } => {
-            *answer = do_send(state, core, thread, *cap, message, long, true)
-        }
-        Entry::NbSend { cap, message } => {
-            *answer = do_send(state, core, thread, *cap, message, long, false)
-        }
-        Entry::Call { cap, message } => {
-            *answer = do_call(state, core, thread, *cap, message, long)
-        }
+        Entry::Send { cap, message } => do_send(
+            state, core, thread, *cap, message, long, true, answer,
+        ),
+        Entry::NbSend { cap, message } => do_send(
+            state, core, thread, *cap, message, long, false, answer,
+        ),
+        Entry::Call { cap, message } => do_call(state, core, thread, *cap, message, long, answer),
         Entry::Recv { cap, reply } => receive(
             state,
             core,
@@ -248,76 +256,76 @@ fn operate<W: Waiting>(
         } => do_exchange(
             state, core, thread, *cap, *source, None, message, long, answer,
         ),
-        Entry::Signal { cap } => *answer = plain_answer(signal_at(state, core, thread, *cap)),
+        Entry::Signal { cap } => answer_plain(answer, signal_at(state, core, thread, *cap)),
         Entry::SetPriority {
             thread: holder,
             authority,
             priority,
-        } => *answer = plain_answer(set_priority(
+        } => answer_plain(answer, set_priority(
             state, core, thread, *holder, *authority, *priority,
         )),
-        Entry::Suspend { thread: other } => *answer = plain_answer(suspend(
+        Entry::Suspend { thread: other } => answer_plain(answer, suspend(
             state, core, thread, *other,
         )),
-        Entry::Resume { thread: other } => *answer = plain_answer(resume(
+        Entry::Resume { thread: other } => answer_plain(answer, resume(
             state, core, thread, *other,
         )),
         Entry::BindNtfn {
             thread: holder,
             notification,
-        } => *answer = plain_answer(bind(state, core, thread, *holder, *notification)),
-        Entry::UnbindNtfn { thread: holder } => *answer = plain_answer(unbind(
+        } => answer_plain(answer, bind(state, core, thread, *holder, *notification)),
+        Entry::UnbindNtfn { thread: holder } => answer_plain(answer, unbind(
             state, core, thread, *holder,
         )),
         Entry::BindCtx {
             context,
             thread: holder,
-        } => *answer = plain_answer(bind_context(state, core, thread, *context, *holder)),
-        Entry::UnbindCtx { context } => *answer = plain_answer(unbind_context(
+        } => answer_plain(answer, bind_context(state, core, thread, *context, *holder)),
+        Entry::UnbindCtx { context } => answer_plain(answer, unbind_context(
             state, core, thread, *context,
         )),
-        Entry::CancelBadged { endpoint } => *answer = plain_answer(cancel_badged(
+        Entry::CancelBadged { endpoint } => answer_plain(answer, cancel_badged(
             state, core, thread, *endpoint,
         )),
         Entry::CopyCap {
             source,
             dest,
             rights,
-        } => *answer = plain_answer(copy_cap(state, core, thread, *source, *dest, *rights)),
+        } => answer_plain(answer, copy_cap(state, core, thread, *source, *dest, *rights)),
         Entry::MintCap {
             source,
             dest,
             rights,
             badge,
-        } => *answer = plain_answer(mint_cap(state, core, thread, *source, *dest, *rights, *badge)),
-        Entry::MoveCap { source, dest } => *answer = plain_answer(move_cap(
+        } => answer_plain(answer, mint_cap(state, core, thread, *source, *dest, *rights, *badge)),
+        Entry::MoveCap { source, dest } => answer_plain(answer, move_cap(
             state, core, thread, *source, *dest,
         )),
-        Entry::DeleteCap { place } => *answer = plain_answer(delete_cap(
+        Entry::DeleteCap { place } => answer_plain(answer, delete_cap(
             state, core, thread, *place,
         )),
-        Entry::MakeEndpoint { place } => *answer = plain_answer(make(
+        Entry::MakeEndpoint { place } => answer_plain(answer, make(
             state,
             core,
             thread,
             Kind::Endpoint,
             *place,
         )),
-        Entry::MakeNotification { place } => *answer = plain_answer(make(
+        Entry::MakeNotification { place } => answer_plain(answer, make(
             state,
             core,
             thread,
             Kind::Notification,
             *place,
         )),
-        Entry::MakeReply { place } => *answer = plain_answer(make(
+        Entry::MakeReply { place } => answer_plain(answer, make(
             state,
             core,
             thread,
             Kind::Reply,
             *place,
         )),
-        Entry::MakeContext { place } => *answer = plain_answer(make(
+        Entry::MakeContext { place } => answer_plain(answer, make(
             state,
             core,
             thread,

@@ -1,5 +1,5 @@
 -- Debts of reply objects: who is owed after one begins or ends, and which chain a reply object tops.
-use Rattle.std.specs.Prelude.{◌≡◌, true, false, ◌∷◌, Option, Some, None, option_map, option_and_then, unwrap_or}
+use Rattle.std.specs.Prelude.{◌≡◌, true, false, ◌∷◌, Option, Some, None, IsSome, option_map, option_and_then, unwrap_or}
 use Rattle.std.specs.Option.{IfSome}
 use Rattle.std.proofs.Common.{refl, ap, sym, ◌∙◌, inl, inr}
 use Rattle.mcs_types.specs.declared.id.ObjId.{ObjId}
@@ -105,6 +105,11 @@ pub ended-topped : (R : Log) (v : Owing) (r x : ObjId) (o : Option Ended) → So
     → IfSome o (λ (e : Ended). NamesTopped v r e.topped) → option_and_then (λ (e : Ended). e.topped) o ≡ topped_by R r
 ended-topped R v r x None sound a owed caller names = let no : None ≡ Some x = caller ∙ a.owed r ∙ owed in absurd cc
 ended-topped R v r x (Some e) sound a owed caller names = topped-is R v r e.topped sound a names
+
+-- where a debt was there, the table tells that it ended
+pub ended-there : (R : Log) (v : Owing) (r x : ObjId) (o : Option Ended) → RepliesAgree v R → owed_by R r ≡ Some x → option_map (λ (e : Ended). e.caller) o ≡ owed_in v r → IsSome o
+ended-there R v r x None a owed caller = let no : None ≡ Some x = caller ∙ a.owed r ∙ owed in absurd cc
+ended-there R v r x (Some e) a owed caller = refl
 
 -- the top of a chain in the table is that of the chain
 pub top-is : (R : Log) (v : Owing) (s : ObjId) (top : Option ObjId) → Sound R → RepliesAgree v R → top ≡ head_of (chain_in v s) → top ≡ head_of (chain_of R s)

@@ -35,6 +35,7 @@ pub enum Change {
 }
 
 /// Changes one thing.
+#[inline(always)]
 fn make_change<W: Waiting>(state: &mut State<W>, change: Change)
     requires allowed { Allowed (so_far state.old) (record_of change) }
     requires room { length state.old.hand + 1 < state.old.room }
@@ -55,6 +56,8 @@ fn make_change<W: Waiting>(state: &mut State<W>, change: Change)
 }
 
 /// Wakes the thread that enters, and changes one thing, which may be changed (own).
+// a part of its callers, which know what changes
+#[inline(always)]
 pub fn change_awake<W: Waiting>(state: &mut State<W>, thread: ObjId, change: Change)
     requires entering { IsEntering (so_far state.old) thread }
     requires allowed { Allowed (so_far state.old) (record_of change) }

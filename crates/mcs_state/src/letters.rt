@@ -183,12 +183,12 @@ impl Letters {
     }
 }
 
-/// A letter becomes the mail of its receiver, where that is a thread that is there. The answer is an equal message.
+/// A letter becomes the mail of its receiver, a thread that is there. The answer is an equal message.
 // a part of its caller, so that the letter is moved once less
 #[inline(always)]
 pub fn deliver(threads: &mut Threads, receiver: ObjId, letter: OpenLetter) -> Message
-    ensures mails { IsSome (row_of threads.old receiver)
-        → SetsMail threads.old threads.new receiver (Some (letter_mail letter)) }
+    requires { IsSome (row_of threads.old receiver) }
+    ensures mails { SetsMail threads.old threads.new receiver (Some (letter_mail letter)) }
     ensures rows { SameRows threads.old threads.new }
     ensures made { made threads.new ≡ made threads.old }
     ensures answer { result ≡ letter.message }
@@ -199,6 +199,6 @@ pub fn deliver(threads: &mut Threads, receiver: ObjId, letter: OpenLetter) -> Me
         badge: letter.badge,
         message: letter.message,
     };
-    threads.set_mail(receiver, mail);
+    threads.set_mail(receiver, mail).unwrap();
     answer
 }

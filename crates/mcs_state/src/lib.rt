@@ -11,13 +11,13 @@
 //! A primitive adds exactly its record (`hands` its two), and asks for no more than that it is allowed; a query answers what
 //! the definition says of all records so far. That the tables say of each id what the records say is the invariant of `State`,
 //! so what stands above names no table. `state` has the primitives and the queries, by what they change or answer; `changing`,
-//! `giving`, `returning` and `waking` are steps that operations share; `letters` and `queued` are the open messages and the
+//! `attending`, `returning` and `waking` are steps that operations share; `letters` and `queued` are the open messages and the
 //! threads of a queue.
 #![tactic(auto)]
 
 mod changing;
 mod checks;
-mod giving;
+mod attending;
 mod letters;
 mod queued;
 mod returning;

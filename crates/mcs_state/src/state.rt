@@ -18,7 +18,7 @@ mod picking;
 mod queries;
 mod replying;
 
-use crate::giving::{attend, attended, give};
+use crate::attending::{attend, attended};
 use crate::letters::{Letters, OpenLetter, deliver};
 use mcs_book::Book;
 use mcs_contexts::Contexts;
@@ -262,7 +262,7 @@ impl<W: Waiting> State<W> {
         ensures { self.new ≡ adds (Rec.Prio thread priority) self.old }
     {
         self.book.note(Rec::Prio { thread, priority });
-        self.threads.set_prio(thread, priority);
+        self.threads.set_prio(thread, priority).unwrap();
         self.queues.shift(thread, priority);
     }
 
@@ -273,7 +273,7 @@ impl<W: Waiting> State<W> {
         ensures { self.new ≡ adds (Rec.Turns thread mode) self.old }
     {
         self.book.note(Rec::Turns { thread, mode });
-        self.threads.set_mode(thread, mode);
+        self.threads.set_mode(thread, mode).unwrap();
     }
 
     /// A thread joins a queue; a receiver names its reply object.
@@ -291,7 +291,7 @@ impl<W: Waiting> State<W> {
             queue,
             reply,
         });
-        self.threads.block(thread, Block::Queued { queue, reply });
+        self.threads.block(thread, Block::Queued { queue, reply }).unwrap();
         self.queues.join(thread, queue, priority);
         attend(&mut self.replies, attended(queue, reply), Some(thread));
     }
@@ -305,7 +305,7 @@ impl<W: Waiting> State<W> {
     {
         let reply = self.reply_with(thread, queue);
         self.book.note(Rec::Parts { thread, queue });
-        self.threads.unblock(thread);
+        self.threads.unblock(thread).unwrap();
         self.queues.part(thread);
         attend(&mut self.replies, reply, None);
     }
@@ -392,7 +392,8 @@ impl<W: Waiting> State<W> {
         ensures { self.new ≡ adds (Rec.Holds context thread) self.old }
     {
         self.threads.are_few();
-        give(&mut self.contexts, context, thread);
+        self.contexts.is_one_to_one();
+        self.contexts.give(context, thread);
         self.book.note(Rec::Holds { context, thread });
     }
 }

@@ -51,6 +51,6 @@ impl<W: Waiting> State<W> {
             badge,
             message: mail,
         };
-        self.threads.set_mail(receiver, mail);
+        self.threads.set_mail(receiver, mail).unwrap();
     }
 }

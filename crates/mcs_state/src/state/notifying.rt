@@ -95,7 +95,7 @@ impl<W: Waiting> State<W> {
             notification,
             word,
         });
-        self.threads.set_mail(thread, Mail::Word { word });
+        self.threads.set_mail(thread, Mail::Word { word }).unwrap();
         self.notifications.hear(notification);
     }
 

@@ -23,7 +23,7 @@ ghost use Rattle.mcs_state.specs.Following.{attended};
 ghost use Rattle.mcs_state.specs.Nexts.{next_of};
 
 use super::State;
-use crate::giving::attended;
+use crate::attending::attended;
 use mcs_cspace::{lookup, lookup_slot, radix_in};
 use mcs_object_queues::Waiting;
 use mcs_slots::SlotId;
@@ -97,10 +97,10 @@ impl<W: Waiting> State<W> {
         ensures { result ≡ attended queue (reply_with (so_far self.now) thread) }
     {
         match self.threads.get(thread) {
-            None => None,
+            None => unreachable!(),
             Some(row) => match row.block {
-                Some(Block::Queued { queue, reply }) => attended(queue, reply),
-                _ => None,
+                Some(Block::Queued { queue: _, reply }) => attended(queue, reply),
+                _ => unreachable!(),
             },
         }
     }
@@ -230,7 +230,7 @@ impl<W: Waiting> State<W> {
     {
         match self.contexts.core(context) {
             Some(own) => own.0 == core.0,
-            None => false,
+            None => unreachable!(),
         }
     }
 

@@ -21,15 +21,17 @@ fn owe(replies: &mut Replies, reply: ObjId, caller: ObjId, brought: Option<ObjId
     requires { may_owe replies.old reply ≡ true }
     ensures { AddsDebt reply caller brought replies.old replies.new }
 {
-    let is_owed = replies.owe(reply, caller, brought);
-    prove!(is_owed);
+    if !replies.owe(reply, caller, brought) {
+        unreachable!();
+    }
 }
 
-/// The context whose chain the reply object of a debt topped, if the debt was there and it topped one.
+/// The context whose chain the reply object of a debt topped, if it topped one.
 fn topped(ended: Option<Ended>) -> Option<ObjId>
+    requires { IsSome ended }
     ensures { result ≡ option_and_then (λ e. e.topped) ended }
 {
-    ended?.topped
+    ended.unwrap().topped
 }
 
 /// A thread that is there gets an answer, with badge 0 (own), and is blocked no more.
@@ -38,8 +40,8 @@ fn answers(threads: &mut Threads, caller: ObjId, message: Message)
     ensures { MailsFreed caller (Mail.Message (record { 0 = 0 }) message) threads.old threads.new }
 {
     let badge = Badge(0);
-    threads.set_mail(caller, Mail::Message { badge, message });
-    threads.unblock(caller);
+    threads.set_mail(caller, Mail::Message { badge, message }).unwrap();
+    threads.unblock(caller).unwrap();
 }
 
 impl<W: Waiting> State<W> {
@@ -54,7 +56,7 @@ impl<W: Waiting> State<W> {
             caller,
             context: brought,
         });
-        self.threads.block(caller, Block::OnReply { reply });
+        self.threads.block(caller, Block::OnReply { reply }).unwrap();
         owe(&mut self.replies, reply, caller, brought);
     }
 
@@ -93,7 +95,7 @@ impl<W: Waiting> State<W> {
             caller,
             ending: how,
         });
-        self.threads.unblock(caller);
+        self.threads.unblock(caller).unwrap();
         topped(self.replies.void(reply, how))
     }
 }

@@ -15,6 +15,11 @@ overflow_add-self g c =
     let lines = fewer-lines c.self.view_is c.requires.few in
     omega (arith, c.self.invariant.1.sent.few, c.self.invariant.1.few, all, lines)
 
+pub unwrap-requires : goal.unwrap-requires
+unwrap-requires g c =
+    let taken = seen c.self.view_is (λ R. Allowed (rec.Sent c.args.sender c.args.endpoint c.args.mode c.args.badge c.args.message ∷ R) (rec.Took (next_message R) c.args.receiver)) c.requires.taken in
+    c.set_mail.ensures.found.1 (thread-there _ c.self.inside.threads c.args.receiver c.self.invariant.1.sound c.self.invariant.1.threads taken.0)
+
 pub invariant_of-self : goal.invariant_of-self
 invariant_of-self g c =
     let x = c.args.sender in

@@ -4,6 +4,11 @@ use Rattle.mcs_state.proofs.ThreadLaws.{thread-there}
 use Rattle.mcs_state.proofs.Following.{follows, inside, inside-room}
 use Rattle.mcs_state.proofs.state.State.hears.Goals as goal
 
+pub unwrap-requires : goal.unwrap-requires
+unwrap-requires g c =
+    let ok = inside (rec.Heard c.args.thread c.args.notification c.args.word) c.self.view_is c.requires.allowed in
+    c.set_mail.ensures.found.1 (thread-there _ c.self.inside.threads c.args.thread c.self.invariant.1.sound c.self.invariant.1.threads ok.0)
+
 pub invariant_of-self : goal.invariant_of-self
 invariant_of-self g c =
     let ok = inside (rec.Heard c.args.thread c.args.notification c.args.word) c.self.view_is c.requires.allowed in

@@ -25,6 +25,11 @@ attend-requires g c =
     let ok = inside (rec.Joins c.args.thread c.args.queue c.args.reply) c.self.view_is c.requires.allowed in
     rw c.attended.ensures (named-there _ c.self.inside.replies c.args.queue c.args.reply c.self.invariant.1.replies ok.4)
 
+pub unwrap-requires : goal.unwrap-requires
+unwrap-requires g c =
+    let ok = inside (rec.Joins c.args.thread c.args.queue c.args.reply) c.self.view_is c.requires.allowed in
+    c.block.ensures.found.1 (thread-there _ c.self.inside.threads c.args.thread c.self.invariant.1.sound c.self.invariant.1.threads ok.0)
+
 pub invariant_of-self : goal.invariant_of-self
 invariant_of-self g c = let line = rw (seen c.self.view_is (λ R. c.priority-priority.result.0 ≡ prio_of R c.args.thread) c.priority-priority.ensures) at c.join.ensures.line in
     let replies = rw c.attended.ensures at c.attend.ensures in (

@@ -1,6 +1,7 @@
 use Rattle.std.proofs.Common.{refl, arith}
 use Rattle.mcs_types.specs.declared.record.Rec.TheVariants as rec
 use Rattle.mcs_state.proofs.DebtLaws.{may-owe}
+use Rattle.mcs_state.proofs.ThreadLaws.{thread-there}
 use Rattle.mcs_state.proofs.Following.{follows, inside, inside-room}
 use Rattle.mcs_state.proofs.state.State.owes.Goals as goal
 
@@ -8,6 +9,11 @@ pub owe-requires : goal.owe-requires
 owe-requires g c =
     let ok = inside (rec.Owes c.args.reply c.args.caller c.args.brought) c.self.view_is c.requires.allowed in
     may-owe _ c.self.inside.replies c.args.reply c.args.caller c.args.brought c.self.invariant.1.replies ok
+
+pub unwrap-requires : goal.unwrap-requires
+unwrap-requires g c =
+    let ok = inside (rec.Owes c.args.reply c.args.caller c.args.brought) c.self.view_is c.requires.allowed in
+    c.block.ensures.found.1 (thread-there _ c.self.inside.threads c.args.caller c.self.invariant.1.sound c.self.invariant.1.threads ok.2)
 
 pub invariant_of-self : goal.invariant_of-self
 invariant_of-self g c = (

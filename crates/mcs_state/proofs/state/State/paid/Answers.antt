@@ -3,7 +3,7 @@ use Rattle.mcs_types.specs.declared.record.Ending.TheVariants.{Deleted}
 use Rattle.mcs_types.specs.declared.record.Rec.TheVariants as rec
 use Rattle.mcs_book.proofs.SoundLogs.KeptLaws.{owed-there}
 use Rattle.mcs_state.specs.Following.{DropsDebt}
-use Rattle.mcs_state.proofs.DebtLaws.{ended-topped}
+use Rattle.mcs_state.proofs.DebtLaws.{ended-there, ended-topped}
 use Rattle.mcs_state.proofs.ThreadLaws.{thread-there}
 use Rattle.mcs_state.proofs.Following.{follows, inside, inside-room}
 use Rattle.mcs_state.proofs.state.State.paid.Goals as goal
@@ -12,6 +12,11 @@ pub answers-requires : goal.answers-requires
 answers-requires g c =
     let owed = inside (rec.Paid c.args.reply c.args.caller c.args.message) c.self.view_is c.requires.allowed in
     thread-there _ c.self.inside.threads c.args.caller c.self.invariant.1.sound c.self.invariant.1.threads (owed-there _ c.args.reply c.args.caller c.self.invariant.1.sound owed).1
+
+pub topped-requires : goal.topped-requires
+topped-requires g c =
+    let owed = inside (rec.Paid c.args.reply c.args.caller c.args.message) c.self.view_is c.requires.allowed in
+    ended-there _ c.self.inside.replies c.args.reply c.args.caller c.pay.result c.self.invariant.1.replies owed c.pay.ensures.caller
 
 pub invariant_of-self : goal.invariant_of-self
 invariant_of-self g c =

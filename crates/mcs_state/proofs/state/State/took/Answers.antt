@@ -17,13 +17,16 @@ unreachable-requires g c =
     let no = c.in-None.ensures.value ∙ c.self.invariant.1.letters c.args.sender ∙ found.1.0 in
     absurd cc
 
+pub deliver-requires : goal.deliver-requires
+deliver-requires g c =
+    let ok = inside (rec.Took c.args.number c.args.receiver) c.self.view_is c.requires.allowed in
+    thread-there _ c.self.inside.threads c.args.receiver c.self.invariant.1.sound c.self.invariant.1.threads ok.0
+
 pub invariant_of-self : goal.invariant_of-self
-invariant_of-self g c = let ok = inside (rec.Took c.args.number c.args.receiver) c.self.view_is c.requires.allowed in
-    let number = seen c.self.view_is (λ R. IsNumberOf c.args.number (open_of R c.args.sender)) c.requires.open in
+invariant_of-self g c = let number = seen c.self.view_is (λ R. IsNumberOf c.args.number (open_of R c.args.sender)) c.requires.open in
     let is = c.in-Some.ensures.value ∙ c.self.invariant.1.letters c.args.sender in
     let taken = opened _ c.args.sender c.args.number c.in-Some.letter c.self.invariant.1.sound number (sym is) in
-    let there = thread-there _ c.self.inside.threads c.args.receiver c.self.invariant.1.sound c.self.invariant.1.threads ok.0 in
-    let mails = c.deliver.ensures.mails there in (
+    let mails = c.deliver.ensures.mails in (
       omega (arith, c.self.invariant.0, c.note.ensures.whole),
       follows (rec.Took c.args.number c.args.receiver) _ _ _ _ _ _ c.note.ensures.book c.note.ensures.hand (inside-room c.self.view_is c.requires.room c.self.invariant.0) (inside (rec.Took c.args.number c.args.receiver) c.self.view_is c.requires.allowed)
           (record { threads = (c.in-Some.letter, (taken.letter, record { made = c.deliver.ensures.made; rows = c.deliver.ensures.rows; mails = mails })); letters = (c.in-Some.letter, (taken.kept, taken.number, rw taken.sender c.in-Some.ensures.kept)); contexts = refl; queues = refl; replies = refl; notifications = refl; slots = refl; sent = refl }) c.self.invariant.1,

@@ -1,9 +1,21 @@
 use Rattle.std.proofs.Common.{refl, arith, ◌∙◌}
 use Rattle.mcs_types.specs.declared.record.Rec.TheVariants as rec
+use Rattle.mcs_book.proofs.SoundLogs.KeptLaws.{owed-there}
 use Rattle.mcs_state.specs.Following.{DropsDebt}
-use Rattle.mcs_state.proofs.DebtLaws.{ended-topped}
+use Rattle.mcs_state.proofs.DebtLaws.{ended-there, ended-topped}
+use Rattle.mcs_state.proofs.ThreadLaws.{thread-there}
 use Rattle.mcs_state.proofs.Following.{follows, inside, inside-room}
 use Rattle.mcs_state.proofs.state.State.voids.Goals as goal
+
+pub unwrap-requires : goal.unwrap-requires
+unwrap-requires g c =
+    let ok = inside (rec.Void c.args.reply c.args.caller c.args.how) c.self.view_is c.requires.allowed in
+    c.unblock.ensures.found.1 (thread-there _ c.self.inside.threads c.args.caller c.self.invariant.1.sound c.self.invariant.1.threads (owed-there _ c.args.reply c.args.caller c.self.invariant.1.sound ok).1)
+
+pub topped-requires : goal.topped-requires
+topped-requires g c =
+    let owed = inside (rec.Void c.args.reply c.args.caller c.args.how) c.self.view_is c.requires.allowed in
+    ended-there _ c.self.inside.replies c.args.reply c.args.caller c.void.result c.self.invariant.1.replies owed c.void.ensures.caller
 
 pub invariant_of-self : goal.invariant_of-self
 invariant_of-self g c =

@@ -1,0 +1,30 @@
+//! Receivers that come to stand with reply objects.
+ghost use Rattle.std.specs.Prelude.{◌≡◌, true, IfSome};
+ghost use Rattle.mcs_replies.specs.Owing.{is_there};
+ghost use Rattle.mcs_state.specs.Following.{SetsAny, attended};
+
+use mcs_replies::Replies;
+use mcs_types::{ObjId, Queue};
+
+/// The reply object with which a thread stands in a queue: in one of receivers it may be one.
+pub fn attended(queue: Queue, reply: Option<ObjId>) -> Option<ObjId>
+    ensures { result ≡ attended queue reply }
+{
+    match queue {
+        Queue::Receivers(_) => reply,
+        Queue::Senders(_) | Queue::Waiters(_) => None,
+    }
+}
+
+/// The receiver of a reply object that is there, if one is named, is this one now.
+// a part of its callers, which know whether a reply object is named
+#[inline(always)]
+pub fn attend(replies: &mut Replies, reply: Option<ObjId>, receiver: Option<ObjId>)
+    requires { IfSome reply (λ r. is_there replies.old r ≡ true) }
+    ensures { SetsAny reply receiver replies.old replies.new }
+{
+    match reply {
+        None => {}
+        Some(reply) => replies.set_receiver(reply, receiver),
+    }
+}
