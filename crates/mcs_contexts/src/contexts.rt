@@ -11,6 +11,7 @@ use mcs_objects::{Store, keep, kept_at};
 use mcs_types::{CoreId, Kind, ObjId, OutOfMemory, Refusal, copy_rows};
 use std::alloc::Global;
 use std::marker::Model;
+use std::mem;
 
 /// A scheduling context: its core, the thread that holds it (manual: Threads and Execution), and the notification at which it is
 /// homed (own).
@@ -62,11 +63,7 @@ fn replace_holder(
 {
     match rows.get_mut(context) {
         None => unreachable!(),
-        Some(row) => {
-            let before = row.holder;
-            row.holder = holder;
-            before
-        }
+        Some(row) => mem::replace(&mut row.holder, holder),
     }
 }
 

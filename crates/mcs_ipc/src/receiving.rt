@@ -47,6 +47,7 @@ fn free_any<W: Waiting>(state: &mut State<W>, reply: Option<ObjId>)
 }
 
 /// Waits among the receivers, where the thread blocks; its context goes home where that is the notification bound to the thread (own).
+#[inline(always)]
 fn stand<W: Waiting>(
     state: &mut State<W>,
     thread: ObjId,

@@ -1,6 +1,7 @@
 //! The table of reply objects.
 ghost use Rattle.std.specs.Prelude.{◌≡◌, ◌≤◌, true, false, [], Some, None, IsSome, IfOk, IfSome, IfNone, option_map};
 ghost use Rattle.std.specs.Bool.{OnTrue, OnFalse};
+ghost use Rattle.std.specs.Option.{option_or};
 ghost use Rattle.mcs_types.specs.declared.id.ObjId.{ObjId};
 ghost use Rattle.mcs_types.specs.declared.id.Kind.{Kind};
 ghost use Rattle.mcs_types.specs.declared.record.Ending.TheVariants.{Deleted};
@@ -208,6 +209,15 @@ impl Replies {
         ensures { result ≡ owed_in self.now reply }
     {
         self.rows.get(reply)?.caller
+    }
+
+    /// Who uses a reply object: the caller that it owes, or else the receiver that stands with it; None where nobody does (manual:
+    /// Message Passing).
+    pub fn user(&self, reply: ObjId) -> Option<ObjId>
+        ensures { result ≡ option_or (owed_in self.now reply) (receiver_in self.now reply) }
+    {
+        let row = self.rows.get(reply)?;
+        row.caller.or(row.receiver)
     }
 
     /// What stands in a chain is there and owes, stands in no other chain, and once in its own (own).

@@ -269,7 +269,7 @@ impl<W: Waiting> State<W> {
     pub fn user_of(&self, reply: ObjId) -> Option<ObjId>
         ensures { result ≡ user_of (so_far self.now) reply }
     {
-        self.owed(reply).or(self.receiver_with(reply))
+        self.replies.user(reply)
     }
 
     /// The reply object on top of the chain of a context, or None where the chain is empty (own).

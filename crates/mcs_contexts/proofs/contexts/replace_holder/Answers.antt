@@ -16,7 +16,7 @@ returns-clause-cores c = λ x.
 pub returns-clause-holders : goal.returns-clause-holders
 returns-clause-holders c = λ x.
     let was : value_at c.args.rows.now c.args.context ≡ Some c.in-Some.row.now = sym c.get_mut.ensures.value ∙ ap option_copied_mut c.in-Some.is in
-    holder_written c.args.rows.now c.args.context x _ (rw was refl)
+    rw (← c.replace.ensures.after) (holder_written c.args.rows.now c.args.context x _ (rw was refl))
 
 pub returns-clause-homes : goal.returns-clause-homes
 returns-clause-homes c = λ x.
@@ -26,4 +26,4 @@ returns-clause-homes c = λ x.
 pub returns-clause-before : goal.returns-clause-before
 returns-clause-before c =
     let was : value_at c.args.rows.now c.args.context ≡ Some c.in-Some.row.now = sym c.get_mut.ensures.value ∙ ap option_copied_mut c.in-Some.is in
-    rw was refl
+    rw was c.replace.ensures.value

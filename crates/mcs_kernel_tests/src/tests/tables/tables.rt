@@ -311,8 +311,9 @@ fn stand(replies: &mut Replies, id: ObjId, receiver: Option<u32>) -> bool {
     if !replies.is_there(id) {
         return false;
     }
-    replies.set_receiver(id, named(Kind::Thread, receiver));
-    replies.receiver(id) == named(Kind::Thread, receiver)
+    let receiver = named(Kind::Thread, receiver);
+    replies.set_receiver(id, receiver);
+    replies.receiver(id) == receiver && replies.user(id) == replies.owed(id).or(receiver)
 }
 
 /// Closes a reply object that nobody uses. Whether it was one.
