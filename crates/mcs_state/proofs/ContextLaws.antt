@@ -174,17 +174,17 @@ given-made R v s None sound a ok = rw (a.cores s) (go (holder_of R s) refl ok)
     go None e h = absurd cc
     go (Some t) e h = core-there R s sound (held-there R s t sound e).0
 
-pub given-idle : (R : Log) (v : Holding) (s : ObjId) (t : Option ObjId) → ContextsAgree v R → Allowed R (rec.Holds s t) → IfSome t (λ u. (x : ObjId) → holder_in v x ≢ Some u)
-given-idle R v s None a ok = tt
-given-idle R v s (Some t) a ok = λ x h. ok.2 x (sym (a.holders x) ∙ h)
-
 -- a thread that is no holder has no context
-pub idle-none : (v : Holding) (t : ObjId) → IsOneToOne v → ((x : ObjId) → holder_in v x ≢ Some t) → context_in v t ≡ None
+idle-none : (v : Holding) (t : ObjId) → IsOneToOne v → ((x : ObjId) → holder_in v x ≢ Some t) → context_in v t ≡ None
 idle-none v t one idle = go (context_in v t) refl
   where
     go : (o : Option ObjId) → context_in v t ≡ o → o ≡ None
     go None e = refl
     go (Some s) e = absurd (idle s (one.held_by_holder s t e))
+
+pub given-idle : (R : Log) (v : Holding) (s : ObjId) (t : Option ObjId) → IsOneToOne v → ContextsAgree v R → Allowed R (rec.Holds s t) → IfSome t (λ u. context_in v u ≡ None)
+given-idle R v s None one a ok = tt
+given-idle R v s (Some t) one a ok = idle-none v t one (λ x h. ok.2 x (sym (a.holders x) ∙ h))
 
 -- the context that the table has of a thread is the one that it holds, and it is there
 pub context-is : (R : Log) (v : Holding) (t : ObjId) → Sound R → IsOneToOne v → ContextsAgree v R → context_in v t ≡ context_of R t

@@ -21,11 +21,11 @@ give-requires-clause-thread g c = go c.args.thread (given-thread _ c.self.inside
     go (Some t) h = c.are_few.ensures t h
 
 pub give-requires-clause-idle : goal.give-requires-clause-idle
-give-requires-clause-idle g c = given-idle _ _ c.args.context c.args.thread c.self.invariant.1.contexts (inside (rec.Holds c.args.context c.args.thread) c.self.view_is c.requires.allowed)
+give-requires-clause-idle g c = given-idle _ _ c.args.context c.args.thread c.is_one_to_one.ensures.pairs c.self.invariant.1.contexts (inside (rec.Holds c.args.context c.args.thread) c.self.view_is c.requires.allowed)
 
 pub invariant_of-self : goal.invariant_of-self
 invariant_of-self g c = (
   omega (arith, c.self.invariant.0, c.note.ensures.whole),
   follows (rec.Holds c.args.context c.args.thread) _ _ _ _ _ _ c.note.ensures.book c.note.ensures.hand (inside-room c.self.view_is c.requires.room c.self.invariant.0) (inside (rec.Holds c.args.context c.args.thread) c.self.view_is c.requires.allowed)
-      (record { threads = refl; letters = refl; contexts = c.give.ensures; queues = refl; replies = refl; notifications = refl; slots = refl; sent = refl }) c.self.invariant.1,
+      (record { threads = refl; letters = refl; contexts = record { counts = c.give.ensures.counts; cores = c.give.ensures.cores; holders = c.give.ensures.holders; homes = c.give.ensures.homes }; queues = refl; replies = refl; notifications = refl; slots = refl; sent = refl }) c.self.invariant.1,
 )
