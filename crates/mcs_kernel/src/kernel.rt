@@ -261,77 +261,76 @@ fn operate<W: Waiting>(
             thread: holder,
             authority,
             priority,
-        } => answer_plain(answer, set_priority(
-            state, core, thread, *holder, *authority, *priority,
-        )),
-        Entry::Suspend { thread: other } => answer_plain(answer, suspend(
-            state, core, thread, *other,
-        )),
-        Entry::Resume { thread: other } => answer_plain(answer, resume(
-            state, core, thread, *other,
-        )),
+        } => answer_plain(
+            answer,
+            set_priority(state, core, thread, *holder, *authority, *priority),
+        ),
+        Entry::Suspend { thread: other } => answer_plain(
+            answer,
+            suspend(state, core, thread, *other),
+        ),
+        Entry::Resume { thread: other } => answer_plain(
+            answer,
+            resume(state, core, thread, *other),
+        ),
         Entry::BindNtfn {
             thread: holder,
             notification,
         } => answer_plain(answer, bind(state, core, thread, *holder, *notification)),
-        Entry::UnbindNtfn { thread: holder } => answer_plain(answer, unbind(
-            state, core, thread, *holder,
-        )),
+        Entry::UnbindNtfn { thread: holder } => answer_plain(
+            answer,
+            unbind(state, core, thread, *holder),
+        ),
         Entry::BindCtx {
             context,
             thread: holder,
         } => answer_plain(answer, bind_context(state, core, thread, *context, *holder)),
-        Entry::UnbindCtx { context } => answer_plain(answer, unbind_context(
-            state, core, thread, *context,
-        )),
-        Entry::CancelBadged { endpoint } => answer_plain(answer, cancel_badged(
-            state, core, thread, *endpoint,
-        )),
+        Entry::UnbindCtx { context } => answer_plain(
+            answer,
+            unbind_context(state, core, thread, *context),
+        ),
+        Entry::CancelBadged { endpoint } => answer_plain(
+            answer,
+            cancel_badged(state, core, thread, *endpoint),
+        ),
         Entry::CopyCap {
             source,
             dest,
             rights,
-        } => answer_plain(answer, copy_cap(state, core, thread, *source, *dest, *rights)),
+        } => answer_plain(
+            answer,
+            copy_cap(state, core, thread, *source, *dest, *rights),
+        ),
         Entry::MintCap {
             source,
             dest,
             rights,
             badge,
-        } => answer_plain(answer, mint_cap(state, core, thread, *source, *dest, *rights, *badge)),
-        Entry::MoveCap { source, dest } => answer_plain(answer, move_cap(
-            state, core, thread, *source, *dest,
-        )),
-        Entry::DeleteCap { place } => answer_plain(answer, delete_cap(
-            state, core, thread, *place,
-        )),
-        Entry::MakeEndpoint { place } => answer_plain(answer, make(
-            state,
-            core,
-            thread,
-            Kind::Endpoint,
-            *place,
-        )),
-        Entry::MakeNotification { place } => answer_plain(answer, make(
-            state,
-            core,
-            thread,
-            Kind::Notification,
-            *place,
-        )),
-        Entry::MakeReply { place } => answer_plain(answer, make(
-            state,
-            core,
-            thread,
-            Kind::Reply,
-            *place,
-        )),
-        Entry::MakeContext { place } => answer_plain(answer, make(
-            state,
-            core,
-            thread,
-            Kind::Context,
-            *place,
-        )),
+        } => answer_plain(
+            answer,
+            mint_cap(state, core, thread, *source, *dest, *rights, *badge),
+        ),
+        Entry::MoveCap { source, dest } => answer_plain(
+            answer,
+            move_cap(state, core, thread, *source, *dest),
+        ),
+        Entry::DeleteCap { place } => answer_plain(answer, delete_cap(state, core, thread, *place)),
+        Entry::MakeEndpoint { place } => answer_plain(
+            answer,
+            make(state, core, thread, Kind::Endpoint, *place),
+        ),
+        Entry::MakeNotification { place } => answer_plain(
+            answer,
+            make(state, core, thread, Kind::Notification, *place),
+        ),
+        Entry::MakeReply { place } => answer_plain(
+            answer,
+            make(state, core, thread, Kind::Reply, *place),
+        ),
+        Entry::MakeContext { place } => answer_plain(
+            answer,
+            make(state, core, thread, Kind::Context, *place),
+        ),
     }
 }
 

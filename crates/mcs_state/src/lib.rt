@@ -15,9 +15,9 @@
 //! threads of a queue.
 #![tactic(auto)]
 
+mod attending;
 mod changing;
 mod checks;
-mod attending;
 mod letters;
 mod queued;
 mod returning;

@@ -291,7 +291,8 @@ impl<W: Waiting> State<W> {
             queue,
             reply,
         });
-        self.threads.block(thread, Block::Queued { queue, reply }).unwrap();
+        let block = Block::Queued { queue, reply };
+        self.threads.block(thread, block).unwrap();
         self.queues.join(thread, queue, priority);
         attend(&mut self.replies, attended(queue, reply), Some(thread));
     }

@@ -40,7 +40,8 @@ fn answers(threads: &mut Threads, caller: ObjId, message: Message)
     ensures { MailsFreed caller (Mail.Message (record { 0 = 0 }) message) threads.old threads.new }
 {
     let badge = Badge(0);
-    threads.set_mail(caller, Mail::Message { badge, message }).unwrap();
+    let mail = Mail::Message { badge, message };
+    threads.set_mail(caller, mail).unwrap();
     threads.unblock(caller).unwrap();
 }
 
@@ -56,7 +57,8 @@ impl<W: Waiting> State<W> {
             caller,
             context: brought,
         });
-        self.threads.block(caller, Block::OnReply { reply }).unwrap();
+        let block = Block::OnReply { reply };
+        self.threads.block(caller, block).unwrap();
         owe(&mut self.replies, reply, caller, brought);
     }
 
