@@ -12,7 +12,7 @@ use Rattle.mcs_objects.specs.Store.{Objects, WasGiven, next_id, value_at, with_v
 use Rattle.mcs_objects.proofs.MapLaws.{value-written}
 use Rattle.mcs_objects.specs.Places.{kept_in, HasPlace}
 use Rattle.mcs_contexts.specs.declared.contexts.ContextRow.{ContextRow}
-use Rattle.mcs_contexts.specs.Holding.{Holding, core_at, holder_at, home_at, core_in, holder_in, context_in, holds, IsOneToOne, IsHolding}
+use Rattle.mcs_contexts.specs.Holding.{Holding, counts, core_at, holder_at, home_at, core_in, holder_in, context_in, holds, IsOneToOne, IsHolding}
 
 -- one half of being one to one, as two of its maps change in one place
 pub half-bound : (H C K D : ObjId → Option ObjId) (s t : ObjId) → ((a b : ObjId) → H a ≡ Some b → C b ≡ Some a) → C t ≡ None
@@ -78,6 +78,15 @@ pub kept : (v w : Holding) → IsOneToOne v → ((x : ObjId) → holder_in w x �
 kept v w one h c = record {
   holder_holds = λ s t p. c t ∙ one.holder_holds s t (sym (h s) ∙ p);
   held_by_holder = λ s t p. h s ∙ one.held_by_holder s t (sym (c t) ∙ p);
+}
+
+-- where no context is made or closed and no place comes or goes, one to one is all that is owed
+pub still-holding : (v w : Holding) → IsHolding v → counts w ≡ counts v → length w.held ≡ length v.held → IsOneToOne w → IsHolding w
+still-holding v w all same_counts same_places one = record {
+  room = ap (λ n. n.room) same_counts ∙ all.room;
+  kind = ap (λ n. n.kind) same_counts ∙ all.kind;
+  places = same_places ∙ all.places;
+  one_to_one = one;
 }
 
 -- what is held is there, and its holder is a thread of a serial from 1 to 256

@@ -348,8 +348,6 @@ impl Contexts {
 
     /// Moves the context of one thread to another. False where the first holds none, and where the second holds one or is no
     /// thread of a serial from 1 to 256: then nothing changes (manual: Threads and Execution).
-    // a part of its caller, where most calls come along with a context
-    #[inline(always)]
     pub fn lend(&mut self, from: ObjId, to: ObjId) -> bool
         ensures answer { result ≡ may_lend self.old from to }
         ensures refused { OnFalse result (self.new ≡ self.old) }

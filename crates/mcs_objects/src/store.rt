@@ -271,6 +271,14 @@ impl<T: Drop> Store<T> {
         self.values.get_mut(row.place as usize)
     }
 
+    /// The value of an object that has this place (own).
+    pub fn get_at(&self, id: ObjId, place: u16) -> Option<&T>
+        requires { place_at self.now id ≡ Some place }
+        ensures { option_copied result ≡ value_at self.now id }
+    {
+        self.values.get(place as usize)
+    }
+
     /// The value for writing of an object that has this place (own).
     pub fn get_mut_at(&mut self, id: ObjId, place: u16) -> Option<&mut T>
         requires { place_at self.old id ≡ Some place }

@@ -142,7 +142,9 @@ pub(crate) fn lay(
     ensures chains { LiesOn links.old.items tops.old links.new.items tops.new reply context }
     ensures replies { GainsReply links.old.items links.new.items place.0 reply }
 {
+    // asked and moved with nothing between, so that its row is told apart once
     let below = tops.top(context);
+    tops.move_to(context, Some(place));
     set_above(links, below, Some(place));
     let link = Link {
         context,
@@ -151,7 +153,6 @@ pub(crate) fn lay(
         below,
     };
     put(links, place, Some(link));
-    tops.move_to(context, Some(place));
 }
 
 /// Takes the top of a chain off it: the top moves down by one. At most three links change: the top of the context, the link of

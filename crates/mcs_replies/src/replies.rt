@@ -10,6 +10,7 @@ ghost use Rattle.mcs_types.specs.Chains.{head_of};
 ghost use Rattle.mcs_types.specs.Limits.{object_limit};
 ghost use Rattle.mcs_objects.specs.Store.{shape, empty_shape, one_more, is_full, IsOneFewer, place_at};
 ghost use Rattle.mcs_replies.specs.Owing.{counts, no_room, next_reply, has_row, receiver_at, owed_at, is_there, receiver_in, owed_in, chain_in, may_owe, SetsOwed, LiesOnTop, NamesTopped, TakesOff, EndsDebt, IsChained, link_changes};
+ghost use Rattle.mcs_replies.specs.Places.{place_number};
 ghost use Rattle.mcs_replies.specs.Rest.{rest_of};
 
 use crate::links::{self, Chain, Link};
@@ -97,17 +98,23 @@ fn keep_caller(rows: &mut Store<ReplyRow>, reply: ObjId, place: PlaceNo, caller:
     }
 }
 
-/// The place of a reply object that is there.
-// asked before its row is written: so the row is looked up once for both
+/// The place of a reply object, or None where it is not there.
 #[inline(always)]
-fn place_of(rows: &Store<ReplyRow>, reply: ObjId) -> PlaceNo
-    requires { has_row rows.now reply ≡ true }
-    ensures { place_at rows.now reply ≡ Some result.0 }
+fn place_of(rows: &Store<ReplyRow>, reply: ObjId) -> Option<PlaceNo>
+    ensures { place_number result ≡ place_at rows.now reply }
 {
-    match rows.place(reply) {
-        Some(number) => PlaceNo(number),
-        None => unreachable!(),
-    }
+    let number = rows.place(reply)?;
+    Some(PlaceNo(number))
+}
+
+/// The caller that the reply object of this place owes.
+// by its place, so that its row is looked up once for what is asked and what is written
+#[inline(always)]
+fn owed_from(rows: &Store<ReplyRow>, reply: ObjId, place: PlaceNo) -> Option<ObjId>
+    requires { place_at rows.now reply ≡ Some place.0 }
+    ensures { result ≡ owed_at rows.now reply }
+{
+    rows.get_at(reply, place.0)?.caller
 }
 
 impl Replies {
@@ -228,9 +235,9 @@ impl Replies {
         let _ = &self.links;
     }
 
-    /// Begins a debt of a reply object that is there and owes nobody.
-    fn begin(&mut self, reply: ObjId, caller: ObjId, brought: Option<ObjId>)
-        requires there { is_there self.old reply ≡ true }
+    /// Begins a debt of a reply object that has this place and owes nobody.
+    fn begin(&mut self, reply: ObjId, place: PlaceNo, caller: ObjId, brought: Option<ObjId>)
+        requires place { place_at self.old.rows reply ≡ Some place.0 }
         requires free { owed_in self.old reply ≡ None }
         ensures owed { SetsOwed self.old self.new reply (Some caller) }
         ensures chains { LiesOnTop self.old self.new reply brought }
@@ -240,7 +247,6 @@ impl Replies {
     {
         // A law for the proof: reply objects that owe have different places, so there is room for a debt.
         self.rows.are_apart();
-        let place = place_of(&self.rows, reply);
         keep_caller(&mut self.rows, reply, place, Some(caller));
         let Some(context) = brought else {
             return;
@@ -259,13 +265,14 @@ impl Replies {
         ensures there { (r : ObjId) → is_there self.new r ≡ is_there self.old r }
         ensures receivers { (r : ObjId) → receiver_in self.new r ≡ receiver_in self.old r }
     {
-        match self.rows.get(reply) {
-            Some(row) if row.caller.is_none() => {
-                self.begin(reply, caller, brought);
-                true
-            }
-            _ => false,
+        let Some(place) = place_of(&self.rows, reply) else {
+            return false;
+        };
+        if owed_from(&self.rows, reply, place).is_some() {
+            return false;
         }
+        self.begin(reply, place, caller, brought);
+        true
     }
 
     /// The debt of a reply object is paid. On top of a chain it is taken off; else it and all below leave their chain, and those
@@ -304,9 +311,9 @@ impl Replies {
         ensures there { (r : ObjId) → is_there self.new r ≡ is_there self.old r }
         ensures receivers { (r : ObjId) → receiver_in self.new r ≡ receiver_in self.old r }
     {
-        let caller = self.owed(reply)?;
+        let place = place_of(&self.rows, reply)?;
+        let caller = owed_from(&self.rows, reply, place)?;
         self.rows.are_apart();
-        let place = place_of(&self.rows, reply);
         keep_caller(&mut self.rows, reply, place, None);
         let topped = links::leave(&mut self.links, &mut self.tops, place, how);
         Some(Ended { caller, topped })

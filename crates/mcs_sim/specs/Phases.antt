@@ -1,8 +1,12 @@
 -- What a clause sees of how far a replay has come.
-use Rattle.std.specs.Prelude.{◌≡◌, Option, Some, None, []}
+use Rattle.std.specs.Prelude.{ℕ, ◌≡◌, Option, Some, None, Result, Ok, Err, []}
 use Rattle.mcs_book.specs.Boots.{Boot}
 use Rattle.mcs_book.specs.History.{Book}
 use Rattle.mcs_sim.specs.Going.{BootOrBook}
+use Rattle.mcs_sim.specs.declared.fault.SimFault.{SimFault}
+use Rattle.mcs_sim.specs.declared.fault.SimFault.TheVariants as fault
+use Rattle.mcs_sim.specs.declared.phase.Outcome.{Outcome}
+use Rattle.mcs_sim.specs.declared.phase.Outcome.TheVariants as outcome
 use Rattle.mcs_sim.specs.declared.phase.Phase.{Phase}
 use Rattle.mcs_sim.specs.declared.phase.Phase.TheVariants.{Booting, Running}
 
@@ -20,3 +24,10 @@ seen (Running k) = opened_to None (Some k)
 abbrev pub HasNoItems : Phase → Type 0
 HasNoItems (Booting script) = script.items ≡ []
 HasNoItems (Running k) = Unit {0}
+
+-- what came of the line of this number
+abbrev pub answer_at : ℕ → Outcome → Result (Unit {0}) SimFault
+answer_at number outcome.Taken = Ok tt
+answer_at number (outcome.Script why) = Err (fault.Script number why)
+answer_at number outcome.BookFull = Err fault.BookFull
+answer_at number outcome.OutOfMemory = Err fault.OutOfMemory

@@ -1,9 +1,9 @@
 //! How far a replay of a script has come: the boot so far, or the run of the steps behind it.
-ghost use Rattle.std.specs.Prelude.{◌≡◌, ◌≤◌, ◌∷◌, IfOk, OnOk, OnErr, IsSome, [], Err, None, option_copied, option_to_list};
+ghost use Rattle.std.specs.Prelude.{ℕ, ◌≡◌, ◌≤◌, ◌∷◌, IfOk, OnOk, OnErr, IsSome, [], Err, None, option_copied, option_to_list};
 ghost use Rattle.mcs_text.specs.Reading.{Gives};
 ghost use Rattle.mcs_sim.specs.Script.{threads_of, read_line, of_steps};
 ghost use Rattle.mcs_sim.specs.Going.{ComesOf, not_begun, begun_by, said, stepped, step_line, book_after, read_at, opened, after_line, after_end};
-ghost use Rattle.mcs_sim.specs.Phases.{opened_to, seen, HasNoItems};
+ghost use Rattle.mcs_sim.specs.Phases.{opened_to, seen, HasNoItems, answer_at};
 
 use crate::fault::SimFault;
 use crate::script::{Script, ScriptFault, make_ready, says_something};
@@ -50,19 +50,46 @@ impl Model for StepRun {
         × (s.threads ≡ threads_of s.replay.book.boot) };
 }
 
+/// What came of a line whose number is not told.
+// two values, so that it is answered in registers, as a fault with a number is not
+#[derive(Clone, Copy)]
+enum Outcome {
+    Taken,
+    Script(LineFault),
+    BookFull,
+    OutOfMemory,
+}
+
+impl Outcome {
+    /// The same at the line of this number.
+    #[inline(always)]
+    fn at(self, number: u64) -> Result<(), SimFault>
+        ensures { result ≡ answer_at number self }
+    {
+        match self {
+            Outcome::Taken => Ok(()),
+            Outcome::Script(why) => Err(SimFault::Script { line: number, why }),
+            Outcome::BookFull => Err(SimFault::BookFull),
+            Outcome::OutOfMemory => Err(SimFault::OutOfMemory),
+        }
+    }
+}
+
 /// Takes a step.
 // out of line, since with it each line that is read would save and clear its registers and locals
 #[inline(never)]
 #[tactic(auto, unfolding(crate::specs::Going::stepped))]
-fn take_step(replay: &mut Replay<LinkedLines>, alloc: Global, step: &Step) -> Result<(), SimFault>
-    ensures takes { ComesOf (λ u. replay.new.book) result (stepped replay.old.book step.now) }
-    ensures unchanged { OnErr result (replay.new.book ≡ replay.old.book) }
+fn take_step(replay: &mut Replay<LinkedLines>, alloc: Global, step: &Step) -> Outcome
+    ensures takes { (number : ℕ) → ComesOf (λ u. replay.new.book) (answer_at number result)
+        (stepped replay.old.book step.now) }
+    ensures unchanged { (number : ℕ) → OnErr (answer_at number result)
+        (replay.new.book ≡ replay.old.book) }
     ensures boot { replay.new.book.boot ≡ replay.old.book.boot }
 {
     match replay.advance(alloc, step) {
-        Ok(_) => Ok(()),
-        Err(ReplayFault::BookFull { step: _ }) => Err(SimFault::BookFull),
-        Err(ReplayFault::OutOfMemory { step: _ }) => Err(SimFault::OutOfMemory),
+        Ok(_) => Outcome::Taken,
+        Err(ReplayFault::BookFull { step: _ }) => Outcome::BookFull,
+        Err(ReplayFault::OutOfMemory { step: _ }) => Outcome::OutOfMemory,
     }
 }
 
@@ -97,19 +124,20 @@ impl StepRun {
         let Ok(mut run) = StepRun::new(alloc, boot) else {
             return Err(SimFault::OutOfMemory);
         };
-        take_step(&mut run.replay, alloc, &step)?;
+        take_step(&mut run.replay, alloc, &step).at(0)?;
         Ok(run)
     }
 
     /// Takes the line of this number.
     #[tactic(auto, unfolding(crate::specs::Going::book_after))]
-    fn take_line(&mut self, alloc: Global, number: u64, line: &[u8]) -> Result<(), SimFault>
-        ensures takes { ComesOf (λ u. self.new) result (book_after self.old number line.now) }
-        ensures unchanged { OnErr result (self.new ≡ self.old) }
-        ensures numbered { OnOk result (number ≤ SCRIPT_LINES) }
+    fn take_line(&mut self, alloc: Global, number: u64, line: &[u8]) -> Outcome
+        ensures takes { ComesOf (λ u. self.new) (answer_at number result)
+            (book_after self.old number line.now) }
+        ensures unchanged { OnErr (answer_at number result) (self.new ≡ self.old) }
+        ensures numbered { OnOk (answer_at number result) (number ≤ SCRIPT_LINES) }
     {
         if make_ready(alloc, &mut self.room).is_err() {
-            return Err(SimFault::OutOfMemory);
+            return Outcome::OutOfMemory;
         }
         match read_step_line(
             alloc,
@@ -120,9 +148,9 @@ impl StepRun {
             &mut self.room,
             &mut self.step,
         ) {
-            Ok(false) => Ok(()),
+            Ok(false) => Outcome::Taken,
             Ok(true) => take_step(&mut self.replay, alloc, &self.step),
-            Err(why) => Err(SimFault::Script { line: number, why }),
+            Err(why) => Outcome::Script(why),
         }
     }
 }
@@ -253,7 +281,7 @@ impl Phase {
         ensures kept { HasNoItems self.new }
     {
         let opening = match self {
-            Phase::Running(run) => return run.take_line(alloc, number, line),
+            Phase::Running(run) => return run.take_line(alloc, number, line).at(number),
             Phase::Booting(opening) => opening,
         };
         if let Some(run) = open(opening, alloc, number, line)? {
@@ -272,7 +300,7 @@ impl Phase {
         ensures kept { HasNoItems self.new }
     {
         if let Phase::Running(run) = self {
-            return run.take_line(alloc, number, line);
+            return run.take_line(alloc, number, line).at(number);
         }
         self.take_opening_line(alloc, number, line)
     }

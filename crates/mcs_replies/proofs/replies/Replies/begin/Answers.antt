@@ -13,8 +13,8 @@ returns-in_default-clause-chains c = λ s.
 pub lay-requires-clause-free : goal.lay-requires-clause-free
 lay-requires-clause-free c =
     let s = c.self.inside in
-    let at = c.place_of-place.ensures in
-    free-link s.rows s.links.items c.args.reply c.place_of-place.result.0 c.are_apart.ensures c.self.invariant.owners c.self.invariant.owing (rw (← c.self.view_is) at c.requires.free) at
+    let at = rw (← c.self.view_is) at c.requires.place in
+    free-link s.rows s.links.items c.args.reply c.args.place.0 c.are_apart.ensures c.self.invariant.owners c.self.invariant.owing (rw (← c.self.view_is) at c.requires.free) at
 
 pub lay-requires-clause-out : goal.lay-requires-clause-out
 lay-requires-clause-out c = free-out c.self.inside.rows c.self.inside.links.items c.args.reply c.self.invariant.owing (rw (← c.self.view_is) at c.requires.free)
@@ -22,10 +22,10 @@ lay-requires-clause-out c = free-out c.self.inside.rows c.self.inside.links.item
 pub lay-requires-clause-room : goal.lay-requires-clause-room
 lay-requires-clause-room c =
     let s = c.self.inside in
-    let at = c.place_of-place.ensures in
-    let free = free-link s.rows s.links.items c.args.reply c.place_of-place.result.0 c.are_apart.ensures c.self.invariant.owners c.self.invariant.owing (rw (← c.self.view_is) at c.requires.free) at in
-    let within : c.place_of-place.result.0 < object_limit = subst (λ n. c.place_of-place.result.0 < n) c.self.invariant.room (c.are_apart.ensures.room c.args.reply c.place_of-place.result.0 at) in
-    let few = few-tops s.links.items s.tops c.place_of-place.result.0 c.self.invariant.sound within free in
+    let at = rw (← c.self.view_is) at c.requires.place in
+    let free = free-link s.rows s.links.items c.args.reply c.args.place.0 c.are_apart.ensures c.self.invariant.owners c.self.invariant.owing (rw (← c.self.view_is) at c.requires.free) at in
+    let within : c.args.place.0 < object_limit = subst (λ n. c.args.place.0 < n) c.self.invariant.room (c.are_apart.ensures.room c.args.reply c.args.place.0 at) in
+    let few = few-tops s.links.items s.tops c.args.place.0 c.self.invariant.sound within free in
     few
 
 pub returns-clause-chains : goal.returns-clause-chains

@@ -8,5 +8,6 @@ use Rattle.mcs_sim.proofs.phase.Phase.take_line.Goals as goal
 pub returns-in-Running-clause-takes : goal.returns-in-Running-clause-takes
 returns-in-Running-clause-takes c =
     let now = ap (λ (p : Phase). after_line (seen p) c.args.number c.args.line.now) c.in-Running.is ∙ after-run _ c.args.number c.args.line.now in
-    subst (ComesOf {X = Unit {0}} (λ u. opened_to None (Some c.take_line.new.self)) c.take_line.result) (sym now)
-    (comes-stands {X = Unit {0}} None c.take_line.result c.take_line.new.self _ c.take_line.ensures.takes)
+    let comes = rw (← c.at.ensures) at c.take_line.ensures.takes in
+    subst (ComesOf {X = Unit {0}} (λ u. opened_to None (Some c.take_line.new.self)) c.at.result) (sym now)
+    (comes-stands {X = Unit {0}} None c.at.result c.take_line.new.self _ comes)
