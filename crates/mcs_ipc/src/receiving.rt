@@ -47,6 +47,7 @@ fn free_any<W: Waiting>(state: &mut State<W>, reply: Option<ObjId>)
 }
 
 /// Waits among the receivers, where the thread blocks; its context goes home where that is the notification bound to the thread (own).
+// a part of its caller, so that neither registers nor the reply object go through memory
 #[inline(always)]
 fn stand<W: Waiting>(
     state: &mut State<W>,

@@ -68,6 +68,13 @@ fn kept(store: &Store<u64>, serial: u32) -> Option<(u64, u16)> {
     ))
 }
 
+/// The same, where the value is found by the place.
+fn kept_by_place(store: &Store<u64>, serial: u32) -> Option<(u64, u16)> {
+    let id = endpoint(serial);
+    let place = store.place(id)?;
+    Some((*store.get_at(id, place)?, place))
+}
+
 /// Calls on the full store, the values and places of the first three objects after each, how many were made and are there.
 const CALLS: [(Call, [Option<(u64, u16)>; 3], (u32, usize)); 5] = [
     (
@@ -103,6 +110,11 @@ fn objects_are_made_found_and_removed(rt: HostRuntime) -> Result<(), Fail> {
         assert!(rt; call.answers(&mut store), "the answer of call {i}");
         let told = [1, 2, 3].map(|serial| kept(&store, serial));
         assert!(rt; told == objects, "the objects after call {i}");
+        let told = [1, 2, 3].map(|serial| kept_by_place(&store, serial));
+        assert!(rt;
+            told == objects,
+            "the objects by their places after call {i}"
+        );
         assert!(rt;
             (store.given(), store.len()) == counts,
             "the counts after call {i}"

@@ -486,6 +486,7 @@ enum ContextCall {
     Wake(u32, u32),
     /// The context of a thread is lent to another.
     Lend(u32, u32),
+    Give(u32, Option<u32>),
     Close(u32),
 }
 
@@ -503,6 +504,26 @@ fn close_context(contexts: &mut Contexts, id: ObjId) -> bool {
         return false;
     }
     contexts.close(id);
+    true
+}
+
+/// Gives a context that is there to a thread that may hold it and holds none, or to nobody. Whether it is given.
+fn give_context(contexts: &mut Contexts, id: ObjId, to: Option<u32>) -> bool {
+    if contexts.core(id).is_none() {
+        return false;
+    }
+    let Some(serial) = to else {
+        contexts.give(id, None);
+        return true;
+    };
+    let thread = ObjId {
+        kind: Kind::Thread,
+        serial,
+    };
+    if serial == 0 || serial > 256 || contexts.of(thread).is_some() {
+        return false;
+    }
+    contexts.give(id, Some(thread));
     true
 }
 
@@ -530,6 +551,7 @@ impl ContextCall {
             ContextCall::Unhome(s) => done(contexts.unhome(context(s))),
             ContextCall::Wake(s, t) => told(contexts.wake(context(s), thread(t))),
             ContextCall::Lend(from, to) => told(contexts.lend(thread(from), thread(to))),
+            ContextCall::Give(s, t) => told(give_context(contexts, context(s), t)),
             ContextCall::Close(s) => told(close_context(contexts, context(s))),
         }
     }
@@ -557,7 +579,7 @@ const FREE: ContextRow = Some((3, None, None));
 const OTHER: ContextRow = Some((0, None, None));
 
 /// Calls, their answers, and what is then kept of the first two contexts.
-const CONTEXT_CALLS: [(ContextCall, Result<bool, Refusal>, ContextRow, ContextRow); 32] = [
+const CONTEXT_CALLS: [(ContextCall, Result<bool, Refusal>, ContextRow, ContextRow); 37] = [
     (ContextCall::Home(1, 1), Err(Refusal::Missing), None, None),
     (ContextCall::Wake(1, 1), Ok(false), None, None),
     (ContextCall::Add(3, 1), Ok(true), FREE, None),
@@ -601,6 +623,26 @@ const CONTEXT_CALLS: [(ContextCall, Result<bool, Refusal>, ContextRow, ContextRo
     ),
     (ContextCall::Unbind(1), Ok(true), FREE, None),
     (ContextCall::Unbind(1), Err(Refusal::NotBound), FREE, None),
+    (
+        ContextCall::Give(1, Some(2)),
+        Ok(true),
+        Some((3, Some(2), None)),
+        None,
+    ),
+    (
+        ContextCall::Give(1, Some(2)),
+        Ok(false),
+        Some((3, Some(2), None)),
+        None,
+    ),
+    (
+        ContextCall::Give(1, Some(3)),
+        Ok(true),
+        Some((3, Some(3), None)),
+        None,
+    ),
+    (ContextCall::Give(1, None), Ok(true), FREE, None),
+    (ContextCall::Give(2, None), Ok(false), FREE, None),
     (ContextCall::Add(0, 2), Ok(true), FREE, OTHER),
     (ContextCall::Unhome(1), Err(Refusal::NotBound), FREE, OTHER),
     (
