@@ -11,6 +11,7 @@ mod checks;
 mod taking;
 
 use checks::{check, exists_as};
+use mcs_book::Book;
 use mcs_object_queues::{ObjectQueues, Waiting};
 use mcs_queues::PlainLines;
 use mcs_slots::Tallied;
@@ -112,16 +113,35 @@ impl Boot {
     {
         let _ = &self.state;
     }
+
+    /// The book of the boot, which has no line of an entry.
+    pub(crate) fn book(&self) -> &Book
+        ensures boot { result.now.book.boot ≡ self.now }
+        ensures faultless { IsFaultless self.now }
+    {
+        self.is_faultless();
+        self.state.book()
+    }
+
+    /// The same, with which the boot ends: its tables are let go.
+    pub(crate) fn into_book(self) -> Book
+        ensures boot { result.book.boot ≡ self }
+        ensures faultless { IsFaultless self }
+    {
+        self.is_faultless();
+        let Boot { state } = self;
+        state.into_book()
+    }
 }
 
-/// A state after the lines of a boot.
-pub(crate) fn boot_state<W: Waiting>(alloc: Global, boot: &Boot) -> Result<State<W>, OutOfMemory>
-    ensures book { IfOk result (λ s. s.book ≡ record { boot = boot.now; lines = [] }) }
+/// A state after the lines of the boot of a book.
+pub(crate) fn boot_state<W: Waiting>(alloc: Global, book: &Book) -> Result<State<W>, OutOfMemory>
+    requires { IsFaultless book.now.book.boot }
+    ensures book { IfOk result (λ s. s.book ≡ record { boot = book.now.book.boot; lines = [] }) }
     ensures hand { IfOk result (λ s. s.hand ≡ []) }
 {
-    boot.is_faultless();
-    let mut state = State::new(alloc, boot.cores(), Tallied::All)?;
-    for line in boot.lines() {
+    let mut state = State::new(alloc, book.cores(), Tallied::All)?;
+    for line in book.boot() {
         takes_line(&mut state, *line)?;
     }
     Ok(state)

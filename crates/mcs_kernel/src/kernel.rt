@@ -339,8 +339,17 @@ impl<L: Lines> Kernel<L> {
     pub fn new(alloc: Global, boot: &Boot) -> Result<Kernel<L>, OutOfMemory>
         ensures { IfOk result (λ k. k ≡ record { boot = boot.now; lines = [] }) }
     {
-        boot.is_faultless();
-        let state = boot_state(alloc, boot)?;
+        let state = boot_state(alloc, boot.book())?;
+        Ok(Kernel { state })
+    }
+
+    /// The same where the boot ends: its tables are let go before those of the kernel are made, so that the memory of one kernel is
+    /// enough.
+    pub(crate) fn after(alloc: Global, boot: Boot) -> Result<Kernel<L>, OutOfMemory>
+        ensures { IfOk result (λ k. k ≡ record { boot = boot; lines = [] }) }
+    {
+        let book = boot.into_book();
+        let state = boot_state(alloc, &book)?;
         Ok(Kernel { state })
     }
 

@@ -33,7 +33,7 @@ impl<L: Lines> Replay<L> {
     pub fn new(alloc: Global, boot: Boot) -> Result<Replay<L>, OutOfMemory>
         ensures { IfOk result (λ r. r ≡ begun boot) }
     {
-        let kernel = Kernel::new(alloc, &boot)?;
+        let kernel = Kernel::after(alloc, boot)?;
         Ok(Replay { kernel, taken: 0 })
     }
 

@@ -198,6 +198,24 @@ impl<W: Waiting> State<W> {
         &self.book
     }
 
+    /// The book, with which the state ends: the tables are let go.
+    pub fn into_book(self) -> Book
+        ensures { result.book ≡ self.book }
+    {
+        let State {
+            book,
+            threads: _threads,
+            letters: _letters,
+            contexts: _contexts,
+            queues: _queues,
+            replies: _replies,
+            notifications: _notifications,
+            slots: _slots,
+            sent: _,
+        } = self;
+        book
+    }
+
     /// Makes room for one line of the boot; that of its records is as it was.
     pub fn reserve_boot_line(&mut self) -> Result<(), OutOfMemory>
         ensures room { OnOk result (0 < self.new.boot_room) }
