@@ -20,7 +20,7 @@ use Rattle.mcs_replies.specs.Tops.{TopRows, top_at, top_among, AreSingle, is_for
 use Rattle.mcs_replies.specs.Places.{place_number}
 use Rattle.mcs_replies.specs.Neighbours.{has, Apart, above, above_from, upper}
 use Rattle.mcs_replies.specs.Links.{link_at, is_with, is_at, above_of, reply_of, replies_of, reply_in, walk, places_of, linked_of, Sound, Ends, Spells, topped_by}
-use Rattle.mcs_replies.specs.Owing.{Owing, owed_at, AreOnce, IsChained, IsOwing}
+use Rattle.mcs_replies.specs.Owing.{Owing, owed_at, owed_in, AreOnce, EndsDebt, IsChained, IsOwing}
 use Rattle.mcs_replies.proofs.Neighbours.{has-head, some-above, length-apart}
 use Rattle.mcs_replies.proofs.Relinking.{one-with, not-with}
 use Rattle.mcs_replies.proofs.Walking.{in-range, some-with, upper-replies, ended-out}
@@ -75,6 +75,10 @@ ended-absent how r ls ts sound out s =
     ended-out how (link_at ls) r (places_of ls ts s) (λ u h. none-true (same (reply_of (link_at ls u)) r) (λ e.
     let there = some-with s (link_at ls u) (sym ((sound.linked s).stands u) ∙ h) in
     absurd (out u (some-reply (link_at ls u) there ∙ ap Some (same-equal (reply_of (link_at ls u)) r e)))))
+
+-- where a reply object owes nobody, the end of its debt changes no chain
+pub unowed-ends : (v : Owing) (how : Ending) (r : ObjId) → IsOwing v → owed_in v r ≡ None → EndsDebt v v how r
+unowed-ends v how r all free s = sym (ended-absent how r v.links v.tops all.sound (free-out v.rows v.links r all.owing free) s)
 
 -- links and tops before any debt
 no-link : (ls : List (Option Link)) → ls ≡ replicate object_limit None → (u : ℕ) → link_at ls u ≡ None

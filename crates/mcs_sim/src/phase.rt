@@ -124,6 +124,7 @@ impl StepRun {
         let Ok(mut run) = StepRun::new(alloc, boot) else {
             return Err(SimFault::OutOfMemory);
         };
+        // A step is never refused by its line, so no fault tells this number.
         take_step(&mut run.replay, alloc, &step).at(0)?;
         Ok(run)
     }

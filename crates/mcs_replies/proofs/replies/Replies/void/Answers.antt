@@ -1,26 +1,20 @@
-use Rattle.std.proofs.Common.{◌≡◌, Some, None, ap, sym, ◌∙◌}
+use Rattle.std.proofs.Common.{◌≡◌, Some, ap, sym, subst, ◌∙◌}
 use Rattle.mcs_types.specs.Ids.{same, is_just}
 use Rattle.mcs_types.proofs.Ids.{same-equal}
 use Rattle.mcs_types.specs.Chains.{ended, head_of}
-use Rattle.mcs_replies.specs.Links.{linked_of}
-use Rattle.mcs_replies.specs.Owing.{chain_in, owed_at}
-use Rattle.mcs_replies.proofs.OwingLaws.{free-out, ended-absent, void-chains, void-sound, void-others, void-out, void-topped, owes-still, none-true}
+use Rattle.mcs_replies.specs.Owing.{Owing, chain_in, EndsDebt}
+use Rattle.mcs_replies.proofs.OwingLaws.{unowed-ends, void-chains, void-sound, void-others, void-out, void-topped, owes-still, none-true}
 use Rattle.mcs_replies.proofs.RowLaws.{no-place}
 use Rattle.mcs_replies.proofs.replies.Replies.void.Goals as goal
 
 pub returns-in_err-caller-clause-chains : goal.returns-in_err-caller-clause-chains
-returns-in_err-caller-clause-chains c = λ s.
-    let i = c.self.inside in
-    let free : owed_at i.rows c.args.reply ≡ None = sym c.in_err-caller.ensures in
-    let e : ended c.args.how c.args.reply (linked_of i.links.items i.tops s) ≡ linked_of i.links.items i.tops s = ended-absent c.args.how c.args.reply i.links.items i.tops c.self.invariant.sound (free-out i.rows i.links.items c.args.reply c.self.invariant.owing free) s in
-    sym (ap (λ v. chain_in v s) c.self.view_is) ∙ sym e ∙ ap (λ v. ended c.args.how c.args.reply (chain_in v s)) c.self.view_is
+returns-in_err-caller-clause-chains c =
+    subst (λ (v : Owing). EndsDebt v v c.args.how c.args.reply) c.self.view_is (unowed-ends _ c.args.how c.args.reply c.self.invariant (sym c.in_err-caller.ensures))
 
 pub returns-in_err-place-clause-chains : goal.returns-in_err-place-clause-chains
-returns-in_err-place-clause-chains c = λ s.
-    let i = c.self.inside in
-    let free = no-place i.rows c.args.reply (sym c.in_err-place.ensures) in
-    let e : ended c.args.how c.args.reply (linked_of i.links.items i.tops s) ≡ linked_of i.links.items i.tops s = ended-absent c.args.how c.args.reply i.links.items i.tops c.self.invariant.sound (free-out i.rows i.links.items c.args.reply c.self.invariant.owing free) s in
-    sym (ap (λ v. chain_in v s) c.self.view_is) ∙ sym e ∙ ap (λ v. ended c.args.how c.args.reply (chain_in v s)) c.self.view_is
+returns-in_err-place-clause-chains c =
+    subst (λ (v : Owing). EndsDebt v v c.args.how c.args.reply) c.self.view_is
+    (unowed-ends _ c.args.how c.args.reply c.self.invariant (no-place c.self.inside.rows c.args.reply (sym c.in_err-place.ensures)))
 
 pub invariant_of-self : goal.invariant_of-self
 invariant_of-self c =
