@@ -1,7 +1,6 @@
 #!/bin/sh
 # Compares what `mcslab` tells of each script of tests/lab with what stands beside it, and has Debian's `prove` read the verdicts
-# on examples/; examples/explore has to be what the gate explores. Run it after rt ci, which leaves the program, or with
-# another program: sh tests/lab.sh PROGRAM
+# on examples/. Run it after rt ci, which leaves the program, or with another program: sh tests/lab.sh PROGRAM
 set -eu
 cd "$(dirname "$0")/.."
 program=${1:-crates/mcslab/out/mcslab}
@@ -15,8 +14,6 @@ for wanted in tests/lab/*.check tests/lab/*.why tests/lab/*.json tests/lab/*.sta
     tried=$((tried + 1))
 done
 echo "tests/lab: $tried texts, each as wanted"
-# the scripts of users are those that the gate explores
-diff -r examples/explore crates/mcs_explored/data
 if command -v prove >/dev/null; then
     grep -L '^user ' examples/*.mcs | xargs prove -e "$program check"
 else

@@ -17,7 +17,7 @@ for plan in "$data"/*.plan; do
     [ -f "$kept" ] || continue
     "$program" compile "$plan" | cmp - "$kept" || { echo "plans.sh: $plan"; exit 1; }
     "$program" compile <"$plan" | cmp - "$kept" || { echo "plans.sh: $plan"; exit 1; }
-    drawn=crates/mcs_gallery/data/${kept##*/}
+    drawn=crates/mcs_examples/data/gallery/${kept##*/}
     [ ! -f "$drawn" ] || cmp "$kept" "$drawn" || { echo "plans.sh: $drawn"; exit 1; }
     "$program" check "$kept" >"$work/verdicts" || { echo "plans.sh: $kept"; cat "$work/verdicts"; exit 1; }
     tried=$((tried + 1))

@@ -1,12 +1,28 @@
-//! The scripts of `examples/` that consist of steps are checked, for each says what its steps answer, and drawn: each picture is compared
-//! with the one that is kept beside the script.
+//! The scripts of `examples/` that consist of steps are checked, for each says what its steps answer, and drawn, as those of its
+//! gallery: each picture is compared with the one that is kept beside its script, and looked at. So are pages, texts and scripts with a
+//! flaw. All orders of the scripts of users are gone through. Told is besides what a search finds of a small system, and for which
+//! texts patterns stand.
 #![tactic(auto)]
 
+mod flaws;
+mod forms;
+mod gallery;
+mod looks;
+mod orders;
+mod patterns;
+mod pen;
+mod places;
+mod rings;
+
+use flaws::tell_flaws;
+use gallery::draw_gallery;
+use looks::look_at;
 use mcs_lab::{LabFault, check};
-use mcs_picture_tests::look_at;
 use mcs_pictures::Format;
 use mcs_sim::{Source, arguments};
-use std::alloc::Global;
+use orders::explore_all;
+use patterns::tell_patterns;
+use rings::tell_rings;
 use std::fs;
 use std::io::{self, BufWriter, Write};
 use std::process::ExitCode;
@@ -20,27 +36,48 @@ fn check_file<W: Write + Drop>(rt: &HostRuntime, to: &mut W, path: &str) -> Resu
     check(rt.alloc(), &mut Source::new(file), to)
 }
 
-/// Draws the script of a file, and writes what is found of its picture.
-fn draw_file<W: Write>(rt: &HostRuntime, to: &mut W, path: &str) -> Result<(), LabFault> {
-    let name = path.trim_end_matches(".mcs");
-    let picture = format!(in rt.alloc(); "{name}.svg")?;
-    let (Ok(script), Ok(kept)) = (fs::open(rt, path), fs::read(rt, picture.as_str())) else {
+/// Draws the script of a file, and writes what is found of the picture.
+fn draw_file<W: Write>(
+    rt: &HostRuntime,
+    to: &mut W,
+    script: &str,
+    picture: &str,
+    format: Format,
+) -> Result<(), LabFault> {
+    let (Ok(script), Ok(kept)) = (fs::open(rt, script), fs::read(rt, picture)) else {
         return Err(LabFault::Read);
     };
-    let told = look_at(rt.alloc(), script, kept.as_slice(), Format::Svg);
+    let told = look_at(rt.alloc(), script, kept.as_slice(), format);
     writeln!(to, "# {picture}: {told}")?;
     Ok(())
 }
 
 /// Checks and draws the scripts of all files. True where each holds.
-fn check_all(rt: &HostRuntime, paths: &[String]) -> Result<bool, LabFault> {
-    let mut to = BufWriter::new(rt.alloc(), io::writer(rt))?;
+fn check_all<W: Write + Drop>(
+    rt: &HostRuntime,
+    to: &mut W,
+    paths: &[String],
+) -> Result<bool, LabFault> {
     let mut all_hold = true;
     for path in paths {
-        let holds = check_file(rt, &mut to, path.as_str())?;
-        draw_file(rt, &mut to, path.as_str())?;
+        let holds = check_file(rt, to, path.as_str())?;
+        let name = path.trim_end_matches(".mcs");
+        let picture = format!(in rt.alloc(); "{name}.svg")?;
+        draw_file(rt, to, path.as_str(), picture.as_str(), Format::Svg)?;
         all_hold = all_hold && holds;
     }
+    Ok(all_hold)
+}
+
+/// Checks the scripts of all files, draws them and the gallery, explores, and tells what is found. True where each script holds.
+fn tell_all(rt: &HostRuntime, paths: &[String]) -> Result<bool, LabFault> {
+    let mut to = BufWriter::new(rt.alloc(), io::writer(rt))?;
+    let all_hold = check_all(rt, &mut to, paths)?;
+    draw_gallery(rt, &mut to)?;
+    tell_flaws(rt.alloc(), &mut to)?;
+    explore_all(rt, &mut to)?;
+    tell_rings(rt.alloc(), &mut to)?;
+    tell_patterns(&mut to)?;
     to.flush()?;
     Ok(all_hold)
 }
@@ -53,7 +90,7 @@ fn main(rt: HostRuntime) -> ExitCode {
         [_, paths @ ..] => paths,
         [] => &[],
     };
-    match check_all(&rt, paths) {
+    match tell_all(&rt, paths) {
         Ok(true) => ExitCode::SUCCESS,
         Ok(false) => ExitCode::FAILURE,
         Err(fault) => {

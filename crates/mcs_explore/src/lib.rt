@@ -3,8 +3,6 @@
 #![tactic(auto)]
 
 mod likeness;
-#[cfg(test)]
-mod rings;
 mod search;
 
 pub use likeness::{Likeness, every_run, near_run};

@@ -2,7 +2,5 @@
 #![tactic(auto)]
 
 mod patterns;
-#[cfg(test)]
-mod tests;
 
 pub use patterns::is_match;

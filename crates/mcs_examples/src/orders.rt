@@ -1,23 +1,20 @@
-//! Goes through all orders of each script of users in `data/`, writes what is told of it, and replays the scripts that show it.
-#![tactic(auto)]
-
+//! All orders of the scripts of users in `examples/explore/`: what is told of each, and how the scripts replay that show it.
 use mcs_lab::LabFault;
 use mcs_sim::{ReplayRun, Source};
 use mcs_ways::{Explored, Saves, Wanted, explore_script};
 use std::alloc::Global;
 use std::fs;
-use std::io::{self, BufWriter, Write};
-use std::process::ExitCode;
+use std::io::Write;
 
 /// The scripts.
 const SCRIPTS: [&str; 7] = [
-    "late-pick.mcs",
-    "suspended-calls.mcs",
-    "lost-signal.mcs",
-    "mutex.mcs",
-    "no-mutex.mcs",
-    "dining.mcs",
-    "dining-mended.mcs",
+    "explore/late-pick.mcs",
+    "explore/suspended-calls.mcs",
+    "explore/lost-signal.mcs",
+    "explore/mutex.mcs",
+    "explore/no-mutex.mcs",
+    "explore/dining.mcs",
+    "explore/dining-mended.mcs",
 ];
 
 /// How many scripts were kept, of how many each step is let in, and how many steps they have in all.
@@ -110,21 +107,9 @@ fn explore_file<W: Write + Drop>(rt: &HostRuntime, to: &mut W, path: &str) -> Re
 }
 
 /// Explores all scripts.
-fn explore_all(rt: &HostRuntime) -> Result<(), LabFault> {
-    let mut to = BufWriter::new(rt.alloc(), io::writer(rt))?;
+pub fn explore_all<W: Write + Drop>(rt: &HostRuntime, to: &mut W) -> Result<(), LabFault> {
     for path in SCRIPTS {
-        explore_file(rt, &mut to, path)?;
+        explore_file(rt, to, path)?;
     }
-    to.flush()?;
     Ok(())
-}
-
-fn main(rt: HostRuntime) -> ExitCode {
-    match explore_all(&rt) {
-        Ok(()) => ExitCode::SUCCESS,
-        Err(fault) => {
-            let _ = rt.eprintln(fault);
-            ExitCode::from(fault.status())
-        }
-    }
 }

@@ -1,9 +1,11 @@
-//! A small system.
+//! A small system, searched as a script's is.
 ghost use Rattle.std.specs.Prelude.{◌≡◌, ◌<◌, ◌^◌};
-ghost use Rattle.mcs_explore.specs.Rings.{turned, turned_all};
+ghost use Rattle.mcs_examples.specs.Rings.{turned, turned_all};
 
-use crate::search::{Budget, System, explore};
+use mcs_explore::{Budget, System, explore};
+use mcs_lab::LabFault;
 use std::alloc::{AllocError, Global};
+use std::io::Write;
 
 /// Places 0 to n - 1, from each of which one goes on by one or doubles; the number of steps so far is no part of the key.
 #[derive(Drop)]
@@ -37,7 +39,7 @@ impl Ring {
 
 impl System for Ring {
     ghost use Rattle.std.specs.Prelude.{◌≡◌, ℕ, refl};
-    ghost use Rattle.mcs_explore.specs.Rings.{StandsAt, Turns};
+    ghost use Rattle.mcs_examples.specs.Rings.{StandsAt, Turns};
     ghost use Rattle.std.proofs.Common.{sym, ◌∙◌};
     ghost use Rattle.std.proofs.lemmas.Bool.{eqb-true};
 
@@ -99,37 +101,27 @@ impl System for Ring {
     ghost as_good = { λ m s k c same is. is ∙ eqb-true k c same };
 }
 
-/// All places of a ring of 1,000, with the fewest steps to each.
-#[test]
-fn ring_of_1000(rt: HostRuntime) -> Result<(), AllocError> {
-    let budget = Budget {
-        states: 2000,
-        depth: 2000,
-    };
-    let found = explore(rt.alloc(), &mut Ring { n: 1000 }, budget)?;
-    assert!(rt; found.states() == 1000);
-    assert!(rt; found.is_whole());
-    let path = found.path(rt.alloc(), 999)?;
-    assert!(rt; path.len() == found.depth(999));
-    Ok(())
-}
+/// How many states are enough for a ring of 1,000, and how many steps are looked behind.
+const BUDGETS: [(usize, usize); 3] = [(2000, 2000), (2000, 3), (10, 2000)];
 
-/// No more than the budget allows is looked behind.
-#[test]
-fn part_of_a_ring(rt: HostRuntime) -> Result<(), AllocError> {
-    let shallow = Budget {
-        states: 2000,
-        depth: 3,
-    };
-    let found = explore(rt.alloc(), &mut Ring { n: 1000 }, shallow)?;
-    assert!(rt; !found.is_whole());
-    assert!(rt; found.depth(found.done) == 3);
-    let few = Budget {
-        states: 10,
-        depth: 2000,
-    };
-    let found = explore(rt.alloc(), &mut Ring { n: 1000 }, few)?;
-    assert!(rt; !found.is_whole());
-    assert!(rt; found.states() >= 10);
+/// Tells how much of the ring is found by each budget, how far the place lies behind which is looked next, and the last.
+pub fn tell_rings<W: Write>(alloc: Global, to: &mut W) -> Result<(), LabFault> {
+    for (states, depth) in BUDGETS {
+        let found = explore(alloc, &mut Ring { n: 1000 }, Budget { states, depth })?;
+        writeln!(to, "# a ring, {states} states and {depth} steps")?;
+        if !found.is_whole() {
+            let next = found.depth(found.done);
+            writeln!(to, "not all: the next lies {next} steps off")?;
+        }
+        let count = found.states();
+        let last = count.saturating_sub(1);
+        let off = found.depth(last);
+        let path = found.path(alloc, last)?;
+        let steps = path.len();
+        writeln!(
+            to,
+            "{count} found, the last {off} steps off, by a path of {steps}"
+        )?;
+    }
     Ok(())
 }

@@ -4,7 +4,7 @@ use Rattle.std.proofs.Common.{refl, ap, sym, ◌∙◌, arith}
 use Rattle.mcs_explore.specs.Paths.{Path}
 use Rattle.mcs_explore.specs.Search.{IsNext, IsAmong, AreNexts}
 use Rattle.mcs_explore.proofs.Places.{some-same}
-use Rattle.mcs_explore.specs.Rings.{turned, turned_all, StandsAt, Turns}
+use Rattle.mcs_examples.specs.Rings.{turned, turned_all, StandsAt, Turns}
 
 -- where a path leads
 pub path-place : (n : ℕ) (ls : List Bool) (s t : ℕ × ℕ) → Path (Turns n) s ls t → t.0 ≡ turned_all n ls s.0

@@ -1,9 +1,9 @@
 use Rattle.std.specs.Prelude.{ℕ, Bool, List}
 use Rattle.std.proofs.Common.{sym, subst, ◌∙◌, arith}
 use Rattle.mcs_explore.specs.Search.{AreNexts}
-use Rattle.mcs_explore.specs.Rings.{StandsAt, Turns}
-use Rattle.mcs_explore.proofs.Turning.{path-place, pushed, two-turns}
-use Rattle.mcs_explore.proofs.rings.RingSystem.nexts.Goals as goal
+use Rattle.mcs_examples.specs.Rings.{StandsAt, Turns}
+use Rattle.mcs_examples.proofs.Turning.{path-place, pushed, two-turns}
+use Rattle.mcs_examples.proofs.rings.RingSystem.nexts.Goals as goal
 
 pub returns-clause-nexts : goal.returns-clause-nexts
 returns-clause-nexts c = λ s path.

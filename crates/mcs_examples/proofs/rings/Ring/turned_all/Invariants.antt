@@ -1,6 +1,6 @@
 use Rattle.std.specs.Prelude.{◌≡◌, ◌<◌, ◌^◌, drop}
-use Rattle.mcs_explore.specs.Rings.{turned_all}
-use Rattle.mcs_explore.proofs.rings.Ring.turned_all.Given as goal
+use Rattle.mcs_examples.specs.Rings.{turned_all}
+use Rattle.mcs_examples.proofs.rings.Ring.turned_all.Given as goal
 
 abbrev pub invariant-loop-doubles : goal.invariant-loop-doubles
 invariant-loop-doubles l = record {
