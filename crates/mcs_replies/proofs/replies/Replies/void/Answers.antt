@@ -1,4 +1,4 @@
-use Rattle.std.proofs.Common.{◌≡◌, Some, ap, sym, subst, ◌∙◌}
+use Rattle.std.proofs.Common.{Some, ap, sym, subst, ◌∙◌}
 use Rattle.mcs_types.specs.Ids.{same, is_just}
 use Rattle.mcs_types.proofs.Ids.{same-equal}
 use Rattle.mcs_types.specs.Chains.{ended, head_of}
