@@ -4,26 +4,24 @@
 set -eu
 cd "$(dirname "$0")/.."
 program=crates/mcslab/out/mcslab
-planned=$PWD/crates/mcs_planned/out/mcs_planned
-data=crates/mcs_planned/data
-for needed in "$program" "$planned"; do
+examples=$PWD/crates/mcs_examples/out/mcs_examples
+data=crates/mcs_examples/data
+for needed in "$program" "$examples"; do
     [ -x "$needed" ] || { echo "plans.sh: run rt ci first, which leaves $needed"; exit 1; }
 done
 work=$(mktemp -d)
 trap 'rm -r "$work"' EXIT
 tried=0
-for plan in "$data"/*.plan; do
+for plan in "$data"/gallery/*.plan "$data"/plans/*.plan; do
     kept=${plan%.plan}.mcs
     [ -f "$kept" ] || continue
     "$program" compile "$plan" | cmp - "$kept" || { echo "plans.sh: $plan"; exit 1; }
     "$program" compile <"$plan" | cmp - "$kept" || { echo "plans.sh: $plan"; exit 1; }
-    drawn=crates/mcs_examples/data/gallery/${kept##*/}
-    [ ! -f "$drawn" ] || cmp "$kept" "$drawn" || { echo "plans.sh: $drawn"; exit 1; }
     "$program" check "$kept" >"$work/verdicts" || { echo "plans.sh: $kept"; cat "$work/verdicts"; exit 1; }
     tried=$((tried + 1))
 done
-"$program" compile --map "$data/own-spaces.plan" | cmp - "$data/own-spaces.map"
-echo '+ joins t3 e1.recv r1' | "$program" names "$data/own-spaces.mcs" >"$work/named"
+"$program" compile --map "$data/gallery/own-spaces.plan" | cmp - "$data/gallery/own-spaces.map"
+echo '+ joins t3 e1.recv r1' | "$program" names "$data/gallery/own-spaces.mcs" >"$work/named"
 echo '+ joins server srv.recv srv.reply' | cmp - "$work/named"
 status=0
 printf 'endpoint ep\nthread a prio 256\n' | "$program" compile 2>"$work/told" || status=$?
@@ -35,4 +33,4 @@ status=0
 "$program" names <"$work/named" 2>"$work/told" || status=$?
 [ $status -eq 64 ]
 echo "plans: $tried scripts, a map, names and statuses as wanted"
-cd "$data" && "$planned" 1000 | tail -1
+cd "$data" && "$examples" 1000

@@ -1,7 +1,7 @@
 //! The scripts of `examples/` that consist of steps are checked, for each says what its steps answer, and drawn, as those of its
 //! gallery: each picture is compared with the one that is kept beside its script, and looked at. So are pages, texts and scripts with a
-//! flaw. All orders of the scripts of users are gone through. Told is besides what a search finds of a small system, and for which
-//! texts patterns stand.
+//! flaw. All orders of the scripts of users are gone through, and plans are compiled. Told is besides what a search finds of a small
+//! system, and for which texts patterns stand. With a number alone, a byte of each plan is changed so many times, and no more is done.
 #![tactic(auto)]
 
 mod flaws;
@@ -12,6 +12,7 @@ mod orders;
 mod patterns;
 mod pen;
 mod places;
+mod plans;
 mod rings;
 
 use flaws::tell_flaws;
@@ -22,6 +23,7 @@ use mcs_pictures::Format;
 use mcs_sim::{Source, arguments};
 use orders::explore_all;
 use patterns::tell_patterns;
+use plans::{tell_plans, try_changes};
 use rings::tell_rings;
 use std::fs;
 use std::io::{self, BufWriter, Write};
@@ -69,17 +71,39 @@ fn check_all<W: Write + Drop>(
     Ok(all_hold)
 }
 
-/// Checks the scripts of all files, draws them and the gallery, explores, and tells what is found. True where each script holds.
+/// How many times a byte of each plan is changed, where no number is given.
+const CHANGES: usize = 50;
+
+/// Checks the scripts of all files, draws them and the gallery, explores, compiles, and tells what is found. True where each script
+/// holds.
 fn tell_all(rt: &HostRuntime, paths: &[String]) -> Result<bool, LabFault> {
     let mut to = BufWriter::new(rt.alloc(), io::writer(rt))?;
     let all_hold = check_all(rt, &mut to, paths)?;
     draw_gallery(rt, &mut to)?;
     tell_flaws(rt.alloc(), &mut to)?;
     explore_all(rt, &mut to)?;
+    tell_plans(rt, &mut to)?;
+    try_changes(rt, &mut to, CHANGES)?;
     tell_rings(rt.alloc(), &mut to)?;
     tell_patterns(&mut to)?;
     to.flush()?;
     Ok(all_hold)
+}
+
+/// Changes plans so many times, and tells how many went wrong.
+fn tell_changes(rt: &HostRuntime, times: usize) -> Result<bool, LabFault> {
+    let mut to = BufWriter::new(rt.alloc(), io::writer(rt))?;
+    try_changes(rt, &mut to, times)?;
+    to.flush()?;
+    Ok(true)
+}
+
+/// The number that is given in place of files, if one is.
+fn number_of(paths: &[String]) -> Option<usize> {
+    match paths {
+        [word] => word.as_str().parse::<usize>().ok(),
+        _ => None,
+    }
 }
 
 fn main(rt: HostRuntime) -> ExitCode {
@@ -90,7 +114,11 @@ fn main(rt: HostRuntime) -> ExitCode {
         [_, paths @ ..] => paths,
         [] => &[],
     };
-    match tell_all(&rt, paths) {
+    let told = match number_of(paths) {
+        Some(times) => tell_changes(&rt, times),
+        None => tell_all(&rt, paths),
+    };
+    match told {
         Ok(true) => ExitCode::SUCCESS,
         Ok(false) => ExitCode::FAILURE,
         Err(fault) => {

@@ -18,10 +18,19 @@ use std::sync::ledger::{Blank, Ledger};
 /// Lines as links: each thread's slot names the threads before and behind it, and each line's slot its first and its last. To
 /// leave a line or to ask for a neighbour reads no other thread's slot; to join one walks past threads of a lower priority,
 /// from the finger of the nearest lower one that has a finger, or from the line's end (own). `new` takes all memory.
-#[derive(Drop)]
 pub struct LinkedLines {
     slots: LinkSlots,
     fingers: Fingers,
+}
+
+// By hand, so that it is a function of its own: a derived drop would be proved anew wherever it is let go.
+impl Drop for LinkedLines {
+    fn drop(self) {
+        let LinkedLines {
+            slots: _,
+            fingers: _,
+        } = self;
+    }
 }
 
 impl Model for LinkedLines {
@@ -247,6 +256,12 @@ fn may_enter(slots: &LinkSlots, t: ThreadNo, q: LineNo) -> bool
 }
 
 impl LinkedLines {
+    /// Its slots and its fingers.
+    fn into_parts(self) -> (LinkSlots, Fingers) {
+        let LinkedLines { slots, fingers } = self;
+        (slots, fingers)
+    }
+
     /// `join`, which counts its visits: at most one more than threads of a lower priority stand in the line (own).
     pub fn join_counted<G: Ledger>(
         &mut self,
@@ -356,7 +371,10 @@ impl Lines for LinkedLines {
         ensures { IfOk result (λ s. s ≡ self.now) }
     {
         let (slots, fingers) = match spare {
-            Some(LinkedLines { slots, fingers }) => (Some(slots), Some(fingers)),
+            Some(spare) => {
+                let (slots, fingers) = spare.into_parts();
+                (Some(slots), Some(fingers))
+            }
             None => (None, None),
         };
         let slots = self.slots.copy(alloc, slots)?;
