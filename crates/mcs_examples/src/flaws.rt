@@ -8,7 +8,7 @@ use std::alloc::Global;
 use std::io::Write;
 
 /// Heights of a text and of another below it, and where the tip of an arrow stands above them.
-const PAGES: [(u64, u64, u64); 5] = [
+const PAGES: &[(u64, u64, u64)] = &[
     (43, 55, 106),
     (43, 54, 106),
     (42, 55, 106),
@@ -18,7 +18,7 @@ const PAGES: [(u64, u64, u64); 5] = [
 
 /// Tells of each page whether its texts stand clear.
 fn tell_pages<W: Write>(alloc: Global, to: &mut W) -> Result<(), LabFault> {
-    for (height, below, tip) in PAGES {
+    for &(height, below, tip) in PAGES {
         let page = format!(in alloc;
             "<text class=\"note\" x=\"106\" y=\"{height}\">waits</text>\n<text class=\"mark\" x=\"106\" y=\"{below}\">bound</text>\n<path class=\"arrow word\" d=\"M20,5H40V20L{tip},30\">\n"
         )?;
@@ -32,7 +32,7 @@ fn tell_pages<W: Write>(alloc: Global, to: &mut W) -> Result<(), LabFault> {
 }
 
 /// Second lines of a text for Mermaid.
-const LINES: [&str; 9] = [
+const LINES: &[&str] = &[
     "    participant t1 as client (t1)",
     "    participant t1",
     "    t1->>t2: m0 fs call badge 7: 10",
@@ -46,7 +46,7 @@ const LINES: [&str; 9] = [
 
 /// Tells of each line whether it has a form.
 fn tell_lines<W: Write>(alloc: Global, to: &mut W) -> Result<(), LabFault> {
-    for line in LINES {
+    for &line in LINES {
         let text = format!(in alloc; "sequenceDiagram\n{line}\n")?;
         let has_form = is_sequence(text.as_str());
         writeln!(to, "# {line}: form {has_form}")?;
@@ -55,7 +55,7 @@ fn tell_lines<W: Write>(alloc: Global, to: &mut W) -> Result<(), LabFault> {
 }
 
 /// Scripts with names.
-const NAMES: [&str; 5] = [
+const NAMES: &[&str] = &[
     "#@ t1 client\ncores 1\n",
     "#@ t1 the client\ncores 1\n",
     "cores 1\n#@ q1 client\n",
@@ -74,7 +74,7 @@ fn tell_fault<W: Write>(to: &mut W, verb: &str, fault: Option<LabFault>) -> Resu
 
 /// Tells of each script with names what is wrong with it, for who draws it and for who checks it.
 fn tell_names<W: Write>(alloc: Global, to: &mut W) -> Result<(), LabFault> {
-    for script in NAMES {
+    for &script in NAMES {
         let mut source = Source::new(script.as_bytes());
         let window = Window { first: 1, last: 1 };
         let drawn = draw_script(

@@ -5,7 +5,7 @@ use mcs_pictures::Format;
 use std::io::Write;
 
 /// The scripts, and for each what is made of it.
-const PICTURES: [(&str, &str, Format); 13] = [
+const PICTURES: &[(&str, &str, Format)] = &[
     (
         "gallery/passive-server.mcs",
         "gallery/passive-server.svg",
@@ -63,7 +63,7 @@ const PICTURES: [(&str, &str, Format); 13] = [
 
 /// Draws each script of the gallery, and writes what is found of the picture.
 pub fn draw_gallery<W: Write>(rt: &HostRuntime, to: &mut W) -> Result<(), LabFault> {
-    for (script, picture, format) in PICTURES {
+    for &(script, picture, format) in PICTURES {
         draw_file(rt, to, script, picture, format)?;
     }
     Ok(())

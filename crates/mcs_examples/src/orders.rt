@@ -7,7 +7,7 @@ use std::fs;
 use std::io::Write;
 
 /// The scripts.
-const SCRIPTS: [&str; 7] = [
+const SCRIPTS: &[&str] = &[
     "explore/late-pick.mcs",
     "explore/suspended-calls.mcs",
     "explore/lost-signal.mcs",
@@ -108,7 +108,7 @@ fn explore_file<W: Write + Drop>(rt: &HostRuntime, to: &mut W, path: &str) -> Re
 
 /// Explores all scripts.
 pub fn explore_all<W: Write + Drop>(rt: &HostRuntime, to: &mut W) -> Result<(), LabFault> {
-    for path in SCRIPTS {
+    for &path in SCRIPTS {
         explore_file(rt, to, path)?;
     }
     Ok(())

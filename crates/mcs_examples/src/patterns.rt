@@ -4,7 +4,7 @@ use mcs_patterns::is_match;
 use std::io::Write;
 
 /// Patterns and texts. Nothing has one word, which is empty, and spaces stand between such words.
-const PATTERNS: [(&str, &str); 12] = [
+const PATTERNS: &[(&str, &str)] = &[
     ("got * 7", "got 9 7"),
     ("got * 7", "got 9 7 5"),
     ("got * 7 5", "got 9 7"),
@@ -21,7 +21,7 @@ const PATTERNS: [(&str, &str); 12] = [
 
 /// Tells of each pattern whether it stands for its text.
 pub fn tell_patterns<W: Write>(to: &mut W) -> Result<(), LabFault> {
-    for (pattern, text) in PATTERNS {
+    for &(pattern, text) in PATTERNS {
         let stands = is_match(pattern.as_bytes(), text.as_bytes());
         writeln!(to, "# '{pattern}' for '{text}': {stands}")?;
     }

@@ -13,7 +13,7 @@ use std::fs;
 use std::io::Write;
 
 /// The plans.
-const PLANS: [&str; 11] = [
+const PLANS: &[&str] = &[
     "gallery/passive-server",
     "gallery/nested-calls",
     "gallery/two-badges",
@@ -178,7 +178,7 @@ fn changed(plan: &[u8], alloc: Global, random: &mut Pcg32) -> Result<Vec<u8>, La
 pub fn try_changes<W: Write>(rt: &HostRuntime, to: &mut W, times: usize) -> Result<(), LabFault> {
     let mut random = Pcg32::new(1, 1);
     let mut wrong: usize = 0;
-    for name in PLANS {
+    for &name in PLANS {
         let plan = plan_of(rt, name)?;
         for _ in 0..times {
             if !is_right(rt.alloc(), &changed(&plan, rt.alloc(), &mut random)?)? {
@@ -192,7 +192,7 @@ pub fn try_changes<W: Write>(rt: &HostRuntime, to: &mut W, times: usize) -> Resu
 
 /// Tells of all plans.
 pub fn tell_plans<W: Write>(rt: &HostRuntime, to: &mut W) -> Result<(), LabFault> {
-    for name in PLANS {
+    for &name in PLANS {
         compare(rt, to, name)?;
     }
     try_faults(rt, to)?;

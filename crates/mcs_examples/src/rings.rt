@@ -102,11 +102,11 @@ impl System for Ring {
 }
 
 /// How many states are enough for a ring of 1,000, and how many steps are looked behind.
-const BUDGETS: [(usize, usize); 3] = [(2000, 2000), (2000, 3), (10, 2000)];
+const BUDGETS: &[(usize, usize)] = &[(2000, 2000), (2000, 3), (10, 2000)];
 
 /// Tells how much of the ring is found by each budget, how far the place lies behind which is looked next, and the last.
 pub fn tell_rings<W: Write>(alloc: Global, to: &mut W) -> Result<(), LabFault> {
-    for (states, depth) in BUDGETS {
+    for &(states, depth) in BUDGETS {
         let found = explore(alloc, &mut Ring { n: 1000 }, Budget { states, depth })?;
         writeln!(to, "# a ring, {states} states and {depth} steps")?;
         if !found.is_whole() {

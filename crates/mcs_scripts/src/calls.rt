@@ -11,7 +11,7 @@ use mcs_types::{
 use std::alloc::Global;
 
 /// The objects that are made first.
-const OBJECTS: [BootLine; 11] = [
+const OBJECTS: &[BootLine] = &[
     BootLine::CNode { radix: 5 },
     BootLine::Endpoint,
     BootLine::Endpoint,
@@ -26,10 +26,10 @@ const OBJECTS: [BootLine; 11] = [
 ];
 
 /// The priorities of the threads, each with a context of the same serial.
-const THREADS: [(u32, u8); 5] = [(1, 10), (2, 20), (3, 10), (4, 20), (5, 30)];
+const THREADS: &[(u32, u8)] = &[(1, 10), (2, 20), (3, 10), (4, 20), (5, 30)];
 
 /// The slots that are filled: index, object, bits of the rights, badge.
-const SLOTS: [(u8, Kind, u32, u8, u64); 19] = [
+const SLOTS: &[(u8, Kind, u32, u8, u64)] = &[
     (1, Kind::Endpoint, 1, 1, 9),
     (2, Kind::Endpoint, 1, 15, 0),
     (3, Kind::Endpoint, 2, 15, 0),
@@ -123,13 +123,13 @@ pub fn booted(alloc: Global) -> Result<Boot, Failed> {
         Ok(boot) => boot,
         Err(_) => Boot::new(alloc, 1)?,
     };
-    for line in &OBJECTS {
+    for line in OBJECTS {
         add(&mut boot, line)?;
     }
-    for (serial, priority) in THREADS {
+    for &(serial, priority) in THREADS {
         add(&mut boot, &thread(serial, priority))?;
     }
-    for (index, kind, serial, bits, badge) in SLOTS {
+    for &(index, kind, serial, bits, badge) in SLOTS {
         let rights = Rights::new(bits).ok_or(Failed)?;
         add(&mut boot, &slot(index, object(kind, serial), rights, badge))?;
     }

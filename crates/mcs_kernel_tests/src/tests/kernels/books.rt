@@ -9,15 +9,6 @@ use std::alloc::Global;
 use std::io::Write;
 use std::test::Fail;
 
-/// As many words as a message may have, from the greatest down.
-fn words() -> [u64; MESSAGE_WORDS] {
-    let mut words = [u64::MAX; MESSAGE_WORDS];
-    for (i, word) in words.iter_mut().enumerate() {
-        *word = u64::MAX - i as u64;
-    }
-    words
-}
-
 /// An object of each kind.
 #[derive(Drop)]
 struct Ids {
@@ -32,7 +23,7 @@ struct Ids {
 fn id(kind: Kind, below: u32) -> ObjId {
     ObjId {
         kind,
-        serial: u32::MAX - below,
+        serial: !below,
     }
 }
 
@@ -73,30 +64,44 @@ fn cap_to(obj: ObjId, badge: u64, bits: u8, value: u64) -> Result<Option<Cap>, F
     }))
 }
 
-/// The greatest label, and so many words as are given.
-fn message(alloc: Global, words: &[u64]) -> Result<Message, Fail> {
-    Ok(Message::new(alloc, (1 << 52) - 1, words)?.ok_or("message")?)
+/// The greatest label, and so many words, from the greatest down.
+fn message(alloc: Global, count: u64) -> Result<Message, Fail> {
+    let mut words = Vec::new(alloc);
+    for i in 0..count {
+        words.push(!i)?;
+    }
+    Ok(Message::new(alloc, (1 << 52) - 1, &words)?.ok_or("message")?)
 }
 
 /// What was made and ended.
-fn add_objects(facts: &mut Vec<Rec>, ids: &Ids) -> Result<(), Fail> {
+fn objects(alloc: Global, ids: &Ids) -> Result<Vec<Rec>, Fail> {
     let root = cap_to(ids.cnode, 0, 63, u64::MAX)?.ok_or("root")?;
     let maximum = Prio(255);
     let core = CoreId(255);
-    for (object, form) in [
-        (ids.endpoint, Form::Plain),
-        (ids.cnode, Form::Slots { radix: 8 }),
-        (ids.context, Form::OnCore { core }),
-        (ids.thread, Form::Runner { maximum, root }),
-    ] {
-        facts.push(Rec::Made { object, form })?;
-    }
-    facts.push(Rec::Closed { object: ids.reply })?;
-    Ok(())
+    let records = vec![in alloc;
+        Rec::Made {
+            object: ids.endpoint,
+            form: Form::Plain
+        },
+        Rec::Made {
+            object: ids.cnode,
+            form: Form::Slots { radix: 8 }
+        },
+        Rec::Made {
+            object: ids.context,
+            form: Form::OnCore { core }
+        },
+        Rec::Made {
+            object: ids.thread,
+            form: Form::Runner { maximum, root }
+        },
+        Rec::Closed { object: ids.reply },
+    ]?;
+    Ok(records)
 }
 
 /// What slots hold.
-fn add_slots(facts: &mut Vec<Rec>, ids: &Ids) -> Result<(), Fail> {
+fn slots(alloc: Global, ids: &Ids) -> Result<Vec<Rec>, Fail> {
     let caps = [
         None,
         cap_to(ids.endpoint, 0, 0, 0)?,
@@ -105,147 +110,153 @@ fn add_slots(facts: &mut Vec<Rec>, ids: &Ids) -> Result<(), Fail> {
         cap_to(ids.cnode, 0, 0, 1)?,
         cap_to(ids.notification, 7, 5, 3)?,
     ];
+    let (cnode, index) = (ids.cnode, 255);
+    let mut records = Vec::new(alloc);
     for cap in caps {
-        facts.push(Rec::Slot {
-            cnode: ids.cnode,
-            index: 255,
-            cap,
-        })?;
+        records.push(Rec::Slot { cnode, index, cap })?;
     }
-    Ok(())
+    Ok(records)
 }
 
 /// How threads run, hold contexts and are bound, and where contexts are homed.
-fn add_threads(facts: &mut Vec<Rec>, ids: &Ids) -> Result<(), Fail> {
+fn threads(alloc: Global, ids: &Ids) -> Result<Vec<Rec>, Fail> {
     let (thread, context) = (ids.thread, ids.context);
     let priority = Prio(255);
-    facts.push(Rec::Prio { thread, priority })?;
+    let mut records = vec![in alloc; Rec::Prio { thread, priority }]?;
     for mode in [Mode::Running, Mode::Restart, Mode::Inactive] {
-        facts.push(Rec::Turns { thread, mode })?;
+        records.push(Rec::Turns { thread, mode })?;
     }
     for thread in [None, Some(thread)] {
-        facts.push(Rec::Holds { context, thread })?;
+        records.push(Rec::Holds { context, thread })?;
     }
     for notification in [None, Some(ids.notification)] {
-        facts.push(Rec::Tied {
+        records.push(Rec::Tied {
             thread,
             notification,
         })?;
-        facts.push(Rec::Homed {
+        records.push(Rec::Homed {
             context,
             notification,
         })?;
     }
-    Ok(())
+    Ok(records)
 }
 
 /// How threads stand in queues.
-fn add_queued(facts: &mut Vec<Rec>, ids: &Ids) -> Result<(), Fail> {
+fn queued(alloc: Global, ids: &Ids) -> Result<Vec<Rec>, Fail> {
     let thread = ids.thread;
     let queues = [
         Queue::Senders(ids.endpoint),
         Queue::Receivers(ids.endpoint),
         Queue::Waiters(ids.notification),
     ];
+    let mut records = Vec::new(alloc);
     for queue in queues {
         for reply in [None, Some(ids.reply)] {
-            facts.push(Rec::Joins {
+            records.push(Rec::Joins {
                 thread,
                 queue,
                 reply,
             })?;
         }
-        facts.push(Rec::Parts { thread, queue })?;
+        records.push(Rec::Parts { thread, queue })?;
     }
-    Ok(())
+    Ok(records)
 }
 
-/// A message that was sent with this badge.
-fn add_sent(
-    alloc: Global,
-    facts: &mut Vec<Rec>,
-    ids: &Ids,
-    (mode, badge): (SendMode, u64),
-    words: &[u64],
-) -> Result<(), Fail> {
-    facts.push(Rec::Sent {
-        sender: ids.thread,
-        endpoint: ids.endpoint,
-        mode,
-        badge: Badge(badge),
-        message: message(alloc, words)?,
-    })?;
-    Ok(())
+/// How messages are sent, with which badges, and how many words they have. The first that is long finds room among the words, the
+/// last two stand beside the records.
+const SENT: &[(SendMode, u64, u64)] = &[
+    (SendMode::Plain, 0, 0),
+    (SendMode::Call, 9, 1),
+    (SendMode::Mute, u64::MAX, 4),
+    (SendMode::Call, 9, MESSAGE_WORDS as u64),
+    (SendMode::Plain, 0, 5),
+];
+
+/// What was sent.
+fn sent(alloc: Global, ids: &Ids) -> Result<Vec<Rec>, Fail> {
+    let mut records = Vec::new(alloc);
+    for &(mode, badge, words) in SENT {
+        let message = message(alloc, words)?;
+        records.push(Rec::Sent {
+            sender: ids.thread,
+            endpoint: ids.endpoint,
+            mode,
+            badge: Badge(badge),
+            message,
+        })?;
+    }
+    Ok(records)
 }
 
-/// What was sent, taken and dropped.
-fn add_messages(alloc: Global, facts: &mut Vec<Rec>, ids: &Ids) -> Result<(), Fail> {
-    add_sent(alloc, facts, ids, (SendMode::Plain, 0), &[])?;
-    add_sent(alloc, facts, ids, (SendMode::Call, 9), &[1])?;
-    add_sent(alloc, facts, ids, (SendMode::Mute, u64::MAX), &words()[..4])?;
-    // the first finds room among the words, the others stand beside the records
-    add_sent(alloc, facts, ids, (SendMode::Call, 9), &words())?;
-    add_sent(alloc, facts, ids, (SendMode::Plain, 0), &words()[..5])?;
-    let thread = ids.thread;
+/// What was taken and dropped.
+fn taken(alloc: Global, thread: ObjId) -> Result<Vec<Rec>, Fail> {
+    let mut records = Vec::new(alloc);
     for message in [0, 2, u32::MAX] {
-        facts.push(Rec::Took { message, thread })?;
-        facts.push(Rec::Dropped { message })?;
+        records.push(Rec::Took { message, thread })?;
+        records.push(Rec::Dropped { message })?;
     }
-    Ok(())
+    Ok(records)
 }
 
 /// What was raised and heard.
-fn add_words(facts: &mut Vec<Rec>, ids: &Ids) -> Result<(), Fail> {
+fn words(alloc: Global, ids: &Ids) -> Result<Vec<Rec>, Fail> {
     let (thread, notification) = (ids.thread, ids.notification);
+    let mut records = Vec::new(alloc);
     for word in [0, u64::MAX] {
         let badge = Badge(word);
-        facts.push(Rec::Raised {
+        records.push(Rec::Raised {
             notification,
             badge,
         })?;
-        facts.push(Rec::Heard {
+        records.push(Rec::Heard {
             thread,
             notification,
             word,
         })?;
     }
-    Ok(())
+    Ok(records)
 }
 
 /// What reply objects owe, and how that ends.
-fn add_debts(alloc: Global, facts: &mut Vec<Rec>, ids: &Ids) -> Result<(), Fail> {
+fn debts(alloc: Global, ids: &Ids) -> Result<Vec<Rec>, Fail> {
     let (reply, caller) = (ids.reply, ids.thread);
+    let mut records = Vec::new(alloc);
     for context in [None, Some(ids.context)] {
-        facts.push(Rec::Owes {
+        records.push(Rec::Owes {
             reply,
             caller,
             context,
         })?;
     }
-    facts.push(Rec::Paid {
+    let message = message(alloc, MESSAGE_WORDS as u64)?;
+    records.push(Rec::Paid {
         reply,
         caller,
-        message: message(alloc, &words())?,
+        message,
     })?;
     for ending in [Ending::Deleted, Ending::Cancelled] {
-        facts.push(Rec::Void {
+        records.push(Rec::Void {
             reply,
             caller,
             ending,
         })?;
     }
-    Ok(())
+    Ok(records)
 }
 
-/// Adds records of all kinds.
-fn add_records(alloc: Global, facts: &mut Vec<Rec>, ids: &Ids) -> Result<(), Fail> {
-    add_objects(facts, ids)?;
-    add_slots(facts, ids)?;
-    add_threads(facts, ids)?;
-    add_queued(facts, ids)?;
-    add_messages(alloc, facts, ids)?;
-    add_words(facts, ids)?;
-    add_debts(alloc, facts, ids)
+/// Records of all kinds.
+fn records(alloc: Global, ids: &Ids) -> Result<Vec<Rec>, Fail> {
+    let mut records = objects(alloc, ids)?;
+    records.append(&mut slots(alloc, ids)?)?;
+    records.append(&mut threads(alloc, ids)?)?;
+    records.append(&mut queued(alloc, ids)?)?;
+    records.append(&mut sent(alloc, ids)?)?;
+    records.append(&mut taken(alloc, ids.thread)?)?;
+    records.append(&mut words(alloc, ids)?)?;
+    records.append(&mut debts(alloc, ids)?)?;
+    Ok(records)
 }
 
 /// The entries that receive, and a signal.
@@ -284,27 +295,22 @@ fn changes(alloc: Global) -> Result<Vec<Entry>, Fail> {
     Ok(entries)
 }
 
-/// Adds the entries that send messages.
-fn add_sends(alloc: Global, entries: &mut Vec<Entry>) -> Result<(), Fail> {
+/// The entries that send messages.
+fn sends(alloc: Global) -> Result<Vec<Entry>, Fail> {
     let (cap, reply) = (u64::MAX, 1);
-    entries.push(Entry::Send {
-        cap,
-        message: message(alloc, &[])?,
-    })?;
-    entries.push(Entry::NbSend {
-        cap,
-        message: message(alloc, &[1])?,
-    })?;
-    entries.push(Entry::Call {
-        cap,
-        message: message(alloc, &words())?,
-    })?;
-    entries.push(Entry::ReplyRecv {
-        cap,
-        reply,
-        message: message(alloc, &[4, 3, 2, 1, 0])?,
-    })?;
-    Ok(())
+    let (none, one) = (message(alloc, 0)?, message(alloc, 1)?);
+    let (all, five) = (message(alloc, MESSAGE_WORDS as u64)?, message(alloc, 5)?);
+    let entries = vec![in alloc;
+        Entry::Send { cap, message: none },
+        Entry::NbSend { cap, message: one },
+        Entry::Call { cap, message: all },
+        Entry::ReplyRecv {
+            cap,
+            reply,
+            message: five
+        },
+    ]?;
+    Ok(entries)
 }
 
 /// The entries that name places.
@@ -340,15 +346,16 @@ fn placed(alloc: Global) -> Result<Vec<Entry>, Fail> {
 
 fn answers(alloc: Global) -> Result<Vec<Answer>, Fail> {
     let badge = Badge(u64::MAX);
+    let (four, all) = (message(alloc, 4)?, message(alloc, MESSAGE_WORDS as u64)?);
     let answers = vec![in alloc;
         Answer::Done,
         Answer::Got {
             badge,
-            message: message(alloc, &words()[..4])?
+            message: four
         },
         Answer::Got {
             badge: Badge(0),
-            message: message(alloc, &words())?
+            message: all
         },
         Answer::Heard { word: u64::MAX },
         Answer::Empty,
@@ -358,37 +365,55 @@ fn answers(alloc: Global) -> Result<Vec<Answer>, Fail> {
     Ok(answers)
 }
 
+/// All entries.
+fn entries(alloc: Global) -> Result<Vec<Entry>, Fail> {
+    let mut entries = receives(alloc)?;
+    entries.append(&mut changes(alloc)?)?;
+    entries.append(&mut sends(alloc)?)?;
+    entries.append(&mut placed(alloc)?)?;
+    Ok(entries)
+}
+
+/// Adds a line with this entry and this answer, and records of all kinds.
+fn add_line(alloc: Global, book: &mut Book, entry: Entry, answer: &Answer) -> Result<(), Fail> {
+    let names = if book.lines() % 2 == 0 {
+        own_ids()
+    } else {
+        odd_ids()
+    };
+    let mut facts = records(alloc, &names)?;
+    let step = Step {
+        core: CoreId(255),
+        thread: id(Kind::Thread, 9),
+        entry,
+    };
+    book.reserve(facts.len())?;
+    book.append(&step, answer, &mut facts);
+    Ok(())
+}
+
 /// Adds a line for each of the entries, whose answers take turns.
 fn add_lines(alloc: Global, book: &mut Book) -> Result<(), Fail> {
     let answers = answers(alloc)?;
-    let mut entries = receives(alloc)?;
-    entries.append(&mut changes(alloc)?)?;
-    add_sends(alloc, &mut entries)?;
-    entries.append(&mut placed(alloc)?)?;
-    for entry in entries {
-        let at = book.lines() % 7;
-        let (core, thread) = (CoreId(255), id(Kind::Thread, 9));
-        let step = Step {
-            core,
-            thread,
-            entry,
-        };
-        let answer = answers.get(at).ok_or("answer")?.copy(alloc)?;
-        let names = if at % 2 == 0 { own_ids() } else { odd_ids() };
-        let mut facts = Vec::new(alloc);
-        add_records(alloc, &mut facts, &names)?;
-        book.reserve(facts.len())?;
-        book.append(&step, &answer, &mut facts);
+    for entry in entries(alloc)? {
+        let answer = answers.get(book.lines() % 7).ok_or("answer")?;
+        add_line(alloc, book, entry, answer)?;
     }
     Ok(())
 }
 
+/// The records that a line gives back.
+fn records_of(alloc: Global, line: &Line<'_>) -> Result<Vec<Rec>, Fail> {
+    let mut records = Vec::new(alloc);
+    for i in 0..line.record_count() {
+        records.push(line.record(alloc, i)?.ok_or("record")?)?;
+    }
+    Ok(records)
+}
+
 /// Adds what a line gives back.
 fn add_again(alloc: Global, book: &mut Book, line: &Line<'_>) -> Result<(), Fail> {
-    let mut facts = Vec::new(alloc);
-    for i in 0..line.record_count() {
-        facts.push(line.record(alloc, i)?.ok_or("record")?)?;
-    }
+    let mut facts = records_of(alloc, line)?;
     book.reserve(facts.len())?;
     book.append(&line.step(alloc)?, &line.answer(alloc)?, &mut facts);
     Ok(())

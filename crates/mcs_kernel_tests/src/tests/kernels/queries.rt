@@ -274,7 +274,7 @@ pub(super) const WORDS: &[u64] = &[5, 6];
 type Row = (u32, Call, Told, [Status; 2], Reached, Reached);
 
 /// Entries from the boot on.
-const COURSES: [&[Row]; 4] = [
+const COURSES: &[&[Row]] = &[
     // a message
     &[
         (
@@ -423,7 +423,7 @@ fn are_told(
 
 #[test]
 fn status_and_mail_follow_the_entries(rt: HostRuntime) -> Result<(), Fail> {
-    for (number, course) in COURSES.into_iter().enumerate() {
+    for (number, &course) in COURSES.iter().enumerate() {
         let mut kernel = booted(rt.alloc(), five_threads(rt.alloc()))?;
         for (serial, call, answer, statuses, first, second) in course {
             let given = enter(rt.alloc(), &mut kernel, 0, *serial, *call)?;
@@ -441,7 +441,7 @@ fn status_and_mail_follow_the_entries(rt: HostRuntime) -> Result<(), Fail> {
 }
 
 /// Threads that enter on a core, and what they are told.
-const ENTERING: [(u8, u32, Told); 6] = [
+const ENTERING: &[(u8, u32, Told)] = &[
     (1, 1, Told::Away(EnterFault::WrongCore)),
     (0, 2, Told::Away(EnterFault::WrongCore)),
     (0, 4, Told::Away(EnterFault::NoContext)),
@@ -453,7 +453,7 @@ const ENTERING: [(u8, u32, Told); 6] = [
 #[test]
 fn who_may_not_enter_is_turned_away(rt: HostRuntime) -> Result<(), Fail> {
     let mut kernel = booted(rt.alloc(), two_cores(rt.alloc()))?;
-    for (core, serial, want) in ENTERING {
+    for &(core, serial, want) in ENTERING {
         assert!(rt; kernel.book().lines() == 1);
         let given = enter(rt.alloc(), &mut kernel, core, serial, Call::Wait(1))?;
         assert!(rt; given == want, "thread {serial} on core {core}");

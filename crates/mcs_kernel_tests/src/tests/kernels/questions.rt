@@ -14,13 +14,19 @@ const CNODE: ObjId = ObjId {
     serial: 1,
 };
 
+/// A notification that is not there.
+const OTHER: ObjId = ObjId {
+    kind: Kind::Notification,
+    serial: 2,
+};
+
 fn context(serial: u32) -> ObjId {
     object(Kind::Context, serial)
 }
 
 /// Entries, with what each is answered: t2 loses its context, is called, and is bound to a notification, at which that context is
 /// homed; two threads wait to send.
-const ENTRIES: [(u32, Call, Told); 8] = [
+const ENTRIES: &[(u32, Call, Told)] = &[
     (2, Call::Recv(2, 8), Told::Waits),
     (1, Call::UnbindCtx(13), Told::Done),
     (1, Call::Call(2, 7, WORDS), Told::Waits),
@@ -34,7 +40,7 @@ const ENTRIES: [(u32, Call, Told); 8] = [
 /// The kernel behind the first of these entries.
 fn behind(alloc: Global, entries: usize) -> Result<Kernel<LinkedLines>, Fail> {
     let mut kernel = booted(alloc, five_threads(alloc))?;
-    for (serial, call, want) in ENTRIES.into_iter().take(entries) {
+    for &(serial, call, want) in ENTRIES.iter().take(entries) {
         if enter(alloc, &mut kernel, 0, serial, call)? != want {
             return Err(Fail::from("another answer"));
         }
@@ -42,10 +48,63 @@ fn behind(alloc: Global, entries: usize) -> Result<Kernel<LinkedLines>, Fail> {
     Ok(kernel)
 }
 
-/// The first three threads of a queue.
-fn queued(kernel: &Kernel<LinkedLines>, queue: Queue) -> [Option<ObjId>; 3] {
-    let mut threads = kernel.queue(queue);
-    [threads.next(), threads.next(), threads.next()]
+/// Whether these threads stand in a queue, from the first.
+fn is_queue(kernel: &Kernel<LinkedLines>, queue: Queue, serials: &[u32]) -> bool {
+    let threads = serials.iter().map(|serial| thread(*serial));
+    kernel.queue(queue).eq(threads)
+}
+
+/// Queues, behind how many entries they are asked for, and who then stands in them.
+const QUEUES: &[(usize, Queue, &[u32])] = &[
+    (1, Queue::Receivers(ENDPOINT), &[2]),
+    (8, Queue::Senders(ENDPOINT), &[4, 3]),
+    (8, Queue::Receivers(ENDPOINT), &[]),
+    (8, Queue::Waiters(OTHER), &[]),
+];
+
+#[test]
+fn queues_are_told(rt: HostRuntime) -> Result<(), Fail> {
+    for &(entries, queue, serials) in QUEUES {
+        let kernel = behind(rt.alloc(), entries)?;
+        assert!(rt; is_queue(&kernel, queue, serials), "behind {entries}");
+    }
+    Ok(())
+}
+
+/// Whether the message that t3 sent is the open one of a thread.
+fn is_open(kernel: &Kernel<LinkedLines>, sender: ObjId) -> bool {
+    match kernel.open(sender) {
+        Some(open) => {
+            open.sender == thread(3)
+                && open.endpoint == ENDPOINT
+                && open.badge == Badge(9)
+                && open.message.label() == 3
+        }
+        None => false,
+    }
+}
+
+#[test]
+fn messages_are_told(rt: HostRuntime) -> Result<(), Fail> {
+    for (entries, sent, receiver) in [(1, 0, Some(thread(2))), (8, 3, None)] {
+        let kernel = behind(rt.alloc(), entries)?;
+        assert!(rt; kernel.sent() == sent, "behind {entries}");
+        assert!(rt; kernel.receiver(REPLY) == receiver, "behind {entries}");
+        let open = [1, 3].map(|serial| is_open(&kernel, thread(serial)));
+        assert!(rt; open == [false, entries == 8], "behind {entries}");
+    }
+    Ok(())
+}
+
+/// What is told of contexts and debts: who holds the first two contexts, which contexts the first two threads hold, whom the reply
+/// object owes, what stands in the chain of the first context, and where the second is homed.
+#[derive(Clone, Copy, PartialEq, Eq)]
+struct Lent {
+    holders: [Option<ObjId>; 2],
+    contexts: [Option<ObjId>; 2],
+    owed: Option<ObjId>,
+    chain: [Option<ObjId>; 2],
+    home: Option<ObjId>,
 }
 
 /// The first two reply objects of a chain.
@@ -54,52 +113,57 @@ fn chain(kernel: &Kernel<LinkedLines>, serial: u32) -> [Option<ObjId>; 2] {
     [replies.next(), replies.next()]
 }
 
-#[test]
-fn queues_and_messages_are_told(rt: HostRuntime) -> Result<(), Fail> {
-    let kernel = behind(rt.alloc(), 1)?;
-    let receivers = queued(&kernel, Queue::Receivers(ENDPOINT));
-    assert!(rt; receivers == [Some(thread(2)), None, None]);
-    assert!(rt; kernel.receiver(REPLY) == Some(thread(2)));
-    assert!(rt; kernel.sent() == 0);
-    let kernel = behind(rt.alloc(), 8)?;
-    let senders = queued(&kernel, Queue::Senders(ENDPOINT));
-    assert!(rt; senders == [Some(thread(4)), Some(thread(3)), None]);
-    assert!(rt; queued(&kernel, Queue::Receivers(ENDPOINT)) == [None; 3]);
-    assert!(rt; queued(&kernel, Queue::Waiters(object(Kind::Notification, 2))) == [None; 3]);
-    assert!(rt; kernel.receiver(REPLY) == None);
-    assert!(rt; kernel.sent() == 3);
-    assert!(rt; kernel.open(thread(1)).is_none());
-    let open = kernel.open(thread(3)).ok_or("no message")?;
-    assert!(rt; open.sender == thread(3) && open.endpoint == ENDPOINT);
-    assert!(rt; open.badge == Badge(9) && open.message.label() == 3);
-    Ok(())
+fn told_of(kernel: &Kernel<LinkedLines>) -> Lent {
+    Lent {
+        holders: [1, 2].map(|serial| kernel.holder(context(serial))),
+        contexts: [1, 2].map(|serial| kernel.context(thread(serial))),
+        owed: kernel.owed(REPLY),
+        chain: chain(kernel, 1),
+        home: kernel.home(context(2)),
+    }
 }
 
 #[test]
 fn contexts_and_debts_are_told(rt: HostRuntime) -> Result<(), Fail> {
     let kernel = behind(rt.alloc(), 2)?;
-    assert!(rt; kernel.holder(context(2)) == None && kernel.context(thread(2)) == None);
-    assert!(rt; kernel.owed(REPLY) == None && chain(&kernel, 1) == [None; 2]);
-    assert!(rt; kernel.home(context(2)) == None);
+    let unbound = Lent {
+        holders: [Some(thread(1)), None],
+        contexts: [Some(context(1)), None],
+        owed: None,
+        chain: [None; 2],
+        home: None,
+    };
+    assert!(rt; told_of(&kernel) == unbound);
     let kernel = behind(rt.alloc(), 8)?;
-    assert!(rt; kernel.holder(context(1)) == Some(thread(2)));
-    assert!(rt; kernel.context(thread(2)) == Some(context(1)) && kernel.context(thread(1)) == None);
-    assert!(rt; kernel.owed(REPLY) == Some(thread(1)));
-    assert!(rt; chain(&kernel, 1) == [Some(REPLY), None]);
-    assert!(rt; kernel.home(context(2)) == Some(NOTIFICATION));
-    assert!(rt; kernel.core(context(5)) == Some(CoreId(0)) && kernel.core(context(6)) == None);
+    let called = Lent {
+        holders: [Some(thread(2)), None],
+        contexts: [None, Some(context(1))],
+        owed: Some(thread(1)),
+        chain: [Some(REPLY), None],
+        home: Some(NOTIFICATION),
+    };
+    assert!(rt; told_of(&kernel) == called);
+    let cores = [5, 6].map(|serial| kernel.core(context(serial)));
+    assert!(rt; cores == [Some(CoreId(0)), None]);
     Ok(())
 }
 
+/// Behind how many entries the notification is asked for, its word, and the thread that is bound to it.
+const SIGNALLED: &[(usize, Option<u64>, Option<u32>)] = &[(5, None, None), (8, Some(5), Some(2))];
+
 #[test]
 fn signals_and_bindings_are_told(rt: HostRuntime) -> Result<(), Fail> {
-    let kernel = behind(rt.alloc(), 5)?;
-    assert!(rt; kernel.word(NOTIFICATION) == None);
-    assert!(rt; kernel.bound(thread(2)) == None && kernel.tied(NOTIFICATION) == None);
-    let kernel = behind(rt.alloc(), 8)?;
-    assert!(rt; kernel.word(NOTIFICATION) == Some(5));
-    assert!(rt; kernel.bound(thread(2)) == Some(NOTIFICATION));
-    assert!(rt; kernel.tied(NOTIFICATION) == Some(thread(2)));
+    for &(entries, word, bound) in SIGNALLED {
+        let kernel = behind(rt.alloc(), entries)?;
+        assert!(rt; kernel.word(NOTIFICATION) == word, "behind {entries}");
+        let tied = kernel.tied(NOTIFICATION);
+        assert!(rt;
+            tied == bound.map(|serial| thread(serial)),
+            "behind {entries}"
+        );
+        let notification = bound.map(|_| NOTIFICATION);
+        assert!(rt; kernel.bound(thread(2)) == notification, "behind {entries}");
+    }
     Ok(())
 }
 

@@ -86,7 +86,7 @@ fn is_kept(notifications: &Notifications, serial: u32, (word, thread, context): 
 }
 
 /// Calls, whether they are done, and what is then kept of the first two notifications.
-const CALLS: [(Call, bool, Kept, Kept); 23] = [
+const CALLS: &[(Call, bool, Kept, Kept)] = &[
     (Call::Home(1, Some(9)), false, IDLE, IDLE),
     (Call::Add(1), true, IDLE, IDLE),
     // Badges are joined and heard once.
@@ -121,7 +121,7 @@ const CALLS: [(Call, bool, Kept, Kept); 23] = [
 #[test]
 fn calls_on_notifications_answer(rt: HostRuntime) -> Result<(), Fail> {
     let mut notifications = Notifications::new(rt.alloc())?;
-    for (i, (call, is_done, first, second)) in CALLS.into_iter().enumerate() {
+    for (i, &(call, is_done, first, second)) in CALLS.iter().enumerate() {
         assert!(rt;
             call.is_done(&mut notifications) == is_done,
             "the answer of call {i}"

@@ -11,14 +11,18 @@ fn endpoint(serial: u32) -> ObjId {
     }
 }
 
+/// Adds a value where there is room.
+fn add(store: &mut Store<u64>, value: u64) {
+    if !store.is_full() {
+        store.add(value);
+    }
+}
+
 /// A store with room for two, which is full.
 fn two(alloc: Global) -> Result<Store<u64>, OutOfMemory> {
     let mut store = Store::with_room(alloc, Kind::Endpoint, 2)?;
-    for value in [10, 20] {
-        if !store.is_full() {
-            store.add(value);
-        }
-    }
+    add(&mut store, 10);
+    add(&mut store, 20);
     Ok(store)
 }
 
@@ -61,7 +65,9 @@ impl Call {
 }
 
 /// The value and the place of an object.
-fn kept(store: &Store<u64>, serial: u32) -> Option<(u64, u16)> {
+type Kept = Option<(u64, u16)>;
+
+fn kept(store: &Store<u64>, serial: u32) -> Kept {
     Some((
         *store.get(endpoint(serial))?,
         store.place(endpoint(serial))?,
@@ -69,34 +75,34 @@ fn kept(store: &Store<u64>, serial: u32) -> Option<(u64, u16)> {
 }
 
 /// The same, where the value is found by the place.
-fn kept_by_place(store: &Store<u64>, serial: u32) -> Option<(u64, u16)> {
+fn kept_by_place(store: &Store<u64>, serial: u32) -> Kept {
     let id = endpoint(serial);
     let place = store.place(id)?;
     Some((*store.get_at(id, place)?, place))
 }
 
 /// Calls on the full store, the values and places of the first three objects after each, how many were made and are there.
-const CALLS: [(Call, [Option<(u64, u16)>; 3], (u32, usize)); 5] = [
+const CALLS: &[(Call, (Kept, Kept, Kept), (u32, usize))] = &[
     (
         Call::Write(2, 21),
-        [Some((10, 0)), Some((21, 1)), None],
+        (Some((10, 0)), Some((21, 1)), None),
         (2, 2),
     ),
     (
         Call::Make(30, None),
-        [Some((10, 0)), Some((21, 1)), None],
+        (Some((10, 0)), Some((21, 1)), None),
         (2, 2),
     ),
     (
         Call::Remove(1, Some(10)),
-        [None, Some((21, 1)), None],
+        (None, Some((21, 1)), None),
         (2, 1),
     ),
-    (Call::Remove(1, None), [None, Some((21, 1)), None], (2, 1)),
+    (Call::Remove(1, None), (None, Some((21, 1)), None), (2, 1)),
     // The place comes again and the serial does not.
     (
         Call::Make(30, Some(3)),
-        [None, Some((21, 1)), Some((30, 0))],
+        (None, Some((21, 1)), Some((30, 0))),
         (3, 2),
     ),
 ];
@@ -106,11 +112,15 @@ fn objects_are_made_found_and_removed(rt: HostRuntime) -> Result<(), Fail> {
     let mut store = two(rt.alloc())?;
     store.are_apart();
     assert!(rt; store.is_full());
-    for (i, (call, objects, counts)) in CALLS.into_iter().enumerate() {
+    for (i, &(call, objects, counts)) in CALLS.iter().enumerate() {
         assert!(rt; call.answers(&mut store), "the answer of call {i}");
-        let told = [1, 2, 3].map(|serial| kept(&store, serial));
+        let told = (kept(&store, 1), kept(&store, 2), kept(&store, 3));
         assert!(rt; told == objects, "the objects after call {i}");
-        let told = [1, 2, 3].map(|serial| kept_by_place(&store, serial));
+        let told = (
+            kept_by_place(&store, 1),
+            kept_by_place(&store, 2),
+            kept_by_place(&store, 3),
+        );
         assert!(rt;
             told == objects,
             "the objects by their places after call {i}"

@@ -116,59 +116,36 @@ const C: ThreadNo = ThreadNo(2);
 const Q: LineNo = LineNo(1);
 
 /// Calls on lines for three threads, their answers, and who then stands in the second line.
-const ANSWERS: [(Call, (bool, Option<LineNo>), [Option<ThreadNo>; 3]); 8] = [
-    (
-        Call::Join(A, Q, Prio(5)),
-        (true, None),
-        [Some(A), None, None],
-    ),
-    (
-        Call::Join(B, Q, Prio(9)),
-        (true, None),
-        [Some(B), Some(A), None],
-    ),
-    (
-        Call::Join(C, Q, Prio(5)),
-        (true, None),
-        [Some(B), Some(A), Some(C)],
-    ),
+const ANSWERS: &[(Call, (bool, Option<LineNo>), &[ThreadNo])] = &[
+    (Call::Join(A, Q, Prio(5)), (true, None), &[A]),
+    (Call::Join(B, Q, Prio(9)), (true, None), &[B, A]),
+    (Call::Join(C, Q, Prio(5)), (true, None), &[B, A, C]),
     // It stands in a line.
-    (
-        Call::Join(C, LineNo(0), Prio(5)),
-        (false, None),
-        [Some(B), Some(A), Some(C)],
-    ),
-    (
-        Call::Shift(A, Prio(5)),
-        (true, None),
-        [Some(B), Some(C), Some(A)],
-    ),
-    (Call::Part(B), (true, Some(Q)), [Some(C), Some(A), None]),
-    (Call::WhereIs(B), (false, None), [Some(C), Some(A), None]),
-    (Call::WhereIs(A), (false, Some(Q)), [Some(C), Some(A), None]),
+    (Call::Join(C, LineNo(0), Prio(5)), (false, None), &[B, A, C]),
+    (Call::Shift(A, Prio(5)), (true, None), &[B, C, A]),
+    (Call::Part(B), (true, Some(Q)), &[C, A]),
+    (Call::WhereIs(B), (false, None), &[C, A]),
+    (Call::WhereIs(A), (false, Some(Q)), &[C, A]),
 ];
 
-/// The first three threads of a line.
-fn first_three<L: Lines>(lines: &L, line: LineNo) -> [Option<ThreadNo>; 3] {
-    let mut threads = [lines.first(line), None, None];
-    if let Some(first) = threads[0] {
-        threads[1] = lines.next(first);
+/// Whether these threads stand in a line, from the first.
+fn is_line<L: Lines>(lines: &L, line: LineNo, threads: &[ThreadNo]) -> bool {
+    let mut next = lines.first(line);
+    for thread in threads {
+        if next != Some(*thread) {
+            return false;
+        }
+        next = lines.next(*thread);
     }
-    if let Some(second) = threads[1] {
-        threads[2] = lines.next(second);
-    }
-    threads
+    next.is_none()
 }
 
 #[test]
 fn plain_lines_answer(rt: HostRuntime) -> Result<(), Fail> {
     let mut lines = PlainLines::new(rt.alloc(), 3, 2)?;
-    for (i, (call, answer, threads)) in ANSWERS.into_iter().enumerate() {
+    for (i, &(call, answer, threads)) in ANSWERS.iter().enumerate() {
         assert!(rt; call.on(&mut lines) == answer, "the answer of call {i}");
-        assert!(rt;
-            first_three(&lines, Q) == threads,
-            "the line after call {i}"
-        );
+        assert!(rt; is_line(&lines, Q, threads), "the line after call {i}");
     }
     assert!(rt; lines.next(A).is_none(), "it is the last");
     Ok(())

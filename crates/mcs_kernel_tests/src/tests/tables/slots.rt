@@ -157,138 +157,141 @@ fn holds(slots: &Slots, at: SlotId, held: Option<Held>) -> bool {
 
 const DONE: Result<(), Refusal> = Ok(());
 
+/// What the three slots hold.
+type AllHeld = (Option<Held>, Option<Held>, Option<Held>);
+
 /// Calls, their answers, what then the three slots hold, and how many capabilities to the two endpoints there are.
-const CALLS: [(Call, Result<(), Refusal>, [Option<Held>; 3], [u32; 2]); 21] = [
+const CALLS: &[(Call, Result<(), Refusal>, AllHeld, [u32; 2])] = &[
     (
         Call::Copy(A, B, 2),
         Err(Refusal::SlotEmpty),
-        [None, None, None],
+        (None, None, None),
         [0, 0],
     ),
     (
         Call::Put(A, (FIRST, 15, 0)),
         DONE,
-        [Some((FIRST, 15, 0)), None, None],
+        (Some((FIRST, 15, 0)), None, None),
         [1, 0],
     ),
     (
         Call::Copy(A, B, 2),
         DONE,
-        [Some((FIRST, 15, 0)), Some((FIRST, 2, 0)), None],
+        (Some((FIRST, 15, 0)), Some((FIRST, 2, 0)), None),
         [2, 0],
     ),
     (
         Call::Mint(A, B, 2, 5),
         Err(Refusal::SlotFull),
-        [Some((FIRST, 15, 0)), Some((FIRST, 2, 0)), None],
+        (Some((FIRST, 15, 0)), Some((FIRST, 2, 0)), None),
         [2, 0],
     ),
     (
         Call::Mint(A, C, 2, 5),
         DONE,
-        [
+        (
             Some((FIRST, 15, 0)),
             Some((FIRST, 2, 0)),
             Some((FIRST, 2, 5)),
-        ],
+        ),
         [3, 0],
     ),
     (
         Call::Take(B, (FIRST, 2, 0)),
         DONE,
-        [Some((FIRST, 15, 0)), None, Some((FIRST, 2, 5))],
+        (Some((FIRST, 15, 0)), None, Some((FIRST, 2, 5))),
         [2, 0],
     ),
     (
         Call::Mint(C, B, 15, 6),
         Err(Refusal::BadgeNotAllowed),
-        [Some((FIRST, 15, 0)), None, Some((FIRST, 2, 5))],
+        (Some((FIRST, 15, 0)), None, Some((FIRST, 2, 5))),
         [2, 0],
     ),
     (
         Call::Move(A, B),
         DONE,
-        [None, Some((FIRST, 15, 0)), Some((FIRST, 2, 5))],
+        (None, Some((FIRST, 15, 0)), Some((FIRST, 2, 5))),
         [2, 0],
     ),
     (
         Call::Empty(B),
         DONE,
-        [None, None, Some((FIRST, 2, 5))],
+        (None, None, Some((FIRST, 2, 5))),
         [1, 0],
     ),
-    (Call::Empty(C), DONE, [None, None, None], [0, 0]),
+    (Call::Empty(C), DONE, (None, None, None), [0, 0]),
     // A capability of another kind is not minted.
     (
         Call::Put(A, (REPLY, 0, 0)),
         DONE,
-        [Some((REPLY, 0, 0)), None, None],
+        (Some((REPLY, 0, 0)), None, None),
         [0, 0],
     ),
     (
         Call::Mint(A, B, 0, 1),
         Err(Refusal::WrongKind),
-        [Some((REPLY, 0, 0)), None, None],
+        (Some((REPLY, 0, 0)), None, None),
         [0, 0],
     ),
     // The endpoints share a tally.
     (
         Call::Put(A, (FIRST, 15, 0)),
         DONE,
-        [Some((FIRST, 15, 0)), None, None],
+        (Some((FIRST, 15, 0)), None, None),
         [1, 0],
     ),
     (
         Call::Put(B, (SECOND, 15, 0)),
         DONE,
-        [Some((FIRST, 15, 0)), Some((SECOND, 15, 0)), None],
+        (Some((FIRST, 15, 0)), Some((SECOND, 15, 0)), None),
         [1, 1],
     ),
     (
         Call::Copy(B, C, 15),
         DONE,
-        [
+        (
             Some((FIRST, 15, 0)),
             Some((SECOND, 15, 0)),
             Some((SECOND, 15, 0)),
-        ],
+        ),
         [1, 2],
     ),
     (
         Call::Empty(A),
         DONE,
-        [None, Some((SECOND, 15, 0)), Some((SECOND, 15, 0))],
+        (None, Some((SECOND, 15, 0)), Some((SECOND, 15, 0))),
         [0, 2],
     ),
     (
         Call::Empty(B),
         DONE,
-        [None, None, Some((SECOND, 15, 0))],
+        (None, None, Some((SECOND, 15, 0))),
         [0, 1],
     ),
     (
         Call::Put(C, (FIRST, 15, 0)),
         DONE,
-        [None, None, Some((FIRST, 15, 0))],
+        (None, None, Some((FIRST, 15, 0))),
         [1, 0],
     ),
     (
         Call::Put(A, (SECOND, 15, 7)),
         DONE,
-        [Some((SECOND, 15, 7)), None, Some((FIRST, 15, 0))],
+        (Some((SECOND, 15, 7)), None, Some((FIRST, 15, 0))),
         [1, 1],
     ),
     (
         Call::Empty(C),
         DONE,
-        [Some((SECOND, 15, 7)), None, None],
+        (Some((SECOND, 15, 7)), None, None),
         [0, 1],
     ),
-    (Call::Empty(A), DONE, [None, None, None], [0, 0]),
+    (Call::Empty(A), DONE, (None, None, None), [0, 0]),
 ];
 
 /// Whether the three slots hold these, and there are so many capabilities to the two endpoints.
-fn are_as(slots: &Slots, [a, b, c]: [Option<Held>; 3], counts: [u32; 2]) -> bool {
+fn are_as(slots: &Slots, (a, b, c): AllHeld, counts: [u32; 2]) -> bool {
     holds(slots, A, a)
         && holds(slots, B, b)
         && holds(slots, C, c)
@@ -298,7 +301,7 @@ fn are_as(slots: &Slots, [a, b, c]: [Option<Held>; 3], counts: [u32; 2]) -> bool
 #[test]
 fn calls_on_slots_answer(rt: HostRuntime) -> Result<(), Fail> {
     let mut slots = Slots::new(rt.alloc(), &[3, 1], Tallied::All)?;
-    for (i, (call, answer, held, counts)) in CALLS.into_iter().enumerate() {
+    for (i, &(call, answer, held, counts)) in CALLS.iter().enumerate() {
         assert!(rt;
             call.on(&mut slots) == Some(answer),
             "the answer of call {i}"
@@ -309,7 +312,7 @@ fn calls_on_slots_answer(rt: HostRuntime) -> Result<(), Fail> {
 }
 
 /// Slots, and whether they are there in two CNodes of 8 and of 2.
-const SLOTS: [(u32, u8, bool); 7] = [
+const SLOTS: &[(u32, u8, bool)] = &[
     (1, 0, true),
     (1, 7, true),
     (1, 8, false),
@@ -326,7 +329,7 @@ fn cnodes_have_their_slots(rt: HostRuntime) -> Result<(), Fail> {
     let radices = [1, 2, 3, 0].map(|serial| slots.radix(object(Kind::CNode, serial)));
     assert!(rt; radices == [Some(3), Some(1), None, None]);
     assert!(rt; slots.radix(object(Kind::Thread, 1)).is_none());
-    for (cnode, index, is_there) in SLOTS {
+    for &(cnode, index, is_there) in SLOTS {
         assert!(rt;
             slots.has_slot(slot(cnode, index)) == is_there,
             "slot {index} of {cnode}"

@@ -106,7 +106,7 @@ const RECEIVES: Block = Block::Queued {
 const CALLS: Block = Block::OnReply { reply: OWN };
 
 /// Changes of threads, whether they are done, and what is then kept of the first two.
-const THREAD_CALLS: [(u32, ThreadCall, bool, ThreadRow, ThreadRow); 13] = [
+const THREAD_CALLS: &[(u32, ThreadCall, bool, ThreadRow, ThreadRow)] = &[
     (
         1,
         ThreadCall::Prio(5),
@@ -225,7 +225,7 @@ fn rows_of_threads_are_changed(rt: HostRuntime) -> Result<(), Fail> {
         assert!(rt; keeps(&threads, thread(serial), maximum, &root));
     }
     threads.are_few();
-    for (i, (serial, call, is_done, first, second)) in THREAD_CALLS.into_iter().enumerate() {
+    for (i, &(serial, call, is_done, first, second)) in THREAD_CALLS.iter().enumerate() {
         assert!(rt;
             call.is_done(&mut threads, thread(serial)) == is_done,
             "call {i}"
@@ -243,7 +243,7 @@ fn rows_of_threads_are_changed(rt: HostRuntime) -> Result<(), Fail> {
 }
 
 /// What blocks a thread, the queue in which it then stands, and whether it receives with its own reply object and with another.
-const BLOCKS: [(Block, Option<Queue>, [bool; 2]); 2] = [
+const BLOCKS: &[(Block, Option<Queue>, [bool; 2])] = &[
     (RECEIVES, Some(RECEIVERS), [true, false]),
     (CALLS, None, [false, false]),
 ];
@@ -252,7 +252,7 @@ const BLOCKS: [(Block, Option<Queue>, [bool; 2]); 2] = [
 fn blocked_threads_stand_in_their_queues(rt: HostRuntime) -> Result<(), Fail> {
     let mut threads = Threads::new(rt.alloc())?;
     let a = add_thread(&mut threads, 9, &root().ok_or("no right")?).ok_or("no room")?;
-    for (block, queue, receives) in BLOCKS {
+    for &(block, queue, receives) in BLOCKS {
         threads.block(a, block).ok_or("no such thread")?;
         let row = threads.get(a).ok_or("no such thread")?;
         assert!(rt; row.queue() == queue);
@@ -365,7 +365,7 @@ fn is_chain(replies: &Replies, chain: &[u32], owed: [Option<u32>; 3]) -> bool {
 }
 
 /// Calls, whether they are done, the chain of the first context after each, and whom the first three reply objects owe then.
-const REPLY_CALLS: [(ReplyCall, bool, &[u32], [Option<u32>; 3]); 22] = [
+const REPLY_CALLS: &[(ReplyCall, bool, &[u32], [Option<u32>; 3])] = &[
     (ReplyCall::Add(1), true, &[], [None, None, None]),
     (ReplyCall::Add(2), true, &[], [None, None, None]),
     (ReplyCall::Add(3), true, &[], [None, None, None]),
@@ -460,7 +460,7 @@ const REPLY_CALLS: [(ReplyCall, bool, &[u32], [Option<u32>; 3]); 22] = [
 #[test]
 fn calls_on_reply_objects_answer(rt: HostRuntime) -> Result<(), Fail> {
     let mut replies = Replies::new(rt.alloc())?;
-    for (i, (call, is_done, chain, owed)) in REPLY_CALLS.into_iter().enumerate() {
+    for (i, &(call, is_done, chain, owed)) in REPLY_CALLS.iter().enumerate() {
         assert!(rt;
             call.is_done(&mut replies) == is_done,
             "the answer of call {i}"
@@ -579,7 +579,7 @@ const FREE: ContextRow = Some((3, None, None));
 const OTHER: ContextRow = Some((0, None, None));
 
 /// Calls, their answers, and what is then kept of the first two contexts.
-const CONTEXT_CALLS: [(ContextCall, Result<bool, Refusal>, ContextRow, ContextRow); 37] = [
+const CONTEXT_CALLS: &[(ContextCall, Result<bool, Refusal>, ContextRow, ContextRow)] = &[
     (ContextCall::Home(1, 1), Err(Refusal::Missing), None, None),
     (ContextCall::Wake(1, 1), Ok(false), None, None),
     (ContextCall::Add(3, 1), Ok(true), FREE, None),
@@ -738,7 +738,7 @@ const CONTEXT_CALLS: [(ContextCall, Result<bool, Refusal>, ContextRow, ContextRo
 #[test]
 fn calls_on_contexts_answer(rt: HostRuntime) -> Result<(), Fail> {
     let mut contexts = Contexts::new(rt.alloc())?;
-    for (i, (call, answer, first, second)) in CONTEXT_CALLS.into_iter().enumerate() {
+    for (i, &(call, answer, first, second)) in CONTEXT_CALLS.iter().enumerate() {
         assert!(rt; call.on(&mut contexts) == answer, "the answer of call {i}");
         assert!(rt; is_context(&contexts, 1, first), "the first after call {i}");
         assert!(rt;

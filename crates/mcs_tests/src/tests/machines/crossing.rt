@@ -117,7 +117,7 @@ fn gate_row_16(rt: HostRuntime) -> Result<(), Fail> {
 
 /// Steps of the second thread, how many answers of core 1 core 0 waits for, what may become of the signal that core 0 picked,
 /// and the trace behind the boot.
-const CROSSINGS: [(&str, u64, &[Away], &str); 5] = [
+const CROSSINGS: &[(&str, u64, &[Away], &str)] = &[
     (
         "1 t2 delete 1 64\n",
         1,
@@ -196,7 +196,7 @@ const CROSSINGS: [(&str, u64, &[Away], &str); 5] = [
 
 #[test]
 fn what_was_picked_is_entered_where_it_may(rt: HostRuntime) -> Result<(), Fail> {
-    for (steps, answers, aways, trace) in CROSSINGS {
+    for &(steps, answers, aways, trace) in CROSSINGS {
         let ran = crossed(&rt, rt.alloc(), FREE_CONTEXT, steps, answers)?;
         assert!(rt;
             aways.iter().any(|away| is_away(&ran.away, away)),

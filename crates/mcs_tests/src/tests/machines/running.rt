@@ -43,7 +43,7 @@ pub const GIVEN_AGAIN: &str = "\
 ";
 
 /// The entries of threads, in an order in which each is let in, and the trace that a run of them has behind the boot.
-const COURSES: [(&str, &str); 3] = [
+const COURSES: &[(&str, &str)] = &[
     (
         "\
 0 t1 send 1 7
@@ -98,7 +98,7 @@ const COURSES: [(&str, &str); 3] = [
 
 #[test]
 fn users_on_one_core_are_let_in(rt: HostRuntime) -> Result<(), Fail> {
-    for (steps, trace) in COURSES {
+    for &(steps, trace) in COURSES {
         let script = format!(in rt.alloc(); "{ONE_CORE}{steps}")?;
         let ran = run_users(&rt, rt.alloc(), script.as_str(), &Open)?;
         assert!(rt; ran.away.is_empty(), "{steps}");

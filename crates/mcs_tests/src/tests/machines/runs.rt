@@ -2,7 +2,7 @@
 ghost use Rattle.std.specs.Prelude.{◌≡◌};
 
 use crate::tests::machines::boots::{boot_of, replay_of, users_of};
-use mcs_cores::{CoreSeat, Gate, Machine, Outcome, SeatsFault, Settled, Users};
+use mcs_cores::{Call, CoreSeat, Gate, Machine, Outcome, SeatsFault, Settled, Users};
 use mcs_kernel::{Boot, EnterFault, Kernel};
 use mcs_queues::LinkedLines;
 use mcs_types::{CORES, CoreId, ObjId};
@@ -29,20 +29,34 @@ pub struct Ran {
     pub away: Vec<TurnedAway>,
 }
 
+/// What was turned away of a core's calls.
+fn away_of(core: CoreId, call: &Call) -> Option<TurnedAway> {
+    let Outcome::Away { lines, fault } = &call.outcome else {
+        return None;
+    };
+    Some(TurnedAway {
+        core,
+        thread: call.thread,
+        lines: *lines,
+        fault: *fault,
+    })
+}
+
+/// Adds what was turned away of a core.
+fn add_away(away: &mut Vec<TurnedAway>, core: CoreId, calls: &[Call]) -> Result<(), Fail> {
+    for call in calls {
+        if let Some(one) = away_of(core, call) {
+            away.push(one)?;
+        }
+    }
+    Ok(())
+}
+
 /// What was turned away, core by core.
 fn turned_away<G: Ledger>(alloc: Global, seats: &[CoreSeat<G>]) -> Result<Vec<TurnedAway>, Fail> {
     let mut away = Vec::new(alloc);
     for seat in seats {
-        for call in seat.calls() {
-            if let Outcome::Away { lines, fault } = &call.outcome {
-                away.push(TurnedAway {
-                    core: seat.core(),
-                    thread: call.thread,
-                    lines: *lines,
-                    fault: *fault,
-                })?;
-            }
-        }
+        add_away(&mut away, seat.core(), seat.calls())?;
     }
     Ok(away)
 }

@@ -12,7 +12,7 @@ use std::test::Fail;
 use std::thread::Threads;
 
 /// What users say after the boot, and what the trace has after it.
-const RUNS: [(&str, &str); 3] = [
+const RUNS: &[(&str, &str)] = &[
     ("", ""),
     // The thread of greater priority comes first, whatever line is first.
     (
@@ -73,7 +73,7 @@ fn run_users<R: AllocGlobal + Threads + Wait + Sync>(
 
 #[test]
 fn users_on_one_core_give_their_traces(rt: HostRuntime) -> Result<(), Fail> {
-    for (users, trace) in RUNS {
+    for &(users, trace) in RUNS {
         let script = format!(in rt.alloc(); "{ONE_CORE}{users}")?;
         let want = format!(in rt.alloc(); "{ONE_CORE}{trace}")?;
         for cores in [None, Some(1)] {
@@ -157,7 +157,7 @@ fn long_messages_cross_the_cores(rt: HostRuntime) -> Result<(), Fail> {
 }
 
 /// Lines behind the boot, and what is wrong with the last.
-const FAULTS: [(&str, LineFault); 8] = [
+const FAULTS: &[(&str, LineFault)] = &[
     ("0 t1 nbsend 1 7", LineFault::Form),
     ("user t1", LineFault::Form),
     ("user t1 nbsend", LineFault::Form),
@@ -170,7 +170,7 @@ const FAULTS: [(&str, LineFault); 8] = [
 
 #[test]
 fn faulty_lines_of_users_are_told(rt: HostRuntime) -> Result<(), Fail> {
-    for (lines, why) in FAULTS {
+    for &(lines, why) in FAULTS {
         let script = format!(in rt.alloc(); "{ONE_CORE}{lines}\n")?;
         let (result, written) = run_users(&rt, script.as_bytes(), None);
         let line = if why == LineFault::LateBoot { 19 } else { 18 };

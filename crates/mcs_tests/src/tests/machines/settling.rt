@@ -94,18 +94,23 @@ fn finish_steps<G: Ledger, R: Wait>(
     Ok(machine.finish(alloc, boot, seats))
 }
 
-/// Enters a send and its receive on a machine of one core, and finishes it with the boot of this script and these seats.
+/// The boot of a script.
+fn boot_of_script(alloc: Global, script: &str) -> Result<Boot, Fail> {
+    let replay = replay_of(alloc, script)?;
+    boot_of(alloc, replay.book().ok_or("a book")?)
+}
+
+/// Enters a send and its receive on a machine of one core, and finishes it with this boot and these seats.
 fn finished<R: Wait>(
     rt: &R,
     alloc: Global,
-    script: &str,
+    boot: &Boot,
     kept: Seats,
 ) -> Result<Result<Settled<LinkedLines>, FinishFault>, Fail> {
-    let replay = replay_of(alloc, format!(in alloc; "{ONE_CORE}{STEPS}")?.as_str())?;
-    let other = replay_of(alloc, script)?;
+    let script = format!(in alloc; "{ONE_CORE}{STEPS}")?;
+    let replay = replay_of(alloc, script.as_str())?;
     let book = replay.book().ok_or("a book")?;
-    let boot = boot_of(alloc, other.book().ok_or("a book")?)?;
-    finish_steps::<Brand, R>(rt, alloc, Blank::new(16), book, (&boot, kept))
+    finish_steps::<Brand, R>(rt, alloc, Blank::new(16), book, (boot, kept))
 }
 
 /// Whether this message reached a thread: its badge is 9, its label 7, its words 5 and 6.
@@ -120,7 +125,8 @@ fn is_mail(mail: Option<&Mail>) -> bool {
 
 #[test]
 fn settles(rt: HostRuntime) -> Result<(), Fail> {
-    let Ok(settled) = finished(&rt, rt.alloc(), ONE_CORE, Seats::All)? else {
+    let boot = boot_of_script(rt.alloc(), ONE_CORE)?;
+    let Ok(settled) = finished(&rt, rt.alloc(), &boot, Seats::All)? else {
         return Err(Fail::from("the machine settles"));
     };
     let want = format!(in rt.alloc(); "{ONE_CORE}{TRACE}")?;
@@ -129,16 +135,19 @@ fn settles(rt: HostRuntime) -> Result<(), Fail> {
     Ok(())
 }
 
+/// Boots with which a machine of one core is finished, what becomes of its seats, and how that ends.
+const FAULTS: &[(&str, Seats, FinishFault)] = &[
+    (ONE_CORE, Seats::NotOne, FinishFault::MissingSeat),
+    (ONE_CORE, Seats::NeverGiven, FinishFault::MissingSeat),
+    (TWO_CORES, Seats::NotOne, FinishFault::MissingSeat),
+    (TWO_CORES, Seats::All, FinishFault::OtherBoot),
+];
+
 #[test]
 fn others_do_not_settle(rt: HostRuntime) -> Result<(), Fail> {
-    let faults = [
-        (ONE_CORE, Seats::NotOne, FinishFault::MissingSeat),
-        (ONE_CORE, Seats::NeverGiven, FinishFault::MissingSeat),
-        (TWO_CORES, Seats::NotOne, FinishFault::MissingSeat),
-        (TWO_CORES, Seats::All, FinishFault::OtherBoot),
-    ];
-    for (i, (script, kept, want)) in faults.into_iter().enumerate() {
-        let ended = finished(&rt, rt.alloc(), script, kept)?.err();
+    for (i, &(script, kept, want)) in FAULTS.iter().enumerate() {
+        let boot = boot_of_script(rt.alloc(), script)?;
+        let ended = finished(&rt, rt.alloc(), &boot, kept)?.err();
         assert!(rt; ended == Some(want), "machine {i}");
     }
     Ok(())

@@ -7,7 +7,7 @@ use std::test::Fail;
 
 /// How often the input is interrupted, how many reads are left, and what that gives: the one read of the text, or one more than
 /// are tried.
-const READS: [(u32, u32, Result<(), SimFault>); 3] = [
+const READS: &[(u32, u32, Result<(), SimFault>)] = &[
     (0, 1, Err(SimFault::Read)),
     (999, u32::MAX, Ok(())),
     (1000, u32::MAX, Err(SimFault::Read)),
@@ -20,7 +20,7 @@ fn length(ended: Result<(), SimFault>) -> usize {
 
 #[test]
 fn failed_reads_are_told(rt: HostRuntime) -> Result<(), Fail> {
-    for (interruptions, reads_left, want) in READS {
+    for &(interruptions, reads_left, want) in READS {
         let mut input = Input::new(BOOT.as_bytes());
         input.interruptions = interruptions;
         input.reads_left = reads_left;

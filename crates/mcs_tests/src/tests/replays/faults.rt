@@ -6,7 +6,7 @@ use std::env::{Env, FillError};
 use std::test::Fail;
 
 /// The faults of a line, their numbers and their texts.
-const LINE_FAULTS: [(LineFault, u8, &str); 9] = [
+const LINE_FAULTS: &[(LineFault, u8, &str)] = &[
     (LineFault::NoCores, 1, "mcssim: line 1: fault 1"),
     (LineFault::Form, 2, "mcssim: line 1: fault 2"),
     (LineFault::Number, 3, "mcssim: line 1: fault 3"),
@@ -19,7 +19,7 @@ const LINE_FAULTS: [(LineFault, u8, &str); 9] = [
 ];
 
 /// Other faults, their statuses and their texts.
-const FAULTS: [(SimFault, u8, &str); 7] = [
+const FAULTS: &[(SimFault, u8, &str)] = &[
     (SimFault::Argument, 1, "mcssim: an argument is not UTF-8"),
     (
         SimFault::Script {
@@ -38,7 +38,7 @@ const FAULTS: [(SimFault, u8, &str); 7] = [
 
 #[test]
 fn faults_of_lines_are_told_by_their_numbers(rt: HostRuntime) -> Result<(), Fail> {
-    for (why, number, text) in LINE_FAULTS {
+    for &(why, number, text) in LINE_FAULTS {
         assert!(rt; why.number() == number, "{text}");
         let fault = SimFault::Script { line: 1, why };
         assert!(rt; fault.to_string(rt.alloc())?.as_str() == text, "{text}");
@@ -49,7 +49,7 @@ fn faults_of_lines_are_told_by_their_numbers(rt: HostRuntime) -> Result<(), Fail
 
 #[test]
 fn other_faults_have_their_texts(rt: HostRuntime) -> Result<(), Fail> {
-    for (fault, status, text) in FAULTS {
+    for &(fault, status, text) in FAULTS {
         assert!(rt; fault.status() == status, "{text}");
         assert!(rt; fault.to_string(rt.alloc())?.as_str() == text, "{text}");
     }
@@ -114,7 +114,7 @@ fn cores(alloc: Global, words: &[&str]) -> Option<Option<u8>> {
 }
 
 /// Command lines that ask for a run, and the cores that they say; the first asks for a replay.
-const RUNS: [(&[&str], Option<Option<u8>>); 5] = [
+const RUNS: &[(&[&str], Option<Option<u8>>)] = &[
     (&["mcssim", "replay"], None),
     (&["mcssim", "run"], Some(None)),
     (&["mcssim", "run", "--cores", "1"], Some(Some(1))),
@@ -124,7 +124,7 @@ const RUNS: [(&[&str], Option<Option<u8>>); 5] = [
 
 #[test]
 fn a_run_has_the_cores_that_are_said(rt: HostRuntime) -> Result<(), Fail> {
-    for (i, (words, want)) in RUNS.into_iter().enumerate() {
+    for (i, &(words, want)) in RUNS.iter().enumerate() {
         assert!(rt; answer(rt.alloc(), words)?.is_none(), "line {i}");
         assert!(rt; cores(rt.alloc(), words) == want, "line {i}");
     }
@@ -132,7 +132,7 @@ fn a_run_has_the_cores_that_are_said(rt: HostRuntime) -> Result<(), Fail> {
 }
 
 /// Other command lines, the status that they end with, and what is said of them.
-const ANSWERED: [(&[&str], u8, &str); 11] = [
+const ANSWERED: &[(&[&str], u8, &str)] = &[
     (&["mcssim", "--version"], 0, "mcssim 0.1.0\n"),
     (&["mcssim", "--help"], 0, "replay"),
     (&["mcssim"], 1, ""),
@@ -164,7 +164,7 @@ const ANSWERED: [(&[&str], u8, &str); 11] = [
 
 #[test]
 fn other_command_lines_are_answered(rt: HostRuntime) -> Result<(), Fail> {
-    for (i, (words, status, text)) in ANSWERED.into_iter().enumerate() {
+    for (i, &(words, status, text)) in ANSWERED.iter().enumerate() {
         let (told, said) = answer(rt.alloc(), words)?.ok_or("an answer")?;
         assert!(rt; told == status, "line {i}");
         assert!(rt; said.as_str().contains(text), "line {i}");

@@ -1,6 +1,5 @@
 //! Scripts that are fed piece by piece.
 use crate::tests::replays::runs::{BOOT, run};
-use crate::tests::replays::streams::Output;
 use mcs_sim::{ReplayRun, SimFault, Sink, Source, simulate, trace};
 use mcs_text::LineFault;
 use std::alloc::Global;
@@ -8,7 +7,20 @@ use std::io::{self, Read};
 use std::test::Fail;
 
 /// The sizes of pieces: a byte, some that end anywhere in a line, and the whole script at once.
-const PIECES: [usize; 3] = [1, 7, usize::MAX];
+const PIECES: &[usize] = &[1, 7, usize::MAX];
+
+/// Feeds a script in pieces of so many bytes, and ends it.
+fn feed_pieces(
+    alloc: Global,
+    run: &mut ReplayRun,
+    script: &[u8],
+    piece: usize,
+) -> Result<(), SimFault> {
+    for bytes in script.chunks(piece.max(1)) {
+        run.feed(alloc, bytes)?;
+    }
+    run.end(alloc)
+}
 
 /// What a script gives that is fed in pieces of so many bytes, and the trace of its book.
 fn feed(
@@ -17,22 +29,12 @@ fn feed(
     piece: usize,
 ) -> Result<(Result<(), SimFault>, Vec<u8>), Fail> {
     let mut run = ReplayRun::new(alloc)?;
-    let mut result = Ok(());
-    let mut rest = script;
-    while !rest.is_empty() && result.is_ok() {
-        let count = piece.max(1).min(rest.len());
-        result = run.feed(alloc, &rest[..count]);
-        rest = &rest[count..];
-    }
-    if result.is_ok() {
-        result = run.end(alloc);
-    }
-    let mut output = Output::new(alloc);
+    let result = feed_pieces(alloc, &mut run, script, piece);
+    let mut written = Vec::new(alloc);
     if let Some(book) = run.book() {
-        trace(book, &mut Sink::new(alloc, &mut output)?)?;
+        trace(book, &mut Sink::new(alloc, &mut written)?)?;
     }
-    let Output { taken, .. } = output;
-    Ok((result, taken))
+    Ok((result, written))
 }
 
 /// The fault of a line to which no form fits.
@@ -45,7 +47,7 @@ fn no_form(line: u64) -> Result<(), SimFault> {
 fn a_line_that_is_cut_is_told(rt: HostRuntime) -> Result<(), Fail> {
     let script = format!(in rt.alloc(); "{BOOT}0 t1 nbsend 1 7\n0 t1 nbs")?;
     let want = format!(in rt.alloc(); "{BOOT}0 t1 nbsend 1 7\n= done\n")?;
-    for piece in PIECES {
+    for &piece in PIECES {
         let (result, told) = feed(rt.alloc(), script.as_bytes(), piece)?;
         assert!(rt;
             result == no_form(38) && told.as_slice() == want.as_bytes(),
@@ -58,7 +60,7 @@ fn a_line_that_is_cut_is_told(rt: HostRuntime) -> Result<(), Fail> {
 }
 
 /// Pieces of a script, and what each gives.
-const FED: [(&[u8], bool); 3] = [
+const FED: &[(&[u8], bool)] = &[
     (b"cores 1\nco", true),
     (b"re 1\n\n", false),
     (b"endpoint\n", false),
@@ -67,7 +69,7 @@ const FED: [(&[u8], bool); 3] = [
 #[test]
 fn a_fault_stays(rt: HostRuntime) -> Result<(), Fail> {
     let mut run = ReplayRun::new(rt.alloc())?;
-    for (i, (piece, is_read)) in FED.into_iter().enumerate() {
+    for (i, &(piece, is_read)) in FED.iter().enumerate() {
         let want = if is_read { Ok(()) } else { no_form(2) };
         assert!(rt; run.feed(rt.alloc(), piece) == want, "piece {i}");
         assert!(rt; run.book().is_none(), "piece {i}");
@@ -88,25 +90,28 @@ impl Read for Endless {
     }
 }
 
+/// The fault of a first line that is too long.
+const LONG: SimFault = SimFault::Script {
+    line: 1,
+    why: LineFault::LongLine,
+};
+
 #[test]
-fn an_endless_line_is_too_long(rt: HostRuntime) -> Result<(), Fail> {
+fn a_line_is_too_long_at_its_4097th_byte(rt: HostRuntime) -> Result<(), Fail> {
     let mut run = ReplayRun::new(rt.alloc())?;
-    let fault = SimFault::Script {
-        line: 1,
-        why: LineFault::LongLine,
-    };
     for _ in 0..4_096 {
         assert!(rt; run.feed(rt.alloc(), b"x") == Ok(()));
     }
-    assert!(rt; run.feed(rt.alloc(), b"x") == Err(fault));
-    let mut output = Output::new(rt.alloc());
-    let mut source = Source::new(Endless);
-    let result = simulate(
-        rt.alloc(),
-        &mut source,
-        &mut Sink::new(rt.alloc(), &mut output)?,
-    );
-    assert!(rt; result == Err(fault));
-    assert!(rt; output.taken.is_empty());
+    assert!(rt; run.feed(rt.alloc(), b"x") == Err(LONG));
+    Ok(())
+}
+
+#[test]
+fn an_endless_line_is_too_long(rt: HostRuntime) -> Result<(), Fail> {
+    let mut written = Vec::new(rt.alloc());
+    let mut sink = Sink::new(rt.alloc(), &mut written)?;
+    let result = simulate(rt.alloc(), &mut Source::new(Endless), &mut sink);
+    drop(sink);
+    assert!(rt; result == Err(LONG) && written.is_empty());
     Ok(())
 }

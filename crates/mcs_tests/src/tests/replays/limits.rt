@@ -47,7 +47,7 @@ fn a_script_cut_anywhere_is_read_or_faulty(rt: HostRuntime) -> Result<(), Fail> 
 }
 
 /// What is wrong with line 37 behind the boot.
-const LINES: [(&str, Option<LineFault>); 58] = [
+const LINES: &[(&str, Option<LineFault>)] = &[
     ("0 t6 nbwait 2", Some(LineFault::NoObject)),
     ("1 t6 nbwait 2", Some(LineFault::Number)),
     ("00 t1 nbwait 2", Some(LineFault::Form)),
@@ -131,7 +131,7 @@ const LINES: [(&str, Option<LineFault>); 58] = [
 
 #[test]
 fn lines_are_read_or_faulty(rt: HostRuntime) -> Result<(), Fail> {
-    for (line, why) in LINES {
+    for &(line, why) in LINES {
         let script = format!(in rt.alloc(); "{BOOT}{line}\n")?;
         let (result, written) = run(rt.alloc(), script.as_bytes())?;
         let want = match why {
@@ -145,7 +145,7 @@ fn lines_are_read_or_faulty(rt: HostRuntime) -> Result<(), Fail> {
 }
 
 /// Lines of the boot, also such as lack a word.
-const BOOT_LINES: [&str; 9] = [
+const BOOT_LINES: &[&str] = &[
     "cores 1",
     "cnode 5",
     "endpoint",
@@ -162,7 +162,7 @@ const BOOT_LINES: [&str; 9] = [
 fn lines_of_the_boot_come_first(rt: HostRuntime) -> Result<(), Fail> {
     let want = format!(in rt.alloc(); "{BOOT}0 t1 recv 1 8\n= refused 5\n")?;
     let (line, why) = (38, LineFault::LateBoot);
-    for late in BOOT_LINES {
+    for &late in BOOT_LINES {
         let script = format!(in rt.alloc(); "{BOOT}0 t1 recv 1 8\n{late}\n")?;
         let (result, written) = run(rt.alloc(), script.as_bytes())?;
         assert!(rt; result == Err(SimFault::Script { line, why }), "{late}");
@@ -182,7 +182,7 @@ fn repeated(alloc: Global, text: &str, piece: &str, count: u32) -> Result<Vec<u8
 }
 
 /// Scripts of a text, so many pieces and an end, and what is wrong at which line, if anything is.
-const LONG_SCRIPTS: [(&str, &str, u32, &str, Option<(u64, LineFault)>); 7] = [
+const LONG_SCRIPTS: &[(&str, &str, u32, &str, Option<(u64, LineFault)>)] = &[
     ("cores 1\n", "#", 4_096, "\nendpoint\n", None),
     (
         "cores 1\n",
@@ -218,7 +218,7 @@ const LONG_SCRIPTS: [(&str, &str, u32, &str, Option<(u64, LineFault)>); 7] = [
 
 #[test]
 fn long_scripts_are_read_or_faulty(rt: HostRuntime) -> Result<(), Fail> {
-    for (i, (text, piece, count, end, fault)) in LONG_SCRIPTS.into_iter().enumerate() {
+    for (i, &(text, piece, count, end, fault)) in LONG_SCRIPTS.iter().enumerate() {
         let mut script = repeated(rt.alloc(), text, piece, count)?;
         script.extend_from_slice(end.as_bytes())?;
         let (result, written) = run(rt.alloc(), &script)?;

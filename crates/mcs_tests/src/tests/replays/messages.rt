@@ -99,7 +99,7 @@ fn a_long_call_has_a_long_answer(rt: HostRuntime) -> Result<(), Fail> {
 }
 
 /// Steps that bring a message, up to its label.
-const SENDS: [&str; 4] = [
+const SENDS: &[&str] = &[
     "0 t1 send 1 7",
     "0 t1 nbsend 1 7",
     "0 t1 call 1 7",
@@ -109,7 +109,7 @@ const SENDS: [&str; 4] = [
 #[test]
 fn more_words_are_a_fault(rt: HostRuntime) -> Result<(), Fail> {
     let words = words(rt.alloc(), 121)?;
-    for send in SENDS {
+    for &send in SENDS {
         let script = format!(in rt.alloc(); "{BOOT}{send}{words}\n")?;
         let (result, written) = run(rt.alloc(), script.as_bytes())?;
         let why = LineFault::Number;

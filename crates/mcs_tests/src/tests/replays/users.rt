@@ -71,7 +71,7 @@ const BOOT_LINES: u32 = 36;
 
 /// Texts before a line that has no end, the number of that line, how the fault is told, and how many reads come to its 4,097th
 /// byte: one for each line of the text, and two of 4,096 bytes.
-const ENDLESS: [(&str, u64, &str, u32); 3] = [
+const ENDLESS: &[(&str, u64, &str, u32)] = &[
     ("", 1, "mcssim: line 1: fault 7", 2),
     ("cores 1\n", 2, "mcssim: line 2: fault 7", 3),
     (BOOT, 37, "mcssim: line 37: fault 7", BOOT_LINES + 2),
@@ -80,7 +80,7 @@ const ENDLESS: [(&str, u64, &str, u32); 3] = [
 #[test]
 fn an_endless_line_is_told_at_its_4097th_byte(rt: HostRuntime) -> Result<(), Fail> {
     let why = LineFault::LongLine;
-    for (text, line, told, reads) in ENDLESS {
+    for &(text, line, told, reads) in ENDLESS {
         let fault = SimFault::Script { line, why };
         let mut input = Endless::new(text);
         let given = run(&rt, &mut input, None);
@@ -104,7 +104,7 @@ fn an_endless_line_is_told_at_its_4097th_byte(rt: HostRuntime) -> Result<(), Fai
 }
 
 /// Lines behind the boot, which faults of users they are, and at which line.
-const FAULTS: [(&str, u32, LineFault); 9] = [
+const FAULTS: &[(&str, u32, LineFault)] = &[
     ("nonsense\n", 37, LineFault::Form),
     ("0 t1 nbsend 1 7\n", 37, LineFault::Form),
     ("cores 1\n", 37, LineFault::Taken),
@@ -118,7 +118,7 @@ const FAULTS: [(&str, u32, LineFault); 9] = [
 
 #[test]
 fn a_fault_is_told_before_the_next_line_is_read(rt: HostRuntime) -> Result<(), Fail> {
-    for (lines, line, why) in FAULTS {
+    for &(lines, line, why) in FAULTS {
         let script = format!(in rt.alloc(); "{BOOT}{lines}")?;
         let mut input = Endless::new(script.as_str());
         let (result, length) = run(&rt, &mut input, None);
@@ -145,11 +145,11 @@ fn other_cores_are_told_at_the_first_line(rt: HostRuntime) -> Result<(), Fail> {
 }
 
 /// How many bytes line 37 has, and what is wrong with it, if anything is.
-const LENGTHS: [(u32, Option<LineFault>); 2] = [(4_096, None), (4_097, Some(LineFault::LongLine))];
+const LENGTHS: &[(u32, Option<LineFault>)] = &[(4_096, None), (4_097, Some(LineFault::LongLine))];
 
 #[test]
 fn a_line_has_4096_bytes_at_most(rt: HostRuntime) -> Result<(), Fail> {
-    for (length, why) in LENGTHS {
+    for &(length, why) in LENGTHS {
         for end in ["", "\n", "\nendpoint\n"] {
             let mut script = format!(in rt.alloc(); "{BOOT}")?;
             for _ in 0..length {
