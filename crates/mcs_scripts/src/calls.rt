@@ -11,7 +11,7 @@ use mcs_types::{
 use std::alloc::Global;
 
 /// The objects that are made first.
-const OBJECTS: &[BootLine] = &[
+const OBJECTS: [BootLine; 11] = [
     BootLine::CNode { radix: 5 },
     BootLine::Endpoint,
     BootLine::Endpoint,
@@ -123,7 +123,7 @@ pub fn booted(alloc: Global) -> Result<Boot, Failed> {
         Ok(boot) => boot,
         Err(_) => Boot::new(alloc, 1)?,
     };
-    for line in OBJECTS {
+    for line in &OBJECTS {
         add(&mut boot, line)?;
     }
     for &(serial, priority) in THREADS {
