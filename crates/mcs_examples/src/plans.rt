@@ -95,8 +95,13 @@ fn are_done(alloc: Global, trace: &[u8]) -> Result<bool, LabFault> {
 fn try_large<W: Write>(rt: &HostRuntime, to: &mut W) -> Result<(), LabFault> {
     let script = told_of(rt.alloc(), &plan_of(rt, "plans/large")?)?;
     let told = match trace_of(rt.alloc(), script.as_bytes())? {
-        Some(trace) if are_done(rt.alloc(), &trace)? => "both done",
-        Some(_) => "NOT DONE",
+        Some(trace) => {
+            if are_done(rt.alloc(), &trace)? {
+                "both done"
+            } else {
+                "NOT DONE"
+            }
+        }
         None => "WITH A FAULT",
     };
     writeln!(to, "# plans/large.plan: {told}")?;
