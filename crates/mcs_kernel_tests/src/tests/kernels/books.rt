@@ -164,8 +164,8 @@ fn queued(alloc: Global, ids: &Ids) -> Result<Vec<Rec>, Fail> {
     Ok(records)
 }
 
-/// How messages are sent, with which badges, and how many words they have. The first that is long finds room among the words, the
-/// last two stand beside the records.
+/// How messages are sent, with which badges, and how many words they have. The first that is long finds room among the words; the
+/// one behind it, and those of debts, stand beside the records.
 const SENT: &[(SendMode, u64, u64)] = &[
     (SendMode::Plain, 0, 0),
     (SendMode::Call, 9, 1),
