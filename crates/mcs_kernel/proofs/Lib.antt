@@ -1,4 +1,3 @@
-pub mod Booting
 pub mod Serials
 pub mod Serving
 pub mod Stepping

@@ -17,8 +17,8 @@ use Rattle.mcs_book.specs.History.{Book, Line, IsLegal, AreLegal, past, log_of}
 use Rattle.mcs_book.specs.Table.{does}
 use Rattle.mcs_book.proofs.Lengths.Rows.{does-short, past-threads}
 use Rattle.mcs_caps.specs.NewObjects.{HasSerials}
-use Rattle.mcs_kernel.specs.Booted.{IsBooting}
-use Rattle.mcs_kernel.proofs.Booting.{length-made, few-made, held, boot-begun}
+use Rattle.mcs_boots.specs.Booted.{IsBooting}
+use Rattle.mcs_boots.proofs.Booting.{length-made, few-made, held, boot-begun}
 
 -- one more at most
 pub one-more : (b : Bool) (n : ℕ) → cond b (n + 1) n ≤ n + 1

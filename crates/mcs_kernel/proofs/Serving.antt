@@ -42,7 +42,7 @@ use Rattle.mcs_book.proofs.SoundLogs.SoundBooks.{legal-firm}
 use Rattle.mcs_book.proofs.Books.KnownCores.{legal-cores}
 use Rattle.mcs_caps.specs.NewObjects.{HasSerials}
 use Rattle.mcs_kernel.specs.Resting.{IsResting}
-use Rattle.mcs_kernel.proofs.Booting.{length-made}
+use Rattle.mcs_boots.proofs.Booting.{length-made}
 use Rattle.mcs_kernel.proofs.Serials.{serials-left}
 use Rattle.mcs_types.specs.declared.entry.Step.{Step}
 use Rattle.mcs_state.specs.Now.{Now, so_far}

@@ -1,4 +1,3 @@
 pub mod Faults
 pub mod Runs
 pub mod Resting
-pub mod Booted

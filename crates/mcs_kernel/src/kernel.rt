@@ -19,9 +19,9 @@ ghost use Rattle.mcs_kernel.specs.Faults.{fault_of, entered, with_entry, FailsFo
 mod asking;
 mod queries;
 
-use crate::boot::{Boot, boot_state};
 use crate::fault::EnterFault;
 use mcs_book::Book;
+use mcs_boots::{Boot, boot_state};
 use mcs_cancel::{cancel_badged, resume, set_priority, suspend};
 use mcs_caps::{copy_cap, delete_cap, make, mint_cap, move_cap};
 use mcs_ipc::{bind_context, call, exchange, receive, reply_receive, send, unbind_context};

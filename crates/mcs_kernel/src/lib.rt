@@ -1,15 +1,14 @@
 //! The kernel: one entry that is let in is one line of the book.
 #![tactic(auto)]
 
-mod boot;
 mod fault;
 mod kernel;
 mod ongoing;
 mod replaying;
 
-pub use boot::Boot;
 pub use fault::{EnterFault, ReplayFault};
 pub use kernel::Kernel;
+pub use mcs_boots::Boot;
 pub use mcs_types::Step;
 pub use ongoing::Replay;
 pub use replaying::replay;

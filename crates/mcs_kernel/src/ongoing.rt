@@ -5,9 +5,9 @@ ghost use Rattle.mcs_book.specs.Fair.{IsFair};
 ghost use Rattle.mcs_kernel.specs.Faults.{fault_of};
 ghost use Rattle.mcs_kernel.specs.Runs.{is_book_full, begun, after_step, answer_to, next_count, StepEnds};
 
-use crate::boot::Boot;
 use crate::fault::{EnterFault, ReplayFault};
 use crate::kernel::Kernel;
+use mcs_boots::Boot;
 use mcs_queues::Lines;
 use mcs_types::{Answer, OutOfMemory, Step};
 use std::alloc::Global;

@@ -5,10 +5,10 @@ ghost use Rattle.mcs_book.specs.Each.{EachRecord, EachLine, AfterEachLine};
 ghost use Rattle.mcs_book.specs.Fair.{EndsOpen, IsWholeLine, TakesFirst, TakesInOrder, TakesAlive, SendersAreOpen, AnswersOwed, AnswersWhole, NoneWaitBeside};
 ghost use Rattle.mcs_kernel.specs.Runs.{full_in, EndsAt};
 
-use crate::boot::Boot;
 use crate::fault::ReplayFault;
 use crate::kernel::Kernel;
 use crate::ongoing::Replay;
+use mcs_boots::Boot;
 use mcs_queues::Lines;
 use mcs_types::{OutOfMemory, Step};
 use std::alloc::Global;
