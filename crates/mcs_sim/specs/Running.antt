@@ -13,7 +13,7 @@ use Rattle.mcs_seats.specs.declared.settle.FinishFault.{FinishFault}
 use Rattle.mcs_seats.specs.declared.settle.FinishFault.TheVariants as finish
 use Rattle.mcs_sim.specs.declared.fault.SimFault.{SimFault}
 use Rattle.mcs_sim.specs.declared.fault.SimFault.TheVariants as fault
-use Rattle.mcs_sim.specs.declared.source.Source.{Source}
+use Rattle.mcs_source.specs.declared.source.Source.{Source}
 use Rattle.mcs_sim.specs.Script.{users}
 use Rattle.mcs_sim.specs.Users.{UsersStopSoon}
 use Rattle.mcs_sim.specs.Trace.{trace}

@@ -14,7 +14,7 @@ use Rattle.mcs_sim.specs.declared.fault.SimFault.TheVariants as fault
 use Rattle.mcs_sim.specs.Trace.{trace, trace_of}
 use Rattle.mcs_sim.specs.Script.{Script, steps}
 use Rattle.mcs_sim.specs.Going.{fed, at_line, no_line, answer_of}
-use Rattle.mcs_sim.specs.declared.source.Source.{Source}
+use Rattle.mcs_source.specs.declared.source.Source.{Source}
 
 -- the trace of the book that the steps make after a boot
 unfoldable pub script_trace : Option Boot → List Step → List ℕ

@@ -5,7 +5,7 @@ use Rattle.mcs_text.specs.declared.fault.LineFault.{LineFault}
 use Rattle.mcs_text.specs.declared.steps.UserEntry.{UserEntry}
 use Rattle.mcs_text.specs.Reading.{lines_of}
 use Rattle.mcs_sim.specs.declared.fault.SimFault.{SimFault}
-use Rattle.mcs_sim.specs.declared.source.TheConstants.{PIECE}
+use Rattle.mcs_source.specs.declared.source.TheConstants.{PIECE}
 use Rattle.mcs_sim.specs.declared.fault.SimFault.TheVariants as fault
 use Rattle.mcs_sim.specs.Script.{Script, no_script, of_users, script_from, users}
 use Rattle.mcs_sim.specs.Going.{HasNoNewline}

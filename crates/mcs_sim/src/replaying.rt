@@ -7,8 +7,8 @@ ghost use Rattle.mcs_sim.specs.Runs.{Finished, EndedBy, TellsMore, WritesMore, H
 
 use crate::fault::SimFault;
 use crate::feeding::ReplayRun;
-use crate::source::{PIECE, Source};
 use crate::writing::{Told, put_read, put_untold};
+use mcs_source::{PIECE, Source};
 use mcs_trace::Sink;
 use mcs_types::OutOfMemory;
 use memchr::memchr;

@@ -1,7 +1,7 @@
 use Rattle.std.proofs.Common.{◌≡◌, ◌≤◌, ◌⊎◌}
 use Rattle.std.specs.Io.KnownBytes.{Keeps}
 use Rattle.mcs_trace.specs.Output.{Rose}
-use Rattle.mcs_sim.proofs.source.read_some.Given as goal
+use Rattle.mcs_source.proofs.source.read_some.Given as goal
 
 abbrev pub invariant-loop : goal.invariant-loop
 invariant-loop g l = record {

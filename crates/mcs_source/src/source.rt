@@ -64,7 +64,7 @@ impl<R> Source<R> {
 }
 
 impl<R: Read> Source<R> {
-    ghost use Rattle.mcs_sim.specs.Input.{Reads};
+    ghost use Rattle.mcs_source.specs.Input.{Reads};
 
     /// The next bytes, as many as one read gives, and none at the end of the input.
     pub fn read_piece(&mut self, piece: &mut [u8]) -> Result<usize, ReadFault>
