@@ -92,49 +92,79 @@ fn json<'a>(alloc: Global) -> Arg<'a> {
         .action(ArgAction::SetTrue)
 }
 
+/// A command with one argument more. What is made before a step that can fail is dropped where it fails, so a
+/// chain of such steps in one function is long to prove, and a step in a function of its own is not.
+pub fn with<'a>(words: Result<Words<'a>, Error>, arg: Arg<'a>) -> Result<Words<'a>, Error> {
+    Ok(words?.arg(arg)?)
+}
+
+/// A command with one more below it.
+fn add<'a>(words: Words<'a>, below: Words<'a>) -> Result<Words<'a>, Error> {
+    Ok(words.subcommand(below)?)
+}
+
+/// A command with one more below it, where both could be made.
+fn over<'a>(
+    words: Result<Words<'a>, Error>,
+    below: Result<Words<'a>, Error>,
+) -> Result<Words<'a>, Error> {
+    add(words?, below?)
+}
+
+/// The command that compares what is wanted.
+fn check<'a>(alloc: Global) -> Result<Words<'a>, Error> {
+    let words = Words::new(alloc, "check")
+        .about("Compares what a script says of its steps with what they do, and writes TAP")
+        .after_help(QUESTIONS);
+    with(Ok(words), file(alloc))
+}
+
+/// The command that says why steps did nothing.
+fn why<'a>(alloc: Global) -> Result<Words<'a>, Error> {
+    let words = Words::new(alloc, "why").about(
+        "Tells why a step was turned away or refused, and at the end which threads are stuck",
+    );
+    with(Ok(words), file(alloc))
+}
+
 /// The command that shows who stands where.
 fn state<'a>(alloc: Global) -> Result<Words<'a>, Error> {
-    let words = Words::new(alloc, "state")
-        .about("Shows who stands where")
-        .arg(at(alloc))?
-        .arg(stuck(alloc))?
-        .arg(json(alloc))?
-        .arg(file(alloc))?;
-    Ok(words)
+    let words = Words::new(alloc, "state").about("Shows who stands where");
+    let words = with(Ok(words), at(alloc));
+    let words = with(words, stuck(alloc));
+    let words = with(words, json(alloc));
+    with(words, file(alloc))
+}
+
+/// The command that writes the book as JSON.
+fn book<'a>(alloc: Global) -> Result<Words<'a>, Error> {
+    let words = Words::new(alloc, "json")
+        .about(
+            "Writes the lines of the book as JSON, an object for each, by the words of the forms",
+        )
+        .after_help(FORMS);
+    with(Ok(words), file(alloc))
+}
+
+/// The program, with no command.
+fn program<'a>(alloc: Global) -> Words<'a> {
+    Words::new(alloc, "mcslab")
+        .version(VERSION)
+        .about("Tests scripts of mcssim, and says why a step did nothing and who stands where")
+        .after_help(QUESTIONS)
+        .subcommand_required(true)
 }
 
 /// The program's commands.
 fn commands<'a>(alloc: Global) -> Result<Words<'a>, Error> {
-    let check = Words::new(alloc, "check")
-        .about("Compares what a script says of its steps with what they do, and writes TAP")
-        .after_help(QUESTIONS)
-        .arg(file(alloc))?;
-    let why = Words::new(alloc, "why")
-        .about(
-            "Tells why a step was turned away or refused, and at the end which threads are stuck",
-        )
-        .arg(file(alloc))?;
-    let json = Words::new(alloc, "json")
-        .about(
-            "Writes the lines of the book as JSON, an object for each, by the words of the forms",
-        )
-        .after_help(FORMS)
-        .arg(file(alloc))?;
-    Ok(
-        Words::new(alloc, "mcslab")
-            .version(VERSION)
-            .about("Tests scripts of mcssim, and says why a step did nothing and who stands where")
-            .after_help(QUESTIONS)
-            .subcommand_required(true)
-            .subcommand(check)?
-            .subcommand(why)?
-            .subcommand(state(alloc)?)?
-            .subcommand(json)?
-            .subcommand(drawing::command(alloc, file(alloc))?)?
-            .subcommand(exploring::command(alloc, file(alloc))?)?
-            .subcommand(compiling::command(alloc, plan(alloc))?)?
-            .subcommand(compiling::names_command(alloc)?)?,
-    )
+    let words = over(Ok(program(alloc)), check(alloc));
+    let words = over(words, why(alloc));
+    let words = over(words, state(alloc));
+    let words = over(words, book(alloc));
+    let words = over(words, drawing::command(alloc, file(alloc)));
+    let words = over(words, exploring::command(alloc, file(alloc)));
+    let words = over(words, compiling::command(alloc, plan(alloc)));
+    over(words, compiling::names_command(alloc))
 }
 
 /// What is asked of a plan or of the names of a script, if something is.

@@ -1,4 +1,5 @@
 //! Plans and names, as the command line asks for them.
+use crate::command_line::with;
 use clap::{Arg, ArgAction, ArgMatches, Command as Words, Error};
 use mcs_compile::write_map;
 use mcs_lab::LabFault;
@@ -20,28 +21,39 @@ pub enum Made {
 /// The exit status for a file that cannot be opened.
 const USAGE: u8 = 64;
 
-/// The command that makes a script of a plan.
-pub fn command<'a>(alloc: Global, file: Arg<'a>) -> Result<Words<'a>, Error> {
-    let map = Arg::new(alloc, "map")
+/// The option for the table.
+fn map<'a>(alloc: Global) -> Arg<'a> {
+    Arg::new(alloc, "map")
         .long("map")
         .help("Writes the names and their addresses in place of the script")
-        .action(ArgAction::SetTrue);
-    Ok(
-        Words::new(alloc, "compile")
-            .about("Makes a script of a plan, which says a protocol by names")
-            .arg(map)?
-            .arg(file)?,
+        .action(ArgAction::SetTrue)
+}
+
+/// The command that makes a script of a plan, with no option.
+fn words<'a>(alloc: Global) -> Words<'a> {
+    Words::new(alloc, "compile").about("Makes a script of a plan, which says a protocol by names")
+}
+
+/// The command that makes a script of a plan.
+pub fn command<'a>(alloc: Global, file: Arg<'a>) -> Result<Words<'a>, Error> {
+    with(with(Ok(words(alloc)), map(alloc)), file)
+}
+
+/// The file of a script that has names.
+fn script<'a>(alloc: Global) -> Arg<'a> {
+    Arg::new(alloc, "FILE").help("The script").required(true)
+}
+
+/// The command that puts names into a trace, with no option.
+fn names_words<'a>(alloc: Global) -> Words<'a> {
+    Words::new(alloc, "names").about(
+        "Puts the names that a script gives into a trace, which is the standard input",
     )
 }
 
 /// The command that puts names into a trace.
 pub fn names_command<'a>(alloc: Global) -> Result<Words<'a>, Error> {
-    let file = Arg::new(alloc, "FILE").help("The script").required(true);
-    Ok(
-        Words::new(alloc, "names")
-            .about("Puts the names that a script gives into a trace, which is the standard input")
-            .arg(file)?,
-    )
+    with(Ok(names_words(alloc)), script(alloc))
 }
 
 /// What is asked.

@@ -1,4 +1,5 @@
 //! The picture of a script, as the command line asks for it.
+use crate::command_line::with;
 use clap::{Arg, ArgMatches, Command as Words, Error, value_parser};
 use mcs_pictures::{Format, Window};
 use std::alloc::Global;
@@ -22,29 +23,46 @@ fn line<'a>(alloc: Global, name: &'a str, help: &'a str) -> Arg<'a> {
         .value_parser(value_parser!(u64))
 }
 
-/// The command.
-pub fn command<'a>(alloc: Global, file: Arg<'a>) -> Result<Words<'a>, Error> {
-    let format = Arg::new(alloc, "format")
+/// The option for the first line.
+fn from<'a>(alloc: Global) -> Arg<'a> {
+    line(
+        alloc,
+        "from",
+        "The first line of the book that is shown [default: 1]",
+    )
+}
+
+/// The option for the last line.
+fn to<'a>(alloc: Global) -> Arg<'a> {
+    line(
+        alloc,
+        "to",
+        "The last line of the book that is shown [default: the last]",
+    )
+}
+
+/// The option for the format.
+fn format<'a>(alloc: Global) -> Arg<'a> {
+    Arg::new(alloc, "format")
         .long("format")
         .value_name("FORMAT")
         .help("As what [default: svg]")
-        .value_parser(FORMATS);
-    Ok(
-        Words::new(alloc, "draw")
-            .about("Draws a run: a lane for each thread, a row for each line of the book")
-            .arg(line(
-                alloc,
-                "from",
-                "The first line of the book that is shown [default: 1]",
-            ))?
-            .arg(line(
-                alloc,
-                "to",
-                "The last line of the book that is shown [default: the last]",
-            ))?
-            .arg(format)?
-            .arg(file)?,
+        .value_parser(FORMATS)
+}
+
+/// The command with no option.
+fn words<'a>(alloc: Global) -> Words<'a> {
+    Words::new(alloc, "draw").about(
+        "Draws a run: a lane for each thread, a row for each line of the book",
     )
+}
+
+/// The command.
+pub fn command<'a>(alloc: Global, file: Arg<'a>) -> Result<Words<'a>, Error> {
+    let words = with(Ok(words(alloc)), from(alloc));
+    let words = with(words, to(alloc));
+    let words = with(words, format(alloc));
+    with(words, file)
 }
 
 /// What is asked; None for a format that is not there.

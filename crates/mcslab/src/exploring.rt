@@ -1,4 +1,5 @@
 //! The search through all orders, as the command line asks for it.
+use crate::command_line::with;
 use clap::{Arg, ArgAction, ArgMatches, Command as Words, Error, value_parser};
 use mcs_lab::LabFault;
 use mcs_sim::Source;
@@ -52,34 +53,54 @@ fn number<'a>(alloc: Global, name: &'a str, help: &'a str) -> Arg<'a> {
         .value_parser(value_parser!(u64))
 }
 
-/// The command.
-pub fn command<'a>(alloc: Global, file: Arg<'a>) -> Result<Words<'a>, Error> {
-    let scripts = Arg::new(alloc, "scripts")
+/// The option for the most states.
+fn states<'a>(alloc: Global) -> Arg<'a> {
+    number(
+        alloc,
+        "states",
+        "How many states are found at most [default: 1000000]",
+    )
+}
+
+/// The option for the depth.
+fn depth<'a>(alloc: Global) -> Arg<'a> {
+    number(
+        alloc,
+        "depth",
+        "From how many turns on no state is looked behind",
+    )
+}
+
+/// The option for the folder of scripts.
+fn scripts<'a>(alloc: Global) -> Arg<'a> {
+    Arg::new(alloc, "scripts")
         .long("scripts")
         .value_name("DIR")
-        .help("Writes the scripts of steps that show what is told into this folder");
-    let exact = Arg::new(alloc, "exact")
+        .help("Writes the scripts of steps that show what is told into this folder")
+}
+
+/// The option for exact keys.
+fn exact<'a>(alloc: Global) -> Arg<'a> {
+    Arg::new(alloc, "exact")
         .long("exact")
         .help("Tells states apart by the numbers of messages and of objects, too")
-        .action(ArgAction::SetTrue);
-    Ok(
-        Words::new(alloc, "explore")
-            .about("Goes through all orders of the users of a script")
-            .after_help(QUESTIONS)
-            .arg(number(
-                alloc,
-                "states",
-                "How many states are found at most [default: 1000000]",
-            ))?
-            .arg(number(
-                alloc,
-                "depth",
-                "From how many turns on no state is looked behind",
-            ))?
-            .arg(scripts)?
-            .arg(exact)?
-            .arg(file)?,
-    )
+        .action(ArgAction::SetTrue)
+}
+
+/// The command with no option.
+fn words<'a>(alloc: Global) -> Words<'a> {
+    Words::new(alloc, "explore")
+        .about("Goes through all orders of the users of a script")
+        .after_help(QUESTIONS)
+}
+
+/// The command.
+pub fn command<'a>(alloc: Global, file: Arg<'a>) -> Result<Words<'a>, Error> {
+    let words = with(Ok(words(alloc)), states(alloc));
+    let words = with(words, depth(alloc));
+    let words = with(words, scripts(alloc));
+    let words = with(words, exact(alloc));
+    with(words, file)
 }
 
 /// What is asked.
