@@ -1,9 +1,10 @@
 -- Alike logs are alike after the same record.
-use Rattle.std.specs.Prelude.{ℕ, ◌≡◌, ◌+◌, ◌&&◌, ◌||◌, ◌⊎◌, Bool, true, false, not, cond, List, [], ◌∷◌, Some, None, unwrap_or}
-use Rattle.std.proofs.Common.{refl, ap, sym, ◌∙◌, inl, inr, arith}
+use Rattle.std.specs.Prelude.{ℕ, ◌≡◌, ◌+◌, ◌&&◌, ◌||◌, ◌⊎◌, Bool, true, false, not, cond, List, [], ◌∷◌, Some, None, unwrap_or, option_map}
+use Rattle.std.proofs.Common.{refl, ap, sym, ◌∙◌, subst, inl, inr, arith}
 use Rattle.mcs_types.specs.declared.id.ObjId.{ObjId}
 use Rattle.mcs_types.specs.declared.id.Kind.{Kind}
 use Rattle.mcs_types.specs.declared.id.Kind.TheVariants as kind
+use Rattle.mcs_types.specs.declared.record.Letter.{Letter}
 use Rattle.mcs_types.specs.declared.record.Queue.{Queue}
 use Rattle.mcs_types.specs.declared.record.Rec.{Rec}
 use Rattle.mcs_types.specs.declared.record.Rec.TheVariants as rec
@@ -27,7 +28,8 @@ use Rattle.mcs_book.proofs.Objects.CountLaws.{count-filled}
 use Rattle.mcs_book.proofs.Objects.MadeLaws.{alive-made}
 use Rattle.mcs_state.proofs.Saying.{unsaid}
 use Rattle.mcs_state.proofs.CountLaws.{never-made}
-use Rattle.mcs_alike.specs.Alike.{Alike}
+use Rattle.mcs_alike.specs.ButNumbers.{unnumbered, AlikeButNumbers, Matches, MatchAll}
+use Rattle.mcs_alike.proofs.Settled.{settled-letters}
 
 -- what is there after a record was there before, or was never made before
 there-or-new : (r : Rec) (R : Log) (o : ObjId) → Sound R → Allowed R r → is_alive (r ∷ R) o ≡ true → (is_alive R o ≡ true) ⊎ (was_made R o ≡ false)
@@ -65,7 +67,7 @@ unraised (rec.Heard t k word ∷ R) n sound h = go (same n k) (unraised R n soun
 unraised (_ ∷ R) n sound h = unraised R n sound.1 h
 
 -- what the two logs say of what is there after the record, before it
-module _ (r : Rec) (R S : Log) (a : Alike R S) (ok : Allowed R r) where
+module _ (r : Rec) (R S : Log) (a : AlikeButNumbers R S) (ok : Allowed R r) where
   form-before : (o : ObjId) → is_alive (r ∷ R) o ≡ true → form_of R o ≡ form_of S o
   form-before o h = go (there-or-new r R o a.left ok h)
     where
@@ -111,7 +113,7 @@ word-after (rec.Raised k badge) R S n e = ap (λ w. cond (same n k) (Some (with_
 word-after (rec.Heard t k word) R S n e = ap (λ w. cond (same n k) None w) e
 word-after _ R S n e = e
 
-replies-after : (r : Rec) (R S : Log) → Alike R S → (t : ObjId) (q : Queue) → queue_of (r ∷ R) t ≡ Some q → reply_with (r ∷ R) t ≡ reply_with (r ∷ S) t
+replies-after : (r : Rec) (R S : Log) → AlikeButNumbers R S → (t : ObjId) (q : Queue) → queue_of (r ∷ R) t ≡ Some q → reply_with (r ∷ R) t ≡ reply_with (r ∷ S) t
 replies-after (rec.Joins u k w) R S a t q h = go (same t u) h
   where
     go : (b : Bool) → unwrap_or (given b (Some k)) (queue_of R t) ≡ Some q → unwrap_or (given b w) (reply_with R t) ≡ unwrap_or (given b w) (reply_with S t)
@@ -124,7 +126,7 @@ replies-after (rec.Parts u k) R S a t q h = go (same t u) h
     go false h = a.replies t q h
 replies-after _ R S a t q h = a.replies t q h
 
-lines-after : (r : Rec) (R S : Log) → Alike R S → Allowed R r → (q : Queue) → growing_queue (r ∷ R) q ≡ growing_queue (r ∷ S) q
+lines-after : (r : Rec) (R S : Log) → AlikeButNumbers R S → Allowed R r → (q : Queue) → growing_queue (r ∷ R) q ≡ growing_queue (r ∷ S) q
 lines-after (rec.Joins t k reply) R S a ok q =
     ap (λ l. cond (same_queue k q) (insert_behind (record { thread = t; priority = prio_of R t }) l) l) (a.lines q)
     ∙ ap (λ p. cond (same_queue k q) (insert_behind (record { thread = t; priority = p }) (growing_queue S q)) (growing_queue S q)) (a.prios t ok.0)
@@ -132,13 +134,24 @@ lines-after (rec.Parts t k) R S a ok q = ap (λ l. without t l) (a.lines q)
 lines-after (rec.Prio t p) R S a ok q = ap (λ l. shifted t p.0 l) (a.lines q)
 lines-after _ R S a ok q = a.lines q
 
-letters-after : (r : Rec) (R S : Log) → Alike R S → (x : ObjId) → growing_open (r ∷ R) x ≡ growing_open (r ∷ S) x
-letters-after (rec.Sent y e mode badge message) R S a x =
-    ap (λ o. cond (same y x) (Some (record { number = next_message R; sender = y; endpoint = e; mode = mode; badge = badge; message = message })) o) (a.letters x)
-    ∙ ap (λ n. cond (same y x) (Some (record { number = n; sender = y; endpoint = e; mode = mode; badge = badge; message = message })) (growing_open S x)) a.sent
-letters-after (rec.Took m p) R S a x = ap (λ o. unless_number m o) (a.letters x)
-letters-after (rec.Dropped m) R S a x = ap (λ o. unless_number m o) (a.letters x)
-letters-after _ R S a x = a.letters x
+-- whether a record takes or drops a message
+abbrev pub is_settling : Rec → Bool
+is_settling (rec.Took m p) = true
+is_settling (rec.Dropped m) = true
+is_settling _ = false
+
+letters-after : (r : Rec) (R S : Log) → AlikeButNumbers R S → is_settling r ≡ false → (x : ObjId) → option_map unnumbered (growing_open (r ∷ R) x) ≡ option_map unnumbered (growing_open (r ∷ S) x)
+letters-after (rec.Sent y e mode badge message) R S a plain x = go (same y x)
+  where
+    new : Log → Letter
+    new Q = record { number = next_message Q; sender = y; endpoint = e; mode = mode; badge = badge; message = message }
+
+    go : (b : Bool) → option_map unnumbered (cond b (Some (new R)) (growing_open R x)) ≡ option_map unnumbered (cond b (Some (new S)) (growing_open S x))
+    go true = refl
+    go false = a.letters x
+letters-after (rec.Took m p) R S a plain x = absurd cc
+letters-after (rec.Dropped m) R S a plain x = absurd cc
+letters-after _ R S a plain x = a.letters x
 
 chain-after : (r : Rec) (R S : Log) (s : ObjId) → growing_chain R s ≡ growing_chain S s → growing_chain (r ∷ R) s ≡ growing_chain (r ∷ S) s
 chain-after (rec.Owes r x brought) R S s e = ap (λ l. cond (is_just brought s) (r ∷ l) l) e
@@ -147,7 +160,7 @@ chain-after (rec.Void r x ending) R S s e = ap (λ l. ended ending r l) e
 chain-after (rec.Closed o) R S s e = ap (λ l. cond (same s o) [] l) e
 chain-after _ R S s e = e
 
-held-after : (r : Rec) (R S : Log) → Alike R S → (o : ObjId) → count_of (r ∷ R) o ≡ count_of (r ∷ S) o
+held-after : (r : Rec) (R S : Log) → AlikeButNumbers R S → (o : ObjId) → count_of (r ∷ R) o ≡ count_of (r ∷ S) o
 held-after (rec.Slot c i cap) R S a o =
     let left = count-filled R c i cap o in
     let right = count-filled S c i cap o in
@@ -159,9 +172,9 @@ held-after (rec.Slot c i cap) R S a o =
     plus-same m n x y e f = omega (arith, e, f)
 held-after _ R S a o = a.held o
 
--- after the same record, allowed in both
-pub alike-after : (r : Rec) (R S : Log) → Alike R S → Allowed R r → Allowed S r → Alike (r ∷ R) (r ∷ S)
-alike-after r R S a ok ok' = record {
+-- after the same record, allowed in both, that settles no message
+pub alike-after : (r : Rec) (R S : Log) → AlikeButNumbers R S → is_settling r ≡ false → Allowed R r → Allowed S r → AlikeButNumbers (r ∷ R) (r ∷ S)
+alike-after r R S a plain ok ok' = record {
   left = (ok, a.left);
   right = (ok', a.right);
   counts = λ k. ap (λ n. cond (makes_kind k r) (n + 1) n) (a.counts k);
@@ -182,17 +195,82 @@ alike-after r R S a ok ok' = record {
   slots = λ c i. ap (λ h. unwrap_or (slot_set c i r) h) (a.slots c i);
   held = held-after r R S a;
   lines = lines-after r R S a ok;
-  letters = letters-after r R S a;
+  letters = letters-after r R S a plain;
   chains = λ s. chain-after r R S s (a.chains s);
-  sent = ap (λ n. cond (is_sent r) (n + 1) n) a.sent;
 }
+
+-- once messages with these numbers are settled, each thread has the same open message, but for its number
+abbrev LeaveSame : Log → Log → ℕ → ℕ → Type 0
+LeaveSame R S m n = (y : ObjId) → option_map unnumbered (unless_number m (growing_open R y)) ≡ option_map unnumbered (unless_number n (growing_open S y))
+
+-- after messages are taken that leave the same open ones, but for their numbers
+pub alike-took : (m n : ℕ) (p : ObjId) (R S : Log) → AlikeButNumbers R S → LeaveSame R S m n → Allowed R (rec.Took m p) → Allowed S (rec.Took n p) → AlikeButNumbers (rec.Took m p ∷ R) (rec.Took n p ∷ S)
+alike-took m n p R S a of ok ok' = record {
+  left = (ok, a.left);
+  right = (ok', a.right);
+  counts = a.counts;
+  lists = a.lists;
+  made = a.made;
+  closed = a.closed;
+  forms = a.forms;
+  radices = a.radices;
+  prios = a.prios;
+  modes = a.modes;
+  words = a.words;
+  queues = a.queues;
+  replies = a.replies;
+  bounds = a.bounds;
+  owed = a.owed;
+  holders = a.holders;
+  homes = a.homes;
+  slots = a.slots;
+  held = a.held;
+  lines = a.lines;
+  letters = of;
+  chains = a.chains;
+}
+
+-- after messages are dropped that leave the same open ones, but for their numbers
+pub alike-dropped : (m n : ℕ) (R S : Log) → AlikeButNumbers R S → LeaveSame R S m n → Allowed R (rec.Dropped m) → Allowed S (rec.Dropped n) → AlikeButNumbers (rec.Dropped m ∷ R) (rec.Dropped n ∷ S)
+alike-dropped m n R S a of ok ok' = record {
+  left = (ok, a.left);
+  right = (ok', a.right);
+  counts = a.counts;
+  lists = a.lists;
+  made = a.made;
+  closed = a.closed;
+  forms = a.forms;
+  radices = a.radices;
+  prios = a.prios;
+  modes = a.modes;
+  words = a.words;
+  queues = a.queues;
+  replies = a.replies;
+  bounds = a.bounds;
+  owed = a.owed;
+  holders = a.holders;
+  homes = a.homes;
+  slots = a.slots;
+  held = a.held;
+  lines = a.lines;
+  letters = of;
+  chains = a.chains;
+}
+
+-- after records that match
+pub alike-matched : (r s : Rec) (R S : Log) → AlikeButNumbers R S → Matches R S r s → Allowed R r → Allowed S s → AlikeButNumbers (r ∷ R) (s ∷ S)
+alike-matched (rec.Took m p) s R S a h ok ok' = subst (λ (z : Rec). AlikeButNumbers (rec.Took m p ∷ R) (z ∷ S)) h.1.0 (alike-took m h.0 p R S a (settled-letters R S a m h.0 h.1.1) ok (subst (λ (z : Rec). Allowed S z) (sym h.1.0) ok'))
+alike-matched (rec.Dropped m) s R S a h ok ok' = subst (λ (z : Rec). AlikeButNumbers (rec.Dropped m ∷ R) (z ∷ S)) h.1.0 (alike-dropped m h.0 R S a (settled-letters R S a m h.0 h.1.1) ok (subst (λ (z : Rec). Allowed S z) (sym h.1.0) ok'))
+alike-matched r s R S a h ok ok' = subst (λ (z : Rec). AlikeButNumbers (r ∷ R) (z ∷ S)) h (alike-after r R S a refl ok (subst (λ (z : Rec). Allowed S z) (sym h) ok'))
 
 -- a log that sound records follow was sound
 pub sound-before : (made : List Rec) (R : Log) → Sound (onto made R) → Sound R
 sound-before [] R h = h
 sound-before (r ∷ made) R h = (sound-before made (r ∷ R) h).1
 
--- after the same records
-pub alike-onto : (made : List Rec) (R S : Log) → Alike R S → Sound (onto made R) → Sound (onto made S) → Alike (onto made R) (onto made S)
-alike-onto [] R S a h k = a
-alike-onto (r ∷ made) R S a h k = alike-onto made (r ∷ R) (r ∷ S) (alike-after r R S a (sound-before made (r ∷ R) h).0 (sound-before made (r ∷ S) k).0) h k
+-- after records that match, one by one
+pub alike-onto : (made more : List Rec) (R S : Log) → AlikeButNumbers R S → MatchAll R S made more → Sound (onto made R) → Sound (onto more S) → AlikeButNumbers (onto made R) (onto more S)
+alike-onto [] [] R S a m h k = a
+alike-onto [] (s ∷ more) R S a m h k = absurd m
+alike-onto (r ∷ made) [] R S a m h k = absurd m
+alike-onto (r ∷ made) (s ∷ more) R S a m h k = alike-onto made more (r ∷ R) (s ∷ S) (alike-matched r s R S a m.0 (sound-before made (r ∷ R) h).0 (sound-before more (s ∷ S) k).0) m.1 h k

@@ -1,5 +1,5 @@
 -- Logs that answer alike of everything are alike.
-use Rattle.std.specs.Prelude.{ℕ, ◌≡◌, ◌+◌, ◌&&◌, ◌||◌, Bool, true, false, not, cond, zero, suc, map, List, [], ◌∷◌, Option, Some, None, option_and_then}
+use Rattle.std.specs.Prelude.{ℕ, ◌≡◌, ◌+◌, ◌&&◌, ◌||◌, Bool, true, false, not, cond, zero, suc, map, List, [], ◌∷◌, Option, Some, None, option_and_then, option_map}
 use Rattle.std.proofs.Common.{refl, ap, sym, ◌∙◌, subst, arith, inl, inr}
 use Rattle.mcs_types.specs.declared.id.ObjId.{ObjId}
 use Rattle.mcs_types.specs.declared.id.CoreId.{CoreId}
@@ -38,7 +38,10 @@ use Rattle.mcs_state.proofs.Saying.{said, formless, form-fits, unclosed}
 use Rattle.mcs_state.proofs.Answering.{never-rowless, unbound}
 use Rattle.mcs_state.proofs.ThereLaws.{there}
 use Rattle.mcs_alike.specs.Alike.{Alike}
-use Rattle.mcs_alike.proofs.Asked.{AnswerAll}
+use Rattle.mcs_alike.specs.Answers.{AnswerAlike}
+use Rattle.mcs_alike.specs.ButNumbers.{unnumbered, AlikeButNumbers}
+use Rattle.mcs_alike.proofs.Asked.{AnswerAll, answer-all, answers-but, open-all}
+use Rattle.mcs_alike.proofs.Exactly.{with-numbers}
 
 -- as many objects of a kind as were made, the newest first
 abbrev listed : ℕ → Kind → List ObjId
@@ -221,7 +224,7 @@ module _ (R S : Log) (left : Sound R) (right : Sound S) (looks : AnswerAll R S) 
       again [] h = refl
       again (t ∷ ts) h = ap (λ n. (record { thread = t; priority = n }) ∷ map (waiter_of R) ts) (prios t (h t (inl refl))) ∙ ap (λ ws. (record { thread = t; priority = prio_of S t }) ∷ ws) (again ts (λ u i. h u (inr i)))
 
-  pub answers-alike : Alike R S
+  pub answers-alike : AlikeButNumbers R S
   answers-alike = record {
     left = left;
     right = right;
@@ -243,10 +246,14 @@ module _ (R S : Log) (left : Sound R) (right : Sound S) (looks : AnswerAll R S) 
     slots = looks.slots;
     held = looks.held;
     lines = lines;
-    letters = λ x. sym (open_of-growing R x left) ∙ looks.letters x ∙ open_of-growing S x right;
+    letters = λ x. ap (λ o. option_map unnumbered o) (sym (open_of-growing R x left)) ∙ looks.letters x ∙ ap (λ o. option_map unnumbered o) (open_of-growing S x right);
     chains = λ s. sym (chain_of-growing R s left) ∙ looks.chains s ∙ chain_of-growing S s right;
-    sent = looks.sent;
   }
     where
       word : (Q : Log) (n : ObjId) → IsThere Q kind.Notification n → pending Q n ≡ word_of Q n
       word Q n is = ap (λ b. cond b (pending Q n) None) (sym (there Q kind.Notification n is))
+
+-- numbers too
+pub answers-exact : (R S : Log) → Sound R → Sound S → AnswerAlike R S → Alike R S
+answers-exact R S left right looks = with-numbers R S (answers-alike R S left right (answer-all R S left right (answers-but R S left right looks)))
+    (λ x. sym (open_of-growing R x left) ∙ open-all R S left right looks x ∙ open_of-growing S x right) looks.sent

@@ -1,6 +1,6 @@
 -- Nothing is said of what was never made, and nothing of an object that is asked of another kind. So logs that answer alike of
 -- what was made answer alike of everything.
-use Rattle.std.specs.Prelude.{ℕ, zero, suc, ◌+◌, ◌^◌, ◌<◌, ◌≤◌, ◌≡◌, ◌⊎◌, ◌&&◌, ◌||◌, ◌==◌, Bool, true, false, not, cond, nat_le, List, [], ◌∷◌, Option, Some, None, option_and_then}
+use Rattle.std.specs.Prelude.{ℕ, zero, suc, ◌+◌, ◌^◌, ◌<◌, ◌≤◌, ◌≡◌, ◌⊎◌, ◌&&◌, ◌||◌, ◌==◌, Bool, true, false, not, cond, nat_le, List, [], ◌∷◌, Option, Some, None, option_and_then, option_map}
 use Rattle.std.specs.Option.{IfSome}
 use Rattle.std.proofs.lemmas.Bool.{eqb-true}
 use Rattle.std.proofs.Common.{refl, ap, sym, ◌∙◌, subst, arith, inl, inr}
@@ -44,15 +44,16 @@ use Rattle.mcs_state.specs.Saying.{row_said}
 use Rattle.mcs_state.specs.Tables.{core_kept, core_said}
 use Rattle.mcs_state.proofs.Saying.{form-fits, formed, row-there}
 use Rattle.mcs_state.proofs.Answering.{made-where}
-use Rattle.mcs_alike.specs.Answers.{IsMade, AnswerAlike}
+use Rattle.mcs_alike.specs.ButNumbers.{unnumbered}
+use Rattle.mcs_alike.specs.Answers.{IsMade, AnswerAlike, AnswerButNumbers}
 
--- each question has the same answer, whatever it is asked of
+-- each question has the same answer but for the numbers of messages, whatever it is asked of
 pub record AnswerAll (R S : Log) : Type 0 where
   pub counts : (k : Kind) → counted (makes_kind k) R ≡ counted (makes_kind k) S
   pub made : (o : ObjId) → was_made R o ≡ was_made S o
   pub there : (o : ObjId) → is_alive R o ≡ is_alive S o
   pub rows : (t : ObjId) → row_said R t ≡ row_said S t
-  pub letters : (t : ObjId) → open_of R t ≡ open_of S t
+  pub letters : (t : ObjId) → option_map unnumbered (open_of R t) ≡ option_map unnumbered (open_of S t)
   pub lines : (q : Queue) → queued_in R q ≡ queued_in S q
   pub words : (n : ObjId) → word_of R n ≡ word_of S n
   pub owed : (r : ObjId) → owed_by R r ≡ owed_by S r
@@ -63,7 +64,6 @@ pub record AnswerAll (R S : Log) : Type 0 where
   pub radices : (c : ObjId) → radix_kept (form_of R c) ≡ radix_kept (form_of S c)
   pub slots : (c : ObjId) (i : ℕ) → slot R c i ≡ slot S c i
   pub held : (o : ObjId) → count_of R o ≡ count_of S o
-  pub sent : next_message R ≡ next_message S
 
 -- what is there was made
 there-made : (R : Log) (k : Kind) (o : ObjId) → IsThere R k o → IsMade R k o
@@ -99,6 +99,13 @@ sender-made (_ ∷ R) x s sound h = sender-made R x s sound.1 h
 
 open-made : (R : Log) (x : ObjId) (s : Letter) → Sound R → open_of R x ≡ Some s → IsMade R kind.Thread x
 open-made R x s sound h = sender-made R x s sound (sym (open_of-growing R x sound) ∙ h)
+
+numberless-made : (R : Log) (x : ObjId) (s : Letter) → Sound R → option_map unnumbered (open_of R x) ≡ Some s → IsMade R kind.Thread x
+numberless-made R x s sound h = go (open_of R x) refl h
+  where
+    go : (o : Option Letter) → open_of R x ≡ o → option_map unnumbered o ≡ Some s → IsMade R kind.Thread x
+    go None e k = absurd cc
+    go (Some l) e k = open-made R x l sound e
 
 -- who stands first in a line stands in a queue whose object is there
 line-made : (R : Log) (q : Queue) (t : ObjId) (ts : List ObjId) → Sound R → queued_in R q ≡ t ∷ ts → IsLineThere R q
@@ -271,7 +278,7 @@ is-made R k o = go (same_kind o.kind k) refl (was_made R o) refl
     go true is false m = inr (λ h. let no : true ≡ false = sym h.1 ∙ m in absurd cc)
     go false is c m = inr (λ h. let no : true ≡ false = sym (same_kind-self k) ∙ ap (λ j. same_kind j k) (sym h.0) ∙ is in absurd cc)
 
-module _ (R S : Log) (left : Sound R) (right : Sound S) (looks : AnswerAlike R S) where
+module _ (R S : Log) (left : Sound R) (right : Sound S) (looks : AnswerButNumbers R S) where
   made : (o : ObjId) → was_made R o ≡ was_made S o
   made o = made-where R o left ∙ ap (λ n. nat_le 1 o.serial && nat_le o.serial n) (looks.counts o.kind) ∙ sym (made-where S o right)
 
@@ -317,7 +324,7 @@ module _ (R S : Log) (left : Sound R) (right : Sound S) (looks : AnswerAlike R S
     made = made;
     there = there;
     rows = λ t. alike-some _ _ (λ x h. row-made R t x left h) (λ x h. back kind.Thread t (row-made S t x right h)) (looks.rows t);
-    letters = λ t. alike-some _ _ (λ x h. open-made R t x left h) (λ x h. back kind.Thread t (open-made S t x right h)) (looks.letters t);
+    letters = λ t. alike-some _ _ (λ x h. numberless-made R t x left h) (λ x h. back kind.Thread t (numberless-made S t x right h)) (looks.letters t);
     lines = lines;
     words = λ n. alike-some _ _ (λ x h. word-made R n x h) (λ x h. back kind.Notification n (word-made S n x h)) (looks.words n);
     owed = λ r. alike-some _ _ (λ x h. owed-made R r x left h) (λ x h. back kind.Reply r (owed-made S r x right h)) (looks.owed r);
@@ -328,5 +335,29 @@ module _ (R S : Log) (left : Sound R) (right : Sound S) (looks : AnswerAlike R S
     radices = λ c. unless-made kind.CNode c _ _ 0 (radix-unmade R c left) (radix-unmade S c right) (looks.radices c);
     slots = slots;
     held = held;
-    sent = looks.sent;
   }
+
+-- numbers too
+module _ (R S : Log) (left : Sound R) (right : Sound S) (looks : AnswerAlike R S) where
+  pub answers-but : AnswerButNumbers R S
+  answers-but = record {
+    counts = looks.counts;
+    there = looks.there;
+    held = looks.held;
+    rows = looks.rows;
+    letters = λ t m. ap (λ o. option_map unnumbered o) (looks.letters t m);
+    senders = looks.senders;
+    receivers = looks.receivers;
+    waiters = looks.waiters;
+    words = looks.words;
+    owed = looks.owed;
+    cores = looks.cores;
+    holders = looks.holders;
+    homes = looks.homes;
+    chains = looks.chains;
+    radices = looks.radices;
+    slots = looks.slots;
+  }
+
+  pub open-all : (t : ObjId) → open_of R t ≡ open_of S t
+  open-all t = alike-some _ _ (λ x h. open-made R t x left h) (λ x h. back R S left right answers-but kind.Thread t (open-made S t x right h)) (looks.letters t)

@@ -1,5 +1,5 @@
 -- Each entry does the same on alike logs.
-use Rattle.std.specs.Prelude.{ℕ, ◌≡◌, ◌==◌, Bool, true, false, cond, not, nat_le, nat_lt, is_none, ◌∷◌, Option, Some, None, Ok}
+use Rattle.std.specs.Prelude.{ℕ, ◌≡◌, ◌==◌, Bool, true, false, cond, not, nat_le, nat_lt, is_none, ◌∷◌, Option, Some, None, Ok, option_map}
 use Rattle.std.proofs.Common.{refl, ap, sym, ◌∙◌, subst}
 use Rattle.mcs_types.specs.Views.{Content}
 use Rattle.mcs_types.specs.Limits.{object_limit}
@@ -27,13 +27,14 @@ use Rattle.mcs_book.specs.Objects.{is_alive, number_of}
 use Rattle.mcs_book.specs.Slots.{SlotName, slot}
 use Rattle.mcs_book.specs.Threads.{maximum_of}
 use Rattle.mcs_book.specs.Queues.{first_in}
+use Rattle.mcs_book.specs.Messages.{open_of}
 use Rattle.mcs_book.specs.Notifications.{bound_of, tied_to}
 use Rattle.mcs_book.specs.Statuses.{status_of, is_ready}
 use Rattle.mcs_book.specs.Checks.{Checked, ◌>>=◌}
 use Rattle.mcs_book.specs.Lookup.{capability, slot_named}
 use Rattle.mcs_book.specs.Rights.{has_right, may_write, may_read, call_mode, can_badge}
 use Rattle.mcs_book.specs.Pieces.{Piece, ◌then◌, nothing, say, with_any, Outcome, Act, answers, silently}
-use Rattle.mcs_book.specs.Taking.{handed, taken}
+use Rattle.mcs_book.specs.Taking.{settle, handed, taken}
 use Rattle.mcs_book.specs.Sending.{letter_over, sent, sends_to, sends, queues, send_by, send_over}
 use Rattle.mcs_book.specs.Receiving.{stand, joins_or, hear, take_open, open_of_any, pending_of_any, receive_message, free, receive_on, bound_elsewhere, may_wait, receive_by, receive_over, reply_at, pay_any, reply_receive, send_receive}
 use Rattle.mcs_book.specs.Binding.{bind_by}
@@ -45,11 +46,12 @@ use Rattle.mcs_book.proofs.SoundLogs.KeptLaws.{bound-there}
 use Rattle.mcs_book.proofs.Firm.Taking.{OutlastsSend, outlasts-signal, outlasts-handed}
 use Rattle.mcs_book.proofs.Firm.Ends.{OutlastsEnding, outlasts-pay}
 use Rattle.mcs_state.proofs.Named.{found-alive}
-use Rattle.mcs_alike.specs.Alike.{Alike}
+use Rattle.mcs_alike.specs.ButNumbers.{unnumbered, AlikeButNumbers, AreOf}
+use Rattle.mcs_alike.proofs.Settled.{open-of}
 use Rattle.mcs_alike.proofs.Asking.{first-same, open-same, pending-same}
-use Rattle.mcs_alike.proofs.Acting.{Respects, RespectsAct, say-respects, nothing-respects, then-respects, with_any-respects, answers-respects, asking-act, before-respects, Always}
+use Rattle.mcs_alike.proofs.Acting.{Agree, AgreeAct, Respects, RespectsAct, MatchOut, say-respects, nothing-respects, then-respects, with_any-respects, then-agrees, answers-agree, answers-respects, before-respects, Always}
 use Rattle.mcs_alike.proofs.Ending.{cancel-respects, cancel_all-respects, free-respects, unbind-respects, destroy_last-respects}
-use Rattle.mcs_alike.proofs.Rows.{Good, GoodAs, settle-respects, sends-respects, signal-respects, pay-respects, stand-respects, joins-respects, wait_on-respects, does-same}
+use Rattle.mcs_alike.proofs.Rows.{Good, GoodAs, numbered, took-agrees, settle-respects, sends-respects, signal-respects, pay-respects, stand-respects, joins-respects, wait_on-respects, does-same}
 use Rattle.mcs_alike.proofs.Adding.{alike-onto}
 use Rattle.mcs_alike.proofs.Table.{bind-as, bind-good, need-as, need-good, row-same}
 
@@ -60,53 +62,79 @@ Kept R Q = (n : ObjId) → IsThere R kind.Notification n → IsThere Q kind.Noti
 weaken : (C D : Log → Type 0) (f : Act) → RespectsAct D f → ((Q : Log) → C Q → D Q) → RespectsAct C f
 weaken C D f h w R S a c = h R S a (w R c)
 
-letter-same : (C : Log → Type 0) (t : ObjId) (cap : Cap) (mode : SendMode) (message : Content) (R S : Log) → Alike R S → C R → letter_over t cap mode message R ≡ letter_over t cap mode message S
-letter-same C t cap mode message R S a c = ap (λ n. record { number = n; sender = t; endpoint = cap.obj; mode = mode; badge = cap.badge; message = message }) a.sent
-
 queues-respects : (C : Log → Type 0) (t : ObjId) (cap : Cap) (mode : SendMode) (message : Content) → RespectsAct C (queues (letter_over t cap mode message))
 unfolding queues
-queues-respects C t cap mode message = asking-act C (λ R. letter_over t cap mode message R) (λ (s : Letter). answers answer.Waits (sent s then say (rec.Joins s.sender (Senders s.endpoint) None))) (letter-same C t cap mode message)
-    (λ s. answers-respects C answer.Waits _ (then-respects _ _ (say-respects _) (say-respects _)))
+queues-respects C t cap mode message R S a c = answers-agree answer.Waits (sending then stands) (sending then stands) R S ((then-respects sending stands (say-respects _ refl) (say-respects _ refl)).on R S a)
+  where
+    sending : Piece
+    sending = say (rec.Sent t cap.obj mode cap.badge message)
 
-taken-respects : (s : Letter) (p : ObjId) (r : Option ObjId) → Respects (taken s p r)
+    stands : Piece
+    stands = say (rec.Joins t (Senders cap.obj) None)
+
+-- the open messages of one thread are taken
+taken-agree : (s : Letter) (n : ℕ) (p : ObjId) (r : Option ObjId) (R S : Log) → AlikeButNumbers R S → AreOf R S s.number n → Agree R S (taken s p r) (taken (numbered s n) p r)
 unfolding taken
-taken-respects s p r = then-respects _ _ (then-respects _ _ (say-respects _) (say-respects _)) (settle-respects s.mode s.sender p r _ (say-respects _))
+taken-agree s n p r R S a of =
+    then-agrees (took s.number then parts) (took n then parts) settles R S a
+    (then-agrees (took s.number) (took n) parts R S a (took-agrees s.number n p R S of) (say-respects _ refl))
+    (settle-respects s.mode s.sender p r _ (say-respects _ refl))
+  where
+    took : ℕ → Piece
+    took m = say (rec.Took m p)
 
-hear-respects : (C : Log → Type 0) (t : ObjId) (n : Option ObjId) (w : Option ℕ) (otherwise : Act) → RespectsAct C otherwise → RespectsAct C (hear t n w otherwise)
+    parts : Piece
+    parts = say (rec.Parts s.sender (Senders s.endpoint))
+
+    settles : Piece
+    settles = settle s.mode s.sender p r (say (rec.Turns s.sender Running))
+
+hear-agrees : (R S : Log) (t : ObjId) (n : Option ObjId) (w : Option ℕ) (f g : Act) → AgreeAct R S f g → AgreeAct R S (hear t n w f) (hear t n w g)
 unfolding hear
-hear-respects C t (Some n) (Some word) otherwise h = answers-respects C (answer.Heard word) _ (say-respects _)
-hear-respects C t (Some n) None otherwise h = h
-hear-respects C t None w otherwise h = h
+hear-agrees R S t (Some n) (Some word) f g h = λ i k. record { answer = refl; records = (refl, tt) }
+hear-agrees R S t (Some n) None f g h = h
+hear-agrees R S t None w f g h = h
 
-take-respects : (C : Log → Type 0) (t : ObjId) (r : Option ObjId) (o : Option Letter) (otherwise : Act) → RespectsAct C otherwise → RespectsAct C (take_open t r o otherwise)
+-- the open messages of one thread are the same, but for their numbers
+take-agrees : (R S : Log) → AlikeButNumbers R S → (t : ObjId) (r : Option ObjId) (x : ObjId) (f : Act) → AgreeAct R S f f → AgreeAct R S (take_open t r (open_of R x) f) (take_open t r (open_of S x) f)
 unfolding take_open
-take-respects C t r (Some s) otherwise h = answers-respects C (answer.Got s.badge s.message) _ (taken-respects s t r)
-take-respects C t r None otherwise h = h
+take-agrees R S a t r x f h = go (open_of R x) refl (open_of S x) refl (open-same R S a x)
+  where
+    go : (o : Option Letter) → open_of R x ≡ o → (p : Option Letter) → open_of S x ≡ p → option_map unnumbered o ≡ option_map unnumbered p → AgreeAct R S (take_open t r o f) (take_open t r p f)
+    go None d None e same = h
+    go None d (Some l) e same = absurd cc
+    go (Some s) d None e same = absurd cc
+    go (Some s) d (Some l) e same =
+        let it : unnumbered s ≡ unnumbered l = cc in
+        subst (λ (z : Letter). AgreeAct R S (take_open t r (Some s) f) (take_open t r (Some z) f)) (ap (λ (z : Letter). numbered z l.number) it)
+        (answers-agree (answer.Got s.badge s.message) (taken s t r) (taken (numbered s l.number) t r) R S (taken-agree s l.number t r R S a (open-of R S x s l a.left a.right d e)))
 
 -- the notification of a thread, and its word
-word-same : (R S : Log) → Alike R S → (t : ObjId) → pending_of_any R (bound_of R t) ≡ pending_of_any S (bound_of S t)
+word-same : (R S : Log) → AlikeButNumbers R S → (t : ObjId) → pending_of_any R (bound_of R t) ≡ pending_of_any S (bound_of S t)
 word-same R S a t = go (bound_of R t) refl
   where
     go : (o : Option ObjId) → bound_of R t ≡ o → pending_of_any R (bound_of R t) ≡ pending_of_any S (bound_of S t)
     go None e = rw (e, sym (a.bounds t) ∙ e) refl
     go (Some n) e = ap (λ o. pending_of_any R o) e ∙ pending-same R S a n (bound-there R t n a.left e).1 ∙ ap (λ o. pending_of_any S o) (sym (sym (a.bounds t) ∙ e))
 
-first-open-same : (R S : Log) → Alike R S → (e : ObjId) → open_of_any R (first_in R (Senders e)) ≡ open_of_any S (first_in S (Senders e))
-first-open-same R S a e = ap (λ o. open_of_any R o) (first-same R S a (Senders e)) ∙ go (first_in S (Senders e))
-  where
-    go : (o : Option ObjId) → open_of_any R o ≡ open_of_any S o
-    go None = refl
-    go (Some x) = open-same R S a x
-
 message-respects : (C : Log → Type 0) (t e : ObjId) (r : Option ObjId) (b : Bool) → RespectsAct C (receive_message t e r b)
-unfolding receive_message
-message-respects C t e r b =
-    asking-act C (λ R. both R) (λ (x : Option ObjId × Option ℕ) (R : Log). hear t x.0 x.1 (take_open t r (open_of_any R (first_in R (Senders e))) (joins_or b (stand t (Receivers e) r x.0))) R) (λ R S a c i. (a.bounds t i, word-same R S a t i))
-    (λ x. asking-act C (λ R. open_of_any R (first_in R (Senders e))) (λ o. hear t x.0 x.1 (take_open t r o (joins_or b (stand t (Receivers e) r x.0)))) (λ R S a c. first-open-same R S a e)
-    (λ o. hear-respects C t x.0 x.1 _ (take-respects C t r o _ (joins-respects C b _ (stand-respects t (Receivers e) r x.0)))))
+unfolding receive_message take_open
+message-respects C t e r b R S a c =
+    subst (λ (x : Option ObjId × Option ℕ). AgreeAct R S (act (both R) (open_of_any R (first_in R (Senders e)))) (act x (open_of_any S (first_in S (Senders e))))) (λ i. (a.bounds t i, word-same R S a t i))
+    (subst (λ o. AgreeAct R S (act (both R) (open_of_any R (first_in R (Senders e)))) (act (both R) (open_of_any S o))) (first-same R S a (Senders e)) (go (first_in R (Senders e))))
   where
     both : Log → Option ObjId × Option ℕ
-    both R = (bound_of R t, pending_of_any R (bound_of R t))
+    both Q = (bound_of Q t, pending_of_any Q (bound_of Q t))
+
+    act : Option ObjId × Option ℕ → Option Letter → Act
+    act x o = hear t x.0 x.1 (take_open t r o (joins_or b (stand t (Receivers e) r x.0)))
+
+    joins : AgreeAct R S (joins_or b (stand t (Receivers e) r (both R).0)) (joins_or b (stand t (Receivers e) r (both R).0))
+    joins = joins-respects C b _ (stand-respects t (Receivers e) r (both R).0) R S a c
+
+    go : (o : Option ObjId) → AgreeAct R S (act (both R) (open_of_any R o)) (act (both R) (open_of_any S o))
+    go None = hear-agrees R S t (both R).0 (both R).1 _ _ joins
+    go (Some x) = hear-agrees R S t (both R).0 (both R).1 _ _ (take-agrees R S a t r x _ joins)
 
 receive-respects : (C : Log → Type 0) (t e : ObjId) (r : Option ObjId) (b : Bool) → RespectsAct C (receive_on t e r b)
 unfolding receive_on
@@ -161,7 +189,7 @@ record Leads (R : Log) (act : Act) : Type 0 where
 
 -- its records alone
 silently-respects : (act : Act) → RespectsAct Always act → Respects (silently act)
-silently-respects act h R S a s k = ap (λ (o : Outcome). o.records) (h R S a tt s k)
+silently-respects act h = record { on = λ R S a s k. (h R S a tt s k).records }
 
 -- the message of a sender who gives its context along, and does not wait
 given-keeps : (R : Log) (t : ObjId) (cap : Cap) (message : Content) (Q : Log) → Kept R Q → Kept R (onto (silently (sends (letter_over t cap how.Give message) answer.Done (answers answer.Done nothing)) Q) Q)
@@ -207,16 +235,16 @@ exchange-good R t sound address source message r = bind-good (Kept R) sending _ 
 delete-respects : (C : Log → Type 0) (at : SlotName) (held : Option Cap) → RespectsAct C (delete at held)
 unfolding delete
 delete-respects C at None = answers-respects C answer.Done _ nothing-respects
-delete-respects C at (Some cap) = answers-respects C answer.Done _ (then-respects _ _ (say-respects _) (destroy_last-respects cap.obj))
+delete-respects C at (Some cap) = answers-respects C answer.Done _ (then-respects _ _ (say-respects _ refl) (destroy_last-respects cap.obj))
 
 make-good : (C : Log → Type 0) (R : Log) (t : ObjId) (k : Kind) (rights : ℕ) (f : Form) (place : Place) → Good C (make R t k rights f place)
 unfolding make
-make-good C R t k rights f place = bind-good C (slot_named R t place) _ (λ at i. need-good C (is_none (slot R at.cnode at.index)) SlotFull _ (need-good C (nat_lt (number_of R k) object_limit) NoRoom _ (answers-respects C answer.Done _ (then-respects _ _ (say-respects _) (say-respects _)))))
+make-good C R t k rights f place = bind-good C (slot_named R t place) _ (λ at i. need-good C (is_none (slot R at.cnode at.index)) SlotFull _ (need-good C (nat_lt (number_of R k) object_limit) NoRoom _ (answers-respects C answer.Done _ (then-respects _ _ (say-respects _ refl) (say-respects _ refl)))))
 
 bind_by-good : (C : Log → Type 0) (R : Log) (k : Kind) (s o : ObjId) → Good C (bind_by k R s o)
 unfolding bind_by
-bind_by-good C R kind.Thread s o = need-good C _ AlreadyBound _ (answers-respects C answer.Done _ (say-respects _))
-bind_by-good C R kind.Notification s o = need-good C _ AlreadyBound _ (answers-respects C answer.Done _ (say-respects _))
+bind_by-good C R kind.Thread s o = need-good C _ AlreadyBound _ (answers-respects C answer.Done _ (say-respects _ refl))
+bind_by-good C R kind.Notification s o = need-good C _ AlreadyBound _ (answers-respects C answer.Done _ (say-respects _ refl))
 bind_by-good C R kind.CNode s o = tt
 bind_by-good C R kind.Endpoint s o = tt
 bind_by-good C R kind.Reply s o = tt
@@ -239,17 +267,17 @@ row-good R core t sound (entry.NbWait address) = bind-good (Kept R) _ _ (λ c i.
 row-good R core t sound (entry.ReplyRecv address r message) = bind-good (Kept R) _ _ (λ c i. need-good (Kept R) (can_badge c) WrongKind _ (need-good (Kept R) (may_read c) NoRight _ (bind-good (Kept R) (reply_at R t r) _ (λ o j.
     bind-good (Kept R) (receive_over R t c (Ok o) true) _ (λ act l. before-respects (Kept R) (pay_any o message) act (pay_any-respects o message) (λ Q. kept-paid R Q o message) (subst (λ m. Good (Kept R) m) l (over-good R t c (Ok o) true (found-alive R t address c sound i))))))))
 row-good R core t sound (entry.Signal address) = bind-good (Kept R) _ _ (λ c i. need-good (Kept R) (may_write c) NoRight _ (answers-respects (Kept R) answer.Done _ (signal-respects c.obj c.badge)))
-row-good R core t sound (entry.SetPriority x authority p) = bind-good (Kept R) _ _ (λ thread i. bind-good (Kept R) _ _ (λ giver j. need-good (Kept R) (nat_le p.0 (maximum_of R giver.obj)) Range _ (answers-respects (Kept R) answer.Done _ (say-respects _))))
+row-good R core t sound (entry.SetPriority x authority p) = bind-good (Kept R) _ _ (λ thread i. bind-good (Kept R) _ _ (λ giver j. need-good (Kept R) (nat_le p.0 (maximum_of R giver.obj)) Range _ (answers-respects (Kept R) answer.Done _ (say-respects _ refl))))
 row-good R core t sound (entry.Suspend x) = bind-good (Kept R) _ _ (λ thread i. answers-respects (Kept R) answer.Done _ (cancel-respects thread.obj Inactive))
 row-good R core t sound (entry.Resume x) = bind-good (Kept R) _ _ (λ thread i. answers-respects (Kept R) answer.Done _ (either-respects (is_ready (status_of R thread.obj)) _ (cancel-respects thread.obj Restart)))
-row-good R core t sound (entry.BindNtfn x n) = bind-good (Kept R) _ _ (λ thread i. bind-good (Kept R) _ _ (λ cap j. need-good (Kept R) (may_read cap) NoRight _ (need-good (Kept R) _ AlreadyBound _ (answers-respects (Kept R) answer.Done _ (say-respects _)))))
-row-good R core t sound (entry.UnbindNtfn x) = bind-good (Kept R) _ _ (λ thread i. need-good (Kept R) _ NotBound _ (answers-respects (Kept R) answer.Done _ (say-respects _)))
+row-good R core t sound (entry.BindNtfn x n) = bind-good (Kept R) _ _ (λ thread i. bind-good (Kept R) _ _ (λ cap j. need-good (Kept R) (may_read cap) NoRight _ (need-good (Kept R) _ AlreadyBound _ (answers-respects (Kept R) answer.Done _ (say-respects _ refl)))))
+row-good R core t sound (entry.UnbindNtfn x) = bind-good (Kept R) _ _ (λ thread i. need-good (Kept R) _ NotBound _ (answers-respects (Kept R) answer.Done _ (say-respects _ refl)))
 row-good R core t sound (entry.BindCtx s x) = bind-good (Kept R) _ _ (λ context i. bind-good (Kept R) _ _ (λ target j. bind_by-good (Kept R) R target.obj.kind context.obj target.obj))
 row-good R core t sound (entry.UnbindCtx s) = bind-good (Kept R) _ _ (λ context i. need-good (Kept R) _ NotBound _ (answers-respects (Kept R) answer.Done _ (unbind-respects context.obj)))
 row-good R core t sound (entry.CancelBadged address) = bind-good (Kept R) _ _ (λ cap i. need-good (Kept R) (has_right 15 cap) NoRight _ (answers-respects (Kept R) answer.Done _ (either-respects (cap.badge.0 == 0) _ (cancel_all-respects (senders_with R cap.obj cap.badge.0) Restart))))
-row-good R core t sound (entry.CopyCap source dest rights) = bind-good (Kept R) _ _ (λ at i. answers-respects (Kept R) answer.Done _ (say-respects _))
-row-good R core t sound (entry.MintCap source dest rights badge) = bind-good (Kept R) _ _ (λ at i. need-good (Kept R) _ WrongKind _ (need-good (Kept R) _ BadgeNotAllowed _ (answers-respects (Kept R) answer.Done _ (say-respects _))))
-row-good R core t sound (entry.MoveCap source dest) = bind-good (Kept R) _ _ (λ at i. answers-respects (Kept R) answer.Done _ (then-respects _ _ (say-respects _) (say-respects _)))
+row-good R core t sound (entry.CopyCap source dest rights) = bind-good (Kept R) _ _ (λ at i. answers-respects (Kept R) answer.Done _ (say-respects _ refl))
+row-good R core t sound (entry.MintCap source dest rights badge) = bind-good (Kept R) _ _ (λ at i. need-good (Kept R) _ WrongKind _ (need-good (Kept R) _ BadgeNotAllowed _ (answers-respects (Kept R) answer.Done _ (say-respects _ refl))))
+row-good R core t sound (entry.MoveCap source dest) = bind-good (Kept R) _ _ (λ at i. answers-respects (Kept R) answer.Done _ (then-respects _ _ (say-respects _ refl) (say-respects _ refl)))
 row-good R core t sound (entry.DeleteCap place) = bind-good (Kept R) _ _ (λ at i. need-good (Kept R) _ LastCNode _ (delete-respects (Kept R) at (slot R at.cnode at.index)))
 row-good R core t sound (entry.MakeEndpoint place) = make-good (Kept R) R t kind.Endpoint 15 form.Plain place
 row-good R core t sound (entry.MakeNotification place) = make-good (Kept R) R t kind.Notification 15 form.Plain place
@@ -258,13 +286,11 @@ row-good R core t sound (entry.MakeContext place) = make-good (Kept R) R t kind.
 row-good R core t sound (entry.NbSendRecv address source r message) = exchange-good R t sound address source message (reply_at R t r)
 row-good R core t sound (entry.NbSendWait address source message) = exchange-good R t sound address source message (Ok None)
 
--- an entry has the same answer and the same records on alike logs
-pub entry-same : (R S : Log) (core : CoreId) (t : ObjId) (e : Entry) → Alike R S → IsThere R kind.Thread t → Sound (onto (does R core t e).records R) → Sound (onto (does S core t e).records S) → does R core t e ≡ does S core t e
+-- an entry has the same answer and records that match on alike logs
+pub entry-same : (R S : Log) (core : CoreId) (t : ObjId) (e : Entry) → AlikeButNumbers R S → IsThere R kind.Thread t → Sound (onto (does R core t e).records R) → Sound (onto (does S core t e).records S) → MatchOut R S (does R core t e) (does S core t e)
 entry-same R S core t e a there h k = does-same (Kept R) R S core t e a there (λ n is. is) (λ Q m. kept-awake R Q m t) (row-same R S a core t there e) (row-good R core t a.left e) h k
 
 -- and leaves alike logs
-pub entry-alike : (R S : Log) (core : CoreId) (t : ObjId) (e : Entry) → Alike R S → IsThere R kind.Thread t → Sound (onto (does R core t e).records R) → Sound (onto (does S core t e).records S)
-    → Alike (onto (does R core t e).records R) (onto (does S core t e).records S)
-entry-alike R S core t e a there h k =
-    let same : (does R core t e).records ≡ (does S core t e).records = ap (λ (o : Outcome). o.records) (entry-same R S core t e a there h k) in
-    subst (λ l. Alike (onto (does R core t e).records R) (onto l S)) same (alike-onto (does R core t e).records R S a h (subst (λ l. Sound (onto l S)) (sym same) k))
+pub entry-alike : (R S : Log) (core : CoreId) (t : ObjId) (e : Entry) → AlikeButNumbers R S → IsThere R kind.Thread t → Sound (onto (does R core t e).records R) → Sound (onto (does S core t e).records S)
+    → AlikeButNumbers (onto (does R core t e).records R) (onto (does S core t e).records S)
+entry-alike R S core t e a there h k = alike-onto (does R core t e).records (does S core t e).records R S a (entry-same R S core t e a there h k).records h k

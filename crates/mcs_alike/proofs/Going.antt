@@ -2,10 +2,12 @@
 use Rattle.std.proofs.Common.{sym, ◌∙◌}
 use Rattle.mcs_book.specs.Logs.{Log}
 use Rattle.mcs_alike.specs.Alike.{Alike}
+use Rattle.mcs_alike.specs.ButNumbers.{AlikeButNumbers}
 use Rattle.mcs_alike.proofs.Asking.{alive-same, there-same}
+use Rattle.mcs_alike.proofs.Exactly.{but-numbers, with-numbers}
 
-pub alike-on : (R S W : Log) → Alike R S → Alike S W → Alike R W
-alike-on R S W a b = record {
+pub but-on : (R S W : Log) → AlikeButNumbers R S → AlikeButNumbers S W → AlikeButNumbers R W
+but-on R S W a b = record {
   left = a.left;
   right = b.right;
   counts = λ k. a.counts k ∙ b.counts k;
@@ -28,5 +30,7 @@ alike-on R S W a b = record {
   lines = λ q. a.lines q ∙ b.lines q;
   letters = λ x. a.letters x ∙ b.letters x;
   chains = λ s. a.chains s ∙ b.chains s;
-  sent = a.sent ∙ b.sent;
 }
+
+pub alike-on : (R S W : Log) → Alike R S → Alike S W → Alike R W
+alike-on R S W a b = with-numbers R W (but-on R S W (but-numbers R S a) (but-numbers S W b)) (λ x. a.letters x ∙ b.letters x) (a.sent ∙ b.sent)

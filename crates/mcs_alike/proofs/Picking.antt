@@ -16,7 +16,7 @@ use Rattle.mcs_book.specs.Statuses.{status_of, may_enter, is_ready, is_on_core}
 use Rattle.mcs_book.specs.Sound.{IsThere}
 use Rattle.mcs_state.proofs.ContextLaws.{context-there}
 use Rattle.mcs_state.proofs.Picking.{entrant, entrant-there}
-use Rattle.mcs_alike.specs.Alike.{Alike}
+use Rattle.mcs_alike.specs.ButNumbers.{AlikeButNumbers}
 use Rattle.mcs_alike.proofs.Asking.{context-same, status-same}
 
 abbrev ThereIf : Log → Option ObjId → Type 0
@@ -28,7 +28,7 @@ there-if S None h = tt
 there-if S (Some x) h = h
 
 -- a thread may enter on the same cores
-pub may_enter-same : (R S : Log) → Alike R S → (core : CoreId) (t : ObjId) → may_enter R core t ≡ may_enter S core t
+pub may_enter-same : (R S : Log) → AlikeButNumbers R S → (core : CoreId) (t : ObjId) → may_enter R core t ≡ may_enter S core t
 may_enter-same R S a core t =
     sym (entrant R core t) ∙ ap (λ s. is_ready s && is_on_core core (option_and_then (form_of R) (context_of R t))) (status-same R S a t)
     ∙ ap (λ c. is_ready (status_of S t) && c) (go (context_of R t) refl) ∙ entrant S core t
@@ -40,7 +40,7 @@ may_enter-same R S a core t =
         rw (e, sym (context-same R S a t) ∙ e) (ap (λ f. is_on_core core f) (a.forms s left.1))
 
 -- a core picks the same
-pub pick-same : (R S : Log) → Alike R S → (core : CoreId) (passed : List Bool) (p : Option ObjId) → IsPick R core passed p → IsPick S core passed p
+pub pick-same : (R S : Log) → AlikeButNumbers R S → (core : CoreId) (passed : List Bool) (p : Option ObjId) → IsPick R core passed p → IsPick S core passed p
 pick-same R S a core passed = go
   where
     candidate : (u : ObjId) → is_candidate R core passed u ≡ is_candidate S core passed u

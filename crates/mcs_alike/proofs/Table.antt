@@ -1,5 +1,5 @@
 -- Each entry has the same row on alike logs, and an act that makes the same records.
-use Rattle.std.specs.Prelude.{ℕ, ◌≡◌, ◌&&◌, ◌||◌, ◌==◌, ◌+◌, Bool, true, false, cond, not, nat_le, nat_lt, filter, is_none, is_some, List, [], ◌∷◌, Option, Some, None, Ok, Err, option_and_then, unwrap_or}
+use Rattle.std.specs.Prelude.{ℕ, ◌≡◌, ◌&&◌, ◌||◌, ◌==◌, ◌+◌, Bool, true, false, cond, not, nat_le, nat_lt, filter, is_none, is_some, List, [], ◌∷◌, Option, Some, None, Ok, Err, option_and_then, option_map, unwrap_or}
 use Rattle.std.proofs.Common.{refl, ap, sym, ◌∙◌}
 use Rattle.mcs_types.specs.Views.{Content}
 use Rattle.mcs_types.specs.Limits.{object_limit}
@@ -11,6 +11,7 @@ use Rattle.mcs_types.specs.declared.cap.Cap.{Cap}
 use Rattle.mcs_types.specs.declared.cap.Place.{Place}
 use Rattle.mcs_types.specs.declared.record.Form.{Form}
 use Rattle.mcs_types.specs.declared.record.Form.TheVariants as form
+use Rattle.mcs_types.specs.declared.record.Letter.{Letter}
 use Rattle.mcs_types.specs.declared.record.Mode.TheVariants.{Restart}
 use Rattle.mcs_types.specs.declared.record.SendMode.TheVariants as how
 use Rattle.mcs_types.specs.declared.record.Queue.TheVariants.{Senders, Waiters}
@@ -41,7 +42,7 @@ use Rattle.mcs_book.specs.Binding.{is_loose, bind_by}
 use Rattle.mcs_book.specs.Table.{row}
 use Rattle.mcs_book.specs.Sound.{IsThere}
 use Rattle.mcs_state.proofs.Named.{object-is, kinded-ok, found-alive}
-use Rattle.mcs_alike.specs.Alike.{Alike}
+use Rattle.mcs_alike.specs.ButNumbers.{unnumbered, AlikeButNumbers}
 use Rattle.mcs_alike.proofs.Asking.{alive-same, queued-same, first-same, open-same, context-same, tied-same, homed-same, unlent-same, status-same, space-same, capability-same}
 use Rattle.mcs_alike.proofs.Acting.{RespectsAct}
 use Rattle.mcs_alike.proofs.Rows.{Good, GoodAs}
@@ -72,31 +73,31 @@ need-as P false why m h = tt
 pub need-good : (C : Log → Type 0) (b : Bool) (why : Refusal) (m : Checked Act) → Good C m → Good C (need b why >> m)
 need-good C b why m h = need-as (RespectsAct C) b why m h
 
-module _ (R S : Log) (a : Alike R S) (t : ObjId) (there : IsThere R kind.Thread t) where
+module _ (R S : Log) (a : AlikeButNumbers R S) (t : ObjId) (there : IsThere R kind.Thread t) where
   cap-same : (address : ℕ) → capability R t address ≡ capability S t address
   cap-same address = capability-same R S a t address there.1
 
-kind-same : (R S : Log) (a : Alike R S) (t : ObjId) (there : IsThere R kind.Thread t) (k : Kind) (address : ℕ) → of_kind R t k address ≡ of_kind S t k address
+kind-same : (R S : Log) (a : AlikeButNumbers R S) (t : ObjId) (there : IsThere R kind.Thread t) (k : Kind) (address : ℕ) → of_kind R t k address ≡ of_kind S t k address
 unfolding of_kind
 kind-same R S a t there k address = ap (λ m. m >>= λ cap. need (is_kind k cap) WrongKind >> Ok cap) (cap-same R S a t there address)
 
-reply_at-same : (R S : Log) (a : Alike R S) (t : ObjId) (there : IsThere R kind.Thread t) (address : ℕ) → reply_at R t address ≡ reply_at S t address
+reply_at-same : (R S : Log) (a : AlikeButNumbers R S) (t : ObjId) (there : IsThere R kind.Thread t) (address : ℕ) → reply_at R t address ≡ reply_at S t address
 unfolding reply_at
 reply_at-same R S a t there address = ap (λ m. m >>= λ cap. Ok (Some cap.obj)) (kind-same R S a t there kind.Reply address)
 
-slot_named-same : (R S : Log) (a : Alike R S) (t : ObjId) (there : IsThere R kind.Thread t) (place : Place) → slot_named R t place ≡ slot_named S t place
+slot_named-same : (R S : Log) (a : AlikeButNumbers R S) (t : ObjId) (there : IsThere R kind.Thread t) (place : Place) → slot_named R t place ≡ slot_named S t place
 unfolding slot_named
 slot_named-same R S a t there place =
     ap (λ f. need (is_depth place.depth) Range >> (needed (option_and_then root_kept f) Missing >>= λ root. slot_from (space_of R) root place)) (a.forms t there.1)
     ∙ ap (λ (X : Space). need (is_depth place.depth) Range >> (needed (root_of S t) Missing >>= λ root. slot_from X root place)) (space-same R S a)
 
-places-same : (R S : Log) (a : Alike R S) (t : ObjId) (there : IsThere R kind.Thread t) (source dest : Place) → source_and_dest R t source dest ≡ source_and_dest S t source dest
+places-same : (R S : Log) (a : AlikeButNumbers R S) (t : ObjId) (there : IsThere R kind.Thread t) (source dest : Place) → source_and_dest R t source dest ≡ source_and_dest S t source dest
 unfolding source_and_dest
 places-same R S a t there source dest =
     bind-same _ _ _ _ (slot_named-same R S a t there source) (λ from i. bind-same _ _ _ _ (slot_named-same R S a t there dest) (λ to j. bind-same _ _ _ _ (ap (λ o. needed o SlotEmpty) (a.slots from.cnode from.index)) (λ cap k.
     ap (λ o. need (is_none o) SlotFull >> Ok (record { cap = cap; source = from; dest = to })) (a.slots to.cnode to.index))))
 
-over-same : (R S : Log) (a : Alike R S) (t : ObjId) (cap : Cap) (r r' : Checked (Option ObjId)) (b : Bool) → r ≡ r' → receive_over R t cap r b ≡ receive_over S t cap r' b
+over-same : (R S : Log) (a : AlikeButNumbers R S) (t : ObjId) (cap : Cap) (r r' : Checked (Option ObjId)) (b : Bool) → r ≡ r' → receive_over R t cap r b ≡ receive_over S t cap r' b
 unfolding receive_over receive_by may_wait
 over-same R S a t cap r r' b e = go cap.obj.kind
   where
@@ -108,23 +109,23 @@ over-same R S a t cap r r' b e = go cap.obj.kind
     go kind.Reply = refl
     go kind.Context = refl
 
-reply_receive-same : (R S : Log) (a : Alike R S) (t : ObjId) (there : IsThere R kind.Thread t) (cap : Cap) (r : ℕ) (message : Content) → reply_receive R t cap r message ≡ reply_receive S t cap r message
+reply_receive-same : (R S : Log) (a : AlikeButNumbers R S) (t : ObjId) (there : IsThere R kind.Thread t) (cap : Cap) (r : ℕ) (message : Content) → reply_receive R t cap r message ≡ reply_receive S t cap r message
 unfolding reply_receive
 reply_receive-same R S a t there cap r message =
     ap (λ m. need (can_badge cap) WrongKind >> (need (may_read cap) NoRight >> m)) (bind-same _ _ _ _ (reply_at-same R S a t there r) (λ o i. bind-same _ _ _ _ (over-same R S a t cap (Ok o) (Ok o) true refl) (λ act j. refl)))
 
 -- who sends and then receives: all checks come first
-exchange-same : (R S : Log) (a : Alike R S) (t : ObjId) (there : IsThere R kind.Thread t) (address source : ℕ) (message : Content) (r r' : Checked (Option ObjId)) → r ≡ r'
+exchange-same : (R S : Log) (a : AlikeButNumbers R S) (t : ObjId) (there : IsThere R kind.Thread t) (address source : ℕ) (message : Content) (r r' : Checked (Option ObjId)) → r ≡ r'
     → send_receive R t (capability R t address >>= λ cap. send_over how.Give t cap message (answers answer.Done nothing)) source r ≡ send_receive S t (capability S t address >>= λ cap. send_over how.Give t cap message (answers answer.Done nothing)) source r'
 unfolding send_receive
 exchange-same R S a t there address source message r r' e =
     bind-same _ _ _ _ (ap (λ m. m >>= λ cap. send_over how.Give t cap message (answers answer.Done nothing)) (cap-same R S a t there address)) (λ send i. bind-same _ _ _ _ (cap-same R S a t there source) (λ c j. bind-same _ _ _ _ (over-same R S a t c r r' true e) (λ act k. refl)))
 
 -- a context that may be bound
-loose-same : (R S : Log) (a : Alike R S) (s : ObjId) → is_loose R s ≡ is_loose S s
+loose-same : (R S : Log) (a : AlikeButNumbers R S) (s : ObjId) → is_loose R s ≡ is_loose S s
 loose-same R S a s = ap (λ h. is_none h && is_none (home_of R s) && is_unlent R s) (a.holders s) ∙ ap (λ h. is_none (holder_of S s) && is_none h && is_unlent R s) (a.homes s) ∙ ap (λ b. is_none (holder_of S s) && is_none (home_of S s) && b) (unlent-same R S a s)
 
-bind_by-same : (R S : Log) (a : Alike R S) (k : Kind) (s o : ObjId) → bind_by k R s o ≡ bind_by k S s o
+bind_by-same : (R S : Log) (a : AlikeButNumbers R S) (k : Kind) (s o : ObjId) → bind_by k R s o ≡ bind_by k S s o
 unfolding bind_by
 bind_by-same R S a kind.Thread s o =
     ap (λ b. need (b && is_none (context_of R o)) AlreadyBound >> Ok (answers answer.Done (say (rec.Holds s (Some o))))) (loose-same R S a s)
@@ -141,10 +142,14 @@ filter-same : (p q : ObjId → Bool) (xs : List ObjId) → ((x : ObjId) → p x 
 filter-same p q [] h = refl
 filter-same p q (x ∷ xs) h = rw (h x, filter-same p q xs h) refl
 
-senders-same : (R S : Log) → Alike R S → (e : ObjId) (badge : ℕ) → senders_with R e badge ≡ senders_with S e badge
-senders-same R S a e badge = filter-same (λ x. has_badge badge (open_of R x)) (λ x. has_badge badge (open_of S x)) (queued_in R (Senders e)) (λ x. ap (λ o. has_badge badge o) (open-same R S a x)) ∙ ap (λ xs. filter (λ x. has_badge badge (open_of S x)) xs) (queued-same R S a (Senders e))
+badge-same : (badge : ℕ) (o : Option Letter) → has_badge badge (option_map unnumbered o) ≡ has_badge badge o
+badge-same badge None = refl
+badge-same badge (Some s) = refl
 
-last-same : (R S : Log) → Alike R S → (held : Option Cap) → is_last_cnode R held ≡ is_last_cnode S held
+senders-same : (R S : Log) → AlikeButNumbers R S → (e : ObjId) (badge : ℕ) → senders_with R e badge ≡ senders_with S e badge
+senders-same R S a e badge = filter-same (λ x. has_badge badge (open_of R x)) (λ x. has_badge badge (open_of S x)) (queued_in R (Senders e)) (λ x. sym (badge-same badge (open_of R x)) ∙ ap (λ o. has_badge badge o) (open-same R S a x) ∙ badge-same badge (open_of S x)) ∙ ap (λ xs. filter (λ x. has_badge badge (open_of S x)) xs) (queued-same R S a (Senders e))
+
+last-same : (R S : Log) → AlikeButNumbers R S → (held : Option Cap) → is_last_cnode R held ≡ is_last_cnode S held
 last-same R S a None = refl
 last-same R S a (Some cap) = ap (λ n. is_kind kind.CNode cap && (n == 1)) (a.held cap.obj)
 
@@ -152,10 +157,10 @@ counted-same : (p q : ObjId → Bool) (xs : List ObjId) → ((x : ObjId) → p x
 counted-same p q [] h = refl
 counted-same p q (x ∷ xs) h = rw (h x, counted-same p q xs h) refl
 
-number-same : (R S : Log) → Alike R S → (k : Kind) → number_of R k ≡ number_of S k
+number-same : (R S : Log) → AlikeButNumbers R S → (k : Kind) → number_of R k ≡ number_of S k
 number-same R S a k = counted-same (is_alive R) (is_alive S) (made_of R k) (alive-same R S a) ∙ ap (λ xs. counted (is_alive S) xs) (a.lists k)
 
-make-same : (R S : Log) (a : Alike R S) (t : ObjId) (there : IsThere R kind.Thread t) (k : Kind) (rights : ℕ) (f : Form) (place : Place) → make R t k rights f place ≡ make S t k rights f place
+make-same : (R S : Log) (a : AlikeButNumbers R S) (t : ObjId) (there : IsThere R kind.Thread t) (k : Kind) (rights : ℕ) (f : Form) (place : Place) → make R t k rights f place ≡ make S t k rights f place
 unfolding make
 make-same R S a t there k rights f place = bind-same _ _ _ _ (slot_named-same R S a t there place) (λ at i.
     ap (λ o. need (is_none o) SlotFull >> (need (nat_lt (number_of R k) object_limit) NoRoom >> Ok (made (next_id R k) at))) (a.slots at.cnode at.index)
@@ -166,7 +171,7 @@ make-same R S a t there k rights f place = bind-same _ _ _ _ (slot_named-same R 
     made o at = answers answer.Done (say (rec.Made o f) then fills at (Some (record { obj = o; rights = rights; badge = record { 0 = 0 }; guard = record { bits = 0; value = 0 } })))
 
 -- the row is the same
-pub row-same : (R S : Log) (a : Alike R S) (core : CoreId) (t : ObjId) (there : IsThere R kind.Thread t) (e : Entry) → row R core t e ≡ row S core t e
+pub row-same : (R S : Log) (a : AlikeButNumbers R S) (core : CoreId) (t : ObjId) (there : IsThere R kind.Thread t) (e : Entry) → row R core t e ≡ row S core t e
 unfolding row
 row-same R S a core t there (entry.Send address message) = ap (λ m. m >>= λ cap. send_over how.Plain t cap message (queues (letter_over t cap how.Plain message))) (cap-same R S a t there address)
 row-same R S a core t there (entry.NbSend address message) = ap (λ m. m >>= λ cap. send_over how.Plain t cap message (answers answer.Done nothing)) (cap-same R S a t there address)

@@ -60,27 +60,27 @@ names-one met ns rows others h k = somes rows others (sym h ∙ k)
         ap (λ z. z ∷ xs) first ∙ ap (λ zs. y ∷ zs) (somes xs ys rest)
 
 -- a key stays one when more rows were met
-pub key-kept : (old new : List (List ℕ)) (users : List User) (g : Going) (bytes : List ℕ) → Keeps old new → IsKey old users g bytes → IsKey new users g bytes
-key-kept old new users g bytes k is = record {
+pub key-kept : (numbered : Bool) (old new : List (List ℕ)) (users : List User) (g : Going) (bytes : List ℕ) → Keeps old new → IsKey numbered old users g bytes → IsKey numbered new users g bytes
+key-kept numbered old new users g bytes k is = record {
   numbers = is.numbers;
   are = is.are;
   name = record {
     picks = is.name.picks;
     are = is.name.are;
-    so = λ ks are. names-kept old new is.numbers (rows_of users g ks) k (is.name.so ks are);
+    so = λ ks are. names-kept old new is.numbers (rows_of numbered users g ks) k (is.name.so ks are);
   };
 }
 
 -- states with one key have equal rows
-pub key-one : (met : List (List ℕ)) (users : List User) (g h : Going) (bytes : List ℕ) → IsKey met users g bytes → IsKey met users h bytes → HaveSameRows users g h
-key-one met users g h bytes a b = record {
+pub key-one : (numbered : Bool) (met : List (List ℕ)) (users : List User) (g h : Going) (bytes : List ℕ) → IsKey numbered met users g bytes → IsKey numbered met users h bytes → HaveSameRows numbered users g h
+key-one numbered met users g h bytes a b = record {
   picks = a.name.picks;
   are = a.name.are;
   so = λ ks are. record {
     picks = b.name.picks;
     are = b.name.are;
-    so = λ js bre. names-one met a.numbers (rows_of users g ks) (rows_of users h js) (a.name.so ks are)
-        (subst (λ ns. Names met ns (rows_of users h js)) (coded-one b.numbers a.numbers (sym b.are ∙ a.are)) (b.name.so js bre));
+    so = λ js bre. names-one met a.numbers (rows_of numbered users g ks) (rows_of numbered users h js) (a.name.so ks are)
+        (subst (λ ns. Names met ns (rows_of numbered users h js)) (coded-one b.numbers a.numbers (sym b.are ∙ a.are)) (b.name.so js bre));
   };
 }
 

@@ -155,7 +155,7 @@ thread-told a b x y h =
     apart : (r : ThreadRow) (z : List ℕ) → (option_numbers block_numbers r.block ++ option_numbers id_numbers r.notification) ++ z ≡ option_numbers block_numbers r.block ++ (option_numbers id_numbers r.notification ++ z)
     apart r z = append_assoc (option_numbers block_numbers r.block) (option_numbers id_numbers r.notification) z
 
-pub letter-told : Tells letter_numbers
+pub letter-told : Tells (letter_numbers true)
 letter-told a b x y h =
     let numbers = parted _ _ _ _ h in
     let modes = parted _ _ _ _ numbers.1 in

@@ -70,5 +70,10 @@ block_numbers (OnReply reply) = 1 ∷ id_numbers reply
 abbrev pub row_numbers : ThreadRow → List ℕ
 row_numbers r = (r.maximum.0 ∷ r.priority.0 ∷ mode_number r.mode ∷ cap_numbers r.root) ++ (option_numbers block_numbers r.block ++ option_numbers id_numbers r.notification)
 
-abbrev pub letter_numbers : Letter → List ℕ
-letter_numbers l = (l.number ∷ send_number l.mode ∷ l.badge.0 ∷ l.message.label ∷ id_numbers l.sender) ++ (id_numbers l.endpoint ++ list_numbers one l.message.words)
+-- the number of a message as a key has it: 0, where the numbers of messages are not told apart
+abbrev pub number_kept : Bool → Letter → ℕ
+number_kept true l = l.number
+number_kept false l = 0
+
+abbrev pub letter_numbers : Bool → Letter → List ℕ
+letter_numbers numbered l = (number_kept numbered l ∷ send_number l.mode ∷ l.badge.0 ∷ l.message.label ∷ id_numbers l.sender) ++ (id_numbers l.endpoint ++ list_numbers one l.message.words)

@@ -1,5 +1,5 @@
 -- The rows of a state: all that decides what a run can do from there on (own).
-use Rattle.std.specs.Prelude.{ℕ, ◌+◌, ◌≡◌, List, [], ◌∷◌, ◌++◌, Option, length, slice_get}
+use Rattle.std.specs.Prelude.{ℕ, ◌+◌, ◌≡◌, Bool, true, false, List, [], ◌∷◌, ◌++◌, Option, length, slice_get}
 use Rattle.mcs_types.specs.declared.id.ObjId.{ObjId}
 use Rattle.mcs_types.specs.declared.id.CoreId.{CoreId}
 use Rattle.mcs_types.specs.declared.id.Kind.{Kind}
@@ -51,9 +51,14 @@ slots_numbers R c n = below (λ i. option_numbers cap_numbers (slot R c i)) n
 abbrev pub cnode_numbers : Log → ObjId → List ℕ
 cnode_numbers R c = one (radix_kept (form_of R c)) ++ slots_numbers R c 256
 
+-- how many messages were sent, as a key has it: 0, where the numbers of messages are not told apart
+abbrev pub sent_kept : Bool → Log → ℕ
+sent_kept true R = next_message R
+sent_kept false R = 0
+
 -- what is kept of a thread, and its message that nobody has received
-abbrev pub thread_numbers : Log → ObjId → List ℕ
-thread_numbers R t = option_numbers row_numbers (row_said R t) ++ option_numbers letter_numbers (open_of R t)
+abbrev pub thread_numbers : Bool → Log → ObjId → List ℕ
+thread_numbers numbered R t = option_numbers row_numbers (row_said R t) ++ option_numbers (letter_numbers numbered) (open_of R t)
 
 -- the waiters of a notification, and its pending word
 abbrev pub notification_numbers : Log → ObjId → List ℕ
@@ -64,31 +69,31 @@ abbrev pub reply_numbers : Log → ObjId → List ℕ
 reply_numbers R r = option_numbers id_numbers (owed_by R r)
 
 -- what there is of an object of a kind
-abbrev pub kind_numbers : Log → Kind → ObjId → List ℕ
-kind_numbers R kind.CNode o = cnode_numbers R o
-kind_numbers R kind.Thread o = thread_numbers R o
-kind_numbers R kind.Endpoint o = endpoint_numbers R o
-kind_numbers R kind.Notification o = notification_numbers R o
-kind_numbers R kind.Reply o = reply_numbers R o
-kind_numbers R kind.Context o = context_numbers R o
+abbrev pub kind_numbers : Bool → Log → Kind → ObjId → List ℕ
+kind_numbers numbered R kind.CNode o = cnode_numbers R o
+kind_numbers numbered R kind.Thread o = thread_numbers numbered R o
+kind_numbers numbered R kind.Endpoint o = endpoint_numbers R o
+kind_numbers numbered R kind.Notification o = notification_numbers R o
+kind_numbers numbered R kind.Reply o = reply_numbers R o
+kind_numbers numbered R kind.Context o = context_numbers R o
 
 -- whether an object is there, how many slots hold a capability to it, and what there is of it
-abbrev pub object_numbers : Log → ObjId → List ℕ
-object_numbers R o = (flag_number (is_alive R o) ∷ count_of R o ∷ []) ++ kind_numbers R o.kind o
+abbrev pub object_numbers : Bool → Log → ObjId → List ℕ
+object_numbers numbered R o = (flag_number (is_alive R o) ∷ count_of R o ∷ []) ++ kind_numbers numbered R o.kind o
 
 -- how many messages were sent, and how many objects of each kind were made
-abbrev pub count_numbers : Log → List ℕ
-count_numbers R = next_message R ∷ counted (makes_kind kind.CNode) R ∷ counted (makes_kind kind.Thread) R ∷ counted (makes_kind kind.Endpoint) R
+abbrev pub count_numbers : Bool → Log → List ℕ
+count_numbers numbered R = sent_kept numbered R ∷ counted (makes_kind kind.CNode) R ∷ counted (makes_kind kind.Thread) R ∷ counted (makes_kind kind.Endpoint) R
     ∷ counted (makes_kind kind.Notification) R ∷ counted (makes_kind kind.Reply) R ∷ counted (makes_kind kind.Context) R ∷ []
 
 -- a row for each object of a kind that was made
-abbrev pub rows_of_kind : Log → Kind → List (List ℕ)
-rows_of_kind R k = below (λ i. object_numbers R (object_at k i) ∷ []) (counted (makes_kind k) R)
+abbrev pub rows_of_kind : Bool → Log → Kind → List (List ℕ)
+rows_of_kind numbered R k = below (λ i. object_numbers numbered R (object_at k i) ∷ []) (counted (makes_kind k) R)
 
 -- the rows of all objects
-abbrev pub object_rows : Log → List (List ℕ)
-object_rows R = rows_of_kind R kind.CNode ++ (rows_of_kind R kind.Thread ++ (rows_of_kind R kind.Endpoint
-    ++ (rows_of_kind R kind.Notification ++ (rows_of_kind R kind.Reply ++ rows_of_kind R kind.Context))))
+abbrev pub object_rows : Bool → Log → List (List ℕ)
+object_rows numbered R = rows_of_kind numbered R kind.CNode ++ (rows_of_kind numbered R kind.Thread ++ (rows_of_kind numbered R kind.Endpoint
+    ++ (rows_of_kind numbered R kind.Notification ++ (rows_of_kind numbered R kind.Reply ++ rows_of_kind numbered R kind.Context))))
 
 -- the position of a user
 abbrev pub position_numbers : Position → List ℕ
@@ -109,9 +114,9 @@ choice_list_numbers pick stale = list_numbers pick_numbers (with_any_pick pick s
 abbrev pub choice_numbers : Going → List (Option Pick) → List ℕ
 choice_numbers g picks = below (λ i. option_numbers (list_numbers pick_numbers) (slice_get (choices picks g.stale) i)) g.book.boot.cores
 
--- the rows of a state of users, where the cores have these picks
-abbrev pub rows_of : List User → Going → List (Option Pick) → List (List ℕ)
-rows_of users g picks = count_numbers (log_of g.book) ∷ place_numbers users g ∷ choice_numbers g picks ∷ object_rows (log_of g.book)
+-- the rows of a state of users, where the cores have these picks, and numbers of messages are told apart or not
+abbrev pub rows_of : Bool → List User → Going → List (Option Pick) → List (List ℕ)
+rows_of numbered users g picks = count_numbers numbered (log_of g.book) ∷ place_numbers users g ∷ choice_numbers g picks ∷ object_rows numbered (log_of g.book)
 
 -- the cores of a state have picks, and for all that they have holds a fact
 pub record OfPicks (users : List User) (g : Going) (IsSo : List (Option Pick) → Type 0) : Type 0 where
@@ -120,15 +125,15 @@ pub record OfPicks (users : List User) (g : Going) (IsSo : List (Option Pick) �
   pub so : (ks : List (Option Pick)) → ArePicks users g ks → IsSo ks
 
 -- two states have equal rows
-abbrev pub HaveSameRows : List User → Going → Going → Type 0
-HaveSameRows users g h = OfPicks users g (λ ks. OfPicks users h (λ js. rows_of users g ks ≡ rows_of users h js))
+abbrev pub HaveSameRows : Bool → List User → Going → Going → Type 0
+HaveSameRows numbered users g h = OfPicks users g (λ ks. OfPicks users h (λ js. rows_of numbered users g ks ≡ rows_of numbered users h js))
 
 -- the numbers name the rows of a state, among those that were met
-abbrev pub NameRows : List (List ℕ) → List User → Going → List ℕ → Type 0
-NameRows met users g numbers = OfPicks users g (λ ks. Names met numbers (rows_of users g ks))
+abbrev pub NameRows : Bool → List (List ℕ) → List User → Going → List ℕ → Type 0
+NameRows numbered met users g numbers = OfPicks users g (λ ks. Names met numbers (rows_of numbered users g ks))
 
 -- the bytes of a key are those of numbers that name the rows of a state
-pub record IsKey (met : List (List ℕ)) (users : List User) (g : Going) (bytes : List ℕ) : Type 0 where
+pub record IsKey (numbered : Bool) (met : List (List ℕ)) (users : List User) (g : Going) (bytes : List ℕ) : Type 0 where
   pub numbers : List ℕ
   pub are : bytes ≡ coded numbers
-  pub name : NameRows met users g numbers
+  pub name : NameRows numbered met users g numbers

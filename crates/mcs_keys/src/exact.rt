@@ -5,7 +5,7 @@ ghost use Rattle.mcs_book.specs.Queues.{queued_in};
 ghost use Rattle.mcs_book.specs.Chains.{chain_of};
 ghost use Rattle.mcs_keys.specs.Naming.{Adds, Keeps};
 ghost use Rattle.mcs_keys.specs.Numbers.{one, list_numbers, option_numbers, id_numbers, letter_numbers, row_numbers, cap_numbers};
-ghost use Rattle.mcs_keys.specs.Rows.{cnode_numbers, context_numbers, core_numbers, count_numbers, endpoint_numbers, kind_numbers, notification_numbers, object_numbers, object_rows, pick_numbers, place_numbers, position_numbers, rows_of_kind, NameRows, slots_numbers, choice_list_numbers, choice_numbers, thread_numbers};
+ghost use Rattle.mcs_keys.specs.Rows.{cnode_numbers, context_numbers, core_numbers, count_numbers, endpoint_numbers, kind_numbers, notification_numbers, object_numbers, object_rows, pick_numbers, place_numbers, position_numbers, rows_of_kind, NameRows, sent_kept, slots_numbers, choice_list_numbers, choice_numbers, thread_numbers};
 ghost use Rattle.mcs_turns.specs.Turns.{ArePicks};
 
 use crate::met::{Met, Numbers};
@@ -96,14 +96,14 @@ fn put_any_thread(row: &mut Row, thread: Option<&ThreadRow>) -> Result<(), Alloc
 }
 
 /// Adds a message, if there is one.
-fn put_any_letter(row: &mut Row, letter: Option<&Letter>) -> Result<(), AllocError>
+fn put_any_letter(row: &mut Row, letter: Option<&Letter>, numbered: bool) -> Result<(), AllocError>
     ensures { OnOk result (row.new.items
-        ≡ row.old.items ++ option_numbers letter_numbers (option_copied letter.entry)) }
+        ≡ row.old.items ++ option_numbers (letter_numbers numbered) (option_copied letter.entry)) }
 {
     match letter {
         Some(letter) => {
             put(row, 1)?;
-            put_letter(row, letter)
+            put_letter(row, letter, numbered)
         }
         None => put(row, 0),
     }
@@ -134,12 +134,17 @@ fn put_cnode<L: Lines>(row: &mut Row, kernel: &Kernel<L>, cnode: ObjId) -> Resul
 }
 
 /// Adds what is kept of a thread, and its message that nobody has received.
-fn put_runner<L: Lines>(row: &mut Row, kernel: &Kernel<L>, thread: ObjId) -> Result<(), AllocError>
+fn put_runner<L: Lines>(
+    row: &mut Row,
+    kernel: &Kernel<L>,
+    thread: ObjId,
+    numbered: bool,
+) -> Result<(), AllocError>
     ensures { OnOk result (row.new.items
-        ≡ row.old.items ++ thread_numbers (log_of kernel.now) thread) }
+        ≡ row.old.items ++ thread_numbers numbered (log_of kernel.now) thread) }
 {
     put_any_thread(row, kernel.thread(thread))?;
-    put_any_letter(row, kernel.open(thread))
+    put_any_letter(row, kernel.open(thread), numbered)
 }
 
 /// Adds the threads in both queues of an endpoint.
@@ -184,13 +189,18 @@ fn put_context<L: Lines>(
 }
 
 /// Adds what there is of an object of its kind.
-fn put_kind<L: Lines>(row: &mut Row, kernel: &Kernel<L>, object: ObjId) -> Result<(), AllocError>
+fn put_kind<L: Lines>(
+    row: &mut Row,
+    kernel: &Kernel<L>,
+    object: ObjId,
+    numbered: bool,
+) -> Result<(), AllocError>
     ensures { OnOk result (row.new.items
-        ≡ row.old.items ++ kind_numbers (log_of kernel.now) object.kind object) }
+        ≡ row.old.items ++ kind_numbers numbered (log_of kernel.now) object.kind object) }
 {
     match object.kind {
         Kind::CNode => put_cnode(row, kernel, object),
-        Kind::Thread => put_runner(row, kernel, object),
+        Kind::Thread => put_runner(row, kernel, object, numbered),
         Kind::Endpoint => put_endpoint(row, kernel, object),
         Kind::Notification => put_notification(row, kernel, object),
         Kind::Reply => put_any_id(row, kernel.owed(object)),
@@ -199,22 +209,34 @@ fn put_kind<L: Lines>(row: &mut Row, kernel: &Kernel<L>, object: ObjId) -> Resul
 }
 
 /// The row of an object.
-fn object_row<L: Lines>(alloc: Global, kernel: &Kernel<L>, object: ObjId) -> Result<Row, AllocError>
-    ensures { IfOk result (λ r. r.items ≡ object_numbers (log_of kernel.now) object) }
+fn object_row<L: Lines>(
+    alloc: Global,
+    kernel: &Kernel<L>,
+    object: ObjId,
+    numbered: bool,
+) -> Result<Row, AllocError>
+    ensures { IfOk result (λ r. r.items ≡ object_numbers numbered (log_of kernel.now) object) }
 {
     let mut row = Vec::new(alloc);
     put_flag(&mut row, kernel.is_there(object))?;
     put(&mut row, kernel.held(object) as u64)?;
-    put_kind(&mut row, kernel, object)?;
+    put_kind(&mut row, kernel, object, numbered)?;
     Ok(row)
 }
 
+/// How many messages were sent; 0 where the numbers of messages are not told apart.
+fn sent_kept<L: Lines>(kernel: &Kernel<L>, numbered: bool) -> u64
+    ensures { result ≡ sent_kept numbered (log_of kernel.now) }
+{
+    if numbered { kernel.sent() as u64 } else { 0 }
+}
+
 /// The row of what was counted.
-fn count_row<L: Lines>(alloc: Global, kernel: &Kernel<L>) -> Result<Row, AllocError>
-    ensures { IfOk result (λ r. r.items ≡ count_numbers (log_of kernel.now)) }
+fn count_row<L: Lines>(alloc: Global, kernel: &Kernel<L>, numbered: bool) -> Result<Row, AllocError>
+    ensures { IfOk result (λ r. r.items ≡ count_numbers numbered (log_of kernel.now)) }
 {
     let mut row = Vec::with_capacity(alloc, 7)?;
-    put(&mut row, kernel.sent() as u64)?;
+    put(&mut row, sent_kept(kernel, numbered))?;
     put(&mut row, kernel.made(Kind::CNode) as u64)?;
     put(&mut row, kernel.made(Kind::Thread) as u64)?;
     put(&mut row, kernel.made(Kind::Endpoint) as u64)?;
@@ -317,9 +339,10 @@ fn put_rows<L: Lines>(
     numbers: &mut Numbers,
     kernel: &Kernel<L>,
     kind: Kind,
+    numbered: bool,
 ) -> Result<(), OutOfMemory>
     ensures named { OnOk result (Adds met.old numbers.old.items met.new numbers.new.items
-        (rows_of_kind (log_of kernel.now) kind)) }
+        (rows_of_kind numbered (log_of kernel.now) kind)) }
     ensures kept { Keeps met.old met.new }
 {
     for place in 0..kernel.made(kind) {
@@ -327,7 +350,7 @@ fn put_rows<L: Lines>(
             kind,
             serial: place + 1,
         };
-        let row = object_row(alloc, kernel, object)?;
+        let row = object_row(alloc, kernel, object, numbered)?;
         met.put(numbers, &row)?;
     }
     Ok(())
@@ -339,42 +362,45 @@ fn put_objects<L: Lines>(
     met: &mut Met,
     numbers: &mut Numbers,
     kernel: &Kernel<L>,
+    numbered: bool,
 ) -> Result<(), OutOfMemory>
     ensures named { OnOk result (Adds met.old numbers.old.items met.new numbers.new.items
-        (object_rows (log_of kernel.now))) }
+        (object_rows numbered (log_of kernel.now))) }
     ensures kept { Keeps met.old met.new }
 {
-    put_rows(alloc, met, numbers, kernel, Kind::CNode)?;
-    put_rows(alloc, met, numbers, kernel, Kind::Thread)?;
-    put_rows(alloc, met, numbers, kernel, Kind::Endpoint)?;
-    put_rows(alloc, met, numbers, kernel, Kind::Notification)?;
-    put_rows(alloc, met, numbers, kernel, Kind::Reply)?;
-    put_rows(alloc, met, numbers, kernel, Kind::Context)?;
+    put_rows(alloc, met, numbers, kernel, Kind::CNode, numbered)?;
+    put_rows(alloc, met, numbers, kernel, Kind::Thread, numbered)?;
+    put_rows(alloc, met, numbers, kernel, Kind::Endpoint, numbered)?;
+    put_rows(alloc, met, numbers, kernel, Kind::Notification, numbered)?;
+    put_rows(alloc, met, numbers, kernel, Kind::Reply, numbered)?;
+    put_rows(alloc, met, numbers, kernel, Kind::Context, numbered)?;
     Ok(())
 }
 
-/// The numbers of the rows of a state, in which the cores have these picks, among those that were met.
+/// The numbers of the rows of a state, in which the cores have these picks, among those that were met. The numbers of messages
+/// are told apart or not.
 pub fn exact_numbers<L: Lines>(
     alloc: Global,
     met: &mut Met,
     users: &Users,
     walk: &Walk<L>,
     picks: &[Option<Pick>],
+    numbered: bool,
 ) -> Result<Numbers, OutOfMemory>
     requires { ArePicks users.now walk.now picks.now }
-    ensures named { IfOk result (λ k. NameRows met.new users.now walk.now k.items) }
+    ensures named { IfOk result (λ k. NameRows numbered met.new users.now walk.now k.items) }
     ensures kept { Keeps met.old met.new }
 {
     // A law for the proof: the cores have these picks alone.
     users.are_apart();
     let kernel = walk.kernel();
     let mut numbers = Vec::new(alloc);
-    let counts = count_row(alloc, kernel)?;
+    let counts = count_row(alloc, kernel, numbered)?;
     met.put(&mut numbers, &counts)?;
     let places = place_row(alloc, users, walk)?;
     met.put(&mut numbers, &places)?;
     let choices = choice_row(alloc, walk, picks)?;
     met.put(&mut numbers, &choices)?;
-    put_objects(alloc, met, &mut numbers, kernel)?;
+    put_objects(alloc, met, &mut numbers, kernel, numbered)?;
     Ok(numbers)
 }

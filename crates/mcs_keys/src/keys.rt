@@ -26,6 +26,7 @@ pub struct Keys {
     met: Met,
     counts: Counts,
     is_exact: bool,
+    numbered: bool,
     changes_slots: bool,
 }
 
@@ -34,7 +35,7 @@ impl Model for Keys {
 
     ghost Value = { Known };
 
-    ghost view = { λ k. record { met = k.met; is_exact = k.is_exact } };
+    ghost view = { λ k. record { met = k.met; is_exact = k.is_exact; numbered = k.numbered } };
 }
 
 /// Whether an entry may change slots.
@@ -104,16 +105,18 @@ fn put_threads<L: Lines>(
 }
 
 impl Keys {
-    /// No row. Where keys are exact, states are one only where they differ in nothing that a book records later; else the numbers
-    /// of messages are left out, and objects that are made after the boot are named by the lowest slot that names them.
-    pub fn new(alloc: Global, boot: &Boot, users: &Users, is_exact: bool) -> Keys
-        ensures { result ≡ record { met = []; is_exact = is_exact } }
+    /// No row. Where keys are exact, states are one only where they differ in nothing that a book records later, or, where the
+    /// numbers of messages are not told apart, in nothing but these; else they are left out too, and objects that are made after
+    /// the boot are named by the lowest slot that names them.
+    pub fn new(alloc: Global, boot: &Boot, users: &Users, is_exact: bool, numbered: bool) -> Keys
+        ensures { result ≡ record { met = []; is_exact = is_exact; numbered = numbered } }
     {
         Keys {
             alloc,
             met: Met::new(alloc),
             counts: Counts::new(boot),
             is_exact,
+            numbered,
             changes_slots: any_of_slots(users),
         }
     }
@@ -185,6 +188,7 @@ impl Keys {
     ) -> Result<(), OrdersFault>
         ensures kept { Keeps self.old.met self.new.met }
         ensures mode { self.new.is_exact ≡ self.old.is_exact }
+        ensures apart { self.new.numbered ≡ self.old.numbered }
     {
         if !self.changes_slots {
             return Ok(());
@@ -218,6 +222,7 @@ impl Keys {
     ) -> Result<Numbers, OrdersFault>
         ensures kept { Keeps self.old.met self.new.met }
         ensures mode { self.new.is_exact ≡ self.old.is_exact }
+        ensures apart { self.new.numbered ≡ self.old.numbered }
     {
         let kernel = walk.kernel();
         let names = Names::new(self.alloc, kernel, self.counts, self.changes_slots)?;
@@ -250,12 +255,20 @@ impl Keys {
     ) -> Result<Numbers, OrdersFault>
         requires { ArePicks users.now walk.now picks.now }
         ensures exact { self.old.is_exact ≡ true
-            → IfOk result (λ n. NameRows self.new.met users.now walk.now n.items) }
+            → IfOk result (λ n. NameRows self.old.numbered self.new.met users.now walk.now n.items) }
         ensures kept { Keeps self.old.met self.new.met }
         ensures mode { self.new.is_exact ≡ self.old.is_exact }
+        ensures apart { self.new.numbered ≡ self.old.numbered }
     {
         if self.is_exact {
-            let numbers = exact_numbers(self.alloc, &mut self.met, users, walk, picks)?;
+            let numbers = exact_numbers(
+                self.alloc,
+                &mut self.met,
+                users,
+                walk,
+                picks,
+                self.numbered,
+            )?;
             return Ok(numbers);
         }
         self.canonical_numbers(users, walk, picks)
@@ -271,9 +284,10 @@ impl Keys {
     ) -> Result<Key, OrdersFault>
         requires { ArePicks users.now walk.now picks.now }
         ensures exact { self.old.is_exact ≡ true
-            → IfOk result (λ k. IsKey self.new.met users.now walk.now k.items) }
+            → IfOk result (λ k. IsKey self.old.numbered self.new.met users.now walk.now k.items) }
         ensures kept { Keeps self.old.met self.new.met }
         ensures mode { self.new.is_exact ≡ self.old.is_exact }
+        ensures apart { self.new.numbered ≡ self.old.numbered }
     {
         let numbers = self.numbers(users, walk, picks)?;
         let key = key_of(self.alloc, &numbers)?;

@@ -1,7 +1,7 @@
 //! Values as numbers, by which each is told from all others of its type.
 ghost use Rattle.std.specs.Prelude.{◌≡◌, ◌++◌, OnOk};
 ghost use Rattle.mcs_types.specs.Ids.{kind_number};
-ghost use Rattle.mcs_keys.specs.Numbers.{block_numbers, cap_numbers, flag_number, id_numbers, letter_numbers, mode_number, one, list_numbers, option_numbers, queue_numbers, row_numbers, send_number};
+ghost use Rattle.mcs_keys.specs.Numbers.{block_numbers, cap_numbers, flag_number, id_numbers, letter_numbers, mode_number, number_kept, one, list_numbers, option_numbers, queue_numbers, row_numbers, send_number};
 
 use mcs_threads::{Block, ThreadRow};
 use mcs_types::{Cap, Kind, Letter, Mode, ObjId, Queue, SendMode};
@@ -167,11 +167,18 @@ fn put_words(row: &mut Row, words: &[u64]) -> Result<(), AllocError>
     put(row, 0)
 }
 
-/// Adds a message, with its number.
-pub fn put_letter(row: &mut Row, letter: &Letter) -> Result<(), AllocError>
-    ensures { OnOk result (row.new.items ≡ row.old.items ++ letter_numbers letter.now) }
+/// The number of a message; 0 where the numbers of messages are not told apart.
+fn number_kept(letter: &Letter, numbered: bool) -> u64
+    ensures { result ≡ number_kept numbered letter.now }
 {
-    put(row, letter.number as u64)?;
+    if numbered { letter.number as u64 } else { 0 }
+}
+
+/// Adds a message, with its number where the numbers of messages are told apart.
+pub fn put_letter(row: &mut Row, letter: &Letter, numbered: bool) -> Result<(), AllocError>
+    ensures { OnOk result (row.new.items ≡ row.old.items ++ letter_numbers numbered letter.now) }
+{
+    put(row, number_kept(letter, numbered))?;
     put(row, send_number(letter.mode))?;
     put(row, letter.badge.0)?;
     put(row, letter.message.label())?;

@@ -109,10 +109,10 @@ are-nexts e ts nexts g has are = record {
 }
 
 -- a key of another state that is the same
-pub keyed : {E : Type 0} (r : Result (Vec ℕ Global) E) (old new : Bool) (met : List (List ℕ)) (users : List User) (g h : Going) → new ≡ old → g ≡ h
-    → (old ≡ true → IfOk r (λ (k : Vec ℕ Global). IsKey met users g k.items)) → IfOk r (λ (k : Vec ℕ Global). new ≡ true → IsKey met users h k.items)
-keyed (Ok k) old new met users g h mode same is = λ exact. subst (λ x. IsKey met users x k.items) same (is (sym mode ∙ exact))
-keyed (Err e) old new met users g h mode same is = tt
+pub keyed : {E : Type 0} (r : Result (Vec ℕ Global) E) (old new a b : Bool) (met : List (List ℕ)) (users : List User) (g h : Going) → new ≡ old → b ≡ a → g ≡ h
+    → (old ≡ true → IfOk r (λ (k : Vec ℕ Global). IsKey a met users g k.items)) → IfOk r (λ (k : Vec ℕ Global). new ≡ true → IsKey b met users h k.items)
+keyed (Ok k) old new a b met users g h mode apart same is = λ exact. subst (λ n. IsKey n met users h k.items) (sym apart) (subst (λ x. IsKey a met users x k.items) same (is (sym mode ∙ exact)))
+keyed (Err e) old new a b met users g h mode apart same is = tt
 
 -- all of a list
 pub take-all : {A : Type 0} (xs : List A) (n : ℕ) → length xs ≤ n → take n xs ≡ xs

@@ -29,7 +29,7 @@ steps-run users boot zero g r = sym r
 steps-run users boot (suc n) g r = (r.0, (steps-run users boot n r.0 r.1.0, record { core = r.1.1.0.core; pick = r.1.1.0.pick; turn = r.1.1.1 }))
 
 -- likeness, where keys are exact
-looks-likeness : (e : Exploring) → IsTold e → IsLikeness (Follows e.users) (AreAlike e.users e.boot) → IsLikeness (Steps (Leads e.users)) (LooksLike e)
+looks-likeness : (e : Exploring) → IsTold e → IsLikeness (Follows e.users) (AreAlike e.keys.numbered e.users e.boot) → IsLikeness (Steps (Leads e.users)) (LooksLike e)
 looks-likeness e told l = record {
   trans = λ s t u a b x. l.trans s t u (a told) (b told);
   respects = λ s v t like step.
@@ -54,8 +54,8 @@ module _ {K : Type 0} (users : List User) (boot : Boot) (E : Entries K Turn) whe
 
 -- where all that was found was looked behind, each run is seen
 pub all-seen : {K : Type 0} (e : Exploring) (IsKey : Going → K → Type 0) (E : Entries K Turn) → IsTold e
-    → IsLikeness (Follows e.users) (AreAlike e.users e.boot)
-    → IsWhole (Leads e.users) (LooksLike e) IsKey (beginning e.users e.boot) E → AreAllSeen e.users e.boot E
+    → IsLikeness (Follows e.users) (AreAlike e.keys.numbered e.users e.boot)
+    → IsWhole (Leads e.users) (LooksLike e) IsKey (beginning e.users e.boot) E → AreAllSeen e.keys.numbered e.users e.boot E
 all-seen e IsKey E told likeness whole n g run =
     let v = every-run (Steps (Leads e.users)) (LooksLike e) (looks-likeness e told likeness) (beginning e.users e.boot) whole.visits whole.closed n g (run-steps e.users e.boot n g run) in
     let within : v.place < length E = subst (λ m. v.place < m) whole.are.long (at-within whole.visits v.place v.visit v.at) in
@@ -67,6 +67,6 @@ all-seen e IsKey E told likeness whole n g run =
       within = within;
       going = is.visit.state;
       is = found-run e.users e.boot E v.place at.0.0 at.0.1 is.visit.state at.1 is.reached;
-      like = subst (λ (w : Visit Going). AreAlike e.users e.boot g w.state) same (v.like told);
+      like = subst (λ (w : Visit Going). AreAlike e.keys.numbered e.users e.boot g w.state) same (v.like told);
       near = let near = v.near in let same_depth = is.deep in let told = deep E v.place at.0.0 at.0.1 at.1 in let both = ap (λ (w : Visit Going). w.depth) same in omega (arith, near, same_depth, told, both);
     }

@@ -20,7 +20,7 @@ pub record Exploring : Type 0 where
 
 -- exact keys name all rows of a point
 abbrev pub IsKeyIn : Exploring → Going → List ℕ → Type 0
-IsKeyIn e g numbers = e.keys.is_exact ≡ true → IsKey e.keys.met e.users g numbers
+IsKeyIn e g numbers = e.keys.is_exact ≡ true → IsKey e.keys.numbered e.keys.met e.users g numbers
 
 -- keys are exact, the boot has no fault, and all numbers of entries are in their ranges
 pub record IsTold (e : Exploring) : Type 0 where
@@ -30,13 +30,14 @@ pub record IsTold (e : Exploring) : Type 0 where
 
 -- then no later turn tells two points apart
 abbrev pub LooksLike : Exploring → Going → Going → Type 0
-LooksLike e g h = IsTold e → AreAlike e.users e.boot g h
+LooksLike e g h = IsTold e → AreAlike e.keys.numbered e.users e.boot g h
 
 -- the same search, which has met more rows
 pub record IsLater (e f : Exploring) : Type 0 where
   pub users : f.users ≡ e.users
   pub boot : f.boot ≡ e.boot
   pub exact : f.keys.is_exact ≡ e.keys.is_exact
+  pub numbered : f.keys.numbered ≡ e.keys.numbered
   pub met : Keeps e.keys.met f.keys.met
 
 -- what is noted of these turns from a point: of each that the rule has, a key of what is behind it, and nothing else

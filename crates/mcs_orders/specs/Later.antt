@@ -15,13 +15,14 @@ use Rattle.mcs_orders.specs.Exploring.{Exploring, IsKeyIn, IsLater, IsTold, Look
 use Rattle.mcs_orders.specs.Watching.{GoesOn, Watching}
 
 pub later-self : (e : Exploring) → IsLater e e
-later-self e = record { users = refl; boot = refl; exact = refl; met = λ n r h. h }
+later-self e = record { users = refl; boot = refl; exact = refl; numbered = refl; met = λ n r h. h }
 
 pub later-on : (e f g : Exploring) → IsLater e f → IsLater f g → IsLater e g
 later-on e f g a b = record {
   users = b.users ∙ a.users;
   boot = b.boot ∙ a.boot;
   exact = b.exact ∙ a.exact;
+  numbered = b.numbered ∙ a.numbered;
   met = λ n r h. b.met n r (a.met n r h);
 }
 
@@ -53,8 +54,8 @@ told-before e f a t = record {
 
 pub keeps-likeness : (e f : Exploring) → IsLater e f → (g h : Going) → LooksLike e g h ↔ LooksLike f g h
 keeps-likeness e f a g h = (
-  λ x told. subst (λ b. AreAlike f.users b g h) (sym a.boot) (subst (λ us. AreAlike us e.boot g h) (sym a.users) (x (told-before e f a told))),
-  λ x told. subst (λ b. AreAlike e.users b g h) a.boot (subst (λ us. AreAlike us f.boot g h) a.users (x (told-on e f a told))),
+  λ x told. subst (λ n. AreAlike n f.users f.boot g h) (sym a.numbered) (subst (λ b. AreAlike e.keys.numbered f.users b g h) (sym a.boot) (subst (λ us. AreAlike e.keys.numbered us e.boot g h) (sym a.users) (x (told-before e f a told)))),
+  λ x told. subst (λ n. AreAlike n e.users e.boot g h) a.numbered (subst (λ b. AreAlike f.keys.numbered e.users b g h) a.boot (subst (λ us. AreAlike f.keys.numbered us f.boot g h) a.users (x (told-on e f a told)))),
 )
 
 -- the turns of a path from a run on
@@ -67,13 +68,13 @@ path-reaches users boot ls h p = path-run users boot zero (beginning users boot)
 
 pub keeps-keys : (e f : Exploring) → IsLater e f → (g : Going) (k : List ℕ) → IsKeyIn e g k → IsKeyIn f g k
 keeps-keys e f a g k is exact =
-    subst (λ us. IsKey f.keys.met us g k) (sym a.users) (key-kept e.keys.met f.keys.met e.users g k a.met (is (sym a.exact ∙ exact)))
+    subst (λ n. IsKey n f.keys.met f.users g k) (sym a.numbered) (subst (λ us. IsKey e.keys.numbered f.keys.met us g k) (sym a.users) (key-kept e.keys.numbered e.keys.met f.keys.met e.users g k a.met (is (sym a.exact ∙ exact))))
 
 pub one-key : (e : Exploring) (p q : List Turn) (g h : Going) (k : List ℕ) → Path (Leads e.users) (beginning e.users e.boot) p g → Path (Leads e.users) (beginning e.users e.boot) q h
     → IsKeyIn e g k → IsKeyIn e h k → LooksLike e g h
 one-key e p q g h k x y a b told =
-    rows-alike e.users e.boot told.boot told.in_range g h (path-reaches e.users e.boot p g x) (path-reaches e.users e.boot q h y)
-    (key-one e.keys.met e.users g h k (a told.exact) (b told.exact))
+    rows-alike e.keys.numbered e.users e.boot told.boot told.in_range g h (path-reaches e.users e.boot p g x) (path-reaches e.users e.boot q h y)
+    (key-one e.keys.numbered e.keys.met e.users g h k (a told.exact) (b told.exact))
 
 pub same-key : (e : Exploring) (g : Going) (k c : List ℕ) → pointwise nat_eq k c ≡ true → IsKeyIn e g k → IsKeyIn e g c
 same-key e g k c same is = subst (λ ns. IsKeyIn e g ns) (same_text k c (sym same)) is

@@ -1,5 +1,5 @@
 -- What a search has seen of a run (own).
-use Rattle.std.specs.Prelude.{ℕ, ◌≤◌, ◌<◌, List, length}
+use Rattle.std.specs.Prelude.{ℕ, ◌≤◌, ◌<◌, Bool, List, length}
 use Rattle.mcs_book.specs.Boots.{Boot}
 use Rattle.mcs_turns.specs.Turns.{User, Going, IsRun, beginning}
 use Rattle.mcs_explore.specs.Paths.{Path}
@@ -17,15 +17,16 @@ pub record IsFoundRun {K : Type 0} (users : List User) (boot : Boot) (found : En
 abbrev pub AreFoundRuns : {K : Type 0} → List User → Boot → Entries K Turn → Type 0
 AreFoundRuns users boot found = (place : ℕ) → place < length found → (g : Going) × IsFoundRun users boot found place g
 
--- a state was found that no later turn tells apart from the end of a run of n turns, by no more turns
-pub record IsSeen {K : Type 0} (users : List User) (boot : Boot) (found : Entries K Turn) (n : ℕ) (g : Going) : Type 0 where
+-- a state was found that no later turn tells apart from the end of a run of n turns, by no more turns; the numbers of messages are
+-- told apart or not
+pub record IsSeen {K : Type 0} (numbered : Bool) (users : List User) (boot : Boot) (found : Entries K Turn) (n : ℕ) (g : Going) : Type 0 where
   pub place : ℕ
   pub within : place < length found
   pub going : Going
   pub is : IsFoundRun users boot found place going
-  pub like : AreAlike users boot g going
+  pub like : AreAlike numbered users boot g going
   pub near : depth_at found place ≤ n
 
 -- so is each run
-abbrev pub AreAllSeen : {K : Type 0} → List User → Boot → Entries K Turn → Type 0
-AreAllSeen users boot found = (n : ℕ) (g : Going) → IsRun users boot n g → IsSeen users boot found n g
+abbrev pub AreAllSeen : {K : Type 0} → Bool → List User → Boot → Entries K Turn → Type 0
+AreAllSeen numbered users boot found = (n : ℕ) (g : Going) → IsRun users boot n g → IsSeen numbered users boot found n g

@@ -113,11 +113,13 @@ impl<'a, W: Watch> Explorer<'a, W> {
         boot: &'a Boot,
         users: &'a Users,
         is_exact: bool,
+        numbered: bool,
         watch: W,
     ) -> Result<Explorer<'a, W>, OrdersFault>
         ensures users { IfOk result (λ e. e.search.users ≡ users.now) }
         ensures boot { IfOk result (λ e. e.search.boot ≡ boot.now) }
         ensures exact { IfOk result (λ e. e.search.keys.is_exact ≡ is_exact) }
+        ensures numbered { IfOk result (λ e. e.search.keys.numbered ≡ numbered) }
         ensures watch { IfOk result (λ e. e.watch ≡ watch) }
         ensures turns { IfOk result (λ e. e.turns ≡ 0) }
         ensures ends { IfOk result (λ e. e.ends ≡ 0) }
@@ -126,7 +128,7 @@ impl<'a, W: Watch> Explorer<'a, W> {
         Ok(Explorer {
             boot,
             users,
-            keys: Keys::new(alloc, boot, users, is_exact),
+            keys: Keys::new(alloc, boot, users, is_exact, numbered),
             trail: Trail::new(alloc, start),
             watch,
             turns: 0,

@@ -139,6 +139,7 @@ pub fn explore<'a, W: Watch>(
     boot: &'a Boot,
     users: &'a Users,
     is_exact: bool,
+    numbered: bool,
     budget: Budget,
     watch: W,
 ) -> Result<Orders<'a, W>, OrdersFault>
@@ -149,10 +150,10 @@ pub fn explore<'a, W: Watch>(
     ensures budget { IfOk result (λ o. (length o.search.map.entries ≤ o.search.done)
         ⊎ IsSpent budget.states budget.depth o.search.done o.search.map.entries) }
     // where keys are exact and all states were looked behind, each run ends in a state that no later turn tells apart from one
-    // that was found, by no more turns
+    // that was found, by no more turns: but for the numbers of messages, where these are not told apart
     ensures whole { IfOk result (λ o. is_exact ≡ true → IsFaultless boot.now → AreInRange users.now
         → length o.search.map.entries ≤ o.search.done
-        → AreAllSeen users.now boot.now o.search.map.entries) }
+        → AreAllSeen numbered users.now boot.now o.search.map.entries) }
     // each state that was looked behind was shown, and each turn from it, and no other, and these were counted
     ensures shown { IfOk result (λ o. W.HasSeen watch users.now nothing
         → HasSeenAll (HasCounted W.HasSeen) (counting o.explorer)
@@ -161,7 +162,7 @@ pub fn explore<'a, W: Watch>(
     // who is told goes by the same as before
     ensures aim { IfOk result (λ o. W.aim o.explorer.watch ≡ W.aim watch) }
 {
-    let mut explorer = Explorer::new(alloc, boot, users, is_exact, watch)?;
+    let mut explorer = Explorer::new(alloc, boot, users, is_exact, numbered, watch)?;
     let search = mcs_explore::explore(alloc, &mut explorer, budget)?;
     Ok(Orders {
         alloc,

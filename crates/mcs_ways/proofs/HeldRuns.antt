@@ -1,29 +1,29 @@
 -- What fails nowhere in what was found fails in no run.
-use Rattle.std.specs.Prelude.{ℕ, suc, ◌≡◌, ◌≤◌, ◌&&◌, ◌⊎◌, Bool, false, not, length, List, [], ◌∷◌, Option, Some, None, slice_get}
+use Rattle.std.specs.Prelude.{ℕ, suc, ◌≡◌, ◌≤◌, ◌&&◌, ◌||◌, Bool, true, false, not, length, List, [], ◌∷◌, Option, Some, None, slice_get}
 use Rattle.std.specs.List.{list_all, list_any}
-use Rattle.std.proofs.Common.{refl, ap, sym, ◌∙◌, subst, inl, inr, arith}
+use Rattle.std.proofs.Common.{refl, ap, sym, ◌∙◌, arith}
 use Rattle.mcs_types.specs.declared.id.ObjId.{ObjId}
 use Rattle.mcs_types.specs.declared.id.CoreId.{CoreId}
+use Rattle.mcs_types.specs.declared.entry.Answer.{Answer}
 use Rattle.mcs_types.specs.declared.entry.Step.{Step}
 use Rattle.mcs_types.specs.declared.record.Status.{Status}
 use Rattle.mcs_book.specs.Boots.{Boot, IsFaultless}
-use Rattle.mcs_book.specs.History.{IsLegal, log_of, line_for}
+use Rattle.mcs_book.specs.History.{log_of, line_for}
 use Rattle.mcs_book.specs.Messages.{next_message}
 use Rattle.mcs_book.specs.Pieces.{Outcome}
 use Rattle.mcs_book.specs.Statuses.{status_of}
-use Rattle.mcs_book.proofs.SoundLogs.SoundBooks.{legal-sound}
-use Rattle.mcs_state.proofs.Picking.{entrant-there}
+use Rattle.mcs_text.specs.Reading.{words_of}
+use Rattle.mcs_text.specs.Table.{answer_text}
 use Rattle.mcs_turns.specs.declared.position.Position.{Position}
 use Rattle.mcs_turns.specs.declared.position.Pick.{Pick}
-use Rattle.mcs_turns.specs.Turns.{User, Going, AreInRange, IsRun, IsStale, IsTurn, behind, entered, outcome, put_at}
-use Rattle.mcs_turns.proofs.Choices.{IsOneOf, choice-in, choice-out}
-use Rattle.mcs_turns.proofs.RunLaws.{run-legal}
+use Rattle.mcs_turns.specs.Turns.{User, Going, AreInRange, IsRun, IsTurn, behind, entered, outcome, put_at}
 use Rattle.mcs_alike.proofs.Asking.{status-same}
-use Rattle.mcs_alike.proofs.Entries.{entry-same}
-use Rattle.mcs_alike.proofs.Picking.{may_enter-same}
+use Rattle.mcs_alike.specs.ButNumbers.{SameButNumbers}
+use Rattle.mcs_alike.proofs.Likenesses.{by-likeness}
 use Rattle.mcs_explore.specs.Search.{Entries}
-use Rattle.mcs_like_runs.specs.Runs.{AreAlike, AreClose, IsReached}
-use Rattle.mcs_like_runs.proofs.Alikes.{picks-there}
+use Rattle.mcs_like_runs.specs.Runs.{AreAlike}
+use Rattle.mcs_like_runs.proofs.Alikes.{other}
+use Rattle.mcs_like_runs.proofs.Outcomes.{same-outcomes, exact-outcomes}
 use Rattle.mcs_walks.specs.declared.walk.Turn.{Turn}
 use Rattle.mcs_orders.specs.Seen.{AreAllSeen}
 use Rattle.mcs_orders.specs.Trails.{Leads}
@@ -33,7 +33,8 @@ use Rattle.mcs_ways.specs.declared.asking.Event.{Event}
 use Rattle.mcs_ways.specs.declared.asking.Span.{Span}
 use Rattle.mcs_ways.specs.declared.reading.AskedLine.{AskedLine}
 use Rattle.mcs_ways.specs.declared.judging.Sighting.{Sighting}
-use Rattle.mcs_ways.specs.Judging.{answered_by, fails, gives, has_given, is_in, is_line, is_within, lines_told, place_of, told_last}
+use Rattle.mcs_ways.specs.Judging.{IsDecided, NameNone, answered_by, fails, gives, has_given, is_in, is_line, is_within, lines_told, place_of, record_lines, told_last}
+use Rattle.mcs_ways.proofs.Blinds.{lines-blind}
 use Rattle.mcs_ways.specs.Found.{AreHeldInRuns, AreJudgedFound, IsHeldFound, IsHeldInRuns}
 
 -- runs with the same statuses and places have the same users in spans
@@ -74,10 +75,7 @@ given-same : (users : List User) (g h : Going) → g.places ≡ h.places → (e 
 given-same users g h places e = ap (λ (ps : List Position). has_given users (record g { places = ps }) e) places
 
 -- alike runs: the same turn leads from both to what tells the same
-module _ (users : List User) (boot : Boot) (whole : IsFaultless boot) (range : AreInRange users) (g h : Going) (a : AreAlike users boot g h) (core : CoreId) (k : Pick) (t : Going) (turn : IsTurn users core k g t) where
-  legal : (x : Going) → IsReached users boot x → IsLegal x.book
-  legal x r = run-legal users boot whole range r.turns x r.run
-
+module _ (numbered : Bool) (users : List User) (boot : Boot) (whole : IsFaultless boot) (range : AreInRange users) (g h : Going) (a : AreAlike numbered users boot g h) (core : CoreId) (k : Pick) (t : Going) (turn : IsTurn users core k g t) where
   abbrev pub step : Step
   step = record { core = core; thread = turn.user.thread; entry = turn.entry }
 
@@ -87,57 +85,44 @@ module _ (users : List User) (boot : Boot) (whole : IsFaultless boot) (range : A
   abbrev pub then_h : Going
   then_h = entered turn.picks turn.user step k h
 
-  c : AreClose users boot g h
-  c = a.close
+  pub there : IsTurn users core k h then_h
+  there = other numbered users boot whole range g h a core k t turn
 
-  pub other : IsTurn users core k h then_h
-  other = record {
-    user = turn.user;
-    entry = turn.entry;
-    picks = turn.picks;
-    is_user = turn.is_user;
-    is_entry = turn.is_entry;
-    are_picks = picks-there users boot g h c turn.picks turn.are_picks;
-    picked = go turn.picked;
-    enters = sym (may_enter-same (log_of g.book) (log_of h.book) c.logs core turn.user.thread) ∙ turn.enters;
-    after = refl;
-  }
-    where
-      go : (slice_get turn.picks core.0 ≡ Some (Some k)) ⊎ IsStale g core k → (slice_get turn.picks core.0 ≡ Some (Some k)) ⊎ IsStale h core k
-      go (inl own) = inl own
-      go (inr old) = in-other (choice-out turn.picks h.stale core.0 k (subst (λ cs. IsOneOf cs core.0 k) (a.choices turn.picks turn.are_picks) (choice-in turn.picks g.stale core.0 k (old.picks, (old.stale, old.among)))))
-        where
-          in-other : (slice_get turn.picks core.0 ≡ Some (Some k)) ⊎ IsOneOf h.stale core.0 k → (slice_get turn.picks core.0 ≡ Some (Some k)) ⊎ IsStale h core k
-          in-other (inl own) = inl own
-          in-other (inr (js, (at, among))) = inr (record { picks = js; stale = at; among = among })
-
-  left : IsReached users boot then_g
-  left = subst (λ x. IsReached users boot x) turn.after (record { turns = suc c.left.turns; run = (g, (c.left.run, record { core = core; pick = k; turn = turn })) })
-
-  right : IsReached users boot then_h
-  right = record { turns = suc c.right.turns; run = (h, (c.right.run, record { core = core; pick = k; turn = other })) }
-
-  pub same : outcome g.book step ≡ outcome h.book step
-  same = entry-same (log_of g.book) (log_of h.book) core turn.user.thread turn.entry c.logs (entrant-there (log_of g.book) core turn.user.thread turn.enters)
-      (legal-sound _ (legal _ left)) (legal-sound _ (legal _ right))
-
-  told-same : told_last then_g.book ≡ told_last then_h.book
-  told-same = ap (λ n. lines_told n (line_for step (outcome g.book step))) c.logs.sent ∙ ap (λ (o : Outcome). lines_told (next_message (log_of h.book)) (line_for step o)) same
+  pub same : SameButNumbers (outcome g.book step) (outcome h.book step)
+  same = same-outcomes numbered users boot whole range g h a core k t turn
 
   pub places-same : then_g.places ≡ then_h.places
-  places-same = ap (λ ps. put_at k.user (behind turn.user k.number (outcome g.book step).answer) ps) c.places ∙ ap (λ (o : Outcome). put_at k.user (behind turn.user k.number o.answer) h.places) same
+  places-same = ap (λ ps. put_at k.user (behind turn.user k.number (outcome g.book step).answer) ps) a.close.places ∙ ap (λ (x : Answer). put_at k.user (behind turn.user k.number x) h.places) same.answer
 
-  turn-same : (q : Asked) (u : Turn) → fails users q (Some u) then_g ≡ fails users q (Some u) then_h
-  turn-same (asked.Never pattern) u = ap (λ ls. list_any (is_line pattern.items) ls) told-same
-  turn-same (asked.Before first second) u = ap (λ b. gives users u second && not b) (given-same users then_g then_h places-same first)
-  turn-same _ u = refl
+  -- a pattern that names no message stands for the lines of both
+  blind : (pattern : List ℕ) → NameNone (words_of pattern) → list_any (is_line pattern) (told_last then_g.book) ≡ list_any (is_line pattern) (told_last then_h.book)
+  blind pattern none =
+      ap (λ (x : Answer). is_line pattern (answer_text x) || list_any (is_line pattern) (record_lines (next_message (log_of g.book)) (outcome g.book step).records)) same.answer
+      ∙ ap (λ b. is_line pattern (answer_text (outcome h.book step).answer) || b) (lines-blind pattern none (outcome g.book step).records (outcome h.book step).records (next_message (log_of g.book)) (next_message (log_of h.book)) same.records)
 
-module _ {K : Type 0} (users : List User) (boot : Boot) (whole : IsFaultless boot) (range : AreInRange users) (found : Entries K Turn) (done : ℕ) (all : length found ≤ done) (seen : AreAllSeen users boot found) (q : Asked) (held : IsHeldFound users boot found done q) where
+-- where numbers are told apart, each pattern does
+told-same : (users : List User) (boot : Boot) (whole : IsFaultless boot) (range : AreInRange users) (g h : Going) (a : AreAlike true users boot g h) (core : CoreId) (k : Pick) (t : Going) (turn : IsTurn users core k g t)
+    → told_last (then_g true users boot whole range g h a core k t turn).book ≡ told_last (then_h true users boot whole range g h a core k t turn).book
+told-same users boot whole range g h a core k t turn =
+    ap (λ n. lines_told n (line_for s (outcome g.book s))) a.close.logs.sent ∙ ap (λ (o : Outcome). lines_told (next_message (log_of h.book)) (line_for s o)) (exact-outcomes users boot whole range g h a core k t turn)
+  where
+    s : Step
+    s = step true users boot whole range g h a core k t turn
+
+turn-same : (numbered : Bool) (users : List User) (boot : Boot) (whole : IsFaultless boot) (range : AreInRange users) (g h : Going) (a : AreAlike numbered users boot g h) (core : CoreId) (k : Pick) (t : Going) (turn : IsTurn users core k g t)
+    → (q : Asked) → IsDecided numbered q → (u : Turn) → fails users q (Some u) (then_g numbered users boot whole range g h a core k t turn) ≡ fails users q (Some u) (then_h numbered users boot whole range g h a core k t turn)
+turn-same true users boot whole range g h a core k t turn (asked.Never pattern) d u = ap (λ ls. list_any (is_line pattern.items) ls) (told-same users boot whole range g h a core k t turn)
+turn-same false users boot whole range g h a core k t turn (asked.Never pattern) d u = blind false users boot whole range g h a core k t turn pattern.items d
+turn-same numbered users boot whole range g h a core k t turn (asked.Before first second) d u =
+    ap (λ b. gives users u second && not b) (given-same users (then_g numbered users boot whole range g h a core k t turn) (then_h numbered users boot whole range g h a core k t turn) (places-same numbered users boot whole range g h a core k t turn) first)
+turn-same numbered users boot whole range g h a core k t turn _ d u = refl
+
+module _ {K : Type 0} (numbered : Bool) (users : List User) (boot : Boot) (whole : IsFaultless boot) (range : AreInRange users) (found : Entries K Turn) (done : ℕ) (all : length found ≤ done) (seen : AreAllSeen numbered users boot found) (q : Asked) (decided : IsDecided numbered q) (held : IsHeldFound users boot found done q) where
   held-state : (n : ℕ) (g : Going) → IsRun users boot n g → fails users q None g ≡ false
   held-state n g run =
       let s = seen n g run in
       let within = s.within in
-      state-same users g s.going s.like.close.places (λ t. status-same (log_of g.book) (log_of s.going.book) s.like.close.logs t) q
+      state-same users g s.going s.like.close.places (λ t. status-same (log_of g.book) (log_of s.going.book) ((by-likeness numbered).numbers (log_of g.book) (log_of s.going.book) s.like.close.logs) t) q
       ∙ held.states s.place s.going (omega (arith, within, all)) s.is.path
 
   held-turn : (n : ℕ) (t : Turn) (g h : Going) → IsRun users boot n g → Leads users t g h → fails users q (Some t) h ≡ false
@@ -145,13 +130,13 @@ module _ {K : Type 0} (users : List User) (boot : Boot) (whole : IsFaultless boo
       let s = seen n g run in
       let within = s.within in
       ap (λ x. fails users q (Some t) x) turn.after
-      ∙ turn-same users boot whole range g s.going s.like t.core t.pick h turn q t
-      ∙ held.turns s.place t s.going (then_h users boot whole range g s.going s.like t.core t.pick h turn) (omega (arith, within, all)) s.is.path (other users boot whole range g s.going s.like t.core t.pick h turn)
+      ∙ turn-same numbered users boot whole range g s.going s.like t.core t.pick h turn q decided t
+      ∙ held.turns s.place t s.going (then_h numbered users boot whole range g s.going s.like t.core t.pick h turn) (omega (arith, within, all)) s.is.path (there numbered users boot whole range g s.going s.like t.core t.pick h turn)
 
   held-runs : IsHeldInRuns users boot q
   held-runs = record { states = held-state; turns = held-turn }
 
 -- so it is with each question
-pub all-held : {K : Type 0} (users : List User) (boot : Boot) (found : Entries K Turn) (done : ℕ) (questions : List AskedLine) (failed : List (Option Sighting)) → AreJudgedFound users boot found done questions failed
-    → IsFaultless boot → AreInRange users → length found ≤ done → AreAllSeen users boot found → AreHeldInRuns users boot questions failed
-all-held users boot found done questions failed judged whole range all seen = λ i q asks at. held-runs users boot whole range found done all seen q.asked (judged.each i q None asks at)
+pub all-held : {K : Type 0} (numbered : Bool) (users : List User) (boot : Boot) (found : Entries K Turn) (done : ℕ) (questions : List AskedLine) (failed : List (Option Sighting)) → AreJudgedFound users boot found done questions failed
+    → IsFaultless boot → AreInRange users → length found ≤ done → AreAllSeen numbered users boot found → AreHeldInRuns numbered users boot questions failed
+all-held numbered users boot found done questions failed judged whole range all seen = λ i q asks at decided. held-runs numbered users boot whole range found done all seen q.asked decided (judged.each i q None asks at)

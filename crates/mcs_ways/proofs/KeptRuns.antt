@@ -1,5 +1,5 @@
 -- The ends and the answers of what was found are those of each run.
-use Rattle.std.specs.Prelude.{ℕ, zero, suc, ◌≡◌, ◌≤◌, ◌++◌, length, List, Option, Some, None, slice_get}
+use Rattle.std.specs.Prelude.{ℕ, zero, suc, ◌≡◌, ◌≤◌, ◌++◌, Bool, length, List, Option, Some, None, slice_get}
 use Rattle.std.proofs.Common.{refl, ap, sym, ◌∙◌, subst, arith}
 use Rattle.mcs_types.specs.declared.id.ObjId.{ObjId}
 use Rattle.mcs_types.specs.declared.id.CoreId.{CoreId}
@@ -7,13 +7,13 @@ use Rattle.mcs_types.specs.declared.entry.Answer.{Answer}
 use Rattle.mcs_types.specs.declared.entry.Answer.TheVariants as answer
 use Rattle.mcs_types.specs.declared.record.Status.{Status}
 use Rattle.mcs_book.specs.Boots.{Boot, IsFaultless}
-use Rattle.mcs_book.specs.History.{line_for, log_of}
-use Rattle.mcs_book.specs.Pieces.{Outcome}
+use Rattle.mcs_book.specs.History.{log_of}
 use Rattle.mcs_book.specs.Statuses.{status_of}
 use Rattle.mcs_turns.specs.declared.position.Position.{Position}
 use Rattle.mcs_turns.specs.declared.position.Pick.{Pick}
 use Rattle.mcs_turns.specs.Turns.{User, Going, AreInRange, IsRun, IsTurn}
 use Rattle.mcs_alike.proofs.Asking.{status-same}
+use Rattle.mcs_alike.proofs.Likenesses.{by-likeness}
 use Rattle.mcs_explore.specs.Search.{Entries}
 use Rattle.mcs_like_runs.specs.Runs.{AreAlike}
 use Rattle.mcs_like_runs.proofs.Alikes.{over-there}
@@ -23,12 +23,13 @@ use Rattle.mcs_orders.specs.Seen.{AreAllSeen}
 use Rattle.mcs_orders.specs.Trails.{Leads}
 use Rattle.mcs_ways.specs.declared.ends.Standing.{Standing}
 use Rattle.mcs_ways.specs.declared.mail.Reached.{Reached}
-use Rattle.mcs_ways.specs.Mail.{brought, reached_from}
+use Rattle.mcs_ways.specs.Mail.{brought}
 use Rattle.mcs_ways.specs.Standings.{listed, standing_by, standing_of, standings, standings_below}
 use Rattle.mcs_ways.specs.Ends.{IsKindAt, Kind}
 use Rattle.mcs_ways.specs.Answers.{IsMailed, Tables, mailed_to}
 use Rattle.mcs_ways.specs.Found.{AreAnswersFound, AreAnswersInRuns, AreEndsFound, AreEndsInRuns, IsKeptOf, IsMailFound}
-use Rattle.mcs_ways.proofs.HeldRuns.{other, places-same, same, step, then_g, then_h}
+use Rattle.mcs_ways.proofs.Blinds.{mail-same}
+use Rattle.mcs_ways.proofs.HeldRuns.{there, places-same, same, then_g, then_h}
 use Rattle.mcs_ways.proofs.Waiting.{mailed-entry}
 
 -- in runs with the same statuses and places the users stand so too
@@ -61,18 +62,18 @@ mailed-same : (users : List User) (g h : Going) → g.places ≡ h.places → (t
 mailed-same users g h places t r = ap (λ (ps : List Position). mailed_to users (record g { places = ps }) t r) places
 
 -- alike runs: the same turn is answered the same in both, and brings the same
-module _ (users : List User) (boot : Boot) (whole : IsFaultless boot) (range : AreInRange users) (g h : Going) (a : AreAlike users boot g h) (core : CoreId) (k : Pick) (t : Going) (turn : IsTurn users core k g t) where
+module _ (numbered : Bool) (users : List User) (boot : Boot) (whole : IsFaultless boot) (range : AreInRange users) (g h : Going) (a : AreAlike numbered users boot g h) (core : CoreId) (k : Pick) (t : Going) (turn : IsTurn users core k g t) where
   abbrev left : Going
-  left = then_g users boot whole range g h a core k t turn
+  left = then_g numbered users boot whole range g h a core k t turn
 
   abbrev right : Going
-  right = then_h users boot whole range g h a core k t turn
+  right = then_h numbered users boot whole range g h a core k t turn
 
   answer-same : last_answer left.book ≡ last_answer right.book
-  answer-same = ap (λ (o : Outcome). Some o.answer) (same users boot whole range g h a core k t turn)
+  answer-same = ap (λ (x : Answer). Some x) (same numbered users boot whole range g h a core k t turn).answer
 
   brought-same : brought left.book ≡ brought right.book
-  brought-same = ap (λ (o : Outcome). reached_from None (line_for (step users boot whole range g h a core k t turn) o).records) (same users boot whole range g h a core k t turn)
+  brought-same = mail-same None _ _ (same numbered users boot whole range g h a core k t turn).records
 
   answered-there : (x : Answer) → last_answer t.book ≡ Some x → last_answer right.book ≡ Some x
   answered-there x is = sym answer-same ∙ ap (λ (y : Going). last_answer y.book) (sym turn.after) ∙ is
@@ -85,17 +86,17 @@ module _ (users : List User) (boot : Boot) (whole : IsFaultless boot) (range : A
         index = m.index;
         reached = m.reached;
         at = ap (λ (rs : List Reached). slice_get rs m.index) (sym brought-same) ∙ m.at;
-        to = sym (mailed-same users left right (places-same users boot whole range g h a core k t turn) u m.reached) ∙ m.to;
+        to = sym (mailed-same users left right (places-same numbered users boot whole range g h a core k t turn) u m.reached) ∙ m.to;
         answer = m.answer;
       }
 
-module _ {K : Type 0} (users : List User) (boot : Boot) (whole : IsFaultless boot) (range : AreInRange users) (found : Entries K Turn) (done : ℕ) (all : length found ≤ done) (seen : AreAllSeen users boot found) where
+module _ {K : Type 0} (numbered : Bool) (users : List User) (boot : Boot) (whole : IsFaultless boot) (range : AreInRange users) (found : Entries K Turn) (done : ℕ) (all : length found ≤ done) (seen : AreAllSeen numbered users boot found) where
   pub ends-in-runs : (kinds : List Kind) → AreEndsFound users boot found done kinds → AreEndsInRuns users boot kinds
   ends-in-runs kinds ends = λ n g run over.
       let s = seen n g run in
       let within = s.within in
-      let end = ends.all s.place s.going (omega (arith, within, all)) s.is.path (over-there users boot g s.going s.like.close over) in
-      subst (λ (ss : List Standing). (i : ℕ) × IsKindAt kinds ss i) (sym (standings-same users g s.going s.like.close.places (λ t. status-same (log_of g.book) (log_of s.going.book) s.like.close.logs t))) end
+      let end = ends.all s.place s.going (omega (arith, within, all)) s.is.path (over-there numbered users boot g s.going s.like.close over) in
+      subst (λ (ss : List Standing). (i : ℕ) × IsKindAt kinds ss i) (sym (standings-same users g s.going s.like.close.places (λ t. status-same (log_of g.book) (log_of s.going.book) ((by-likeness numbered).numbers (log_of g.book) (log_of s.going.book) s.like.close.logs) t))) end
 
   pub answers-in-runs : (tables : Tables) → AreAnswersFound users boot found done tables → IsMailFound users boot found done tables → AreAnswersInRuns users boot tables
   answers-in-runs tables answers mail = record { own = own; mail = brings }
@@ -109,8 +110,8 @@ module _ {K : Type 0} (users : List User) (boot : Boot) (whole : IsFaultless boo
             told = table.0;
             at = table.1;
             among =
-                answers.all s.place t s.going (then_h users boot whole range g s.going s.like t.core t.pick h turn) a table.0 (omega (arith, within, all)) s.is.path (other users boot whole range g s.going s.like t.core t.pick h turn)
-                (answered-there users boot whole range g s.going s.like t.core t.pick h turn a answered) not table.1;
+                answers.all s.place t s.going (then_h numbered users boot whole range g s.going s.like t.core t.pick h turn) a table.0 (omega (arith, within, all)) s.is.path (there numbered users boot whole range g s.going s.like t.core t.pick h turn)
+                (answered-there numbered users boot whole range g s.going s.like t.core t.pick h turn a answered) not table.1;
           }
 
       brings : (n : ℕ) (t : Turn) (g h : Going) (user number : ℕ) (a : Answer) → IsRun users boot n g → Leads users t g h → IsMailed users h user number t a → IsKeptOf tables user number a
@@ -122,6 +123,6 @@ module _ {K : Type 0} (users : List User) (boot : Boot) (whole : IsFaultless boo
             told = table.0;
             at = table.1;
             among =
-                mail s.place t s.going (then_h users boot whole range g s.going s.like t.core t.pick h turn) user number a table.0 (omega (arith, within, all)) s.is.path (other users boot whole range g s.going s.like t.core t.pick h turn)
-                (mailed-there users boot whole range g s.going s.like t.core t.pick h turn user number t a it) table.1;
+                mail s.place t s.going (then_h numbered users boot whole range g s.going s.like t.core t.pick h turn) user number a table.0 (omega (arith, within, all)) s.is.path (there numbered users boot whole range g s.going s.like t.core t.pick h turn)
+                (mailed-there numbered users boot whole range g s.going s.like t.core t.pick h turn user number t a it) table.1;
           }

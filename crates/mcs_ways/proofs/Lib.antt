@@ -5,6 +5,7 @@ pub mod Telling
 pub mod Keeping
 pub mod Failing
 pub mod Judgments
-pub mod HeldRuns
+pub mod Blinds
+mod HeldRuns
 mod Waiting
 pub mod KeptRuns

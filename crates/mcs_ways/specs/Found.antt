@@ -1,5 +1,5 @@
 -- What is told of all states that were looked behind (own).
-use Rattle.std.specs.Prelude.{ℕ, ◌≡◌, ◌<◌, ◌⊎◌, true, false, List, Option, Some, None, length, slice_get}
+use Rattle.std.specs.Prelude.{ℕ, Bool, ◌≡◌, ◌<◌, ◌⊎◌, true, false, List, Option, Some, None, length, slice_get}
 use Rattle.mcs_types.specs.declared.entry.Answer.{Answer}
 use Rattle.mcs_types.specs.declared.entry.Answer.TheVariants as answer
 use Rattle.mcs_book.specs.Boots.{Boot}
@@ -16,7 +16,7 @@ use Rattle.mcs_ways.specs.declared.reading.AskedLine.{AskedLine}
 use Rattle.mcs_ways.specs.declared.judging.Sighting.{Sighting}
 use Rattle.mcs_ways.specs.Standings.{standings}
 use Rattle.mcs_ways.specs.Ends.{IsKindAt, Kind}
-use Rattle.mcs_ways.specs.Judging.{fails}
+use Rattle.mcs_ways.specs.Judging.{IsDecided, fails}
 use Rattle.mcs_ways.specs.Answers.{IsAmong, IsEntry, IsMailed, Tables, table_of}
 
 -- the path of a place leads to this state
@@ -120,6 +120,6 @@ pub record IsHeldInRuns (users : List User) (boot : Boot) (q : Asked) : Type 0 w
   pub states : (n : ℕ) (g : Going) → IsRun users boot n g → fails users q None g ≡ false
   pub turns : (n : ℕ) (t : Turn) (g h : Going) → IsRun users boot n g → Leads users t g h → fails users q (Some t) h ≡ false
 
--- so is each question that did not fail
-abbrev pub AreHeldInRuns : List User → Boot → List AskedLine → List (Option Sighting) → Type 0
-AreHeldInRuns users boot questions failed = (i : ℕ) (q : AskedLine) → slice_get questions i ≡ Some q → slice_get failed i ≡ Some None → IsHeldInRuns users boot q.asked
+-- so is each question that did not fail and that such states decide
+abbrev pub AreHeldInRuns : Bool → List User → Boot → List AskedLine → List (Option Sighting) → Type 0
+AreHeldInRuns numbered users boot questions failed = (i : ℕ) (q : AskedLine) → slice_get questions i ≡ Some q → slice_get failed i ≡ Some None → IsDecided numbered q.asked → IsHeldInRuns users boot q.asked

@@ -1,5 +1,5 @@
 -- Where a question fails: in a state, or by a turn (own).
-use Rattle.std.specs.Prelude.{ℕ, ◌+◌, ◌-◌, ◌==◌, ◌&&◌, Bool, false, not, nat_lt, nat_le, unwrap_or, List, [], ◌∷◌, Option, Some, None, length, take, position, slice_get}
+use Rattle.std.specs.Prelude.{ℕ, ◌≡◌, ◌+◌, ◌-◌, ◌==◌, ◌&&◌, Bool, false, not, nat_lt, nat_le, unwrap_or, List, [], ◌∷◌, Option, Some, None, length, take, position, slice_get, bytes_eq, decimal}
 use Rattle.std.specs.List.{list_all, list_any}
 use Rattle.mcs_types.specs.declared.id.ObjId.{ObjId}
 use Rattle.mcs_types.specs.declared.record.Rec.{Rec}
@@ -11,6 +11,7 @@ use Rattle.mcs_book.specs.History.{Book, Line, log_of, past}
 use Rattle.mcs_book.specs.Logs.{Log}
 use Rattle.mcs_book.specs.Messages.{next_message}
 use Rattle.mcs_book.specs.Statuses.{status_of}
+use Rattle.mcs_text.specs.Reading.{words_of}
 use Rattle.mcs_text.specs.Table.{answer_text, record_text}
 use Rattle.mcs_sim.specs.Trace.{sent_with}
 use Rattle.mcs_turns.specs.declared.position.Position.{Position}
@@ -97,3 +98,13 @@ fails_by users _ t h = false
 abbrev pub fails : List User → Asked → Option Turn → Going → Bool
 fails users q None g = fails_in users q g
 fails users q (Some t) g = fails_by users q t g
+
+-- no word of a list is the name of a message, as m4
+abbrev pub NameNone : List (List ℕ) → Type 0
+NameNone [] = Unit {0}
+NameNone (w ∷ ws) = ((n : ℕ) → bytes_eq w (109 ∷ decimal n) ≡ false) × NameNone ws
+
+-- states in which the numbers of messages are told apart decide each question; others do, but for patterns that name a message
+abbrev pub IsDecided : Bool → Asked → Type 0
+IsDecided false (asked.Never pattern) = NameNone (words_of pattern.items)
+IsDecided numbered q = Unit {0}

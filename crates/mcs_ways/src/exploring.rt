@@ -20,6 +20,7 @@ pub struct Wanted {
     pub states: usize,
     pub depth: usize,
     pub is_exact: bool,
+    pub numbered: bool,
 }
 
 /// Goes through all orders of users after a boot, as far as is wanted, tells how far it is, and keeps what comes of them.
@@ -37,7 +38,7 @@ pub fn watched<'a, P: Progress>(
     ensures whole { IfOk result (λ o. wanted.is_exact ≡ true
         → IsFaultless boot.now → AreInRange users.now
         → length o.search.map.entries ≤ o.search.done
-        → AreAllSeen users.now boot.now o.search.map.entries) }
+        → AreAllSeen wanted.numbered users.now boot.now o.search.map.entries) }
     // each end that is kept is that of such a state, and the end of each state that was looked behind and is over is kept
     ensures ends { IfOk result (λ o. AreEndsFound users.now boot.now
         o.search.map.entries o.search.done o.explorer.watch.ends) }
@@ -64,7 +65,7 @@ pub fn watched<'a, P: Progress>(
     ensures held { IfOk result (λ o. wanted.is_exact ≡ true
         → IsFaultless boot.now → AreInRange users.now
         → length o.search.map.entries ≤ o.search.done
-        → AreHeldInRuns users.now boot.now asked.entry.now o.explorer.watch.failed.items) }
+        → AreHeldInRuns wanted.numbered users.now boot.now asked.entry.now o.explorer.watch.failed.items) }
     // the turns and the ends that are counted are those of such states, up to the largest count, and the last is the deepest
     ensures counts { IfOk result (λ o. AreCountedFound users.now boot.now
         o.search.map.entries o.search.done o.explorer.turns o.explorer.ends) }
@@ -76,7 +77,15 @@ pub fn watched<'a, P: Progress>(
         states: wanted.states,
         depth: wanted.depth,
     };
-    let orders = match explore(alloc, boot, users, wanted.is_exact, budget, watched) {
+    let orders = match explore(
+        alloc,
+        boot,
+        users,
+        wanted.is_exact,
+        wanted.numbered,
+        budget,
+        watched,
+    ) {
         Ok(orders) => orders,
         Err(fault) => return Err(fault_of(fault)),
     };

@@ -21,8 +21,8 @@ returns-clause-whole g c = λ exact faultless in_range done.
     let is = c.in_ok-explorer.ensures in
     let found = c.in_ok-search.search.map.entries in
     let told : IsTold e = record { exact = is.exact ∙ exact; boot = subst IsFaultless (sym is.boot) faultless; in_range = subst AreInRange (sym is.users) in_range } in
-    subst (λ us. AreAllSeen us c.args.boot.now found) is.users (subst (λ b. AreAllSeen e.users b found) is.boot
-    (all-seen e _ found told (likeness e.users e.boot told.boot told.in_range) (c.in_ok-search.ensures.whole done)))
+    subst (λ n. AreAllSeen n c.args.users.now c.args.boot.now found) is.numbered (subst (λ us. AreAllSeen e.keys.numbered us c.args.boot.now found) is.users (subst (λ b. AreAllSeen e.keys.numbered e.users b found) is.boot
+    (all-seen e _ found told (likeness e.keys.numbered e.users e.boot told.boot told.in_range) (c.in_ok-search.ensures.whole done))))
 
 pub returns-clause-shown : goal.returns-clause-shown
 returns-clause-shown g c = λ has.

@@ -8,10 +8,10 @@ use Rattle.mcs_orders.proofs.Telling.{turn-counted, turn-told}
 use Rattle.mcs_orders.proofs.explorer.Explorer.behind.Goals as goal
 
 pub returns-in_err-key-clause-later : goal.returns-in_err-key-clause-later
-returns-in_err-key-clause-later g c = rw (← c.self.view_is) (record { search = record { users = refl; boot = refl; exact = c.key.ensures.mode; met = c.key.ensures.kept }; aim = c.see_turn.ensures.aim })
+returns-in_err-key-clause-later g c = rw (← c.self.view_is) (record { search = record { users = refl; boot = refl; exact = c.key.ensures.mode; numbered = c.key.ensures.apart; met = c.key.ensures.kept }; aim = c.see_turn.ensures.aim })
 
 pub returns-clause-later : goal.returns-clause-later
-returns-clause-later g c = rw (← c.self.view_is) (record { search = record { users = refl; boot = refl; exact = c.key.ensures.mode; met = c.key.ensures.kept }; aim = c.see_turn.ensures.aim })
+returns-clause-later g c = rw (← c.self.view_is) (record { search = record { users = refl; boot = refl; exact = c.key.ensures.mode; numbered = c.key.ensures.apart; met = c.key.ensures.kept }; aim = c.see_turn.ensures.aim })
 
 pub returns-clause-told : goal.returns-clause-told
 returns-clause-told g c =
