@@ -10,3 +10,4 @@ pub mod Firm
 pub mod WholeMessages
 pub mod Lengths
 pub mod Small
+pub mod Sparing

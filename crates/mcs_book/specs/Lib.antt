@@ -36,3 +36,4 @@ pub mod Limits
 pub mod LookupEnds
 pub mod SmallBooks
 pub mod Merging
+pub mod SlotRecords

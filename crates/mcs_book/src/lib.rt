@@ -3,6 +3,7 @@
 
 mod book;
 mod broken;
+mod changes;
 mod cores;
 mod laws;
 mod limits;
@@ -11,6 +12,7 @@ mod whole;
 
 pub use book::{Book, Line};
 pub use broken::{answered_is_fair, each_law_refuses, taken_in_turn_is_fair};
+pub use changes::{none_made, slots_stay};
 pub use cores::{core_lines, known_cores, own_core};
 pub use laws::{
     answered_once, answered_whole, by_priority, chain_kept, fair, found_named, made_once,
