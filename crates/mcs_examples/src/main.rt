@@ -1,12 +1,16 @@
 //! The scripts of `examples/` that consist of steps are checked, for each says what its steps answer, and drawn, as those of its
 //! gallery: each picture is compared with the one that is kept beside its script, and looked at. So are pages, texts and scripts with a
 //! flaw. All orders of the scripts of users are gone through, and plans are compiled. Told is besides what a search finds of a small
-//! system, and for which texts patterns stand. With a number alone, a byte of each plan is changed so many times, and no more is done.
+//! system, for which texts patterns stand, and what the scripts of standard input give, which is all that is told where no file is
+//! named (so `tests/each-allocation.sh` has each allocation refused in turn, and wants the same traces). With a number alone, a byte of each
+//! plan is changed so many times, and no more is done.
 #![tactic(auto)]
 
+mod calls;
 mod flaws;
 mod forms;
 mod gallery;
+mod given;
 mod looks;
 mod orders;
 mod patterns;
@@ -14,13 +18,15 @@ mod pen;
 mod places;
 mod plans;
 mod rings;
+mod scripts;
 
 use flaws::tell_flaws;
 use gallery::draw_gallery;
+use given::tell_given;
 use looks::look_at;
 use mcs_lab::{LabFault, check};
 use mcs_pictures::Format;
-use mcs_sim::{Source, arguments};
+use mcs_sim::{SimFault, Source, arguments};
 use orders::explore_all;
 use patterns::tell_patterns;
 use plans::{tell_plans, try_changes};
@@ -106,19 +112,32 @@ fn number_of(paths: &[String]) -> Option<usize> {
     }
 }
 
+/// Tells what the words behind the program's name ask for. True where all holds.
+fn tell(rt: &HostRuntime, paths: &[String]) -> Result<bool, LabFault> {
+    if let Some(times) = number_of(paths) {
+        return tell_changes(rt, times);
+    }
+    let all_hold = paths.is_empty() || tell_all(rt, paths)?;
+    Ok(tell_given(rt) && all_hold)
+}
+
+/// The words of the command line, asked for once more where memory was refused.
+fn words(rt: &HostRuntime) -> Result<Vec<String>, SimFault> {
+    match arguments(rt) {
+        Ok(words) => Ok(words),
+        Err(_) => arguments(rt),
+    }
+}
+
 fn main(rt: HostRuntime) -> ExitCode {
-    let Ok(words) = arguments(&rt) else {
+    let Ok(words) = words(&rt) else {
         return ExitCode::FAILURE;
     };
     let paths = match words.as_slice() {
         [_, paths @ ..] => paths,
         [] => &[],
     };
-    let told = match number_of(paths) {
-        Some(times) => tell_changes(&rt, times),
-        None => tell_all(&rt, paths),
-    };
-    match told {
+    match tell(&rt, paths) {
         Ok(true) => ExitCode::SUCCESS,
         Ok(false) => ExitCode::FAILURE,
         Err(fault) => {

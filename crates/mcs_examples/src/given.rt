@@ -1,19 +1,12 @@
-//! The first example by calls of the kernel, and then the scripts of standard input: what each gives is written,
-//! and that it gives the same in pieces, and its trace itself, is tested. `#!` begins the name of the script behind its line. A call that memory
-//! was refused to is given once more. A plain run is refused nothing; `tests/each-allocation.sh` has each allocation refused in turn,
-//! and wants the same traces.
-#![tactic(auto)]
-
+//! What the first example gives by calls of the kernel, and then each script of standard input: what it gives is written, and that it
+//! gives the same in pieces, and its trace itself, is tested. `#!` begins the name of the script behind its line. A call that memory was
+//! refused to is given once more.
 ghost use Rattle.std.specs.Prelude.{◌≤◌, length};
 
-mod calls;
-mod scripts;
-
-use calls::trace_of_calls;
+use crate::calls::trace_of_calls;
+use crate::scripts::given_by;
 use mcs_sim::{SimFault, Source};
-use scripts::given_by;
 use std::io::{self, Input, Write};
-use std::process::ExitCode;
 
 /// With this the name of a script begins, which ends with its line.
 const NAME: &[u8] = b"#!";
@@ -99,21 +92,20 @@ fn write_all(rt: &HostRuntime, text: &[u8]) -> io::Result<()> {
     Ok(())
 }
 
-fn main(rt: HostRuntime) -> ExitCode {
+/// Writes the trace of the first example by calls, and what each script of standard input gives. True where they could be read and
+/// written.
+pub fn tell_given(rt: &HostRuntime) -> bool {
     match trace_of_calls(rt.alloc()) {
         Ok(text) => {
-            let _ = io::writer(&rt).write_all(&text);
+            let _ = io::writer(rt).write_all(&text);
         }
         Err(_) => {
             let _ = rt.println("a call failed, or changed something where it failed");
         }
     }
-    let Ok(text) = read_scripts(&rt) else {
+    let Ok(text) = read_scripts(rt) else {
         let _ = rt.println("the scripts could not be read");
-        return ExitCode::FAILURE;
+        return false;
     };
-    match write_all(&rt, &text) {
-        Ok(()) => ExitCode::SUCCESS,
-        Err(_) => ExitCode::FAILURE,
-    }
+    write_all(rt, &text).is_ok()
 }
