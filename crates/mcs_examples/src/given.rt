@@ -1,15 +1,19 @@
 //! What the first example gives by calls of the kernel, and then each script of standard input: what it gives is written, and that it
-//! gives the same in pieces, and its trace itself, is tested. `#!` begins the name of the script behind its line. A call that memory was
-//! refused to is given once more.
+//! gives the same in pieces, and its trace itself, is tested. `#!` begins the name of the script behind its line; `#!+` that of lines
+//! which are put behind the script that `#!` named last. A call that memory was refused to is given once more.
 ghost use Rattle.std.specs.Prelude.{◌≤◌, length};
 
 use crate::calls::trace_of_calls;
 use crate::scripts::given_by;
 use mcs_sim::{SimFault, Source};
+use std::alloc::{AllocError, Global};
 use std::io::{self, Input, Write};
 
 /// With this the name of a script begins, which ends with its line.
 const NAME: &[u8] = b"#!";
+
+/// With this the name of lines begins that stand behind the script named last.
+const MORE: &[u8] = b"#!+";
 
 /// The most bytes of all scripts.
 const MOST: usize = 1 << 20;
@@ -76,9 +80,27 @@ fn write_given(rt: &HostRuntime, name: &[u8], script: &[u8]) -> io::Result<()> {
     Ok(())
 }
 
+/// Two texts, one behind the other.
+fn joined(alloc: Global, text: &[u8], more: &[u8]) -> Result<Vec<u8>, AllocError> {
+    let mut script = Vec::with_capacity(alloc, text.len().saturating_add(more.len()))?;
+    script.extend_from_slice(text)?;
+    script.extend_from_slice(more)?;
+    Ok(script)
+}
+
+/// Writes what a script gives behind another. The room for both is asked for once more where memory was refused.
+fn write_behind(rt: &HostRuntime, name: &[u8], base: &[u8], lines: &[u8]) -> io::Result<()> {
+    let script = match joined(rt.alloc(), base, lines) {
+        Ok(script) => script,
+        Err(_) => joined(rt.alloc(), base, lines)?,
+    };
+    write_given(rt, name, &script)
+}
+
 /// Writes what each script of a text gives, behind its name.
 fn write_all(rt: &HostRuntime, text: &[u8]) -> io::Result<()> {
     let mut rest = text;
+    let mut base: &[u8] = &[];
     // Each turn takes a byte at least.
     for _ in 0..text.len() {
         if rest.is_empty() {
@@ -86,7 +108,12 @@ fn write_all(rt: &HostRuntime, text: &[u8]) -> io::Result<()> {
         }
         let (name, behind) = rest.split_at(name_length(rest));
         let (script, others) = behind.split_at(script_length(behind));
-        write_given(rt, name, script)?;
+        if name.starts_with(MORE) {
+            write_behind(rt, name, base, script)?;
+        } else {
+            write_given(rt, name, script)?;
+            base = script;
+        }
         rest = others;
     }
     Ok(())

@@ -1,4 +1,6 @@
 //! The tests.
 
+mod kernels;
 mod machines;
 mod replays;
+mod tables;

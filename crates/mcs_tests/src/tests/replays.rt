@@ -4,7 +4,6 @@ mod failing;
 mod faults;
 mod feeding;
 mod limits;
-mod messages;
 mod runs;
 mod streams;
 mod users;

@@ -50,19 +50,6 @@ pub const FIRST_STEPS: &str = "\
 0 t2 recv 2 8
 ";
 
-/// What the trace has for these steps.
-pub const FIRST_TRACE: &str = "\
-0 t1 send 1 7 5 6
-= waits
-+ sent m0 t1 e1 send 9 7 5 6
-+ joins t1 e1.send
-0 t2 recv 2 8
-= got 9 7 5 6
-+ took m0 t2
-+ parts t1 e1.send
-+ turns t1 running
-";
-
 /// Two calls on one context, of which the first is answered before the second; the last step is turned away.
 pub const MIDDLE_STEPS: &str = "\
 0 t2 recv 2 8

@@ -194,5 +194,6 @@ fn objects_and_slots_are_told(rt: HostRuntime) -> Result<(), Fail> {
     let root = kernel.root(thread(1)).ok_or("no root")?;
     assert!(rt; root.obj == CNODE && root.guard.bits == 59);
     assert!(rt; kernel.root(thread(6)) == None);
+    assert!(rt; kernel.fault(CoreId(0), thread(1)).is_none());
     Ok(())
 }
