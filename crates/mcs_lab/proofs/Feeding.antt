@@ -1,6 +1,6 @@
 -- A replay that has taken what it was fed.
 use Rattle.std.proofs.Common.{◌≡◌, ℕ, List, Ok, inl, inr, ap}
-use Rattle.mcs_sim.specs.Going.{Going, Takes, answer_of, fed}
+use Rattle.mcs_phases.specs.Going.{Going, Takes, answer_of, fed}
 
 -- where no fault ended it, it took all
 pub fed_whole : (old : Going) (bytes : List ℕ) (new : Going) → Takes old bytes new → answer_of new.course.fault ≡ Ok tt → new ≡ fed old bytes

@@ -1,7 +1,7 @@
 -- The verdicts on a script, line by line: a definition over its text and the book that its steps make.
 use Rattle.std.specs.Prelude.{ℕ, ◌-◌, Bool, true, false, cond, List, [], ◌∷◌, ◌==◌, ◌&&◌, take, length, Option, Some, None}
 use Rattle.mcs_book.specs.History.{Book}
-use Rattle.mcs_sim.specs.Going.{Going, no_line, at_line, fed}
+use Rattle.mcs_phases.specs.Going.{Going, no_line, at_line, fed}
 use Rattle.mcs_lab.specs.Asking.{asked_of}
 use Rattle.mcs_lab.specs.Verdicts.{line_count, sent_count, newest, answers_so, found, reason, was_away, says_so}
 use Rattle.mcs_lab.specs.declared.asking.Asked.{Asked}

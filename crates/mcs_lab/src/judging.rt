@@ -1,7 +1,7 @@
 //! A script line by line, and whether what it says of its steps holds.
 ghost use Rattle.std.specs.Prelude.{◌≡◌, ◌+◌, ◌-◌, ◌^◌, ◌<◌, ◌≤◌, ◌++◌, ◌∷◌, [], IfOk, OnOk, IfSome, length, take, drop, option_map};
 ghost use Rattle.mcs_book.specs.History.{line_of_number};
-ghost use Rattle.mcs_sim.specs.Going.{fed};
+ghost use Rattle.mcs_phases.specs.Going.{fed};
 ghost use Rattle.mcs_sim.specs.Trace.{sent_with};
 ghost use Rattle.mcs_text.specs.Reading.{words_of};
 ghost use Rattle.mcs_lab.specs.Asking.{asked_of};

@@ -7,11 +7,11 @@ use Rattle.mcs_book.specs.Boots.{Boot}
 use Rattle.mcs_book.specs.Statuses.{may_enter}
 use Rattle.mcs_book.specs.Table.{does}
 use Rattle.mcs_book.specs.History.{Book, log_of, line_for, with_step, book_of}
-use Rattle.mcs_sim.specs.declared.fault.SimFault.{SimFault}
-use Rattle.mcs_sim.specs.declared.fault.SimFault.TheVariants as fault
-use Rattle.mcs_sim.specs.Script.{Script, steps}
+use Rattle.mcs_phases.specs.declared.fault.SimFault.{SimFault}
+use Rattle.mcs_phases.specs.declared.fault.SimFault.TheVariants as fault
+use Rattle.mcs_phases.specs.Script.{Script, steps}
 use Rattle.mcs_sim.specs.Outcomes.{ComesOfScript}
-use Rattle.mcs_sim.specs.Going.{Going, Course, Takes, TakesEnd, IsRefusedIn, answer_of, at_line, no_line, fed, ended, ended_by}
+use Rattle.mcs_phases.specs.Going.{Going, Course, Takes, TakesEnd, IsRefusedIn, answer_of, at_line, no_line, fed, ended, ended_by}
 use Rattle.mcs_sim.proofs.GoingScripts.{fed-as-read}
 use Rattle.mcs_readback.specs.Reading.{IsScript, IsScriptOf}
 

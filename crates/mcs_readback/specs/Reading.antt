@@ -3,7 +3,7 @@ use Rattle.std.specs.Prelude.{◌≡◌, ℕ, List, [], Option, Some, None, reve
 use Rattle.mcs_types.specs.declared.entry.Step.{Step}
 use Rattle.mcs_book.specs.Boots.{Boot}
 use Rattle.mcs_book.specs.History.{Book, book_of, log_of}
-use Rattle.mcs_sim.specs.Script.{steps}
+use Rattle.mcs_phases.specs.Script.{steps}
 use Rattle.mcs_laying.specs.declared.laid.Laid.{Laid}
 use Rattle.mcs_laying.specs.Naming.{cores_of}
 use Rattle.mcs_laying.specs.Boot.{boot_of}

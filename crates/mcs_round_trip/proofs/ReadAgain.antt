@@ -9,7 +9,7 @@ use Rattle.mcs_text.specs.Reading.{lines_of}
 use Rattle.mcs_sim.specs.Trace.{trace}
 use Rattle.mcs_types.specs.declared.entry.Step.{Step}
 use Rattle.mcs_text.specs.declared.fault.LineFault.{LineFault}
-use Rattle.mcs_sim.specs.Script.{Script, steps}
+use Rattle.mcs_phases.specs.Script.{Script, steps}
 use Rattle.mcs_sim.specs.Runs.{script_trace, told, written}
 use Rattle.mcs_book.proofs.Books.ReplayLaws.{legal-replayed}
 use Rattle.mcs_round_trip.specs.Readable.{IsReadable}

@@ -2,7 +2,7 @@
 ghost use Rattle.std.specs.Prelude.{◌≡◌, Some, None};
 ghost use Rattle.mcs_book.specs.History.{Book, steps_of};
 ghost use Rattle.mcs_sim.specs.Trace.{trace};
-ghost use Rattle.mcs_sim.specs.Script.{steps};
+ghost use Rattle.mcs_phases.specs.Script.{steps};
 ghost use Rattle.mcs_sim.specs.Runs.{written};
 ghost use Rattle.mcs_round_trip.specs.Readable.{IsReadable};
 

@@ -13,15 +13,15 @@ use Rattle.mcs_kernel.specs.Faults.{fault_of, entered}
 use Rattle.mcs_kernel.specs.Runs.{is_book_full}
 use Rattle.mcs_text.specs.declared.fault.LineFault.{LineFault}
 use Rattle.mcs_text.specs.Table.{cores_text}
-use Rattle.mcs_sim.specs.declared.fault.SimFault.{SimFault}
-use Rattle.mcs_sim.specs.declared.fault.SimFault.TheVariants as fault
-use Rattle.mcs_sim.specs.Script.{threads_of}
+use Rattle.mcs_phases.specs.declared.fault.SimFault.{SimFault}
+use Rattle.mcs_phases.specs.declared.fault.SimFault.TheVariants as fault
+use Rattle.mcs_phases.specs.Script.{threads_of}
 use Rattle.mcs_text.specs.declared.fault.LineFault.TheVariants as why
 use Rattle.std.specs.Prelude.{nat_lt, ◌==◌, slice_get}
 use Rattle.mcs_sim.proofs.GoingScripts.{book_of-end}
 use Rattle.mcs_sim.specs.Trace.{boot_lines_trace, sent_after, sent_in, line_trace, lines_trace, trace, trace_of}
 use Rattle.mcs_sim.specs.Trace.{IsLonger, told_of, all_told, IsToldBy, IsToldOf, IsToldUpTo, untold, untold_of, untold_lines}
-use Rattle.mcs_sim.specs.Going.{BootOrBook, Course, Going, stepped, stands, read_at, step_line, after_step, book_after, after_line_on, after_line, past_line, with_line, after_end_on, after_end, past_boot, boot_ended_after, boot_ended, with_part, with_byte, fed, with_last, at_end, ended, at_line, refused_for}
+use Rattle.mcs_phases.specs.Going.{BootOrBook, Course, Going, stepped, stands, read_at, step_line, after_step, book_after, after_line_on, after_line, past_line, with_line, after_end_on, after_end, past_boot, boot_ended_after, boot_ended, with_part, with_byte, fed, with_last, at_end, ended, at_line, refused_for}
 
 pub longer-refl : (k : Option Book) → IsLonger k k
 longer-refl None = tt

@@ -4,10 +4,10 @@ use Rattle.std.proofs.lemmas.Bool.{lt-ltb, ltb-true, ne_eqb}
 use Rattle.std.proofs.lemmas.List.{length-append}
 use Rattle.mcs_text.specs.declared.fault.LineFault.{LineFault}
 use Rattle.mcs_text.specs.declared.fault.LineFault.TheVariants as why
-use Rattle.mcs_sim.specs.declared.fault.SimFault.{SimFault}
+use Rattle.mcs_phases.specs.declared.fault.SimFault.{SimFault}
 use Rattle.mcs_book.specs.History.{Book}
-use Rattle.mcs_sim.specs.Script.{says_something, read_line}
-use Rattle.mcs_sim.specs.Going.{Course, Going, step_line, book_after, after_line, after_line_on, refused_for, past_line, with_line, at_line, with_part, with_next, with_byte, fed, HasNoNewline}
+use Rattle.mcs_phases.specs.Script.{says_something, read_line}
+use Rattle.mcs_phases.specs.Going.{Course, Going, step_line, book_after, after_line, after_line_on, refused_for, past_line, with_line, at_line, with_part, with_next, with_byte, fed, HasNoNewline}
 
 -- ---- bytes after bytes
 

@@ -14,12 +14,12 @@ use Rattle.mcs_text.specs.Keys.{boot_key}
 use Rattle.mcs_text.specs.Reading.{◌>>=◌, words_of, step_of}
 use Rattle.mcs_text.specs.Table.{step_text}
 use Rattle.mcs_line_laws.proofs.StepsWritten.{step-written}
-use Rattle.mcs_sim.specs.declared.fault.SimFault.{SimFault}
-use Rattle.mcs_sim.specs.declared.fault.SimFault.TheVariants as fault
+use Rattle.mcs_phases.specs.declared.fault.SimFault.{SimFault}
+use Rattle.mcs_phases.specs.declared.fault.SimFault.TheVariants as fault
 use Rattle.mcs_sim.specs.declared.writing.Told.{Told}
-use Rattle.mcs_sim.specs.Script.{threads_of, says_something}
+use Rattle.mcs_phases.specs.Script.{threads_of, says_something}
 use Rattle.mcs_sim.specs.Trace.{sent_after, sent_in, line_trace, lines_trace, untold, untold_lines, IsToldBy, IsToldOf, IsReadOf, IsReadOfAny}
-use Rattle.mcs_sim.specs.Going.{BootOrBook, Course, stepped, stands, read_at, step_line, step_spelled, behind_boot, after_step, book_after, after_line_on, after_line, past_line, with_line, TakesLine}
+use Rattle.mcs_phases.specs.Going.{BootOrBook, Course, stepped, stands, read_at, step_line, step_spelled, behind_boot, after_step, book_after, after_line_on, after_line, past_line, with_line, TakesLine}
 use Rattle.mcs_sim.proofs.GoingBooks.{drop-more, lines-next, lines-all}
 
 -- of the line behind a boot that says a step that step is read

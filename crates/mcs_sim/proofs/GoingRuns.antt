@@ -8,13 +8,13 @@ use Rattle.mcs_book.specs.Boots.{Boot}
 use Rattle.mcs_book.specs.History.{Book, IsLegal, book_of}
 use Rattle.mcs_book.specs.Fair.{IsFair}
 use Rattle.mcs_text.specs.declared.fault.LineFault.{LineFault}
-use Rattle.mcs_sim.specs.declared.fault.SimFault.{SimFault}
-use Rattle.mcs_sim.specs.declared.fault.SimFault.TheVariants as fault
-use Rattle.mcs_sim.specs.Script.{Script, steps}
+use Rattle.mcs_phases.specs.declared.fault.SimFault.{SimFault}
+use Rattle.mcs_phases.specs.declared.fault.SimFault.TheVariants as fault
+use Rattle.mcs_phases.specs.Script.{Script, steps}
 use Rattle.mcs_sim.specs.Trace.{trace, trace_of}
 use Rattle.mcs_sim.specs.Runs.{script_trace, trace_before, told, written, Begins, IsFull, IsFullAt, IsRoomy, IsFairBefore, IsNamed, StopsSoon, ReadsText, Finishes, Ends}
 use Rattle.mcs_sim.specs.Trace.{IsLonger}
-use Rattle.mcs_sim.specs.Going.{Course, Going, ended_by, at_line, no_line, fed, at_end, ended, IsFairBook, TakesEnd, TakesPiece}
+use Rattle.mcs_phases.specs.Going.{Course, Going, ended_by, at_line, no_line, fed, at_end, ended, IsFairBook, TakesEnd, TakesPiece}
 use Rattle.mcs_sim.specs.Outcomes.{boot_or_book_of, IsTaken, IsTakenTo, IsTakenToFull, ComesOfScript}
 use Rattle.mcs_sim.proofs.GoingLaws.{fed-append, fed-stopped}
 use Rattle.mcs_sim.proofs.GoingScripts.{fed-as-read}

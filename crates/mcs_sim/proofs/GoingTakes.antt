@@ -2,13 +2,13 @@
 use Rattle.std.proofs.Common.{◌≡◌, ℕ, zero, suc, ◌+◌, ◌<◌, ◌≤◌, slice_index, take, drop, inl, inr, true, false, ltb, eqb, Option, Some, None, Ok, Err, List, [], ◌∷◌, ◌++◌, length, refl, sym, ap, subst, ◌∙◌, append_assoc, append-nil, arith}
 use Rattle.std.proofs.lemmas.Bool.{lt-ltb, le-ltb, ne_eqb, eqb-true}
 use Rattle.mcs_text.specs.declared.fault.LineFault.TheVariants as why
-use Rattle.mcs_sim.specs.declared.fault.SimFault.{SimFault}
-use Rattle.mcs_sim.specs.declared.fault.SimFault.TheVariants as fault
+use Rattle.mcs_phases.specs.declared.fault.SimFault.{SimFault}
+use Rattle.mcs_phases.specs.declared.fault.SimFault.TheVariants as fault
 use Rattle.mcs_sim.specs.Trace.{IsLonger}
-use Rattle.mcs_sim.specs.Going.{BootOrBook, Course, Going, ComesOf, ended_by, refused_for, after_line, past_line, with_line, after_end, past_boot, boot_ended_after, boot_ended, at_line, fed, with_last, at_end, ended, answer_of, HasNoNewline, going_of, Takes, TakesLine, TakesEnd, TakesPiece, EndsBoot}
+use Rattle.mcs_phases.specs.Going.{BootOrBook, Course, Going, ComesOf, ended_by, refused_for, after_line, past_line, with_line, after_end, past_boot, boot_ended_after, boot_ended, at_line, fed, with_last, at_end, ended, answer_of, HasNoNewline, going_of, Takes, TakesLine, TakesEnd, TakesPiece, EndsBoot}
 use Rattle.mcs_book.specs.History.{Book}
 use Rattle.mcs_sim.proofs.GoingBooks.{longer-refl, with_line-longer, fed-longer, ended-longer}
-use Rattle.mcs_sim.proofs.PhaseLaws.{comes-fault}
+use Rattle.mcs_phases.proofs.PhaseLaws.{comes-fault}
 use Rattle.mcs_sim.proofs.GoingLaws.{fed-append, fed-stopped, fed-line, with_kept, fed-kept}
 
 -- a replay that a fault ended takes nothing

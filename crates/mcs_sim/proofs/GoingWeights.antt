@@ -3,9 +3,9 @@ use Rattle.std.proofs.Common.{◌≡◌, ℕ, ◌+◌, ◌*◌, ◌≤◌, Bool,
 use Rattle.std.proofs.lemmas.Bool.{ltb-false}
 use Rattle.std.proofs.lemmas.List.{length-append}
 use Rattle.mcs_text.specs.declared.fault.LineFault.TheVariants as why
-use Rattle.mcs_sim.specs.declared.fault.SimFault.{SimFault}
-use Rattle.mcs_sim.specs.declared.fault.SimFault.TheVariants as fault
-use Rattle.mcs_sim.specs.Going.{BootOrBook, Course, Going, after_line, refused_for, past_line, with_line, at_line, with_part, with_next, fed}
+use Rattle.mcs_phases.specs.declared.fault.SimFault.{SimFault}
+use Rattle.mcs_phases.specs.declared.fault.SimFault.TheVariants as fault
+use Rattle.mcs_phases.specs.Going.{BootOrBook, Course, Going, after_line, refused_for, past_line, with_line, at_line, with_part, with_next, fed}
 use Rattle.mcs_sim.proofs.GoingLaws.{fed-stopped, fed-next, refused-line, many-says}
 
 -- how far a replay has come

@@ -3,7 +3,7 @@ use Rattle.std.proofs.Common.{◌≡◌, ℕ, ◌+◌, ◌≤◌, Bool, true, fa
 use Rattle.std.proofs.lemmas.Bool.{ltb-false}
 use Rattle.mcs_text.specs.declared.fault.LineFault.TheVariants.{LongLine, ManyLines}
 use Rattle.mcs_text.specs.Reading.{onto_first, lines_of}
-use Rattle.mcs_sim.specs.Script.{Grammar, Script, read_line}
+use Rattle.mcs_phases.specs.Script.{Grammar, Script, read_line}
 
 pub lines-byte : (b : ℕ) (bs : List ℕ) (t : Bool) → eqb b 10 ≡ t → lines_of (b ∷ bs) ≡ (if t then [] ∷ lines_of bs else onto_first b (lines_of bs))
 lines-byte b bs t e = ap (λ (t : Bool). if t then [] ∷ lines_of bs else onto_first b (lines_of bs)) e

@@ -10,7 +10,6 @@ pub mod GoingBooks
 pub mod GoingRuns
 pub mod GoingTakes
 pub mod GoingLines
-pub mod PhaseLaws
 pub mod GoingWeights
 pub mod SimulateLaws
 pub mod TraceLaws

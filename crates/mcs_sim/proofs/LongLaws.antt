@@ -6,7 +6,7 @@ use Rattle.mcs_text.specs.declared.fault.LineFault.{LineFault}
 use Rattle.mcs_text.specs.declared.fault.LineFault.TheVariants.{LongLine, ManyLines}
 use Rattle.mcs_text.specs.Reading.{onto_first, lines_of}
 use Rattle.mcs_sim.specs.Input.{IsTooLong}
-use Rattle.mcs_sim.specs.Script.{Grammar, Script, no_script, read_line, script_from, script_of}
+use Rattle.mcs_phases.specs.Script.{Grammar, Script, no_script, read_line, script_from, script_of}
 use Rattle.mcs_sim.proofs.InputLaws.{lines-byte, total, length-total, within}
 use Rattle.mcs_sim.proofs.ScriptLaws.{script_from-ok, script_from-err}
 

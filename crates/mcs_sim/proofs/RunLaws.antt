@@ -3,7 +3,7 @@ use Rattle.std.proofs.Common.{ℕ, Option, Some, None, Result, Ok, Err, IfOk, If
 use Rattle.std.specs.Prelude.{IsErrAnd}
 use Rattle.std.specs.Io.KnownBytes.{Appends, Consumes}
 use Rattle.std.proofs.KnownBytes.{Consumes-trans}
-use Rattle.mcs_sim.specs.declared.fault.SimFault.{SimFault}
+use Rattle.mcs_phases.specs.declared.fault.SimFault.{SimFault}
 use Rattle.mcs_sim.specs.Runs.{Begins}
 
 -- a writer that took nothing

@@ -1,7 +1,7 @@
 -- A line after another.
 use Rattle.std.proofs.Common.{◌≡◌, ℕ, ◌+◌, Some, Result, Ok, Err, List, ◌∷◌, ap}
 use Rattle.mcs_text.specs.declared.fault.LineFault.{LineFault}
-use Rattle.mcs_sim.specs.Script.{Grammar, Script, read_line, script_from}
+use Rattle.mcs_phases.specs.Script.{Grammar, Script, read_line, script_from}
 
 pub script_from-ok : {T : Type 0} (grammar : Grammar T) (s t : Script T) (n : ℕ) (line : List ℕ) (lines : List (List ℕ)) → read_line grammar s n line ≡ Ok t → script_from grammar s n (line ∷ lines) ≡ script_from grammar t (n + 1) lines
 unfolding script_from

@@ -5,12 +5,12 @@ use Rattle.mcs_book.specs.History.{Book}
 use Rattle.mcs_trace.specs.declared.sink.Sink.{Sink}
 use Rattle.mcs_trace.specs.Output.{Moves, Puts, kept}
 use Rattle.mcs_trace.proofs.Outputs.{Puts-then, Puts-text}
-use Rattle.mcs_sim.specs.declared.fault.SimFault.{SimFault}
-use Rattle.mcs_sim.specs.declared.fault.SimFault.TheVariants as fault
+use Rattle.mcs_phases.specs.declared.fault.SimFault.{SimFault}
+use Rattle.mcs_phases.specs.declared.fault.SimFault.TheVariants as fault
 use Rattle.mcs_sim.specs.declared.writing.Told.{Told}
 use Rattle.mcs_sim.specs.Trace.{IsLonger, IsToldBy, trace_of, untold_of}
 use Rattle.mcs_sim.specs.Runs.{Ends, TellsMore, WritesMore, HasFailed, answer_with}
-use Rattle.mcs_sim.specs.Going.{Going, at_line, no_line, fed, IsFairBook, TakesPiece}
+use Rattle.mcs_phases.specs.Going.{Going, at_line, no_line, fed, IsFairBook, TakesPiece}
 use Rattle.mcs_sim.proofs.GoingLaws.{fed-append}
 use Rattle.mcs_sim.proofs.GoingRuns.{ends-by, ends-write, fault-of-piece}
 use Rattle.mcs_sim.proofs.GoingBooks.{told-more}

@@ -8,8 +8,8 @@ use Rattle.mcs_text.specs.RightsReading.{rights_of, rights_at}
 use Rattle.mcs_text.specs.BootLines.{cap_kind, badged, guarded, cap_at, runs_at, context_at, only_number, thread_at, slot_at, bare_line, raw_line}
 use Rattle.mcs_book.specs.Checks.{◌>>◌, need}
 use Rattle.mcs_book.specs.Boots.{boot_log, boot_check}
-use Rattle.mcs_sim.specs.BootLines.{cores_of, cap_of, fitted, with_line}
-use Rattle.mcs_sim.specs.Script.{first_boot, next_boot, next_items, later_line, by_boot, spelled, read_line, script_from, script_of, steps}
+use Rattle.mcs_phases.specs.BootLines.{cores_of, cap_of, fitted, with_line}
+use Rattle.mcs_phases.specs.Script.{first_boot, next_boot, next_items, later_line, by_boot, spelled, read_line, script_from, script_of, steps}
 
 computing : Unit {0}
 unfolding number number_at name name_at end_at below made sent_at replied_at pair_at address_at place_at place_of copy_at mint_at move_at kept_after content entry_at step_of rights_of rights_at cap_kind badged guarded cap_at runs_at context_at only_number thread_at slot_at bare_line raw_line boot_key entry_key cores_of cap_of fitted with_line first_boot next_boot next_items later_line by_boot spelled read_line script_from script_of boot_log boot_check need ◌>>◌

@@ -1,11 +1,7 @@
-pub mod Faults
+pub mod Startup
 pub mod Trace
-pub mod BootLines
-pub mod Script
 pub mod Input
 pub mod Runs
-pub mod Going
-pub mod Phases
 pub mod Users
 pub mod Running
 pub mod Outcomes

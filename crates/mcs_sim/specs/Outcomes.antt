@@ -4,10 +4,10 @@ use Rattle.mcs_types.specs.declared.entry.Step.{Step}
 use Rattle.mcs_book.specs.Boots.{Boot}
 use Rattle.mcs_book.specs.History.{book_of}
 use Rattle.mcs_text.specs.declared.fault.LineFault.{LineFault}
-use Rattle.mcs_sim.specs.declared.fault.SimFault.TheVariants as fault
-use Rattle.mcs_sim.specs.Script.{Script}
+use Rattle.mcs_phases.specs.declared.fault.SimFault.TheVariants as fault
+use Rattle.mcs_phases.specs.Script.{Script}
 use Rattle.mcs_sim.specs.Runs.{IsFullAt, IsRoomy}
-use Rattle.mcs_sim.specs.Going.{BootOrBook, Course, not_begun}
+use Rattle.mcs_phases.specs.Going.{BootOrBook, Course, not_begun}
 
 -- what stands after the lines of a script
 abbrev pub boot_or_book_of : Option Boot → List Step → BootOrBook

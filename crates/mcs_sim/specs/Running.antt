@@ -11,10 +11,10 @@ use Rattle.mcs_cores.specs.declared.run.RunFault.{RunFault}
 use Rattle.mcs_cores.specs.declared.run.RunFault.TheVariants as run
 use Rattle.mcs_seats.specs.declared.settle.FinishFault.{FinishFault}
 use Rattle.mcs_seats.specs.declared.settle.FinishFault.TheVariants as finish
-use Rattle.mcs_sim.specs.declared.fault.SimFault.{SimFault}
-use Rattle.mcs_sim.specs.declared.fault.SimFault.TheVariants as fault
+use Rattle.mcs_phases.specs.declared.fault.SimFault.{SimFault}
+use Rattle.mcs_phases.specs.declared.fault.SimFault.TheVariants as fault
 use Rattle.mcs_source.specs.declared.source.Source.{Source}
-use Rattle.mcs_sim.specs.Script.{users}
+use Rattle.mcs_phases.specs.Script.{users}
 use Rattle.mcs_sim.specs.Users.{UsersStopSoon}
 use Rattle.mcs_sim.specs.Trace.{trace}
 use Rattle.mcs_sim.specs.Runs.{Begins}

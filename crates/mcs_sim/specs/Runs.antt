@@ -9,11 +9,11 @@ use Rattle.mcs_kernel.specs.Runs.{full_after}
 use Rattle.mcs_text.specs.declared.fault.LineFault.{LineFault}
 use Rattle.mcs_trace.specs.Output.{Moves, Puts, Rose, kept}
 use Rattle.mcs_trace.specs.declared.sink.Sink.{Sink}
-use Rattle.mcs_sim.specs.declared.fault.SimFault.{SimFault}
-use Rattle.mcs_sim.specs.declared.fault.SimFault.TheVariants as fault
+use Rattle.mcs_phases.specs.declared.fault.SimFault.{SimFault}
+use Rattle.mcs_phases.specs.declared.fault.SimFault.TheVariants as fault
 use Rattle.mcs_sim.specs.Trace.{trace, trace_of}
-use Rattle.mcs_sim.specs.Script.{Script, steps}
-use Rattle.mcs_sim.specs.Going.{fed, at_line, no_line, answer_of}
+use Rattle.mcs_phases.specs.Script.{Script, steps}
+use Rattle.mcs_phases.specs.Going.{fed, at_line, no_line, answer_of}
 use Rattle.mcs_source.specs.declared.source.Source.{Source}
 
 -- the trace of the book that the steps make after a boot

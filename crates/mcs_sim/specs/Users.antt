@@ -4,11 +4,11 @@ use Rattle.mcs_types.specs.declared.limits.TheConstants.{SCRIPT_LINES, SCRIPT_LI
 use Rattle.mcs_text.specs.declared.fault.LineFault.{LineFault}
 use Rattle.mcs_text.specs.declared.steps.UserEntry.{UserEntry}
 use Rattle.mcs_text.specs.Reading.{lines_of}
-use Rattle.mcs_sim.specs.declared.fault.SimFault.{SimFault}
+use Rattle.mcs_phases.specs.declared.fault.SimFault.{SimFault}
 use Rattle.mcs_source.specs.declared.source.TheConstants.{PIECE}
-use Rattle.mcs_sim.specs.declared.fault.SimFault.TheVariants as fault
-use Rattle.mcs_sim.specs.Script.{Script, no_script, of_users, script_from, users}
-use Rattle.mcs_sim.specs.Going.{HasNoNewline}
+use Rattle.mcs_phases.specs.declared.fault.SimFault.TheVariants as fault
+use Rattle.mcs_phases.specs.Script.{Script, no_script, of_users, script_from, users}
+use Rattle.mcs_phases.specs.Going.{HasNoNewline}
 
 -- what the lines that have ended said, where so many cores may be asked for, how many they are, and the bytes of the line that has not ended
 pub record Users : Type 0 where

@@ -1,11 +1,10 @@
 //! A replay that is fed its script piece by piece.
 ghost use Rattle.std.specs.Prelude.{◌≡◌, ◌∷◌, [], ◌++◌, true, false, IfOk, Err, None, option_copied};
-ghost use Rattle.mcs_sim.specs.Going.{Takes, TakesLine, TakesEnd, TakesPiece, EndsBoot, HasNoNewline, answer_of, no_line, at_line, ended_by, refused_for, book_lent, IsFairBook};
+ghost use Rattle.mcs_phases.specs.Going.{Takes, TakesLine, TakesEnd, TakesPiece, EndsBoot, HasNoNewline, answer_of, no_line, at_line, ended_by, refused_for, book_lent, IsFairBook};
 
-use crate::fault::SimFault;
-use crate::phase::Phase;
 use mcs_book::Book;
 use mcs_kernel::Kernel;
+use mcs_phases::{Phase, SimFault};
 use mcs_queues::LinkedLines;
 use mcs_text::LineFault;
 use mcs_types::{OutOfMemory, SCRIPT_LINE_BYTES, SCRIPT_LINES};
@@ -26,8 +25,8 @@ pub struct ReplayRun {
 
 impl Model for ReplayRun {
     ghost use Rattle.std.specs.Prelude.{◌≤◌, length};
-    ghost use Rattle.mcs_sim.specs.Going.{Going, going_of, line_count_limit, line_length_limit};
-    ghost use Rattle.mcs_sim.specs.Phases.{seen, HasNoItems};
+    ghost use Rattle.mcs_phases.specs.Going.{Going, going_of, line_count_limit, line_length_limit};
+    ghost use Rattle.mcs_phases.specs.Phases.{seen, HasNoItems};
 
     ghost Value = { Going };
 
@@ -127,7 +126,7 @@ impl ReplayRun {
     }
 
     /// Takes a line of which nothing was kept.
-    #[tactic(auto, unfolding(crate::specs::Going::with_line))]
+    #[tactic(auto, unfolding(mcs_phases::specs::Going::with_line))]
     pub(crate) fn take_line(&mut self, alloc: Global, line: &[u8]) -> Result<(), SimFault>
         requires goes { self.old.course.fault ≡ None }
         requires begins { self.old.line ≡ [] }
@@ -174,7 +173,7 @@ impl ReplayRun {
     }
 
     /// Ends the boot at the end of the input, where no step did.
-    #[tactic(auto, unfolding(crate::specs::Going::boot_ended))]
+    #[tactic(auto, unfolding(mcs_phases::specs::Going::boot_ended))]
     fn end_boot(&mut self, alloc: Global) -> Result<(), SimFault>
         requires goes { self.old.course.fault ≡ None }
         requires begins { self.old.line ≡ [] }

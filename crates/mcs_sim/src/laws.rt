@@ -4,8 +4,8 @@ ghost use Rattle.mcs_types.specs.declared.entry.Step.{Step};
 ghost use Rattle.mcs_book.specs.Boots.{Boot, IsFaultless};
 ghost use Rattle.mcs_book.specs.History.{AllInRange, IsLegal, book_of};
 ghost use Rattle.mcs_sim.specs.Input.{IsTooLong};
-ghost use Rattle.mcs_sim.specs.Script.{steps, users};
-ghost use Rattle.mcs_sim.specs.Going.{Going, at_line, ended, fed, no_line};
+ghost use Rattle.mcs_phases.specs.Script.{steps, users};
+ghost use Rattle.mcs_phases.specs.Going.{Going, at_line, ended, fed, no_line};
 ghost use Rattle.mcs_sim.specs.Outcomes.{ComesOfScript};
 
 /// The book that steps make after a boot is legal, where nothing is wrong with the boot and the numbers of each step are in

@@ -5,30 +5,26 @@
 //!                             +-> UserLines -> lines -> Script -> Users -> Machine --+
 //! ```
 //!
-//! The upper way is `simulate`: `feeding` cuts pieces into lines and keeps the first fault, `phase` takes a line (the boot so
+//! The upper way is `simulate`: `feeding` cuts pieces into lines and keeps the first fault, `Phase` takes a line (the boot so
 //! far, or from its end on the run of the steps), and `replaying` writes what each piece adds to the trace before it reads on.
 //! The lower way is `run_text`: `users` reads to the end, and `running` runs what all users said on a machine and writes then.
-//! `source` tries a read again that is interrupted, `script` says what a line says, and `writing` writes the trace of a book,
-//! or what of it was not told. `fault` and `startup` tell how the program ends. `laws` has what holds of all texts, however
-//! they are cut.
+//! `Source` tries a read again that is interrupted, `Script` says what a line says, and `writing` writes the trace of a book,
+//! or what of it was not told. `startup` tells how the program ends. `laws` has what holds of all texts, however they are cut.
 #![tactic(auto)]
 
-mod fault;
 mod feeding;
 mod laws;
-mod phase;
 mod replaying;
 mod running;
-mod script;
 mod startup;
 mod users;
 mod writing;
 
-pub use fault::SimFault;
 pub use feeding::ReplayRun;
 pub use laws::{fed_as_read, fed_in_pieces, replayed_legal, too_long_stands};
 pub use mcs_cores::{Gate, Open};
 pub use mcs_options::{Options, options};
+pub use mcs_phases::SimFault;
 pub use mcs_source::{ReadFault, Source};
 pub use mcs_trace::Sink;
 pub use replaying::{TracedRun, simulate};

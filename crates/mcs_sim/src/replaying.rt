@@ -2,12 +2,12 @@
 ghost use Rattle.std.specs.Prelude.{◌≡◌, ◌⊎◌, ◌<◌, ◌≤◌, ◌∷◌, [], ◌++◌, IfOk, IfErr, OnOk, Err, None};
 ghost use Rattle.mcs_trace.specs.Output.{Rose, Puts, kept};
 ghost use Rattle.mcs_sim.specs.Trace.{IsToldBy, IsToldUpTo, IsReadOfAny, untold_of};
-ghost use Rattle.mcs_sim.specs.Going.{Takes, TakesPiece, HasNoNewline, answer_of, IsFairBook, no_line, at_line};
+ghost use Rattle.mcs_phases.specs.Going.{Takes, TakesPiece, HasNoNewline, answer_of, IsFairBook, no_line, at_line};
 ghost use Rattle.mcs_sim.specs.Runs.{Finished, EndedBy, TellsMore, WritesMore, HasFailed, answer_with};
 
-use crate::fault::SimFault;
 use crate::feeding::ReplayRun;
 use crate::writing::{Told, put_read, put_untold};
+use mcs_phases::SimFault;
 use mcs_source::{PIECE, Source};
 use mcs_trace::Sink;
 use mcs_types::OutOfMemory;
@@ -51,7 +51,7 @@ pub struct TracedRun {
 
 impl Model for TracedRun {
     ghost use Rattle.mcs_sim.specs.Trace.{IsToldBy};
-    ghost use Rattle.mcs_sim.specs.Going.{Going};
+    ghost use Rattle.mcs_phases.specs.Going.{Going};
 
     ghost Value = { Going };
 

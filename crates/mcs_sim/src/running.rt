@@ -5,11 +5,11 @@ ghost use Rattle.mcs_book.specs.Fair.{IsFair};
 ghost use Rattle.mcs_trace.specs.Output.{Rose};
 ghost use Rattle.mcs_sim.specs.Running.{Reads, EndsUsers, IsOfMachine, IsBookOf, RunFinished, RunEndedBy, run_fault, finish_fault};
 
-use crate::fault::SimFault;
 use crate::users::UserLines;
 use crate::writing::trace;
 use mcs_cores::{FinishFault, Gate, Machine, RunFault, Settled, Users};
 use mcs_kernel::{Boot, Kernel};
+use mcs_phases::SimFault;
 use mcs_queues::LinkedLines;
 use mcs_source::{PIECE, Source};
 use mcs_text::UserEntry;

@@ -2,11 +2,11 @@
 ghost use Rattle.std.specs.Prelude.{◌≡◌, IfErr};
 ghost use Rattle.clap.specs.Words.{kind_of};
 ghost use Rattle.std.specs.IoError.{error_kind};
-ghost use Rattle.mcs_sim.specs.Faults.{IsOfArguments, answer_status, reading_fault};
+ghost use Rattle.mcs_sim.specs.Startup.{IsOfArguments, answer_status, reading_fault};
 
-use crate::fault::SimFault;
 use clap::Error;
 use clap::error::ErrorKind;
+use mcs_phases::SimFault;
 use std::alloc::AllocGlobal;
 use std::env::{self, Env};
 use std::io;

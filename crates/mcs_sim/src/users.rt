@@ -1,12 +1,11 @@
 //! The lists of users, from text that comes in pieces.
 ghost use Rattle.std.specs.Prelude.{◌≡◌, ◌≤◌, ◌∷◌, [], ◌++◌, IfOk, IfErr, OnOk, Ok, Some, None};
-ghost use Rattle.mcs_sim.specs.Going.{HasNoNewline};
-ghost use Rattle.mcs_sim.specs.Script.{of_users, read_line};
+ghost use Rattle.mcs_phases.specs.Going.{HasNoNewline};
+ghost use Rattle.mcs_phases.specs.Script.{of_users, read_line};
 ghost use Rattle.mcs_sim.specs.Users.{TakesUsers, IsFaultIn, IsFaultOfLine, IsFaultAtEnd, IsKept, no_users, read_to_end};
 
-use crate::fault::SimFault;
-use crate::script::{Script, ScriptFault};
 use mcs_kernel::Boot;
+use mcs_phases::{Script, ScriptFault, SimFault};
 use mcs_text::{LineFault, UserEntry};
 use mcs_types::{OutOfMemory, SCRIPT_LINE_BYTES, SCRIPT_LINES};
 use memchr::memchr;

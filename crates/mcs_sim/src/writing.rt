@@ -5,9 +5,9 @@ ghost use Rattle.mcs_trace.specs.Output.{Puts, Rose};
 ghost use Rattle.mcs_sim.specs.Trace.{sent_with, sent_after, sent_in, boot_lines_trace, records_trace, line_trace, lines_trace, trace, untold_lines, untold_boot, untold, all_told, told_of, IsToldOf, IsReadOf};
 ghost use Rattle.mcs_sim.specs.Runs.{Writes, WritesPart};
 
-use crate::fault::SimFault;
 use mcs_book::{Book, Line};
 use mcs_packing::KeptRecord;
+use mcs_phases::SimFault;
 use mcs_trace::{
     LINE, ReadStep, Sink, put_boot_line, put_cores, put_kept_answer, put_kept_step,
     put_read_record, put_spelled,

@@ -1,6 +1,6 @@
 use Rattle.std.proofs.Common.{ap, sym, subst, ◌∙◌}
 use Rattle.mcs_book.specs.History.{Book, log_of}
-use Rattle.mcs_sim.specs.Going.{book_lent}
+use Rattle.mcs_phases.specs.Going.{book_lent}
 use Rattle.mcs_readback.specs.Leading.{AllLead}
 use Rattle.mcs_readback.specs.Reading.{IsScriptOf}
 use Rattle.mcs_readback.proofs.Boots.{plans_boot}

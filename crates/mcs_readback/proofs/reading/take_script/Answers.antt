@@ -1,5 +1,5 @@
 use Rattle.std.proofs.Common.{sym, subst, ◌∙◌}
-use Rattle.mcs_sim.specs.Going.{Going, Takes}
+use Rattle.mcs_phases.specs.Going.{Going, Takes}
 use Rattle.mcs_readback.proofs.Taken.{taken}
 use Rattle.mcs_readback.proofs.reading.take_script.Goals as goal
 

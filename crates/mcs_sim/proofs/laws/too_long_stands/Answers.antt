@@ -1,4 +1,4 @@
-use Rattle.mcs_sim.specs.Script.{of_steps, of_users}
+use Rattle.mcs_phases.specs.Script.{of_steps, of_users}
 use Rattle.mcs_sim.proofs.LongLaws.{long-stands}
 use Rattle.mcs_sim.proofs.laws.too_long_stands.Goals as goal
 

@@ -1,7 +1,7 @@
 use Rattle.std.proofs.Common.{Option, ap, sym, subst, ◌∙◌}
 use Rattle.mcs_book.specs.History.{Book}
 use Rattle.mcs_sim.specs.Trace.{IsToldUpTo}
-use Rattle.mcs_sim.specs.Going.{book_lent}
+use Rattle.mcs_phases.specs.Going.{book_lent}
 use Rattle.mcs_sim.proofs.GoingBooks.{told-of}
 use Rattle.mcs_sim.proofs.replaying.put_more.Goals as goal
 

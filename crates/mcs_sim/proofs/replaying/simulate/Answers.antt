@@ -4,11 +4,11 @@ use Rattle.std.proofs.KnownBytes.{Consumes-trans}
 use Rattle.std.proofs.lemmas.List.{length-take-le}
 use Rattle.mcs_trace.specs.Output.{Rose}
 use Rattle.mcs_trace.proofs.Outputs.{Puts-nil, Puts-text}
-use Rattle.mcs_sim.specs.declared.fault.SimFault.{SimFault}
-use Rattle.mcs_sim.specs.declared.fault.SimFault.TheVariants as fault
+use Rattle.mcs_phases.specs.declared.fault.SimFault.{SimFault}
+use Rattle.mcs_phases.specs.declared.fault.SimFault.TheVariants as fault
 use Rattle.mcs_sim.specs.Trace.{trace_of}
 use Rattle.mcs_sim.specs.Runs.{Ends}
-use Rattle.mcs_sim.specs.Going.{Going, fed, TakesPiece}
+use Rattle.mcs_phases.specs.Going.{Going, fed, TakesPiece}
 use Rattle.mcs_sim.proofs.RunLaws.{IfErr-same, Consumes-nil, no-more}
 use Rattle.mcs_sim.proofs.GoingRuns.{ends-early, ends-read, ends-well}
 use Rattle.mcs_sim.proofs.SimulateLaws.{tells-on, moves-out, appends-out, answer-well, piece-on, piece-nearer, ends-piece, never-read, only-broken}

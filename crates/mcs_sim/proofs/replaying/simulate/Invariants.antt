@@ -2,7 +2,7 @@ use Rattle.std.proofs.Common.{◌≡◌, ◌+◌, ◌-◌, ◌*◌, ◌≤◌, �
 use Rattle.std.specs.Io.KnownBytes.{Consumes}
 use Rattle.mcs_trace.specs.Output.{Puts, kept}
 use Rattle.mcs_sim.specs.Trace.{trace_of}
-use Rattle.mcs_sim.specs.Going.{at_line, no_line, fed}
+use Rattle.mcs_phases.specs.Going.{at_line, no_line, fed}
 use Rattle.mcs_sim.proofs.replaying.simulate.Given as goal
 
 abbrev pub invariant-loop-n : goal.invariant-loop-n

@@ -1,6 +1,6 @@
 use Rattle.std.proofs.Common.{List, ℕ, length, eqb, ap, sym, ◌∙◌}
-use Rattle.mcs_sim.specs.Going.{Going}
-use Rattle.mcs_sim.specs.Phases.{seen}
+use Rattle.mcs_phases.specs.Going.{Going}
+use Rattle.mcs_phases.specs.Phases.{seen}
 use Rattle.mcs_sim.proofs.GoingTakes.{is-going, empty-is, answer-err, answer-ok, end-stopped, end-line, end-boot, end-both}
 use Rattle.mcs_sim.proofs.feeding.ReplayRun.end.Goals as goal
 

@@ -1,5 +1,5 @@
 use Rattle.std.proofs.Common.{ℕ, [], ◌∷◌, eqb, ap, sym, ◌∙◌}
-use Rattle.mcs_sim.specs.Phases.{seen}
+use Rattle.mcs_phases.specs.Phases.{seen}
 use Rattle.mcs_sim.proofs.GoingTakes.{is-going, empty-is, takes-append, takes-stopped, answer-err, answer-ok, line-whole, line-kept}
 use Rattle.mcs_sim.proofs.feeding.ReplayRun.end_line.Goals as goal
 

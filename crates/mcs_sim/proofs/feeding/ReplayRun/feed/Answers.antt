@@ -1,6 +1,6 @@
 use Rattle.std.proofs.Common.{List, ℕ, ◌+◌, [], ◌∷◌, ◌++◌, inl, refl, ap, sym, ◌∙◌, take, drop, append_assoc}
 use Rattle.std.proofs.lemmas.List.{take_rest}
-use Rattle.mcs_sim.specs.Going.{Going, fed}
+use Rattle.mcs_phases.specs.Going.{Going, fed}
 use Rattle.mcs_sim.proofs.GoingTakes.{takes-append, takes-split, takes-stopped, answer-err, answer-ok, line-cut}
 use Rattle.mcs_sim.proofs.feeding.ReplayRun.feed.Goals as goal
 

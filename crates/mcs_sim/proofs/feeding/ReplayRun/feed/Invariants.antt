@@ -1,5 +1,5 @@
 use Rattle.std.proofs.Common.{◌≡◌, List, ℕ, ◌++◌, None, length}
-use Rattle.mcs_sim.specs.Going.{Takes}
+use Rattle.mcs_phases.specs.Going.{Takes}
 use Rattle.mcs_sim.proofs.feeding.ReplayRun.feed.Given as goal
 
 abbrev pub invariant-loop-i : goal.invariant-loop-i

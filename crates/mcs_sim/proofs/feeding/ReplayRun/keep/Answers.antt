@@ -1,7 +1,7 @@
 use Rattle.std.proofs.Common.{List, ℕ, length, ap, sym, ◌∙◌, arith}
-use Rattle.mcs_sim.specs.declared.fault.SimFault.TheVariants as fault
-use Rattle.mcs_sim.specs.Going.{Going, at_line, ended_by, going_of}
-use Rattle.mcs_sim.specs.Phases.{seen}
+use Rattle.mcs_phases.specs.declared.fault.SimFault.TheVariants as fault
+use Rattle.mcs_phases.specs.Going.{Going, at_line, ended_by, going_of}
+use Rattle.mcs_phases.specs.Phases.{seen}
 use Rattle.mcs_sim.proofs.GoingTakes.{is-going, going-kept, takes-none, keep-many, keep-long, keep-fits, keep-memory}
 use Rattle.mcs_sim.proofs.feeding.ReplayRun.keep.Goals as goal
 

@@ -1,5 +1,5 @@
 use Rattle.std.proofs.Common.{[], ◌∷◌, ◌++◌, ap, subst, ◌∙◌}
-use Rattle.mcs_sim.specs.Going.{Going, Takes}
+use Rattle.mcs_phases.specs.Going.{Going, Takes}
 use Rattle.mcs_sim.proofs.GoingTakes.{takes-longer, line-whole}
 use Rattle.mcs_sim.proofs.GoingLines.{line-read}
 use Rattle.mcs_sim.proofs.SimulateLaws.{tells-longer}

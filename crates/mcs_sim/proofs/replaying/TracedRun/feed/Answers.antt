@@ -1,6 +1,6 @@
 use Rattle.std.proofs.Common.{List, ℕ, ◌+◌, [], ◌∷◌, ◌++◌, inl, refl, ap, sym, subst, ◌∙◌, take, drop, append_assoc}
 use Rattle.std.proofs.lemmas.List.{take_rest}
-use Rattle.mcs_sim.specs.Going.{Going, fed, Takes}
+use Rattle.mcs_phases.specs.Going.{Going, fed, Takes}
 use Rattle.mcs_sim.proofs.GoingTakes.{takes-append, takes-split, takes-stopped, takes-longer, answer-err, answer-ok, line-cut}
 use Rattle.mcs_sim.proofs.SimulateLaws.{tells-none, tells-then, tells-longer}
 use Rattle.mcs_sim.proofs.replaying.TracedRun.feed.Goals as goal

@@ -1,5 +1,5 @@
 use Rattle.std.proofs.Common.{◌≡◌, List, ℕ, ◌++◌, None, length}
-use Rattle.mcs_sim.specs.Going.{Takes}
+use Rattle.mcs_phases.specs.Going.{Takes}
 use Rattle.mcs_sim.specs.Runs.{TellsMore}
 use Rattle.mcs_sim.proofs.replaying.TracedRun.feed.Given as goal
 

@@ -3,8 +3,8 @@ use Rattle.mcs_book.specs.Boots.{Boot}
 use Rattle.mcs_text.specs.declared.fault.LineFault.TheVariants as why
 use Rattle.mcs_text.specs.declared.fault.LineFault.{LineFault}
 use Rattle.mcs_text.specs.declared.steps.UserEntry.{UserEntry}
-use Rattle.mcs_sim.specs.declared.fault.SimFault.TheVariants as fault
-use Rattle.mcs_sim.specs.Script.{Script}
+use Rattle.mcs_phases.specs.declared.fault.SimFault.TheVariants as fault
+use Rattle.mcs_phases.specs.Script.{Script}
 use Rattle.mcs_sim.specs.Users.{Users, read_to_end, IsFaultAtEnd}
 use Rattle.mcs_sim.proofs.UserLaws.{users_of, end-said, end-unsaid}
 use Rattle.mcs_sim.proofs.users.UserLines.into_said.Goals as goal

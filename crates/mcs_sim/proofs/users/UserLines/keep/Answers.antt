@@ -1,6 +1,6 @@
 use Rattle.std.proofs.Common.{◌+◌, ◌∙◌, sym, subst, arith}
 use Rattle.mcs_text.specs.declared.fault.LineFault.TheVariants as why
-use Rattle.mcs_sim.specs.declared.fault.SimFault.TheVariants as fault
+use Rattle.mcs_phases.specs.declared.fault.SimFault.TheVariants as fault
 use Rattle.mcs_sim.specs.Users.{Users, IsKept, TakesUsers, IsFaultIn}
 use Rattle.mcs_sim.proofs.UserLaws.{users_of, takes-none, takes-part, fault-many, fault-long}
 use Rattle.mcs_sim.proofs.users.UserLines.keep.Goals as goal

@@ -1,5 +1,5 @@
 use Rattle.std.proofs.Common.{List, ℕ, ◌+◌, ◌≡◌, Ok, [], ◌∷◌, sym, subst, append-nil}
-use Rattle.mcs_sim.specs.Script.{of_users, read_line}
+use Rattle.mcs_phases.specs.Script.{of_users, read_line}
 use Rattle.mcs_sim.specs.Users.{Users, TakesUsers, IsFaultIn, IsFaultOfLine}
 use Rattle.mcs_sim.proofs.RunLaws.{IfErr-same}
 use Rattle.mcs_sim.proofs.UserLaws.{users_of, takes-line, fault-line}

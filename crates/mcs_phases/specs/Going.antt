@@ -12,11 +12,11 @@ use Rattle.mcs_text.specs.declared.fault.LineFault.TheVariants as why
 use Rattle.mcs_text.specs.declared.key.Key.{Key}
 use Rattle.mcs_text.specs.Keys.{boot_key}
 use Rattle.mcs_text.specs.Reading.{◌>>=◌, words_of, step_of}
-use Rattle.mcs_sim.specs.declared.fault.SimFault.{SimFault}
-use Rattle.mcs_sim.specs.declared.fault.SimFault.TheVariants as fault
+use Rattle.mcs_phases.specs.declared.fault.SimFault.{SimFault}
+use Rattle.mcs_phases.specs.declared.fault.SimFault.TheVariants as fault
 use denote.Ref.{Bor}
 use Rattle.mcs_book.specs.Pages.{Written}
-use Rattle.mcs_sim.specs.Script.{Script, of_steps, threads_of, says_something, read_line}
+use Rattle.mcs_phases.specs.Script.{Script, of_steps, threads_of, says_something, read_line}
 
 -- how many lines a script may have, and how many bytes a line
 abbrev pub line_count_limit : ℕ

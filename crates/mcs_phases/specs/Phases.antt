@@ -2,13 +2,13 @@
 use Rattle.std.specs.Prelude.{ℕ, ◌≡◌, Option, Some, None, Result, Ok, Err, []}
 use Rattle.mcs_book.specs.Boots.{Boot}
 use Rattle.mcs_book.specs.History.{Book}
-use Rattle.mcs_sim.specs.Going.{BootOrBook}
-use Rattle.mcs_sim.specs.declared.fault.SimFault.{SimFault}
-use Rattle.mcs_sim.specs.declared.fault.SimFault.TheVariants as fault
-use Rattle.mcs_sim.specs.declared.phase.Outcome.{Outcome}
-use Rattle.mcs_sim.specs.declared.phase.Outcome.TheVariants as outcome
-use Rattle.mcs_sim.specs.declared.phase.Phase.{Phase}
-use Rattle.mcs_sim.specs.declared.phase.Phase.TheVariants.{Booting, Running}
+use Rattle.mcs_phases.specs.Going.{BootOrBook}
+use Rattle.mcs_phases.specs.declared.fault.SimFault.{SimFault}
+use Rattle.mcs_phases.specs.declared.fault.SimFault.TheVariants as fault
+use Rattle.mcs_phases.specs.declared.phase.Outcome.{Outcome}
+use Rattle.mcs_phases.specs.declared.phase.Outcome.TheVariants as outcome
+use Rattle.mcs_phases.specs.declared.phase.Phase.{Phase}
+use Rattle.mcs_phases.specs.declared.phase.Phase.TheVariants.{Booting, Running}
 
 -- the boot so far, until a run has begun
 abbrev pub opened_to : Option Boot → Option Book → BootOrBook

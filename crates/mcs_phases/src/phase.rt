@@ -1,9 +1,9 @@
 //! How far a replay of a script has come: the boot so far, or the run of the steps behind it.
 ghost use Rattle.std.specs.Prelude.{ℕ, ◌≡◌, ◌≤◌, ◌∷◌, IfOk, OnOk, OnErr, IsSome, [], Err, None, option_copied, option_to_list};
 ghost use Rattle.mcs_text.specs.Reading.{Gives};
-ghost use Rattle.mcs_sim.specs.Script.{threads_of, read_line, of_steps};
-ghost use Rattle.mcs_sim.specs.Going.{ComesOf, not_begun, begun_by, said, stepped, step_line, book_after, read_at, opened, after_line, after_end};
-ghost use Rattle.mcs_sim.specs.Phases.{opened_to, seen, HasNoItems, answer_at};
+ghost use Rattle.mcs_phases.specs.Script.{threads_of, read_line, of_steps};
+ghost use Rattle.mcs_phases.specs.Going.{ComesOf, not_begun, begun_by, said, stepped, step_line, book_after, read_at, opened, after_line, after_end};
+ghost use Rattle.mcs_phases.specs.Phases.{opened_to, seen, HasNoItems, answer_at};
 
 use crate::fault::SimFault;
 use crate::script::{Script, ScriptFault, make_ready, says_something};
@@ -40,7 +40,7 @@ impl Drop for StepRun {
 impl Model for StepRun {
     ghost use Rattle.std.specs.Prelude.{◌≡◌};
     ghost use Rattle.mcs_book.specs.History.{Book};
-    ghost use Rattle.mcs_sim.specs.Script.{threads_of};
+    ghost use Rattle.mcs_phases.specs.Script.{threads_of};
 
     ghost Value = { Book };
 

@@ -1,9 +1,9 @@
 use Rattle.std.proofs.Common.{Some, None, ap, sym, subst, ◌∙◌}
-use Rattle.mcs_sim.specs.Going.{ComesOf, after_line}
-use Rattle.mcs_sim.specs.Phases.{opened_to, seen}
-use Rattle.mcs_sim.specs.declared.phase.Phase.{Phase}
-use Rattle.mcs_sim.proofs.PhaseLaws.{after-run, comes-stands}
-use Rattle.mcs_sim.proofs.phase.Phase.take_opening_line.Goals as goal
+use Rattle.mcs_phases.specs.Going.{ComesOf, after_line}
+use Rattle.mcs_phases.specs.Phases.{opened_to, seen}
+use Rattle.mcs_phases.specs.declared.phase.Phase.{Phase}
+use Rattle.mcs_phases.proofs.PhaseLaws.{after-run, comes-stands}
+use Rattle.mcs_phases.proofs.phase.Phase.take_opening_line.Goals as goal
 
 pub returns-in-Running-clause-takes : goal.returns-in-Running-clause-takes
 returns-in-Running-clause-takes c =

@@ -4,12 +4,12 @@ use Rattle.std.specs.Prelude.{option_to_list}
 use Rattle.mcs_types.specs.declared.entry.Step.{Step}
 use Rattle.mcs_book.specs.Boots.{Boot}
 use Rattle.mcs_book.specs.History.{Book}
-use Rattle.mcs_sim.specs.Script.{Script, of_steps, read_line}
-use Rattle.mcs_sim.specs.declared.fault.SimFault.{SimFault}
-use Rattle.mcs_sim.specs.declared.fault.SimFault.TheVariants as fault
-use Rattle.mcs_sim.specs.Going.{ComesOf, stands, read_at, after_boot_line, book_after, after_line}
-use Rattle.mcs_sim.specs.Phases.{opened_to}
-use Rattle.mcs_sim.proofs.GoingScripts.{IsOpening, IsFirstStep, read_line-opening}
+use Rattle.mcs_phases.specs.Script.{Script, of_steps, read_line}
+use Rattle.mcs_phases.specs.declared.fault.SimFault.{SimFault}
+use Rattle.mcs_phases.specs.declared.fault.SimFault.TheVariants as fault
+use Rattle.mcs_phases.specs.Going.{ComesOf, stands, read_at, after_boot_line, book_after, after_line}
+use Rattle.mcs_phases.specs.Phases.{opened_to}
+use Rattle.mcs_phases.proofs.Opening.{IsOpening, IsFirstStep, read_line-opening}
 
 -- a fault is passed on
 pub comes-err : {X Y V W : Type 0} (view : X → Y) (other : V → W) (e : SimFault) (out : Result Y SimFault) (f : Result Y SimFault → Result W SimFault) → ((e : SimFault) → f (Err e) ≡ Err e) → ComesOf view (Err e) out → ComesOf other (Err e) (f out)

@@ -25,7 +25,7 @@ pub enum SimFault {
 }
 
 impl SimFault {
-    ghost use Rattle.mcs_sim.specs.Faults.{fault_status};
+    ghost use Rattle.mcs_phases.specs.Faults.{fault_status};
 
     /// The exit status of the program, 1 to 7 (own).
     pub fn status(self) -> u8
@@ -45,7 +45,7 @@ impl SimFault {
 
 impl fmt::Display for SimFault {
     ghost use Rattle.std.specs.Prelude.{Some};
-    ghost use Rattle.mcs_sim.specs.Faults.{fault_text};
+    ghost use Rattle.mcs_phases.specs.Faults.{fault_text};
 
     ghost output = { λ fault. Some (fault_text fault) };
 

@@ -17,9 +17,9 @@ use Rattle.mcs_text.specs.Keys.{boot_key}
 use Rattle.mcs_text.specs.declared.steps.UserEntry.{UserEntry}
 use Rattle.mcs_text.specs.Reading.{◌>>=◌, lines_of, words_of, step_of, user_of}
 use Rattle.mcs_text.specs.BootLines.{raw_line}
-use Rattle.mcs_sim.specs.declared.script.ScriptFault.{ScriptFault}
-use Rattle.mcs_sim.specs.declared.script.ScriptFault.TheVariants as not_taken
-use Rattle.mcs_sim.specs.BootLines.{line_fault, cores_of, fitted, with_line}
+use Rattle.mcs_phases.specs.declared.script.ScriptFault.{ScriptFault}
+use Rattle.mcs_phases.specs.declared.script.ScriptFault.TheVariants as not_taken
+use Rattle.mcs_phases.specs.BootLines.{line_fault, cores_of, fitted, with_line}
 
 -- the fault of a boot that refuses a line
 abbrev pub script_fault_of : BootFault → ScriptFault

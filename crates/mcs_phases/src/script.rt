@@ -3,8 +3,8 @@ ghost use Rattle.std.specs.Prelude.{◌≡◌, ◌≤◌, ℕ, List, Result, Ok,
 ghost use Rattle.mcs_book.specs.Boots.{boot_log, is_object};
 ghost use Rattle.mcs_text.specs.Reading.{Gives, words_of, step_of, user_of};
 ghost use Rattle.mcs_text.specs.BootLines.{raw_line};
-ghost use Rattle.mcs_sim.specs.BootLines.{object_of, cores_of, cap_of, index_of, fitted, with_line};
-ghost use Rattle.mcs_sim.specs.Script.{Grammar, Reads, is_skipped, says_something, asked_cores, boot_in, first_boot, next_boot, next_items, later_line};
+ghost use Rattle.mcs_phases.specs.BootLines.{object_of, cores_of, cap_of, index_of, fitted, with_line};
+ghost use Rattle.mcs_phases.specs.Script.{Grammar, Reads, is_skipped, says_something, asked_cores, boot_in, first_boot, next_boot, next_items, later_line};
 
 use mcs_kernel::Boot;
 use mcs_text::{
@@ -86,7 +86,7 @@ pub fn make_ready(alloc: Global, room: &mut Option<Room>) -> Result<(), OutOfMem
 }
 
 impl<T> Model for Script<T> {
-    ghost use Rattle.mcs_sim.specs.Script.{Script};
+    ghost use Rattle.mcs_phases.specs.Script.{Script};
 
     ghost Value = { Script T };
 
@@ -102,7 +102,7 @@ pub enum ScriptFault {
 
 impl From<LineFault> for ScriptFault {
     ghost use Rattle.std.specs.Prelude.{◌≡◌};
-    ghost use Rattle.mcs_sim.specs.declared.script.ScriptFault.TheVariants.{Line};
+    ghost use Rattle.mcs_phases.specs.declared.script.ScriptFault.TheVariants.{Line};
 
     ghost from_gives = { λ fault e. e ≡ Line fault };
 
@@ -113,7 +113,7 @@ impl From<LineFault> for ScriptFault {
 
 impl From<BootFault> for ScriptFault {
     ghost use Rattle.std.specs.Prelude.{◌≡◌};
-    ghost use Rattle.mcs_sim.specs.Script.{script_fault_of};
+    ghost use Rattle.mcs_phases.specs.Script.{script_fault_of};
 
     ghost from_gives = { λ fault e. e ≡ script_fault_of fault };
 
@@ -353,7 +353,7 @@ fn read_later_line<T: Item>(
 }
 
 impl<T: Item> Script<T> {
-    ghost use Rattle.mcs_sim.specs.Script.{no_script, read_line, spelled};
+    ghost use Rattle.mcs_phases.specs.Script.{no_script, read_line, spelled};
 
     /// The script of no line.
     pub fn new(alloc: Global) -> Script<T>

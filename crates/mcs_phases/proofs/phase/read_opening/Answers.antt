@@ -1,9 +1,9 @@
 use Rattle.std.proofs.Common.{Ok, ℕ, ◌-◌, take, ap, sym, ◌∙◌}
-use Rattle.mcs_sim.specs.Script.{Script}
+use Rattle.mcs_phases.specs.Script.{Script}
 use Rattle.mcs_types.specs.declared.entry.Step.{Step}
-use Rattle.mcs_sim.specs.Going.{read_at}
-use Rattle.mcs_sim.proofs.PhaseLaws.{opened-one, opened-all}
-use Rattle.mcs_sim.proofs.phase.read_opening.Goals as goal
+use Rattle.mcs_phases.specs.Going.{read_at}
+use Rattle.mcs_phases.proofs.PhaseLaws.{opened-one, opened-all}
+use Rattle.mcs_phases.proofs.phase.read_opening.Goals as goal
 
 pub returns-in-Ok-clause-kept : goal.returns-in-Ok-clause-kept
 returns-in-Ok-clause-kept c =

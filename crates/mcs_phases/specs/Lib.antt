@@ -1,0 +1,5 @@
+pub mod Faults
+pub mod BootLines
+pub mod Script
+pub mod Going
+pub mod Phases
