@@ -13,7 +13,7 @@ use crate::rows::{put_object, put_queue, put_slots, put_stale, put_thread};
 use mcs_kernel::{Boot, Kernel};
 use mcs_queues::Lines;
 use mcs_turns::Pick;
-use mcs_types::{CoreId, Entry, Kind, ObjId};
+use mcs_types::{CoreId, Kind, ObjId};
 use mcs_walks::{OrdersFault, Users, Walk, picked};
 use std::alloc::Global;
 use std::marker::Model;
@@ -36,33 +36,6 @@ impl Model for Keys {
     ghost Value = { Known };
 
     ghost view = { λ k. record { met = k.met; is_exact = k.is_exact; numbered = k.numbered } };
-}
-
-/// Whether an entry may change slots.
-fn is_of_slots(entry: &Entry) -> bool {
-    matches!(
-        entry,
-        Entry::CopyCap { .. }
-            | Entry::MintCap { .. }
-            | Entry::MoveCap { .. }
-            | Entry::DeleteCap { .. }
-            | Entry::MakeEndpoint { .. }
-            | Entry::MakeNotification { .. }
-            | Entry::MakeReply { .. }
-            | Entry::MakeContext { .. }
-    )
-}
-
-/// Whether an entry of some user may change slots.
-fn any_of_slots(users: &Users) -> bool {
-    for user in users.lists() {
-        for entry in user.entries.iter() {
-            if is_of_slots(entry) {
-                return true;
-            }
-        }
-    }
-    false
 }
 
 /// How many numbers a row has room for before it grows.
@@ -117,7 +90,7 @@ impl Keys {
             counts: Counts::new(boot),
             is_exact,
             numbered,
-            changes_slots: any_of_slots(users),
+            changes_slots: users.change_slots(),
         }
     }
 

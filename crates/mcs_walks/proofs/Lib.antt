@@ -1,5 +1,3 @@
-mod Adding
-mod Order
 mod Walking
 mod Picking
 mod Turning

@@ -2,16 +2,12 @@
 //! enter. Each turn is one that the rule of a turn has, so what is reached is a run (own).
 #![tactic(auto)]
 
+mod copies;
 mod fault;
-mod lists;
-mod picks;
 mod turns;
-mod users;
 mod walk;
 
 pub use fault::OrdersFault;
-pub use lists::UserList;
 pub use mcs_turns::{Pick, Position};
-pub use picks::Picks;
-pub use users::Users;
+pub use mcs_users::{Picks, UserList, Users};
 pub use walk::{Turn, Walk, picked};

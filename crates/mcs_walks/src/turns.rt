@@ -3,12 +3,12 @@ ghost use Rattle.std.specs.Prelude.{◌≡◌, ◌∷◌, ◌++◌, [], IfOk, On
 ghost use Rattle.mcs_turns.specs.Turns.{ArePicks};
 ghost use Rattle.mcs_walks.specs.Walks.{ArePicked, HasEachTurn, is_other, stale_turns, turn_now, turns_below, turns_of, turns_on};
 
-use crate::picks::push;
-use crate::users::Users;
+use crate::copies::push;
 use crate::walk::{Turn, Walk, picked};
 use mcs_queues::Lines;
 use mcs_turns::Pick;
 use mcs_types::{CoreId, OutOfMemory};
+use mcs_users::Users;
 use std::alloc::Global;
 
 /// Whether this is another pick than one, if there is one.

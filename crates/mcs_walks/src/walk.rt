@@ -10,14 +10,13 @@ ghost use Rattle.mcs_turns.specs.Due.{begun, none_stale, stale_after};
 ghost use Rattle.mcs_turns.specs.Turns.{IsStale, ArePicks, IsTurn, beginning, behind, entered, put_at};
 ghost use Rattle.mcs_walks.specs.Walks.{AreBestBelow, EntersSomewhere, HasNoTurn, IsBestBelow, IsEntryCore, IsOffer, IsPicked, is_let_in, last_answer, left_stale, picked_of, step_of};
 
+use crate::copies::{copy_all, push};
 use crate::fault::{OrdersFault, limit_of};
-use crate::lists::UserList;
-use crate::picks::{Picks, copy_all, push};
-use crate::users::Users;
 use mcs_kernel::{Boot, EnterFault, Kernel};
 use mcs_queues::Lines;
 use mcs_turns::{Pick, Position};
 use mcs_types::{Answer, CoreId, Entry, ObjId, OutOfMemory, Status, copy_rows};
+use mcs_users::{Picks, UserList, Users};
 use std::alloc::Global;
 use std::marker::Model;
 

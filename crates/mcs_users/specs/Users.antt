@@ -1,9 +1,10 @@
 -- Users.
 use Rattle.std.specs.Prelude.{◌≡◌, ◌≤◌, ◌||◌, Bool, false, nat_lt, List, [], ◌∷◌, ◌++◌, None, if◌then◌else◌}
-use Rattle.std.specs.List.{AllByRecursion}
+use Rattle.std.specs.List.{AllByRecursion, list_any}
 use Rattle.mcs_types.specs.declared.id.ObjId.{ObjId}
 use Rattle.mcs_types.specs.declared.entry.Entry.{Entry}
 use Rattle.mcs_types.specs.Ids.{same}
+use Rattle.mcs_types.specs.Changes.{changes_slots}
 use Rattle.mcs_turns.specs.Turns.{User}
 
 -- a thread with one entry
@@ -34,3 +35,11 @@ pub record StandsBehind (u v : User) : Type 0 where
 abbrev pub AreInOrder : List User → Type 0
 AreInOrder [] = Unit {0}
 AreInOrder (u ∷ us) = AllByRecursion (StandsBehind u) us × AreInOrder us
+
+-- whether some entry of a user changes slots
+abbrev pub user_changes_slots : User → Bool
+user_changes_slots u = list_any changes_slots u.entries
+
+-- whether some entry of some user does
+abbrev pub change_slots : List User → Bool
+change_slots us = list_any user_changes_slots us

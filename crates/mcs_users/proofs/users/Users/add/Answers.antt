@@ -1,8 +1,8 @@
 use Rattle.std.proofs.Common.{◌≡◌, subst, sym, List}
 use Rattle.mcs_turns.specs.Turns.{User}
-use Rattle.mcs_walks.specs.Users.{AreInOrder, with_entry}
-use Rattle.mcs_walks.proofs.Order.{either, order-with}
-use Rattle.mcs_walks.proofs.users.Users.add.Goals as goal
+use Rattle.mcs_users.specs.Users.{AreInOrder, with_entry}
+use Rattle.mcs_users.proofs.Order.{either, order-with}
+use Rattle.mcs_users.proofs.users.Users.add.Goals as goal
 
 pub invariant_of-self : goal.invariant_of-self
 invariant_of-self c =

@@ -9,7 +9,7 @@ use Rattle.mcs_types.specs.declared.id.ObjId.{ObjId}
 use Rattle.mcs_types.specs.declared.entry.Entry.{Entry}
 use Rattle.mcs_types.specs.Ids.{same}
 use Rattle.mcs_turns.specs.Turns.{User}
-use Rattle.mcs_walks.specs.Users.{begun_with, with_more, with_entry}
+use Rattle.mcs_users.specs.Users.{begun_with, with_more, with_entry}
 
 -- where an entry of a thread goes, or how many users there are
 abbrev place : List User → ObjId → ℕ

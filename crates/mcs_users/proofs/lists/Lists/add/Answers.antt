@@ -5,9 +5,9 @@ use Rattle.mcs_types.specs.declared.id.ObjId.{ObjId}
 use Rattle.mcs_types.specs.declared.entry.Entry.{Entry}
 use Rattle.mcs_types.specs.Ids.{same}
 use Rattle.mcs_turns.specs.Turns.{User}
-use Rattle.mcs_walks.specs.Users.{begun_with}
-use Rattle.mcs_walks.proofs.Adding.{user-at, added-within, added-before, added-behind}
-use Rattle.mcs_walks.proofs.lists.Lists.add.Goals as goal
+use Rattle.mcs_users.specs.Users.{begun_with}
+use Rattle.mcs_users.proofs.Adding.{user-at, added-within, added-before, added-behind}
+use Rattle.mcs_users.proofs.lists.Lists.add.Goals as goal
 
 pub returns-in_default-clause-added : goal.returns-in_default-clause-added
 returns-in_default-clause-added c =

@@ -2,7 +2,7 @@
 ghost use Rattle.std.specs.Prelude.{ℕ, ◌≡◌, ◌<◌, ◌≤◌, ◌∷◌, ◌++◌, [], true, false, IfOk, OnOk, OnErr, option_copied, position, slice_get, take, drop, set, length, Some};
 ghost use Rattle.mcs_types.specs.Ids.{same};
 ghost use Rattle.mcs_turns.specs.Turns.{User};
-ghost use Rattle.mcs_walks.specs.Users.{begun_with, is_place_for, with_entry, with_more};
+ghost use Rattle.mcs_users.specs.Users.{begun_with, is_place_for, user_changes_slots, with_entry, with_more};
 
 use mcs_types::{Entry, ObjId, OutOfMemory};
 use std::alloc::Global;
@@ -46,6 +46,13 @@ impl UserList {
         ensures { option_copied result ≡ slice_get self.now.entries number }
     {
         self.entries.get(number)
+    }
+
+    /// Returns whether one of them may change capability slots.
+    pub fn changes_slots(&self) -> bool
+        ensures { result ≡ user_changes_slots self.now }
+    {
+        self.entries.iter().any(|entry| entry.changes_slots())
     }
 
     /// Adds an entry to the end. OutOfMemory where a growth was refused: then the list is as it was.

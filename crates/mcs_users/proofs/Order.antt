@@ -12,7 +12,7 @@ use Rattle.mcs_types.specs.declared.entry.Entry.{Entry}
 use Rattle.mcs_types.specs.Ids.{same}
 use Rattle.mcs_types.proofs.Ids.{same-equal, same-self}
 use Rattle.mcs_turns.specs.Turns.{User, AreApart}
-use Rattle.mcs_walks.specs.Users.{StandsBehind, AreInOrder, begun_with, with_more, with_entry}
+use Rattle.mcs_users.specs.Users.{StandsBehind, AreInOrder, begun_with, with_more, with_entry}
 
 -- what holds of all holds with an entry more
 all-with : (P : User → Type 0) (us : List User) (t : ObjId) (e : Entry) → ((u : User) → P u → P (with_more u e)) → P (begun_with t e) → AllByRecursion P us → AllByRecursion P (with_entry us t e)

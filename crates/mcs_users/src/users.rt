@@ -2,7 +2,7 @@
 ghost use Rattle.std.specs.Prelude.{ℕ, ◌≡◌, [], true, false, OnOk, OnErr, option_copied, position, slice_get, set, Some};
 ghost use Rattle.mcs_types.specs.Ids.{same};
 ghost use Rattle.mcs_turns.specs.Turns.{User, AreApart};
-ghost use Rattle.mcs_walks.specs.Users.{with_entry};
+ghost use Rattle.mcs_users.specs.Users.{change_slots, with_entry};
 
 use crate::lists::{Lists, UserList};
 use mcs_types::{Entry, ObjId, OutOfMemory};
@@ -18,7 +18,7 @@ pub struct Users {
 impl Model for Users {
     ghost use Rattle.std.specs.Prelude.{List};
     ghost use Rattle.mcs_turns.specs.Turns.{User};
-    ghost use Rattle.mcs_walks.specs.Users.{AreInOrder};
+    ghost use Rattle.mcs_users.specs.Users.{AreInOrder};
 
     ghost Value = { List User };
 
@@ -62,6 +62,13 @@ impl Users {
         ensures { result ≡ position (λ u. same u.thread thread) self.now }
     {
         self.lists.find(thread)
+    }
+
+    /// Returns whether an entry of some user may change capability slots.
+    pub fn change_slots(&self) -> bool
+        ensures { result ≡ change_slots self.now }
+    {
+        self.lists().iter().any(|user| user.changes_slots())
     }
 
     /// Adds an entry to the end of a thread's list. OutOfMemory where a growth was refused: then the lists are as they were.

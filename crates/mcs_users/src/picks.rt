@@ -2,7 +2,7 @@
 ghost use Rattle.std.specs.Prelude.{◌≡◌, ◌∷◌, ◌++◌, [], IfOk, OnOk};
 ghost use Rattle.std.specs.List.{list_any};
 ghost use Rattle.mcs_turns.specs.Due.{is_same, with_any_pick, without_user};
-ghost use Rattle.mcs_walks.specs.Walks.{without_any_user};
+ghost use Rattle.mcs_users.specs.Picks.{without_any_user};
 
 use mcs_turns::Pick;
 use mcs_types::OutOfMemory;
@@ -24,16 +24,6 @@ impl Model for Picks {
     ghost Value = { List Pick };
 
     ghost view = { λ p. p.picks.items };
-}
-
-/// Adds an element to the end. OutOfMemory where a growth was refused.
-pub(crate) fn push<T: Drop>(items: &mut Vec<T>, item: T) -> Result<(), OutOfMemory>
-    ensures { OnOk result (items.new.items ≡ items.old.items ++ item ∷ []) }
-{
-    match items.push(item) {
-        Ok(()) => Ok(()),
-        Err(_) => Err(OutOfMemory),
-    }
 }
 
 /// Adds a pick to the end. OutOfMemory where a growth was refused.
@@ -140,16 +130,4 @@ impl Picks {
         let picks = SmallVec::from_slice(alloc, self.picks.as_slice())?;
         Ok(Picks { picks })
     }
-}
-
-/// The same picks of each core once more. OutOfMemory where memory was refused.
-pub(crate) fn copy_all(alloc: Global, all: &[Picks]) -> Result<Vec<Picks>, OutOfMemory>
-    ensures { IfOk result (λ v. v.items ≡ all.now) }
-{
-    let mut copies = Vec::with_capacity(alloc, all.len())?;
-    for picks in all {
-        let copy = picks.copy(alloc)?;
-        push(&mut copies, copy)?;
-    }
-    Ok(copies)
 }

@@ -1,8 +1,8 @@
 use Rattle.std.proofs.Common.{sym, ◌∙◌}
 use Rattle.mcs_types.specs.Ids.{same}
 use Rattle.mcs_turns.specs.Turns.{User}
-use Rattle.mcs_walks.proofs.Order.{order-repeat}
-use Rattle.mcs_walks.proofs.users.Users.repeat.Goals as goal
+use Rattle.mcs_users.proofs.Order.{order-repeat}
+use Rattle.mcs_users.proofs.users.Users.repeat.Goals as goal
 
 pub invariant_of-self : goal.invariant_of-self
 invariant_of-self c =
