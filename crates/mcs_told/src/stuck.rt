@@ -1,5 +1,7 @@
-//! Who waits for whom, and which threads nobody lets go on: by the book and by questions to the kernel.
+//! Who waits for whom, and which threads nobody can let go on: by the book and by questions to the kernel.
+use crate::needs::{Need, Needs};
 use crate::page::Page;
+use crate::spaces::{Spaces, object};
 use mcs_book::Book;
 use mcs_kernel::Kernel;
 use mcs_lab::{LabFault, Names};
@@ -66,8 +68,8 @@ fn add_receivers(
     Ok(())
 }
 
-/// The threads of which one has to act before a thread goes on: who took its call, or who received on the endpoint before.
-pub fn waited_for(
+/// The threads that are likely to let a thread go on: who took its call, or who received on the endpoint before.
+fn likely(
     alloc: Global,
     kernel: &Kernel<LinkedLines>,
     thread: ObjId,
@@ -87,20 +89,34 @@ pub fn waited_for(
     Ok(set)
 }
 
-/// The thread of a serial.
-pub fn thread_of(serial: u32) -> ObjId {
-    ObjId {
-        kind: Kind::Thread,
-        serial,
+/// Whether a thread waits: it is blocked, or it runs and holds no context.
+fn is_waiting(kernel: &Kernel<LinkedLines>, thread: ObjId) -> bool {
+    match kernel.status(thread) {
+        Some(Status::Queued(_) | Status::OnReply(_)) => true,
+        Some(Status::Running | Status::Restart) => kernel.context(thread).is_none(),
+        Some(Status::Inactive | Status::Closed) | None => false,
     }
 }
 
-/// Whether a thread does nothing any more unless another one restarts it.
-fn is_gone(kernel: &Kernel<LinkedLines>, thread: ObjId) -> bool {
-    matches!(
-        kernel.status(thread),
-        Some(Status::Inactive | Status::Closed) | None
-    )
+/// What joins why a thread waits to those for whom.
+fn so(status: Option<Status>) -> &'static str {
+    match status {
+        Some(Status::OnReply(_)) => ", and so for ",
+        _ => ", and so waits for ",
+    }
+}
+
+/// What nobody can do for a thread that waits for nobody.
+fn nobody(status: Option<Status>) -> &'static str {
+    match status {
+        Some(Status::OnReply(_)) => ", and nobody can give it",
+        Some(Status::Queued(Queue::Senders(_))) => ", and nobody can receive there",
+        Some(Status::Queued(Queue::Receivers(_))) => ", and nobody can send there",
+        Some(Status::Queued(Queue::Waiters(_))) => ", and nobody can signal there",
+        Some(Status::Running | Status::Restart | Status::Inactive | Status::Closed) | None => {
+            ", and nobody can give it one"
+        }
+    }
 }
 
 /// The threads that wait, and for whom each.
@@ -111,39 +127,81 @@ pub struct Waits {
     stuck: ThreadSet,
 }
 
-impl Waits {
-    /// Who waits for whom now. A thread is stuck where it waits for some, and each of them is stuck, inactive or closed.
-    pub fn new(alloc: Global, kernel: &Kernel<LinkedLines>) -> Result<Waits, LabFault> {
-        let count = kernel.made(Kind::Thread);
-        let mut sets = Vec::new(alloc);
-        for serial in 1..=count {
-            let Ok(set) = waited_for(alloc, kernel, thread_of(serial)) else {
-                return Err(LabFault::OutOfMemory);
-            };
-            sets.push(set)?;
+/// The threads but one that may let it go on by a capability of their own.
+fn able(count: u32, spaces: &Spaces, need: Need, thread: ObjId) -> ThreadSet {
+    let mut set = ThreadSet::new();
+    for serial in 1..=count {
+        let other = object(Kind::Thread, serial);
+        if !other.is_same(thread) && need.is_met_by(spaces.of(other)) {
+            set.insert(other);
         }
+    }
+    set
+}
+
+/// Those of some threads that are also among others, where there are some; else all the others.
+fn preferred(count: u32, some: &ThreadSet, others: ThreadSet) -> ThreadSet {
+    let mut set = ThreadSet::new();
+    let mut is_empty = true;
+    for serial in 1..=count {
+        let thread = object(Kind::Thread, serial);
+        if some.contains(thread) && others.contains(thread) {
+            set.insert(thread);
+            is_empty = false;
+        }
+    }
+    if is_empty { others } else { set }
+}
+
+impl Waits {
+    /// Who waits for whom now, and who is stuck: it waits, and no thread that is not stuck itself can ever let it go on.
+    pub fn new(alloc: Global, kernel: &Kernel<LinkedLines>) -> Result<Waits, LabFault> {
+        let spaces = Spaces::new(alloc, kernel)?;
+        let Ok(needs) = Needs::new(alloc, kernel) else {
+            return Err(LabFault::OutOfMemory);
+        };
+        let free = needs.free(kernel, &spaces);
         let mut waits = Waits {
-            count,
-            sets,
+            count: kernel.made(Kind::Thread),
+            sets: Vec::new(alloc),
             stuck: ThreadSet::new(),
         };
-        // each turn but the last finds a thread that goes on
-        let mut free = ThreadSet::new();
-        for _ in 0..=count {
-            waits.free_more(kernel, &mut free);
-        }
-        for serial in 1..=count {
-            let thread = thread_of(serial);
-            if waits.waits_for_some(thread) && !free.contains(thread) {
+        for serial in 1..=waits.count {
+            let thread = object(Kind::Thread, serial);
+            waits.add(alloc, kernel, &spaces, &needs, thread)?;
+            if is_waiting(kernel, thread) && !free.contains(thread) {
                 waits.stuck.insert(thread);
             }
         }
         Ok(waits)
     }
 
+    /// Adds for whom the next thread waits.
+    fn add(
+        &mut self,
+        alloc: Global,
+        kernel: &Kernel<LinkedLines>,
+        spaces: &Spaces,
+        needs: &Needs,
+        thread: ObjId,
+    ) -> Result<(), LabFault> {
+        let Ok(likely) = likely(alloc, kernel, thread) else {
+            return Err(LabFault::OutOfMemory);
+        };
+        let set = match needs.of(thread) {
+            Some(need) if is_waiting(kernel, thread) => {
+                let able = able(self.count, spaces, need, thread);
+                preferred(self.count, &likely, able)
+            }
+            _ => ThreadSet::new(),
+        };
+        self.sets.push(set)?;
+        Ok(())
+    }
+
     /// Whether a thread waits for some.
     fn waits_for_some(&self, thread: ObjId) -> bool {
-        (1..=self.count).any(|serial| self.is_waited(thread, thread_of(serial)))
+        (1..=self.count).any(|serial| self.is_waited(thread, object(Kind::Thread, serial)))
     }
 
     /// Whether a thread waits for another.
@@ -157,30 +215,9 @@ impl Waits {
         }
     }
 
-    /// Whether one of those for whom a thread waits goes on, as far as is known.
-    fn has_free(&self, thread: ObjId, free: &ThreadSet) -> bool {
-        (1..=self.count).any(|serial| {
-            let other = thread_of(serial);
-            self.is_waited(thread, other) && free.contains(other)
-        })
-    }
-
-    /// Adds the threads that go on because of those that are known to go on.
-    fn free_more(&self, kernel: &Kernel<LinkedLines>, free: &mut ThreadSet) {
-        for serial in 1..=self.count {
-            let thread = thread_of(serial);
-            if is_gone(kernel, thread) {
-                continue;
-            }
-            if !self.waits_for_some(thread) || self.has_free(thread, free) {
-                free.insert(thread);
-            }
-        }
-    }
-
     /// Whether some thread is stuck.
     pub fn has_stuck(&self) -> bool {
-        (1..=self.count).any(|serial| self.is_stuck(thread_of(serial)))
+        (1..=self.count).any(|serial| self.is_stuck(object(Kind::Thread, serial)))
     }
 
     /// Whether a thread is stuck.
@@ -192,12 +229,12 @@ impl Waits {
     fn reach_more(&self, thread: ObjId, reached: &mut ThreadSet) -> bool {
         let mut grew = false;
         for from in 1..=self.count {
-            let from = thread_of(from);
+            let from = object(Kind::Thread, from);
             if !from.is_same(thread) && !reached.contains(from) {
                 continue;
             }
             for to in 1..=self.count {
-                let to = thread_of(to);
+                let to = object(Kind::Thread, to);
                 if self.is_stuck(to) && self.is_waited(from, to) && !reached.contains(to) {
                     reached.insert(to);
                     grew = true;
@@ -218,7 +255,7 @@ impl Waits {
         reached.contains(thread)
     }
 
-    /// How a thread is stuck: in a cycle of threads that wait for one another, or for one that does nothing any more.
+    /// How a thread is stuck: in a cycle of threads that wait for one another, or not.
     pub fn kind(&self, thread: ObjId) -> &'static str {
         if self.is_in_cycle(thread) {
             "deadlock"
@@ -227,20 +264,20 @@ impl Waits {
         }
     }
 
-    /// Puts why a thread waits, as far as it is known.
+    /// Puts why a thread waits.
     fn put_cause(page: &mut Page, kernel: &Kernel<LinkedLines>, names: &Names, thread: ObjId) {
         match kernel.status(thread) {
             Some(Status::OnReply(reply)) => {
                 page.put(b" waits for the answer that ");
                 page.object(names, reply);
-                page.put(b" owes, and so for ");
+                page.put(b" owes");
             }
             Some(Status::Queued(queue)) => {
                 page.put(b" stands in ");
                 page.queue(names, queue);
-                page.put(b", and so waits for ");
             }
-            _ => {}
+            Some(Status::Running | Status::Restart) => page.put(b" runs, but holds no context"),
+            Some(Status::Inactive | Status::Closed) | None => {}
         }
     }
 
@@ -248,7 +285,7 @@ impl Waits {
     pub fn put(&self, page: &mut Page, kernel: &Kernel<LinkedLines>, names: &Names) -> bool {
         let mut is_free = true;
         for serial in 1..=self.count {
-            let thread = thread_of(serial);
+            let thread = object(Kind::Thread, serial);
             if !self.is_stuck(thread) {
                 continue;
             }
@@ -257,7 +294,12 @@ impl Waits {
             page.put(b": ");
             page.object(names, thread);
             Waits::put_cause(page, kernel, names, thread);
-            self.put_waited(page, kernel, names, thread);
+            if self.waits_for_some(thread) {
+                page.put(so(kernel.status(thread)).as_bytes());
+                self.put_waited(page, kernel, names, thread);
+            } else {
+                page.put(nobody(kernel.status(thread)).as_bytes());
+            }
             page.put(b"\n");
         }
         is_free
@@ -273,7 +315,7 @@ impl Waits {
     ) {
         let mut is_first = true;
         for serial in 1..=self.count {
-            let other = thread_of(serial);
+            let other = object(Kind::Thread, serial);
             if !self.is_waited(thread, other) {
                 continue;
             }

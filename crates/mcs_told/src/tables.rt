@@ -1,15 +1,11 @@
 //! Who stands where, as text.
 use crate::page::Page;
+use crate::spaces::object;
 use mcs_kernel::Kernel;
 use mcs_lab::Names;
 use mcs_queues::LinkedLines;
 use mcs_text::Token;
 use mcs_types::{Kind, Mail, Message, ObjId, Queue, Status};
-
-/// The object of a kind and a serial.
-pub fn object(kind: Kind, serial: u32) -> ObjId {
-    ObjId { kind, serial }
-}
 
 /// Puts the tables of a kernel.
 #[derive(Drop)]

@@ -1,7 +1,7 @@
 //! Who stands where, as JSON. The members of an object stand in the order of their names.
 use crate::page::Page;
+use crate::spaces::object;
 use crate::stuck::Waits;
-use crate::tables::object;
 use mcs_kernel::Kernel;
 use mcs_lab::Names;
 use mcs_queues::LinkedLines;

@@ -11,14 +11,16 @@ use mcs_queues::LinkedLines;
 use mcs_sim::Source;
 use mcs_text::{LineFault, Words};
 use mcs_types::{
-    Answer, CoreId, Ending, Mode, ObjId, OutOfMemory, Place, Rec, Refusal, SendMode, Status,
+    Answer, CoreId, Ending, Entry, Kind, Mode, ObjId, OutOfMemory, Place, Rec, Refusal, SendMode,
+    Status, Step,
 };
 use std::alloc::Global;
 use std::io::{Read, Write};
 
-/// What is easily overlooked of a line of the book.
+/// A line of the book, of which is told what is easily overlooked.
 #[derive(Drop)]
 struct Entered {
+    step: Step,
     answer: Answer,
     records: Vec<Rec>,
 }
@@ -299,6 +301,40 @@ fn is_told(record: &Rec) -> bool {
     )
 }
 
+/// The address over which an entry sends and then does not wait, where nobody receives or nobody is owed an answer.
+fn sends_once(entry: &Entry) -> Option<u64> {
+    match entry {
+        Entry::Send { cap, .. }
+        | Entry::NbSend { cap, .. }
+        | Entry::NbSendRecv { cap, .. }
+        | Entry::NbSendWait { cap, .. } => Some(*cap),
+        Entry::ReplyRecv { reply, .. } => Some(*reply),
+        _ => None,
+    }
+}
+
+/// Whether a message was sent, or an answer given, by some record.
+fn is_delivered(records: &[Rec]) -> bool {
+    for record in records {
+        if matches!(record, Rec::Sent { .. } | Rec::Paid { .. }) {
+            return true;
+        }
+    }
+    false
+}
+
+/// The endpoint or reply object over which the message of a line went to nobody, if it did.
+fn dropped_at(kernel: &Kernel<LinkedLines>, entered: &Entered) -> Option<ObjId> {
+    let address = sends_once(&entered.step.entry)?;
+    if matches!(entered.answer, Answer::Refused(_)) || is_delivered(entered.records.as_slice()) {
+        return None;
+    }
+    match kernel.named(entered.step.thread, address) {
+        Some(Ok(cap)) if matches!(cap.obj.kind, Kind::Endpoint | Kind::Reply) => Some(cap.obj),
+        _ => None,
+    }
+}
+
 /// A script of which is told what is easily overlooked.
 #[derive(Drop)]
 struct Teller {
@@ -387,6 +423,7 @@ impl Teller {
             }
         }
         Ok(Some(Entered {
+            step: line.step(alloc)?,
             answer: line.answer(alloc)?,
             records,
         }))
@@ -416,6 +453,27 @@ impl Teller {
         }
     }
 
+    /// Tells that the message or the answer of the last step went to nobody, where it did.
+    fn tell_dropped(&mut self, entered: &Entered) {
+        let Some(kernel) = self.judge.kernel() else {
+            return;
+        };
+        let Some(object) = dropped_at(kernel, entered) else {
+            return;
+        };
+        self.put_step();
+        if object.kind.is_same(Kind::Reply) {
+            self.page.put(b"the answer was dropped: ");
+            self.page.object(&self.names, object);
+            self.page.put(b" owes nobody\n");
+        } else {
+            self.page
+                .put(b"the message was dropped: nobody receives on ");
+            self.page.object(&self.names, object);
+            self.page.put(b"\n");
+        }
+    }
+
     /// Tells of the last step, which was let in, what is easily overlooked.
     fn tell_entered(&mut self, alloc: Global) {
         match self.entered(alloc) {
@@ -425,6 +483,7 @@ impl Teller {
                 if let Answer::Refused(refusal) = &entered.answer {
                     self.tell_refused(alloc, *refusal);
                 }
+                self.tell_dropped(&entered);
                 self.tell_records(entered.records.as_slice());
             }
         }
@@ -491,7 +550,7 @@ fn explain_all<R: Read, W: Write>(
 }
 
 /// Explains a script: each step that was turned away or refused, each call that nobody can answer, each debt that became void,
-/// each message that was dropped, and at the end what is stuck. True where nothing is stuck.
+/// each message or answer that was dropped, and at the end what is stuck. True where nothing is stuck.
 pub fn explain<R: Read, W: Write + Drop>(
     alloc: Global,
     from: &mut Source<R>,
