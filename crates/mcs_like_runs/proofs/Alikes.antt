@@ -26,7 +26,7 @@ use Rattle.mcs_alike.proofs.Books.{line-outcomes}
 use Rattle.mcs_alike.proofs.Exactly.{but-numbers}
 use Rattle.mcs_alike.proofs.Likenesses.{by-likeness}
 use Rattle.mcs_explore.specs.Closure.{IsLikeness}
-use Rattle.mcs_like_runs.specs.Runs.{IsReached, AreClose, AreAlike, SameNewest}
+use Rattle.mcs_like_runs.specs.Runs.{IsReached, AreClose, AreAlike, AreSameTurns, IsSameTurn, SameNewest}
 
 module _ (numbered : Bool) (users : List User) (boot : Boot) (g h : Going) (a : AreClose numbered users boot g h) where
   logs : AlikeButNumbers (log_of g.book) (log_of h.book)
@@ -146,8 +146,14 @@ module _ (numbered : Bool) (users : List User) (boot : Boot) (whole : IsFaultles
     pub newest : SameNewest t.book then_h.book
     newest = subst (λ (x : Going). SameNewest x.book then_h.book) (sym turn.after) same
 
+    pub same-turn : IsSameTurn numbered users boot core k t h
+    same-turn = record { going = then_h; turn = other; newest = newest; alike = subst (λ x. AreAlike numbered users boot x then_h) (sym turn.after) after }
+
     pub respected : (w : Going) × (Follows users h w × AreAlike numbered users boot t w)
     respected = (then_h, (record { core = core; pick = k; turn = other }, subst (λ x. AreAlike numbered users boot x then_h) (sym turn.after) after))
+
+  pub same-turns : AreSameTurns numbered users boot
+  same-turns = λ g h t core k a turn. same-turn g h a core k t turn
 
   pub likeness : IsLikeness (Follows users) (AreAlike numbered users boot)
   likeness = record {

@@ -1,10 +1,11 @@
 -- Runs that no later turn tells apart (own).
 use Rattle.std.specs.Prelude.{ℕ, ◌≡◌, Bool, List, ◌∷◌, Option}
+use Rattle.mcs_types.specs.declared.id.CoreId.{CoreId}
 use Rattle.mcs_book.specs.Boots.{Boot}
 use Rattle.mcs_book.specs.History.{Line, Book, log_of}
 use Rattle.mcs_turns.specs.declared.position.Pick.{Pick}
 use Rattle.mcs_turns.specs.Due.{choices}
-use Rattle.mcs_turns.specs.Turns.{User, Going, ArePicks, IsRun}
+use Rattle.mcs_turns.specs.Turns.{User, Going, ArePicks, IsRun, IsTurn}
 use Rattle.mcs_alike.specs.Likeness.{AlikeBy}
 use Rattle.mcs_alike.specs.Books.{outcome_of}
 use Rattle.mcs_alike.specs.ButNumbers.{SameButNumbers}
@@ -34,3 +35,15 @@ SameNewest b c = AreSame b.lines c.lines
     AreSame : List Line → List Line → Type 0
     AreSame (l ∷ ls) (m ∷ ms) = SameButNumbers (outcome_of l) (outcome_of m)
     AreSame ls ms = ⊥
+
+-- a core makes the same turn in another run as one that led to t: it is answered the same, with the same records but for the
+-- numbers of messages, and what is behind it is alike
+pub record IsSameTurn (numbered : Bool) (users : List User) (boot : Boot) (core : CoreId) (k : Pick) (t h : Going) : Type 0 where
+  pub going : Going
+  pub turn : IsTurn users core k h going
+  pub newest : SameNewest t.book going.book
+  pub alike : AreAlike numbered users boot t going
+
+-- so is each turn of one of two alike runs made in the other
+abbrev pub AreSameTurns : Bool → List User → Boot → Type 0
+AreSameTurns numbered users boot = (g h t : Going) (core : CoreId) (k : Pick) → AreAlike numbered users boot g h → IsTurn users core k g t → IsSameTurn numbered users boot core k t h

@@ -4,20 +4,20 @@
 
 ghost use Rattle.std.specs.Prelude.{Bool, List, true, false};
 ghost use Rattle.mcs_book.specs.Boots.{Boot, IsFaultless};
-ghost use Rattle.mcs_types.specs.declared.id.CoreId.{CoreId};
-ghost use Rattle.mcs_turns.specs.declared.position.Pick.{Pick};
-ghost use Rattle.mcs_turns.specs.Turns.{User, Going, AreInRange, Follows, IsOver, IsTurn};
+ghost use Rattle.mcs_turns.specs.Turns.{User, Going, AreInRange, Follows, IsOver};
 ghost use Rattle.mcs_explore.specs.Closure.{IsLikeness};
-ghost use Rattle.mcs_like_runs.specs.Runs.{AreAlike, SameNewest};
+ghost use Rattle.mcs_like_runs.specs.Runs.{AreAlike, AreSameTurns};
 
 /// The turns of users (at.1) after a boot without fault (at.2) respect likeness, in which numbers of messages are told apart or
-/// not (at.0): what one of two alike runs may do, the other may do, and they are alike again; and likeness goes on from one run to
-/// the next.
+/// not (at.0): a turn of one of two alike runs may be made in the other, by the same core with the same pick; it is answered the
+/// same, has the same records but for the numbers of messages, and leads to runs that are alike again.
 pub fn turns_respect()
     ghost at: { Bool × List User × Boot }
     requires boot { IsFaultless at.2 }
     requires in_range { AreInRange at.1 }
-    ensures { IsLikeness (Follows at.1) (AreAlike at.0 at.1 at.2) }
+    ensures turns { AreSameTurns at.0 at.1 at.2 }
+    // so does likeness, which goes on from one run to the next
+    ensures likeness { IsLikeness (Follows at.1) (AreAlike at.0 at.1 at.2) }
 {}
 
 /// Where one of two alike runs (at.3, at.4) is over, the other is.
@@ -26,17 +26,6 @@ pub fn over_alike()
     requires alike { AreAlike at.0 at.1 at.2 at.3 at.4 }
     requires over { IsOver at.1 at.3 }
     ensures { IsOver at.1 at.4 }
-{}
-
-/// A turn of one of two alike runs (at.3, at.4) may be made in the other: both are entered by the same picks, and what is behind
-/// them is answered the same, and has the same records but for the numbers of messages.
-pub fn same_turn()
-    ghost at: { Bool × List User × Boot × Going × Going × CoreId × Pick × Going }
-    requires boot { IsFaultless at.2 }
-    requires in_range { AreInRange at.1 }
-    requires alike { AreAlike at.0 at.1 at.2 at.3 at.4 }
-    requires turn { IsTurn at.1 at.5 at.6 at.3 at.7 }
-    ensures { (h : Going) × (IsTurn at.1 at.5 at.6 at.4 h × SameNewest at.7.book h.book) }
 {}
 
 /// Alike runs (at.2, at.3) are so where numbers of messages are not told apart.

@@ -1,5 +1,5 @@
 -- What was told of states and turns.
-use Rattle.std.specs.Prelude.{ℕ, zero, suc, ◌≡◌, ◌<◌, ◌+◌, ◌++◌, ◌⊎◌, ◌↔◌, ◌-◌, ◌^◌, take, min, Bool, true, List, [], ◌∷◌, Option, Some, None, Result, Ok, Err, is_none, length, slice_get}
+use Rattle.std.specs.Prelude.{ℕ, zero, suc, ◌≡◌, ◌≤◌, ◌<◌, ◌+◌, ◌++◌, ◌⊎◌, ◌↔◌, ◌-◌, ◌^◌, take, min, Bool, true, List, [], ◌∷◌, Option, Some, None, Result, Ok, Err, is_none, length, slice_get}
 use Rattle.std.specs.Result.{OnOk}
 use Rattle.std.specs.Int.{from_bool}
 use Rattle.std.specs.List.{Contains, list_all}
@@ -70,6 +70,28 @@ at-behind : {A : Type 0} (xs ys : List A) (k : ℕ) (m : A) → slice_get ys k �
 at-behind [] ys k m at = (k, at)
 at-behind (x ∷ xs) ys k m at = let r = at-behind xs ys k m at in (suc r.0, r.1)
 
+below-at : {A : Type 0} (xs : List A) (i : ℕ) (x : A) → slice_get xs i ≡ Some x → i < length xs
+below-at [] i x at = absurd cc
+below-at (y ∷ xs) zero x at = omega arith
+below-at (y ∷ xs) (suc i) x at = let below = below-at xs i x at in omega (arith, below)
+
+-- turns from states in places up to this one, and behind them those from the state in this place
+sorted-both : (xs ys : List Made) (p : ℕ) → ((j k : ℕ) (m n : Made) → j ≤ k → slice_get xs j ≡ Some m → slice_get xs k ≡ Some n → m.place ≤ n.place) → ((j : ℕ) (m : Made) → slice_get xs j ≡ Some m → m.place ≤ p)
+    → ((k : ℕ) (n : Made) → slice_get ys k ≡ Some n → n.place ≡ p) → (j k : ℕ) (m n : Made) → j ≤ k → slice_get (xs ++ ys) j ≡ Some m → slice_get (xs ++ ys) k ≡ Some n → m.place ≤ n.place
+sorted-both [] ys p sorted low same j k m n le a b = let x = same j m a in let y = same k n b in omega (arith, x, y)
+sorted-both (x ∷ xs) ys p sorted low same zero zero m n le a b = let e : m.place ≡ n.place = ap (λ (z : Made). z.place) (one-some m n (sym a ∙ b)) in omega (arith, e)
+  where
+    one-some : (m n : Made) → Some m ≡ Some n → m ≡ n
+    one-some m n e = cc
+sorted-both (x ∷ xs) ys p sorted low same zero (suc k) m n le a b = go (at-both xs ys k n b)
+  where
+    go : (slice_get xs k ≡ Some n) ⊎ ((i : ℕ) × (slice_get ys i ≡ Some n)) → m.place ≤ n.place
+    go (inl h) = sorted zero (suc k) m n (omega arith) a h
+    go (inr h) = let y = same h.0 n h.1 in let l = low zero m a in omega (arith, y, l)
+sorted-both (x ∷ xs) ys p sorted low same (suc j) zero m n le a b = absurd (omega (arith, le))
+sorted-both (x ∷ xs) ys p sorted low same (suc j) (suc k) m n le a b =
+    sorted-both xs ys p (λ i h u v below c d. sorted (suc i) (suc h) u v (omega (arith, below)) c d) (λ i u c. low (suc i) u c) same j k m n (omega (arith, le)) a b
+
 shown-more : (old more : List Made) (place : ℕ) (t : Turn) (h : Going) → IsShown old place t h → IsShown (old ++ more) place t h
 shown-more old more place t h s = record { number = s.number; made = s.made; at = at-old old more s.number s.made s.at; place = s.place; turn = s.turn; going = s.going }
 
@@ -83,6 +105,7 @@ nothing-shown users start = record {
   states = λ i s at. absurd cc;
   turns = λ j m at. absurd cc;
   all = λ i path g h t at. absurd cc;
+  sorted = λ j k m n le at. absurd cc;
 }
 
 pub nothing-told : {W : Type 0} (Has : W → List User → Shown → Type 0) (a : W) (users : List User) (place : ℕ) (g : Going) → Tells Has a a users place g []
@@ -224,12 +247,16 @@ module _ (users : List User) (apart : AreApart users) (start : Going) (paths : L
           let from : Leads users t g h = subst (λ v. Leads users t v h) same step in
           subst (λ n. IsShown (s.turns ++ made) n t h) (sym (e.0 ∙ long)) (shown-behind s.turns made place t h (mine.all t h (each t.core t.pick h from) from))
 
+      low : (j : ℕ) (m : Made) → slice_get s.turns j ≡ Some m → m.place ≤ place
+      low j m at = let t = old.are.turns j m at in let below = below-at paths m.place t.path t.at in omega (arith, below, long)
+
       are : AreShown users start (paths ++ path ∷ []) (with_turns made (record s { states = s.states ++ x ∷ [] }))
       are = record {
         long = one-longer s.states x ∙ ap (λ n. suc n) old.are.long ∙ sym (one-longer paths path);
         states = λ i y at. state i y (at-split s.states x i y at);
         turns = λ j m at. turn m (sided j m (at-both s.turns made j m at));
         all = λ i p u h t at. all i p u h t (at-split paths path i p at);
+        sorted = sorted-both s.turns made place old.are.sorted (λ j m at. low j m at) mine.place;
       }
 
 -- what was told of the end of a path and of all turns from it

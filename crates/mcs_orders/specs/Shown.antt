@@ -1,5 +1,5 @@
 -- What a search shows to who is told of it (own).
-use Rattle.std.specs.Prelude.{ℕ, ◌≡◌, ◌↔◌, ◌+◌, ◌-◌, ◌^◌, ◌++◌, Bool, true, min, List, [], ◌∷◌, Some, length, slice_get}
+use Rattle.std.specs.Prelude.{ℕ, ◌≡◌, ◌≤◌, ◌↔◌, ◌+◌, ◌-◌, ◌^◌, ◌++◌, Bool, true, min, List, [], ◌∷◌, Some, length, slice_get}
 use Rattle.std.specs.Int.{from_bool}
 use Rattle.std.specs.List.{Contains}
 use Rattle.mcs_types.specs.declared.entry.Answer.{Answer}
@@ -66,12 +66,14 @@ pub record IsShown (turns : List Made) (i : ℕ) (t : Turn) (h : Going) : Type 0
   pub turn : made.turn ≡ t
   pub going : made.going ≡ h
 
--- each state to which one of these paths leads was shown once, in their order, and each turn of the rule from it; and no other
+-- each state to which one of these paths leads was shown once, in their order, and each turn of the rule from it, those from earlier
+-- states first; and no other
 pub record AreShown (users : List User) (start : Going) (paths : List (List Turn)) (shown : Shown) : Type 0 where
   pub long : length shown.states ≡ length paths
   pub states : (i : ℕ) (s : Sight) → slice_get shown.states i ≡ Some s → IsStateAt users start paths i s
   pub turns : (j : ℕ) (m : Made) → slice_get shown.turns j ≡ Some m → IsTurnOf users start paths m
   pub all : (i : ℕ) (path : List Turn) (g h : Going) (t : Turn) → slice_get paths i ≡ Some path → Path (Leads users) start path g → Leads users t g h → IsShown shown.turns i t h
+  pub sorted : (j k : ℕ) (m n : Made) → j ≤ k → slice_get shown.turns j ≡ Some m → slice_get shown.turns k ≡ Some n → m.place ≤ n.place
 
 -- what was told of these turns from a state: each that the rule has, and no other
 pub record AreToldOf (users : List User) (i : ℕ) (g : Going) (ts : List Turn) (made : List Made) : Type 0 where
