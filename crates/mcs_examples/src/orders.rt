@@ -87,7 +87,6 @@ fn explore_file<W: Write + Drop>(rt: &HostRuntime, to: &mut W, path: &str) -> Re
         states: 10_000,
         depth: 1_000,
         is_exact: false,
-        numbered: true,
     };
     let explored = explore_script(
         rt.alloc(),

@@ -20,4 +20,4 @@ pub use last::{Last, Told};
 pub use names::Names;
 pub use reading::{TakesLines, take_lines};
 pub use tap::bare;
-pub use words::object_of;
+pub use words::{object_of, queue_of};

@@ -66,7 +66,7 @@ module _ (users : List User) (g h : Going) (places : g.places ≡ h.places) (sta
   spans-same [] = refl
   spans-same (s ∷ ss) = ap (λ b. b && list_all (is_in users g) ss) (span-same s) ∙ ap (λ b. is_in users h s && b) (spans-same ss)
 
-  state-same : (q : Asked) → fails users q None g ≡ fails users q None h
+  pub state-same : (q : Asked) → fails users q None g ≡ fails users q None h
   state-same (asked.Apart spans) = spans-same spans.items
   state-same _ = refl
 
@@ -109,7 +109,7 @@ told-same users boot whole range g h a core k t turn =
     s : Step
     s = step true users boot whole range g h a core k t turn
 
-turn-same : (numbered : Bool) (users : List User) (boot : Boot) (whole : IsFaultless boot) (range : AreInRange users) (g h : Going) (a : AreAlike numbered users boot g h) (core : CoreId) (k : Pick) (t : Going) (turn : IsTurn users core k g t)
+pub turn-same : (numbered : Bool) (users : List User) (boot : Boot) (whole : IsFaultless boot) (range : AreInRange users) (g h : Going) (a : AreAlike numbered users boot g h) (core : CoreId) (k : Pick) (t : Going) (turn : IsTurn users core k g t)
     → (q : Asked) → IsDecided numbered q → (u : Turn) → fails users q (Some u) (then_g numbered users boot whole range g h a core k t turn) ≡ fails users q (Some u) (then_h numbered users boot whole range g h a core k t turn)
 turn-same true users boot whole range g h a core k t turn (asked.Never pattern) d u = ap (λ ls. list_any (is_line pattern.items) ls) (told-same users boot whole range g h a core k t turn)
 turn-same false users boot whole range g h a core k t turn (asked.Never pattern) d u = blind false users boot whole range g h a core k t turn pattern.items d
@@ -136,7 +136,7 @@ module _ {K : Type 0} (numbered : Bool) (users : List User) (boot : Boot) (whole
   held-runs : IsHeldInRuns users boot q
   held-runs = record { states = held-state; turns = held-turn }
 
--- so it is with each question
+-- so it is with each question, where such states decide it
 pub all-held : {K : Type 0} (numbered : Bool) (users : List User) (boot : Boot) (found : Entries K Turn) (done : ℕ) (questions : List AskedLine) (failed : List (Option Sighting)) → AreJudgedFound users boot found done questions failed
-    → IsFaultless boot → AreInRange users → length found ≤ done → AreAllSeen numbered users boot found → AreHeldInRuns numbered users boot questions failed
-all-held numbered users boot found done questions failed judged whole range all seen = λ i q asks at decided. held-runs numbered users boot whole range found done all seen q.asked decided (judged.each i q None asks at)
+    → IsFaultless boot → AreInRange users → length found ≤ done → AreAllSeen numbered users boot found → ((i : ℕ) (q : AskedLine) → slice_get questions i ≡ Some q → IsDecided numbered q.asked) → AreHeldInRuns users boot questions failed
+all-held numbered users boot found done questions failed judged whole range all seen decided = λ i q asks at. held-runs numbered users boot whole range found done all seen q.asked (decided i q asks) (judged.each i q None asks at)

@@ -1,5 +1,5 @@
 -- What is kept of all that was shown.
-use Rattle.std.specs.Prelude.{ℕ, zero, suc, ◌≡◌, ◌<◌, ◌++◌, ◌⊎◌, Bool, true, replicate, List, [], ◌∷◌, Option, Some, None, Result, Ok, Err, length, slice_get}
+use Rattle.std.specs.Prelude.{ℕ, zero, suc, ◌≡◌, ◌<◌, ◌≤◌, ◌++◌, ◌⊎◌, Bool, true, replicate, List, [], ◌∷◌, Option, Some, None, Result, Ok, Err, length, slice_get}
 use Rattle.std.specs.Result.{OnOk}
 use Rattle.std.proofs.Common.{refl, ap, sym, ◌∙◌, subst, inl, inr, arith}
 use Rattle.mcs_types.specs.declared.entry.Answer.{Answer}
@@ -11,10 +11,11 @@ use Rattle.mcs_explore.specs.Search.{Entries, path_of, paths_below}
 use Rattle.mcs_walks.specs.declared.walk.Turn.{Turn}
 use Rattle.mcs_walks.specs.Walks.{last_answer}
 use Rattle.mcs_orders.specs.Trails.{Leads}
-use Rattle.mcs_orders.specs.Shown.{AreShown, Counting, HasCounted, HasSeenAll, Made, Shown, nothing, with_state, with_turn}
+use Rattle.mcs_orders.specs.Shown.{AreShown, Counting, HasCounted, HasSeenAll, Made, Shown, Sight, nothing, with_state, with_turn}
 use Rattle.mcs_orders.proofs.Paths.{path-one}
 use Rattle.mcs_ways.specs.declared.answers.Told.{Told}
 use Rattle.mcs_ways.specs.declared.asking.Asked.{Asked}
+use Rattle.mcs_ways.specs.declared.asking.Asked.TheVariants as asked
 use Rattle.mcs_ways.specs.declared.reading.AskedLine.{AskedLine}
 use Rattle.mcs_ways.specs.declared.judging.Sighting.{Sighting}
 use Rattle.mcs_ways.specs.Judging.{fails}
@@ -23,9 +24,11 @@ use Rattle.mcs_ways.specs.Standings.{standings}
 use Rattle.mcs_ways.specs.Ends.{AreEndsOf, IsKindAt, IsNotedIf, Kind}
 use Rattle.mcs_ways.specs.Answers.{AreAnswersOf, AreNotedMail, IsAmong, IsAnswerOf, IsNotedTurn, IsOwnAnswer, IsMailed, Tables, no_answers, table_of}
 use Rattle.mcs_ways.specs.Mail.{brought}
+use Rattle.mcs_ways.specs.Firsts.{AreFirst, HasGiven, IsStateBefore, IsTurnBefore}
 use Rattle.mcs_ways.specs.Kept.{IsKept}
-use Rattle.mcs_ways.specs.Found.{AreAnswersFound, AreCountedFound, AreEndsFound, AreJudgedFound, IsAnswerFound, IsAnswered, IsAt, IsEndFound, IsFailureFound, IsJudgedFound, IsMailFound}
+use Rattle.mcs_ways.specs.Found.{AreAnswersFound, AreCountedFound, AreEndsFound, AreJudgedFound, IsAnswerFound, IsAnswered, IsAt, IsEndFound, IsFailureFound, IsGiven, IsJudgedFound, IsMailFound, IsSeenFrom, AreFirstFound}
 use Rattle.mcs_ways.proofs.Lists.{at-last, at-old, at-split, within-at, some-same}
+use Rattle.mcs_ways.proofs.Firsts.{answers-first, ends-first, state-failures, turn-failures}
 use Rattle.mcs_ways.proofs.Judgments.{judged-more, none-judged, state-look, turn-look}
 use Rattle.mcs_ways.proofs.Noting.{no-ends, state-noted}
 use Rattle.mcs_ways.proofs.Telling.{mail-more, mail-told, no-mail, no-turns, turn-noted}
@@ -40,6 +43,11 @@ kept-state (Ok x) users questions place g over old new tables failed after by no
   answers = kept.answers;
   mail = kept.mail;
   judged = judged-more users questions (record { place = place; turn = None }) g shown (with_state place g over shown) (state-look users place g over shown) failed after by kept.judged;
+  first = record {
+    ends = ends-first users shown.states old new place g over kept.ends kept.first.ends noted;
+    answers = kept.first.answers;
+    failures = state-failures users questions shown place g over failed after by kept.judged kept.first.failures;
+  };
 }
 
 -- a turn more
@@ -55,6 +63,11 @@ kept-turn (Ok x) users questions place t a h kinds start mid after failed then b
       answers = mail-told users (shown.turns ++ m ∷ []) (length shown.turns) m (at-last shown.turns m) (brought h.book) mid after (λ i r there. (i, there)) mail own;
       mail = mail-more users shown.turns m start mid after noted mail kept.mail;
       judged = judged-more users questions (record { place = place; turn = Some t }) h shown (with_turn place t a h shown) (turn-look users place t a h shown) failed then by kept.judged;
+      first = record {
+        ends = kept.first.ends;
+        answers = answers-first users shown.turns m start mid after noted mail kept.answers kept.mail kept.first.answers;
+        failures = turn-failures users questions shown place t a h failed then by kept.judged kept.first.failures;
+      };
     }
 
 one-longer : {A : Type 0} (xs : List A) (x : A) → length (xs ++ x ∷ []) ≡ suc (length xs)
@@ -100,6 +113,12 @@ pub record AreFound {K : Type 0} (users : List User) (boot : Boot) (found : Entr
   pub answers : AreAnswersFound users boot found done tables
   pub mail : IsMailFound users boot found done tables
   pub judged : AreJudgedFound users boot found done questions failed
+  pub first : AreFirstFound users boot found done questions kinds tables failed
+
+-- a question fails in states, or by turns
+one-kind : (users : List User) (q : Asked) (g h : Going) (t : Turn) → fails users q None g ≡ true → fails users q (Some t) h ≡ true → ⊥
+one-kind users (asked.Apart spans) g h t in_state by_turn = absurd cc
+one-kind users _ g h t in_state by_turn = absurd cc
 
 module _ {K : Type 0} (users : List User) (apart : AreApart users) (boot : Boot) (found : Entries K Turn) (done : ℕ) (questions : List AskedLine) (ends : List Kind) (tables : Tables) (failed : List (Option Sighting)) (shown : Shown)
     (kept : IsKept users questions shown ends tables failed) (are : AreShown users (beginning users boot) (paths_below found done) shown) where
@@ -213,9 +232,75 @@ module _ {K : Type 0} (users : List User) (apart : AreApart users) (boot : Boot)
             ap (λ u. fails users q (Some u) h) (sym s.turn) ∙ ap (λ x. fails users q (Some s.made.turn) x) (sym s.going) ∙ held.turns s.number s.made s.at;
       }
 
+  -- the state to which a path leads was shown in its place
+  state-at : (place : ℕ) (g : Going) → place < done → IsAt users boot found place g → (s : Sight) × ((slice_get shown.states place ≡ Some s) × (s.going ≡ g))
+  state-at place g lt at =
+      let s = within-at shown.states place (let long = are.long in let paths = paths-long found done in omega (arith, long, paths, lt)) in
+      let is = are.states place s.0 s.1 in
+      let path : is.path ≡ path_of found place = some-same is.path (path_of found place) (sym is.at ∙ at-paths found done place lt) in
+      (s.0, (s.1, path-one users apart (beginning users boot) (path_of found place) s.0.going g (subst (λ ls. Path (Leads users) (beginning users boot) ls s.0.going) path is.leads) at))
+
+  -- what was shown before it stands in no later place
+  state-low : (place j : ℕ) → IsStateBefore shown.states place j → place ≤ j
+  state-low place j b = let at = (are.states b.number b.sight b.at).place in let is = b.there in let before = b.before in omega (arith, at, is, before)
+
+  turn-low : (place number : ℕ) (m : Made) → slice_get shown.turns number ≡ Some m → IsTurnBefore shown.turns place number → place ≤ m.place
+  turn-low place number m at b = let low = are.sorted b.number number b.made m b.before b.at at in let is = b.there in omega (arith, low, is)
+
+  first-found : AreFirstFound users boot found done questions ends tables failed
+  first-found = record { ends = first_end; answers = first_answer; failures = first_failure }
+    where
+      first_end : (i place : ℕ) (k : Kind) (g : Going) → slice_get ends i ≡ Some k → place < done → IsAt users boot found place g → IsOver users g → standings users g ≡ k.standing → k.place ≤ place
+      first_end i place k g at lt is over stands =
+          let s = state-at place g lt is in
+          let is_over = (are.states place s.0 s.1.0).over.1 (subst (λ x. IsOver users x) (sym s.1.1) over) in
+          state-low k.place place (kept.first.ends i place k s.0 at s.1.0 is_over (ap (λ x. standings users x) s.1.1 ∙ stands))
+
+      first_answer : (user number i place : ℕ) (told : List Told) (t : Told) (u : Turn) (g h : Going) → table_of tables user number ≡ Some told → slice_get told i ≡ Some t → place < done → IsAt users boot found place g → Leads users u g h
+          → IsGiven users u h user number t.answer → t.place ≤ place
+      first_answer user number i place told t u g h at there lt is leads given =
+          let s = are.all place (path_of found place) g h u (at-paths found done place lt) is leads in
+          let m = are.turns s.number s.made s.at in
+          let low = turn-low t.place s.number s.made s.at (kept.first.answers user number i s.number told t s.made at there s.at (gave s.made s.turn s.going m.turn.answer given)) in
+          let here = s.place in
+          omega (arith, low, here)
+        where
+          gave : (n : Made) → n.turn ≡ u → n.going ≡ h → last_answer n.going.book ≡ Some n.answer → IsGiven users u h user number t.answer → HasGiven users n user number t.answer
+          gave n turn going answered (inl own) = inl (
+            record {
+              user = ap (λ (v : Turn). v.pick.user) turn ∙ own.0.user;
+              number = ap (λ (v : Turn). v.pick.number) turn ∙ own.0.number;
+              answer = some-same n.answer t.answer (sym answered ∙ ap (λ (x : Going). last_answer x.book) going ∙ own.0.answer);
+            },
+            own.1,
+          )
+          gave n turn going answered (inr mail) = inr (subst (λ x. IsMailed users x user number n.turn t.answer) (sym going) (subst (λ v. IsMailed users h user number v t.answer) (sym turn) mail))
+
+      first_failure : (i place : ℕ) (q : AskedLine) (seen : Sighting) (t : Option Turn) (g h : Going) → slice_get questions i ≡ Some q → slice_get failed i ≡ Some (Some seen) → place < done → IsAt users boot found place g → IsSeenFrom users g t h
+          → fails users q.asked t h ≡ true → seen.place ≤ place
+      first_failure i place q seen t g h asks at lt is from fails_it = go t seen.turn refl from fails_it
+        where
+          failed_it : fails users q.asked seen.turn (kept.judged.each i q (Some seen) asks at).going ≡ true
+          failed_it = (kept.judged.each i q (Some seen) asks at).fails
+
+          kept_so : (x : Option Turn) → seen.turn ≡ x → slice_get failed i ≡ Some (Some (record { place = seen.place; turn = x }))
+          kept_so x e = at ∙ ap (λ (y : Option Turn). Some (Some (record { place = seen.place; turn = y }))) e
+
+          go : (t x : Option Turn) → seen.turn ≡ x → IsSeenFrom users g t h → fails users q.asked t h ≡ true → seen.place ≤ place
+          go None None e from fails_it =
+              let s = state-at place g lt is in
+              state-low seen.place place (kept.first.failures.states i place seen.place q s.0 asks (kept_so None e) s.1.0 (ap (λ y. fails users q.asked None y) (s.1.1 ∙ from) ∙ fails_it))
+          go None (Some v) e from fails_it = absurd (one-kind users q.asked h (kept.judged.each i q (Some seen) asks at).going v fails_it (ap (λ (y : Option Turn). fails users q.asked y (kept.judged.each i q (Some seen) asks at).going) (sym e) ∙ failed_it))
+          go (Some v) None e from fails_it = absurd (one-kind users q.asked (kept.judged.each i q (Some seen) asks at).going h v (ap (λ (y : Option Turn). fails users q.asked y (kept.judged.each i q (Some seen) asks at).going) (sym e) ∙ failed_it) fails_it)
+          go (Some v) (Some w) e from fails_it =
+              let s = are.all place (path_of found place) g h v (at-paths found done place lt) is from in
+              let low = turn-low seen.place s.number s.made s.at (kept.first.failures.turns i s.number seen.place w q s.made asks (kept_so (Some w) e) s.at (ap (λ u. fails users q.asked (Some u) s.made.going) s.turn ∙ ap (λ y. fails users q.asked (Some v) y) s.going ∙ fails_it)) in
+              let here = s.place in
+              omega (arith, low, here)
+
   -- all that is kept
   pub all-found : AreFound users boot found done questions ends tables failed
-  all-found = record { ends = ends-found; answers = answers-found; mail = mail-found; judged = judged-found }
+  all-found = record { ends = ends-found; answers = answers-found; mail = mail-found; judged = judged-found; first = first-found }
 
 -- before the search
 pub begun-kept : (users : List User) (questions : List AskedLine) (ends : List Kind) (tables : Tables) (failed : List (Option Sighting)) → ends ≡ [] → tables ≡ no_answers users → failed ≡ replicate (length questions) None → IsKept users questions nothing ends tables failed
@@ -224,6 +309,7 @@ begun-kept users questions ends tables failed none empty none_failed = record {
   answers = subst (λ (ts : Tables). AreAnswersOf users [] ts) (sym empty) (no-turns users);
   mail = no-mail users tables;
   judged = subst (λ (fs : List (Option Sighting)). AreJudged users questions nothing fs) (sym none_failed) (none-judged users questions);
+  first = record { ends = λ i j k s at there. absurd cc; answers = λ a b i j told t m at there shown. absurd cc; failures = record { states = λ i j p q s asks at there. absurd cc; turns = λ i j p t q m asks at there. absurd cc } };
 }
 
 -- behind it

@@ -54,7 +54,7 @@ module _ (users : List User) (g h : Going) (places : g.places ≡ h.places) (sta
   below-same zero = refl
   below-same (suc n) = ap (λ (ss : List Standing). ss ++ listed (standing_of users g n)) (below-same n) ∙ ap (λ (o : Option Standing). standings_below users h n ++ listed o) (standing-same n)
 
-  standings-same : standings users g ≡ standings users h
+  pub standings-same : standings users g ≡ standings users h
   standings-same = below-same (length users)
 
 -- with the same places, what reached a thread comes to the same entry
@@ -75,10 +75,10 @@ module _ (numbered : Bool) (users : List User) (boot : Boot) (whole : IsFaultles
   brought-same : brought left.book ≡ brought right.book
   brought-same = mail-same None _ _ (same numbered users boot whole range g h a core k t turn).records
 
-  answered-there : (x : Answer) → last_answer t.book ≡ Some x → last_answer right.book ≡ Some x
+  pub answered-there : (x : Answer) → last_answer t.book ≡ Some x → last_answer right.book ≡ Some x
   answered-there x is = sym answer-same ∙ ap (λ (y : Going). last_answer y.book) (sym turn.after) ∙ is
 
-  mailed-there : (user number : ℕ) (u : Turn) (x : Answer) → IsMailed users t user number u x → IsMailed users right user number u x
+  pub mailed-there : (user number : ℕ) (u : Turn) (x : Answer) → IsMailed users t user number u x → IsMailed users right user number u x
   mailed-there user number u x mail = go (subst (λ (y : Going). IsMailed users y user number u x) turn.after mail)
     where
       go : IsMailed users left user number u x → IsMailed users right user number u x

@@ -5,7 +5,10 @@ pub mod Telling
 pub mod Keeping
 pub mod Failing
 pub mod Judgments
+mod Firsts
 pub mod Blinds
 mod HeldRuns
+pub mod Unnamed
 mod Waiting
 pub mod KeptRuns
+pub mod Shortest

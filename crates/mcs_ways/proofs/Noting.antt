@@ -9,7 +9,7 @@ use Rattle.mcs_ways.specs.Ends.{AreEndsOf, IsCounted, IsEndOf, IsFirst, IsKindAt
 use Rattle.mcs_ways.proofs.Lists.{at-last, at-old, at-split, at-within, same-or-not, set-other, set-same, some-same}
 
 -- counting changes counts alone
-counted-back : (ks : List Kind) (i : ℕ) (x : Kind) → slice_get ks i ≡ Some x → (j : ℕ) (k : Kind) → slice_get (set ks i (with_one_more x)) j ≡ Some k → (l : Kind) × ((slice_get ks j ≡ Some l) × ((l.standing ≡ k.standing) × (l.place ≡ k.place)))
+pub counted-back : (ks : List Kind) (i : ℕ) (x : Kind) → slice_get ks i ≡ Some x → (j : ℕ) (k : Kind) → slice_get (set ks i (with_one_more x)) j ≡ Some k → (l : Kind) × ((slice_get ks j ≡ Some l) × ((l.standing ≡ k.standing) × (l.place ≡ k.place)))
 counted-back ks i x there j k at = go (same-or-not j i)
   where
     go : (j ≡ i) ⊎ (j ≡ i → ⊥) → (l : Kind) × ((slice_get ks j ≡ Some l) × ((l.standing ≡ k.standing) × (l.place ≡ k.place)))

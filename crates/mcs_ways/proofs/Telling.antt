@@ -92,7 +92,7 @@ pub record WasTable (user number : ℕ) (t : Told) (old : Tables) (a b : ℕ) (a
   pub is : ((a ≡ user) × (b ≡ number) × IsNoted t before after) ⊎ (((a ≡ user) × (b ≡ number) → ⊥) × (after ≡ before))
 
 module _ (user number : ℕ) (t : Told) (old new : Tables) (noted : IsNotedOf user number t old new) where
-  table-was : (a b : ℕ) (after : List Told) → table_of new a b ≡ Some after → WasTable user number t old a b after
+  pub table-was : (a b : ℕ) (after : List Told) → table_of new a b ≡ Some after → WasTable user number t old a b after
   table-was a b after at = outer (change-back (IsNotedIn number t) user old new noted a in_new.0 in_new.1.0)
     where
       in_new : (ts : List (List Told)) × ((slice_get new a ≡ Some ts) × (slice_get ts b ≡ Some after))
@@ -243,23 +243,23 @@ turn-noted users turns old new m (inl waits) are = subst (λ (ts : Tables). AreA
 turn-noted users turns old new m (inr noted) are = own-more users turns old new m (record { answer = m.answer; place = m.place; turn = m.turn }) refl noted are
 
 -- what is among the answers of an entry still is
-abbrev Grows : Tables → Tables → Type 0
+abbrev pub Grows : Tables → Tables → Type 0
 Grows old new = (a b : ℕ) (after : List Told) (x : Answer) → table_of new a b ≡ Some after → ((told : List Told) → table_of old a b ≡ Some told → IsAmong told x) → IsAmong after x
 
 same-grows : (old new : Tables) → new ≡ old → Grows old new
 same-grows old new same = λ a b after x at was. was after (ap (λ (ts : Tables). table_of ts a b) (sym same) ∙ at)
 
-grows-on : (old mid new : Tables) → Grows old mid → Grows mid new → Grows old new
+pub grows-on : (old mid new : Tables) → Grows old mid → Grows mid new → Grows old new
 grows-on old mid new first then = λ a b after x at was. then a b after x at (λ told there. first a b told x there was)
 
-noted-grows : (user number : ℕ) (t : Told) (old new : Tables) → IsNotedOf user number t old new → Grows old new
+pub noted-grows : (user number : ℕ) (t : Told) (old new : Tables) → IsNotedOf user number t old new → Grows old new
 noted-grows user number t old new noted = λ a b after x at was. among-stays user number t old new noted a b after x at was
 
-turn-grows : (t : Told) (old new : Tables) → IsNotedTurn t old new → Grows old new
+pub turn-grows : (t : Told) (old new : Tables) → IsNotedTurn t old new → Grows old new
 turn-grows t old new (inl waits) = same-grows old new waits.1
 turn-grows t old new (inr noted) = noted-grows t.turn.pick.user t.turn.pick.number t old new noted
 
-for-grows : (o : Option Pick) (t : Told) (old new : Tables) → IsNotedFor o t old new → Grows old new
+pub for-grows : (o : Option Pick) (t : Told) (old new : Tables) → IsNotedFor o t old new → Grows old new
 for-grows None t old new same = same-grows old new same
 for-grows (Some e) t old new noted = noted-grows e.user e.number t old new noted
 
@@ -268,7 +268,7 @@ for-has o user number t old new told is noted there = among-noted user number t 
 
 -- what a turn brought to an entry that waited was noted
 module _ (users : List User) (g : Going) (place : ℕ) (t : Turn) where
-  mail-grows : (rs : List Reached) (old new : Tables) → AreNotedMail users g place t rs old new → Grows old new
+  pub mail-grows : (rs : List Reached) (old new : Tables) → AreNotedMail users g place t rs old new → Grows old new
   mail-grows [] old new same = same-grows old new same
   mail-grows (r ∷ rs) old new (mid, (one, rest)) = grows-on old mid new (for-grows (mailed_to users g t r) (record { answer = r.answer; place = place; turn = t }) old mid one) (mail-grows rs mid new rest)
 

@@ -1,11 +1,11 @@
 -- What is told of all states that were looked behind (own).
-use Rattle.std.specs.Prelude.{ℕ, Bool, ◌≡◌, ◌<◌, ◌⊎◌, true, false, List, Option, Some, None, length, slice_get}
+use Rattle.std.specs.Prelude.{ℕ, Bool, ◌≡◌, ◌<◌, ◌≤◌, ◌⊎◌, true, false, List, Option, Some, None, length, slice_get}
 use Rattle.mcs_types.specs.declared.entry.Answer.{Answer}
 use Rattle.mcs_types.specs.declared.entry.Answer.TheVariants as answer
 use Rattle.mcs_book.specs.Boots.{Boot}
 use Rattle.mcs_turns.specs.Turns.{User, Going, IsOver, IsRun, beginning}
 use Rattle.mcs_explore.specs.Paths.{Path}
-use Rattle.mcs_explore.specs.Search.{Entries, path_of, paths_below}
+use Rattle.mcs_explore.specs.Search.{Entries, depth_at, path_of, paths_below}
 use Rattle.mcs_walks.specs.declared.walk.Turn.{Turn}
 use Rattle.mcs_walks.specs.Walks.{last_answer}
 use Rattle.mcs_orders.specs.Shown.{AreCounted, AreShown, Shown}
@@ -16,7 +16,7 @@ use Rattle.mcs_ways.specs.declared.reading.AskedLine.{AskedLine}
 use Rattle.mcs_ways.specs.declared.judging.Sighting.{Sighting}
 use Rattle.mcs_ways.specs.Standings.{standings}
 use Rattle.mcs_ways.specs.Ends.{IsKindAt, Kind}
-use Rattle.mcs_ways.specs.Judging.{IsDecided, fails}
+use Rattle.mcs_ways.specs.Judging.{fails}
 use Rattle.mcs_ways.specs.Answers.{IsAmong, IsEntry, IsMailed, Tables, table_of}
 
 -- the path of a place leads to this state
@@ -115,11 +115,31 @@ pub record AreJudgedFound {K : Type 0} (users : List User) (boot : Boot) (found 
   pub long : length failed ≡ length questions
   pub each : (i : ℕ) (q : AskedLine) (f : Option Sighting) → slice_get questions i ≡ Some q → slice_get failed i ≡ Some f → IsJudgedFound users boot found done q.asked f
 
+-- a turn gave an entry this answer: its own, but Waits, or what reached it
+abbrev pub IsGiven : List User → Turn → Going → ℕ → ℕ → Answer → Type 0
+IsGiven users t h user number a = (IsAnswered t h user number a × (a ≡ answer.Waits → ⊥)) ⊎ IsMailed users h user number t a
+
+-- each end, each answer and each failure is kept in the first place where there is one like it
+pub record AreFirstFound {K : Type 0} (users : List User) (boot : Boot) (found : Entries K Turn) (done : ℕ) (questions : List AskedLine) (kinds : List Kind) (tables : Tables) (failed : List (Option Sighting)) : Type 0 where
+  pub ends : (i place : ℕ) (k : Kind) (g : Going) → slice_get kinds i ≡ Some k → place < done → IsAt users boot found place g → IsOver users g → standings users g ≡ k.standing → k.place ≤ place
+  pub answers : (user number i place : ℕ) (told : List Told) (t : Told) (u : Turn) (g h : Going) → table_of tables user number ≡ Some told → slice_get told i ≡ Some t → place < done → IsAt users boot found place g → Leads users u g h
+      → IsGiven users u h user number t.answer → t.place ≤ place
+  pub failures : (i place : ℕ) (q : AskedLine) (seen : Sighting) (t : Option Turn) (g h : Going) → slice_get questions i ≡ Some q → slice_get failed i ≡ Some (Some seen) → place < done → IsAt users boot found place g → IsSeenFrom users g t h
+      → fails users q.asked t h ≡ true → seen.place ≤ place
+
 -- a question fails in no run of users: in no state, and by no turn
 pub record IsHeldInRuns (users : List User) (boot : Boot) (q : Asked) : Type 0 where
   pub states : (n : ℕ) (g : Going) → IsRun users boot n g → fails users q None g ≡ false
   pub turns : (n : ℕ) (t : Turn) (g h : Going) → IsRun users boot n g → Leads users t g h → fails users q (Some t) h ≡ false
 
--- so is each question that did not fail and that such states decide
-abbrev pub AreHeldInRuns : Bool → List User → Boot → List AskedLine → List (Option Sighting) → Type 0
-AreHeldInRuns numbered users boot questions failed = (i : ℕ) (q : AskedLine) → slice_get questions i ≡ Some q → slice_get failed i ≡ Some None → IsDecided numbered q.asked → IsHeldInRuns users boot q.asked
+-- no run in which there is an end, an answer or a failure like one that is kept has fewer turns than lead to that
+pub record AreShortest {K : Type 0} (users : List User) (boot : Boot) (found : Entries K Turn) (questions : List AskedLine) (kinds : List Kind) (tables : Tables) (failed : List (Option Sighting)) : Type 0 where
+  pub ends : (i n : ℕ) (k : Kind) (g : Going) → slice_get kinds i ≡ Some k → IsRun users boot n g → IsOver users g → standings users g ≡ k.standing → depth_at found k.place ≤ n
+  pub answers : (user number i n : ℕ) (told : List Told) (t : Told) (u : Turn) (g h : Going) → table_of tables user number ≡ Some told → slice_get told i ≡ Some t → IsRun users boot n g → Leads users u g h
+      → IsGiven users u h user number t.answer → depth_at found t.place ≤ n
+  pub failures : (i n : ℕ) (q : AskedLine) (seen : Sighting) (t : Option Turn) (g h : Going) → slice_get questions i ≡ Some q → slice_get failed i ≡ Some (Some seen) → IsRun users boot n g → IsSeenFrom users g t h
+      → fails users q.asked t h ≡ true → depth_at found seen.place ≤ n
+
+-- so is each question that did not fail
+abbrev pub AreHeldInRuns : List User → Boot → List AskedLine → List (Option Sighting) → Type 0
+AreHeldInRuns users boot questions failed = (i : ℕ) (q : AskedLine) → slice_get questions i ≡ Some q → slice_get failed i ≡ Some None → IsHeldInRuns users boot q.asked

@@ -6,11 +6,13 @@ use Rattle.mcs_ways.specs.declared.reading.AskedLine.{AskedLine}
 use Rattle.mcs_ways.specs.declared.judging.Sighting.{Sighting}
 use Rattle.mcs_ways.specs.Answers.{AreAnswersOf, AreMailOf, Tables}
 use Rattle.mcs_ways.specs.Ends.{AreEndsOf, Kind}
+use Rattle.mcs_ways.specs.Firsts.{AreFirst}
 use Rattle.mcs_ways.specs.Judged.{AreJudged}
 
--- the ends, the answers and the mail of all that was shown, and where questions failed in it
+-- the ends, the answers and the mail of all that was shown, and where questions failed in it, each where it was shown first
 pub record IsKept (users : List User) (questions : List AskedLine) (shown : Shown) (kinds : List Kind) (tables : Tables) (failed : List (Option Sighting)) : Type 0 where
   pub ends : AreEndsOf users shown.states kinds
   pub answers : AreAnswersOf users shown.turns tables
   pub mail : AreMailOf users shown.turns tables
   pub judged : AreJudged users questions shown failed
+  pub first : AreFirst users questions shown kinds tables failed

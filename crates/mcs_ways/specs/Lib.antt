@@ -2,9 +2,12 @@ pub mod Standings
 pub mod Ends
 pub mod Mail
 pub mod Answers
+pub mod Firsts
 pub mod Kept
 pub mod Found
 pub mod Judging
+pub mod Naming
+pub mod Modes
 pub mod Judged
 pub mod Saying
 pub mod Verdicts

@@ -2,6 +2,7 @@
 use crate::asking::Asked;
 use crate::ends::{End, Standing};
 use crate::exploring::{Wanted, watched};
+use crate::heading::put_mode;
 use crate::judging::Sighting;
 use crate::reading::{AskedLine, UserScript, read_script};
 use crate::saying::text_of;
@@ -38,6 +39,7 @@ pub trait Saves {
 struct Report<'a, P: Progress, W, S> {
     alloc: Global,
     script: &'a UserScript,
+    is_exact: bool,
     orders: &'a Orders<'a, Watched<'a, P>>,
     watched: &'a Watched<'a, P>,
     line: Box<Line>,
@@ -83,6 +85,7 @@ impl<'a, P: Progress, W: Write, S: Saves> Report<'a, P, W, S> {
         if self.orders.is_whole() {
             write!(self.to, ", whole")?;
         }
+        put_mode(&mut self.to, self.script, self.is_exact)?;
         self.to.write_all(b"\n")?;
         Ok(())
     }
@@ -333,6 +336,7 @@ pub fn explore_and_tell<R: Read, W: Write + Drop, S: Saves, P: Progress>(
     let mut report = Report {
         alloc,
         script: &script,
+        is_exact: wanted.is_exact,
         orders: &orders,
         watched: orders.watch(),
         line: Box::new(alloc, Line::new())?,

@@ -112,7 +112,6 @@ pub fn asked<'a>(found: &ArgMatches<'a>) -> Sought<'a> {
             states: states.unwrap_or(STATES) as usize,
             depth: depth.unwrap_or(u64::MAX) as usize,
             is_exact: found.get_flag("exact"),
-            numbered: true,
         },
         scripts: found.get_str("scripts"),
     }

@@ -1,11 +1,22 @@
-use Rattle.std.specs.Prelude.{List}
+use Rattle.std.specs.Prelude.{Bool, List}
 use Rattle.std.proofs.Common.{subst, ◌∙◌}
+use Rattle.mcs_orders.specs.Seen.{AreAllSeen}
 use Rattle.mcs_ways.specs.declared.reading.AskedLine.{AskedLine}
-use Rattle.mcs_ways.specs.Found.{AreHeldInRuns, AreJudgedFound}
+use Rattle.mcs_ways.specs.Found.{AreFirstFound, AreJudgedFound}
 use Rattle.mcs_ways.proofs.Keeping.{begun-kept, counted-found, kept-found}
 use Rattle.mcs_ways.proofs.HeldRuns.{all-held}
 use Rattle.mcs_ways.proofs.KeptRuns.{answers-in-runs, ends-in-runs}
+use Rattle.mcs_ways.proofs.Shortest.{all-shortest}
+use Rattle.mcs_ways.proofs.Unnamed.{all-decided, mode-numbered, mode-proved}
 use Rattle.mcs_ways.proofs.exploring.watched.Goals as goal
+
+pub returns-clause-whole : goal.returns-clause-whole
+returns-clause-whole g c = λ is.
+    let mode = c.mode_of-mode.ensures ∙ is.mode in
+    let exact = c.is_proved.ensures ∙ mode-proved c.mode_of-mode.result is.numbered mode in
+    let numbered = c.are_numbered.ensures ∙ mode-numbered c.mode_of-mode.result is.numbered mode in
+    let seen = subst (λ (b : Bool). AreAllSeen b c.args.users.now c.args.boot.now c.in-Ok.orders.search.map.entries) numbered (c.in-Ok.ensures.whole exact c.is_faultless.ensures c.are_in_range.ensures is.all) in
+    seen
 
 pub returns-clause-ends : goal.returns-clause-ends
 returns-clause-ends g c =
@@ -32,20 +43,28 @@ returns-clause-mail g c =
     found.mail
 
 pub returns-clause-run_ends : goal.returns-clause-run_ends
-returns-clause-run_ends g c = λ exact whole range all.
+returns-clause-run_ends g c = λ is.
+    let mode = c.mode_of-mode.ensures ∙ is.mode in
+    let exact = c.is_proved.ensures ∙ mode-proved c.mode_of-mode.result is.numbered mode in
+    let numbered = c.are_numbered.ensures ∙ mode-numbered c.mode_of-mode.result is.numbered mode in
+    let seen = subst (λ (b : Bool). AreAllSeen b c.args.users.now c.args.boot.now c.in-Ok.orders.search.map.entries) numbered (c.in-Ok.ensures.whole exact c.is_faultless.ensures c.are_in_range.ensures is.all) in
     let w = c.in_ok-watched.watched in
     let o = c.in-Ok.orders in
     let kept = begun-kept c.args.users.now w.asked.now w.ends w.answers w.failed.items c.in_ok-watched.ensures.ends c.in_ok-watched.ensures.answers c.in_ok-watched.ensures.failed in
     let found = kept-found c.args.users.now c.are_apart.ensures c.args.boot.now o.search.map.entries o.search.done (c.in-Ok.ensures.shown kept) o.explorer.watch.asked.now o.explorer.watch.ends o.explorer.watch.answers o.explorer.watch.failed.items (λ shown has. has) in
-    ends-in-runs c.args.wanted.numbered c.args.users.now c.args.boot.now whole range o.search.map.entries o.search.done all (c.in-Ok.ensures.whole exact whole range all) o.explorer.watch.ends found.ends
+    ends-in-runs is.numbered c.args.users.now c.args.boot.now c.is_faultless.ensures c.are_in_range.ensures o.search.map.entries o.search.done is.all seen o.explorer.watch.ends found.ends
 
 pub returns-clause-run_answers : goal.returns-clause-run_answers
-returns-clause-run_answers g c = λ exact whole range all.
+returns-clause-run_answers g c = λ is.
+    let mode = c.mode_of-mode.ensures ∙ is.mode in
+    let exact = c.is_proved.ensures ∙ mode-proved c.mode_of-mode.result is.numbered mode in
+    let numbered = c.are_numbered.ensures ∙ mode-numbered c.mode_of-mode.result is.numbered mode in
+    let seen = subst (λ (b : Bool). AreAllSeen b c.args.users.now c.args.boot.now c.in-Ok.orders.search.map.entries) numbered (c.in-Ok.ensures.whole exact c.is_faultless.ensures c.are_in_range.ensures is.all) in
     let w = c.in_ok-watched.watched in
     let o = c.in-Ok.orders in
     let kept = begun-kept c.args.users.now w.asked.now w.ends w.answers w.failed.items c.in_ok-watched.ensures.ends c.in_ok-watched.ensures.answers c.in_ok-watched.ensures.failed in
     let found = kept-found c.args.users.now c.are_apart.ensures c.args.boot.now o.search.map.entries o.search.done (c.in-Ok.ensures.shown kept) o.explorer.watch.asked.now o.explorer.watch.ends o.explorer.watch.answers o.explorer.watch.failed.items (λ shown has. has) in
-    answers-in-runs c.args.wanted.numbered c.args.users.now c.args.boot.now whole range o.search.map.entries o.search.done all (c.in-Ok.ensures.whole exact whole range all) o.explorer.watch.answers found.answers found.mail
+    answers-in-runs is.numbered c.args.users.now c.args.boot.now c.is_faultless.ensures c.are_in_range.ensures o.search.map.entries o.search.done is.all seen o.explorer.watch.answers found.answers found.mail
 
 pub returns-clause-judged : goal.returns-clause-judged
 returns-clause-judged g c =
@@ -57,14 +76,19 @@ returns-clause-judged g c =
     subst (λ (qs : List AskedLine). AreJudgedFound c.args.users.now c.args.boot.now o.search.map.entries o.search.done qs o.explorer.watch.failed.items) same found.judged
 
 pub returns-clause-held : goal.returns-clause-held
-returns-clause-held g c = λ exact whole range all.
+returns-clause-held g c = λ is.
+    let mode = c.mode_of-mode.ensures ∙ is.mode in
+    let exact = c.is_proved.ensures ∙ mode-proved c.mode_of-mode.result is.numbered mode in
+    let numbered = c.are_numbered.ensures ∙ mode-numbered c.mode_of-mode.result is.numbered mode in
+    let seen = subst (λ (b : Bool). AreAllSeen b c.args.users.now c.args.boot.now c.in-Ok.orders.search.map.entries) numbered (c.in-Ok.ensures.whole exact c.is_faultless.ensures c.are_in_range.ensures is.all) in
     let w = c.in_ok-watched.watched in
     let o = c.in-Ok.orders in
     let kept = begun-kept c.args.users.now w.asked.now w.ends w.answers w.failed.items c.in_ok-watched.ensures.ends c.in_ok-watched.ensures.answers c.in_ok-watched.ensures.failed in
     let found = kept-found c.args.users.now c.are_apart.ensures c.args.boot.now o.search.map.entries o.search.done (c.in-Ok.ensures.shown kept) o.explorer.watch.asked.now o.explorer.watch.ends o.explorer.watch.answers o.explorer.watch.failed.items (λ shown has. has) in
     let same = c.in-Ok.ensures.aim ∙ c.in_ok-watched.ensures.asked in
-    subst (λ (qs : List AskedLine). AreHeldInRuns c.args.wanted.numbered c.args.users.now c.args.boot.now qs o.explorer.watch.failed.items) same
-    (all-held c.args.wanted.numbered c.args.users.now c.args.boot.now o.search.map.entries o.search.done o.explorer.watch.asked.now o.explorer.watch.failed.items found.judged whole range all (c.in-Ok.ensures.whole exact whole range all))
+    let judged = subst (λ (qs : List AskedLine). AreJudgedFound c.args.users.now c.args.boot.now o.search.map.entries o.search.done qs o.explorer.watch.failed.items) same found.judged in
+    all-held is.numbered c.args.users.now c.args.boot.now o.search.map.entries o.search.done c.args.asked.entry.now o.explorer.watch.failed.items judged c.is_faultless.ensures c.are_in_range.ensures is.all seen
+    (all-decided c.args.boot.now c.args.users.now c.args.asked.entry.now c.args.wanted.is_exact is.numbered is.mode)
 
 pub returns-clause-counts : goal.returns-clause-counts
 returns-clause-counts g c =
@@ -72,3 +96,27 @@ returns-clause-counts g c =
     let o = c.in-Ok.orders in
     let kept = begun-kept c.args.users.now w.asked.now w.ends w.answers w.failed.items c.in_ok-watched.ensures.ends c.in_ok-watched.ensures.answers c.in_ok-watched.ensures.failed in
     counted-found c.args.users.now c.are_apart.ensures c.args.boot.now o.search.map.entries o.search.done (c.in-Ok.ensures.shown kept)
+
+pub returns-clause-first : goal.returns-clause-first
+returns-clause-first g c =
+    let w = c.in_ok-watched.watched in
+    let o = c.in-Ok.orders in
+    let kept = begun-kept c.args.users.now w.asked.now w.ends w.answers w.failed.items c.in_ok-watched.ensures.ends c.in_ok-watched.ensures.answers c.in_ok-watched.ensures.failed in
+    let found = kept-found c.args.users.now c.are_apart.ensures c.args.boot.now o.search.map.entries o.search.done (c.in-Ok.ensures.shown kept) o.explorer.watch.asked.now o.explorer.watch.ends o.explorer.watch.answers o.explorer.watch.failed.items (λ shown has. has) in
+    let same = c.in-Ok.ensures.aim ∙ c.in_ok-watched.ensures.asked in
+    subst (λ (qs : List AskedLine). AreFirstFound c.args.users.now c.args.boot.now o.search.map.entries o.search.done qs o.explorer.watch.ends o.explorer.watch.answers o.explorer.watch.failed.items) same found.first
+
+pub returns-clause-shortest : goal.returns-clause-shortest
+returns-clause-shortest g c = λ is.
+    let mode = c.mode_of-mode.ensures ∙ is.mode in
+    let exact = c.is_proved.ensures ∙ mode-proved c.mode_of-mode.result is.numbered mode in
+    let numbered = c.are_numbered.ensures ∙ mode-numbered c.mode_of-mode.result is.numbered mode in
+    let seen = subst (λ (b : Bool). AreAllSeen b c.args.users.now c.args.boot.now c.in-Ok.orders.search.map.entries) numbered (c.in-Ok.ensures.whole exact c.is_faultless.ensures c.are_in_range.ensures is.all) in
+    let w = c.in_ok-watched.watched in
+    let o = c.in-Ok.orders in
+    let kept = begun-kept c.args.users.now w.asked.now w.ends w.answers w.failed.items c.in_ok-watched.ensures.ends c.in_ok-watched.ensures.answers c.in_ok-watched.ensures.failed in
+    let found = kept-found c.args.users.now c.are_apart.ensures c.args.boot.now o.search.map.entries o.search.done (c.in-Ok.ensures.shown kept) o.explorer.watch.asked.now o.explorer.watch.ends o.explorer.watch.answers o.explorer.watch.failed.items (λ shown has. has) in
+    let same = c.in-Ok.ensures.aim ∙ c.in_ok-watched.ensures.asked in
+    let first = subst (λ (qs : List AskedLine). AreFirstFound c.args.users.now c.args.boot.now o.search.map.entries o.search.done qs o.explorer.watch.ends o.explorer.watch.answers o.explorer.watch.failed.items) same found.first in
+    all-shortest is.numbered c.args.users.now c.args.boot.now c.is_faultless.ensures c.are_in_range.ensures o.search.map.entries o.search.done is.all seen c.in-Ok.ensures.sorted c.args.asked.entry.now o.explorer.watch.ends o.explorer.watch.answers o.explorer.watch.failed.items first
+    (all-decided c.args.boot.now c.args.users.now c.args.asked.entry.now c.args.wanted.is_exact is.numbered is.mode)
