@@ -14,8 +14,8 @@ use Rattle.mcs_orders.specs.Trails.{Leads}
 use Rattle.mcs_orders.specs.Shown.{AreShown, Counting, HasCounted, HasSeenAll, Made, Shown, Sight, nothing, with_state, with_turn}
 use Rattle.mcs_orders.proofs.Paths.{path-one}
 use Rattle.mcs_ways.specs.declared.answers.Told.{Told}
-use Rattle.mcs_questions.specs.declared.asking.Asked.{Asked}
-use Rattle.mcs_questions.specs.declared.asking.Asked.TheVariants as asked
+use Rattle.mcs_ways.specs.declared.asking.Asked.{Asked}
+use Rattle.mcs_ways.specs.declared.asking.Asked.TheVariants as asked
 use Rattle.mcs_ways.specs.declared.reading.AskedLine.{AskedLine}
 use Rattle.mcs_ways.specs.declared.judging.Sighting.{Sighting}
 use Rattle.mcs_ways.specs.Judging.{fails}

@@ -1,19 +1,17 @@
 //! What is told of all orders of a script of users: its ends, the answers of its entries, and what is asked of them.
 //!
 //! ```text
-//! source ── reading ──> the boot, the users, the texts of their entries, the questions (`#!`) by mcs_questions
+//! source ── reading ──> the boot, the users, the texts of their entries, the questions (`#!`)
 //!     ── mcs_orders ──> each state and each turn, told to `watching`: ends, answers, and where a question fails
 //!     ── report ──> text, and scripts of steps
 //! ```
 #![tactic(auto)]
 
 mod answers;
+mod asking;
 mod ends;
 mod exploring;
-mod findings;
-mod frontier;
 mod heading;
-mod json;
 mod judging;
 mod mail;
 mod modes;
@@ -29,6 +27,6 @@ pub use exploring::{Wanted, watched};
 pub use modes::{Mode, make_objects, mode_of};
 pub use naming::{names_later, names_message};
 pub use reading::AskedLine;
-pub use report::{Explored, Saves, Telling, explore_and_tell, explore_script};
+pub use report::{Explored, Saves, explore_and_tell, explore_script};
 pub use verdicts::{Verdict, verdict_on};
 pub use watching::{Progress, Quiet, Watched};

@@ -6,7 +6,7 @@ ghost use Rattle.mcs_ways.specs.Judging.{IsDecided};
 ghost use Rattle.mcs_text.specs.Spelling.{queue_name};
 ghost use Rattle.mcs_ways.specs.Naming.{is_later, is_message, named, names_later, names_message};
 
-use mcs_questions::Asked;
+use crate::asking::Asked;
 use mcs_kernel::Boot;
 use mcs_lab::{object_of, queue_of};
 use mcs_text::Words;
@@ -59,7 +59,6 @@ pub fn names_message(asked: &Asked) -> bool
         Asked::Never { pattern } => has_message(pattern),
         Asked::Idle { .. }
         | Asked::Answer { .. }
-        | Asked::AnswerIf { .. }
         | Asked::Some { .. }
         | Asked::Apart { .. }
         | Asked::Before { .. }
@@ -117,7 +116,6 @@ pub fn names_later(boot: &Boot, asked: &Asked) -> bool
         Asked::Never { pattern } => has_later(boot, pattern),
         Asked::Idle { .. }
         | Asked::Answer { .. }
-        | Asked::AnswerIf { .. }
         | Asked::Some { .. }
         | Asked::Apart { .. }
         | Asked::Before { .. }

@@ -1,10 +1,8 @@
 //! A script of users: its boot, the entries of its users, and what is asked of all orders.
+use crate::asking::{Asked, asked_of};
 use mcs_kernel::Boot;
 use mcs_lab::{LabFault, Names, TakesLines, bare, take_lines};
 use mcs_orders::Users;
-use mcs_questions::{
-    Asked, ExploreFault, QuestionFault, There, asked_of, comes_once, goes_on_once, question_of,
-};
 use mcs_sim::{ReplayRun, Source};
 use mcs_text::{Key, LineFault, UserEntry, Words, find_boot_key, read_user};
 use mcs_types::{BootFault, ObjId, Room};
@@ -26,13 +24,6 @@ pub struct AskedLine {
     pub line: u64,
 }
 
-/// A line `#!`, of which all but its newline is kept.
-#[derive(Drop)]
-struct Question {
-    text: Vec<u8>,
-    line: u64,
-}
-
 /// What a script of users says.
 #[derive(Drop)]
 pub struct UserScript {
@@ -51,7 +42,7 @@ struct Reader {
     room: Option<Room>,
     users: Users,
     texts: Vec<EntryText>,
-    questions: Vec<Question>,
+    asked: Vec<AskedLine>,
     names: Names,
     taken: u64,
     threads: u32,
@@ -116,7 +107,7 @@ impl Reader {
             room: Some(room),
             users: Users::new(alloc),
             texts: Vec::new(alloc),
-            questions: Vec::new(alloc),
+            asked: Vec::new(alloc),
             names: Names::new(alloc),
             taken: 0,
             threads: 0,
@@ -186,14 +177,51 @@ impl Reader {
     /// Takes a line that is skipped: it may ask something, or give a name.
     fn take_skipped(&mut self, alloc: Global, line: &[u8]) -> Result<(), LabFault> {
         self.feed(alloc, b"\n")?;
-        if let [b'#', b'!', ..] = line {
-            self.questions.push(Question {
-                text: kept(alloc, bare(line))?,
+        let fault = LabFault::Form { line: self.taken };
+        if let [b'#', b'!', b' ', text @ ..] = bare(line) {
+            let Some(asked) = asked_of(alloc, text)? else {
+                return Err(fault);
+            };
+            self.asked.push(AskedLine {
+                asked,
+                text: kept(alloc, text)?,
                 line: self.taken,
             })?;
             return Ok(());
         }
         self.names.hear(alloc, self.taken, line)
+    }
+
+    /// Lets lists of users go on again, where that is asked. Form of a line that names an entry that is not there.
+    fn repeat(&mut self) -> Result<(), LabFault> {
+        for asked in self.asked.iter() {
+            if let Asked::Again { event } = asked.asked {
+                let number = event.number.saturating_sub(1);
+                if !self.users.repeat(event.thread, number) {
+                    return Err(LabFault::Form { line: asked.line });
+                }
+            }
+        }
+        Ok(())
+    }
+
+    /// The boot of the lines that were taken, whose input has ended.
+    fn boot(&mut self, alloc: Global) -> Result<Boot, LabFault> {
+        if let Err(fault) = self.run.end(alloc) {
+            return Err(LabFault::from(fault));
+        }
+        let no_cores = LabFault::Script {
+            line: self.taken.saturating_add(1),
+            why: LineFault::NoCores,
+        };
+        let Some(kernel) = self.run.kernel() else {
+            return Err(no_cores);
+        };
+        let book = kernel.book();
+        match boot_again(alloc, book.cores(), book.boot()) {
+            Ok(boot) => Ok(boot),
+            Err(_) => Err(LabFault::OutOfMemory),
+        }
     }
 }
 
@@ -221,87 +249,24 @@ impl TakesLines for Reader {
     }
 }
 
-/// What a question asks of a script.
-fn read_question(
-    alloc: Global,
-    there: There<'_>,
-    text: &[u8],
-) -> Result<(Vec<u8>, Asked), QuestionFault> {
-    let text = question_of(alloc, text)?;
-    Ok((Vec::from_slice(alloc, text)?, asked_of(alloc, there, text)?))
-}
-
-/// What all questions ask of a script.
-fn read_questions(
-    alloc: Global,
-    there: There<'_>,
-    questions: &[Question],
-) -> Result<Vec<AskedLine>, ExploreFault> {
-    let mut all = Vec::new(alloc);
-    for question in questions {
-        let line = question.line;
-        match read_question(alloc, there, question.text.as_slice()) {
-            Ok((text, asked)) => all.push(AskedLine { asked, text, line })?,
-            Err(why) => return Err(ExploreFault::of_line(line, why)),
-        }
-    }
-    Ok(all)
-}
-
-/// Lets lists of users go on again, where that is asked. AgainTwice where one does already.
-fn repeat(alloc: Global, users: &mut Users, asked: &[AskedLine]) -> Result<(), ExploreFault> {
-    for line in asked {
-        if let Err(why) = goes_on_once(alloc, users, &line.asked) {
-            return Err(ExploreFault::of_line(line.line, why));
-        }
-        if let Asked::Again { event } = line.asked {
-            users.repeat(event.thread, event.number.saturating_sub(1));
-        }
-    }
-    Ok(())
-}
-
-/// ComesAgain where a question is about the first time of what comes again.
-fn come_once(alloc: Global, users: &Users, asked: &[AskedLine]) -> Result<(), ExploreFault> {
-    for line in asked {
-        if let Err(why) = comes_once(alloc, users, &line.asked) {
-            return Err(ExploreFault::of_line(line.line, why));
-        }
-    }
-    Ok(())
-}
-
-/// The script of the lines that were taken.
-fn script_of(alloc: Global, reader: Reader) -> Result<UserScript, ExploreFault> {
+/// What a source says, to its end. The faults are those of `mcssim run`, and Form where a line `#!` asks nothing that is known, or
+/// lets a list go on with an entry that is not there.
+pub fn read_script<R: Read>(alloc: Global, from: &mut Source<R>) -> Result<UserScript, LabFault> {
+    let mut reader = Reader::new(alloc)?;
+    take_lines(alloc, from, &mut reader)?;
+    let boot = reader.boot(alloc)?;
+    reader.repeat()?;
     let Reader {
-        run,
+        run: _,
         room: _,
-        mut users,
+        users,
         texts,
-        questions,
+        asked,
         names,
-        taken,
+        taken: _,
         threads: _,
         has_boot: _,
     } = reader;
-    let Some(kernel) = run.kernel() else {
-        return Err(ExploreFault::Lab(LabFault::Script {
-            line: taken.saturating_add(1),
-            why: LineFault::NoCores,
-        }));
-    };
-    let book = kernel.book();
-    let Ok(boot) = boot_again(alloc, book.cores(), book.boot()) else {
-        return Err(ExploreFault::Lab(LabFault::OutOfMemory));
-    };
-    let there = There {
-        boot: book.boot(),
-        users: &users,
-        names: &names,
-    };
-    let asked = read_questions(alloc, there, questions.as_slice())?;
-    repeat(alloc, &mut users, asked.as_slice())?;
-    come_once(alloc, &users, asked.as_slice())?;
     Ok(UserScript {
         boot,
         users,
@@ -309,17 +274,4 @@ fn script_of(alloc: Global, reader: Reader) -> Result<UserScript, ExploreFault> 
         asked,
         names,
     })
-}
-
-/// What a source says, to its end. The faults are those of `mcssim run`, and those of questions.
-pub fn read_script<R: Read>(
-    alloc: Global,
-    from: &mut Source<R>,
-) -> Result<UserScript, ExploreFault> {
-    let mut reader = Reader::new(alloc)?;
-    take_lines(alloc, from, &mut reader)?;
-    if let Err(fault) = reader.run.end(alloc) {
-        return Err(ExploreFault::Lab(LabFault::from(fault)));
-    }
-    script_of(alloc, reader)
 }

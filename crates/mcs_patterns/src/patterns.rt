@@ -1,6 +1,6 @@
 //! Patterns: lines of words, in which `*` stands for a word and `**`, at the end, for the rest.
 ghost use Rattle.std.specs.Prelude.{◌≡◌};
-ghost use Rattle.mcs_questions.specs.Patterns.{is_match, is_rest, is_word};
+ghost use Rattle.mcs_patterns.specs.Patterns.{is_match, is_rest, is_word};
 
 use mcs_text::Words;
 
