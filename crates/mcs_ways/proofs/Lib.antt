@@ -12,3 +12,4 @@ pub mod Unnamed
 mod Waiting
 pub mod KeptRuns
 pub mod Shortest
+pub mod Lives
