@@ -4,9 +4,9 @@
     python3 tests/gate-table.py [--anew] [NAME..]   runs `rt ci` with these words, and watches it
     python3 tests/gate-table.py --pid PID           watches an `rt ci` that runs already, from now on
 
-Once a second it reads from /proc what each process below `rt ci` has used, and whose it is by its command line. A process that ends between
-two reads keeps what it had used at the first; `rt ci` is told by the system what its processes used in all, and what was not seen is
-the last row. What earlier runs kept on this machine is not done again and not counted: `--anew` does all of it.
+Twice a second it reads from /proc what each process below `rt ci` has used, and whose it is by its command line. A process that ends
+between two reads keeps what it had used at the first. What earlier runs kept on this machine is not done again and not counted:
+`--anew` does all of it.
 """
 import os
 import re
@@ -16,7 +16,9 @@ import time
 from collections import defaultdict
 
 TICKS = os.sysconf("SC_CLK_TCK")
-KINDS = ("proof", "tests", "wrong bodies", "compiling")
+KINDS = ("proof", "tests", "wrong bodies", "compiling, running")
+# What `rt` itself uses, and the programs that are run.
+OTHER = "rt", KINDS[3]
 # A crate that takes fewer seconds has no row of its own.
 LEAST = 150
 
@@ -30,12 +32,11 @@ def text_of(path):
 
 
 def stat_of(pid):
-    """The parent of a process, its own seconds, those of its children that have ended, and when it began."""
+    """The parent of a process, its own seconds, and when it began."""
     fields = text_of(f"/proc/{pid}/stat").rpartition(")")[2].split()
-    if len(fields) < 20:
+    if len(fields) < 20 or fields[0] == "Z":
         return None
-    own, ended = ((int(fields[at]) + int(fields[at + 1])) / TICKS for at in (11, 13))
-    return int(fields[1]), own, ended, fields[19]
+    return int(fields[1]), (int(fields[11]) + int(fields[12])) / TICKS, fields[19]
 
 
 def below(top):
@@ -64,33 +65,30 @@ def work_of(pid):
         return name[1], "tests"
     if "/rt-edit" in folder or any("/rt-edits-" in it for it in words):
         return name[1], "wrong bodies"
-    return name[1], "compiling" if "--crate-checked" in words else "proof"
+    return name[1], KINDS[3] if "--crate-checked" in words else "proof"
 
 
 class Gate:
     """What was seen of the processes below `rt ci`."""
 
     def __init__(self, top):
-        self.top, self.works, self.seconds, self.largest, self.total = top, {}, {}, (0, "nothing"), 0.0
+        self.top, self.works, self.seconds, self.largest = top, {}, {}, (0, "nothing")
 
     def work_above(self, pid, found):
         """The work of the nearest process above that tells it: clang compiles for the `rattle` that started it."""
         while pid in found:
-            key = pid, found[pid][3]
-            if self.works.get(key):
-                crate, kind = self.works[key]
-                return crate, "tests" if kind == "tests" else "compiling"
+            work = self.works.get((pid, found[pid][2]))
+            if work:
+                return work[0], "tests" if work[1] == "tests" else KINDS[3]
             pid = found[pid][0]
-        return None
+        return OTHER
 
     def look(self):
         """Reads what all processes have used; False where `rt ci` has ended."""
-        stat = stat_of(self.top)
-        if not stat:
+        if not stat_of(self.top):
             return False
-        self.total = max(self.total, stat[1] + stat[2])
         found = below(self.top)
-        for pid, (parent, own, _, began) in found.items():
+        for pid, (parent, own, began) in found.items():
             key = pid, began
             try:
                 # (a process may still be the one that started it)
@@ -98,10 +96,9 @@ class Gate:
             except OSError:
                 continue
             work = self.works[key] or self.work_above(parent, found)
-            if work:
-                self.seconds[key] = work, own
-                peak = re.search(r"VmHWM:\s+(\d+)", text_of(f"/proc/{pid}/status"))
-                self.largest = max(self.largest, (int(peak[1]) if peak else 0, f"{work[0]}, {work[1]}"))
+            self.seconds[key] = work, own
+            peak = re.search(r"VmHWM:\s+(\d+)", text_of(f"/proc/{pid}/status"))
+            self.largest = max(self.largest, (int(peak[1]) if peak else 0, f"{work[0]}, {work[1]}"))
         return True
 
     def by_crates(self):
@@ -118,22 +115,21 @@ def row(name, cells):
 def print_table(gate, began):
     table = sorted(gate.by_crates().items(), key=lambda it: -sum(it[1].values()))
     large = [it for it in table if sum(it[1].values()) >= LEAST]
-    others = table[len(large):]
+    others = table[len(large) :]
     sums = [sum(it[1][kind] for it in table) for kind in KINDS]
     print("| crate | " + " | ".join(KINDS) + " |\n|---|" + "---|" * len(KINDS))
     for crate, cells in large:
         print(row(f"`{crate}`", cells.values()))
     if others:
         print(row(f"the other {len(others)}", [sum(it[1][kind] for it in others) for kind in KINDS]))
-    print(row("sum", sums))
+    print(row("all", sums))
     peak, whose = gate.largest
     head = subprocess.run(["git", "describe", "--always", "--dirty"], capture_output=True, text=True).stdout.strip()
     model = re.search(r"model name\s*: (.*)", text_of("/proc/cpuinfo"))
     memory = re.search(r"MemTotal:\s+(\d+)", text_of("/proc/meminfo"))
     print(f"""
-In all {gate.total:,.0f} seconds of a processor, of which {gate.total - sum(sums):,.0f} were not seen or run what was built; {(time.time() - began) / 60:,.0f}
-minutes. The largest process took {peak / 1e6:.1f} GB ({whose}). Commit {head}; {os.cpu_count()} processors, {model[1] if model else 'unknown'},
-{int(memory[1]) / 1e6 if memory else 0:,.0f} GB.""")
+In all {sum(sums):,.0f} seconds of a processor, in {(time.time() - began) / 60:,.0f} minutes. The largest process took {peak / 1e6:.1f} GB
+({whose}). Commit {head}; {os.cpu_count()} processors ({model[1] if model else 'unknown'}), {int(memory[1]) / 1e6 if memory else 0:,.0f} GB.""")
 
 
 def main(words):
@@ -147,13 +143,10 @@ def main(words):
         top = started.pid
     gate, began = Gate(top), time.time()
     while gate.look():
-        if started and os.waitid(os.P_PID, top, os.WEXITED | os.WNOHANG | os.WNOWAIT):
-            _, status, used = os.wait4(top, 0)
-            gate.total = used.ru_utime + used.ru_stime
-            print_table(gate, began)
-            sys.exit(os.waitstatus_to_exitcode(status) and 1)
-        time.sleep(1)
+        time.sleep(0.5)
     print_table(gate, began)
+    if started and started.wait():
+        sys.exit(f"gate-table: rt ci ended with status {started.returncode}, so this is not the whole gate")
 
 
 main(sys.argv[1:])

@@ -1,9 +1,9 @@
 //! The scripts of `examples/` that consist of steps are checked, for each says what its steps answer, and drawn, as those of its
 //! gallery: each picture is compared with the one that is kept beside its script, and looked at. So are pages, texts and scripts with a
 //! flaw. All orders of the scripts of users are gone through, and plans are compiled. Told is besides what a search finds of a small
-//! system, for which texts patterns stand, and what the scripts of standard input give, which is all that is told where no file is
-//! named (so `tests/each-allocation.sh` has each allocation refused in turn, and wants the same traces). With a number alone, a byte of each
-//! plan is changed so many times, and no more is done.
+//! system, for which texts patterns stand, what is stuck at the end of some scripts, and what the scripts of standard input give, which
+//! is all that is told where no file is named (so `tests/each-allocation.sh` has each allocation refused in turn, and wants the same
+//! traces). With a number alone, a byte of each plan is changed so many times, and no more is done.
 #![tactic(auto)]
 
 mod calls;
@@ -19,6 +19,7 @@ mod places;
 mod plans;
 mod rings;
 mod scripts;
+mod stuck;
 
 use flaws::tell_flaws;
 use gallery::draw_gallery;
@@ -34,6 +35,7 @@ use rings::tell_rings;
 use std::fs;
 use std::io::{self, BufWriter, Write};
 use std::process::ExitCode;
+use stuck::tell_stuck;
 
 /// Checks the script of a file, and writes its name before the verdicts.
 fn check_file<W: Write + Drop>(rt: &HostRuntime, to: &mut W, path: &str) -> Result<bool, LabFault> {
@@ -92,6 +94,7 @@ fn tell_all(rt: &HostRuntime, paths: &[String]) -> Result<bool, LabFault> {
     try_changes(rt, &mut to, CHANGES)?;
     tell_rings(rt.alloc(), &mut to)?;
     tell_patterns(&mut to)?;
+    tell_stuck(rt, &mut to)?;
     to.flush()?;
     Ok(all_hold)
 }

@@ -15,6 +15,22 @@ const SCRIPTS: &[&str] = &[
     "explore/no-mutex.mcs",
     "explore/dining.mcs",
     "explore/dining-mended.mcs",
+    "explore/moves.mcs",
+    "explore/slots.mcs",
+    "explore/prio.mcs",
+    "explore/bound.mcs",
+    "explore/named-message.mcs",
+    "explore/named-object.mcs",
+    "explore/made-objects.mcs",
+];
+
+/// Those that are explored by exact keys, too.
+const EXACT: &[&str] = &[
+    "explore/moves.mcs",
+    "explore/slots.mcs",
+    "explore/prio.mcs",
+    "explore/bound.mcs",
+    "explore/made-objects.mcs",
 ];
 
 /// How many scripts were kept, of how many each step is let in, and how many steps they have in all.
@@ -73,7 +89,12 @@ fn word_of(explored: Explored) -> &'static str {
 }
 
 /// Explores the script of a file.
-fn explore_file<W: Write + Drop>(rt: &HostRuntime, to: &mut W, path: &str) -> Result<(), LabFault> {
+fn explore_file<W: Write + Drop>(
+    rt: &HostRuntime,
+    to: &mut W,
+    path: &str,
+    is_exact: bool,
+) -> Result<(), LabFault> {
     writeln!(to, "# {path}")?;
     let Ok(file) = fs::open(rt, path) else {
         return Err(LabFault::Read);
@@ -86,7 +107,7 @@ fn explore_file<W: Write + Drop>(rt: &HostRuntime, to: &mut W, path: &str) -> Re
     let wanted = Wanted {
         states: 10_000,
         depth: 1_000,
-        is_exact: false,
+        is_exact,
     };
     let explored = explore_script(
         rt.alloc(),
@@ -109,7 +130,10 @@ fn explore_file<W: Write + Drop>(rt: &HostRuntime, to: &mut W, path: &str) -> Re
 /// Explores all scripts.
 pub fn explore_all<W: Write + Drop>(rt: &HostRuntime, to: &mut W) -> Result<(), LabFault> {
     for &path in SCRIPTS {
-        explore_file(rt, to, path)?;
+        explore_file(rt, to, path, false)?;
+    }
+    for &path in EXACT {
+        explore_file(rt, to, path, true)?;
     }
     Ok(())
 }

@@ -3,9 +3,7 @@
 #![tactic(auto)]
 
 mod likeness;
-mod reaching;
 mod search;
 
 pub use likeness::{Likeness, every_run, near_run};
-pub use reaching::mark_all_led;
-pub use search::{Budget, Edge, Found, Search, System, explore};
+pub use search::{Budget, Found, Search, System, explore};

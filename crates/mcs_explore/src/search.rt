@@ -2,8 +2,8 @@
 ghost use Rattle.std.specs.Prelude.{◌≡◌, ◌+◌, ◌≤◌, ◌<◌, ◌^◌, ◌++◌, ◌∷◌, ◌↔◌, ◌⊎◌, [], List, Some, IsTrue, IfOk, OnOk, length};
 ghost use Rattle.mcs_explore.specs.Paths.{Path, Steps};
 ghost use Rattle.mcs_explore.specs.Closure.{IsLikeness};
-ghost use Rattle.mcs_explore.specs.Search.{AreAllFound, AreApart, AreLeast, AreNexts, AreReached, AreSorted, HaveOneKey, IsClosedBelow, IsGraph, IsSpent, IsWhole, depth_at, label_at, listed, parent_at, path_of, paths_below};
-ghost use Rattle.mcs_explore.specs.Keeping.{Adds, Goes, HasPlace, IsLonger, IsSearching};
+ghost use Rattle.mcs_explore.specs.Search.{AreAllFound, AreApart, AreLeast, AreNexts, AreReached, AreSorted, HaveOneKey, IsClosedBelow, IsSpent, IsWhole, depth_at, label_at, listed, parent_at, path_of, paths_below};
+ghost use Rattle.mcs_explore.specs.Keeping.{Adds, Goes, IsLonger, IsSearching};
 
 use indexmap::IndexMap;
 use std::alloc::{AllocError, Global};
@@ -96,13 +96,6 @@ pub struct Found<L> {
     pub label: L,
 }
 
-/// A step from the state in one place to that in another.
-#[derive(Clone, Copy, Drop)]
-pub struct Edge {
-    pub from: u32,
-    pub to: u32,
-}
-
 /// How far a search goes.
 #[derive(Clone, Copy, Drop)]
 pub struct Budget {
@@ -112,42 +105,29 @@ pub struct Budget {
     pub depth: usize,
 }
 
-/// The states that were found, the nearest first, each by its key, how many of them were expanded, and the steps from these.
+/// The states that were found, the nearest first, each by its key, and how many of them were looked behind.
 #[derive(Drop)]
 pub struct Search<K: Eq + Hash + Drop, L: Copy + Drop> {
     pub map: IndexMap<K, Found<L>>,
     pub done: usize,
-    pub edges: Vec<Edge>,
 }
 
-/// Notes a key, if it is not there yet, and returns its place. An AllocError where memory was refused.
+/// Notes a key, if it is not there yet.
 fn add<K: Eq + Hash + Drop, L: Copy + Drop>(
     map: &mut IndexMap<K, Found<L>>,
     key: K,
     found: Found<L>,
-) -> Result<usize, AllocError>
-    ensures adds { OnOk result (Adds K.eq map.old.entries key found map.new.entries) }
-    ensures place { IfOk result (λ place. HasPlace K.eq map.new.entries key place) }
+) -> Result<(), AllocError>
+    ensures { OnOk result (Adds K.eq map.old.entries key found map.new.entries) }
 {
-    if let Some(place) = map.get_index_of(&key) {
-        return Ok(place);
+    if map.contains_key(&key) {
+        Ok(())
+    } else {
+        match map.insert(key, found) {
+            Ok(_) => Ok(()),
+            Err(_) => Err(AllocError),
+        }
     }
-    let place = map.len();
-    match map.insert(key, found) {
-        Ok(_) => Ok(place),
-        Err(_) => Err(AllocError),
-    }
-}
-
-/// Adds the edge between two places. An AllocError where memory was refused, or a place has more than 32 bits.
-fn push_edge(edges: &mut Vec<Edge>, from: usize, to: usize) -> Result<(), AllocError>
-    ensures { OnOk result (edges.new.items
-        ≡ edges.old.items ++ (record { from = from; to = to }) ∷ []) }
-{
-    let from = narrow(from)?;
-    let to = narrow(to)?;
-    edges.push(Edge { from, to })?;
-    Ok(())
 }
 
 /// Adds a label, if there is one.
@@ -255,10 +235,9 @@ fn found_behind<L: Copy + Drop>(
     })
 }
 
-/// Notes all steps from the state in a place, which has this depth, and where they lead.
+/// Notes all that is behind the state in a place, which has this depth.
 fn add_all<M: System>(
     map: &mut IndexMap<M::Key, Found<M::Label>>,
-    edges: &mut Vec<Edge>,
     place: usize,
     depth: usize,
     nexts: Vec<(M::Label, M::Key)>,
@@ -266,14 +245,12 @@ fn add_all<M: System>(
     requires room { depth + 1 < 2 ^ 64 }
     ensures goes { OnOk result ((m : M)
         → Goes M.Key.eq (M.Leads m) (M.Like m) (M.IsKey m) (M.start m)
-        map.old.entries edges.old.items place depth nexts.items
-        map.new.entries edges.new.items) }
+        map.old.entries place depth nexts.items map.new.entries) }
     ensures longer { OnOk result (IsLonger map.old.entries map.new.entries) }
 {
     for (label, key) in nexts {
         let found = found_behind(place, depth, label)?;
-        let to = add(map, key, found)?;
-        push_edge(edges, place, to)?;
+        add(map, key, found)?;
     }
     Ok(())
 }
@@ -284,7 +261,7 @@ fn begin<M: System>(alloc: Global, system: &mut M) -> Result<Search<M::Key, M::L
     ensures begun { IfOk result (λ f. f.done ≡ 0) }
     ensures searching { IfOk result (λ f. IsSearching M.Key.eq
         (M.Leads system.new) (M.Like system.new)
-        (M.IsKey system.new) (M.start system.new) f.done f.map.entries f.edges.items) }
+        (M.IsKey system.new) (M.start system.new) f.done f.map.entries) }
     ensures seen { OnOk result (M.HasSeen system.old [] → M.HasSeen system.new []) }
 {
     let mut map = IndexMap::new(alloc);
@@ -295,11 +272,7 @@ fn begin<M: System>(alloc: Global, system: &mut M) -> Result<Search<M::Key, M::L
     };
     let key = system.first(alloc)?;
     add(&mut map, key, start)?;
-    Ok(Search {
-        map,
-        done: 0,
-        edges: Vec::new(alloc),
-    })
+    Ok(Search { map, done: 0 })
 }
 
 /// The steps from the state in a place.
@@ -334,13 +307,11 @@ fn look_behind<M: System>(
     requires more { search.old.done < length search.old.map.entries }
     requires room { search.old.done + 1 < 2 ^ 64 }
     requires searching { IsSearching M.Key.eq (M.Leads system.old) (M.Like system.old)
-        (M.IsKey system.old) (M.start system.old)
-        search.old.done search.old.map.entries search.old.edges.items }
+        (M.IsKey system.old) (M.start system.old) search.old.done search.old.map.entries }
     ensures later { M.Later system.old system.new }
     ensures done { OnOk result (search.new.done ≡ search.old.done + 1) }
     ensures searching { OnOk result (IsSearching M.Key.eq (M.Leads system.new) (M.Like system.new)
-        (M.IsKey system.new) (M.start system.new)
-        search.new.done search.new.map.entries search.new.edges.items) }
+        (M.IsKey system.new) (M.start system.new) search.new.done search.new.map.entries) }
     ensures seen { OnOk result (
         M.HasSeen system.old (paths_below search.old.map.entries search.old.done)
         → M.HasSeen system.new (paths_below search.new.map.entries search.new.done)) }
@@ -348,7 +319,7 @@ fn look_behind<M: System>(
     let place = search.done;
     let nexts = nexts_of(alloc, system, search, place)?;
     let depth = search.depth(place);
-    add_all::<M>(&mut search.map, &mut search.edges, place, depth, nexts)?;
+    add_all::<M>(&mut search.map, place, depth, nexts)?;
     search.done = place + 1;
     Ok(())
 }
@@ -374,9 +345,6 @@ pub fn explore<M: System>(
     ensures whole { IfOk result (λ f. length f.map.entries ≤ f.done
         → IsWhole (M.Leads system.old) (M.Like system.old)
         (M.IsKey system.new) (M.start system.old) f.map.entries) }
-    // each edge is a step between two of them, but for likeness, and each step from an expanded one has its edge
-    ensures graph { IfOk result (λ f. IsGraph (M.Leads system.old) (M.Like system.old)
-        (M.IsKey system.new) (M.start system.old) f.done f.map.entries f.edges.items) }
     // where alike states have one key, no run to a state with the key of an entry is shorter
     ensures least { IfOk result (λ f. IsLikeness (Steps (M.Leads system.old)) (M.Like system.old)
         → HaveOneKey M.Key.eq (M.Like system.old) (M.IsKey system.new)

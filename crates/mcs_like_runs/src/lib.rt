@@ -34,10 +34,3 @@ pub fn alike_unnumbered()
     requires { AreAlike true at.0 at.1 at.2 at.3 }
     ensures { AreAlike false at.0 at.1 at.2 at.3 }
 {}
-
-/// Likeness goes both ways: where a run (at.3) is like another (at.4), that is like the first.
-pub fn alike_back()
-    ghost at: { Bool × List User × Boot × Going × Going }
-    requires { AreAlike at.0 at.1 at.2 at.3 at.4 }
-    ensures { AreAlike at.0 at.1 at.2 at.4 at.3 }
-{}

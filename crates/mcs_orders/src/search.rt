@@ -4,9 +4,8 @@ ghost use Rattle.mcs_book.specs.Boots.{IsFaultless};
 ghost use Rattle.mcs_turns.specs.Turns.{Going, AreInRange, beginning};
 ghost use Rattle.mcs_like_runs.specs.Runs.{IsReached};
 ghost use Rattle.mcs_explore.specs.Paths.{Path};
-ghost use Rattle.mcs_explore.specs.Reaching.{AreWithin};
 ghost use Rattle.mcs_explore.specs.Search.{AreSorted, IsSpent, depth_at, path_of, paths_below};
-ghost use Rattle.mcs_orders.specs.Seen.{AreAllSeen, AreFoundRuns, IsGraphOfRuns};
+ghost use Rattle.mcs_orders.specs.Seen.{AreAllSeen, AreFoundRuns};
 ghost use Rattle.mcs_orders.specs.Shown.{HasCounted, HasSeenAll, nothing};
 ghost use Rattle.mcs_orders.specs.Trails.{Leads};
 ghost use Rattle.mcs_orders.specs.Watching.{counting};
@@ -14,7 +13,7 @@ ghost use Rattle.mcs_orders.specs.Watching.{counting};
 use crate::explorer::{Explorer, Watch};
 use crate::following::follow;
 use crate::packed::{PackedTurn, unpacked};
-use mcs_explore::{Budget, Edge, Search};
+use mcs_explore::{Budget, Search};
 use mcs_kernel::Boot;
 use mcs_keys::Key;
 use mcs_queues::Lines;
@@ -77,13 +76,6 @@ impl<'a, W: Watch> Orders<'a, W> {
         ensures { IsTrue result ↔ (length self.now.search.map.entries ≤ self.now.search.done) }
     {
         self.search.is_whole()
-    }
-
-    /// Returns the turns between them, by their places.
-    pub fn edges(&self) -> &[Edge]
-        ensures { result.now ≡ self.now.search.edges.items }
-    {
-        &self.search.edges
     }
 
     /// How many rows their keys have.
@@ -162,12 +154,6 @@ pub fn explore<'a, W: Watch>(
     ensures whole { IfOk result (λ o. is_exact ≡ true → IsFaultless boot.now → AreInRange users.now
         → length o.search.map.entries ≤ o.search.done
         → AreAllSeen numbered users.now boot.now o.search.map.entries) }
-    // edges lie between states that were found, and then they are the runs of the users
-    ensures within { IfOk result (λ o. AreWithin o.search.edges.items
-        (length o.search.map.entries)) }
-    ensures graph { IfOk result (λ o. is_exact ≡ true → IsFaultless boot.now → AreInRange users.now
-        → length o.search.map.entries ≤ o.search.done
-        → IsGraphOfRuns numbered users.now boot.now o.search.map.entries o.search.edges.items) }
     // each state that was looked behind was shown, and each turn from it, and no other, and these were counted
     ensures shown { IfOk result (λ o. W.HasSeen watch users.now nothing
         → HasSeenAll (HasCounted W.HasSeen) (counting o.explorer)

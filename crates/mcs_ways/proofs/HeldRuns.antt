@@ -45,7 +45,7 @@ module _ (users : List User) (g h : Going) (places : g.places ≡ h.places) (sta
   abbrev is_at : Going → Span → Option ℕ → Bool
   is_at x s o = elim o [ None ↦ false | Some i ↦ is_within s (answered_at x (slice_get users i) i) ]
 
-  pub answered-same : (o : Option User) (i : ℕ) → answered_at g o i ≡ answered_at h o i
+  answered-same : (o : Option User) (i : ℕ) → answered_at g o i ≡ answered_at h o i
   answered-same None i = refl
   answered-same (Some u) i = go (slice_get g.places i) (slice_get h.places i) (ap (λ (ps : List Position). slice_get ps i) places)
     where

@@ -74,12 +74,12 @@ one-longer : {A : Type 0} (xs : List A) (x : A) → length (xs ++ x ∷ []) ≡ 
 one-longer [] x = refl
 one-longer (y ∷ xs) x = ap (λ n. suc n) (one-longer xs x)
 
-pub paths-long : {K L : Type 0} (found : Entries K L) (n : ℕ) → length (paths_below found n) ≡ n
+paths-long : {K L : Type 0} (found : Entries K L) (n : ℕ) → length (paths_below found n) ≡ n
 paths-long found zero = refl
 paths-long found (suc n) = one-longer (paths_below found n) (path_of found n) ∙ ap (λ k. suc k) (paths-long found n)
 
 -- the paths of the first places
-pub at-paths : {K L : Type 0} (found : Entries K L) (n i : ℕ) → i < n → slice_get (paths_below found n) i ≡ Some (path_of found i)
+at-paths : {K L : Type 0} (found : Entries K L) (n i : ℕ) → i < n → slice_get (paths_below found n) i ≡ Some (path_of found i)
 at-paths found zero i lt = absurd (omega (arith, lt))
 at-paths found (suc n) i lt = go (below-or i n lt) (λ b. at-paths found n i b)
   where

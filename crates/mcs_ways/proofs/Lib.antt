@@ -12,4 +12,3 @@ pub mod Unnamed
 mod Waiting
 pub mod KeptRuns
 pub mod Shortest
-pub mod Lives

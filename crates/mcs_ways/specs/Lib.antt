@@ -11,4 +11,3 @@ pub mod Modes
 pub mod Judged
 pub mod Saying
 pub mod Verdicts
-pub mod Live

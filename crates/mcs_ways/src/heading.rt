@@ -45,7 +45,10 @@ pub fn put_mode<W: Write>(to: &mut W, script: &UserScript, is_exact: bool) -> Re
         Mode::Proved { numbered: false } => {
             if make_objects(&script.users) {
                 let line = line_of_later(script);
-                write!(to, "; objects of users are told apart: line {line} names one")?;
+                write!(
+                    to,
+                    "; objects of users are told apart: line {line} names one"
+                )?;
             }
         }
     }

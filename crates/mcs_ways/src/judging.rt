@@ -38,7 +38,7 @@ fn answered_by(status: Option<Status>, place: Position) -> usize
 }
 
 /// How many entries of a user were answered for good.
-pub fn answered(users: &Users, walk: &Walk<PlainLines>, user: usize) -> usize
+fn answered(users: &Users, walk: &Walk<PlainLines>, user: usize) -> usize
     ensures { result ≡ answered users.now walk.now user }
 {
     let Some(list) = users.at(user) else {

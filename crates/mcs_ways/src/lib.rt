@@ -13,7 +13,6 @@ mod ends;
 mod exploring;
 mod heading;
 mod judging;
-mod live;
 mod mail;
 mod modes;
 mod naming;
@@ -25,7 +24,6 @@ mod verdicts;
 mod watching;
 
 pub use exploring::{Wanted, watched};
-pub use live::{Live, Lives, Notes, stuck_at};
 pub use modes::{Mode, make_objects, mode_of};
 pub use naming::{names_later, names_message};
 pub use reading::AskedLine;

@@ -53,10 +53,7 @@ fn makes_object(entries: &[Entry]) -> bool
 pub fn make_objects(users: &Users) -> bool
     ensures { result ≡ makes_objects users.now }
 {
-    users
-        .lists()
-        .iter()
-        .any(|list| makes_object(&list.entries))
+    users.lists().iter().any(|list| makes_object(&list.entries))
 }
 
 /// Whether a question names a message.

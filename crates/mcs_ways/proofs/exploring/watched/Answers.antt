@@ -87,8 +87,8 @@ returns-clause-held g c = λ is.
     let found = kept-found c.args.users.now c.are_apart.ensures c.args.boot.now o.search.map.entries o.search.done (c.in-Ok.ensures.shown kept) o.explorer.watch.asked.now o.explorer.watch.ends o.explorer.watch.answers o.explorer.watch.failed.items (λ shown has. has) in
     let same = c.in-Ok.ensures.aim ∙ c.in_ok-watched.ensures.asked in
     let judged = subst (λ (qs : List AskedLine). AreJudgedFound c.args.users.now c.args.boot.now o.search.map.entries o.search.done qs o.explorer.watch.failed.items) same found.judged in
-    all-held is.numbered c.args.users.now c.args.boot.now o.search.map.entries o.search.done c.args.asked.entry.now o.explorer.watch.failed.items judged c.is_faultless.ensures c.are_in_range.ensures is.all seen
-    (all-decided c.args.boot.now c.args.users.now c.args.asked.entry.now c.args.wanted.is_exact is.numbered is.mode)
+    all-held is.numbered c.args.users.now c.args.boot.now o.search.map.entries o.search.done c.args.asked.now o.explorer.watch.failed.items judged c.is_faultless.ensures c.are_in_range.ensures is.all seen
+    (all-decided c.args.boot.now c.args.users.now c.args.asked.now c.args.wanted.is_exact is.numbered is.mode)
 
 pub returns-clause-counts : goal.returns-clause-counts
 returns-clause-counts g c =
@@ -118,5 +118,5 @@ returns-clause-shortest g c = λ is.
     let found = kept-found c.args.users.now c.are_apart.ensures c.args.boot.now o.search.map.entries o.search.done (c.in-Ok.ensures.shown kept) o.explorer.watch.asked.now o.explorer.watch.ends o.explorer.watch.answers o.explorer.watch.failed.items (λ shown has. has) in
     let same = c.in-Ok.ensures.aim ∙ c.in_ok-watched.ensures.asked in
     let first = subst (λ (qs : List AskedLine). AreFirstFound c.args.users.now c.args.boot.now o.search.map.entries o.search.done qs o.explorer.watch.ends o.explorer.watch.answers o.explorer.watch.failed.items) same found.first in
-    all-shortest is.numbered c.args.users.now c.args.boot.now c.is_faultless.ensures c.are_in_range.ensures o.search.map.entries o.search.done is.all seen c.in-Ok.ensures.sorted c.args.asked.entry.now o.explorer.watch.ends o.explorer.watch.answers o.explorer.watch.failed.items first
-    (all-decided c.args.boot.now c.args.users.now c.args.asked.entry.now c.args.wanted.is_exact is.numbered is.mode)
+    all-shortest is.numbered c.args.users.now c.args.boot.now c.is_faultless.ensures c.are_in_range.ensures o.search.map.entries o.search.done is.all seen c.in-Ok.ensures.sorted c.args.asked.now o.explorer.watch.ends o.explorer.watch.answers o.explorer.watch.failed.items first
+    (all-decided c.args.boot.now c.args.users.now c.args.asked.now c.args.wanted.is_exact is.numbered is.mode)

@@ -2,7 +2,7 @@ use Rattle.std.specs.Prelude.{◌≡◌, ◌≤◌, Some, length, slice_get}
 use Rattle.std.proofs.Common.{arith, refl}
 use Rattle.std.proofs.lemmas.Option.{slice_get_read}
 use Rattle.mcs_ways.proofs.Telling.{all-noted, mail-on}
-use Rattle.mcs_ways.proofs.mail.note_mail.Goals as goal
+use Rattle.mcs_ways.proofs.mail.note_all.Goals as goal
 
 pub loop-reached-init : goal.loop-reached-init
 loop-reached-init c = λ new noted. noted

@@ -1,9 +1,0 @@
-use Rattle.std.proofs.Common.{rules}
-use Rattle.mcs_explore.proofs.Marks.{all-led, marking-on}
-use Rattle.mcs_explore.proofs.reaching.mark_all_led.Goals as goal
-
-pub loop-preserved : goal.loop-preserved
-loop-preserved c = marking-on c.args.edges.now c.args.marks.now.items c.loop.marks.items c.sweep.new.marks.items _ _ c.loop.invariant c.sweep.ensures
-
-pub returns-then-sweep-eq0 : goal.returns-then-sweep-eq0
-returns-then-sweep-eq0 c = all-led c.args.edges.now c.args.marks.now.items c.loop.marks.items c.sweep.new.marks.items c.sweep.result (search rules) c.loop.invariant c.sweep.ensures
