@@ -199,7 +199,8 @@ alike-after r R S a plain ok ok' = record {
   chains = λ s. chain-after r R S s (a.chains s);
 }
 
--- once messages with these numbers are settled, each thread has the same open message, but for its number
+-- once messages with these numbers are settled, each thread has the same open message, but for its
+-- number
 abbrev LeaveSame : Log → Log → ℕ → ℕ → Type 0
 LeaveSame R S m n = (y : ObjId) → option_map unnumbered (unless_number m (growing_open R y)) ≡ option_map unnumbered (unless_number n (growing_open S y))
 

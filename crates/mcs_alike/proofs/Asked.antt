@@ -1,5 +1,5 @@
--- Nothing is said of what was never made, and nothing of an object that is asked of another kind. So logs that answer alike of
--- what was made answer alike of everything.
+-- Nothing is said of what was never made, and nothing of an object that is asked of another kind.
+-- So logs that answer alike of what was made answer alike of everything.
 use Rattle.std.specs.Prelude.{ℕ, zero, suc, ◌+◌, ◌^◌, ◌<◌, ◌≤◌, ◌≡◌, ◌⊎◌, ◌&&◌, ◌||◌, ◌==◌, Bool, true, false, not, cond, nat_le, List, [], ◌∷◌, Option, Some, None, option_and_then, option_map}
 use Rattle.std.specs.Option.{IfSome}
 use Rattle.std.proofs.lemmas.Bool.{eqb-true}

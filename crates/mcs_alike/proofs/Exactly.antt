@@ -1,4 +1,5 @@
--- Logs that are alike are so but for numbers; and where numbers too are alike, so is what an entry does.
+-- Logs that are alike are so but for numbers; and where numbers too are alike, so is what an entry
+-- does.
 use Rattle.std.specs.Prelude.{ℕ, ◌≡◌, ◌+◌, cond, List, [], ◌∷◌, Some, option_map}
 use Rattle.std.proofs.Common.{refl, ap, sym, ◌∙◌, subst}
 use Rattle.mcs_types.specs.declared.id.ObjId.{ObjId}

@@ -1,4 +1,5 @@
--- The open message of a thread, but for its number, after records that settle messages with one sender.
+-- The open message of a thread, but for its number, after records that settle messages with one
+-- sender.
 use Rattle.std.specs.Prelude.{ℕ, ◌≡◌, ◌<◌, ◌==◌, Bool, true, false, cond, Option, Some, None, ◌∷◌, option_map}
 use Rattle.std.proofs.Common.{refl, ap, sym, ◌∙◌, subst}
 use Rattle.std.proofs.lemmas.Bool.{eq-eqb, eqb-true}
@@ -49,7 +50,8 @@ is-of R x y u m sound h k e =
     let l = of-number (growing_open R x) m h in
     number-own R x y l.0 u sound l.1.0 k (l.1.1 ∙ sym (eqb-true u.number m e))
 
--- after messages of one thread are settled, each thread has the same open message, but for its number
+-- after messages of one thread are settled, each thread has the same open message, but for its
+-- number
 pub settled-letters : (R S : Log) → AlikeButNumbers R S → (m n : ℕ) → AreOf R S m n → (y : ObjId) → option_map unnumbered (unless_number m (growing_open R y)) ≡ option_map unnumbered (unless_number n (growing_open S y))
 settled-letters R S a m n of y = go (growing_open R y) refl (growing_open S y) refl (a.letters y)
   where

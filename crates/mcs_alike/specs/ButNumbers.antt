@@ -31,8 +31,8 @@ bare (Took m p) = Took 0 p
 bare (Dropped m) = Dropped 0
 bare r = r
 
--- two sound logs have the same objects and the same values of what is there, but for the numbers of open messages, and for how
--- many were sent; mail is not among them
+-- two sound logs have the same objects and the same values of what is there, but for the numbers of
+-- open messages, and for how many were sent; mail is not among them
 pub record AlikeButNumbers (R S : Log) : Type 0 where
   pub left : Sound R
   pub right : Sound S
@@ -65,7 +65,8 @@ open_number R x = option_map (λ (s : Letter). s.number) (growing_open R x)
 abbrev pub AreOf : Log → Log → ℕ → ℕ → Type 0
 AreOf R S m n = (x : ObjId) × ((open_number R x ≡ Some m) × (open_number S x ≡ Some n))
 
--- two records behind two logs are the same, but that the message which they take or drop has its number in each log
+-- two records behind two logs are the same, but that the message which they take or drop has its
+-- number in each log
 abbrev pub Matches : Log → Log → Rec → Rec → Type 0
 Matches R S (Took m p) s = (n : ℕ) × ((Took n p ≡ s) × AreOf R S m n)
 Matches R S (Dropped m) s = (n : ℕ) × ((Dropped n ≡ s) × AreOf R S m n)

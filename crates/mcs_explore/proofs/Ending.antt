@@ -2,10 +2,11 @@
 use Rattle.std.specs.Prelude.{◌≡◌, ◌≤◌, ◌<◌, ◌⊎◌, ◌↔◌, ℕ, nat_lt, Bool, true, false, List, Option, Some, None, length, slice_get}
 use Rattle.std.proofs.Common.{refl, ap, sym, ◌∙◌, subst, inl, inr, arith}
 use Rattle.std.specs.Cmp.{IsEquivalence}
+use Rattle.mcs_explore.specs.declared.search.Edge.{Edge}
 use Rattle.mcs_explore.specs.declared.search.Found.{Found}
 use Rattle.mcs_explore.specs.Paths.{Path, Steps}
 use Rattle.mcs_explore.specs.Closure.{Visit, IsVisited, IsClosedTo, IsLikeness, AreFar}
-use Rattle.mcs_explore.specs.Search.{Entries, At, IsFound, Same, HaveOneKey, AreLeast, AreAllFound, AreReached, AreVisits, AreSorted, AreApart, IsReached, IsVisitOf, IsClosedBelow, IsWhole, path_of, path_back, depth_at}
+use Rattle.mcs_explore.specs.Search.{Entries, At, AreEdges, HasEdge, IsEdge, IsFound, IsGraph, Same, HaveOneKey, AreLeast, AreAllFound, AreReached, AreVisits, AreSorted, AreApart, IsReached, IsVisitOf, IsClosedBelow, IsWhole, path_of, path_back, depth_at}
 use Rattle.mcs_explore.specs.Keeping.{IsChild, IsGrown, IsSearch, IsSearching}
 use Rattle.mcs_explore.proofs.Places.{same-place, at-within, within-at}
 use Rattle.mcs_explore.proofs.Runs.{near-run}
@@ -40,12 +41,20 @@ module _ {A K L : Type 0} (eq : K → K → Bool) (Leads Goes : L → A → A �
     small = a.small;
   }
 
-  pub search-again : (d : ℕ) (E : Entries K L) → IsSearching eq Leads Like IsKey start d E → IsSearching eq Goes Alike HasKey begin d E
-  search-again d E a = record { visits = a.visits; is = again d E a.visits a.is }
+  pub edges-again : (d : ℕ) (vs : List (Visit A)) (G : List Edge) → AreEdges Leads Like d vs G → AreEdges Goes Alike d vs G
+  edges-again d vs G a = record {
+    each = λ n e h. let o : IsEdge Leads Like vs e = a.each n e h in
+        record { from = o.from; at = o.at; to = o.to; there = o.there; state = o.state; step = (o.step.0, (leads o.step.0 o.from.state o.state).0 o.step.1); like = likes o.state o.to.state o.like };
+    all = λ i v below h t step. let o : HasEdge Like vs G i t = a.all i v below h t (step.0, (leads step.0 v.state t).1 step.1) in
+        record { number = o.number; edge = o.edge; at = o.at; from = o.from; to = o.to; there = o.there; like = likes t o.to.state o.like };
+  }
+
+  pub search-again : (d : ℕ) (E : Entries K L) (G : List Edge) → IsSearching eq Leads Like IsKey start d E G → IsSearching eq Goes Alike HasKey begin d E G
+  search-again d E G a = record { visits = a.visits; is = again d E a.visits a.is; edges = edges-again d a.visits G a.edges }
 
 module _ {A K L : Type 0} (eq : K → K → Bool) (fair : IsEquivalence eq) (Leads : L → A → A → Type 0) (Like : A → A → Type 0) (IsKey : A → K → Type 0) (start : A) where
   -- where a path leads to, for the next call
-  pub leads-there : (d : ℕ) (E : Entries K L) → (a : IsSearching eq Leads Like IsKey start d E) → (i : ℕ) (k : K) (f : Found L) → At E i k f → (v : Visit A) → slice_get a.visits i ≡ Some v → IsReached Leads IsKey start E i k f v.state
+  pub leads-there : {G : List Edge} (d : ℕ) (E : Entries K L) → (a : IsSearching eq Leads Like IsKey start d E G) → (i : ℕ) (k : K) (f : Found L) → At E i k f → (v : Visit A) → slice_get a.visits i ≡ Some v → IsReached Leads IsKey start E i k f v.state
   leads-there d E a i k f at v there =
       let is : path_back E i f.depth ≡ path_of E i = ap (λ (n : ℕ). path_back E i n) (sym (depth-is E i k f at)) in
       let all = path-leads eq fair Leads Like IsKey start E a.visits a.is.grown f.depth i k f at refl v there in
@@ -57,7 +66,7 @@ module _ {A K L : Type 0} (eq : K → K → Bool) (fair : IsEquivalence eq) (Lea
         key = subst (λ (w : Visit A). IsKey w.state k) (same-place a.visits i i g.visit v refl g.there there) g.key;
       }
 
-  -- what is in a place that is to be looked behind
+  -- what is in a place that is to be expanded
   pub record IsOpen (d : ℕ) (E : Entries K L) (visits : List (Visit A)) : Type 0 where
     pub key : K
     pub found : Found L
@@ -67,13 +76,13 @@ module _ {A K L : Type 0} (eq : K → K → Bool) (fair : IsEquivalence eq) (Lea
     pub reached : IsReached Leads IsKey start E d key found visit.state
     pub small : found.depth ≤ d
 
-  pub open-at : (d : ℕ) (E : Entries K L) → (a : IsSearching eq Leads Like IsKey start d E) → d < length E → IsOpen d E a.visits
+  pub open-at : {G : List Edge} (d : ℕ) (E : Entries K L) → (a : IsSearching eq Leads Like IsKey start d E G) → d < length E → IsOpen d E a.visits
   open-at d E a below =
       let e = within-at E d below in
       let g : IsGrown Leads IsKey start E a.visits d e.0.0 e.0.1 = a.is.grown d e.0.0 e.0.1 e.1 in
       record { key = e.0.0; found = e.0.1; at = e.1; visit = g.visit; there = g.there; reached = leads-there d E a d e.0.0 e.0.1 e.1 g.visit g.there; small = a.is.small d e.0.0 e.0.1 e.1 }
 
-  module _ (d : ℕ) (E : Entries K L) (a : IsSearching eq Leads Like IsKey start d E) where
+  module _ {G : List Edge} (d : ℕ) (E : Entries K L) (a : IsSearching eq Leads Like IsKey start d E G) where
     visit-of : (i : ℕ) (k : K) (f : Found L) → At E i k f → IsVisitOf Leads IsKey start E a.visits i k f
     visit-of i k f at =
         let g : IsGrown Leads IsKey start E a.visits i k f = a.is.grown i k f at in
@@ -96,6 +105,9 @@ module _ {A K L : Type 0} (eq : K → K → Bool) (fair : IsEquivalence eq) (Lea
 
     pub closed-below : IsClosedBelow Leads Like IsKey start d E
     closed-below = record { visits = a.visits; are = are; closed = below }
+
+    pub graph : IsGraph Leads Like IsKey start d E G
+    graph = record { visits = a.visits; are = are; first = a.is.first; edges = a.edges }
 
     pub whole : length E ≤ d → IsWhole Leads Like IsKey start E
     whole all = record {

@@ -4,7 +4,7 @@ use Rattle.std.proofs.Common.{refl, sym, ◌∙◌, subst}
 use Rattle.mcs_explore.specs.Paths.{Run, Path, Steps}
 
 -- a run that begins with one more step
-run-front : {A : Type 0} (Step : A → A → Type 0) (s u : A) (n : ℕ) (t : A) → Step s u → Run Step u n t → Run Step s (suc n) t
+pub run-front : {A : Type 0} (Step : A → A → Type 0) (s u : A) (n : ℕ) (t : A) → Step s u → Run Step u n t → Run Step s (suc n) t
 run-front {A = A} Step s u zero t step run = (s, (refl, subst (λ (x : A). Step s x) run step))
 run-front Step s u (suc n) t step run = (run.0, (run-front Step s u n run.0 step run.1.0, run.1.1))
 

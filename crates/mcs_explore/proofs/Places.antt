@@ -1,13 +1,15 @@
 -- Places in a list that grows, and the keys that are found there.
-use Rattle.std.specs.Prelude.{◌≡◌, ◌<◌, ◌+◌, ◌++◌, ◌⊎◌, ℕ, zero, suc, List, [], ◌∷◌, Option, Some, None, is_some, Bool, true, false, cond, length, slice_get}
-use Rattle.std.specs.Map.{lookup}
+use Rattle.std.specs.Prelude.{◌≡◌, ◌<◌, ◌+◌, ◌++◌, ◌⊎◌, ℕ, zero, suc, List, [], ◌∷◌, Option, Some, None, is_some, Bool, true, false, cond, get_or, position, length, slice_get}
+use Rattle.std.specs.Map.{keys_of, lookup}
 use Rattle.std.specs.HashMap.{get}
 use Rattle.indexmap.specs.IndexMap.{IndexMap, insert_entry}
 use Rattle.indexmap.proofs.CallerLemmas.{insert_entry-new}
-use Rattle.std.proofs.Common.{refl, ap, sym, ◌∙◌, inl, inr, arith}
+use Rattle.std.proofs.lemmas.List.Quantifiers.{position-Some}
+use Rattle.std.proofs.Common.{refl, ap, sym, ◌∙◌, subst, inl, inr, arith}
+use Rattle.std.specs.Cmp.{IsEquivalence}
 use Rattle.mcs_explore.specs.declared.search.Found.{Found}
 use Rattle.mcs_explore.specs.Search.{Entries, At, Same}
-use Rattle.mcs_explore.specs.Keeping.{Adds, IsThere}
+use Rattle.mcs_explore.specs.Keeping.{Adds, HasPlace, IsThere}
 
 -- an entry
 abbrev pub pair : {K L : Type 0} → K → Found L → K × Found L
@@ -28,6 +30,23 @@ at-old (e ∷ E) F (suc i) x h = at-old E F i x h
 pub at-last : {A : Type 0} (E : List A) (x : A) → slice_get (E ++ x ∷ []) (length E) ≡ Some x
 at-last [] x = refl
 at-last (e ∷ E) x = at-last E x
+
+-- what is in a list is in one of its parts
+pub at-either : {A : Type 0} (E F : List A) (i : ℕ) (x : A) → slice_get (E ++ F) i ≡ Some x → (slice_get E i ≡ Some x) ⊎ ((j : ℕ) × (slice_get F j ≡ Some x))
+at-either [] F i x h = inr (i, h)
+at-either (e ∷ E) F zero x h = inl h
+at-either (e ∷ E) F (suc i) x h = at-either E F i x h
+
+zero-up : (j : ℕ) → 0 + j ≡ j
+zero-up j = omega arith
+
+suc-up : (n j : ℕ) → suc n + j ≡ suc (n + j)
+suc-up n j = omega arith
+
+-- what is in the second part is as much further on
+pub at-behind : {A : Type 0} (E F : List A) (j : ℕ) (x : A) → slice_get F j ≡ Some x → slice_get (E ++ F) (length E + j) ≡ Some x
+at-behind [] F j x h = ap (λ (n : ℕ). slice_get F n) (zero-up j) ∙ h
+at-behind (e ∷ E) F j x h = ap (λ (n : ℕ). slice_get (e ∷ (E ++ F)) n) (suc-up (length E) j) ∙ at-behind E F j x h
 
 pub at-within : {A : Type 0} (E : List A) (i : ℕ) (x : A) → slice_get E i ≡ Some x → i < length E
 at-within [] i x h = absurd cc
@@ -74,6 +93,11 @@ nth-next ys x rest keys h = ap (λ l. slice_get l (length ys)) (sym h) ∙ mid y
     mid [] = refl
     mid (y ∷ ys) = mid ys
 
+key-at : {K L : Type 0} (E : Entries K L) (i : ℕ) (k : K) (f : Found L) (d : K) → At E i k f → get_or (keys_of E) i d ≡ k
+key-at [] i k f d h = absurd cc
+key-at {K = K} {L = L} (e ∷ E) zero k f d h = ap (λ (x : K × Found L). x.0) (some-same e (pair k f) h)
+key-at (e ∷ E) (suc i) k f d h = key-at E i k f d h
+
 -- what a key that is looked up tells
 module _ {K L : Type 0} (eq : K → K → Bool) where
   has-at : (E : Entries K L) (k : K) → is_some (lookup (eq k) E) ≡ true → IsThere eq E k
@@ -93,13 +117,30 @@ module _ {K L : Type 0} (eq : K → K → Bool) where
       go false is h zero it later = let key : e.0 ≡ c = ap (λ (x : K × Found L). x.0) (some-same e (pair c q) it) in let yes : eq k e.0 ≡ true = ap (λ x. eq k x) key ∙ same in absurd cc
       go false is h (suc j) it later = later h j it
 
+  pub has-place : (E : Entries K L) (k : K) (i : ℕ) → i < length E → position (eq k) (keys_of E) ≡ Some i → HasPlace eq E k i
+  has-place E k i within h =
+      let e = within-at E i within in
+      let is = position-Some (eq k) (keys_of E) i e.0.0 h in
+      record { other = e.0.0; found = e.0.1; at = e.1; same = ap (λ (c : K). eq k c) (sym (key-at E i e.0.0 e.0.1 e.0.0 e.1)) ∙ is.1 }
+
   module _ {S : Type 0} (m n : IndexMap K (Found L) S) (k : K) (r : Found L) where
     pub adds-old : is_some (get eq m k) ≡ true → Adds eq m.entries k r m.entries
     adds-old h = inl (has-at m.entries k h, refl)
 
+    none : (o : Option (Found L)) → is_some o ≡ false → o ≡ None
+    none None f = refl
+    none (Some x) f = absurd cc
+
+    entries-new : is_some (get eq m k) ≡ false → n.entries ≡ insert_entry eq m.entries k r → n.entries ≡ m.entries ++ (k, r) ∷ []
+    entries-new h e = e ∙ insert_entry-new eq m k r (none (get eq m k) h)
+
     pub adds-new : is_some (get eq m k) ≡ false → n.entries ≡ insert_entry eq m.entries k r → Adds eq m.entries k r n.entries
-    adds-new h e = inr (has-none m.entries k h, e ∙ insert_entry-new eq m k r (none (get eq m k) h))
-      where
-        none : (o : Option (Found L)) → is_some o ≡ false → o ≡ None
-        none None f = refl
-        none (Some x) f = absurd cc
+    adds-new h e = inr (has-none m.entries k h, entries-new h e)
+
+    pub place-new : IsEquivalence eq → is_some (get eq m k) ≡ false → n.entries ≡ insert_entry eq m.entries k r → (place : ℕ) → place ≡ length m.entries → HasPlace eq n.entries k place
+    place-new fair h e place is = subst (λ (E : Entries K L). HasPlace eq E k place) (sym (entries-new h e)) (record {
+      other = k;
+      found = r;
+      at = subst (λ (i : ℕ). At (m.entries ++ (k, r) ∷ []) i k r) (sym is) (at-last m.entries (k, r));
+      same = fair.refl k;
+    })

@@ -1,14 +1,15 @@
 -- What a search keeps.
 use Rattle.std.specs.Prelude.{Bool, ◌≡◌, ◌≤◌, ◌<◌, ◌+◌, ◌++◌, ◌⊎◌, ℕ, zero, suc, List, [], ◌∷◌, Option, Some, None, length, slice_get}
-use Rattle.std.proofs.Common.{refl, ap, sym, ◌∙◌, subst, inl, inr, arith}
+use Rattle.std.proofs.Common.{refl, ap, sym, ◌∙◌, subst, inl, inr, arith, append_assoc, append-nil}
 use Rattle.std.specs.Cmp.{IsEquivalence}
+use Rattle.mcs_explore.specs.declared.search.Edge.{Edge}
 use Rattle.mcs_explore.specs.declared.search.Found.{Found}
 use Rattle.mcs_explore.specs.Paths.{Run, Path, Steps}
 use Rattle.mcs_explore.specs.Closure.{Visit, IsVisited}
-use Rattle.mcs_explore.specs.Search.{Entries, At, IsFound, Same, IsNext, IsAmong, AreNexts, path_back, parent_at, label_at, listed}
-use Rattle.mcs_explore.specs.Keeping.{Adds, IsAmid, IsChild, IsGrown, IsSearch, IsSearching, IsThere}
+use Rattle.mcs_explore.specs.Search.{Entries, At, AreEdges, HasEdge, IsEdge, IsFound, Same, IsNext, IsAmong, AreNexts, path_back, parent_at, label_at, listed}
+use Rattle.mcs_explore.specs.Keeping.{Adds, HasPlace, IsAmid, IsChild, IsGrown, IsLinked, IsSearch, IsSearching, IsThere}
 use Rattle.mcs_explore.proofs.Paths.{path-on}
-use Rattle.mcs_explore.proofs.Places.{pair, some-same, same-place, at-old, at-last, at-within, at-split, at-or-below, one-longer}
+use Rattle.mcs_explore.proofs.Places.{pair, some-same, same-place, at-old, at-last, at-within, at-split, at-either, at-behind, within-at, at-or-below, one-longer, one-up}
 
 -- a key that is found stays found
 found-more : {K L : Type 0} (eq : K → K → Bool) (E F : Entries K L) (k : K) (n : ℕ) → IsFound eq E k n → IsFound eq (E ++ F) k n
@@ -156,6 +157,43 @@ module _ {A K L : Type 0} (eq : K → K → Bool) (fair : IsEquivalence eq) (Lea
       small i m p (inl h) = a.small i m p h
       small i m p (inr f) = let n = a.small d k r at in let e = depth-is m p f.1 in let b = within in let is = f.0 in omega (arith, n, e, b, is)
 
+  edge-more : (vs ws : List (Visit A)) (e : Edge) → IsEdge Leads Like vs e → IsEdge Leads Like (vs ++ ws) e
+  edge-more vs ws e a = record { from = a.from; at = at-old vs ws e.from a.from a.at; to = a.to; there = at-old vs ws e.to a.to a.there; state = a.state; step = a.step; like = a.like }
+
+  -- edges stay where a visit comes to them
+  edges-more : (d : ℕ) (vs : List (Visit A)) (w : Visit A) (G : List Edge) → d ≤ length vs → AreEdges Leads Like d vs G → AreEdges Leads Like d (vs ++ w ∷ []) G
+  edges-more d vs w G few a = record {
+    each = λ n e h. edge-more vs (w ∷ []) e (a.each n e h);
+    all = λ i x below h t step. all i x below (at-split vs w i x h) t step;
+  }
+    where
+      all : (i : ℕ) (x : Visit A) → i < d → (slice_get vs i ≡ Some x) ⊎ ((i ≡ length vs) × (x ≡ w)) → (t : A) → Steps Leads x.state t → HasEdge Like (vs ++ w ∷ []) G i t
+      all i x below (inl h) t step = let e : HasEdge Like vs G i t = a.all i x below h t step in
+          record { number = e.number; edge = e.edge; at = e.at; from = e.from; to = e.to; there = at-old vs (w ∷ []) e.edge.to e.to e.there; like = e.like }
+      all i x below (inr e) t step = absurd (let is = e.0 in omega (arith, below, is, few))
+
+  place-more : (E F : Entries K L) (c : K) (n : ℕ) → HasPlace eq E c n → HasPlace eq (E ++ F) c n
+  place-more E F c n a = record { other = a.other; found = a.found; at = at-old E F n (a.other, a.found) a.at; same = a.same }
+
+  -- the edges below n, and the one at n
+  linked-one : (d : ℕ) (E F : Entries K L) (nexts : List (L × K)) (n : ℕ) (l : L) (c : K) (more : List Edge) (to : ℕ) → slice_get nexts n ≡ Some (l, c) → length more ≡ n → HasPlace eq (E ++ F) c to
+      → ((i : ℕ) (o : L) (b : K) → i < n → slice_get nexts i ≡ Some (o, b) → IsLinked eq E d more i b)
+      → (i : ℕ) (o : L) (b : K) → i < n + 1 → slice_get nexts i ≡ Some (o, b) → IsLinked eq (E ++ F) d (more ++ (record { from = d; to = to }) ∷ []) i b
+  linked-one d E F nexts n l c more to nth few here old i o b lt h = go (at-or-below i n lt)
+    where
+      e : Edge
+      e = record { from = d; to = to }
+
+      go : (i ≡ n) ⊎ (i < n) → IsLinked eq (E ++ F) d (more ++ e ∷ []) i b
+      go (inl is) = record {
+        edge = e;
+        at = subst (λ (m : ℕ). slice_get (more ++ e ∷ []) m ≡ Some e) (few ∙ sym is) (at-last more e);
+        from = refl;
+        to = subst (λ (x : K). HasPlace eq (E ++ F) x to) (ap (λ (x : L × K). x.1) (same-place nexts n i (l, c) (o, b) (sym is) nth h)) here;
+      }
+      go (inr below) = let a : IsLinked eq E d more i b = old i o b below h in
+          record { edge = a.edge; at = at-old more (e ∷ []) i a.edge a.at; from = a.from; to = place-more E F b a.edge.to a.to }
+
   -- those below n, and the one at n
   and-one : (E : Entries K L) (nexts : List (L × K)) (n : ℕ) (l : L) (c : K) (m : ℕ) → slice_get nexts n ≡ Some (l, c) → IsFound eq E c m → ((i : ℕ) (o : L) (b : K) → i < n → slice_get nexts i ≡ Some (o, b) → IsFound eq E b m)
       → (i : ℕ) (o : L) (b : K) → i < n + 1 → slice_get nexts i ≡ Some (o, b) → IsFound eq E b m
@@ -165,29 +203,53 @@ module _ {A K L : Type 0} (eq : K → K → Bool) (fair : IsEquivalence eq) (Lea
       go (inl e) = let same : (l, c) ≡ (o, b) = same-place nexts n i (l, c) (o, b) (sym e) nth h in subst (λ (x : K). IsFound eq E x m) (ap (λ (x : L × K). x.1) same) here
       go (inr below) = found i o b below h
 
-  -- one more of them
-  pub amid : (d : ℕ) (E F : Entries K L) (k : K) (r q : Found L) (v : Visit A) (nexts : List (L × K)) (n : ℕ) (l : L) (c : K) → AreNexts Leads IsKey v.state nexts → slice_get nexts n ≡ Some (l, c)
-      → q.depth ≡ r.depth + 1 → q.parent ≡ d → q.label ≡ l → IsAmid eq Leads Like IsKey start d E k r v nexts n → Adds eq E c q F → IsAmid eq Leads Like IsKey start d F k r v nexts (n + 1)
-  amid d E F k r q v nexts n l c are nth deep parent labelled a (inl there) = subst (λ (G : Entries K L). IsAmid eq Leads Like IsKey start d G k r v nexts (n + 1)) (sym there.1) (record {
+  no-more : (E : Entries K L) → E ++ [] ≡ E
+  no-more E = append-nil E
+
+  -- one more of them, and its edge
+  pub amid : (d : ℕ) (E F : Entries K L) (k : K) (r q : Found L) (v : Visit A) (nexts : List (L × K)) (n : ℕ) (l : L) (c : K) (G H I : List Edge) (to : ℕ) → AreNexts Leads IsKey v.state nexts → slice_get nexts n ≡ Some (l, c)
+      → q.depth ≡ r.depth + 1 → q.parent ≡ d → q.label ≡ l → IsAmid eq Leads Like IsKey start d E k r v nexts n G H → Adds eq E c q F → HasPlace eq F c to → I ≡ H ++ (record { from = d; to = to }) ∷ []
+      → IsAmid eq Leads Like IsKey start d F k r v nexts (n + 1) G I
+  amid d E F k r q v nexts n l c G H I to are nth deep parent labelled a (inl there) place pushed = subst (λ (D : Entries K L). IsAmid eq Leads Like IsKey start d D k r v nexts (n + 1) G I) (sym there.1) (record {
     visits = a.visits;
     search = a.search;
     at = a.at;
     there = a.there;
     found = and-one E nexts n l c (r.depth + 1) nth here a.found;
+    before = a.before;
+    more = a.more ++ e ∷ [];
+    longer = pushed ∙ ap (λ (es : List Edge). es ++ e ∷ []) a.longer ∙ append_assoc G a.more (e ∷ []);
+    few = one-longer a.more e ∙ ap (λ (m : ℕ). suc m) a.few ∙ sym (one-up n);
+    linked = λ i o b below h. subst (λ (D : Entries K L). IsLinked eq D d (a.more ++ e ∷ []) i b) (no-more E)
+        (linked-one d E [] nexts n l c a.more to nth a.few (subst (λ (D : Entries K L). HasPlace eq D c to) (there.1 ∙ sym (no-more E)) place) a.linked i o b below h);
   })
     where
+      e : Edge
+      e = record { from = d; to = to }
+
       here : IsFound eq E c (r.depth + 1)
       here = let t : IsThere eq E c = there.0 in record { place = t.place; other = t.other; found = t.found; at = t.at; same = t.same; near = a.search.near d t.place k t.other r t.found (omega arith) a.at t.at }
-  amid d E F k r q v nexts n l c are nth deep parent labelled a (inr new) = subst (λ (G : Entries K L). IsAmid eq Leads Like IsKey start d G k r v nexts (n + 1)) (sym new.1) (record {
-    visits = a.visits ++ record { state = next.state; depth = q.depth } ∷ [];
+  amid d E F k r q v nexts n l c G H I to are nth deep parent labelled a (inr new) place pushed = subst (λ (D : Entries K L). IsAmid eq Leads Like IsKey start d D k r v nexts (n + 1) G I) (sym new.1) (record {
+    visits = a.visits ++ w ∷ [];
     search = one-more d E a.visits k c r q v l next.state a.search a.at a.there next.step next.key new.0 deep parent labelled;
     at = at-old E _ d (k, r) a.at;
     there = at-old a.visits _ d v a.there;
     found = and-one (E ++ (c, q) ∷ []) nexts n l c (r.depth + 1) nth here (λ i o b below h. found-more eq E _ b _ (a.found i o b below h));
+    before = edges-more d a.visits w G (let b = at-within a.visits d v a.there in omega (arith, b)) a.before;
+    more = a.more ++ e ∷ [];
+    longer = pushed ∙ ap (λ (es : List Edge). es ++ e ∷ []) a.longer ∙ append_assoc G a.more (e ∷ []);
+    few = one-longer a.more e ∙ ap (λ (m : ℕ). suc m) a.few ∙ sym (one-up n);
+    linked = linked-one d E ((c, q) ∷ []) nexts n l c a.more to nth a.few (subst (λ (D : Entries K L). HasPlace eq D c to) new.1 place) a.linked;
   })
     where
+      e : Edge
+      e = record { from = d; to = to }
+
       next : IsNext Leads IsKey v.state l c
       next = are.each n l c nth
+
+      w : Visit A
+      w = record { state = next.state; depth = q.depth }
 
       here : IsFound eq (E ++ (c, q) ∷ []) c (r.depth + 1)
       here = record { place = length E; other = c; found = q; at = at-last E (c, q); same = fair.refl c; near = omega (arith, deep) }
@@ -200,11 +262,12 @@ module _ {A K L : Type 0} (eq : K → K → Bool) (fair : IsEquivalence eq) (Lea
   abbrev pub AreAsGood : Type 0
   AreAsGood = (s : A) (k c : K) → Same eq k c → IsKey s k → IsKey s c
 
-  -- the place d was looked behind
-  pub looked : AreAlike → AreAsGood → (d : ℕ) (E : Entries K L) (k : K) (r : Found L) (v : Visit A) (nexts : List (L × K)) → AreNexts Leads IsKey v.state nexts → IsAmid eq Leads Like IsKey start d E k r v nexts (length nexts)
-      → IsSearching eq Leads Like IsKey start (d + 1) E
-  looked alike good d E k r v nexts are a = record {
+  -- the place d was expanded
+  pub looked : AreAlike → AreAsGood → (d : ℕ) (E : Entries K L) (k : K) (r : Found L) (v : Visit A) (nexts : List (L × K)) (G H : List Edge) → AreNexts Leads IsKey v.state nexts → IsAmid eq Leads Like IsKey start d E k r v nexts (length nexts) G H
+      → IsSearching eq Leads Like IsKey start (d + 1) E H
+  looked alike good d E k r v nexts G H are a = record {
     visits = a.visits;
+    edges = subst (λ (es : List Edge). AreEdges Leads Like (d + 1) a.visits es) (sym a.longer) (record { each = each; all = all });
     is = record {
       long = a.search.long;
       first = a.search.first;
@@ -249,11 +312,78 @@ module _ {A K L : Type 0} (eq : K → K → Bool) (fair : IsEquivalence eq) (Lea
               let same : v ≡ x = same-place a.visits d i v x (sym e) a.there h in
               subst (λ (y : Visit A). IsVisited Like a.visits t (y.depth + 1)) same (behind t (subst (λ (y : Visit A). Steps Leads y.state t) (sym same) step))
 
+      -- where an edge of these leads: a state that is like the one behind the step
+      linked-like : (i : ℕ) (l : L) (c : K) (t : A) → Leads l v.state t → IsKey t c → (b : IsLinked eq E d a.more i c) → (g : IsGrown Leads IsKey start E a.visits b.edge.to b.to.other b.to.found) → Like t g.visit.state
+      linked-like i l c t step key b g =
+          alike (path_back E d r.depth ++ l ∷ []) (path_back E b.edge.to b.to.found.depth) t g.visit.state b.to.other
+          (path-on Leads start (path_back E d r.depth) v.state t l (leads d k r a.at v a.there).0 step) (leads b.edge.to b.to.other b.to.found b.to.at g.visit g.there).0 (good t c b.to.other b.to.same key) g.key
+
+      each : (n : ℕ) (e : Edge) → slice_get (G ++ a.more) n ≡ Some e → IsEdge Leads Like a.visits e
+      each n e h = go (at-either G a.more n e h)
+        where
+          go : (slice_get G n ≡ Some e) ⊎ ((j : ℕ) × (slice_get a.more j ≡ Some e)) → IsEdge Leads Like a.visits e
+          go (inl old) = a.before.each n e old
+          go (inr new) = mine (within-at nexts new.0 below)
+            where
+              below : new.0 < length nexts
+              below = let b = at-within a.more new.0 e new.1 in let few = a.few in omega (arith, b, few)
+
+              mine : ((x : L × K) × (slice_get nexts new.0 ≡ Some x)) → IsEdge Leads Like a.visits e
+              mine x = subst (λ (o : Edge). IsEdge Leads Like a.visits o) (same-place a.more new.0 new.0 b.edge e refl b.at new.1) (record {
+                from = v;
+                at = subst (λ (m : ℕ). slice_get a.visits m ≡ Some v) (sym b.from) a.there;
+                to = g.visit;
+                there = g.there;
+                state = next.state;
+                step = (x.0.0, next.step);
+                like = linked-like new.0 x.0.0 x.0.1 next.state next.step next.key b g;
+              })
+                where
+                  b : IsLinked eq E d a.more new.0 x.0.1
+                  b = a.linked new.0 x.0.0 x.0.1 below x.1
+
+                  g : IsGrown Leads IsKey start E a.visits b.edge.to b.to.other b.to.found
+                  g = a.search.grown b.edge.to b.to.other b.to.found b.to.at
+
+                  next : IsNext Leads IsKey v.state x.0.0 x.0.1
+                  next = are.each new.0 x.0.0 x.0.1 x.1
+
+      all : (i : ℕ) (x : Visit A) → i < d + 1 → slice_get a.visits i ≡ Some x → (t : A) → Steps Leads x.state t → HasEdge Like a.visits (G ++ a.more) i t
+      all i x lt h t step = go (at-or-below i d lt)
+        where
+          mine : Steps Leads v.state t → HasEdge Like a.visits (G ++ a.more) d t
+          mine go = record {
+            number = length G + one.place;
+            edge = b.edge;
+            at = at-behind G a.more one.place b.edge b.at;
+            from = b.from;
+            to = g.visit;
+            there = g.there;
+            like = linked-like one.place go.0 one.key t go.1 one.is b g;
+          }
+            where
+              one : IsAmong IsKey nexts t
+              one = are.all go.0 t go.1
+
+              b : IsLinked eq E d a.more one.place one.key
+              b = a.linked one.place one.label one.key (at-within nexts one.place (one.label, one.key) one.at) one.at
+
+              g : IsGrown Leads IsKey start E a.visits b.edge.to b.to.other b.to.found
+              g = a.search.grown b.edge.to b.to.other b.to.found b.to.at
+
+          go : (i ≡ d) ⊎ (i < d) → HasEdge Like a.visits (G ++ a.more) i t
+          go (inr below) = let e : HasEdge Like a.visits G i t = a.before.all i x below h t step in
+              record { number = e.number; edge = e.edge; at = at-old G a.more e.number e.edge e.at; from = e.from; to = e.to; there = e.there; like = e.like }
+          go (inl e) =
+              let same : v ≡ x = same-place a.visits d i v x (sym e) a.there h in
+              subst (λ (n : ℕ). HasEdge Like a.visits (G ++ a.more) n t) (sym e) (mine (subst (λ (y : Visit A). Steps Leads y.state t) (sym same) step))
+
   -- a search that has found its start alone
-  pub begun : AreAlike → (k : K) (r : Found L) (E F : Entries K L) → E ≡ [] → r.depth ≡ 0 → IsKey start k → Adds eq E k r F → IsSearching eq Leads Like IsKey start 0 F
-  begun alike k r E F empty deep key (inl there) = let t : IsThere eq E k = there.0 in let no : slice_get [] t.place ≡ Some (pair t.other t.found) = ap (λ (G : Entries K L). slice_get G t.place) (sym empty) ∙ t.at in absurd cc
-  begun alike k r E F empty deep key (inr new) = subst (λ (G : Entries K L). IsSearching eq Leads Like IsKey start 0 G) (sym (new.1 ∙ ap (λ (G : Entries K L). G ++ (k, r) ∷ []) empty)) (record {
+  pub begun : AreAlike → (k : K) (r : Found L) (E F : Entries K L) (G : List Edge) → E ≡ [] → G ≡ [] → r.depth ≡ 0 → IsKey start k → Adds eq E k r F → IsSearching eq Leads Like IsKey start 0 F G
+  begun alike k r E F G empty none deep key (inl there) = let t : IsThere eq E k = there.0 in let no : slice_get [] t.place ≡ Some (pair t.other t.found) = ap (λ (G : Entries K L). slice_get G t.place) (sym empty) ∙ t.at in absurd cc
+  begun alike k r E F G empty none deep key (inr new) = subst (λ (D : Entries K L). IsSearching eq Leads Like IsKey start 0 D G) (sym (new.1 ∙ ap (λ (D : Entries K L). D ++ (k, r) ∷ []) empty)) (record {
     visits = v ∷ [];
+    edges = subst (λ (es : List Edge). AreEdges Leads Like 0 (v ∷ []) es) (sym none) (record { each = λ n e h. absurd cc; all = λ i x below. absurd (omega (arith, below)) });
     is = record {
       long = refl;
       first = record { place = 0; visit = v; at = refl; like = alike [] [] start start k refl refl key key; near = omega arith };

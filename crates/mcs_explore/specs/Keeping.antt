@@ -1,13 +1,21 @@
 -- What a search keeps while it goes.
 use Rattle.std.specs.Prelude.{◌≡◌, ◌≤◌, ◌<◌, ◌+◌, ◌++◌, ◌⊎◌, Bool, ℕ, List, [], ◌∷◌, Some, length, slice_get}
+use Rattle.mcs_explore.specs.declared.search.Edge.{Edge}
 use Rattle.mcs_explore.specs.declared.search.Found.{Found}
 use Rattle.mcs_explore.specs.Paths.{Steps}
 use Rattle.mcs_explore.specs.Closure.{Visit, IsVisited}
-use Rattle.mcs_explore.specs.Search.{Entries, At, Same, IsFound, AreNexts}
+use Rattle.mcs_explore.specs.Search.{Entries, At, Same, IsFound, AreEdges, AreNexts}
 
 -- a key is there
 pub record IsThere {K L : Type 0} (eq : K → K → Bool) (E : Entries K L) (k : K) : Type 0 where
   pub place : ℕ
+  pub other : K
+  pub found : Found L
+  pub at : At E place other found
+  pub same : Same eq k other
+
+-- a key is in this place
+pub record HasPlace {K L : Type 0} (eq : K → K → Bool) (E : Entries K L) (k : K) (place : ℕ) : Type 0 where
   pub other : K
   pub found : Found L
   pub at : At E place other found
@@ -21,7 +29,8 @@ Adds {K = K} {L = L} eq E k f F = (IsThere eq E k × (F ≡ E)) ⊎ (((i : ℕ) 
 abbrev pub IsLonger : {K L : Type 0} → Entries K L → Entries K L → Type 0
 IsLonger {K = K} {L = L} E F = (more : Entries K L) × (F ≡ E ++ more)
 
--- what was noted of a child: a label leads to its state from that of its parent, which is one step nearer
+-- what was noted of a child: a label leads to its state from that of its parent, which is one step
+-- nearer
 pub record IsChild {A K L : Type 0} (Leads : L → A → A → Type 0) (E : Entries K L) (visits : List (Visit A)) (f : Found L) (s : A) : Type 0 where
   pub label : L
   pub labelled : f.label ≡ label
@@ -41,7 +50,7 @@ pub record IsGrown {A K L : Type 0} (Leads : L → A → A → Type 0) (IsKey : 
   pub key : IsKey visit.state k
   pub from : ((f.depth ≡ 0) × (visit.state ≡ start)) ⊎ IsChild Leads E visits f visit.state
 
--- what holds of entries and their visits, of which those below d were looked behind
+-- what holds of entries and their visits, of which those below d were expanded
 pub record IsSearch {A K L : Type 0} (eq : K → K → Bool) (Leads : L → A → A → Type 0) (Like : A → A → Type 0) (IsKey : A → K → Type 0) (start : A) (d : ℕ) (E : Entries K L) (visits : List (Visit A)) : Type 0 where
   pub long : length visits ≡ length E
   pub first : IsVisited Like visits start 0
@@ -52,20 +61,34 @@ pub record IsSearch {A K L : Type 0} (eq : K → K → Bool) (Leads : L → A �
   pub once : (i j : ℕ) (k c : K) (f g : Found L) → At E i k f → At E j c g → Same eq k c → i ≡ j
   pub small : (i : ℕ) (k : K) (f : Found L) → At E i k f → f.depth ≤ i
 
--- there are such visits
-pub record IsSearching {A K L : Type 0} (eq : K → K → Bool) (Leads : L → A → A → Type 0) (Like : A → A → Type 0) (IsKey : A → K → Type 0) (start : A) (d : ℕ) (E : Entries K L) : Type 0 where
+-- there are such visits, with these edges between them
+pub record IsSearching {A K L : Type 0} (eq : K → K → Bool) (Leads : L → A → A → Type 0) (Like : A → A → Type 0) (IsKey : A → K → Type 0) (start : A) (d : ℕ) (E : Entries K L) (G : List Edge) : Type 0 where
   pub visits : List (Visit A)
   pub is : IsSearch eq Leads Like IsKey start d E visits
+  pub edges : AreEdges Leads Like d visits G
 
--- a search that is behind one place more
-abbrev pub Goes : {A K L : Type 0} → (K → K → Bool) → (L → A → A → Type 0) → (A → A → Type 0) → (A → K → Type 0) → A → Entries K L → ℕ → ℕ → List (L × K) → Entries K L → Type 0
-Goes {A = A} {K = K} {L = L} eq Leads Like IsKey start E place depth nexts F = (visits : List (Visit A)) (k : K) (f : Found L) (v : Visit A) → IsSearch eq Leads Like IsKey start place E visits → At E place k f
-    → slice_get visits place ≡ Some v → depth ≡ f.depth → AreNexts Leads IsKey v.state nexts → IsSearching eq Leads Like IsKey start (place + 1) F
+-- a search that has expanded one place more
+abbrev pub Goes : {A K L : Type 0} → (K → K → Bool) → (L → A → A → Type 0) → (A → A → Type 0) → (A → K → Type 0) → A → Entries K L → List Edge → ℕ → ℕ → List (L × K) → Entries K L → List Edge → Type 0
+Goes {A = A} {K = K} {L = L} eq Leads Like IsKey start E G place depth nexts F H = (visits : List (Visit A)) (k : K) (f : Found L) (v : Visit A) → IsSearch eq Leads Like IsKey start place E visits → AreEdges Leads Like place visits G → At E place k f
+    → slice_get visits place ≡ Some v → depth ≡ f.depth → AreNexts Leads IsKey v.state nexts → IsSearching eq Leads Like IsKey start (place + 1) F H
 
--- the keys of the first n steps from the state in the place d are found
-pub record IsAmid {A K L : Type 0} (eq : K → K → Bool) (Leads : L → A → A → Type 0) (Like : A → A → Type 0) (IsKey : A → K → Type 0) (start : A) (d : ℕ) (E : Entries K L) (k : K) (f : Found L) (v : Visit A) (nexts : List (L × K)) (n : ℕ) : Type 0 where
+-- an edge of these, by its number, leads from the place d to that of a key
+pub record IsLinked {K L : Type 0} (eq : K → K → Bool) (E : Entries K L) (d : ℕ) (edges : List Edge) (i : ℕ) (c : K) : Type 0 where
+  pub edge : Edge
+  pub at : slice_get edges i ≡ Some edge
+  pub from : edge.from ≡ d
+  pub to : HasPlace eq E c edge.to
+
+-- the keys of the first n steps from the state in the place d are found, and have the edges that
+-- came last
+pub record IsAmid {A K L : Type 0} (eq : K → K → Bool) (Leads : L → A → A → Type 0) (Like : A → A → Type 0) (IsKey : A → K → Type 0) (start : A) (d : ℕ) (E : Entries K L) (k : K) (f : Found L) (v : Visit A) (nexts : List (L × K)) (n : ℕ) (G H : List Edge) : Type 0 where
   pub visits : List (Visit A)
   pub search : IsSearch eq Leads Like IsKey start d E visits
   pub at : At E d k f
   pub there : slice_get visits d ≡ Some v
   pub found : (i : ℕ) (l : L) (c : K) → i < n → slice_get nexts i ≡ Some (l, c) → IsFound eq E c (f.depth + 1)
+  pub before : AreEdges Leads Like d visits G
+  pub more : List Edge
+  pub longer : H ≡ G ++ more
+  pub few : length more ≡ n
+  pub linked : (i : ℕ) (l : L) (c : K) → i < n → slice_get nexts i ≡ Some (l, c) → IsLinked eq E d more i c

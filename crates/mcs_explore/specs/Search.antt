@@ -1,8 +1,9 @@
 -- A search through states, by their keys.
-use Rattle.std.specs.Prelude.{◌≡◌, ◌≤◌, ◌++◌, ◌⊎◌, Bool, true, ℕ, zero, suc, List, [], ◌∷◌, Option, Some, None, length, slice_get}
+use Rattle.std.specs.Prelude.{◌≡◌, ◌≤◌, ◌<◌, ◌++◌, ◌⊎◌, Bool, true, ℕ, zero, suc, List, [], ◌∷◌, Option, Some, None, length, slice_get}
+use Rattle.mcs_explore.specs.declared.search.Edge.{Edge}
 use Rattle.mcs_explore.specs.declared.search.Found.{Found}
 use Rattle.mcs_explore.specs.Paths.{Run, Path, Steps}
-use Rattle.mcs_explore.specs.Closure.{Visit, IsClosed, IsClosedTo}
+use Rattle.mcs_explore.specs.Closure.{Visit, IsClosed, IsClosedTo, IsVisited}
 
 -- the keys that were found, and how
 abbrev pub Entries : Type 0 → Type 0 → Type 0
@@ -115,6 +116,38 @@ pub record IsWhole {A K L : Type 0} (Leads : L → A → A → Type 0) (Like : A
   pub visits : List (Visit A)
   pub are : AreVisits Leads IsKey start E visits
   pub closed : IsClosed (Steps Leads) Like start visits
+
+-- a step leads from the state in an edge's place to one that is like the state in its target
+pub record IsEdge {A L : Type 0} (Leads : L → A → A → Type 0) (Like : A → A → Type 0) (visits : List (Visit A)) (e : Edge) : Type 0 where
+  pub from : Visit A
+  pub at : slice_get visits e.from ≡ Some from
+  pub to : Visit A
+  pub there : slice_get visits e.to ≡ Some to
+  pub state : A
+  pub step : Steps Leads from.state state
+  pub like : Like state to.state
+
+-- an edge leads from a place to that of a state which is like this one
+pub record HasEdge {A : Type 0} (Like : A → A → Type 0) (visits : List (Visit A)) (edges : List Edge) (i : ℕ) (t : A) : Type 0 where
+  pub number : ℕ
+  pub edge : Edge
+  pub at : slice_get edges number ≡ Some edge
+  pub from : edge.from ≡ i
+  pub to : Visit A
+  pub there : slice_get visits edge.to ≡ Some to
+  pub like : Like t to.state
+
+-- each edge is a step, and each step from one of the first d visits has an edge
+pub record AreEdges {A L : Type 0} (Leads : L → A → A → Type 0) (Like : A → A → Type 0) (d : ℕ) (visits : List (Visit A)) (edges : List Edge) : Type 0 where
+  pub each : (n : ℕ) (e : Edge) → slice_get edges n ≡ Some e → IsEdge Leads Like visits e
+  pub all : (i : ℕ) (v : Visit A) → i < d → slice_get visits i ≡ Some v → (t : A) → Steps Leads v.state t → HasEdge Like visits edges i t
+
+-- visits of the start and of all entries, and the edges between them
+pub record IsGraph {A K L : Type 0} (Leads : L → A → A → Type 0) (Like : A → A → Type 0) (IsKey : A → K → Type 0) (start : A) (d : ℕ) (E : Entries K L) (G : List Edge) : Type 0 where
+  pub visits : List (Visit A)
+  pub are : AreVisits Leads IsKey start E visits
+  pub first : IsVisited Like visits start 0
+  pub edges : AreEdges Leads Like d visits G
 
 -- what was found reaches a budget of states, or what comes next one of depth
 abbrev pub IsSpent : {K L : Type 0} → ℕ → ℕ → ℕ → Entries K L → Type 0

@@ -1,9 +1,11 @@
-//! All orders at once: a search through the states of a system, the nearest first, which looks behind one state of all that
-//! have one key (own).
+//! All orders at once: a search through the states of a system, the nearest first, which expands
+//! one state of all that have one key (own).
 #![tactic(auto)]
 
 mod likeness;
+mod reaching;
 mod search;
 
 pub use likeness::{Likeness, every_run, near_run};
-pub use search::{Budget, Found, Search, System, explore};
+pub use reaching::mark_all_led;
+pub use search::{Budget, Edge, Found, Search, System, explore};

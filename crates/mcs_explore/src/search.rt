@@ -2,15 +2,15 @@
 ghost use Rattle.std.specs.Prelude.{◌≡◌, ◌+◌, ◌≤◌, ◌<◌, ◌^◌, ◌++◌, ◌∷◌, ◌↔◌, ◌⊎◌, [], List, Some, IsTrue, IfOk, OnOk, length};
 ghost use Rattle.mcs_explore.specs.Paths.{Path, Steps};
 ghost use Rattle.mcs_explore.specs.Closure.{IsLikeness};
-ghost use Rattle.mcs_explore.specs.Search.{AreAllFound, AreApart, AreLeast, AreNexts, AreReached, AreSorted, HaveOneKey, IsClosedBelow, IsSpent, IsWhole, depth_at, label_at, listed, parent_at, path_of, paths_below};
-ghost use Rattle.mcs_explore.specs.Keeping.{Adds, Goes, IsLonger, IsSearching};
+ghost use Rattle.mcs_explore.specs.Search.{AreAllFound, AreApart, AreLeast, AreNexts, AreReached, AreSorted, HaveOneKey, IsClosedBelow, IsGraph, IsSpent, IsWhole, depth_at, label_at, listed, parent_at, path_of, paths_below};
+ghost use Rattle.mcs_explore.specs.Keeping.{Adds, Goes, HasPlace, IsLonger, IsSearching};
 
 use indexmap::IndexMap;
 use std::alloc::{AllocError, Global};
 use std::hash::Hash;
 
-/// A system: its states, steps between them with labels, and keys of states. It may note of its states what it needs to give
-/// keys, and tell someone what it sees.
+/// A system: its states, steps between them with labels, and keys of states. It may note of its
+/// states what it needs to give keys, and tell someone what it sees.
 pub trait System {
     // the start has the default one, which stands in no path
     type Label: Copy + Default + Drop;
@@ -44,9 +44,10 @@ pub trait System {
         ensures key { IfOk result (λ k. IsKey self.new (start self.new) k) }
         ensures seen { OnOk result (HasSeen self.old [] → HasSeen self.new []) };
 
-    /// The steps from the state to which a path of labels leads from the start: of each its label and the key of where it leads.
-    /// The state is the one in this place of all that were found. A fault ends the search. The path of the state that comes next
-    /// is a hint: the system may keep what both paths have.
+    /// The steps from the state to which a path of labels leads from the start: of each its label
+    /// and the key of where it leads. The state is the one in this place of all that were found. A
+    /// fault ends the search. The path of the state that comes next is a hint: the system may keep
+    /// what both paths have.
     fn nexts(
         &mut self,
         alloc: Global,
@@ -87,8 +88,8 @@ pub trait System {
         → IsTrue (Self.Key.eq k c) → IsKey m s k → IsKey m s c };
 }
 
-/// How a state was found first: from which place, by which label, and so by how many steps. The start is found by none: its own
-/// place and its label say nothing.
+/// How a state was found first: from which place, by which label, and so by how many steps. The
+/// start is found by none: its own place and its label say nothing.
 #[derive(Clone, Copy, Drop)]
 pub struct Found<L> {
     pub parent: u32,
@@ -96,38 +97,64 @@ pub struct Found<L> {
     pub label: L,
 }
 
+/// A step from the state in one place to that in another.
+#[derive(Clone, Copy, Drop)]
+pub struct Edge {
+    pub from: u32,
+    pub to: u32,
+}
+
+// one for each step that was found: places of 32 bits halve what they take
+const _: () = prove!(size_of::<Edge>() == 8);
+
 /// How far a search goes.
 #[derive(Clone, Copy, Drop)]
 pub struct Budget {
-    /// How many states may be found before it looks behind no more.
+    /// How many states may be found before it expands no more.
     pub states: usize,
-    /// From which number of steps on it looks behind no state.
+    /// From which number of steps on it expands no state.
     pub depth: usize,
 }
 
-/// The states that were found, the nearest first, each by its key, and how many of them were looked behind.
+/// The states that were found, the nearest first, each by its key, how many of them were expanded,
+/// and the steps from these.
 #[derive(Drop)]
 pub struct Search<K: Eq + Hash + Drop, L: Copy + Drop> {
     pub map: IndexMap<K, Found<L>>,
     pub done: usize,
+    pub edges: Vec<Edge>,
 }
 
-/// Notes a key, if it is not there yet.
+/// Notes a key, if it is not there yet, and returns its place. An AllocError where memory was
+/// refused.
 fn add<K: Eq + Hash + Drop, L: Copy + Drop>(
     map: &mut IndexMap<K, Found<L>>,
     key: K,
     found: Found<L>,
-) -> Result<(), AllocError>
-    ensures { OnOk result (Adds K.eq map.old.entries key found map.new.entries) }
+) -> Result<usize, AllocError>
+    ensures adds { OnOk result (Adds K.eq map.old.entries key found map.new.entries) }
+    ensures place { IfOk result (λ place. HasPlace K.eq map.new.entries key place) }
 {
-    if map.contains_key(&key) {
-        Ok(())
-    } else {
-        match map.insert(key, found) {
-            Ok(_) => Ok(()),
-            Err(_) => Err(AllocError),
-        }
+    if let Some(place) = map.get_index_of(&key) {
+        return Ok(place);
     }
+    let place = map.len();
+    match map.insert(key, found) {
+        Ok(_) => Ok(place),
+        Err(_) => Err(AllocError),
+    }
+}
+
+/// Adds the edge between two places. An AllocError where memory was refused, or a place has more
+/// than 32 bits.
+fn push_edge(edges: &mut Vec<Edge>, from: usize, to: usize) -> Result<(), AllocError>
+    ensures { OnOk result (edges.new.items
+        ≡ edges.old.items ++ (record { from = from; to = to }) ∷ []) }
+{
+    let from = narrow(from)?;
+    let to = narrow(to)?;
+    edges.push(Edge { from, to })?;
+    Ok(())
 }
 
 /// Adds a label, if there is one.
@@ -148,7 +175,7 @@ impl<K: Eq + Hash + Drop, L: Copy + Drop> Search<K, L> {
         self.map.len()
     }
 
-    /// Whether all were looked behind.
+    /// Whether all were expanded.
     pub fn is_whole(&self) -> bool
         ensures { IsTrue result ↔ (length self.now.map.entries ≤ self.now.done) }
     {
@@ -191,7 +218,7 @@ impl<K: Eq + Hash + Drop, L: Copy + Drop> Search<K, L> {
         Ok(labels)
     }
 
-    /// Whether there is a state to look behind, and no budget was reached.
+    /// Whether there is a state to expand, and no budget was reached.
     fn goes_on(&self, budget: Budget) -> bool
         ensures more { IsTrue result → self.now.done < length self.now.map.entries }
         ensures room { IsTrue result → self.now.done + 1 < 2 ^ 64 }
@@ -214,8 +241,8 @@ fn narrow(number: usize) -> Result<u32, AllocError>
     }
 }
 
-/// How a state is found by a label behind the one in a place, which has this depth. An AllocError where a number has more than
-/// 32 bits.
+/// How a state is found by a label behind the one in a place, which has this depth. An AllocError
+/// where a number has more than 32 bits.
 fn found_behind<L: Copy + Drop>(
     place: usize,
     depth: usize,
@@ -235,9 +262,10 @@ fn found_behind<L: Copy + Drop>(
     })
 }
 
-/// Notes all that is behind the state in a place, which has this depth.
+/// Notes all steps from the state in a place, which has this depth, and where they lead.
 fn add_all<M: System>(
     map: &mut IndexMap<M::Key, Found<M::Label>>,
+    edges: &mut Vec<Edge>,
     place: usize,
     depth: usize,
     nexts: Vec<(M::Label, M::Key)>,
@@ -245,12 +273,14 @@ fn add_all<M: System>(
     requires room { depth + 1 < 2 ^ 64 }
     ensures goes { OnOk result ((m : M)
         → Goes M.Key.eq (M.Leads m) (M.Like m) (M.IsKey m) (M.start m)
-        map.old.entries place depth nexts.items map.new.entries) }
+        map.old.entries edges.old.items place depth nexts.items
+        map.new.entries edges.new.items) }
     ensures longer { OnOk result (IsLonger map.old.entries map.new.entries) }
 {
     for (label, key) in nexts {
         let found = found_behind(place, depth, label)?;
-        add(map, key, found)?;
+        let to = add(map, key, found)?;
+        push_edge(edges, place, to)?;
     }
     Ok(())
 }
@@ -261,7 +291,7 @@ fn begin<M: System>(alloc: Global, system: &mut M) -> Result<Search<M::Key, M::L
     ensures begun { IfOk result (λ f. f.done ≡ 0) }
     ensures searching { IfOk result (λ f. IsSearching M.Key.eq
         (M.Leads system.new) (M.Like system.new)
-        (M.IsKey system.new) (M.start system.new) f.done f.map.entries) }
+        (M.IsKey system.new) (M.start system.new) f.done f.map.entries f.edges.items) }
     ensures seen { OnOk result (M.HasSeen system.old [] → M.HasSeen system.new []) }
 {
     let mut map = IndexMap::new(alloc);
@@ -272,7 +302,11 @@ fn begin<M: System>(alloc: Global, system: &mut M) -> Result<Search<M::Key, M::L
     };
     let key = system.first(alloc)?;
     add(&mut map, key, start)?;
-    Ok(Search { map, done: 0 })
+    Ok(Search {
+        map,
+        done: 0,
+        edges: Vec::new(alloc),
+    })
 }
 
 /// The steps from the state in a place.
@@ -298,7 +332,7 @@ fn nexts_of<M: System>(
     Ok(nexts)
 }
 
-/// Looks behind the earliest state that was not looked behind.
+/// Expands the earliest state that was not expanded.
 fn look_behind<M: System>(
     alloc: Global,
     system: &mut M,
@@ -307,11 +341,13 @@ fn look_behind<M: System>(
     requires more { search.old.done < length search.old.map.entries }
     requires room { search.old.done + 1 < 2 ^ 64 }
     requires searching { IsSearching M.Key.eq (M.Leads system.old) (M.Like system.old)
-        (M.IsKey system.old) (M.start system.old) search.old.done search.old.map.entries }
+        (M.IsKey system.old) (M.start system.old)
+        search.old.done search.old.map.entries search.old.edges.items }
     ensures later { M.Later system.old system.new }
     ensures done { OnOk result (search.new.done ≡ search.old.done + 1) }
     ensures searching { OnOk result (IsSearching M.Key.eq (M.Leads system.new) (M.Like system.new)
-        (M.IsKey system.new) (M.start system.new) search.new.done search.new.map.entries) }
+        (M.IsKey system.new) (M.start system.new)
+        search.new.done search.new.map.entries search.new.edges.items) }
     ensures seen { OnOk result (
         M.HasSeen system.old (paths_below search.old.map.entries search.old.done)
         → M.HasSeen system.new (paths_below search.new.map.entries search.new.done)) }
@@ -319,13 +355,14 @@ fn look_behind<M: System>(
     let place = search.done;
     let nexts = nexts_of(alloc, system, search, place)?;
     let depth = search.depth(place);
-    add_all::<M>(&mut search.map, place, depth, nexts)?;
+    add_all::<M>(&mut search.map, &mut search.edges, place, depth, nexts)?;
     search.done = place + 1;
     Ok(())
 }
 
-/// Looks behind one state after another, the nearest first, until none is left or a budget is reached. The errors are the
-/// faults of the system, and its fault of an AllocError where memory was refused or it would look behind the state in place 2^32.
+/// Expands one state after another, the nearest first, until none is left or a budget is reached.
+/// The errors are the faults of the system, and its fault of an AllocError where memory was refused
+/// or it would expand the state in place 2^32.
 pub fn explore<M: System>(
     alloc: Global,
     system: &mut M,
@@ -338,18 +375,22 @@ pub fn explore<M: System>(
     // the nearest first, and no key twice
     ensures sorted { IfOk result (λ f. AreSorted f.map.entries) }
     ensures apart { IfOk result (λ f. AreApart M.Key.eq f.map.entries) }
-    // a step from a state that was looked behind leads to one that is like a visited one
+    // a step from a state that was expanded leads to one that is like a visited one
     ensures closed { IfOk result (λ f. IsClosedBelow (M.Leads system.old) (M.Like system.old)
         (M.IsKey system.new) (M.start system.old) f.done f.map.entries) }
-    // once all were looked behind, each step does
+    // once all were expanded, each step does
     ensures whole { IfOk result (λ f. length f.map.entries ≤ f.done
         → IsWhole (M.Leads system.old) (M.Like system.old)
         (M.IsKey system.new) (M.start system.old) f.map.entries) }
+    // each edge is a step between two of them, but for likeness, and each step from an expanded one
+    // has its edge
+    ensures graph { IfOk result (λ f. IsGraph (M.Leads system.old) (M.Like system.old)
+        (M.IsKey system.new) (M.start system.old) f.done f.map.entries f.edges.items) }
     // where alike states have one key, no run to a state with the key of an entry is shorter
     ensures least { IfOk result (λ f. IsLikeness (Steps (M.Leads system.old)) (M.Like system.old)
         → HaveOneKey M.Key.eq (M.Like system.old) (M.IsKey system.new)
         → AreLeast (M.Leads system.old) (M.IsKey system.new) (M.start system.old) f.map.entries) }
-    // and once all were looked behind, each key of a state that a run ends in was found
+    // and once all were expanded, each key of a state that a run ends in was found
     ensures all { IfOk result (λ f. length f.map.entries ≤ f.done
         → IsLikeness (Steps (M.Leads system.old)) (M.Like system.old)
         → HaveOneKey M.Key.eq (M.Like system.old) (M.IsKey system.new)
@@ -358,7 +399,7 @@ pub fn explore<M: System>(
     // it ends there or by the budget alone
     ensures budget { IfOk result (λ f. (length f.map.entries ≤ f.done)
         ⊎ IsSpent budget.states budget.depth f.done f.map.entries) }
-    // the system was asked for the steps from each state that was looked behind, in their order
+    // the system was asked for the steps from each state that was expanded, in their order
     ensures seen { IfOk result (λ f. M.HasSeen system.old []
         → M.HasSeen system.new (paths_below f.map.entries f.done)) }
 {

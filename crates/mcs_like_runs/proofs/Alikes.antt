@@ -20,7 +20,9 @@ use Rattle.mcs_turns.proofs.Choices.{IsOneOf, choice-in, choice-out, stale-same}
 use Rattle.mcs_turns.proofs.RunLaws.{run-legal, run-long}
 use Rattle.mcs_alike.specs.ButNumbers.{AlikeButNumbers, SameButNumbers}
 use Rattle.mcs_alike.specs.Likeness.{AlikeBy}
+use Rattle.mcs_book.proofs.SoundLogs.SoundBooks.{legal-sound}
 use Rattle.mcs_alike.proofs.Asking.{status-same}
+use Rattle.mcs_alike.proofs.Back.{by-back, by-self}
 use Rattle.mcs_alike.proofs.Picking.{may_enter-same}
 use Rattle.mcs_alike.proofs.Books.{line-outcomes}
 use Rattle.mcs_alike.proofs.Exactly.{but-numbers}
@@ -168,6 +170,20 @@ module _ (numbered : Bool) (users : List User) (boot : Boot) (whole : IsFaultles
     };
     respects = λ s v t a f. respected s v a f.core f.pick t f.turn;
   }
+
+  -- a run is like itself
+  pub alike-self : (g : Going) → IsReached users boot g → AreAlike numbered users boot g g
+  alike-self g r = record {
+    close = record { left = r; right = r; logs = by-self numbered (log_of g.book) (legal-sound g.book (legal g r)); places = refl };
+    choices = λ picks are. refl;
+  }
+
+-- and likeness goes both ways
+pub alike-back : (numbered : Bool) (users : List User) (boot : Boot) (g h : Going) → AreAlike numbered users boot g h → AreAlike numbered users boot h g
+alike-back numbered users boot g h a = record { close = back; choices = λ picks are. sym (a.choices picks (picks-there numbered users boot h g back picks are)) }
+  where
+    back : AreClose numbered users boot h g
+    back = record { left = a.close.right; right = a.close.left; logs = by-back numbered (log_of g.book) (log_of h.book) a.close.logs; places = sym a.close.places }
 
 -- alike runs, where numbers are not told apart
 pub unnumbered-alike : (users : List User) (boot : Boot) (g h : Going) → AreAlike true users boot g h → AreAlike false users boot g h

@@ -15,8 +15,8 @@ pub record IsReached (users : List User) (boot : Boot) (g : Going) : Type 0 wher
   pub turns : ℕ
   pub run : IsRun users boot turns g
 
--- two runs have alike logs, in which numbers of messages are told apart or not, and their users are where those of the other are:
--- so their cores have the same picks
+-- two runs have alike logs, in which numbers of messages are told apart or not, and their users are
+-- where those of the other are: so their cores have the same picks
 pub record AreClose (numbered : Bool) (users : List User) (boot : Boot) (g h : Going) : Type 0 where
   pub left : IsReached users boot g
   pub right : IsReached users boot h
@@ -28,7 +28,8 @@ pub record AreAlike (numbered : Bool) (users : List User) (boot : Boot) (g h : G
   pub close : AreClose numbered users boot g h
   pub choices : (picks : List (Option Pick)) → ArePicks users g picks → choices picks g.stale ≡ choices picks h.stale
 
--- the newest lines of two books have the same answer, and the same records but for the numbers of messages
+-- the newest lines of two books have the same answer, and the same records but for the numbers of
+-- messages
 abbrev pub SameNewest : Book → Book → Type 0
 SameNewest b c = AreSame b.lines c.lines
   where
@@ -36,8 +37,8 @@ SameNewest b c = AreSame b.lines c.lines
     AreSame (l ∷ ls) (m ∷ ms) = SameButNumbers (outcome_of l) (outcome_of m)
     AreSame ls ms = ⊥
 
--- a core makes the same turn in another run as one that led to t: it is answered the same, with the same records but for the
--- numbers of messages, and what is behind it is alike
+-- a core makes the same turn in another run as one that led to t: it is answered the same, with the
+-- same records but for the numbers of messages, and what is behind it is alike
 pub record IsSameTurn (numbered : Bool) (users : List User) (boot : Boot) (core : CoreId) (k : Pick) (t h : Going) : Type 0 where
   pub going : Going
   pub turn : IsTurn users core k h going

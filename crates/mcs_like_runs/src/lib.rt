@@ -1,5 +1,5 @@
-//! Runs that no later turn tells apart: they have the same turns before them, and those lead to such runs again (own). Each law
-//! is one of definitions, and its function does nothing.
+//! Runs that no later turn tells apart: they have the same turns before them, and those lead to
+//! such runs again (own). Each law is one of definitions, and its function does nothing.
 #![tactic(auto)]
 
 ghost use Rattle.std.specs.Prelude.{Bool, List, true, false};
@@ -8,9 +8,10 @@ ghost use Rattle.mcs_turns.specs.Turns.{User, Going, AreInRange, Follows, IsOver
 ghost use Rattle.mcs_explore.specs.Closure.{IsLikeness};
 ghost use Rattle.mcs_like_runs.specs.Runs.{AreAlike, AreSameTurns};
 
-/// The turns of users (at.1) after a boot without fault (at.2) respect likeness, in which numbers of messages are told apart or
-/// not (at.0): a turn of one of two alike runs may be made in the other, by the same core with the same pick; it is answered the
-/// same, has the same records but for the numbers of messages, and leads to runs that are alike again.
+/// The turns of users (at.1) after a boot without fault (at.2) respect likeness, in which numbers
+/// of messages are told apart or not (at.0): a turn of one of two alike runs may be made in the
+/// other, by the same core with the same pick; it is answered the same, has the same records but
+/// for the numbers of messages, and leads to runs that are alike again.
 pub fn turns_respect()
     ghost at: { Bool × List User × Boot }
     requires boot { IsFaultless at.2 }
@@ -33,4 +34,11 @@ pub fn alike_unnumbered()
     ghost at: { List User × Boot × Going × Going }
     requires { AreAlike true at.0 at.1 at.2 at.3 }
     ensures { AreAlike false at.0 at.1 at.2 at.3 }
+{}
+
+/// Likeness goes both ways: where a run (at.3) is like another (at.4), that is like the first.
+pub fn alike_back()
+    ghost at: { Bool × List User × Boot × Going × Going }
+    requires { AreAlike at.0 at.1 at.2 at.3 at.4 }
+    ensures { AreAlike at.0 at.1 at.2 at.4 at.3 }
 {}

@@ -1,4 +1,4 @@
--- What was told of states and turns.
+-- What was reported of states and turns.
 use Rattle.std.specs.Prelude.{ℕ, zero, suc, ◌≡◌, ◌≤◌, ◌<◌, ◌+◌, ◌++◌, ◌⊎◌, ◌↔◌, ◌-◌, ◌^◌, take, min, Bool, true, List, [], ◌∷◌, Option, Some, None, Result, Ok, Err, is_none, length, slice_get}
 use Rattle.std.specs.Result.{OnOk}
 use Rattle.std.specs.Int.{from_bool}
@@ -124,7 +124,7 @@ nothing-told Has a users place g = λ shown has. (
     no-among : (t : Turn) → Contains [] t → ⊥
     no-among t c = let lt = c.1 in omega (arith, lt)
 
--- a turn that the rule does not have is not told
+-- a turn that the rule does not have is not reported
 pub none-told : {W : Type 0} (Has : W → List User → Shown → Type 0) (a b : W) (users : List User) (place : ℕ) (g : Going) (t : Turn) → b ≡ a → ((h : Going) → Leads users t g h → ⊥) → TellsOn Has a b users place g t
 none-told Has a b users place g t same none = λ shown ts made has are. (
   made,
@@ -142,7 +142,7 @@ none-told Has a b users place g t same none = λ shown ts made has are. (
     go ts made are l h leads (inl c) = are.all l h c leads
     go ts made are l h leads (inr c) = absurd (none h (subst (λ u. Leads users u g h) (single t l c) leads))
 
--- one that it has is told
+-- one that it has is reported
 pub one-told : {W : Type 0} (Has : W → List User → Shown → Type 0) (a b : W) (users : List User) → AreApart users → (place : ℕ) (g : Going) (t : Turn) → IsToldTurn Has a b users place t g → TellsOn Has a b users place g t
 one-told Has a b users apart place g t told = λ shown ts made has are. (
   made ++ m ∷ [],
@@ -259,7 +259,7 @@ module _ (users : List User) (apart : AreApart users) (start : Going) (paths : L
         sorted = sorted-both s.turns made place old.are.sorted (λ j m at. low j m at) mine.place;
       }
 
--- what was told of the end of a path and of all turns from it
+-- what was reported of the end of a path and of all turns from it
 pub seen-nexts : {W : Type 0} (Has : W → List User → Shown → Type 0) (a b c : W) (users : List User) → AreApart users → (boot : Boot) (path : List Turn) (told now : Exploring) (place : ℕ) (g : Going) (ts : List Turn)
     → Path (Leads users) (beginning users boot) path g → told.users ≡ users → now.users ≡ users → now.boot ≡ boot
     → HasEachTurn told.users g ts → IsToldState Has a b users place g → Tells Has b c told.users place g ts
@@ -330,7 +330,7 @@ begun-is {W = W} e w same turns ends = ap (λ x. counted x e.turns e.ends) same 
 pub none-counted : {W : Type 0} (Has : W → List User → Shown → Type 0) (w : W) (users : List User) → Has w users nothing → HasCounted Has (begun w) users nothing
 none-counted Has w users has = record { has = has; counted = record { turns = refl; ends = refl } }
 
--- a state that was told, and a turn
+-- a state that was reported, and a turn
 pub state-told : {W E : Type 0} (r : Result (Unit {0}) E) (Has : W → List User → Shown → Type 0) (a b : W) (users : List User) (place : ℕ) (g : Going) (picks : List (Option Pick)) (over : Bool)
     → ArePicks users g picks → over ≡ list_all is_none picks → OnOk r (SeesState Has a b users place g over) → OnOk r (IsToldState Has a b users place g)
 state-told (Ok x) Has a b users place g picks over are is sees = record {

@@ -1,14 +1,17 @@
 -- What a search has seen of a run (own).
-use Rattle.std.specs.Prelude.{ℕ, ◌≤◌, ◌<◌, Bool, List, length}
+use Rattle.std.specs.Prelude.{ℕ, ◌≡◌, ◌≤◌, ◌<◌, Bool, List, Some, length, slice_get}
 use Rattle.mcs_book.specs.Boots.{Boot}
-use Rattle.mcs_turns.specs.Turns.{User, Going, IsRun, beginning}
-use Rattle.mcs_explore.specs.Paths.{Path}
+use Rattle.mcs_turns.specs.Turns.{User, Going, Follows, IsRun, beginning}
+use Rattle.mcs_explore.specs.declared.search.Edge.{Edge}
+use Rattle.mcs_explore.specs.Paths.{Path, Run}
+use Rattle.mcs_explore.specs.Reaching.{IsLink}
 use Rattle.mcs_explore.specs.Search.{Entries, depth_at, path_of}
 use Rattle.mcs_walks.specs.declared.walk.Turn.{Turn}
 use Rattle.mcs_like_runs.specs.Runs.{AreAlike}
 use Rattle.mcs_orders.specs.Trails.{Leads}
 
--- the state in a place is that of a run, by as many turns as its depth says, which are those of its path
+-- the state in a place is that of a run, by as many turns as its depth says, which are those of its
+-- path
 pub record IsFoundRun {K : Type 0} (users : List User) (boot : Boot) (found : Entries K Turn) (place : ℕ) (g : Going) : Type 0 where
   pub run : IsRun users boot (depth_at found place) g
   pub path : Path (Leads users) (beginning users boot) (path_of found place) g
@@ -17,8 +20,8 @@ pub record IsFoundRun {K : Type 0} (users : List User) (boot : Boot) (found : En
 abbrev pub AreFoundRuns : {K : Type 0} → List User → Boot → Entries K Turn → Type 0
 AreFoundRuns users boot found = (place : ℕ) → place < length found → (g : Going) × IsFoundRun users boot found place g
 
--- a state was found that no later turn tells apart from the end of a run of n turns, by no more turns; the numbers of messages are
--- told apart or not
+-- a state was found that no later turn tells apart from the end of a run of n turns, by no more
+-- turns; the numbers of messages are told apart or not
 pub record IsSeen {K : Type 0} (numbered : Bool) (users : List User) (boot : Boot) (found : Entries K Turn) (n : ℕ) (g : Going) : Type 0 where
   pub place : ℕ
   pub within : place < length found
@@ -30,3 +33,22 @@ pub record IsSeen {K : Type 0} (numbered : Bool) (users : List User) (boot : Boo
 -- so is each run
 abbrev pub AreAllSeen : {K : Type 0} → Bool → List User → Boot → Entries K Turn → Type 0
 AreAllSeen numbered users boot found = (n : ℕ) (g : Going) → IsRun users boot n g → IsSeen numbered users boot found n g
+
+-- a run of edges from a place, to a state that no later turn tells apart from this one
+pub record IsAlongEdges (numbered : Bool) (users : List User) (boot : Boot) (states : List Going) (edges : List Edge) (i n : ℕ) (k : Going) : Type 0 where
+  pub end : ℕ
+  pub state : Going
+  pub there : slice_get states end ≡ Some state
+  pub run : Run (IsLink edges) i n end
+  pub like : AreAlike numbered users boot k state
+
+-- the edges between the states that were found are the runs of the users, but for likeness: each
+-- run from a state that is like a found one goes along edges, and edges from a found state are a
+-- run from each state that is like it
+pub record IsGraphOfRuns {K : Type 0} (numbered : Bool) (users : List User) (boot : Boot) (found : Entries K Turn) (edges : List Edge) : Type 0 where
+  pub states : List Going
+  pub long : length states ≡ length found
+  pub each : (i : ℕ) (g : Going) → slice_get states i ≡ Some g → IsFoundRun users boot found i g
+  pub along : (n i : ℕ) (g h k : Going) → slice_get states i ≡ Some g → AreAlike numbered users boot h g → Run (Follows users) h n k → IsAlongEdges numbered users boot states edges i n k
+  pub runs : (n i j : ℕ) (g h k : Going) → slice_get states i ≡ Some g → slice_get states j ≡ Some k → AreAlike numbered users boot h g → Run (IsLink edges) i n j
+      → (m : Going) × (Run (Follows users) h n m × AreAlike numbered users boot m k)

@@ -1,4 +1,4 @@
--- What a search shows to who is told of it (own).
+-- What a search reports (own).
 use Rattle.std.specs.Prelude.{ℕ, ◌≡◌, ◌≤◌, ◌↔◌, ◌+◌, ◌-◌, ◌^◌, ◌++◌, Bool, true, min, List, [], ◌∷◌, Some, length, slice_get}
 use Rattle.std.specs.Int.{from_bool}
 use Rattle.std.specs.List.{Contains}
@@ -66,8 +66,8 @@ pub record IsShown (turns : List Made) (i : ℕ) (t : Turn) (h : Going) : Type 0
   pub turn : made.turn ≡ t
   pub going : made.going ≡ h
 
--- each state to which one of these paths leads was shown once, in their order, and each turn of the rule from it, those from earlier
--- states first; and no other
+-- each state to which one of these paths leads was shown once, in their order, and each turn of the
+-- rule from it, those from earlier states first; and no other
 pub record AreShown (users : List User) (start : Going) (paths : List (List Turn)) (shown : Shown) : Type 0 where
   pub long : length shown.states ≡ length paths
   pub states : (i : ℕ) (s : Sight) → slice_get shown.states i ≡ Some s → IsStateAt users start paths i s
@@ -75,13 +75,13 @@ pub record AreShown (users : List User) (start : Going) (paths : List (List Turn
   pub all : (i : ℕ) (path : List Turn) (g h : Going) (t : Turn) → slice_get paths i ≡ Some path → Path (Leads users) start path g → Leads users t g h → IsShown shown.turns i t h
   pub sorted : (j k : ℕ) (m n : Made) → j ≤ k → slice_get shown.turns j ≡ Some m → slice_get shown.turns k ≡ Some n → m.place ≤ n.place
 
--- what was told of these turns from a state: each that the rule has, and no other
+-- what was reported of these turns from a state: each that the rule has, and no other
 pub record AreToldOf (users : List User) (i : ℕ) (g : Going) (ts : List Turn) (made : List Made) : Type 0 where
   pub place : (j : ℕ) (m : Made) → slice_get made j ≡ Some m → m.place ≡ i
   pub turns : (j : ℕ) (m : Made) → slice_get made j ≡ Some m → IsTurnFrom users g m
   pub all : (t : Turn) (h : Going) → Contains ts t → Leads users t g h → IsShown made i t h
 
--- after these turns, more than was told before
+-- after these turns, more than was reported before
 abbrev pub with_turns : List Made → Shown → Shown
 with_turns made shown = record shown { turns = shown.turns ++ made }
 
@@ -101,7 +101,7 @@ pub record AreCounted (shown : Shown) (made over : ℕ) : Type 0 where
   pub turns : made ≡ min (length shown.turns) (2 ^ 64 - 1)
   pub ends : over ≡ min (ends_in shown.states) (2 ^ 64 - 1)
 
--- one who is told, and what was counted
+-- one to whom this is reported, and what was counted
 pub record Counting (W : Type 0) : Type 0 where
   pub watch : W
   pub turns : ℕ
@@ -133,11 +133,11 @@ pub record IsToldTurn {W : Type 0} (Has : W → List User → Shown → Type 0) 
   pub is : IsTurnFrom users g (record { place = place; turn = t; answer = answer; going = going })
   pub sees : SeesTurn Has old new users place t answer going
 
--- one who is told of a turn more of these, if the rule has it
+-- one to whom a turn more of these is reported, if the rule has it
 abbrev pub TellsOn : {W : Type 0} → (W → List User → Shown → Type 0) → W → W → List User → ℕ → Going → Turn → Type 0
 TellsOn Has old new users place g t = (shown : Shown) (ts : List Turn) (made : List Made) → Has old users (with_turns made shown) → AreToldOf users place g ts made
     → (more : List Made) × (Has new users (with_turns more shown) × AreToldOf users place g (ts ++ t ∷ []) more)
 
--- one who is told of each of these turns that the rule has
+-- one to whom each of these turns that the rule has is reported
 abbrev pub Tells : {W : Type 0} → (W → List User → Shown → Type 0) → W → W → List User → ℕ → Going → List Turn → Type 0
 Tells Has old new users place g ts = (shown : Shown) → Has old users shown → (made : List Made) × (Has new users (with_turns made shown) × AreToldOf users place g ts made)

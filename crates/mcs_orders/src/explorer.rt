@@ -20,7 +20,8 @@ use mcs_walks::{OrdersFault, Turn, Users, Walk};
 use std::alloc::Global;
 use std::marker::Model;
 
-/// Who is told what a search sees. A state is named by its place in the order in which it was found.
+/// To whom a search reports what it sees. A state is named by its place in the order in which it
+/// was found.
 pub trait Watch: Drop {
     // what it was shown of runs of these users
     ghost HasSeen: { Self → List User → Shown → Type 0 };
@@ -56,7 +57,7 @@ pub trait Watch: Drop {
             users.now place turn answer.now walk.now) };
 }
 
-/// The points of runs of users after a boot, their keys, and who is told of them.
+/// The points of runs of users after a boot, their keys, and to whom they are reported.
 pub struct Explorer<'a, W: Watch> {
     boot: &'a Boot,
     users: &'a Users,
@@ -67,7 +68,8 @@ pub struct Explorer<'a, W: Watch> {
     ends: usize,
 }
 
-// By hand, so that it is a function of its own: a derived drop would be proved anew wherever it is let go.
+// By hand, so that it is a function of its own: a derived drop would be proved anew wherever it is
+// freed.
 impl<'a, W: Watch> Drop for Explorer<'a, W> {
     fn drop(self) {
         let Explorer {
@@ -148,14 +150,14 @@ impl<'a, W: Watch> Explorer<'a, W> {
         self.turns
     }
 
-    /// How many of the states that were looked behind are over, up to `usize::MAX`.
+    /// How many of the states that were expanded are over, up to `usize::MAX`.
     pub fn ends(&self) -> usize
         ensures { result ≡ self.now.ends }
     {
         self.ends
     }
 
-    /// Who was told of them.
+    /// To whom they were reported.
     pub fn watch(&self) -> &W
         ensures { result.now ≡ self.now.watch }
     {
@@ -180,8 +182,8 @@ impl<'a, W: Watch> Explorer<'a, W> {
         self.watch.see_state(self.users, place, walk, is_over)
     }
 
-    /// The key of what is behind a turn from the state in a place, where its cores have these picks; None where the rule has no
-    /// such turn. The turn is made on the walk.
+    /// The key of what is behind a turn from the state in a place, where its cores have these
+    /// picks; None where the rule has no such turn. The turn is made on the walk.
     fn behind(
         &mut self,
         alloc: Global,
@@ -216,7 +218,8 @@ impl<'a, W: Watch> Explorer<'a, W> {
         Ok(Some(key))
     }
 
-    /// Notes what is behind a turn from the state in a place, where the rule has it. The turn is made on the walk.
+    /// Notes what is behind a turn from the state in a place, where the rule has it. The turn is
+    /// made on the walk.
     fn add_next(
         &mut self,
         alloc: Global,
@@ -231,7 +234,8 @@ impl<'a, W: Watch> Explorer<'a, W> {
         ensures trail { self.new.search.trail ≡ self.old.search.trail }
         ensures nexts { OnOk result ((ts : List Turn)
             → AreNextsOf self.old.search walk.value ts (numbers_of nexts.old.items)
-            → AreNextsOf self.new.search walk.value (ts ++ turn ∷ []) (numbers_of nexts.new.items)) }
+            → AreNextsOf self.new.search walk.value (ts ++ turn ∷ [])
+            (numbers_of nexts.new.items)) }
         ensures told { OnOk result (TellsOn (HasCounted W.HasSeen)
             (counting self.old) (counting self.new)
             self.old.search.users place walk.value turn) }
@@ -313,7 +317,8 @@ impl<'a, W: Watch> Explorer<'a, W> {
         Ok(())
     }
 
-    /// What is behind some turns from the state in a place: the last is made on the walk itself, so that a copy less is made.
+    /// What is behind some turns from the state in a place: the last is made on the walk itself, so
+    /// that a copy less is made.
     fn nexts_by(
         &mut self,
         alloc: Global,

@@ -1,11 +1,11 @@
-//! All orders in which the entries of users can come: a search through the states of a kernel and its users, the nearest first,
-//! which looks behind one state of all that have the same future (own).
+//! All orders in which the entries of users can come: a search through the states of a kernel and
+//! its users, the nearest first, which expands one state of all that have the same future (own).
 //!
 //! ```text
 //! users ── walk ──> a kernel, how far each user is, and what each core may enter
-//!     ── trail ──> the walks along a path of turns, the last of which is copied for each turn from it
+//!     ── trail ──> the walks along a path of turns; the last is copied for each turn from it
 //!     ── keys ──> the key of a state: what decides its future
-//!     ── explorer ──> the system that `mcs_explore` searches; a `Watch` is told of each state and turn
+//!     ── explorer ──> the system that `mcs_explore` searches; it reports to a `Watch`
 //! ```
 #![tactic(auto)]
 

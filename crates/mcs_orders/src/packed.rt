@@ -45,7 +45,8 @@ impl Default for PackedTurn {
 }
 
 impl PackedTurn {
-    /// A turn in few bytes. OutOfMemory where its user's number has more than 16 bits, or its entry's more than 32.
+    /// A turn in few bytes. OutOfMemory where its user's number has more than 16 bits, or its
+    /// entry's more than 32.
     pub fn of(turn: Turn) -> Result<PackedTurn, OutOfMemory>
         ensures { IfOk result (λ t. t ≡ turn) }
     {

@@ -4,8 +4,9 @@ ghost use Rattle.mcs_book.specs.Boots.{IsFaultless};
 ghost use Rattle.mcs_turns.specs.Turns.{Going, AreInRange, beginning};
 ghost use Rattle.mcs_like_runs.specs.Runs.{IsReached};
 ghost use Rattle.mcs_explore.specs.Paths.{Path};
+ghost use Rattle.mcs_explore.specs.Reaching.{AreWithin};
 ghost use Rattle.mcs_explore.specs.Search.{AreSorted, IsSpent, depth_at, path_of, paths_below};
-ghost use Rattle.mcs_orders.specs.Seen.{AreAllSeen, AreFoundRuns};
+ghost use Rattle.mcs_orders.specs.Seen.{AreAllSeen, AreFoundRuns, IsGraphOfRuns};
 ghost use Rattle.mcs_orders.specs.Shown.{HasCounted, HasSeenAll, nothing};
 ghost use Rattle.mcs_orders.specs.Trails.{Leads};
 ghost use Rattle.mcs_orders.specs.Watching.{counting};
@@ -13,21 +14,22 @@ ghost use Rattle.mcs_orders.specs.Watching.{counting};
 use crate::explorer::{Explorer, Watch};
 use crate::following::follow;
 use crate::packed::{PackedTurn, unpacked};
-use mcs_explore::{Budget, Search};
+use mcs_explore::{Budget, Edge, Search};
 use mcs_kernel::Boot;
 use mcs_keys::Key;
 use mcs_queues::Lines;
 use mcs_walks::{OrdersFault, Turn, Users, Walk};
 use std::alloc::Global;
 
-/// The states that were found, and who was told of them.
+/// The states that were found, and to whom they were reported.
 pub struct Orders<'a, W: Watch> {
     alloc: Global,
     search: Search<Key, PackedTurn>,
     explorer: Explorer<'a, W>,
 }
 
-// By hand, so that it is a function of its own: a derived drop would be proved anew wherever it is let go.
+// By hand, so that it is a function of its own: a derived drop would be proved anew wherever it is
+// freed.
 impl<'a, W: Watch> Drop for Orders<'a, W> {
     fn drop(self) {
         let Orders {
@@ -38,8 +40,8 @@ impl<'a, W: Watch> Drop for Orders<'a, W> {
     }
 }
 
-/// Makes turns again, from the boot on, those that the rule has: what they reach is a run. BookFull where the book has 1,000,000
-/// lines, OutOfMemory where memory was refused.
+/// Makes turns again, from the boot on, those that the rule has: what they reach is a run. BookFull
+/// where the book has 1,000,000 lines, OutOfMemory where memory was refused.
 pub fn retrace<L: Lines>(
     alloc: Global,
     boot: &Boot,
@@ -64,18 +66,25 @@ impl<'a, W: Watch> Orders<'a, W> {
         self.search.states()
     }
 
-    /// How many of them were looked behind.
+    /// How many of them were expanded.
     pub fn done(&self) -> usize
         ensures { result ≡ self.now.search.done }
     {
         self.search.done
     }
 
-    /// Whether all were looked behind.
+    /// Whether all were expanded.
     pub fn is_whole(&self) -> bool
         ensures { IsTrue result ↔ (length self.now.search.map.entries ≤ self.now.search.done) }
     {
         self.search.is_whole()
+    }
+
+    /// Returns the turns between them, by their places.
+    pub fn edges(&self) -> &[Edge]
+        ensures { result.now ≡ self.now.search.edges.items }
+    {
+        &self.search.edges
     }
 
     /// How many rows their keys have.
@@ -83,21 +92,21 @@ impl<'a, W: Watch> Orders<'a, W> {
         self.explorer.rows()
     }
 
-    /// How many turns lead from states that were looked behind, up to `usize::MAX`.
+    /// How many turns lead from states that were expanded, up to `usize::MAX`.
     pub fn turns(&self) -> usize
         ensures { result ≡ self.now.explorer.turns }
     {
         self.explorer.turns()
     }
 
-    /// How many of the states that were looked behind are over, up to `usize::MAX`.
+    /// How many of the states that were expanded are over, up to `usize::MAX`.
     pub fn ends(&self) -> usize
         ensures { result ≡ self.now.explorer.ends }
     {
         self.explorer.ends()
     }
 
-    /// Who was told of them.
+    /// To whom they were reported.
     pub fn watch(&self) -> &W
         ensures { result.now ≡ self.now.explorer.watch }
     {
@@ -131,9 +140,10 @@ impl<'a, W: Watch> Orders<'a, W> {
     }
 }
 
-/// Looks behind one state after another, the earliest found first, until none is left or the budget ends. BookFull where a book
-/// has 1,000,000 lines; OutOfMemory where memory was refused, and where a user's number has more than 16 bits, or that of an entry,
-/// a row or a state that is looked behind more than 32.
+/// Expands one state after another, the earliest found first, until none is left or the budget
+/// ends. BookFull where a book has 1,000,000 lines; OutOfMemory where memory was refused, and where
+/// a user's number has more than 16 bits, or that of an entry, a row or a state that is expanded
+/// more than 32.
 pub fn explore<'a, W: Watch>(
     alloc: Global,
     boot: &'a Boot,
@@ -146,20 +156,28 @@ pub fn explore<'a, W: Watch>(
     // each state that was found is that of a run, by the turns of its path
     ensures runs { IfOk result (λ o. AreFoundRuns users.now boot.now o.search.map.entries) }
     ensures sorted { IfOk result (λ o. AreSorted o.search.map.entries) }
-    // it ends where all were looked behind, or by the budget alone
+    // it ends where all were expanded, or by the budget alone
     ensures budget { IfOk result (λ o. (length o.search.map.entries ≤ o.search.done)
         ⊎ IsSpent budget.states budget.depth o.search.done o.search.map.entries) }
-    // where keys are exact and all states were looked behind, each run ends in a state that no later turn tells apart from one
-    // that was found, by no more turns: but for the numbers of messages, where these are not told apart
+    // where keys are exact and all states were expanded, each run ends in a state that no later
+    // turn tells apart from one that was found, by no more turns: but for the numbers of messages,
+    // where these are not told apart
     ensures whole { IfOk result (λ o. is_exact ≡ true → IsFaultless boot.now → AreInRange users.now
         → length o.search.map.entries ≤ o.search.done
         → AreAllSeen numbered users.now boot.now o.search.map.entries) }
-    // each state that was looked behind was shown, and each turn from it, and no other, and these were counted
+    // edges lie between states that were found, and then they are the runs of the users
+    ensures within { IfOk result (λ o. AreWithin o.search.edges.items
+        (length o.search.map.entries)) }
+    ensures graph { IfOk result (λ o. is_exact ≡ true → IsFaultless boot.now → AreInRange users.now
+        → length o.search.map.entries ≤ o.search.done
+        → IsGraphOfRuns numbered users.now boot.now o.search.map.entries o.search.edges.items) }
+    // each state that was expanded was shown, and each turn from it, and no other, and these were
+    // counted
     ensures shown { IfOk result (λ o. W.HasSeen watch users.now nothing
         → HasSeenAll (HasCounted W.HasSeen) (counting o.explorer)
         users.now (beginning users.now boot.now)
         (paths_below o.search.map.entries o.search.done)) }
-    // who is told goes by the same as before
+    // the watch goes by the same as before
     ensures aim { IfOk result (λ o. W.aim o.explorer.watch ≡ W.aim watch) }
 {
     let mut explorer = Explorer::new(alloc, boot, users, is_exact, numbered, watch)?;

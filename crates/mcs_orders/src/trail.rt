@@ -12,8 +12,8 @@ use mcs_walks::{OrdersFault, Turn, Users, Walk};
 use std::alloc::Global;
 use std::marker::Model;
 
-/// How many turns a stage has. A point is kept behind each stage alone, since a few turns that are made again cost less than a
-/// copy.
+/// How many turns a stage has. A point is kept behind each stage alone, since a few turns that are
+/// made again cost less than a copy.
 const STRIDE: usize = 4;
 
 /// Some turns, and the point behind them.
@@ -31,7 +31,8 @@ impl Model for Stage {
     ghost view = { λ s. record { turns = s.turns.items; going = s.walk.value } };
 }
 
-/// A point where a path begins, and the points along it. Walks that are no longer needed are spare: their memory is used again.
+/// A point where a path begins, and the points along it. Walks that are no longer needed are spare:
+/// their memory is used again.
 // walks are boxed, since one has 864 bytes and is moved often
 pub struct Trail {
     start: Walk<PlainLines>,
@@ -39,7 +40,8 @@ pub struct Trail {
     spare: Vec<Box<Walk<PlainLines>>>,
 }
 
-// By hand, so that it is a function of its own: a derived drop would be proved anew wherever it is let go.
+// By hand, so that it is a function of its own: a derived drop would be proved anew wherever it is
+// freed.
 impl Drop for Trail {
     fn drop(self) {
         let Trail {
@@ -204,16 +206,19 @@ impl Trail {
 
     /// The last point once more.
     fn branch(&mut self, alloc: Global) -> Result<Box<Walk<PlainLines>>, OutOfMemory>
-        ensures copy { IfOk result (λ walk. walk.value ≡ last_point self.old.start self.old.points) }
+        ensures copy { IfOk result (λ walk. walk.value
+            ≡ last_point self.old.start self.old.points) }
         ensures unchanged { self.new ≡ self.old }
     {
         let spare = self.spare.pop();
         copy_of(alloc, self.last(), spare)
     }
 
-    /// The last point itself, which is no longer along the path then; once more where there is no stage.
+    /// The last point itself, which is no longer along the path then; once more where there is no
+    /// stage.
     fn leave(&mut self, alloc: Global) -> Result<Box<Walk<PlainLines>>, OutOfMemory>
-        ensures walk { IfOk result (λ walk. walk.value ≡ last_point self.old.start self.old.points) }
+        ensures walk { IfOk result (λ walk. walk.value
+            ≡ last_point self.old.start self.old.points) }
         ensures start { self.new.start ≡ self.old.start }
         ensures trail { (users : List User) → IsTrail users self.old.start self.old.points
             → IsTrail users self.new.start self.new.points }
@@ -224,9 +229,11 @@ impl Trail {
         }
     }
 
-    /// A walk at the last point: a copy, so that the point stays, where the next path goes along it, else the point itself.
+    /// A walk at the last point: a copy, so that the point stays, where the next path goes along
+    /// it, else the point itself.
     fn depart(&mut self, alloc: Global, stays: bool) -> Result<Box<Walk<PlainLines>>, OutOfMemory>
-        ensures walk { IfOk result (λ walk. walk.value ≡ last_point self.old.start self.old.points) }
+        ensures walk { IfOk result (λ walk. walk.value
+            ≡ last_point self.old.start self.old.points) }
         ensures start { self.new.start ≡ self.old.start }
         ensures trail { (users : List User) → IsTrail users self.old.start self.old.points
             → IsTrail users self.new.start self.new.points }
@@ -252,8 +259,9 @@ impl Trail {
         Ok(())
     }
 
-    /// Goes along a path that leads somewhere, stage by stage: back to where it has the turns of this one, and on from there, but
-    /// no further than so many turns. How many turns of the path it has then.
+    /// Goes along a path that leads somewhere, stage by stage: back to where it has the turns of
+    /// this one, and on from there, but no further than so many turns. How many turns of the path
+    /// it has then.
     fn go_along(
         &mut self,
         alloc: Global,
@@ -281,8 +289,8 @@ impl Trail {
         Ok(at)
     }
 
-    /// A walk at the end of a path that leads somewhere. Points are kept along it as far as the path that comes next, which is a
-    /// hint, goes along with it.
+    /// A walk at the end of a path that leads somewhere. Points are kept along it as far as the
+    /// path that comes next, which is a hint, goes along with it.
     pub fn walk_to(
         &mut self,
         alloc: Global,

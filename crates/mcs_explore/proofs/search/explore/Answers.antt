@@ -1,5 +1,5 @@
 use Rattle.std.proofs.Common.{sym}
-use Rattle.mcs_explore.proofs.Ending.{search-again, reached, closed-below, whole, least, all-found}
+use Rattle.mcs_explore.proofs.Ending.{search-again, reached, closed-below, graph, whole, least, all-found}
 use Rattle.mcs_explore.proofs.search.explore.Goals as goal
 
 pub loop-alloc-preserved : goal.loop-alloc-preserved
@@ -20,7 +20,7 @@ returns-clause-reached g c =
     reached g.M.Key.PartialEq.eq g.met.M.Key.Eq.laws (g.M.System.Leads m) (g.M.System.Like m) (g.M.System.IsKey n) (g.M.System.start m) c.loop-alloc.search.done c.loop-alloc.search.map.entries
     (search-again g.M.Key.PartialEq.eq (g.M.System.Leads n) (g.M.System.Leads m) (g.M.System.Like n) (g.M.System.Like m) (g.M.System.IsKey n) (g.M.System.IsKey n) (g.M.System.start n) (g.M.System.start m)
     (sym (g.met.M.System.keeps_start m n later)) (λ l s t. let is = g.met.M.System.keeps_steps m n later l s t in (is.1, is.0)) (λ s t. (g.met.M.System.keeps_likeness m n later s t).1) (λ s k h. h)
-    c.loop-alloc.search.done c.loop-alloc.search.map.entries c.loop-alloc.invariant.searching)
+    c.loop-alloc.search.done c.loop-alloc.search.map.entries c.loop-alloc.search.edges.items c.loop-alloc.invariant.searching)
 
 pub returns-clause-closed : goal.returns-clause-closed
 returns-clause-closed g c =
@@ -30,7 +30,7 @@ returns-clause-closed g c =
     closed-below g.M.Key.PartialEq.eq g.met.M.Key.Eq.laws (g.M.System.Leads m) (g.M.System.Like m) (g.M.System.IsKey n) (g.M.System.start m) c.loop-alloc.search.done c.loop-alloc.search.map.entries
     (search-again g.M.Key.PartialEq.eq (g.M.System.Leads n) (g.M.System.Leads m) (g.M.System.Like n) (g.M.System.Like m) (g.M.System.IsKey n) (g.M.System.IsKey n) (g.M.System.start n) (g.M.System.start m)
     (sym (g.met.M.System.keeps_start m n later)) (λ l s t. let is = g.met.M.System.keeps_steps m n later l s t in (is.1, is.0)) (λ s t. (g.met.M.System.keeps_likeness m n later s t).1) (λ s k h. h)
-    c.loop-alloc.search.done c.loop-alloc.search.map.entries c.loop-alloc.invariant.searching)
+    c.loop-alloc.search.done c.loop-alloc.search.map.entries c.loop-alloc.search.edges.items c.loop-alloc.invariant.searching)
 
 pub returns-clause-whole : goal.returns-clause-whole
 returns-clause-whole g c =
@@ -40,7 +40,17 @@ returns-clause-whole g c =
     whole g.M.Key.PartialEq.eq g.met.M.Key.Eq.laws (g.M.System.Leads m) (g.M.System.Like m) (g.M.System.IsKey n) (g.M.System.start m) c.loop-alloc.search.done c.loop-alloc.search.map.entries
     (search-again g.M.Key.PartialEq.eq (g.M.System.Leads n) (g.M.System.Leads m) (g.M.System.Like n) (g.M.System.Like m) (g.M.System.IsKey n) (g.M.System.IsKey n) (g.M.System.start n) (g.M.System.start m)
     (sym (g.met.M.System.keeps_start m n later)) (λ l s t. let is = g.met.M.System.keeps_steps m n later l s t in (is.1, is.0)) (λ s t. (g.met.M.System.keeps_likeness m n later s t).1) (λ s k h. h)
-    c.loop-alloc.search.done c.loop-alloc.search.map.entries c.loop-alloc.invariant.searching)
+    c.loop-alloc.search.done c.loop-alloc.search.map.entries c.loop-alloc.search.edges.items c.loop-alloc.invariant.searching)
+
+pub returns-clause-graph : goal.returns-clause-graph
+returns-clause-graph g c =
+    let m = c.args.system.now in
+    let n = c.loop-alloc.system in
+    let later = c.loop-alloc.invariant.later in
+    graph g.M.Key.PartialEq.eq g.met.M.Key.Eq.laws (g.M.System.Leads m) (g.M.System.Like m) (g.M.System.IsKey n) (g.M.System.start m) c.loop-alloc.search.done c.loop-alloc.search.map.entries
+    (search-again g.M.Key.PartialEq.eq (g.M.System.Leads n) (g.M.System.Leads m) (g.M.System.Like n) (g.M.System.Like m) (g.M.System.IsKey n) (g.M.System.IsKey n) (g.M.System.start n) (g.M.System.start m)
+    (sym (g.met.M.System.keeps_start m n later)) (λ l s t. let is = g.met.M.System.keeps_steps m n later l s t in (is.1, is.0)) (λ s t. (g.met.M.System.keeps_likeness m n later s t).1) (λ s k h. h)
+    c.loop-alloc.search.done c.loop-alloc.search.map.entries c.loop-alloc.search.edges.items c.loop-alloc.invariant.searching)
 
 pub returns-clause-least : goal.returns-clause-least
 returns-clause-least g c = λ likes one.
@@ -50,7 +60,7 @@ returns-clause-least g c = λ likes one.
     least g.M.Key.PartialEq.eq g.met.M.Key.Eq.laws (g.M.System.Leads m) (g.M.System.Like m) (g.M.System.IsKey n) (g.M.System.start m) c.loop-alloc.search.done c.loop-alloc.search.map.entries
     (search-again g.M.Key.PartialEq.eq (g.M.System.Leads n) (g.M.System.Leads m) (g.M.System.Like n) (g.M.System.Like m) (g.M.System.IsKey n) (g.M.System.IsKey n) (g.M.System.start n) (g.M.System.start m)
     (sym (g.met.M.System.keeps_start m n later)) (λ l s t. let is = g.met.M.System.keeps_steps m n later l s t in (is.1, is.0)) (λ s t. (g.met.M.System.keeps_likeness m n later s t).1) (λ s k h. h)
-    c.loop-alloc.search.done c.loop-alloc.search.map.entries c.loop-alloc.invariant.searching) likes one
+    c.loop-alloc.search.done c.loop-alloc.search.map.entries c.loop-alloc.search.edges.items c.loop-alloc.invariant.searching) likes one
 
 pub returns-clause-all : goal.returns-clause-all
 returns-clause-all g c = λ whole likes one.
@@ -60,4 +70,4 @@ returns-clause-all g c = λ whole likes one.
     all-found g.M.Key.PartialEq.eq g.met.M.Key.Eq.laws (g.M.System.Leads m) (g.M.System.Like m) (g.M.System.IsKey n) (g.M.System.start m) c.loop-alloc.search.done c.loop-alloc.search.map.entries
     (search-again g.M.Key.PartialEq.eq (g.M.System.Leads n) (g.M.System.Leads m) (g.M.System.Like n) (g.M.System.Like m) (g.M.System.IsKey n) (g.M.System.IsKey n) (g.M.System.start n) (g.M.System.start m)
     (sym (g.met.M.System.keeps_start m n later)) (λ l s t. let is = g.met.M.System.keeps_steps m n later l s t in (is.1, is.0)) (λ s t. (g.met.M.System.keeps_likeness m n later s t).1) (λ s k h. h)
-    c.loop-alloc.search.done c.loop-alloc.search.map.entries c.loop-alloc.invariant.searching) likes one whole
+    c.loop-alloc.search.done c.loop-alloc.search.map.entries c.loop-alloc.search.edges.items c.loop-alloc.invariant.searching) likes one whole

@@ -1,5 +1,5 @@
 use Rattle.std.proofs.Common.{arith, subst}
-use Rattle.mcs_explore.proofs.Ending.{open-at, again, depth-told}
+use Rattle.mcs_explore.proofs.Ending.{open-at, again, edges-again, depth-told}
 use Rattle.mcs_explore.proofs.Seeing.{paths-long, paths-on}
 use Rattle.mcs_explore.proofs.search.look_behind.Goals as goal
 
@@ -29,7 +29,10 @@ returns-clause-searching g c =
     let b =
     again g.M.Key.PartialEq.eq (g.M.System.Leads m) (g.M.System.Leads n) (g.M.System.Like m) (g.M.System.Like n) (g.M.System.IsKey m) (g.M.System.IsKey n) (g.M.System.start m) (g.M.System.start n)
     (g.met.M.System.keeps_start m n later) (g.met.M.System.keeps_steps m n later) (λ s t. (g.met.M.System.keeps_likeness m n later s t).0) (g.met.M.System.keeps_keys m n later) d E c.requires.searching.visits c.requires.searching.is in
-    c.in_ok-add_all.ensures.goes n c.requires.searching.visits o.key o.found o.visit b o.at o.there (depth-told E d o.key o.found o.at c.depth-depth.result c.depth-depth.ensures)
+    let edges =
+    edges-again g.M.Key.PartialEq.eq (g.M.System.Leads m) (g.M.System.Leads n) (g.M.System.Like m) (g.M.System.Like n) (g.M.System.IsKey m) (g.M.System.IsKey n) (g.M.System.start m) (g.M.System.start n)
+    (g.met.M.System.keeps_start m n later) (g.met.M.System.keeps_steps m n later) (λ s t. (g.met.M.System.keeps_likeness m n later s t).0) (g.met.M.System.keeps_keys m n later) d c.requires.searching.visits c.args.search.now.edges.items c.requires.searching.edges in
+    c.in_ok-add_all.ensures.goes n c.requires.searching.visits o.key o.found o.visit b edges o.at o.there (depth-told E d o.key o.found o.at c.depth-depth.result c.depth-depth.ensures)
     (c.in_ok-nexts.ensures.nexts o.visit.state o.reached.path)
 
 pub returns-clause-seen : goal.returns-clause-seen
