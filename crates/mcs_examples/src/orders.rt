@@ -1,7 +1,9 @@
-//! All orders of the scripts of users in `examples/explore/`: what is told of each, and how the scripts replay that show it.
-use mcs_lab::LabFault;
+//! All orders of the scripts of users in `examples/explore/`: what is told of each, and how the
+//! scripts replay that show it.
+use mcs_lab::{LabFault, check};
+use mcs_questions::ExploreFault;
 use mcs_sim::{ReplayRun, Source};
-use mcs_ways::{Explored, Saves, Wanted, explore_script};
+use mcs_ways::{Explored, Output, Saves, Wanted, explore_script};
 use std::alloc::Global;
 use std::fs;
 use std::io::Write;
@@ -22,22 +24,37 @@ const SCRIPTS: &[&str] = &[
     "explore/named-message.mcs",
     "explore/named-object.mcs",
     "explore/made-objects.mcs",
+    "explore/made.mcs",
+    "explore/part.mcs",
 ];
 
-/// Those that are explored by exact keys, too.
+/// Those that are explored once more with exact keys.
 const EXACT: &[&str] = &[
     "explore/moves.mcs",
     "explore/slots.mcs",
     "explore/prio.mcs",
     "explore/bound.mcs",
     "explore/made-objects.mcs",
+    "explore/made.mcs",
 ];
 
-/// How many scripts were kept, of how many each step is let in, and how many steps they have in all.
+/// A script of users without questions.
+const ASKED: &str = "explore/asked.mcs";
+
+/// Questions that are asked of it, each alone.
+const QUESTIONS: &str = "explore/questions.txt";
+
+/// A boot, and behind each line `%` random entries of its users: by `tests/random-orders.py
+/// --data`.
+const RANDOM: &str = "explore/random.txt";
+
+/// The scripts that were kept: how many, of how many the kernel accepts each step, in how many each
+/// answer is the one that stands after its step, and how many steps they have in all.
 #[derive(Drop)]
 struct Replayed {
     count: u64,
     whole: u64,
+    checked: u64,
     steps: usize,
 }
 
@@ -68,12 +85,26 @@ fn is_whole(alloc: Global, text: &[u8]) -> bool {
     }
 }
 
+/// Whether a script holds by the answers that stand in it.
+fn holds(alloc: Global, text: &[u8]) -> Result<bool, LabFault> {
+    let mut told = Vec::new(alloc);
+    let all_hold = check(alloc, &mut Source::new(text), &mut told)?;
+    Ok(all_hold && told.len() > count_steps(text))
+}
+
 impl Saves for Replayed {
+    fn wants(&self) -> bool {
+        true
+    }
+
     fn save(&mut self, alloc: Global, _name: &str, text: &[u8]) -> Result<(), LabFault> {
         self.count = self.count.saturating_add(1);
         self.steps = self.steps.saturating_add(count_steps(text));
         if is_whole(alloc, text) {
             self.whole = self.whole.saturating_add(1);
+        }
+        if holds(alloc, text)? {
+            self.checked = self.checked.saturating_add(1);
         }
         Ok(())
     }
@@ -88,52 +119,215 @@ fn word_of(explored: Explored) -> &'static str {
     }
 }
 
+/// How far a search goes.
+fn wanted(is_exact: bool) -> Wanted {
+    Wanted {
+        states: 10_000,
+        depth: 1_000,
+        is_exact,
+    }
+}
+
+/// How it is told.
+const OUTPUT: Output = Output {
+    with_answers: true,
+    is_json: false,
+};
+
 /// Explores the script of a file.
 fn explore_file<W: Write + Drop>(
     rt: &HostRuntime,
     to: &mut W,
     path: &str,
     is_exact: bool,
-) -> Result<(), LabFault> {
-    writeln!(to, "# {path}")?;
+) -> Result<(), ExploreFault> {
+    let mode = if is_exact { ", exact" } else { "" };
+    writeln!(to, "# {path}{mode}")?;
     let Ok(file) = fs::open(rt, path) else {
-        return Err(LabFault::Read);
+        return Err(ExploreFault::Lab(LabFault::Read));
     };
     let mut replayed = Replayed {
         count: 0,
         whole: 0,
+        checked: 0,
         steps: 0,
-    };
-    let wanted = Wanted {
-        states: 10_000,
-        depth: 1_000,
-        is_exact,
     };
     let explored = explore_script(
         rt.alloc(),
         &mut Source::new(file),
         &mut *to,
-        wanted,
+        wanted(is_exact),
+        OUTPUT,
         &mut replayed,
     )?;
     let word = word_of(explored);
-    let count = replayed.count;
-    let whole = replayed.whole;
-    let steps = replayed.steps;
+    let Replayed {
+        count,
+        whole,
+        checked,
+        steps,
+    } = replayed;
     writeln!(
         to,
-        "{word}; {whole} of {count} scripts of {steps} steps replayed whole"
+        "{word}; of {count} scripts of {steps} steps {whole} replayed whole, {checked} checked"
     )?;
     Ok(())
 }
 
-/// Explores all scripts.
-pub fn explore_all<W: Write + Drop>(rt: &HostRuntime, to: &mut W) -> Result<(), LabFault> {
+/// Keeps no script.
+#[derive(Drop)]
+struct Nowhere;
+
+impl Saves for Nowhere {
+    fn wants(&self) -> bool {
+        false
+    }
+
+    fn save(&mut self, _alloc: Global, _name: &str, _text: &[u8]) -> Result<(), LabFault> {
+        Ok(())
+    }
+}
+
+/// Returns whether a line is of an end, of users that are stuck or of a question.
+fn is_reported(line: &[u8]) -> bool {
+    line.starts_with(b"end") || line.starts_with(b"stuck") || line.starts_with(b"question")
+}
+
+/// Asks a question behind a script, and tells what comes of it: the lines of questions, the verdict
+/// and the exit status.
+fn ask<W: Write>(
+    alloc: Global,
+    to: &mut W,
+    script: &[u8],
+    question: &[u8],
+) -> Result<(), ExploreFault> {
+    let mut text = Vec::from_slice(alloc, script)?;
+    text.extend_from_slice(question)?;
+    let mut told: Vec<u8> = Vec::new(alloc);
+    let explored = explore_script(
+        alloc,
+        &mut Source::new(text.as_slice()),
+        &mut told,
+        wanted(false),
+        OUTPUT,
+        &mut Nowhere,
+    );
+    match explored {
+        Ok(_) => {
+            for line in told.split(|byte| *byte == b'\n') {
+                if is_reported(line) {
+                    to.write_all(line)?;
+                    to.write_all(b"\n")?;
+                }
+            }
+        }
+        Err(fault) => writeln!(to, "{fault}")?,
+    }
+    Ok(())
+}
+
+/// Asks each question of a file of a script.
+fn ask_all<W: Write>(rt: &HostRuntime, to: &mut W) -> Result<(), ExploreFault> {
+    let (Ok(script), Ok(questions)) = (fs::read(rt, ASKED), fs::read(rt, QUESTIONS)) else {
+        return Err(ExploreFault::Lab(LabFault::Read));
+    };
+    for question in questions.split(|byte| *byte == b'%') {
+        to.write_all(b"# asked: ")?;
+        to.write_all(question)?;
+        ask(rt.alloc(), to, script.as_slice(), question)?;
+    }
+    Ok(())
+}
+
+/// Returns the report on a script.
+fn report_on(alloc: Global, script: &[u8], is_exact: bool) -> Result<Vec<u8>, ExploreFault> {
+    let mut report: Vec<u8> = Vec::new(alloc);
+    explore_script(
+        alloc,
+        &mut Source::new(script),
+        &mut report,
+        wanted(is_exact),
+        OUTPUT,
+        &mut Nowhere,
+    )?;
+    Ok(report)
+}
+
+/// Returns what is compared of a line: of an end its kind, and not how often it comes.
+fn compared(line: &[u8]) -> &[u8] {
+    if line.starts_with(b"end ") {
+        match line.iter().position(|byte| *byte == b',') {
+            Some(comma) => line.get(..comma).unwrap_or(line),
+            None => line,
+        }
+    } else {
+        line
+    }
+}
+
+/// Returns whether two reports are the same but for their first lines and how often ends come.
+fn are_alike(one: &[u8], other: &[u8]) -> bool {
+    let mut left = one.split(|byte| *byte == b'\n');
+    let mut right = other.split(|byte| *byte == b'\n');
+    let _ = (left.next(), right.next());
+    for _ in 0..=one.len() {
+        match (left.next(), right.next()) {
+            (None, None) => return true,
+            (Some(line), Some(twin)) if compared(line) == compared(twin) => {}
+            _ => return false,
+        }
+    }
+    false
+}
+
+/// Explores random scripts, by default and with exact keys, and says how many reports are alike.
+fn explore_random<W: Write>(rt: &HostRuntime, to: &mut W) -> Result<(), ExploreFault> {
+    let Ok(text) = fs::read(rt, RANDOM) else {
+        return Err(ExploreFault::Lab(LabFault::Read));
+    };
+    let mut parts = text.split(|byte| *byte == b'%');
+    let boot = parts.next().unwrap_or(b"");
+    let mut count: u64 = 0;
+    let mut alike: u64 = 0;
+    for users in parts {
+        let mut script = Vec::from_slice(rt.alloc(), boot)?;
+        script.extend_from_slice(users)?;
+        let report = report_on(rt.alloc(), &script, false)?;
+        let exact = report_on(rt.alloc(), &script, true)?;
+        count = count.saturating_add(1);
+        alike = alike.saturating_add(u64::from(are_alike(&report, &exact)));
+    }
+    writeln!(
+        to,
+        "of {count} random scripts {alike} have the same report with exact keys"
+    )?;
+    Ok(())
+}
+
+/// The fault of the program; that of a question is one of the script's form.
+fn fault_of(fault: ExploreFault) -> LabFault {
+    match fault {
+        ExploreFault::Lab(fault) => fault,
+        ExploreFault::Question { line, why: _ } => LabFault::Form { line },
+    }
+}
+
+/// Explores all scripts and random ones, and asks all questions.
+fn try_all<W: Write + Drop>(rt: &HostRuntime, to: &mut W) -> Result<(), ExploreFault> {
     for &path in SCRIPTS {
         explore_file(rt, to, path, false)?;
     }
     for &path in EXACT {
         explore_file(rt, to, path, true)?;
     }
-    Ok(())
+    ask_all(rt, to)?;
+    explore_random(rt, to)
+}
+
+/// Explores all scripts, and asks all questions.
+pub fn explore_all<W: Write + Drop>(rt: &HostRuntime, to: &mut W) -> Result<(), LabFault> {
+    match try_all(rt, to) {
+        Ok(()) => Ok(()),
+        Err(fault) => Err(fault_of(fault)),
+    }
 }

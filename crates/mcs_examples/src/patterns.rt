@@ -1,6 +1,6 @@
 //! Patterns, and whether each stands for a text.
 use mcs_lab::LabFault;
-use mcs_patterns::is_match;
+use mcs_questions::is_match;
 use std::io::Write;
 
 /// Patterns and texts. Nothing has one word, which is empty, and spaces stand between such words.

@@ -101,7 +101,7 @@ impl System for Ring {
     ghost as_good = { λ m s k c same is. is ∙ eqb-true k c same };
 }
 
-/// How many states are enough for a ring of 1,000, and how many steps are looked behind.
+/// How many states are enough for a ring of 1,000, and how many steps are expanded.
 const BUDGETS: &[(usize, usize)] = &[(2000, 2000), (2000, 3), (10, 2000)];
 
 /// Tells how much of the ring is found by each budget, how far the place lies behind which is looked next, and the last.

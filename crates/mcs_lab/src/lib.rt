@@ -17,7 +17,7 @@ pub use checking::check;
 pub use fault::LabFault;
 pub use judging::{Judge, entrant_of};
 pub use last::{Last, Told};
-pub use names::Names;
+pub use names::{Named, Names};
 pub use reading::{TakesLines, take_lines};
 pub use tap::bare;
 pub use words::{object_of, queue_of};

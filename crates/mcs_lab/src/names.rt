@@ -1,6 +1,7 @@
 //! The names that a script gives to objects.
 use crate::fault::LabFault;
 use crate::words::{object_of, queue_of};
+use mcs_names::is_like_id;
 use mcs_text::{Words, letter};
 use mcs_types::{ObjId, Queue};
 use std::alloc::Global;
@@ -8,15 +9,24 @@ use std::io::{self, Write};
 
 /// An object and its name.
 #[derive(Drop)]
-struct Named {
+struct Given {
     object: ObjId,
     name: Vec<u8>,
+}
+
+/// What a name names.
+#[derive(Clone, Copy)]
+pub enum Named {
+    Nothing,
+    One(ObjId),
+    /// It is the name of two objects or more.
+    Several,
 }
 
 /// The names that were given. The last for an object holds.
 #[derive(Drop)]
 pub struct Names {
-    all: Vec<Named>,
+    all: Vec<Given>,
 }
 
 /// Whether a name may have this byte: what is told stays one word, and needs no quotes.
@@ -42,7 +52,7 @@ impl Names {
     }
 
     /// Takes a line of a script. Where it begins with `#@ ` it gives a name: an object, and one word of letters, digits, `-`, `_`
-    /// and `.`. Fault Form where it has not this form.
+    /// and `.`, which has not the shape of an object's id. Fault Form where it has not this form.
     pub fn hear(&mut self, alloc: Global, number: u64, line: &[u8]) -> Result<(), LabFault> {
         let [b'#', b'@', b' ', text @ .., b'\n'] = line else {
             return Ok(());
@@ -58,9 +68,12 @@ impl Names {
         if name.is_empty() || words.has_more() || !name.iter().all(|byte| is_of_name(*byte)) {
             return Err(fault);
         }
+        if is_like_id(name) {
+            return Err(fault);
+        }
         let mut kept = Vec::new(alloc);
         kept.extend_from_slice(name)?;
-        self.all.push(Named { object, name: kept })?;
+        self.all.push(Given { object, name: kept })?;
         Ok(())
     }
 
@@ -72,6 +85,22 @@ impl Names {
             }
         }
         None
+    }
+
+    /// What a name names. An object has the name that it was given last.
+    pub fn find(&self, name: &[u8]) -> Named {
+        let mut found = Named::Nothing;
+        for given in self.all.iter() {
+            if given.name.as_slice() != name || self.of(given.object) != Some(name) {
+                continue;
+            }
+            found = match found {
+                Named::Nothing => Named::One(given.object),
+                Named::One(object) if object.is_same(given.object) => found,
+                Named::One(_) | Named::Several => Named::Several,
+            };
+        }
+        found
     }
 
     /// Writes the name of an object between parentheses, where it has one.
@@ -118,6 +147,23 @@ impl Names {
             Some(object) => self.put_name(to, object),
             None => Ok(()),
         }
+    }
+
+    /// The objects that have a name, and the name that each was given last: the one of a number, from 0, of all that were given. None
+    /// where the object has another one, or there is no such number.
+    pub fn given(&self, number: usize) -> Option<(ObjId, &[u8])> {
+        let given = self.all.get(number)?;
+        let name = given.name.as_slice();
+        if self.of(given.object)? == name {
+            Some((given.object, name))
+        } else {
+            None
+        }
+    }
+
+    /// How many names were given.
+    pub fn count(&self) -> usize {
+        self.all.len()
     }
 
     /// Whether no name was given.

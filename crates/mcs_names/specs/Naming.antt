@@ -1,5 +1,5 @@
 -- Objects by their names.
-use Rattle.std.specs.Prelude.{ℕ, ◌+◌, Bool, false, ◌&&◌, ◌||◌, ◌==◌, nat_le, cond, List, [], ◌∷◌, ◌++◌, Option, Some, None, String, map, count_by, string_bytes, bytes_eq}
+use Rattle.std.specs.Prelude.{ℕ, ◌+◌, Bool, false, not, ◌&&◌, ◌||◌, ◌==◌, nat_le, cond, List, [], ◌∷◌, ◌++◌, Option, Some, None, String, map, count_by, string_bytes, bytes_eq}
 use Rattle.std.specs.List.{list_all}
 use Rattle.std.specs.Map.{lookup}
 use denote.Ref.{Bor}
@@ -34,10 +34,23 @@ begins_with_digit (b ∷ bs) = is_digit b
 abbrev pub is_name_byte : ℕ → Bool
 is_name_byte b = is_letter b || is_digit b || b == 45 || b == 46 || b == 95
 
--- whether a word may be a name
+-- a letter, and such bytes
+abbrev pub is_name_text : List ℕ → Bool
+is_name_text [] = false
+is_name_text (b ∷ bs) = is_letter b && list_all is_name_byte bs
+
+-- the letter of a kind of objects: `c`, `e`, `n`, `r`, `s` or `t`
+abbrev pub is_kind_letter : ℕ → Bool
+is_kind_letter b = b == 99 || b == 101 || b == 110 || b == 114 || b == 115 || b == 116
+
+-- whether a word has the shape of an object's id, as `t1`
+abbrev pub is_like_id : List ℕ → Bool
+is_like_id (l ∷ d ∷ ds) = is_kind_letter l && (is_digit d && list_all is_digit ds)
+is_like_id _ = false
+
+-- whether a word may be a name: it is no id
 abbrev pub is_name : List ℕ → Bool
-is_name [] = false
-is_name (b ∷ bs) = is_letter b && list_all is_name_byte bs
+is_name word = is_name_text word && not (is_like_id word)
 
 -- how many objects of a kind there may be
 abbrev pub limit_of : Kind → ℕ

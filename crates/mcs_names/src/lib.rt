@@ -9,4 +9,4 @@ mod words;
 pub use fault::{PlanFault, Why};
 pub use names::{Names, add_word, limit_of, plural, singular};
 pub use telling::tell_names;
-pub use words::{Words, is_name, is_white, not, number, split_comment, split_words};
+pub use words::{Words, is_like_id, is_name, is_white, not, number, split_comment, split_words};

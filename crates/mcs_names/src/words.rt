@@ -2,7 +2,7 @@
 ghost use Rattle.std.specs.Prelude.{◌≡◌, ◌≤◌, ◌∷◌, [], true, IfOk, IfErr, OnOk, OnSome, IfSome, IfNone, option_map, slice_get, slice_index, ◌==◌, length};
 ghost use Rattle.std.specs.List.{list_all};
 ghost use Rattle.mcs_names.specs.Cutting.{is_white, words_of, code_len, code_of, comment_of};
-ghost use Rattle.mcs_names.specs.Naming.{is_letter, is_name_byte, is_name, begins_with_digit, texts};
+ghost use Rattle.mcs_names.specs.Naming.{is_letter, is_digit, is_kind_letter, is_like_id, is_name_byte, is_name_text, is_name, begins_with_digit, texts};
 ghost use Rattle.mcs_names.specs.Numbers.{number_in, number_of, ReadsNumber, TellsNoNumber};
 ghost use Rattle.mcs_names.specs.Telling.{TellsNot, TellsMissing, TellsTooMany, TellsOther, TakesNumber};
 
@@ -229,11 +229,18 @@ fn is_letter(byte: u8) -> bool
     (65 <= byte && byte <= 90) || (97 <= byte && byte <= 122)
 }
 
+/// Whether a byte is a digit.
+fn is_digit(byte: u8) -> bool
+    ensures { result ≡ is_digit byte }
+{
+    48 <= byte && byte <= 57
+}
+
 /// Whether a byte may stand in a name.
 fn is_name_byte(byte: u8) -> bool
     ensures { result ≡ is_name_byte byte }
 {
-    is_letter(byte) || (48 <= byte && byte <= 57) || byte == 45 || byte == 46 || byte == 95
+    is_letter(byte) || is_digit(byte) || byte == 45 || byte == 46 || byte == 95
 }
 
 /// Whether all bytes may stand in a name.
@@ -248,12 +255,50 @@ fn are_name_bytes(bytes: &[u8]) -> bool
     true
 }
 
-/// Whether a word may be a name: it begins with a letter, and has letters, digits, `-`, `_` and `.`.
-pub fn is_name(word: &str) -> bool
-    ensures { result ≡ is_name word.now }
+/// Whether all bytes are digits.
+fn are_digits(bytes: &[u8]) -> bool
+    ensures { result ≡ list_all is_digit bytes.now }
 {
-    match word.as_bytes() {
+    for byte in bytes {
+        if !is_digit(*byte) {
+            return false;
+        }
+    }
+    true
+}
+
+/// Whether a byte is the letter of a kind of objects.
+fn is_kind_letter(byte: u8) -> bool
+    ensures { result ≡ is_kind_letter byte }
+{
+    byte == 99 || byte == 101 || byte == 110 || byte == 114 || byte == 115 || byte == 116
+}
+
+/// Whether a word has the shape of an object's id, as `t1`: the letter of a kind, and digits.
+pub fn is_like_id(word: &[u8]) -> bool
+    ensures { result ≡ is_like_id word.now }
+{
+    match word {
+        [letter, first, rest @ ..] => {
+            is_kind_letter(*letter) && is_digit(*first) && are_digits(rest)
+        }
+        _ => false,
+    }
+}
+
+/// Whether a word begins with a letter, and has letters, digits, `-`, `_` and `.`.
+fn is_name_text(word: &[u8]) -> bool
+    ensures { result ≡ is_name_text word.now }
+{
+    match word {
         [] => false,
         [first, rest @ ..] => is_letter(*first) && are_name_bytes(rest),
     }
+}
+
+/// Whether a word may be a name: it begins with a letter, has letters, digits, `-`, `_` and `.`, and not the shape of an id.
+pub fn is_name(word: &str) -> bool
+    ensures { result ≡ is_name word.now }
+{
+    is_name_text(word.as_bytes()) && !is_like_id(word.as_bytes())
 }

@@ -132,13 +132,13 @@ impl<'a> Fields<'a> {
 
 /// The lines of the forms, behind the two spaces with which each begins.
 #[derive(Drop)]
-struct Forms {
+pub struct Forms {
     lines: Lines<'static>,
 }
 
 impl Forms {
     /// All of them.
-    fn new() -> Forms {
+    pub fn new() -> Forms {
         Forms {
             lines: Lines::new(FORMS.as_bytes()),
         }
@@ -149,6 +149,17 @@ impl Forms {
         for _ in 0..FORMS.len() {
             if let [b' ', b' ', form @ ..] = self.lines.next_line()? {
                 return Some(form);
+            }
+        }
+        None
+    }
+
+    /// The first word of the next form with a sign, if there is one.
+    pub fn next_key(&mut self, sign: u8) -> Option<&'static [u8]> {
+        for _ in 0..FORMS.len() {
+            let mut words = Words::new(self.next_form()?);
+            if matches!(words.next_word()?, [first] if *first == sign) {
+                return words.next_word();
             }
         }
         None

@@ -17,7 +17,7 @@ use mcs_types::{
 use std::alloc::Global;
 use std::io::{Read, Write};
 
-/// A line of the book, of which is told what is easily overlooked.
+/// A line of the book, of which is reported what is easily overlooked.
 #[derive(Drop)]
 struct Entered {
     step: Step,
@@ -25,8 +25,8 @@ struct Entered {
     records: Vec<Rec>,
 }
 
-/// Who took a call, and whose it is, where nobody can answer it: in a line in which a message is taken its caller becomes
-/// inactive, and no debt to it ends.
+/// Who took a call, and whose it is, where nobody can answer it: in a line in which a message is
+/// taken its caller becomes inactive, and no debt to it ends.
 fn unanswerable(records: &[Rec]) -> Option<(ObjId, ObjId)> {
     let mut taker = None;
     let mut ended = None;
@@ -127,7 +127,7 @@ fn put_first_refused(
         let Some(number) = address_of(word) else {
             continue;
         };
-        let is_told = match field.looks_up {
+        let is_put = match field.looks_up {
             LooksUp::Nothing => false,
             LooksUp::Address => put_address(page, names, kernel, step, number),
             LooksUp::Place => match place_of(number, fields, words) {
@@ -135,7 +135,7 @@ fn put_first_refused(
                 None => false,
             },
         };
-        if is_told {
+        if is_put {
             return true;
         }
     }
@@ -289,19 +289,39 @@ fn put_record(page: &mut Page, names: &Names, record: &Rec) {
     }
 }
 
-/// Whether a record is told of.
-fn is_told(record: &Rec) -> bool {
-    matches!(
-        record,
+/// Whether a record is reported.
+fn is_reported(record: &Rec) -> bool {
+    match record {
         Rec::Sent {
             mode: SendMode::Mute,
             ..
-        } | Rec::Void { .. }
-            | Rec::Dropped { .. }
-    )
+        }
+        | Rec::Void { .. }
+        | Rec::Dropped { .. } => true,
+        Rec::Sent {
+            mode: SendMode::Plain | SendMode::Call | SendMode::Give,
+            ..
+        }
+        | Rec::Made { .. }
+        | Rec::Closed { .. }
+        | Rec::Slot { .. }
+        | Rec::Prio { .. }
+        | Rec::Turns { .. }
+        | Rec::Joins { .. }
+        | Rec::Parts { .. }
+        | Rec::Took { .. }
+        | Rec::Owes { .. }
+        | Rec::Paid { .. }
+        | Rec::Holds { .. }
+        | Rec::Raised { .. }
+        | Rec::Heard { .. }
+        | Rec::Tied { .. }
+        | Rec::Homed { .. } => false,
+    }
 }
 
-/// The address over which an entry sends and then does not wait, where nobody receives or nobody is owed an answer.
+/// The address over which an entry sends and then does not wait, where nobody receives or nobody is
+/// owed an answer.
 fn sends_once(entry: &Entry) -> Option<u64> {
     match entry {
         Entry::Send { cap, .. }
@@ -313,29 +333,69 @@ fn sends_once(entry: &Entry) -> Option<u64> {
     }
 }
 
+/// Whether a record sends a message, or pays an answer.
+fn delivers(record: &Rec) -> bool {
+    match record {
+        Rec::Sent { .. } | Rec::Paid { .. } => true,
+        Rec::Made { .. }
+        | Rec::Closed { .. }
+        | Rec::Slot { .. }
+        | Rec::Prio { .. }
+        | Rec::Turns { .. }
+        | Rec::Joins { .. }
+        | Rec::Parts { .. }
+        | Rec::Took { .. }
+        | Rec::Dropped { .. }
+        | Rec::Owes { .. }
+        | Rec::Void { .. }
+        | Rec::Holds { .. }
+        | Rec::Raised { .. }
+        | Rec::Heard { .. }
+        | Rec::Tied { .. }
+        | Rec::Homed { .. } => false,
+    }
+}
+
 /// Whether a message was sent, or an answer given, by some record.
 fn is_delivered(records: &[Rec]) -> bool {
     for record in records {
-        if matches!(record, Rec::Sent { .. } | Rec::Paid { .. }) {
+        if delivers(record) {
             return true;
         }
     }
     false
 }
 
+/// Whether an answer refuses.
+fn is_refused(answer: &Answer) -> bool {
+    match answer {
+        Answer::Refused(_) => true,
+        Answer::Done | Answer::Got { .. } | Answer::Heard { .. } | Answer::Empty | Answer::Waits =>
+            false,
+    }
+}
+
+/// Whether a message goes to an object of this kind.
+fn takes_messages(kind: Kind) -> bool {
+    match kind {
+        Kind::Endpoint | Kind::Reply => true,
+        Kind::CNode | Kind::Thread | Kind::Notification | Kind::Context => false,
+    }
+}
+
 /// The endpoint or reply object over which the message of a line went to nobody, if it did.
 fn dropped_at(kernel: &Kernel<LinkedLines>, entered: &Entered) -> Option<ObjId> {
     let address = sends_once(&entered.step.entry)?;
-    if matches!(entered.answer, Answer::Refused(_)) || is_delivered(entered.records.as_slice()) {
+    if is_refused(&entered.answer) || is_delivered(entered.records.as_slice()) {
         return None;
     }
     match kernel.named(entered.step.thread, address) {
-        Some(Ok(cap)) if matches!(cap.obj.kind, Kind::Endpoint | Kind::Reply) => Some(cap.obj),
+        Some(Ok(cap)) if takes_messages(cap.obj.kind) => Some(cap.obj),
         _ => None,
     }
 }
 
-/// A script of which is told what is easily overlooked.
+/// A script of which is reported what is easily overlooked.
 #[derive(Drop)]
 struct Teller {
     judge: Judge,
@@ -344,7 +404,7 @@ struct Teller {
 }
 
 impl Teller {
-    /// Of a script of which nothing is read. The judge is made last, so that no fault lets it go.
+    /// Of a script of which nothing is read. The judge is made last, so that no fault frees it.
     fn new(alloc: Global) -> Result<Teller, LabFault> {
         let page = Page::new(alloc)?;
         let names = Names::new(alloc);
@@ -362,7 +422,7 @@ impl Teller {
         self.page.put(b": ");
     }
 
-    /// Tells why the last step was turned away.
+    /// Reports why the last step was turned away.
     fn tell_away(&mut self, alloc: Global) {
         self.put_step();
         self.page.put(b"turned away: ");
@@ -373,7 +433,7 @@ impl Teller {
         self.page.put(b"\n");
     }
 
-    /// Tells a fault of the script, and what may have been meant.
+    /// Reports a fault of the script, and what may have been meant.
     fn tell_fault(&mut self, alloc: Global, line: &[u8], fault: LabFault) {
         let LabFault::Script { line: number, why } = fault else {
             return;
@@ -393,7 +453,7 @@ impl Teller {
         }
     }
 
-    /// Tells why the last step was refused.
+    /// Reports why the last step was refused.
     fn tell_refused(&mut self, alloc: Global, refusal: Refusal) {
         self.put_step();
         self.page.put(b"refused ");
@@ -429,7 +489,7 @@ impl Teller {
         }))
     }
 
-    /// Tells who took a call that nobody can answer.
+    /// Reports who took a call that nobody can answer.
     fn tell_unanswerable(&mut self, taker: ObjId, caller: ObjId) {
         self.put_step();
         self.page.object(&self.names, taker);
@@ -438,11 +498,11 @@ impl Teller {
         self.page.put(b", which nobody can answer: no reply object owes for it\n");
     }
 
-    /// Tells of records what is easily overlooked.
+    /// Reports of records what is easily overlooked.
     fn tell_records(&mut self, records: &[Rec]) {
         let mut tells = false;
         for record in records {
-            if is_told(record) {
+            if is_reported(record) {
                 self.put_step();
                 put_record(&mut self.page, &self.names, record);
                 tells = true;
@@ -453,7 +513,7 @@ impl Teller {
         }
     }
 
-    /// Tells that the message or the answer of the last step went to nobody, where it did.
+    /// Reports that the message or the answer of the last step went to nobody, where it did.
     fn tell_dropped(&mut self, entered: &Entered) {
         let Some(kernel) = self.judge.kernel() else {
             return;
@@ -474,7 +534,7 @@ impl Teller {
         }
     }
 
-    /// Tells of the last step, which was let in, what is easily overlooked.
+    /// Reports of the last step, which was let in, what is easily overlooked.
     fn tell_entered(&mut self, alloc: Global) {
         match self.entered(alloc) {
             Ok(None) => {}
@@ -507,7 +567,7 @@ impl Teller {
         Ok(())
     }
 
-    /// Tells at the end what is stuck. True where nothing is.
+    /// Reports at the end what is stuck. True where nothing is.
     fn tell_stuck(&mut self, alloc: Global) -> Result<bool, LabFault> {
         self.judge.end(alloc)?;
         let Some(kernel) = self.judge.kernel() else {
@@ -549,8 +609,9 @@ fn explain_all<R: Read, W: Write>(
     Ok(is_free)
 }
 
-/// Explains a script: each step that was turned away or refused, each call that nobody can answer, each debt that became void,
-/// each message or answer that was dropped, and at the end what is stuck. True where nothing is stuck.
+/// Explains a script: each step that was turned away or refused, each call that nobody can answer,
+/// each debt that became void, each message or answer that was dropped, and at the end what is
+/// stuck. True where nothing is stuck.
 pub fn explain<R: Read, W: Write + Drop>(
     alloc: Global,
     from: &mut Source<R>,

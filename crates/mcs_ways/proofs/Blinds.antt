@@ -14,7 +14,7 @@ use Rattle.mcs_types.specs.declared.record.Rec.TheVariants as rec
 use Rattle.mcs_text.specs.Table.{record_text, how_key}
 use Rattle.mcs_text.specs.Spelling.{line_text, token_text, then_text}
 use Rattle.mcs_text.specs.Reading.{words_of, onto_first}
-use Rattle.mcs_patterns.specs.Patterns.{is_match, are_matched, is_word, is_rest}
+use Rattle.mcs_questions.specs.Patterns.{is_match, are_matched, is_word, is_rest}
 use Rattle.std.specs.Fmt.{digit_glyph, digits_onto, digits}
 use Rattle.mcs_book.proofs.Messages.MessageLaws.{number-other}
 use Rattle.mcs_alike.specs.ButNumbers.{bare}

@@ -8,7 +8,7 @@ use Rattle.mcs_turns.specs.Turns.{User, Going}
 use Rattle.mcs_walks.specs.declared.walk.Turn.{Turn}
 use Rattle.mcs_orders.specs.Shown.{Made, Shown, Sight, with_state, with_turn}
 use Rattle.mcs_ways.specs.declared.answers.Told.{Told}
-use Rattle.mcs_ways.specs.declared.asking.Asked.{Asked}
+use Rattle.mcs_questions.specs.declared.asking.Asked.{Asked}
 use Rattle.mcs_ways.specs.declared.mail.Reached.{Reached}
 use Rattle.mcs_ways.specs.declared.reading.AskedLine.{AskedLine}
 use Rattle.mcs_ways.specs.declared.judging.Sighting.{Sighting}

@@ -27,10 +27,10 @@ use Rattle.mcs_like_runs.proofs.Outcomes.{same-outcomes, exact-outcomes}
 use Rattle.mcs_walks.specs.declared.walk.Turn.{Turn}
 use Rattle.mcs_orders.specs.Seen.{AreAllSeen}
 use Rattle.mcs_orders.specs.Trails.{Leads}
-use Rattle.mcs_ways.specs.declared.asking.Asked.{Asked}
-use Rattle.mcs_ways.specs.declared.asking.Asked.TheVariants as asked
-use Rattle.mcs_ways.specs.declared.asking.Event.{Event}
-use Rattle.mcs_ways.specs.declared.asking.Span.{Span}
+use Rattle.mcs_questions.specs.declared.asking.Asked.{Asked}
+use Rattle.mcs_questions.specs.declared.asking.Asked.TheVariants as asked
+use Rattle.mcs_questions.specs.declared.asking.Event.{Event}
+use Rattle.mcs_questions.specs.declared.asking.Span.{Span}
 use Rattle.mcs_ways.specs.declared.reading.AskedLine.{AskedLine}
 use Rattle.mcs_ways.specs.declared.judging.Sighting.{Sighting}
 use Rattle.mcs_ways.specs.Judging.{IsDecided, NameNone, answered_by, fails, gives, has_given, is_in, is_line, is_within, lines_told, place_of, record_lines, told_last}
@@ -39,13 +39,27 @@ use Rattle.mcs_ways.specs.Found.{AreHeldInRuns, AreJudgedFound, IsHeldFound, IsH
 
 -- runs with the same statuses and places have the same users in spans
 module _ (users : List User) (g h : Going) (places : g.places ≡ h.places) (statuses : (t : ObjId) → status_of (log_of g.book) t ≡ status_of (log_of h.book) t) where
+  abbrev within_at : Going → Span → Option User → ℕ → Bool
+  within_at x s o i = elim o [ None ↦ false | Some u ↦ elim (slice_get x.places i) [ None ↦ false | Some p ↦ is_within s (status_of (log_of x.book) u.thread) p ] ]
+
+  abbrev is_of : Going → Span → Option ℕ → Bool
+  is_of x s o = elim o [ None ↦ false | Some i ↦ within_at x s (slice_get users i) i ]
+
+  within-same : (s : Span) (o : Option User) (i : ℕ) → within_at g s o i ≡ within_at h s o i
+  within-same s None i = refl
+  within-same s (Some u) i = go (slice_get g.places i) (slice_get h.places i) (ap (λ (ps : List Position). slice_get ps i) places)
+    where
+      by : Option Status → Option Position → Bool
+      by st o = elim o [ None ↦ false | Some p ↦ is_within s st p ]
+
+      go : (o p : Option Position) → o ≡ p → by (status_of (log_of g.book) u.thread) o ≡ by (status_of (log_of h.book) u.thread) p
+      go o p e = ap (by (status_of (log_of g.book) u.thread)) e ∙ ap (λ st. by st p) (statuses u.thread)
+
+  -- and as many entries of each user answered
   abbrev answered_at : Going → Option User → ℕ → ℕ
   answered_at x o i = elim o [ None ↦ 0 | Some u ↦ elim (slice_get x.places i) [ None ↦ 0 | Some p ↦ answered_by (status_of (log_of x.book) u.thread) p ] ]
 
-  abbrev is_at : Going → Span → Option ℕ → Bool
-  is_at x s o = elim o [ None ↦ false | Some i ↦ is_within s (answered_at x (slice_get users i) i) ]
-
-  answered-same : (o : Option User) (i : ℕ) → answered_at g o i ≡ answered_at h o i
+  pub answered-same : (o : Option User) (i : ℕ) → answered_at g o i ≡ answered_at h o i
   answered-same None i = refl
   answered-same (Some u) i = go (slice_get g.places i) (slice_get h.places i) (ap (λ (ps : List Position). slice_get ps i) places)
     where
@@ -58,9 +72,9 @@ module _ (users : List User) (g h : Going) (places : g.places ≡ h.places) (sta
   span-same : (s : Span) → is_in users g s ≡ is_in users h s
   span-same s = go (place_of users s.thread)
     where
-      go : (o : Option ℕ) → is_at g s o ≡ is_at h s o
+      go : (o : Option ℕ) → is_of g s o ≡ is_of h s o
       go None = refl
-      go (Some i) = ap (is_within s) (answered-same (slice_get users i) i)
+      go (Some i) = within-same s (slice_get users i) i
 
   spans-same : (ss : List Span) → list_all (is_in users g) ss ≡ list_all (is_in users h) ss
   spans-same [] = refl

@@ -6,7 +6,7 @@ use Rattle.mcs_turns.specs.Turns.{User, Going}
 use Rattle.mcs_types.specs.declared.entry.Answer.{Answer}
 use Rattle.mcs_walks.specs.declared.walk.Turn.{Turn}
 use Rattle.mcs_orders.specs.Shown.{Made, Shown, Sight, nothing, with_state, with_turn}
-use Rattle.mcs_ways.specs.declared.asking.Asked.{Asked}
+use Rattle.mcs_questions.specs.declared.asking.Asked.{Asked}
 use Rattle.mcs_ways.specs.declared.reading.AskedLine.{AskedLine}
 use Rattle.mcs_ways.specs.declared.judging.Sighting.{Sighting}
 use Rattle.mcs_ways.specs.Judging.{fails}

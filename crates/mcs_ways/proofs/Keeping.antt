@@ -14,10 +14,11 @@ use Rattle.mcs_orders.specs.Trails.{Leads}
 use Rattle.mcs_orders.specs.Shown.{AreShown, Counting, HasCounted, HasSeenAll, Made, Shown, Sight, nothing, with_state, with_turn}
 use Rattle.mcs_orders.proofs.Paths.{path-one}
 use Rattle.mcs_ways.specs.declared.answers.Told.{Told}
-use Rattle.mcs_ways.specs.declared.asking.Asked.{Asked}
-use Rattle.mcs_ways.specs.declared.asking.Asked.TheVariants as asked
+use Rattle.mcs_questions.specs.declared.asking.Asked.{Asked}
+use Rattle.mcs_questions.specs.declared.asking.Asked.TheVariants as asked
 use Rattle.mcs_ways.specs.declared.reading.AskedLine.{AskedLine}
 use Rattle.mcs_ways.specs.declared.judging.Sighting.{Sighting}
+use Rattle.mcs_ways.specs.declared.mail.Reached.{Reached}
 use Rattle.mcs_ways.specs.Judging.{fails}
 use Rattle.mcs_ways.specs.Judged.{AreJudged, AreJudgedBy, IsJudged, IsShownBy}
 use Rattle.mcs_ways.specs.Standings.{standings}
@@ -53,9 +54,11 @@ kept-state (Ok x) users questions place g over old new tables failed after by no
 -- a turn more
 pub kept-turn : {E : Type 0} (r : Result (Unit {0}) E) (users : List User) (questions : List AskedLine) (place : ℕ) (t : Turn) (a : Answer) (h : Going) (kinds : List Kind) (start mid after : Tables) (failed then : List (Option Sighting))
     → AreJudgedBy users questions (record { place = place; turn = Some t }) h failed then → IsNotedTurn (record { answer = a; place = place; turn = t }) start mid
-    → OnOk r (AreNotedMail users h place t (brought h.book) mid after) → OnOk r ((shown : Shown) → IsKept users questions shown kinds start failed → IsKept users questions (with_turn place t a h shown) kinds after then)
-kept-turn (Err e) users questions place t a h kinds start mid after failed then by noted mail = mail
-kept-turn (Ok x) users questions place t a h kinds start mid after failed then by noted mail = λ shown kept.
+    → (all : List Reached) → all ≡ brought h.book → OnOk r (AreNotedMail users h place t all mid after)
+    → OnOk r ((shown : Shown) → IsKept users questions shown kinds start failed → IsKept users questions (with_turn place t a h shown) kinds after then)
+kept-turn (Err e) users questions place t a h kinds start mid after failed then by noted all is noted_mail = noted_mail
+kept-turn (Ok x) users questions place t a h kinds start mid after failed then by noted all is noted_mail = λ shown kept.
+    let mail : AreNotedMail users h place t (brought h.book) mid after = subst (λ (rs : List Reached). AreNotedMail users h place t rs mid after) is noted_mail in
     let m : Made = record { place = place; turn = t; answer = a; going = h } in
     let own = turn-noted users shown.turns start mid m noted kept.answers in
     record {
@@ -74,12 +77,12 @@ one-longer : {A : Type 0} (xs : List A) (x : A) → length (xs ++ x ∷ []) ≡ 
 one-longer [] x = refl
 one-longer (y ∷ xs) x = ap (λ n. suc n) (one-longer xs x)
 
-paths-long : {K L : Type 0} (found : Entries K L) (n : ℕ) → length (paths_below found n) ≡ n
+pub paths-long : {K L : Type 0} (found : Entries K L) (n : ℕ) → length (paths_below found n) ≡ n
 paths-long found zero = refl
 paths-long found (suc n) = one-longer (paths_below found n) (path_of found n) ∙ ap (λ k. suc k) (paths-long found n)
 
 -- the paths of the first places
-at-paths : {K L : Type 0} (found : Entries K L) (n i : ℕ) → i < n → slice_get (paths_below found n) i ≡ Some (path_of found i)
+pub at-paths : {K L : Type 0} (found : Entries K L) (n i : ℕ) → i < n → slice_get (paths_below found n) i ≡ Some (path_of found i)
 at-paths found zero i lt = absurd (omega (arith, lt))
 at-paths found (suc n) i lt = go (below-or i n lt) (λ b. at-paths found n i b)
   where

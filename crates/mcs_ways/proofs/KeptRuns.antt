@@ -72,7 +72,7 @@ module _ (numbered : Bool) (users : List User) (boot : Boot) (whole : IsFaultles
   answer-same : last_answer left.book ≡ last_answer right.book
   answer-same = ap (λ (x : Answer). Some x) (same numbered users boot whole range g h a core k t turn).answer
 
-  brought-same : brought left.book ≡ brought right.book
+  pub brought-same : brought left.book ≡ brought right.book
   brought-same = mail-same None _ _ (same numbered users boot whole range g h a core k t turn).records
 
   pub answered-there : (x : Answer) → last_answer t.book ≡ Some x → last_answer right.book ≡ Some x

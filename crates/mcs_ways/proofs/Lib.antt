@@ -12,3 +12,6 @@ pub mod Unnamed
 mod Waiting
 pub mod KeptRuns
 pub mod Shortest
+pub mod Always
+pub mod Stuck
+pub mod Seeing

@@ -1,5 +1,5 @@
 -- `==` of statuses tells exactly whether they are the same.
-use Rattle.std.specs.Prelude.{◌≡◌, ◌↔◌, Bool, Option, Some, None, true, false}
+use Rattle.std.specs.Prelude.{ℕ, ◌≡◌, ◌↔◌, Bool, Option, Some, None, true, false}
 use Rattle.std.proofs.Common.{ap, rules, sym, ◌∙◌}
 use Rattle.mcs_types.specs.declared.id.ObjId.{ObjId}
 use Rattle.mcs_types.specs.declared.record.Status.{Status}
@@ -22,10 +22,10 @@ queue = values_tell queue_type.enum _ (assumption (last id))
 pub status_tells : Tells status_eq.ghosts.eq
 status_tells = values_tell status_type.enum _ (assumption (last queue, last id))
 
-abbrev made : ObjId → Option Status → Bool → Standing
-made t s e = record { thread = t; status = s; has_entries = e }
+abbrev made : ObjId → Option Status → Bool → ℕ → Standing
+made t s e n = record { thread = t; status = s; has_entries = e; answered = n }
 
--- standings of two threads, of which one has entries and the other not, or whose statuses are another
+-- standings of two threads, of which one has entries and the other not, or that were answered other numbers, or whose statuses are another
 pub other_thread : (a b : Standing) → same a.thread b.thread ≡ false → (false ≡ true) ↔ (a ≡ b)
 other_thread a b other = (λ h. absurd cc, λ e. absurd (differ (sym (same-self a.thread) ∙ ap (λ (x : Standing). same a.thread x.thread) e ∙ other)))
   where
@@ -35,11 +35,14 @@ other_thread a b other = (λ h. absurd cc, λ e. absurd (differ (sym (same-self 
 pub other_entries : (a b : Standing) → (a.has_entries ≡ b.has_entries → ⊥) → (false ≡ true) ↔ (a ≡ b)
 other_entries a b other = (λ h. absurd cc, λ e. absurd (other (ap (λ (x : Standing). x.has_entries) e)))
 
-pub same_rest : (a b : Standing) (r : Bool) → same a.thread b.thread ≡ true → a.has_entries ≡ b.has_entries → (r ≡ true) ↔ (a.status ≡ b.status) → (r ≡ true) ↔ (a ≡ b)
-same_rest a b r thread entries rest = (λ h. go (same-equal a.thread b.thread thread) entries (rest.0 h), λ e. rest.1 (ap (λ (x : Standing). x.status) e))
+pub other_answered : (a b : Standing) → (a.answered ≡ b.answered → ⊥) → (false ≡ true) ↔ (a ≡ b)
+other_answered a b other = (λ h. absurd cc, λ e. absurd (other (ap (λ (x : Standing). x.answered) e)))
+
+pub same_rest : (a b : Standing) (r : Bool) → same a.thread b.thread ≡ true → a.has_entries ≡ b.has_entries → a.answered ≡ b.answered → (r ≡ true) ↔ (a.status ≡ b.status) → (r ≡ true) ↔ (a ≡ b)
+same_rest a b r thread entries answered rest = (λ h. go (same-equal a.thread b.thread thread) entries answered (rest.0 h), λ e. rest.1 (ap (λ (x : Standing). x.status) e))
   where
-    go : a.thread ≡ b.thread → a.has_entries ≡ b.has_entries → a.status ≡ b.status → a ≡ b
-    go t e s = ap (λ x. made x a.status a.has_entries) t ∙ ap (λ x. made b.thread x a.has_entries) s ∙ ap (λ x. made b.thread b.status x) e
+    go : a.thread ≡ b.thread → a.has_entries ≡ b.has_entries → a.answered ≡ b.answered → a.status ≡ b.status → a ≡ b
+    go t e n s = ap (λ x. made x a.status a.has_entries a.answered) t ∙ ap (λ x. made b.thread x a.has_entries a.answered) s ∙ ap (λ x. made b.thread b.status x a.answered) e ∙ ap (λ x. made b.thread b.status b.has_entries x) n
 
 -- statuses where there may be none
 pub some_status : (a b : Status) (r : Bool) → (r ≡ true) ↔ (a ≡ b) → (r ≡ true) ↔ (Some a ≡ Some b)

@@ -11,7 +11,7 @@ use Rattle.mcs_walks.specs.Walks.{last_answer}
 use Rattle.mcs_orders.specs.Shown.{AreCounted, AreShown, Shown}
 use Rattle.mcs_orders.specs.Trails.{Leads}
 use Rattle.mcs_ways.specs.declared.answers.Told.{Told}
-use Rattle.mcs_ways.specs.declared.asking.Asked.{Asked}
+use Rattle.mcs_questions.specs.declared.asking.Asked.{Asked}
 use Rattle.mcs_ways.specs.declared.reading.AskedLine.{AskedLine}
 use Rattle.mcs_ways.specs.declared.judging.Sighting.{Sighting}
 use Rattle.mcs_ways.specs.Standings.{standings}

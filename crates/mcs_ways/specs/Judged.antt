@@ -3,7 +3,7 @@ use Rattle.std.specs.Prelude.{ℕ, ◌≡◌, true, false, cond, List, Option, S
 use Rattle.mcs_turns.specs.Turns.{User, Going}
 use Rattle.mcs_walks.specs.declared.walk.Turn.{Turn}
 use Rattle.mcs_orders.specs.Shown.{IsShown, Made, Shown, Sight}
-use Rattle.mcs_ways.specs.declared.asking.Asked.{Asked}
+use Rattle.mcs_questions.specs.declared.asking.Asked.{Asked}
 use Rattle.mcs_ways.specs.declared.reading.AskedLine.{AskedLine}
 use Rattle.mcs_ways.specs.declared.judging.Sighting.{Sighting}
 use Rattle.mcs_ways.specs.Judging.{fails}

@@ -17,11 +17,13 @@ use Rattle.mcs_sim.specs.Trace.{sent_with}
 use Rattle.mcs_turns.specs.declared.position.Position.{Position}
 use Rattle.mcs_turns.specs.Turns.{User, Going}
 use Rattle.mcs_walks.specs.declared.walk.Turn.{Turn}
-use Rattle.mcs_ways.specs.declared.asking.Asked.{Asked}
-use Rattle.mcs_ways.specs.declared.asking.Asked.TheVariants as asked
-use Rattle.mcs_ways.specs.declared.asking.Event.{Event}
-use Rattle.mcs_ways.specs.declared.asking.Span.{Span}
-use Rattle.mcs_patterns.specs.Patterns.{is_match}
+use Rattle.mcs_questions.specs.declared.asking.Asked.{Asked}
+use Rattle.mcs_questions.specs.declared.asking.Asked.TheVariants as asked
+use Rattle.mcs_questions.specs.declared.asking.Event.{Event}
+use Rattle.mcs_questions.specs.declared.asking.Span.{Span}
+use Rattle.mcs_questions.specs.declared.asking.Until.{Until}
+use Rattle.mcs_questions.specs.declared.asking.Until.TheVariants as until
+use Rattle.mcs_questions.specs.Patterns.{is_match}
 
 -- the place of the user of a thread
 abbrev pub place_of : List User → ObjId → Option ℕ
@@ -39,13 +41,30 @@ answered users g i = elim (slice_get users i) [
   | Some u ↦ elim (slice_get g.places i) [ None ↦ 0 | Some p ↦ answered_by (status_of (log_of g.book) u.thread) p ]
 ]
 
--- whether a user that was answered so many entries is in a span
-abbrev pub is_within : Span → ℕ → Bool
-is_within s n = nat_le s.from n && nat_lt n s.to
+-- how many it gave: one that waits is among them
+abbrev pub given_by : Option Status → Position → ℕ
+given_by (Some status.Running) p = p.next
+given_by st p = elim p.waited [ None ↦ p.next | Some last ↦ last + 1 ]
+
+-- how many of its entries came by which a span ends
+abbrev pub ended_by : Until → Option Status → Position → ℕ
+ended_by until.Given st p = given_by st p
+ended_by until.Answered st p = answered_by st p
+
+-- whether a user at this position is in a span, by the status of its thread
+abbrev pub is_within : Span → Option Status → Position → Bool
+is_within s st p = nat_le s.from (answered_by st p) && nat_lt (ended_by s.until st p) s.to
+
+-- whether the user in a place is
+abbrev pub is_at : List User → Going → Span → ℕ → Bool
+is_at users g s i = elim (slice_get users i) [
+  | None ↦ false
+  | Some u ↦ elim (slice_get g.places i) [ None ↦ false | Some p ↦ is_within s (status_of (log_of g.book) u.thread) p ]
+]
 
 -- whether the user of a span is in it
 abbrev pub is_in : List User → Going → Span → Bool
-is_in users g s = elim (place_of users s.thread) [ None ↦ false | Some i ↦ is_within s (answered users g i) ]
+is_in users g s = elim (place_of users s.thread) [ None ↦ false | Some i ↦ is_at users g s i ]
 
 -- whether a turn gives an entry
 abbrev pub gives : List User → Turn → Event → Bool

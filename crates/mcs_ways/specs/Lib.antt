@@ -11,3 +11,4 @@ pub mod Modes
 pub mod Judged
 pub mod Saying
 pub mod Verdicts
+pub mod Stuck

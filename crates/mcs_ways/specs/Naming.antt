@@ -9,8 +9,8 @@ use Rattle.mcs_book.specs.Objects.{makes_kind}
 use Rattle.mcs_lab.specs.Names.{object_of, queue_of}
 use Rattle.mcs_text.specs.Reading.{is_digit, words_of}
 use Rattle.mcs_text.specs.Spelling.{queue_name}
-use Rattle.mcs_ways.specs.declared.asking.Asked.{Asked}
-use Rattle.mcs_ways.specs.declared.asking.Asked.TheVariants as asked
+use Rattle.mcs_questions.specs.declared.asking.Asked.{Asked}
+use Rattle.mcs_questions.specs.declared.asking.Asked.TheVariants as asked
 
 -- whether a word is the name of a message: an m and digits
 abbrev pub is_message : List ℕ → Bool

@@ -8,6 +8,7 @@ use Rattle.mcs_turns.specs.declared.position.Position.{Position}
 use Rattle.mcs_turns.specs.Due.{due_by}
 use Rattle.mcs_turns.specs.Turns.{User, Going}
 use Rattle.mcs_ways.specs.declared.ends.Standing.{Standing}
+use Rattle.mcs_ways.specs.Judging.{answered_by}
 
 -- whether a thread neither runs nor restarts
 abbrev pub is_blocked : Option Status → Bool
@@ -17,7 +18,7 @@ is_blocked _ = true
 
 -- how a user stands whose thread has this status; none where it has done all and waits for nothing
 abbrev pub standing_by : User → Option Status → Position → Option Standing
-standing_by u st p = cond (left || (is_blocked st && is_some p.waited)) (Some (record { thread = u.thread; status = st; has_entries = left })) None
+standing_by u st p = cond (left || (is_blocked st && is_some p.waited)) (Some (record { thread = u.thread; status = st; has_entries = left; answered = answered_by st p })) None
   where
     left : Bool
     left = nat_lt (due_by st p) (length u.entries)

@@ -3,6 +3,7 @@ ghost use Rattle.std.specs.Prelude.{◌≡◌, ◌↔◌, ◌++◌, ◌<◌, [],
 ghost use Rattle.mcs_ways.specs.Standings.{is_blocked, listed, standing_of, standings};
 ghost use Rattle.mcs_ways.specs.Ends.{Kind, IsKindAt, IsNoKind, IsNoted, IsNotedIf, with_one_more};
 
+use crate::judging::answered_by;
 use mcs_orders::{OrdersFault, Users, Walk};
 use mcs_queues::PlainLines;
 use mcs_types::{ObjId, Status};
@@ -15,9 +16,12 @@ pub struct Standing {
     pub thread: ObjId,
     pub status: Option<Status>,
     pub has_entries: bool,
+    /// How many of its entries were answered for good: it waits in the next, or has that left.
+    pub answered: usize,
 }
 
-/// Runs that end with the same users standing in the same places: how many states, and the first of them.
+/// Runs that end with the same users standing in the same places: how many states, and the first of
+/// them.
 #[derive(Drop)]
 pub struct End {
     pub standing: Vec<Standing>,
@@ -79,7 +83,7 @@ fn is_same_or_none(status: Option<Status>, other: Option<Status>) -> bool
 
 impl Standing {
     /// Whether the other user is this one, and stands in the same place.
-    #[tactic(auto, using(crate::proofs::SameStanding::other_thread, crate::proofs::SameStanding::other_entries, crate::proofs::SameStanding::same_rest))]
+    #[tactic(auto, using(crate::proofs::SameStanding::other_thread, crate::proofs::SameStanding::other_entries, crate::proofs::SameStanding::other_answered, crate::proofs::SameStanding::same_rest))]
     fn is_same(&self, other: &Standing) -> bool
         ensures { IsTrue result ↔ (self.now ≡ other.now) }
     {
@@ -87,6 +91,9 @@ impl Standing {
             return false;
         }
         if self.has_entries != other.has_entries {
+            return false;
+        }
+        if self.answered != other.answered {
             return false;
         }
         is_same_or_none(self.status, other.status)
@@ -114,6 +121,7 @@ fn standing_of(users: &Users, walk: &Walk<PlainLines>, user: usize) -> Option<St
             thread: list.thread,
             status,
             has_entries,
+            answered: answered_by(status, place),
         })
     } else {
         None
@@ -146,7 +154,7 @@ fn standings(
 }
 
 /// Whether the same users stand in the same places.
-fn is_same_kind(standing: &[Standing], other: &[Standing]) -> bool
+pub fn is_same_kind(standing: &[Standing], other: &[Standing]) -> bool
     ensures { IsTrue result ↔ (standing.now ≡ other.now) }
 {
     if standing.len() != other.len() {

@@ -3,11 +3,14 @@ ghost use Rattle.std.specs.Prelude.{ℕ, ◌≡◌, ◌≤◌, ◌⊎◌, IfOk, 
 ghost use Rattle.mcs_types.specs.declared.entry.Entry.{Entry};
 ghost use Rattle.mcs_types.specs.Ranges.{InRange};
 ghost use Rattle.mcs_turns.specs.Turns.{AreInRange};
+ghost use Rattle.mcs_explore.specs.Reaching.{AreWithin};
 ghost use Rattle.mcs_explore.specs.Search.{AreSorted, IsSpent};
 ghost use Rattle.mcs_orders.specs.Seen.{AreAllSeen, AreFoundRuns};
 ghost use Rattle.mcs_ways.specs.Found.{AreAnswersFound, AreAnswersInRuns, AreCountedFound, AreEndsFound, AreEndsInRuns, AreFirstFound, AreHeldInRuns, AreJudgedFound, AreShortest, IsMailFound};
 ghost use Rattle.mcs_ways.specs.Modes.{IsWholeSearch};
+ghost use Rattle.mcs_ways.specs.Stuck.{AreDecided};
 
+use crate::live::Live;
 use crate::modes::mode_of;
 use crate::reading::AskedLine;
 use crate::scripts::fault_of;
@@ -49,13 +52,14 @@ fn are_in_range(users: &Users)
     }
 }
 
-/// Goes through all orders of users after a boot, as far as is wanted, tells how far it is, and keeps what comes of them. States are
-/// told apart as `mode_of` says.
+/// Goes through all orders of users after a boot, as far as is wanted, tells how far it is, and
+/// keeps what comes of them. States are told apart as `mode_of` says.
 pub fn watched<'a, P: Progress>(
     alloc: Global,
     boot: &'a Boot,
     users: &'a Users,
     asked: &'a [AskedLine],
+    lives: &'a [Live],
     wanted: Wanted,
     progress: P,
 ) -> Result<Orders<'a, Watched<'a, P>>, LabFault>
@@ -68,10 +72,12 @@ pub fn watched<'a, P: Progress>(
     // it ends where all were expanded, or by the budget alone
     ensures budget { IfOk result (λ o. (length o.search.map.entries ≤ o.search.done)
         ⊎ IsSpent wanted.states wanted.depth o.search.done o.search.map.entries) }
-    // each end that is kept is that of such a state, and the end of each state that was expanded and is over is kept
+    // each end that is kept is that of such a state, and the end of each state that was expanded
+    // and is over is kept
     ensures ends { IfOk result (λ o. AreEndsFound users.now boot.now
         o.search.map.entries o.search.done o.explorer.watch.ends) }
-    // each answer that is kept came by a turn from such a state, and what each such turn was answered but Waits is kept
+    // each answer that is kept came by a turn from such a state, and what each such turn was
+    // answered but Waits is kept
     ensures answers { IfOk result (λ o. AreAnswersFound users.now boot.now
         o.search.map.entries o.search.done o.explorer.watch.answers) }
     // what each such turn brought to an entry that waited is kept
@@ -81,18 +87,21 @@ pub fn watched<'a, P: Progress>(
     ensures run_ends { IfOk result (λ o. IsWholeSearch boot.now users.now asked.entry.now
         wanted.is_exact o.search.map.entries o.search.done
         → AreEndsInRuns users.now boot.now o.explorer.watch.ends) }
-    // and each answer of each turn of each run, but Waits, and what it brought to an entry that waited
+    // and each answer of each turn of each run, but Waits, and what it brought to an entry that
+    // waited
     ensures run_answers { IfOk result (λ o. IsWholeSearch boot.now users.now asked.entry.now
         wanted.is_exact o.search.map.entries o.search.done
         → AreAnswersInRuns users.now boot.now o.explorer.watch.answers) }
-    // each question failed where it says, in such a state or by a turn from one, and if it does not say so, nowhere
+    // each question failed where it says, in such a state or by a turn from one, and if it does not
+    // say so, nowhere
     ensures judged { IfOk result (λ o. AreJudgedFound users.now boot.now
         o.search.map.entries o.search.done asked.entry.now o.explorer.watch.failed.items) }
     // of a whole search those that say nothing fail in no run
     ensures held { IfOk result (λ o. IsWholeSearch boot.now users.now asked.entry.now
         wanted.is_exact o.search.map.entries o.search.done
         → AreHeldInRuns users.now boot.now asked.entry.now o.explorer.watch.failed.items) }
-    // each end, answer and failure is kept in the first place where there is one like it: by the fewest turns, as these are sorted
+    // each end, answer and failure is kept in the first place where there is one like it: by the
+    // fewest turns, as these are sorted
     ensures first { IfOk result (λ o. AreFirstFound users.now boot.now
         o.search.map.entries o.search.done asked.entry.now o.explorer.watch.ends
         o.explorer.watch.answers o.explorer.watch.failed.items) }
@@ -101,16 +110,26 @@ pub fn watched<'a, P: Progress>(
         wanted.is_exact o.search.map.entries o.search.done
         → AreShortest users.now boot.now o.search.map.entries asked.entry.now
         o.explorer.watch.ends o.explorer.watch.answers o.explorer.watch.failed.items) }
-    // the turns and the ends that are counted are those of such states, up to the largest count, and the last is the deepest
+    // the turns and the ends that are counted are those of such states, up to the largest count,
+    // and the last is the deepest
     ensures counts { IfOk result (λ o. AreCountedFound users.now boot.now
         o.search.map.entries o.search.done o.explorer.turns o.explorer.ends) }
     ensures sorted { IfOk result (λ o. AreSorted o.search.map.entries) }
+    // of a whole search: what is noted and the edges tell of each user from which state on it is
+    // stuck
+    ensures decided { IfOk result (λ o. IsWholeSearch boot.now users.now asked.entry.now
+        wanted.is_exact o.search.map.entries o.search.done
+        → AreDecided users.now boot.now lives.entry.now o.search.map.entries
+        o.search.edges.items o.explorer.watch.lives.notes) }
+    // its edges lie between states that were found
+    ensures within { IfOk result (λ o. AreWithin o.search.edges.items
+        (length o.search.map.entries)) }
 {
     boot.is_faultless();
     users.are_apart();
     are_in_range(users);
     let mode = mode_of(boot, users, asked, wanted.is_exact);
-    let watched = Watched::new(alloc, users, asked, progress)?;
+    let watched = Watched::new(alloc, users, asked, lives, progress)?;
     let budget = Budget {
         states: wanted.states,
         depth: wanted.depth,

@@ -1,20 +1,19 @@
 //! Where questions fail: in a state, or by a turn.
-ghost use Rattle.std.specs.Prelude.{◌≡◌, ◌==◌, ◌&&◌, ◌+◌, ◌-◌, ◌<◌, ◌^◌, nat_le, option_copied, length};
+ghost use Rattle.std.specs.Prelude.{◌≡◌, ◌==◌, ◌&&◌, ◌+◌, ◌-◌, ◌<◌, ◌^◌, nat_le, nat_lt, option_copied, length};
 ghost use Rattle.std.specs.List.{list_all, list_any};
 ghost use Rattle.mcs_book.specs.History.{line_of_number, log_of};
 ghost use Rattle.mcs_book.specs.Messages.{next_message};
 ghost use Rattle.mcs_sim.specs.Trace.{sent_after, sent_with};
-ghost use Rattle.mcs_ways.specs.Judging.{answered, answered_by, bare, fails, fails_by, fails_in, gives, has_given, is_in, is_line, is_within, lines_told, record_lines, told_last};
+ghost use Rattle.mcs_ways.specs.Judging.{answered, answered_by, bare, ended_by, fails, fails_by, fails_in, given_by, gives, has_given, is_at, is_in, is_line, is_within, lines_told, record_lines, told_last};
 ghost use Rattle.mcs_ways.specs.Judged.{AreJudgedBy, judged};
 
-use crate::asking::{Asked, Event, Span};
 use crate::mail::newest;
 use crate::reading::AskedLine;
 use mcs_book::Line as BookLine;
 use mcs_kernel::Kernel;
 use mcs_orders::{Turn, Users, Walk};
 use mcs_packing::KeptRecord;
-use mcs_patterns::is_match;
+use mcs_questions::{Asked, Event, Span, Until, is_match};
 use mcs_queues::PlainLines;
 use mcs_trace::{Line, spell_answer, spell_record};
 use mcs_turns::Position;
@@ -28,7 +27,7 @@ pub struct Sighting {
 }
 
 /// How many entries a user at a position was answered for good, by the status of its thread.
-fn answered_by(status: Option<Status>, place: Position) -> usize
+pub fn answered_by(status: Option<Status>, place: Position) -> usize
     ensures { result ≡ answered_by status place }
 {
     match (status, place.waited) {
@@ -38,7 +37,7 @@ fn answered_by(status: Option<Status>, place: Position) -> usize
 }
 
 /// How many entries of a user were answered for good.
-fn answered(users: &Users, walk: &Walk<PlainLines>, user: usize) -> usize
+pub fn answered(users: &Users, walk: &Walk<PlainLines>, user: usize) -> usize
     ensures { result ≡ answered users.now walk.now user }
 {
     let Some(list) = users.at(user) else {
@@ -50,11 +49,45 @@ fn answered(users: &Users, walk: &Walk<PlainLines>, user: usize) -> usize
     }
 }
 
-/// Whether a user that was answered so many entries is in a span.
-fn is_within(span: Span, count: usize) -> bool
-    ensures { result ≡ is_within span count }
+/// Whether a user at a position gave fewer entries than this, by the status of its thread: one that
+/// waits has given its last.
+fn gave_fewer(status: Option<Status>, place: Position, number: usize) -> bool
+    ensures { result ≡ nat_lt (given_by status place) number }
 {
-    span.from <= count && count < span.to
+    match (status, place.waited) {
+        (Some(Status::Running), _) | (_, None) => place.next < number,
+        (_, Some(last)) => last < number && last + 1 < number,
+    }
+}
+
+/// Whether a user at a position, by the status of its thread, has not come to the end of a span.
+fn is_before_end(span: Span, status: Option<Status>, place: Position) -> bool
+    ensures { result ≡ nat_lt (ended_by span.until status place) span.to }
+{
+    match span.until {
+        Until::Given => gave_fewer(status, place, span.to),
+        Until::Answered => answered_by(status, place) < span.to,
+    }
+}
+
+/// Whether a user at a position is in a span, by the status of its thread.
+fn is_within(span: Span, status: Option<Status>, place: Position) -> bool
+    ensures { result ≡ is_within span status place }
+{
+    span.from <= answered_by(status, place) && is_before_end(span, status, place)
+}
+
+/// Whether the user in a place is in a span.
+fn is_at(users: &Users, walk: &Walk<PlainLines>, span: Span, user: usize) -> bool
+    ensures { result ≡ is_at users.now walk.now span user }
+{
+    let Some(list) = users.at(user) else {
+        return false;
+    };
+    match walk.place(user) {
+        Some(place) => is_within(span, walk.kernel().status(list.thread), place),
+        None => false,
+    }
 }
 
 /// Whether the user of a span is in it.
@@ -62,7 +95,7 @@ fn is_in(users: &Users, walk: &Walk<PlainLines>, span: Span) -> bool
     ensures { result ≡ is_in users.now walk.now span }
 {
     match users.find(span.thread) {
-        Some(user) => is_within(span, answered(users, walk, user)),
+        Some(user) => is_at(users, walk, span, user),
         None => false,
     }
 }
@@ -144,7 +177,8 @@ fn is_line(pattern: &[u8], line: &[u8]) -> bool
     is_match(pattern, bare(line))
 }
 
-/// Whether a pattern stands for the line of a record of a line of the book, before which so many messages were sent.
+/// Whether a pattern stands for the line of a record of a line of the book, before which so many
+/// messages were sent.
 fn has_record(text: &mut Line, line: &BookLine<'_>, before: u128, pattern: &[u8]) -> bool
     requires { before + 2 ^ 64 < 2 ^ 128 }
     ensures { result ≡ list_any (is_line pattern.now) (record_lines before line.now.records) }
@@ -163,7 +197,8 @@ fn has_record(text: &mut Line, line: &BookLine<'_>, before: u128, pattern: &[u8]
     false
 }
 
-/// Whether a pattern stands for one of the lines of a trace for a line of the book, before which so many messages were sent.
+/// Whether a pattern stands for one of the lines of a trace for a line of the book, before which so
+/// many messages were sent.
 fn has_match(text: &mut Line, line: &BookLine<'_>, before: u128, pattern: &[u8]) -> bool
     requires { before + 2 ^ 64 < 2 ^ 128 }
     ensures { result ≡ list_any (is_line pattern.now) (lines_told before line.now) }

@@ -153,7 +153,12 @@ fn waiting(walk: &Walk<PlainLines>, user: usize, turn: Turn) -> Option<usize>
 }
 
 /// The entry of a user that waited and comes to what reached its thread, if there is one.
-fn mailed_to(users: &Users, walk: &Walk<PlainLines>, turn: Turn, reached: &Reached) -> Option<Pick>
+pub fn mailed_to(
+    users: &Users,
+    walk: &Walk<PlainLines>,
+    turn: Turn,
+    reached: &Reached,
+) -> Option<Pick>
     ensures { result ≡ mailed_to users.now walk.now turn reached.now }
 {
     let user = users.find(reached.thread)?;
@@ -183,8 +188,9 @@ fn note_reached(
     }
 }
 
-/// Notes what entries that waited came to, where this reached threads.
-fn note_all(
+/// Notes what entries that waited came to, where this reached threads: what the newest line
+/// brought.
+pub fn note_mail(
     answers: &mut Answers,
     users: &Users,
     walk: &Walk<PlainLines>,
@@ -201,22 +207,13 @@ fn note_all(
     Ok(())
 }
 
-/// Notes what entries that waited came to by the newest line.
+/// Returns what the newest line brought to threads.
 #[tactic(auto, using(crate::proofs::Telling::brought_by))]
-pub fn note_mail(
-    alloc: Global,
-    answers: &mut Answers,
-    users: &Users,
-    walk: &Walk<PlainLines>,
-    place: usize,
-    turn: Turn,
-) -> Result<(), OrdersFault>
-    ensures { OnOk result (AreNotedMail users.now walk.now place turn
-        (brought walk.now.book) answers.old answers.new) }
+pub fn brought(alloc: Global, walk: &Walk<PlainLines>) -> Result<Vec<Reached>, OrdersFault>
+    ensures { IfOk result (λ v. v.items ≡ brought walk.now.book) }
 {
-    let Some(line) = newest(walk.kernel()) else {
-        return Ok(());
-    };
-    let all = reached_by(alloc, &line)?;
-    note_all(answers, users, walk, &all, place, turn)
+    match newest(walk.kernel()) {
+        Some(line) => reached_by(alloc, &line),
+        None => Ok(Vec::new(alloc)),
+    }
 }

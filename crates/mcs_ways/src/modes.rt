@@ -13,10 +13,11 @@ use mcs_types::Entry;
 /// How a search tells states apart.
 #[derive(Clone, Copy, PartialEq, Eq, Debug)]
 pub enum Mode {
-    /// By all that decides what comes, of the numbers of messages only where they are numbered: then what is told of a whole search
-    /// is proved.
+    /// By all that decides what comes, of the numbers of messages only where they are numbered:
+    /// then what is told of a whole search is proved.
     Proved { numbered: bool },
-    /// By the slots that name objects, and by no number of a message. That states with one key have one future is tested only.
+    /// By the slots that name objects, and by no number of a message. That states with one key have
+    /// one future is tested only.
     Canonical,
 }
 
@@ -70,8 +71,8 @@ fn any_later(boot: &Boot, asked: &[AskedLine]) -> bool
     asked.iter().any(|line| names_later(boot, &line.asked))
 }
 
-/// How a search tells states apart, which may be asked to be exact. By itself it leaves out what no question names: the numbers of
-/// messages, and, where users make objects, the serials of these.
+/// How a search tells states apart, which may be asked to be exact. By itself it leaves out what no
+/// question names: the numbers of messages, and, where users make objects, the serials of these.
 pub fn mode_of(boot: &Boot, users: &Users, asked: &[AskedLine], is_exact: bool) -> Mode
     ensures { result ≡ mode_of boot.now users.now asked.now is_exact }
 {

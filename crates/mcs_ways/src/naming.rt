@@ -6,9 +6,9 @@ ghost use Rattle.mcs_ways.specs.Judging.{IsDecided};
 ghost use Rattle.mcs_text.specs.Spelling.{queue_name};
 ghost use Rattle.mcs_ways.specs.Naming.{is_later, is_message, named, names_later, names_message};
 
-use crate::asking::Asked;
 use mcs_kernel::Boot;
 use mcs_lab::{object_of, queue_of};
+use mcs_questions::Asked;
 use mcs_text::Words;
 use mcs_types::{ObjId, Queue};
 
@@ -49,7 +49,8 @@ fn has_message(pattern: &[u8]) -> bool
     false
 }
 
-/// Whether a question names a message. Only lines of a trace name one, which patterns of `never` stand for: answers do not.
+/// Whether a question names a message. Only lines of a trace name one, which patterns of `never`
+/// stand for: answers do not.
 pub fn names_message(asked: &Asked) -> bool
     ensures names { result ≡ names_message asked.now }
     // where it names none, states that differ in the numbers of messages alone decide it
@@ -58,7 +59,9 @@ pub fn names_message(asked: &Asked) -> bool
     match asked {
         Asked::Never { pattern } => has_message(pattern),
         Asked::Idle { .. }
+        | Asked::Live { .. }
         | Asked::Answer { .. }
+        | Asked::AnswerIf { .. }
         | Asked::Some { .. }
         | Asked::Apart { .. }
         | Asked::Before { .. }
@@ -115,7 +118,9 @@ pub fn names_later(boot: &Boot, asked: &Asked) -> bool
     match asked {
         Asked::Never { pattern } => has_later(boot, pattern),
         Asked::Idle { .. }
+        | Asked::Live { .. }
         | Asked::Answer { .. }
+        | Asked::AnswerIf { .. }
         | Asked::Some { .. }
         | Asked::Apart { .. }
         | Asked::Before { .. }

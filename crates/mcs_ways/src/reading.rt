@@ -1,8 +1,11 @@
 //! A script of users: its boot, the entries of its users, and what is asked of all orders.
-use crate::asking::{Asked, asked_of};
+use crate::live::Live;
 use mcs_kernel::Boot;
 use mcs_lab::{LabFault, Names, TakesLines, bare, take_lines};
-use mcs_orders::Users;
+use mcs_orders::{UserList, Users};
+use mcs_questions::{
+    Asked, ExploreFault, QuestionFault, There, asked_of, comes_once, goes_on_once, question_of,
+};
 use mcs_sim::{ReplayRun, Source};
 use mcs_text::{Key, LineFault, UserEntry, Words, find_boot_key, read_user};
 use mcs_types::{BootFault, ObjId, Room};
@@ -24,6 +27,13 @@ pub struct AskedLine {
     pub line: u64,
 }
 
+/// A line `#!`, of which all but its newline is kept.
+#[derive(Drop)]
+struct Question {
+    text: Vec<u8>,
+    line: u64,
+}
+
 /// What a script of users says.
 #[derive(Drop)]
 pub struct UserScript {
@@ -31,18 +41,21 @@ pub struct UserScript {
     pub users: Users,
     pub texts: Vec<EntryText>,
     pub asked: Vec<AskedLine>,
+    /// What is asked of users that may get stuck: by the lines `live`, in their order, and then of
+    /// each user of which no line `idle` or `live` says anything.
+    pub lives: Vec<Live>,
     pub names: Names,
 }
 
-/// A script of users that is read. Lines of the boot are taken by a replay, which sees an empty line in place of each other one,
-/// so that its faults have the numbers of the script's lines.
+/// A script of users that is read. Lines of the boot are taken by a replay, which sees an empty
+/// line in place of each other one, so that its faults have the numbers of the script's lines.
 #[derive(Drop)]
 struct Reader {
     run: ReplayRun,
     room: Option<Room>,
     users: Users,
     texts: Vec<EntryText>,
-    asked: Vec<AskedLine>,
+    questions: Vec<Question>,
     names: Names,
     taken: u64,
     threads: u32,
@@ -107,7 +120,7 @@ impl Reader {
             room: Some(room),
             users: Users::new(alloc),
             texts: Vec::new(alloc),
-            asked: Vec::new(alloc),
+            questions: Vec::new(alloc),
             names: Names::new(alloc),
             taken: 0,
             threads: 0,
@@ -177,51 +190,14 @@ impl Reader {
     /// Takes a line that is skipped: it may ask something, or give a name.
     fn take_skipped(&mut self, alloc: Global, line: &[u8]) -> Result<(), LabFault> {
         self.feed(alloc, b"\n")?;
-        let fault = LabFault::Form { line: self.taken };
-        if let [b'#', b'!', b' ', text @ ..] = bare(line) {
-            let Some(asked) = asked_of(alloc, text)? else {
-                return Err(fault);
-            };
-            self.asked.push(AskedLine {
-                asked,
-                text: kept(alloc, text)?,
+        if let [b'#', b'!', ..] = line {
+            self.questions.push(Question {
+                text: kept(alloc, bare(line))?,
                 line: self.taken,
             })?;
             return Ok(());
         }
         self.names.hear(alloc, self.taken, line)
-    }
-
-    /// Lets lists of users go on again, where that is asked. Form of a line that names an entry that is not there.
-    fn repeat(&mut self) -> Result<(), LabFault> {
-        for asked in self.asked.iter() {
-            if let Asked::Again { event } = asked.asked {
-                let number = event.number.saturating_sub(1);
-                if !self.users.repeat(event.thread, number) {
-                    return Err(LabFault::Form { line: asked.line });
-                }
-            }
-        }
-        Ok(())
-    }
-
-    /// The boot of the lines that were taken, whose input has ended.
-    fn boot(&mut self, alloc: Global) -> Result<Boot, LabFault> {
-        if let Err(fault) = self.run.end(alloc) {
-            return Err(LabFault::from(fault));
-        }
-        let no_cores = LabFault::Script {
-            line: self.taken.saturating_add(1),
-            why: LineFault::NoCores,
-        };
-        let Some(kernel) = self.run.kernel() else {
-            return Err(no_cores);
-        };
-        let book = kernel.book();
-        match boot_again(alloc, book.cores(), book.boot()) {
-            Ok(boot) => Ok(boot),
-            Err(_) => Err(LabFault::OutOfMemory),
-        }
     }
 }
 
@@ -249,29 +225,169 @@ impl TakesLines for Reader {
     }
 }
 
-/// What a source says, to its end. The faults are those of `mcssim run`, and Form where a line `#!` asks nothing that is known, or
-/// lets a list go on with an entry that is not there.
-pub fn read_script<R: Read>(alloc: Global, from: &mut Source<R>) -> Result<UserScript, LabFault> {
-    let mut reader = Reader::new(alloc)?;
-    take_lines(alloc, from, &mut reader)?;
-    let boot = reader.boot(alloc)?;
-    reader.repeat()?;
+/// What a question asks of a script.
+fn read_question(
+    alloc: Global,
+    there: There<'_>,
+    text: &[u8],
+) -> Result<(Vec<u8>, Asked), QuestionFault> {
+    let text = question_of(alloc, text)?;
+    Ok((Vec::from_slice(alloc, text)?, asked_of(alloc, there, text)?))
+}
+
+/// What all questions ask of a script.
+fn read_questions(
+    alloc: Global,
+    there: There<'_>,
+    questions: &[Question],
+) -> Result<Vec<AskedLine>, ExploreFault> {
+    let mut all = Vec::new(alloc);
+    for question in questions {
+        let line = question.line;
+        match read_question(alloc, there, question.text.as_slice()) {
+            Ok((text, asked)) => all.push(AskedLine { asked, text, line })?,
+            Err(why) => return Err(ExploreFault::of_line(line, why)),
+        }
+    }
+    Ok(all)
+}
+
+/// Lets lists of users go on again, where that is asked. AgainTwice where one does already.
+fn repeat(alloc: Global, users: &mut Users, asked: &[AskedLine]) -> Result<(), ExploreFault> {
+    for line in asked {
+        if let Err(why) = goes_on_once(alloc, users, &line.asked) {
+            return Err(ExploreFault::of_line(line.line, why));
+        }
+        if let Asked::Again { event } = line.asked {
+            users.repeat(event.thread, event.number.saturating_sub(1));
+        }
+    }
+    Ok(())
+}
+
+/// ComesAgain where a question is about the first time of what comes again.
+fn come_once(alloc: Global, users: &Users, asked: &[AskedLine]) -> Result<(), ExploreFault> {
+    for line in asked {
+        if let Err(why) = comes_once(alloc, users, &line.asked) {
+            return Err(ExploreFault::of_line(line.line, why));
+        }
+    }
+    Ok(())
+}
+
+/// Returns whether a line is about the waits of a thread: they are excused, or it may not get
+/// stuck.
+fn is_of_waits(asked: &Asked, thread: ObjId) -> bool {
+    match asked {
+        Asked::Idle { thread: idle, .. } => idle.is_same(thread),
+        Asked::Live { thread: live, .. } => live.is_same(thread),
+        Asked::Answer { .. }
+        | Asked::AnswerIf { .. }
+        | Asked::Some { .. }
+        | Asked::Never { .. }
+        | Asked::Apart { .. }
+        | Asked::Before { .. }
+        | Asked::Again { .. } => false,
+    }
+}
+
+/// Returns the entry that can be answered in some order as long as a user is not stuck: the last
+/// one, which is answered after all others; none in particular where the user never ends.
+fn last_entry(list: &UserList) -> Option<usize> {
+    match list.again {
+        Some(_) => None,
+        None => Some(list.entries.len().saturating_sub(1)),
+    }
+}
+
+/// Returns what the lines `live` ask, in their order.
+fn asked_lives(
+    alloc: Global,
+    users: &Users,
+    asked: &[AskedLine],
+) -> Result<Vec<Live>, ExploreFault> {
+    let mut lives = Vec::new(alloc);
+    for line in asked {
+        if let Asked::Live { thread, number } = line.asked
+            && let Some(user) = users.find(thread)
+            && let Some(list) = users.at(user)
+        {
+            let entry = match number {
+                Some(number) => Some(number.saturating_sub(1)),
+                None => last_entry(list),
+            };
+            lives.push(Live { user, entry })?;
+        }
+    }
+    Ok(lives)
+}
+
+/// Returns what is asked of users that may get stuck.
+fn lives_of(alloc: Global, users: &Users, asked: &[AskedLine]) -> Result<Vec<Live>, ExploreFault> {
+    let mut lives = asked_lives(alloc, users, asked)?;
+    for (user, list) in users.lists().iter().enumerate() {
+        if !asked
+            .iter()
+            .any(|line| is_of_waits(&line.asked, list.thread))
+        {
+            let entry = last_entry(list);
+            lives.push(Live { user, entry })?;
+        }
+    }
+    Ok(lives)
+}
+
+/// The script of the lines that were taken.
+fn script_of(alloc: Global, reader: Reader) -> Result<UserScript, ExploreFault> {
     let Reader {
-        run: _,
+        run,
         room: _,
-        users,
+        mut users,
         texts,
-        asked,
+        questions,
         names,
-        taken: _,
+        taken,
         threads: _,
         has_boot: _,
     } = reader;
+    let Some(kernel) = run.kernel() else {
+        return Err(ExploreFault::Lab(LabFault::Script {
+            line: taken.saturating_add(1),
+            why: LineFault::NoCores,
+        }));
+    };
+    let book = kernel.book();
+    let Ok(boot) = boot_again(alloc, book.cores(), book.boot()) else {
+        return Err(ExploreFault::Lab(LabFault::OutOfMemory));
+    };
+    let there = There {
+        boot: book.boot(),
+        users: &users,
+        names: &names,
+    };
+    let asked = read_questions(alloc, there, questions.as_slice())?;
+    repeat(alloc, &mut users, asked.as_slice())?;
+    come_once(alloc, &users, asked.as_slice())?;
+    let lives = lives_of(alloc, &users, asked.as_slice())?;
     Ok(UserScript {
         boot,
         users,
         texts,
         asked,
+        lives,
         names,
     })
+}
+
+/// What a source says, to its end. The faults are those of `mcssim run`, and those of questions.
+pub fn read_script<R: Read>(
+    alloc: Global,
+    from: &mut Source<R>,
+) -> Result<UserScript, ExploreFault> {
+    let mut reader = Reader::new(alloc)?;
+    take_lines(alloc, from, &mut reader)?;
+    if let Err(fault) = reader.run.end(alloc) {
+        return Err(ExploreFault::Lab(LabFault::from(fault)));
+    }
+    script_of(alloc, reader)
 }

@@ -5,10 +5,11 @@ ghost use Rattle.mcs_explore.specs.Search.{listed, path_of};
 use crate::judging::Sighting;
 use crate::reading::UserScript;
 use mcs_book::Book;
-use mcs_lab::LabFault;
+use mcs_lab::{LabFault, Names};
 use mcs_orders::{Orders, OrdersFault, Turn, Walk, Watch, retrace};
 use mcs_queues::PlainLines;
-use mcs_trace::{Sink, put_boot_line, put_cores, put_kept_step};
+use mcs_text::letter;
+use mcs_trace::{Sink, put_boot_line, put_cores, put_kept_answer, put_kept_step};
 use std::alloc::Global;
 use std::io::Write;
 
@@ -43,7 +44,7 @@ fn push(turns: &mut Vec<Turn>, turn: Option<Turn>) -> Result<(), LabFault>
     Ok(())
 }
 
-/// Puts the boot and the steps of a book.
+/// Puts the boot and the steps of a book, each with its answer.
 fn put_script<W: Write>(sink: &mut Sink<W>, book: &Book) {
     put_cores(sink, book.cores());
     for line in book.boot() {
@@ -52,6 +53,7 @@ fn put_script<W: Write>(sink: &mut Sink<W>, book: &Book) {
     for number in 1..book.lines() {
         if let Some(line) = book.line(number) {
             put_kept_step(sink, &line.kept_step());
+            put_kept_answer(sink, &line.kept_answer());
         }
     }
     sink.flush();
@@ -67,18 +69,35 @@ fn write_script<W: Write + Drop>(alloc: Global, to: W, book: &Book) -> Result<()
     Ok(())
 }
 
-/// The boot and the steps of a book, as a script.
-fn script_of(alloc: Global, book: &Book) -> Result<Vec<u8>, LabFault> {
-    let mut text = Vec::new(alloc);
-    write_script(alloc, &mut text, book)?;
-    Ok(text)
+/// Writes the lines that give the names.
+fn put_names<W: Write>(to: &mut W, names: &Names) -> Result<(), LabFault> {
+    for number in 0..names.count() {
+        let Some((object, name)) = names.given(number) else {
+            continue;
+        };
+        let serial = object.serial;
+        to.write_all(b"#@ ")?;
+        to.write_all(&[letter(object.kind)])?;
+        write!(to, "{serial} ")?;
+        to.write_all(name)?;
+        to.write_all(b"\n")?;
+    }
+    Ok(())
 }
 
-/// The script of these turns, which are made anew from the boot.
-pub fn script_by(alloc: Global, script: &UserScript, turns: &[Turn]) -> Result<Vec<u8>, LabFault> {
+/// The script of these turns, which are made anew from the boot, behind a comment and the names.
+pub fn script_by(
+    alloc: Global,
+    script: &UserScript,
+    comment: &[u8],
+    turns: &[Turn],
+) -> Result<Vec<u8>, LabFault> {
     let walk: Walk<PlainLines> = match retrace(alloc, &script.boot, &script.users, turns) {
         Ok(walk) => walk,
         Err(fault) => return Err(fault_of(fault)),
     };
-    script_of(alloc, walk.kernel().book())
+    let mut text = Vec::from_slice(alloc, comment)?;
+    put_names(&mut text, &script.names)?;
+    write_script(alloc, &mut text, walk.kernel().book())?;
+    Ok(text)
 }

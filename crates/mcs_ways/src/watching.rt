@@ -5,7 +5,8 @@ ghost use Rattle.mcs_ways.specs.Answers.{no_answers};
 use crate::answers::Answers;
 use crate::ends::Ends;
 use crate::judging::{Sighting, judge};
-use crate::mail::note_mail;
+use crate::live::{Live, Lives};
+use crate::mail::{brought, note_mail};
 use crate::reading::AskedLine;
 use mcs_lab::LabFault;
 use mcs_orders::{OrdersFault, Turn, Users, Walk, Watch};
@@ -14,13 +15,13 @@ use mcs_trace::Line;
 use mcs_types::Answer;
 use std::alloc::Global;
 
-/// Who is told how far a search is.
+/// To whom it is reported how far a search is.
 pub trait Progress: Drop {
-    /// One more state is looked behind: so many were before it, and so many turns lead to it.
+    /// One more state is expanded: so many were before it, and so many turns lead to it.
     fn looked(&mut self, before: usize, depth: usize);
 }
 
-/// Nobody is told.
+/// Nothing is reported.
 #[derive(Drop)]
 pub struct Quiet;
 
@@ -38,6 +39,8 @@ pub struct Watched<'a, P: Progress> {
     pub answers: Answers,
     /// For each question where it failed first, as far as that is seen in a turn or a state.
     pub failed: Vec<Option<Sighting>>,
+    /// What is noted of users that may get stuck.
+    pub lives: Lives<'a>,
     progress: P,
 }
 
@@ -58,12 +61,16 @@ impl<'a, P: Progress> Watched<'a, P> {
         alloc: Global,
         users: &Users,
         asked: &'a [AskedLine],
+        lives: &'a [Live],
         progress: P,
     ) -> Result<Watched<'a, P>, LabFault>
         ensures ends { IfOk result (λ w. w.ends ≡ []) }
         ensures answers { IfOk result (λ w. w.answers ≡ no_answers users.now) }
         ensures asked { IfOk result (λ w. w.asked.now ≡ asked.entry.now) }
         ensures failed { IfOk result (λ w. w.failed.items ≡ replicate (length w.asked.now) None) }
+        ensures lives { IfOk result (λ w. w.lives.lives ≡ lives.entry.now) }
+        ensures notes { IfOk result (λ w. w.lives.notes
+            ≡ replicate (length w.lives.lives) (record { settled = []; answered = [] })) }
     {
         Ok(Watched {
             alloc,
@@ -72,23 +79,22 @@ impl<'a, P: Progress> Watched<'a, P> {
             ends: Ends::new(alloc),
             answers: Answers::new(alloc, users)?,
             failed: no_failures(alloc, asked.len())?,
+            lives: Lives::new(alloc, lives)?,
             progress,
         })
     }
 }
 
 impl<P: Progress> Watch for Watched<'_, P> {
-    ghost use Rattle.std.specs.Prelude.{List};
-    ghost use Rattle.mcs_ways.specs.declared.reading.AskedLine.{AskedLine};
-    ghost use Rattle.mcs_ways.specs.Kept.{IsKept};
+    ghost use Rattle.mcs_ways.specs.Kept.{Aims, HasKept};
 
-    ghost HasSeen = { λ w users shown.
-        IsKept users w.asked.now shown w.ends w.answers w.failed.items };
+    ghost HasSeen = { λ w users shown. HasKept users w.asked.now w.lives.lives shown
+        w.ends w.answers w.failed.items w.lives.notes };
 
-    // the questions
-    ghost Aim = { List AskedLine };
+    // the questions, and the users that may get stuck
+    ghost Aim = { Aims };
 
-    ghost aim = { λ w. w.asked.now };
+    ghost aim = { λ w. record { asked = w.asked.now; lives = w.lives.lives } };
 
     fn see_state(
         &mut self,
@@ -107,7 +113,8 @@ impl<P: Progress> Watch for Watched<'_, P> {
             walk,
             &mut self.failed,
         );
-        self.ends.note_state(users, place, walk, is_over)
+        self.ends.note_state(users, place, walk, is_over)?;
+        self.lives.see_state(users, walk)
     }
 
     fn see_turn(
@@ -131,6 +138,8 @@ impl<P: Progress> Watch for Watched<'_, P> {
             &mut self.failed,
         );
         self.answers.note_turn(answer, place, turn)?;
-        note_mail(self.alloc, &mut self.answers, users, walk, place, turn)
+        let all = brought(self.alloc, walk)?;
+        note_mail(&mut self.answers, users, walk, &all, place, turn)?;
+        self.lives.see_turn(users, place, turn, answer, walk, &all)
     }
 }

@@ -92,8 +92,9 @@ fn json<'a>(alloc: Global) -> Arg<'a> {
         .action(ArgAction::SetTrue)
 }
 
-/// A command with one argument more. What is made before a step that can fail is dropped where it fails, so a
-/// chain of such steps in one function is long to prove, and a step in a function of its own is not.
+/// A command with one argument more. What is made before a step that can fail is dropped where it
+/// fails, so a chain of such steps in one function is long to prove, and a step in a function of
+/// its own is not.
 pub fn with<'a>(words: Result<Words<'a>, Error>, arg: Arg<'a>) -> Result<Words<'a>, Error> {
     Ok(words?.arg(arg)?)
 }

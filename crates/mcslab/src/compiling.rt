@@ -72,8 +72,8 @@ fn read_input(rt: &HostRuntime) -> io::Result<Vec<u8>> {
     Ok(bytes)
 }
 
-/// The bytes of a file, or of the standard input; or the exit status, where they can't be read, which
-/// is told.
+/// The bytes of a file, or of the standard input; or the exit status, where they can't be read,
+/// which is told.
 fn read_bytes(rt: &HostRuntime, file: Option<&str>) -> Result<Vec<u8>, u8> {
     let read = match file {
         Some(path) => match fs::read(rt, path) {

@@ -2,11 +2,12 @@
 use crate::command_line::with;
 use clap::{Arg, ArgAction, ArgMatches, Command as Words, Error, value_parser};
 use mcs_lab::LabFault;
+use mcs_questions::ExploreFault;
 use mcs_sim::Source;
-use mcs_ways::{Explored, Progress, Saves, Wanted, explore_and_tell};
+use mcs_ways::{Explored, Output, Progress, Saves, Wanted, explore_and_tell};
 use std::alloc::{AllocError, Global};
 use std::fs;
-use std::io::{IsTerminal, Read, Write};
+use std::io::{self, IsTerminal, Read, Write};
 use std::time::Instant;
 
 /// How many states are found at most, where nothing else is said.
@@ -25,24 +26,29 @@ const FAILS: u8 = 1;
 #[derive(Clone, Copy)]
 pub struct Sought<'a> {
     pub wanted: Wanted,
+    pub telling: Output,
     pub scripts: Option<&'a str>,
 }
 
 /// What a script may ask, and the exit statuses.
 const QUESTIONS: &str = "\
-The script is one of `mcssim run`: a boot, and the entries of users. Lines that begin with `#!` ask of all orders:
+The script is one of `mcssim run`: a boot, and the entries of users. Lines that begin with `#! ` ask of all orders:
   #! idle t1                        t1 may wait for ever: that is no deadlock
-  #! answer t1 2 got 9 *            all answers of its second entry are so
+  #! idle t1 2                      in its second entry; in the first two: 1..=2
+  #! live t1                        from each state some order answers an entry of t1, or all were: asked without `idle`, too
+  #! live t1 2                      the same of its second entry
+  #! answer t1 2 got 9 *            each run that ends has answered its second entry, and all answers are so
+  #! answer? t1 2 got 9 *           all answers are so, if it has some
   #! some t2 1 heard 3              some order gives this answer
   #! never = refused *              no line of a trace is so, of an answer or of a record
   #! never + void * * cancelled
-  #! never t2 in 1..2 and t3 in 1..2    never have both been answered entry 1 and not yet 2
+  #! never t2 in 1..2 and t3 in 1..2    never have both been answered entry 1 and not yet given 2; answered 2: 1..=2
   #! before t1 2 t2 3               the second entry of t1 is given before the third of t2
   #! again t1 2                     behind its last entry t1 goes on with its second
-In a pattern `*` stands for a word and `**` for the rest.
+In a pattern `*` stands for a word and `**` for the rest. A name of a line `#@` stands for its object.
 
-Exit status: 0; 1 a question does not hold, or an order ends with users that have not done all; 2 a fault of the script; 3 a
-budget ended the search, or a read fault; 4 a write fault; 5 the book is full; 6 out of memory; 64 the command line.";
+Exit status: 0; 1 a question does not hold, an order ends with users that have not done all, or a user is stuck; 2 a fault of
+the script; 3 a budget ended the search, or a read fault; 4 a write fault; 5 the book is full; 6 out of memory; 64 the command line.";
 
 /// An option with a number.
 fn number<'a>(alloc: Global, name: &'a str, help: &'a str) -> Arg<'a> {
@@ -67,7 +73,7 @@ fn depth<'a>(alloc: Global) -> Arg<'a> {
     number(
         alloc,
         "depth",
-        "From how many turns on no state is looked behind",
+        "From how many turns on no state is expanded",
     )
 }
 
@@ -77,6 +83,22 @@ fn scripts<'a>(alloc: Global) -> Arg<'a> {
         .long("scripts")
         .value_name("DIR")
         .help("Writes the scripts of steps that show what is told into this folder")
+}
+
+/// The option for a script of each answer.
+fn answers<'a>(alloc: Global) -> Arg<'a> {
+    Arg::new(alloc, "answers")
+        .long("answers")
+        .help("Writes a script for each answer, too")
+        .action(ArgAction::SetTrue)
+}
+
+/// The option for JSON.
+fn json<'a>(alloc: Global) -> Arg<'a> {
+    Arg::new(alloc, "json")
+        .long("json")
+        .help("Tells all as one document of JSON")
+        .action(ArgAction::SetTrue)
 }
 
 /// The option for exact keys.
@@ -99,6 +121,8 @@ pub fn command<'a>(alloc: Global, file: Arg<'a>) -> Result<Words<'a>, Error> {
     let words = with(Ok(words(alloc)), states(alloc));
     let words = with(words, depth(alloc));
     let words = with(words, scripts(alloc));
+    let words = with(words, answers(alloc));
+    let words = with(words, json(alloc));
     let words = with(words, exact(alloc));
     with(words, file)
 }
@@ -112,6 +136,10 @@ pub fn asked<'a>(found: &ArgMatches<'a>) -> Sought<'a> {
             states: states.unwrap_or(STATES) as usize,
             depth: depth.unwrap_or(u64::MAX) as usize,
             is_exact: found.get_flag("exact"),
+        },
+        telling: Output {
+            with_answers: found.get_flag("answers"),
+            is_json: found.get_flag("json"),
         },
         scripts: found.get_str("scripts"),
     }
@@ -134,6 +162,10 @@ struct Folder<'a> {
 }
 
 impl Saves for Folder<'_> {
+    fn wants(&self) -> bool {
+        self.path.is_some()
+    }
+
     fn save(&mut self, alloc: Global, name: &str, text: &[u8]) -> Result<(), LabFault> {
         let Some(folder) = self.path else {
             return Ok(());
@@ -142,6 +174,20 @@ impl Saves for Folder<'_> {
         fs::write(self.rt, path.as_str(), text)?;
         Ok(())
     }
+}
+
+/// Makes the folder of scripts where it is not there, and tests that files can be written into it.
+/// The error is told.
+pub fn make_folder(rt: &HostRuntime, path: &str) -> Result<(), io::Error> {
+    if path.is_empty() {
+        return Err(io::Error::from(io::ErrorKind::NotFound));
+    }
+    fs::create_dir_all(rt, path)?;
+    let Ok(probe) = format!(in rt.alloc(); "{path}/.mcslab") else {
+        return Err(io::Error::from(io::ErrorKind::OutOfMemory));
+    };
+    fs::write(rt, probe.as_str(), b"")?;
+    fs::remove_file(rt, probe.as_str())
 }
 
 /// Tells once a second how far a search is.
@@ -196,7 +242,7 @@ impl<'a> Meter<'a> {
     /// Tells how far the search is. That it cannot be told ends nothing.
     fn tell(&self, before: usize, depth: usize, seconds: u64) {
         if let Ok(count) = grouped(self.rt.alloc(), before) {
-            let _ = eprintln!(self.rt; "{count} states looked behind, depth {depth}, {seconds} s");
+            let _ = eprintln!(self.rt; "{count} states expanded, depth {depth}, {seconds} s");
         }
     }
 }
@@ -218,7 +264,7 @@ pub fn explore<R: Read, W: Write + Drop>(
     from: &mut Source<R>,
     to: W,
     sought: Sought<'_>,
-) -> Result<u8, LabFault> {
+) -> Result<u8, ExploreFault> {
     let mut folder = Folder {
         rt,
         path: sought.scripts,
@@ -228,6 +274,7 @@ pub fn explore<R: Read, W: Write + Drop>(
         from,
         to,
         sought.wanted,
+        sought.telling,
         &mut folder,
         Meter::new(rt),
     )?;

@@ -1,5 +1,5 @@
-//! The program: `mcslab check` compares what a script says of its steps with what they do, `mcslab why` tells why a step did
-//! nothing, and `mcslab compile` makes a script of a plan.
+//! The program: `mcslab check` compares what a script says of its steps with what they do, `mcslab
+//! why` tells why a step did nothing, and `mcslab compile` makes a script of a plan.
 #![tactic(auto)]
 
 mod command_line;
@@ -10,9 +10,10 @@ mod exploring;
 use clap::Error;
 use clap::error::ErrorKind;
 use command_line::{Command, Request, requested};
-use exploring::explore;
+use exploring::{Sought, explore, make_folder};
 use mcs_lab::{LabFault, check};
 use mcs_pictures::draw_script;
+use mcs_questions::ExploreFault;
 use mcs_sim::{Source, arguments};
 use mcs_told::{explain, show_state, write_json};
 use std::alloc::{AllocError, Global};
@@ -27,8 +28,8 @@ const USAGE: u8 = 64;
 const UNMET: u8 = 1;
 
 /// Tells a fault, and gives its exit status.
-fn tell(rt: &HostRuntime, fault: LabFault) -> ExitCode {
-    let _ = rt.eprintln(fault);
+fn tell(rt: &HostRuntime, fault: &ExploreFault) -> ExitCode {
+    let _ = eprintln!(rt; "{fault}");
     ExitCode::from(fault.status())
 }
 
@@ -52,28 +53,36 @@ fn read_script<R: Read + Drop>(
     rt: &HostRuntime,
     request: &Request<'_>,
     from: R,
-) -> Result<u8, LabFault> {
+) -> Result<u8, ExploreFault> {
     let mut source = Source::new(from);
     let mut to = BufWriter::new(rt.alloc(), io::writer(rt))?;
-    let done = match request.command {
-        Command::Check => check(rt.alloc(), &mut source, &mut to).map(status_if),
-        Command::Why => explain(rt.alloc(), &mut source, &mut to).map(status_if),
-        Command::State(wanted) => {
-            show_state(rt.alloc(), &mut source, &mut to, wanted).map(status_if)
-        }
-        Command::Json => write_json(rt.alloc(), &mut source, &mut to).map(status_if),
-        Command::Draw(drawn) => {
-            match draw_script(rt.alloc(), &mut source, &mut to, drawn.format, drawn.window) {
-                Ok(()) => Ok(0),
-                Err(fault) => Err(fault),
-            }
-        }
-        Command::Explore(sought) => explore(rt, &mut source, &mut to, sought),
-        // these read no script of steps
-        Command::Compile(_) | Command::Names => Ok(0),
-    };
+    let done = do_request(rt, request, &mut source, &mut to);
     to.flush()?;
     done
+}
+
+/// Does what is asked with a source, writes what comes of it, and gives the exit status.
+fn do_request<R: Read + Drop, W: Write + Drop>(
+    rt: &HostRuntime,
+    request: &Request<'_>,
+    source: &mut Source<R>,
+    to: &mut W,
+) -> Result<u8, ExploreFault> {
+    let alloc = rt.alloc();
+    let holds = match request.command {
+        Command::Check => check(alloc, source, to)?,
+        Command::Why => explain(alloc, source, to)?,
+        Command::State(wanted) => show_state(alloc, source, to, wanted)?,
+        Command::Json => write_json(alloc, source, to)?,
+        Command::Draw(drawn) => {
+            draw_script(alloc, source, to, drawn.format, drawn.window)?;
+            true
+        }
+        Command::Explore(sought) => return explore(rt, source, to, sought),
+        // these read no script of steps
+        Command::Compile(_) | Command::Names => true,
+    };
+    Ok(status_if(holds))
 }
 
 /// Does what is asked, with its file or the standard input.
@@ -81,6 +90,17 @@ fn carry_out(rt: &HostRuntime, request: &Request<'_>) -> ExitCode {
     match request.command {
         Command::Compile(made) => return compiling::compile_plan(rt, request.file, made),
         Command::Names => return compiling::tell_trace(rt, request.file),
+        Command::Explore(
+            Sought {
+                scripts: Some(path),
+                ..
+            },
+        ) => {
+            if let Err(error) = make_folder(rt, path) {
+                let _ = eprintln!(rt; "mcslab: --scripts \"{path}\": {error}");
+                return ExitCode::from(USAGE);
+            }
+        }
         _ => {}
     }
     let done = match request.file {
@@ -95,7 +115,7 @@ fn carry_out(rt: &HostRuntime, request: &Request<'_>) -> ExitCode {
     };
     match done {
         Ok(status) => ExitCode::from(status),
-        Err(fault) => tell(rt, fault),
+        Err(fault) => tell(rt, &fault),
     }
 }
 
@@ -110,7 +130,7 @@ fn main(rt: HostRuntime) -> ExitCode {
         return ExitCode::from(USAGE);
     };
     let Ok(texts) = texts(rt.alloc(), &words) else {
-        return tell(&rt, LabFault::OutOfMemory);
+        return tell(&rt, &ExploreFault::Lab(LabFault::OutOfMemory));
     };
     match requested(rt.alloc(), &texts) {
         Ok(request) => carry_out(&rt, &request),

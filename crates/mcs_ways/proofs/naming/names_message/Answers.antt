@@ -2,8 +2,8 @@ use Rattle.std.specs.Prelude.{false}
 use Rattle.std.specs.List.{list_any}
 use Rattle.std.proofs.Common.{ap, sym, subst, ◌∙◌}
 use Rattle.mcs_text.specs.Reading.{words_of}
-use Rattle.mcs_ways.specs.declared.asking.Asked.{Asked}
-use Rattle.mcs_ways.specs.declared.asking.Asked.TheVariants as asked
+use Rattle.mcs_questions.specs.declared.asking.Asked.{Asked}
+use Rattle.mcs_questions.specs.declared.asking.Asked.TheVariants as asked
 use Rattle.mcs_ways.specs.Judging.{IsDecided}
 use Rattle.mcs_ways.specs.Naming.{is_message}
 use Rattle.mcs_ways.proofs.Unnamed.{unnamed}

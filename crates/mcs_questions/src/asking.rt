@@ -1,0 +1,83 @@
+//! What a script asks of all orders.
+use mcs_types::ObjId;
+
+/// The entry of a user, by its number from 1 on.
+#[derive(Clone, Copy)]
+pub struct Event {
+    pub thread: ObjId,
+    pub number: usize,
+}
+
+/// Entries of a user, by the numbers of the first and the last.
+#[derive(Clone, Copy)]
+pub struct Entries {
+    pub first: usize,
+    pub last: usize,
+}
+
+/// When a span ends.
+#[derive(Clone, Copy)]
+pub enum Until {
+    /// The second entry is given.
+    Given,
+    /// It is answered.
+    Answered,
+}
+
+/// A user that has been answered the first of these entries, or has begun where that is 0, until
+/// the second is given or answered.
+#[derive(Clone, Copy)]
+pub struct Span {
+    pub thread: ObjId,
+    pub from: usize,
+    pub to: usize,
+    pub until: Until,
+}
+
+/// A question.
+#[derive(Drop)]
+pub enum Asked {
+    /// A thread may wait for ever in these of its entries: that is not told as a deadlock.
+    Idle {
+        thread: ObjId,
+        entries: Entries,
+    },
+    /// From each state this entry of a user can still be answered, or it was answered and does not
+    /// come again. Without a number: some entry of it can, or all were.
+    Live {
+        thread: ObjId,
+        number: Option<usize>,
+    },
+    /// All answers of an entry are of the pattern, and each run that ends has had one.
+    Answer {
+        event: Event,
+        pattern: Vec<u8>,
+    },
+    /// All answers of an entry are of the pattern, if it has some.
+    AnswerIf {
+        event: Event,
+        pattern: Vec<u8>,
+    },
+    /// Some answer of an entry is of the pattern.
+    Some {
+        event: Event,
+        pattern: Vec<u8>,
+    },
+    /// No line of a trace is of the pattern.
+    Never {
+        pattern: Vec<u8>,
+    },
+    /// Never are all these users in their spans at once.
+    Apart {
+        spans: Vec<Span>,
+    },
+    /// An entry is given before another one is.
+    Before {
+        first: Event,
+        second: Event,
+    },
+    /// The list of a user goes on with this entry behind its last.
+    Again {
+        event: Event,
+    },
+}

@@ -1,0 +1,23 @@
+//! The questions of a script of users: what they ask of all orders, how they are read, and the
+//! patterns by which they name answers and records.
+//!
+//! ```text
+//! `answer t1 2 got 9 *` ── reading ──> `Asked`, or a `QuestionFault` that names the word
+//!     ── there ──> threads, their entries, objects and their names: what a word may name
+//!     ── forms ──> whether a pattern can stand for a line of a trace
+//!     ── patterns ──> whether it stands for one
+//! ```
+#![tactic(auto)]
+
+mod asking;
+mod fault;
+mod forms;
+mod patterns;
+mod reading;
+mod there;
+
+pub use asking::{Asked, Entries, Event, Span, Until};
+pub use fault::{ExploreFault, QuestionFault};
+pub use patterns::is_match;
+pub use reading::{asked_of, comes_once, goes_on_once, question_of};
+pub use there::There;

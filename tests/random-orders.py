@@ -1,0 +1,127 @@
+#!/usr/bin/env python3
+"""Explores random scripts of users by default and with --exact, and compares the reports.
+
+    python3 tests/random-orders.py MCSLAB [COUNT [SEED]]   so many scripts (2,000), from a seed (1)
+    python3 tests/random-orders.py --data [COUNT [SEED]]   prints so many scripts (50), from a seed
+                                                           (2), as data of mcs_examples
+
+Of each script the kinds of ends, the answers of all entries with their steps, the users that are
+stuck and the verdicts have to be the same, and both searches whole. The scripts use each of the 27
+entries; only one entry of a script makes an object, since exact keys tell apart in which order
+objects were made.
+"""
+import json
+import random
+import subprocess
+import sys
+
+BOOT = """cores 2
+cnode 6
+endpoint
+endpoint
+notification
+notification
+reply
+reply
+context 0
+context 1
+context 0
+context 1
+thread 20 255 c1 58 0 run s1
+thread 20 255 c1 58 0 run s2
+thread 10 255 c1 58 0 run s3
+slot c1 1 e1 rwgp 0
+slot c1 2 e2 rwgp 3
+slot c1 3 n1 rw 1
+slot c1 4 n2 rw 2
+slot c1 5 r1
+slot c1 6 r2
+slot c1 7 t1
+slot c1 8 t2
+slot c1 9 t3
+slot c1 10 s1
+slot c1 11 s2
+slot c1 12 s3
+slot c1 13 s4
+"""
+
+ENDPOINTS, NOTIFICATIONS, REPLIES = [1, 2, 20], [3, 4, 20], [5, 6]
+THREADS, CONTEXTS, PLACES = [7, 8, 9], [10, 11, 12, 13], [1, 3, 5, 20, 21, 22]
+
+
+def entries(r):
+    """One entry of each of the 27 kinds, with random words."""
+    e, n, p = r.choice(ENDPOINTS), r.choice(NOTIFICATIONS), r.choice(REPLIES)
+    t, c = r.choice(THREADS), r.choice(CONTEXTS)
+    a, b = r.sample(PLACES, 2)
+    label = r.randrange(4)
+    return [
+        f"send {e} {label}", f"nbsend {e} {label}", f"call {e} {label}", f"send {p} {label}",
+        f"recv {e} {p}", f"nbrecv {e} {p}", f"wait {n}", f"nbwait {n}",
+        f"replyrecv {e} {p} {label}", f"nbsendrecv {e} {r.choice(ENDPOINTS)} {p} {label}",
+        f"nbsendwait {e} {n} {label}", f"signal {n}",
+        f"setprio {t} {r.choice(THREADS)} {r.choice([5, 10, 20, 30])}",
+        f"suspend {t}", f"resume {t}", f"bindntfn {t} {n}", f"unbindntfn {t}",
+        f"bind {c} {r.choice(THREADS + NOTIFICATIONS)}", f"unbind {c}", f"cancel {e}",
+        f"copy {a} 64 {b} 64 rwgp", f"mint {a} 64 {b} 64 rwg {r.randrange(1, 9)}",
+        f"move {a} 64 {b} 64", f"delete {b} 64",
+    ]
+
+
+MAKES = [f"make {kind} {place} 64" for kind in ("endpoint", "notification", "reply", "context") for place in (20, 21)]
+
+
+def users_of(r):
+    """Random entries of three users, and questions."""
+    lines, users = [], []
+    for thread in (1, 2, 3):
+        users += [thread] * r.randrange(1, 4)
+    made = r.randrange(len(users)) if r.random() < 0.4 else None
+    for at, thread in enumerate(users):
+        entry = r.choice(MAKES) if at == made else r.choice(entries(r))
+        lines.append(f"user t{thread} {entry}")
+    asked = [f"#! answer? t{t} 1 done" for t in (1, 2, 3)]
+    asked += ["#! never = refused *", "#! some t3 1 got **", "#! never + void **", "#! before t1 1 t2 1"]
+    asked += ["#! never t1 in 0..1 and t2 in 0..=1"]
+    return "\n".join(lines + asked) + "\n"
+
+
+def told(program, script, *options):
+    done = subprocess.run([program, "explore", "--json", *options], input=script.encode(), capture_output=True)
+    if done.returncode not in (0, 1):
+        sys.exit(f"status {done.returncode}: {done.stderr.decode()}\n{script}")
+    report = json.loads(done.stdout)
+    kinds = sorted(json.dumps([kind["kind"], kind["users"]]) for kind in report["kinds"])
+    entries = [[e["thread"], e["entry"], e.get("unanswered"), sorted((a["answer"], a["steps"]) for a in e["answers"])]
+               for e in report["entries"]]
+    questions = [[q["line"], q["verdict"], q.get("steps")] for q in report["questions"]]
+    stuck = sorted([len(s["steps"]), user["thread"]] for s in report["stuck"] for user in s["users"])
+    return {"whole": report["whole"], "kinds": kinds, "stuck": stuck, "entries": entries, "questions": questions,
+            "verdict": report["verdict"]}
+
+
+def print_data(words):
+    """Prints the boot, and behind it the users of each script, behind a line `%`."""
+    count = int(words[0]) if words else 50
+    r = random.Random(int(words[1]) if len(words) > 1 else 2)
+    print(BOOT + "".join("%\n" + users_of(r) for _ in range(count)), end="")
+
+
+def main():
+    if sys.argv[1:2] == ["--data"]:
+        return print_data(sys.argv[2:])
+    program = sys.argv[1]
+    count = int(sys.argv[2]) if len(sys.argv) > 2 else 2000
+    r = random.Random(int(sys.argv[3]) if len(sys.argv) > 3 else 1)
+    used = set()
+    for number in range(1, count + 1):
+        script = BOOT + users_of(r)
+        used |= {line.split()[2] if "make" not in line else " ".join(line.split()[2:4])
+                 for line in script.splitlines() if line.startswith("user")}
+        default, exact = told(program, script), told(program, script, "--exact")
+        if default != exact or not default["whole"]:
+            sys.exit(f"script {number} differs:\n{script}\ndefault {default}\nexact   {exact}")
+    print(f"{count} scripts told alike by default and exact, with {len(used)} of 27 entries")
+
+
+main()
