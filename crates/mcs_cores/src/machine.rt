@@ -99,10 +99,28 @@ impl<G: Ledger, L: Lines> LockedKernel<G, L> {
             rest,
             given: _,
         } = self;
-        let settled = settle_seats(alloc, kernel, boot, &seats);
+        let settled = compare(alloc, kernel, boot, &seats);
         audit_seats(&mut book, rest, seats);
         settled
     }
+}
+
+/// Compares what seats were told with the book of a kernel.
+fn compare<G: Ledger, L: Lines>(
+    alloc: Global,
+    kernel: Kernel<L>,
+    boot: &Boot,
+    seats: &Vec<CoreSeat<G>>,
+) -> Result<Settled<L>, FinishFault>
+    ensures same { IfOk result (λ s. s ≡ kernel) }
+    ensures legal { IsLegal kernel }
+    ensures fair { IsFair kernel }
+    ensures boot { IfOk result (λ s. s.boot ≡ boot.now) }
+    ensures seats { IfOk result (λ s. HasSeats s seats.now.items) }
+    ensures agree { IfOk result (λ s. AllAgree s seats.now.items) }
+    ensures fault { IfErr result (Because kernel boot.now seats.now.items) }
+{
+    settle_seats(alloc, kernel, boot, seats)
 }
 
 /// As many seats, each with a part of the ledger.

@@ -100,8 +100,8 @@ fn objects(alloc: Global, ids: &Ids) -> Result<Vec<Rec>, Fail> {
     Ok(records)
 }
 
-/// What slots hold.
-fn slots(alloc: Global, ids: &Ids) -> Result<Vec<Rec>, Fail> {
+/// Puts what slots hold.
+fn put_slots(records: &mut Vec<Rec>, ids: &Ids) -> Result<(), Fail> {
     let caps = [
         None,
         cap_to(ids.endpoint, 0, 0, 0)?,
@@ -111,24 +111,29 @@ fn slots(alloc: Global, ids: &Ids) -> Result<Vec<Rec>, Fail> {
         cap_to(ids.notification, 7, 5, 3)?,
     ];
     let (cnode, index) = (ids.cnode, 255);
-    let mut records = Vec::new(alloc);
     for cap in caps {
         records.push(Rec::Slot { cnode, index, cap })?;
     }
-    Ok(records)
+    Ok(())
 }
 
-/// How threads run, hold contexts and are bound, and where contexts are homed.
-fn threads(alloc: Global, ids: &Ids) -> Result<Vec<Rec>, Fail> {
+/// Puts how threads run and hold contexts.
+fn put_threads(records: &mut Vec<Rec>, ids: &Ids) -> Result<(), Fail> {
     let (thread, context) = (ids.thread, ids.context);
     let priority = Prio(255);
-    let mut records = vec![in alloc; Rec::Prio { thread, priority }]?;
+    records.push(Rec::Prio { thread, priority })?;
     for mode in [Mode::Running, Mode::Restart, Mode::Inactive] {
         records.push(Rec::Turns { thread, mode })?;
     }
     for thread in [None, Some(thread)] {
         records.push(Rec::Holds { context, thread })?;
     }
+    Ok(())
+}
+
+/// Puts how threads are bound, and where contexts are homed.
+fn put_bindings(records: &mut Vec<Rec>, ids: &Ids) -> Result<(), Fail> {
+    let (thread, context) = (ids.thread, ids.context);
     for notification in [None, Some(ids.notification)] {
         records.push(Rec::Tied {
             thread,
@@ -139,18 +144,17 @@ fn threads(alloc: Global, ids: &Ids) -> Result<Vec<Rec>, Fail> {
             notification,
         })?;
     }
-    Ok(records)
+    Ok(())
 }
 
-/// How threads stand in queues.
-fn queued(alloc: Global, ids: &Ids) -> Result<Vec<Rec>, Fail> {
+/// Puts how threads stand in queues.
+fn put_queued(records: &mut Vec<Rec>, ids: &Ids) -> Result<(), Fail> {
     let thread = ids.thread;
     let queues = [
         Queue::Senders(ids.endpoint),
         Queue::Receivers(ids.endpoint),
         Queue::Waiters(ids.notification),
     ];
-    let mut records = Vec::new(alloc);
     for queue in queues {
         for reply in [None, Some(ids.reply)] {
             records.push(Rec::Joins {
@@ -161,11 +165,11 @@ fn queued(alloc: Global, ids: &Ids) -> Result<Vec<Rec>, Fail> {
         }
         records.push(Rec::Parts { thread, queue })?;
     }
-    Ok(records)
+    Ok(())
 }
 
-/// How messages are sent, with which badges, and how many words they have. The first that is long finds room among the words; the
-/// one behind it, and those of debts, stand beside the records.
+/// How messages are sent, with which badges, and how many words they have. The first that is long
+/// finds room among the words; the one behind it, and those of debts, stand beside the records.
 const SENT: &[(SendMode, u64, u64)] = &[
     (SendMode::Plain, 0, 0),
     (SendMode::Call, 9, 1),
@@ -174,9 +178,8 @@ const SENT: &[(SendMode, u64, u64)] = &[
     (SendMode::Plain, 0, 5),
 ];
 
-/// What was sent.
-fn sent(alloc: Global, ids: &Ids) -> Result<Vec<Rec>, Fail> {
-    let mut records = Vec::new(alloc);
+/// Puts what was sent.
+fn put_sent(alloc: Global, records: &mut Vec<Rec>, ids: &Ids) -> Result<(), Fail> {
     for &(mode, badge, words) in SENT {
         let message = message(alloc, words)?;
         records.push(Rec::Sent {
@@ -187,23 +190,22 @@ fn sent(alloc: Global, ids: &Ids) -> Result<Vec<Rec>, Fail> {
             message,
         })?;
     }
-    Ok(records)
+    Ok(())
 }
 
-/// What was taken and dropped.
-fn taken(alloc: Global, thread: ObjId) -> Result<Vec<Rec>, Fail> {
-    let mut records = Vec::new(alloc);
+/// Puts what was taken and dropped.
+fn put_taken(records: &mut Vec<Rec>, ids: &Ids) -> Result<(), Fail> {
+    let thread = ids.thread;
     for message in [0, 2, u32::MAX] {
         records.push(Rec::Took { message, thread })?;
         records.push(Rec::Dropped { message })?;
     }
-    Ok(records)
+    Ok(())
 }
 
-/// What was raised and heard.
-fn words(alloc: Global, ids: &Ids) -> Result<Vec<Rec>, Fail> {
+/// Puts what was raised and heard.
+fn put_words(records: &mut Vec<Rec>, ids: &Ids) -> Result<(), Fail> {
     let (thread, notification) = (ids.thread, ids.notification);
-    let mut records = Vec::new(alloc);
     for word in [0, u64::MAX] {
         let badge = Badge(word);
         records.push(Rec::Raised {
@@ -216,13 +218,12 @@ fn words(alloc: Global, ids: &Ids) -> Result<Vec<Rec>, Fail> {
             word,
         })?;
     }
-    Ok(records)
+    Ok(())
 }
 
-/// What reply objects owe, and how that ends.
-fn debts(alloc: Global, ids: &Ids) -> Result<Vec<Rec>, Fail> {
+/// Puts what reply objects owe, and how that ends.
+fn put_debts(alloc: Global, records: &mut Vec<Rec>, ids: &Ids) -> Result<(), Fail> {
     let (reply, caller) = (ids.reply, ids.thread);
-    let mut records = Vec::new(alloc);
     for context in [None, Some(ids.context)] {
         records.push(Rec::Owes {
             reply,
@@ -243,20 +244,20 @@ fn debts(alloc: Global, ids: &Ids) -> Result<Vec<Rec>, Fail> {
             ending,
         })?;
     }
-    Ok(records)
+    Ok(())
 }
 
-/// Records of all kinds.
-fn records(alloc: Global, ids: &Ids) -> Result<Vec<Rec>, Fail> {
-    let mut records = objects(alloc, ids)?;
-    records.append(&mut slots(alloc, ids)?)?;
-    records.append(&mut threads(alloc, ids)?)?;
-    records.append(&mut queued(alloc, ids)?)?;
-    records.append(&mut sent(alloc, ids)?)?;
-    records.append(&mut taken(alloc, ids.thread)?)?;
-    records.append(&mut words(alloc, ids)?)?;
-    records.append(&mut debts(alloc, ids)?)?;
-    Ok(records)
+/// Puts records of all kinds.
+fn put_records(alloc: Global, records: &mut Vec<Rec>, ids: &Ids) -> Result<(), Fail> {
+    records.append(&mut objects(alloc, ids)?)?;
+    put_slots(records, ids)?;
+    put_threads(records, ids)?;
+    put_bindings(records, ids)?;
+    put_queued(records, ids)?;
+    put_sent(alloc, records, ids)?;
+    put_taken(records, ids)?;
+    put_words(records, ids)?;
+    put_debts(alloc, records, ids)
 }
 
 /// The entries that receive, and a signal.
@@ -295,22 +296,22 @@ fn changes(alloc: Global) -> Result<Vec<Entry>, Fail> {
     Ok(entries)
 }
 
-/// The entries that send messages.
-fn sends(alloc: Global) -> Result<Vec<Entry>, Fail> {
+/// Puts the entries that send messages.
+fn put_sends(alloc: Global, entries: &mut Vec<Entry>) -> Result<(), Fail> {
     let (cap, reply) = (u64::MAX, 1);
-    let (none, one) = (message(alloc, 0)?, message(alloc, 1)?);
-    let (all, five) = (message(alloc, MESSAGE_WORDS as u64)?, message(alloc, 5)?);
-    let entries = vec![in alloc;
-        Entry::Send { cap, message: none },
-        Entry::NbSend { cap, message: one },
-        Entry::Call { cap, message: all },
-        Entry::ReplyRecv {
-            cap,
-            reply,
-            message: five
-        },
-    ]?;
-    Ok(entries)
+    let none = message(alloc, 0)?;
+    entries.push(Entry::Send { cap, message: none })?;
+    let one = message(alloc, 1)?;
+    entries.push(Entry::NbSend { cap, message: one })?;
+    let all = message(alloc, MESSAGE_WORDS as u64)?;
+    entries.push(Entry::Call { cap, message: all })?;
+    let message = message(alloc, 5)?;
+    entries.push(Entry::ReplyRecv {
+        cap,
+        reply,
+        message,
+    })?;
+    Ok(())
 }
 
 /// The entries that name places.
@@ -344,6 +345,7 @@ fn placed(alloc: Global) -> Result<Vec<Entry>, Fail> {
     Ok(entries)
 }
 
+/// All answers, those that receive with a short message and with a long one.
 fn answers(alloc: Global) -> Result<Vec<Answer>, Fail> {
     let badge = Badge(u64::MAX);
     let (four, all) = (message(alloc, 4)?, message(alloc, MESSAGE_WORDS as u64)?);
@@ -365,67 +367,84 @@ fn answers(alloc: Global) -> Result<Vec<Answer>, Fail> {
     Ok(answers)
 }
 
-/// All entries.
-fn entries(alloc: Global) -> Result<Vec<Entry>, Fail> {
-    let mut entries = receives(alloc)?;
+/// Puts all entries.
+fn put_entries(alloc: Global, entries: &mut Vec<Entry>) -> Result<(), Fail> {
+    entries.append(&mut receives(alloc)?)?;
     entries.append(&mut changes(alloc)?)?;
-    entries.append(&mut sends(alloc)?)?;
+    put_sends(alloc, entries)?;
     entries.append(&mut placed(alloc)?)?;
-    Ok(entries)
+    Ok(())
+}
+
+/// Adds a line with this step and this answer, and these records.
+fn append(
+    book: &mut Book,
+    step: &Step,
+    answer: &Answer,
+    records: &mut Vec<Rec>,
+) -> Result<(), Fail> {
+    book.reserve(records.len())?;
+    book.append(step, answer, records);
+    Ok(())
+}
+
+/// The names of a line: each second has the odd ones.
+fn ids_of(line: usize) -> Ids {
+    if line % 2 == 0 { own_ids() } else { odd_ids() }
 }
 
 /// Adds a line with this entry and this answer, and records of all kinds.
 fn add_line(alloc: Global, book: &mut Book, entry: Entry, answer: &Answer) -> Result<(), Fail> {
-    let names = if book.lines() % 2 == 0 {
-        own_ids()
-    } else {
-        odd_ids()
-    };
-    let mut facts = records(alloc, &names)?;
     let step = Step {
         core: CoreId(255),
         thread: id(Kind::Thread, 9),
         entry,
     };
-    book.reserve(facts.len())?;
-    book.append(&step, answer, &mut facts);
-    Ok(())
+    let mut records = Vec::new(alloc);
+    put_records(alloc, &mut records, &ids_of(book.lines()))?;
+    append(book, &step, answer, &mut records)
+}
+
+/// Adds a line with this entry, whose answer has its turn.
+fn add_entry(alloc: Global, book: &mut Book, entry: Entry, answers: &[Answer]) -> Result<(), Fail> {
+    match answers.get(book.lines() % 7) {
+        Some(answer) => add_line(alloc, book, entry, answer),
+        None => Err(Fail::from("an answer")),
+    }
 }
 
 /// Adds a line for each of the entries, whose answers take turns.
 fn add_lines(alloc: Global, book: &mut Book) -> Result<(), Fail> {
     let answers = answers(alloc)?;
-    for entry in entries(alloc)? {
-        let answer = answers.get(book.lines() % 7).ok_or("answer")?;
-        add_line(alloc, book, entry, answer)?;
+    let mut entries = Vec::new(alloc);
+    put_entries(alloc, &mut entries)?;
+    for entry in entries {
+        add_entry(alloc, book, entry, &answers)?;
     }
     Ok(())
 }
 
-/// The records that a line gives back.
-fn records_of(alloc: Global, line: &Line<'_>) -> Result<Vec<Rec>, Fail> {
-    let mut records = Vec::new(alloc);
+/// Puts the records that a line gives back.
+fn put_again(alloc: Global, records: &mut Vec<Rec>, line: &Line<'_>) -> Result<(), Fail> {
     for i in 0..line.record_count() {
         records.push(line.record(alloc, i)?.ok_or("record")?)?;
     }
-    Ok(records)
+    Ok(())
 }
 
 /// Adds what a line gives back.
 fn add_again(alloc: Global, book: &mut Book, line: &Line<'_>) -> Result<(), Fail> {
-    let mut facts = records_of(alloc, line)?;
-    book.reserve(facts.len())?;
-    book.append(&line.step(alloc)?, &line.answer(alloc)?, &mut facts);
-    Ok(())
+    let mut records = Vec::new(alloc);
+    put_again(alloc, &mut records, line)?;
+    append(book, &line.step(alloc)?, &line.answer(alloc)?, &mut records)
 }
 
-/// A book of what a book gives back.
-fn again(alloc: Global, book: &Book) -> Result<Book, Fail> {
-    let mut other = Book::new(alloc, 2);
+/// Adds the lines of a book behind its boot to another.
+fn add_lines_again(alloc: Global, other: &mut Book, book: &Book) -> Result<(), Fail> {
     for i in 1..book.lines() {
-        add_again(alloc, &mut other, &book.line(i).ok_or("line")?)?;
+        add_again(alloc, other, &book.line(i).ok_or("line")?)?;
     }
-    Ok(other)
+    Ok(())
 }
 
 fn put_line<W: Write>(sink: &mut Sink<W>, line: &Line<'_>) {
@@ -454,7 +473,8 @@ fn text_of(alloc: Global, book: &Book) -> Result<Vec<u8>, OutOfMemory> {
     Ok(written)
 }
 
-/// With this the text begins: the first entry, and what it records of odd names, of objects, slots and threads.
+/// With this the text begins: the first entry, and what it records of odd names, of objects, slots
+/// and threads.
 const BEGINNING: &str = "\
 255 t4294967286 recv 18446744073709551615 1
 = got 18446744073709551615 4503599627370495 18446744073709551615 18446744073709551614 18446744073709551613 18446744073709551612
@@ -481,15 +501,26 @@ const BEGINNING: &str = "\
 + homed c4294967290 r4294967292
 ";
 
+/// The text of a book of a line for each entry.
+fn first_text(alloc: Global, book: &mut Book) -> Result<Vec<u8>, Fail> {
+    add_lines(alloc, book)?;
+    Ok(text_of(alloc, book)?)
+}
+
+/// The text of a book of what a book gives back.
+fn second_text(alloc: Global, book: &Book) -> Result<Vec<u8>, Fail> {
+    let mut other = Book::new(alloc, 2);
+    add_lines_again(alloc, &mut other, book)?;
+    Ok(text_of(alloc, &other)?)
+}
+
 #[test]
 fn a_book_gives_back_its_lines(rt: HostRuntime) -> Result<(), Fail> {
     let mut book = Book::new(rt.alloc(), 2);
-    add_lines(rt.alloc(), &mut book)?;
-    assert_eq!(rt; book.lines(), 26);
-    let text = text_of(rt.alloc(), &book)?;
-    assert!(rt; text.starts_with(BEGINNING.as_bytes()));
-    assert!(rt; text.len() > 25 * 1_000);
-    let other = again(rt.alloc(), &book)?;
-    assert_eq!(rt; text_of(rt.alloc(), &other)?, text);
+    let text = first_text(rt.alloc(), &mut book)?;
+    assert!(rt; book.lines() == 26);
+    assert!(rt; text.starts_with(BEGINNING.as_bytes()) && text.len() > 25 * 1_000);
+    let again = second_text(rt.alloc(), &book)?;
+    assert!(rt; again == text);
     Ok(())
 }

@@ -1,6 +1,6 @@
-//! What a kernel tells of its threads.
+//! What a kernel reports of its threads.
 use mcs_kernel::{Boot, EnterFault, Kernel, ReplayFault, replay};
-use mcs_queues::LinkedLines;
+use mcs_queues::{Lines, LinkedLines};
 use mcs_types::{
     Answer, Badge, BootFault, BootLine, Cap, CoreId, Entry, Guard, Kind, Mail, Message, ObjId,
     Prio, Queue, Rights, Status, Step, ThreadSet,
@@ -31,6 +31,16 @@ pub(super) const REPLY: ObjId = ObjId {
     serial: 1,
 };
 
+const THREAD_2: ObjId = ObjId {
+    kind: Kind::Thread,
+    serial: 2,
+};
+
+const CONTEXT_2: ObjId = ObjId {
+    kind: Kind::Context,
+    serial: 2,
+};
+
 /// A slot with an unguarded capability.
 fn slot(index: u8, obj: ObjId, bits: u8, badge: u64) -> Option<BootLine> {
     let cap = Cap {
@@ -48,15 +58,56 @@ fn slot(index: u8, obj: ObjId, bits: u8, badge: u64) -> Option<BootLine> {
 
 /// A thread with this context.
 fn runner(priority: u8, runs: bool, context: Option<u32>) -> BootLine {
+    let context = match context {
+        Some(serial) => Some(object(Kind::Context, serial)),
+        None => None,
+    };
     BootLine::Thread {
         priority: Prio(priority),
         maximum: Prio(255),
         root: object(Kind::CNode, 1),
         guard: Guard { bits: 59, value: 0 },
         runs,
-        context: context.map(|serial| object(Kind::Context, serial)),
+        context,
     }
 }
+
+/// Adds these lines.
+fn add_lines(boot: &mut Boot, lines: &[BootLine]) -> Result<(), BootFault> {
+    for line in lines {
+        boot.add(*line)?;
+    }
+    Ok(())
+}
+
+/// Adds slots with capabilities: the rights of each are bits.
+fn add_slots(boot: &mut Boot) -> Result<(), BootFault> {
+    for &(index, object, bits, badge) in SLOTS {
+        if let Some(line) = slot(index, object, bits, badge) {
+            boot.add(line)?;
+        }
+    }
+    Ok(())
+}
+
+/// Adds five threads with a context each.
+fn add_threads(boot: &mut Boot) -> Result<(), BootFault> {
+    for (serial, priority) in [(1, 10), (2, 20), (3, 10), (4, 20), (5, 30)] {
+        boot.add(BootLine::Context { core: CoreId(0) })?;
+        boot.add(runner(priority, true, Some(serial)))?;
+    }
+    Ok(())
+}
+
+/// What the first CNode holds: the slot, the object, the bits of the rights, and the badge.
+const SLOTS: &[(u8, ObjId, u8, u64)] = &[
+    (1, ENDPOINT, 1, 9),
+    (2, ENDPOINT, 15, 0),
+    (4, NOTIFICATION, 3, 5),
+    (8, REPLY, 0, 0),
+    (12, THREAD_2, 0, 0),
+    (13, CONTEXT_2, 0, 0),
+];
 
 /// A CNode, an endpoint, a reply object, a notification, and five threads with a context each.
 pub(super) fn five_threads(alloc: Global) -> Result<Boot, BootFault> {
@@ -67,34 +118,23 @@ pub(super) fn five_threads(alloc: Global) -> Result<Boot, BootFault> {
         BootLine::Reply,
         BootLine::Notification,
     ];
-    for line in objects {
-        boot.add(line)?;
-    }
-    for (serial, priority) in [(1, 10), (2, 20), (3, 10), (4, 20), (5, 30)] {
-        boot.add(BootLine::Context { core: CoreId(0) })?;
-        boot.add(runner(priority, true, Some(serial)))?;
-    }
-    let slots = [
-        slot(1, ENDPOINT, 1, 9),
-        slot(2, ENDPOINT, 15, 0),
-        slot(4, NOTIFICATION, 3, 5),
-        slot(8, REPLY, 0, 0),
-        slot(12, thread(2), 0, 0),
-        slot(13, object(Kind::Context, 2), 0, 0),
-    ];
-    for line in slots.into_iter().flatten() {
-        boot.add(line)?;
-    }
+    add_lines(&mut boot, &objects)?;
+    add_threads(&mut boot)?;
+    add_slots(&mut boot)?;
     Ok(boot)
 }
 
 /// Two cores, four contexts, and five threads: one without a context, and one that does not run.
 fn two_cores(alloc: Global) -> Result<Boot, BootFault> {
     let mut boot = Boot::new(alloc, 2)?;
-    boot.add(BootLine::CNode { radix: 5 })?;
-    for core in [0, 1, 1, 0] {
-        boot.add(BootLine::Context { core: CoreId(core) })?;
-    }
+    let objects = [
+        BootLine::CNode { radix: 5 },
+        BootLine::Context { core: CoreId(0) },
+        BootLine::Context { core: CoreId(1) },
+        BootLine::Context { core: CoreId(1) },
+        BootLine::Context { core: CoreId(0) },
+    ];
+    add_lines(&mut boot, &objects)?;
     let threads = [
         runner(10, true, Some(1)),
         runner(30, true, Some(2)),
@@ -102,9 +142,7 @@ fn two_cores(alloc: Global) -> Result<Boot, BootFault> {
         runner(40, true, None),
         runner(50, false, Some(4)),
     ];
-    for line in threads {
-        boot.add(line)?;
-    }
+    add_lines(&mut boot, &threads)?;
     Ok(boot)
 }
 
@@ -117,7 +155,7 @@ pub(super) fn booted(
 }
 
 /// Who is picked on a core while those who were picked before are passed, until nobody is left.
-fn picked(kernel: &Kernel<LinkedLines>, core: u8) -> [Option<ObjId>; 6] {
+fn picked<L: Lines>(kernel: &Kernel<L>, core: u8) -> [Option<ObjId>; 6] {
     let mut passed = ThreadSet::new();
     let mut all = [None; 6];
     for place in &mut all {
@@ -129,28 +167,42 @@ fn picked(kernel: &Kernel<LinkedLines>, core: u8) -> [Option<ObjId>; 6] {
     all
 }
 
-/// Threads of these serials, or none.
-fn threads(serials: [Option<u32>; 6]) -> [Option<ObjId>; 6] {
-    serials.map(|serial| Some(thread(serial?)))
-}
+const T1: Option<ObjId> = Some(ObjId {
+    kind: Kind::Thread,
+    serial: 1,
+});
+
+const T2: Option<ObjId> = Some(THREAD_2);
+
+const T3: Option<ObjId> = Some(ObjId {
+    kind: Kind::Thread,
+    serial: 3,
+});
+
+const T4: Option<ObjId> = Some(ObjId {
+    kind: Kind::Thread,
+    serial: 4,
+});
+
+const T5: Option<ObjId> = Some(ObjId {
+    kind: Kind::Thread,
+    serial: 5,
+});
 
 #[test]
 fn those_that_may_enter_are_picked_in_order(rt: HostRuntime) -> Result<(), Fail> {
     let kernel = booted(rt.alloc(), five_threads(rt.alloc()))?;
-    let all = [Some(5), Some(2), Some(4), Some(1), Some(3), None];
-    assert!(rt; picked(&kernel, 0) == threads(all));
+    assert!(rt; picked(&kernel, 0) == [T5, T2, T4, T1, T3, None]);
+    Ok(())
+}
+
+#[test]
+fn those_of_two_cores_are_picked_in_order(rt: HostRuntime) -> Result<(), Fail> {
     let kernel = booted(rt.alloc(), two_cores(rt.alloc()))?;
-    let of_each = [
-        [Some(1), None, None, None, None, None],
-        [Some(2), Some(3), None, None, None, None],
-        [None; 6],
-    ];
-    for (core, serials) in of_each.into_iter().enumerate() {
-        assert!(rt;
-            picked(&kernel, core as u8) == threads(serials),
-            "core {core}"
-        );
-    }
+    assert!(rt; picked(&kernel, 0) == [T1, None, None, None, None, None]);
+    assert!(rt; picked(&kernel, 1) == [T2, T3, None, None, None, None]);
+    // there is no such core
+    assert!(rt; picked(&kernel, 2) == [None; 6]);
     Ok(())
 }
 
@@ -231,10 +283,10 @@ fn kind_of(answer: Result<Answer, EnterFault>) -> Told {
     }
 }
 
-/// Enters, and tells no more of the kernel than these tests ask for.
-pub(super) fn enter(
+/// Enters, and reports no more of the kernel than these tests ask for.
+pub(super) fn enter<L: Lines>(
     alloc: Global,
-    kernel: &mut Kernel<LinkedLines>,
+    kernel: &mut Kernel<L>,
     core: u8,
     serial: u32,
     call: Call,
@@ -251,7 +303,7 @@ enum Reached {
     Word(u64),
 }
 
-fn has_mail(kernel: &Kernel<LinkedLines>, serial: u32, want: Reached) -> bool {
+fn has_mail<L: Lines>(kernel: &Kernel<L>, serial: u32, want: Reached) -> bool {
     match (kernel.mail(thread(serial)), want) {
         (Some(Mail::Message { badge, message }), Reached::Message(from, label, words)) => {
             badge.0 == from && message.label() == label && message.words() == words
@@ -410,37 +462,55 @@ const COURSES: &[&[Row]] = &[
 ];
 
 /// Whether the first two threads do this, and this last reached them.
-fn are_told(
-    kernel: &Kernel<LinkedLines>,
+fn are_told<L: Lines>(
+    kernel: &Kernel<L>,
     statuses: [Status; 2],
     first: Reached,
     second: Reached,
 ) -> bool {
-    [1, 2].map(|serial| kernel.status(thread(serial))) == statuses.map(|status| Some(status))
+    let [one, two] = statuses;
+    kernel.status(thread(1)) == Some(one)
+        && kernel.status(thread(2)) == Some(two)
         && has_mail(kernel, 1, first)
         && has_mail(kernel, 2, second)
+}
+
+/// Enters as a row says. Whether the answer is its own, and what the kernel reports of the first
+/// two threads.
+fn is_followed<L: Lines>(
+    alloc: Global,
+    kernel: &mut Kernel<L>,
+    (serial, call, answer, statuses, first, second): Row,
+) -> Result<bool, Fail> {
+    let given = enter(alloc, kernel, 0, serial, call)?;
+    Ok(given == answer && are_told(kernel, statuses, first, second))
+}
+
+/// How many rows of a course are followed from the boot on.
+fn followed<L: Lines>(
+    alloc: Global,
+    kernel: &mut Kernel<L>,
+    course: &[Row],
+) -> Result<usize, Fail> {
+    for (i, row) in course.iter().enumerate() {
+        if !is_followed(alloc, kernel, *row)? {
+            return Ok(i);
+        }
+    }
+    Ok(course.len())
 }
 
 #[test]
 fn status_and_mail_follow_the_entries(rt: HostRuntime) -> Result<(), Fail> {
     for (number, &course) in COURSES.iter().enumerate() {
         let mut kernel = booted(rt.alloc(), five_threads(rt.alloc()))?;
-        for (serial, call, answer, statuses, first, second) in course {
-            let given = enter(rt.alloc(), &mut kernel, 0, *serial, *call)?;
-            assert!(rt;
-                given == *answer,
-                "the answer of thread {serial} in course {number}"
-            );
-            assert!(rt;
-                are_told(&kernel, *statuses, *first, *second),
-                "after thread {serial} in {number}"
-            );
-        }
+        let rows = followed(rt.alloc(), &mut kernel, course)?;
+        assert!(rt; rows == course.len(), "row {rows} of course {number}");
     }
     Ok(())
 }
 
-/// Threads that enter on a core, and what they are told.
+/// Threads that enter on a core, and what is reported to them.
 const ENTERING: &[(u8, u32, Told)] = &[
     (1, 1, Told::Away(EnterFault::WrongCore)),
     (0, 2, Told::Away(EnterFault::WrongCore)),
@@ -450,13 +520,23 @@ const ENTERING: &[(u8, u32, Told)] = &[
     (1, 2, Told::Refused),
 ];
 
+/// Enters on a core, with a book of line 0 alone. Whether this is reported to the thread.
+fn is_entered<L: Lines>(
+    alloc: Global,
+    kernel: &mut Kernel<L>,
+    (core, serial, want): (u8, u32, Told),
+) -> Result<bool, Fail> {
+    Ok(kernel.book().lines() == 1 && enter(alloc, kernel, core, serial, Call::Wait(1))? == want)
+}
+
 #[test]
 fn who_may_not_enter_is_turned_away(rt: HostRuntime) -> Result<(), Fail> {
     let mut kernel = booted(rt.alloc(), two_cores(rt.alloc()))?;
-    for &(core, serial, want) in ENTERING {
-        assert!(rt; kernel.book().lines() == 1);
-        let given = enter(rt.alloc(), &mut kernel, core, serial, Call::Wait(1))?;
-        assert!(rt; given == want, "thread {serial} on core {core}");
+    for (i, entering) in ENTERING.iter().enumerate() {
+        assert!(rt;
+            is_entered(rt.alloc(), &mut kernel, *entering)?,
+            "entry {i}"
+        );
     }
     assert!(rt; kernel.book().lines() == 2);
     Ok(())
@@ -471,24 +551,34 @@ fn step(alloc: Global, serial: u32, call: Call) -> Result<Step, Fail> {
     })
 }
 
+/// Steps of which the second is turned away.
+const STEPS: &[(u32, Call)] = &[
+    (1, Call::Send(1, 7, WORDS)),
+    (1, Call::Wait(2)),
+    (2, Call::Recv(2, 8)),
+];
+
+/// Adds these steps.
+fn add_steps(alloc: Global, steps: &mut Vec<Step>) -> Result<(), Fail> {
+    for &(serial, call) in STEPS {
+        steps.push(step(alloc, serial, call)?)?;
+    }
+    Ok(())
+}
+
+/// Whether the steps were replayed but the second, which was turned away.
+fn are_replayed<L: Lines>(kernel: &Kernel<L>) -> bool {
+    kernel.book().lines() == 3
+        && kernel.status(thread(1)) == Some(Status::Running)
+        && has_mail(kernel, 2, Reached::Message(9, 7, WORDS))
+}
+
 #[test]
 fn steps_are_replayed(rt: HostRuntime) -> Result<(), Fail> {
     let mut steps = Vec::new(rt.alloc());
-    let calls = [
-        (1, Call::Send(1, 7, WORDS)),
-        (1, Call::Wait(2)),
-        (2, Call::Recv(2, 8)),
-    ];
-    for (serial, call) in calls {
-        steps.push(step(rt.alloc(), serial, call)?)?;
-    }
+    add_steps(rt.alloc(), &mut steps)?;
     let kernel: Kernel<LinkedLines> = replay(rt.alloc(), five_threads(rt.alloc())?, &steps)?;
-    assert!(rt;
-        kernel.book().lines() == 3,
-        "the second step is turned away"
-    );
-    assert!(rt; kernel.status(thread(1)) == Some(Status::Running));
-    assert!(rt; has_mail(&kernel, 2, Reached::Message(9, 7, WORDS)));
+    assert!(rt; are_replayed(&kernel));
     Ok(())
 }
 
@@ -498,25 +588,41 @@ const LINES: usize = 1_000_000;
 /// A receive that is refused: there is no right to read.
 const REFUSED: Call = Call::Recv(1, 8);
 
-/// A kernel whose book is full.
-fn full(alloc: Global) -> Result<Kernel<LinkedLines>, Fail> {
-    let mut kernel = booted(alloc, five_threads(alloc))?;
+/// Fills a book.
+fn fill<L: Lines>(alloc: Global, kernel: &mut Kernel<L>) -> Result<(), Fail> {
     for _ in 1..LINES {
-        if enter(alloc, &mut kernel, 0, 1, REFUSED)? != Told::Refused {
+        if enter(alloc, kernel, 0, 1, REFUSED)? != Told::Refused {
             return Err(Fail::from("the receive is refused"));
         }
     }
-    Ok(kernel)
+    Ok(())
+}
+
+/// Whether an entry is turned away with this fault, and a full book stays as it is.
+fn is_away<L: Lines>(
+    alloc: Global,
+    kernel: &mut Kernel<L>,
+    serial: u32,
+    fault: EnterFault,
+) -> Result<bool, Fail> {
+    let given = enter(alloc, kernel, 0, serial, REFUSED)?;
+    Ok(given == Told::Away(fault) && kernel.book().lines() == LINES)
 }
 
 #[test]
 fn a_full_book_takes_no_line(rt: HostRuntime) -> Result<(), Fail> {
-    let mut kernel = full(rt.alloc())?;
-    // why a thread may not enter is told before that
-    for (serial, fault) in [(1, EnterFault::BookFull), (6, EnterFault::NotRunning)] {
-        let given = enter(rt.alloc(), &mut kernel, 0, serial, REFUSED)?;
-        assert!(rt; given == Told::Away(fault), "thread {serial}");
-        assert!(rt; kernel.book().lines() == LINES);
+    let mut kernel = booted(rt.alloc(), five_threads(rt.alloc()))?;
+    fill(rt.alloc(), &mut kernel)?;
+    assert!(rt; is_away(rt.alloc(), &mut kernel, 1, EnterFault::BookFull)?);
+    // why a thread may not enter is reported before that
+    assert!(rt; is_away(rt.alloc(), &mut kernel, 6, EnterFault::NotRunning)?);
+    Ok(())
+}
+
+/// Adds receives that are refused, one more than the book has room for.
+fn add_refused(alloc: Global, steps: &mut Vec<Step>) -> Result<(), Fail> {
+    for _ in 0..LINES {
+        steps.push(step(alloc, 1, REFUSED)?)?;
     }
     Ok(())
 }
@@ -524,9 +630,7 @@ fn a_full_book_takes_no_line(rt: HostRuntime) -> Result<(), Fail> {
 #[test]
 fn a_replay_tells_the_step_for_which_the_book_is_full(rt: HostRuntime) -> Result<(), Fail> {
     let mut steps = Vec::with_capacity(rt.alloc(), LINES)?;
-    for _ in 0..LINES {
-        steps.push(step(rt.alloc(), 1, REFUSED)?)?;
-    }
+    add_refused(rt.alloc(), &mut steps)?;
     let boot = five_threads(rt.alloc())?;
     let ended = replay::<LinkedLines>(rt.alloc(), boot, &steps).err();
     assert!(rt; ended == Some(ReplayFault::BookFull { step: LINES }));

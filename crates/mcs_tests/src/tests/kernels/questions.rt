@@ -1,11 +1,12 @@
-//! What a kernel tells of all that is not a thread's own: each question once, where there is something to tell and where not.
+//! What a kernel reports of all that is not a thread's own: each question once, where there is
+//! something to report and where not.
 use super::queries::{
     Call, ENDPOINT, NOTIFICATION, REPLY, Told, WORDS, booted, enter, five_threads, object, thread,
 };
 use mcs_kernel::Kernel;
-use mcs_queues::LinkedLines;
+use mcs_queues::{Lines, LinkedLines};
 use mcs_slots::SlotId;
-use mcs_types::{Badge, CoreId, Kind, ObjId, Place, Prio, Queue, Refusal};
+use mcs_types::{Badge, Cap, CoreId, Kind, ObjId, Place, Prio, Queue, Refusal};
 use std::alloc::Global;
 use std::test::Fail;
 
@@ -20,12 +21,37 @@ const OTHER: ObjId = ObjId {
     serial: 2,
 };
 
+const THREAD_1: ObjId = ObjId {
+    kind: Kind::Thread,
+    serial: 1,
+};
+
+const THREAD_2: ObjId = ObjId {
+    kind: Kind::Thread,
+    serial: 2,
+};
+
+const THREAD_3: ObjId = ObjId {
+    kind: Kind::Thread,
+    serial: 3,
+};
+
+const THREAD_4: ObjId = ObjId {
+    kind: Kind::Thread,
+    serial: 4,
+};
+
+const CONTEXT_1: ObjId = ObjId {
+    kind: Kind::Context,
+    serial: 1,
+};
+
 fn context(serial: u32) -> ObjId {
     object(Kind::Context, serial)
 }
 
-/// Entries, with what each is answered: t2 loses its context, is called, and is bound to a notification, at which that context is
-/// homed; two threads wait to send.
+/// Entries, with what each is answered: t2 loses its context, is called, and is bound to a
+/// notification, at which that context is homed; two threads wait to send.
 const ENTRIES: &[(u32, Call, Told)] = &[
     (2, Call::Recv(2, 8), Told::Waits),
     (1, Call::UnbindCtx(13), Told::Done),
@@ -37,42 +63,51 @@ const ENTRIES: &[(u32, Call, Told)] = &[
     (5, Call::BindCtx(13, 4), Told::Done),
 ];
 
-/// The kernel behind the first of these entries.
-fn behind(alloc: Global, entries: usize) -> Result<Kernel<LinkedLines>, Fail> {
-    let mut kernel = booted(alloc, five_threads(alloc))?;
+/// Gives a kernel the first of these entries.
+fn give_entries<L: Lines>(
+    alloc: Global,
+    kernel: &mut Kernel<L>,
+    entries: usize,
+) -> Result<(), Fail> {
     for &(serial, call, want) in ENTRIES.iter().take(entries) {
-        if enter(alloc, &mut kernel, 0, serial, call)? != want {
+        if enter(alloc, kernel, 0, serial, call)? != want {
             return Err(Fail::from("another answer"));
         }
     }
+    Ok(())
+}
+
+/// The kernel behind the first of these entries.
+fn behind(alloc: Global, entries: usize) -> Result<Kernel<LinkedLines>, Fail> {
+    let mut kernel = booted(alloc, five_threads(alloc))?;
+    give_entries(alloc, &mut kernel, entries)?;
     Ok(kernel)
 }
 
 /// Whether these threads stand in a queue, from the first.
-fn is_queue(kernel: &Kernel<LinkedLines>, queue: Queue, serials: &[u32]) -> bool {
-    let threads = serials.iter().map(|serial| thread(*serial));
-    kernel.queue(queue).eq(threads)
+fn is_queue<L: Lines>(kernel: &Kernel<L>, queue: Queue, threads: &[ObjId]) -> bool {
+    kernel.queue(queue).eq(threads.iter().copied())
 }
 
 /// Queues, behind how many entries they are asked for, and who then stands in them.
-const QUEUES: &[(usize, Queue, &[u32])] = &[
-    (1, Queue::Receivers(ENDPOINT), &[2]),
-    (8, Queue::Senders(ENDPOINT), &[4, 3]),
+const QUEUES: &[(usize, Queue, &[ObjId])] = &[
+    (1, Queue::Receivers(ENDPOINT), &[THREAD_2]),
+    (8, Queue::Senders(ENDPOINT), &[THREAD_4, THREAD_3]),
     (8, Queue::Receivers(ENDPOINT), &[]),
     (8, Queue::Waiters(OTHER), &[]),
 ];
 
 #[test]
 fn queues_are_told(rt: HostRuntime) -> Result<(), Fail> {
-    for &(entries, queue, serials) in QUEUES {
+    for &(entries, queue, threads) in QUEUES {
         let kernel = behind(rt.alloc(), entries)?;
-        assert!(rt; is_queue(&kernel, queue, serials), "behind {entries}");
+        assert!(rt; is_queue(&kernel, queue, threads), "behind {entries}");
     }
     Ok(())
 }
 
 /// Whether the message that t3 sent is the open one of a thread.
-fn is_open(kernel: &Kernel<LinkedLines>, sender: ObjId) -> bool {
+fn is_open<L: Lines>(kernel: &Kernel<L>, sender: ObjId) -> bool {
     match kernel.open(sender) {
         Some(open) => {
             open.sender == thread(3)
@@ -84,20 +119,35 @@ fn is_open(kernel: &Kernel<LinkedLines>, sender: ObjId) -> bool {
     }
 }
 
+/// Whether so many messages were sent, this is who receives with the reply object, and the message
+/// of t3 is open or is not; t1 has none open.
+fn are_messages<L: Lines>(
+    kernel: &Kernel<L>,
+    sent: u32,
+    receiver: Option<ObjId>,
+    open: bool,
+) -> bool {
+    kernel.sent() == sent
+        && kernel.receiver(REPLY) == receiver
+        && !is_open(kernel, THREAD_1)
+        && is_open(kernel, THREAD_3) == open
+}
+
 #[test]
 fn messages_are_told(rt: HostRuntime) -> Result<(), Fail> {
     for (entries, sent, receiver) in [(1, 0, Some(thread(2))), (8, 3, None)] {
         let kernel = behind(rt.alloc(), entries)?;
-        assert!(rt; kernel.sent() == sent, "behind {entries}");
-        assert!(rt; kernel.receiver(REPLY) == receiver, "behind {entries}");
-        let open = [1, 3].map(|serial| is_open(&kernel, thread(serial)));
-        assert!(rt; open == [false, entries == 8], "behind {entries}");
+        assert!(rt;
+            are_messages(&kernel, sent, receiver, entries == 8),
+            "behind {entries}"
+        );
     }
     Ok(())
 }
 
-/// What is told of contexts and debts: who holds the first two contexts, which contexts the first two threads hold, whom the reply
-/// object owes, what stands in the chain of the first context, and where the second is homed.
+/// What is reported of contexts and debts: who holds the first two contexts, which contexts the
+/// first two threads hold, whom the reply object owes, what stands in the chain of the first
+/// context, and where the second is homed.
 #[derive(Clone, Copy, PartialEq, Eq)]
 struct Lent {
     holders: [Option<ObjId>; 2],
@@ -108,61 +158,69 @@ struct Lent {
 }
 
 /// The first two reply objects of a chain.
-fn chain(kernel: &Kernel<LinkedLines>, serial: u32) -> [Option<ObjId>; 2] {
+fn chain<L: Lines>(kernel: &Kernel<L>, serial: u32) -> [Option<ObjId>; 2] {
     let mut replies = kernel.chain(context(serial));
     [replies.next(), replies.next()]
 }
 
-fn told_of(kernel: &Kernel<LinkedLines>) -> Lent {
+fn told_of<L: Lines>(kernel: &Kernel<L>) -> Lent {
     Lent {
-        holders: [1, 2].map(|serial| kernel.holder(context(serial))),
-        contexts: [1, 2].map(|serial| kernel.context(thread(serial))),
+        holders: [kernel.holder(context(1)), kernel.holder(context(2))],
+        contexts: [kernel.context(THREAD_1), kernel.context(THREAD_2)],
         owed: kernel.owed(REPLY),
         chain: chain(kernel, 1),
         home: kernel.home(context(2)),
     }
 }
 
+/// What is reported behind the first two entries: t2 has lost its context.
+const UNBOUND: Lent = Lent {
+    holders: [Some(THREAD_1), None],
+    contexts: [Some(CONTEXT_1), None],
+    owed: None,
+    chain: [None; 2],
+    home: None,
+};
+
+/// What is reported behind all entries: t2 has the context of t1, which it owes an answer.
+const CALLED: Lent = Lent {
+    holders: [Some(THREAD_2), None],
+    contexts: [None, Some(CONTEXT_1)],
+    owed: Some(THREAD_1),
+    chain: [Some(REPLY), None],
+    home: Some(NOTIFICATION),
+};
+
+/// Whether this is reported behind so many entries.
+fn is_lent(alloc: Global, entries: usize, want: Lent) -> Result<bool, Fail> {
+    let kernel = behind(alloc, entries)?;
+    Ok(told_of(&kernel) == want)
+}
+
 #[test]
 fn contexts_and_debts_are_told(rt: HostRuntime) -> Result<(), Fail> {
-    let kernel = behind(rt.alloc(), 2)?;
-    let unbound = Lent {
-        holders: [Some(thread(1)), None],
-        contexts: [Some(context(1)), None],
-        owed: None,
-        chain: [None; 2],
-        home: None,
-    };
-    assert!(rt; told_of(&kernel) == unbound);
+    assert!(rt; is_lent(rt.alloc(), 2, UNBOUND)?);
+    assert!(rt; is_lent(rt.alloc(), 8, CALLED)?);
     let kernel = behind(rt.alloc(), 8)?;
-    let called = Lent {
-        holders: [Some(thread(2)), None],
-        contexts: [None, Some(context(1))],
-        owed: Some(thread(1)),
-        chain: [Some(REPLY), None],
-        home: Some(NOTIFICATION),
-    };
-    assert!(rt; told_of(&kernel) == called);
-    let cores = [5, 6].map(|serial| kernel.core(context(serial)));
-    assert!(rt; cores == [Some(CoreId(0)), None]);
+    assert!(rt; kernel.core(context(5)) == Some(CoreId(0)));
+    assert!(rt; kernel.core(context(6)) == None);
     Ok(())
 }
 
-/// Behind how many entries the notification is asked for, its word, and the thread that is bound to it.
-const SIGNALLED: &[(usize, Option<u64>, Option<u32>)] = &[(5, None, None), (8, Some(5), Some(2))];
+/// Behind how many entries the notification is asked for, its word, the thread that is bound to it,
+/// and the notification that is bound to t2.
+const SIGNALLED: &[(usize, Option<u64>, Option<ObjId>, Option<ObjId>)] = &[
+    (5, None, None, None),
+    (8, Some(5), Some(THREAD_2), Some(NOTIFICATION)),
+];
 
 #[test]
 fn signals_and_bindings_are_told(rt: HostRuntime) -> Result<(), Fail> {
-    for &(entries, word, bound) in SIGNALLED {
+    for &(entries, word, tied, bound) in SIGNALLED {
         let kernel = behind(rt.alloc(), entries)?;
         assert!(rt; kernel.word(NOTIFICATION) == word, "behind {entries}");
-        let tied = kernel.tied(NOTIFICATION);
-        assert!(rt;
-            tied == bound.map(|serial| thread(serial)),
-            "behind {entries}"
-        );
-        let notification = bound.map(|_| NOTIFICATION);
-        assert!(rt; kernel.bound(thread(2)) == notification, "behind {entries}");
+        assert!(rt; kernel.tied(NOTIFICATION) == tied, "behind {entries}");
+        assert!(rt; kernel.bound(THREAD_2) == bound, "behind {entries}");
     }
     Ok(())
 }
@@ -172,28 +230,60 @@ fn place(index: u64) -> Place {
     Place { index, depth: 64 }
 }
 
-#[test]
-fn objects_and_slots_are_told(rt: HostRuntime) -> Result<(), Fail> {
-    let kernel = behind(rt.alloc(), 0)?;
-    assert!(rt; kernel.made(Kind::Thread) == 5 && kernel.made(Kind::Reply) == 1);
-    assert!(rt; kernel.priority(thread(5)) == Some(Prio(30)) && kernel.priority(thread(6)) == None);
-    assert!(rt; kernel.radix(CNODE) == 5 && kernel.radix(object(Kind::CNode, 2)) == 0);
-    let cap = kernel.capability(CNODE, 1).ok_or("an empty slot")?;
-    assert!(rt; cap.obj == ENDPOINT && cap.badge == Badge(9) && cap.rights.bits() == 1);
-    assert!(rt; kernel.capability(CNODE, 3) == None);
-    assert!(rt; kernel.named(thread(1), 1) == Some(Ok(cap)));
-    assert!(rt; kernel.named(thread(1), 3) == Some(Err(Refusal::Missing)));
-    assert!(rt; kernel.named(thread(6), 1) == None);
+/// Whether the objects of the boot are reported, and no others.
+fn are_objects<L: Lines>(kernel: &Kernel<L>) -> bool {
+    kernel.made(Kind::Thread) == 5
+        && kernel.made(Kind::Reply) == 1
+        && kernel.priority(thread(5)) == Some(Prio(30))
+        && kernel.priority(thread(6)) == None
+        && kernel.radix(CNODE) == 5
+        && kernel.radix(object(Kind::CNode, 2)) == 0
+}
+
+/// Whether this is the capability of the first slot.
+fn is_first(cap: &Cap) -> bool {
+    cap.obj == ENDPOINT && cap.badge == Badge(9) && cap.rights.bits() == 1
+}
+
+/// Whether the first slot is reported, by its place and by its address, and an empty one.
+fn are_slots<L: Lines>(kernel: &Kernel<L>) -> bool {
+    let Some(cap) = kernel.capability(CNODE, 1) else {
+        return false;
+    };
+    is_first(&cap)
+        && kernel.capability(CNODE, 3) == None
+        && kernel.named(thread(1), 1) == Some(Ok(cap))
+        && kernel.named(thread(1), 3) == Some(Err(Refusal::Missing))
+        && kernel.named(thread(6), 1) == None
+}
+
+/// Whether places are found, and not where none is.
+fn are_places<L: Lines>(kernel: &Kernel<L>) -> bool {
     let slot = SlotId {
         cnode: CNODE,
         index: 3,
     };
-    assert!(rt; kernel.placed(thread(1), place(3)) == Some(Ok(slot)));
-    assert!(rt; kernel.placed(thread(1), place(32)) == Some(Err(Refusal::GuardMismatch)));
-    assert!(rt; kernel.placed(thread(6), place(3)) == None);
-    let root = kernel.root(thread(1)).ok_or("no root")?;
-    assert!(rt; root.obj == CNODE && root.guard.bits == 59);
-    assert!(rt; kernel.root(thread(6)) == None);
-    assert!(rt; kernel.fault(CoreId(0), thread(1)).is_none());
+    kernel.placed(thread(1), place(3)) == Some(Ok(slot))
+        && kernel.placed(thread(1), place(32)) == Some(Err(Refusal::GuardMismatch))
+        && kernel.placed(thread(6), place(3)) == None
+}
+
+/// Whether the root of a thread is reported, and none of one that is not there.
+fn are_roots<L: Lines>(kernel: &Kernel<L>) -> bool {
+    match kernel.root(thread(1)) {
+        Some(root) => {
+            root.obj == CNODE && root.guard.bits == 59 && kernel.root(thread(6)) == None
+        }
+        None => false,
+    }
+}
+
+#[test]
+fn objects_and_slots_are_told(rt: HostRuntime) -> Result<(), Fail> {
+    let kernel = behind(rt.alloc(), 0)?;
+    assert!(rt; are_objects(&kernel));
+    assert!(rt; are_slots(&kernel));
+    assert!(rt; are_places(&kernel));
+    assert!(rt; are_roots(&kernel) && kernel.fault(CoreId(0), thread(1)).is_none());
     Ok(())
 }

@@ -1,8 +1,9 @@
 //! Two cores of which each has picked before the other enters.
-use crate::tests::machines::boots::{FREE_CONTEXT, TWO_CORES, replayed, thread, trace_of};
+use crate::tests::machines::boots::{FREE_CONTEXT, TWO_CORES, has_trace, thread};
 use crate::tests::machines::runs::{Ran, TurnedAway, run_users};
 use mcs_cores::Gate;
 use mcs_kernel::EnterFault;
+use mcs_queues::LinkedLines;
 use mcs_types::{CoreId, ObjId};
 use std::alloc::Global;
 use std::hint::spin_loop;
@@ -59,15 +60,15 @@ impl Gate for Crossing {
     }
 }
 
-/// Runs a signal of the first thread, and these steps of the second. Core 0 enters what it picked first after so many answers of
-/// core 1.
+/// Runs a signal of the first thread, and these steps of the second. Core 0 enters what it picked
+/// first after so many answers of core 1.
 fn crossed<R: Threads + Wait + Sync>(
     rt: &R,
     alloc: Global,
     boot: &str,
     steps: &str,
     answers: u64,
-) -> Result<Ran, Fail> {
+) -> Result<Ran<LinkedLines>, Fail> {
     let script = format!(in alloc; "{boot}0 t1 signal 1\n{steps}")?;
     let gate = Crossing::new(answers);
     let ran = run_users(rt, alloc, script.as_str(), &gate)?;
@@ -77,7 +78,8 @@ fn crossed<R: Threads + Wait + Sync>(
     Ok(ran)
 }
 
-/// An entry of the first thread on core 0 that was turned away: how many lines the book had then, and why.
+/// An entry of the first thread on core 0 that was turned away: how many lines the book had then,
+/// and why.
 type Away = Option<(usize, EnterFault)>;
 
 /// Whether that is all that was turned away.
@@ -96,28 +98,40 @@ fn is_away(told: &[TurnedAway], away: &Away) -> bool {
     }
 }
 
-/// Whether a run has this trace behind its boot, which gives itself.
-fn has_trace(alloc: Global, ran: &Ran, boot: &str, trace: &str) -> Result<bool, Fail> {
-    let want = format!(in alloc; "{boot}{trace}")?;
-    let written = trace_of(alloc, ran.settled.book())?;
-    let again = replayed(alloc, &written)?;
-    Ok(written.as_slice() == want.as_bytes() && again == written)
+/// Steps of the second thread on core 1, how many of its answers core 0 waits for, what may become
+/// of the signal that core 0 picked, and the trace behind the boot.
+type Row = (&'static str, u64, &'static [Away], &'static str);
+
+/// Whether such a run turns away one of these, and has this trace.
+fn is_crossed<R: Threads + Wait + Sync>(
+    rt: &R,
+    alloc: Global,
+    boot: &str,
+    (steps, answers, aways, trace): Row,
+) -> Result<bool, Fail> {
+    let ran = crossed(rt, alloc, boot, steps, answers)?;
+    Ok(
+        aways.iter().any(|away| is_away(&ran.away, away))
+            && has_trace(alloc, ran.settled.book(), boot, trace)?,
+    )
 }
 
 /// A thread is suspended between its pick and its entry.
+const SUSPENDED: Row = (
+    "1 t2 suspend 1\n",
+    1,
+    &[Some((2, EnterFault::NotRunning))],
+    "1 t2 suspend 1\n= done\n+ turns t1 inactive\n",
+);
+
 #[test]
 fn gate_row_16(rt: HostRuntime) -> Result<(), Fail> {
-    let steps = "1 t2 suspend 1\n";
-    let ran = crossed(&rt, rt.alloc(), TWO_CORES, steps, 1)?;
-    assert!(rt; is_away(&ran.away, &Some((2, EnterFault::NotRunning))));
-    let trace = "1 t2 suspend 1\n= done\n+ turns t1 inactive\n";
-    assert!(rt; has_trace(rt.alloc(), &ran, TWO_CORES, trace)?);
+    assert!(rt; is_crossed(&rt, rt.alloc(), TWO_CORES, SUSPENDED)?);
     Ok(())
 }
 
-/// Steps of the second thread, how many answers of core 1 core 0 waits for, what may become of the signal that core 0 picked,
-/// and the trace behind the boot.
-const CROSSINGS: &[(&str, u64, &[Away], &str)] = &[
+/// What the second thread may do between the pick and the entry of the first.
+const CROSSINGS: &[Row] = &[
     (
         "1 t2 delete 1 64\n",
         1,
@@ -154,7 +168,8 @@ const CROSSINGS: &[(&str, u64, &[Away], &str)] = &[
 = refused 4
 ",
     ),
-    // Core 1 may give the entry before it is entered, which the position tells, or after it was turned away.
+    // Core 1 may give the entry before it is entered, which the position shows, or after it was
+    // turned away.
     (
         "1 t2 unbind 2\n1 t2 bind 4 1\n",
         2,
@@ -196,16 +211,8 @@ const CROSSINGS: &[(&str, u64, &[Away], &str)] = &[
 
 #[test]
 fn what_was_picked_is_entered_where_it_may(rt: HostRuntime) -> Result<(), Fail> {
-    for &(steps, answers, aways, trace) in CROSSINGS {
-        let ran = crossed(&rt, rt.alloc(), FREE_CONTEXT, steps, answers)?;
-        assert!(rt;
-            aways.iter().any(|away| is_away(&ran.away, away)),
-            "{steps}"
-        );
-        assert!(rt;
-            has_trace(rt.alloc(), &ran, FREE_CONTEXT, trace)?,
-            "{steps}"
-        );
+    for (i, row) in CROSSINGS.iter().enumerate() {
+        assert!(rt; is_crossed(&rt, rt.alloc(), FREE_CONTEXT, *row)?, "row {i}");
     }
     Ok(())
 }

@@ -1,8 +1,11 @@
 //! Users on one core.
-use crate::tests::machines::boots::{ONE_CORE, trace_of};
+use crate::tests::machines::boots::{ONE_CORE, has_trace};
 use crate::tests::machines::runs::run_users;
 use mcs_cores::Open;
+use std::alloc::Global;
+use std::sync::Wait;
 use std::test::Fail;
+use std::thread::Threads;
 
 /// The trace of a send whose receiver comes first.
 pub const RECEIVER_FIRST: &str = "\
@@ -42,7 +45,8 @@ pub const GIVEN_AGAIN: &str = "\
 = done
 ";
 
-/// The entries of threads, in an order in which each is let in, and the trace that a run of them has behind the boot.
+/// The entries of threads, in an order in which each is let in, and the trace that a run of them
+/// has behind the boot.
 const COURSES: &[(&str, &str)] = &[
     (
         "\
@@ -96,15 +100,22 @@ const COURSES: &[(&str, &str)] = &[
     ),
 ];
 
+/// Whether a run of these entries on one core turns nothing away and has this trace.
+fn is_run<R: Threads + Wait + Sync>(
+    rt: &R,
+    alloc: Global,
+    steps: &str,
+    trace: &str,
+) -> Result<bool, Fail> {
+    let script = format!(in alloc; "{ONE_CORE}{steps}")?;
+    let ran = run_users(rt, alloc, script.as_str(), &Open)?;
+    Ok(ran.away.is_empty() && has_trace(alloc, ran.settled.book(), ONE_CORE, trace)?)
+}
+
 #[test]
 fn users_on_one_core_are_let_in(rt: HostRuntime) -> Result<(), Fail> {
     for &(steps, trace) in COURSES {
-        let script = format!(in rt.alloc(); "{ONE_CORE}{steps}")?;
-        let ran = run_users(&rt, rt.alloc(), script.as_str(), &Open)?;
-        assert!(rt; ran.away.is_empty(), "{steps}");
-        let want = format!(in rt.alloc(); "{ONE_CORE}{trace}")?;
-        let written = trace_of(rt.alloc(), ran.settled.book())?;
-        assert!(rt; written.as_slice() == want.as_bytes(), "{steps}");
+        assert!(rt; is_run(&rt, rt.alloc(), steps, trace)?, "{steps}");
     }
     Ok(())
 }

@@ -2,9 +2,10 @@
 ghost use Rattle.std.specs.Prelude.{◌≡◌};
 
 use crate::tests::machines::boots::{boot_of, replay_of, users_of};
+use mcs_book::Book;
 use mcs_cores::{Call, CoreSeat, Gate, Machine, Outcome, SeatsFault, Settled, Users};
 use mcs_kernel::{Boot, EnterFault, Kernel};
-use mcs_queues::LinkedLines;
+use mcs_queues::{Lines, LinkedLines};
 use mcs_types::{CORES, CoreId, ObjId};
 use std::alloc::Global;
 use std::marker::Brand;
@@ -24,8 +25,8 @@ pub struct TurnedAway {
 
 /// A run that ended well and was settled.
 #[derive(Drop)]
-pub struct Ran {
-    pub settled: Settled<LinkedLines>,
+pub struct Ran<L: Lines> {
+    pub settled: Settled<L>,
     pub away: Vec<TurnedAway>,
 }
 
@@ -61,49 +62,85 @@ fn turned_away<G: Ledger>(alloc: Global, seats: &[CoreSeat<G>]) -> Result<Vec<Tu
     Ok(away)
 }
 
+/// The seats of a machine, which are given once.
+fn seats_of<G: Ledger, L: Lines, R: Wait>(
+    rt: &R,
+    alloc: Global,
+    machine: &mut Machine<G, L>,
+) -> Result<Vec<CoreSeat<G>>, Fail> {
+    let Ok(seats) = machine.seats(rt, alloc) else {
+        return Err(Fail::from("seats are given"));
+    };
+    if machine.seats(rt, alloc).err() == Some(SeatsFault::AlreadyGiven) {
+        Ok(seats)
+    } else {
+        Err(Fail::from("seats are given once"))
+    }
+}
+
+/// Runs the users on a machine. The seats come back, and what was turned away.
+fn run_seats<G: Ledger + Send + Sync, L: Lines + Send + Sync, R: Threads + Wait + Sync, T: Gate>(
+    rt: &R,
+    alloc: Global,
+    machine: &Machine<G, L>,
+    seats: Vec<CoreSeat<G>>,
+    users: &Users,
+    gate: &T,
+) -> Result<(Vec<CoreSeat<G>>, Vec<TurnedAway>), Fail> {
+    let (seats, ended) = machine.run(rt, alloc, seats, users, gate);
+    if ended.is_err() {
+        return Err(Fail::from("the run ends well"));
+    }
+    let away = turned_away(alloc, seats.as_slice())?;
+    Ok((seats, away))
+}
+
 /// Runs the users on a machine with this ledger, and settles it.
-fn settle_run<G: Ledger + Send + Sync, R: Threads + Wait + Sync, T: Gate>(
+fn settle_run<G: Ledger + Send + Sync, L: Lines + Send + Sync, R: Threads + Wait + Sync, T: Gate>(
     rt: &R,
     alloc: Global,
     blank: Blank,
     boot: &Boot,
     users: &Users,
     gate: &T,
-) -> Result<Ran, Fail>
+) -> Result<Ran<L>, Fail>
     requires name { blank.name ≡ G.name }
     requires parts { blank.parts ≡ G.parts }
     requires sixteen { blank.parts ≡ CORES }
 {
-    let kernel: Kernel<LinkedLines> = Kernel::new(alloc, boot)?;
-    let mut machine = Machine::<G, LinkedLines>::new(kernel, blank);
-    let Ok(seats) = machine.seats(rt, alloc) else {
-        return Err(Fail::from("seats are given"));
-    };
-    match machine.seats(rt, alloc) {
-        Err(SeatsFault::AlreadyGiven) => {}
-        _ => return Err(Fail::from("seats are given once")),
-    }
-    let (seats, ended) = machine.run(rt, alloc, seats, users, gate);
-    if ended.is_err() {
-        return Err(Fail::from("the run ends well"));
-    }
-    let away = turned_away(alloc, seats.as_slice())?;
+    let kernel: Kernel<L> = Kernel::new(alloc, boot)?;
+    let mut machine = Machine::<G, L>::new(kernel, blank);
+    let seats = seats_of(rt, alloc, &mut machine)?;
+    let (seats, away) = run_seats(rt, alloc, &machine, seats, users, gate)?;
     match machine.finish(alloc, boot, seats) {
         Ok(settled) => Ok(Ran { settled, away }),
         Err(_) => Err(Fail::from("the machine settles")),
     }
 }
 
-/// Runs the boot and the entries of a script without fault on a machine, and settles it. The entries are those of a replay, so
-/// each has to be let in by one.
+/// Runs the boot and the entries of a book on a machine, and settles it.
+fn run_book<R: Threads + Wait + Sync, T: Gate>(
+    rt: &R,
+    alloc: Global,
+    book: &Book,
+    gate: &T,
+) -> Result<Ran<LinkedLines>, Fail> {
+    let boot = boot_of(alloc, book)?;
+    let users = users_of(alloc, book)?;
+    settle_run::<Brand, LinkedLines, R, T>(rt, alloc, Blank::new(16), &boot, &users, gate)
+}
+
+/// Runs the boot and the entries of a script without fault on a machine, and settles it. The
+/// entries are those of a replay, so each has to be let in by one.
 pub fn run_users<R: Threads + Wait + Sync, T: Gate>(
     rt: &R,
     alloc: Global,
     script: &str,
     gate: &T,
-) -> Result<Ran, Fail> {
+) -> Result<Ran<LinkedLines>, Fail> {
     let replay = replay_of(alloc, script)?;
-    let book = replay.book().ok_or("a book")?;
-    let (boot, users) = (boot_of(alloc, book)?, users_of(alloc, book)?);
-    settle_run::<Brand, R, T>(rt, alloc, Blank::new(16), &boot, &users, gate)
+    match replay.book() {
+        Some(book) => run_book(rt, alloc, book, gate),
+        None => Err(Fail::from("a book")),
+    }
 }

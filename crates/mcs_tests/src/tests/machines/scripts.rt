@@ -1,11 +1,11 @@
 //! Scripts of users.
 ghost use Rattle.std.specs.Prelude.{◌<◌, length};
 
-use crate::tests::machines::boots::{ONE_CORE, replayed};
+use crate::tests::machines::boots::{ONE_CORE, gives_itself};
 use crate::tests::machines::running::{GIVEN_AGAIN, RECEIVER_FIRST};
 use mcs_sim::{Open, SimFault, Sink, Source, run_text, simulate};
 use mcs_text::LineFault;
-use std::alloc::AllocGlobal;
+use std::alloc::{AllocGlobal, Global};
 use std::io::{self, ErrorKind, Read, Write};
 use std::sync::Wait;
 use std::test::Fail;
@@ -71,20 +71,47 @@ fn run_users<R: AllocGlobal + Threads + Wait + Sync>(
     (result, written)
 }
 
+/// Whether a run of a script writes this.
+fn writes<R: AllocGlobal + Threads + Wait + Sync>(
+    rt: &R,
+    script: &[u8],
+    cores: Option<u8>,
+    want: &[u8],
+) -> bool {
+    let (result, written) = run_users(rt, script, cores);
+    result == Ok(()) && written.as_slice() == want
+}
+
+/// Whether a run of a script ends so, and writes nothing.
+fn ends<R: AllocGlobal + Threads + Wait + Sync>(
+    rt: &R,
+    script: &[u8],
+    cores: Option<u8>,
+    fault: SimFault,
+) -> bool {
+    let (result, written) = run_users(rt, script, cores);
+    result == Err(fault) && written.is_empty()
+}
+
+/// Whether these users on one core give this trace, which gives itself.
+fn give_trace<R: AllocGlobal + Threads + Wait + Sync>(
+    rt: &R,
+    users: &str,
+    trace: &str,
+) -> Result<bool, Fail> {
+    let script = format!(in rt.alloc(); "{ONE_CORE}{users}")?;
+    let want = format!(in rt.alloc(); "{ONE_CORE}{trace}")?;
+    Ok(
+        writes(rt, script.as_bytes(), None, want.as_bytes())
+            && writes(rt, script.as_bytes(), Some(1), want.as_bytes())
+            && gives_itself(rt.alloc(), want.as_bytes())?,
+    )
+}
+
 #[test]
 fn users_on_one_core_give_their_traces(rt: HostRuntime) -> Result<(), Fail> {
     for &(users, trace) in RUNS {
-        let script = format!(in rt.alloc(); "{ONE_CORE}{users}")?;
-        let want = format!(in rt.alloc(); "{ONE_CORE}{trace}")?;
-        for cores in [None, Some(1)] {
-            let (result, written) = run_users(&rt, script.as_bytes(), cores);
-            assert!(rt;
-                result == Ok(()) && written.as_slice() == want.as_bytes(),
-                "{users}"
-            );
-        }
-        let again = replayed(rt.alloc(), want.as_bytes())?;
-        assert!(rt; again.as_slice() == want.as_bytes(), "{users}");
+        assert!(rt; give_trace(&rt, users, trace)?, "{users}");
     }
     Ok(())
 }
@@ -96,10 +123,11 @@ fn run_on_two_cores<R: AllocGlobal + Threads + Wait + Sync>(
 ) -> Result<Vec<u8>, Fail> {
     let (result, written) = run_users(rt, script.as_bytes(), Some(2));
     result?;
-    if replayed(rt.alloc(), &written)? != written {
-        return Err(Fail::from("the trace gives itself"));
+    if gives_itself(rt.alloc(), &written)? {
+        Ok(written)
+    } else {
+        Err(Fail::from("the trace gives itself"))
     }
-    Ok(written)
 }
 
 /// How often these words stand in a text.
@@ -110,16 +138,22 @@ fn occurrences(text: &[u8], words: &[u8]) -> usize
     parts.filter(|part| *part == words).count()
 }
 
+/// How many answers a run on two cores has.
+fn answers<R: AllocGlobal + Threads + Wait + Sync>(rt: &R) -> Result<usize, Fail> {
+    let written = run_on_two_cores(rt, TWO_CORES)?;
+    Ok(occurrences(&written, b"\n= "))
+}
+
 #[test]
 fn a_run_on_two_cores_is_replayed(rt: HostRuntime) -> Result<(), Fail> {
     for _ in 0..20 {
-        let written = run_on_two_cores(&rt, TWO_CORES)?;
-        assert!(rt; occurrences(&written, b"\n= ") == 7);
+        assert!(rt; answers(&rt)? == 7);
     }
     Ok(())
 }
 
-/// Two clients of the first core call with nine words, and a server of the second answers with seven.
+/// Two clients of the first core call with nine words, and a server of the second answers with
+/// seven.
 const LONG_CALLS: &str = "\
 cores 2
 cnode 5
@@ -143,15 +177,18 @@ user t3 replyrecv 2 3 202 11 12 13 14 15 16 17
 user t3 replyrecv 2 3 203 11 12 13 14 15 16 17
 ";
 
+/// Whether all words of long messages are written: each call as its step and its record, and as an
+/// answer where the server asked after it; each answer as its step and its record.
+fn are_long<R: AllocGlobal + Threads + Wait + Sync>(rt: &R) -> Result<bool, Fail> {
+    let written = run_on_two_cores(rt, LONG_CALLS)?;
+    let calls = occurrences(&written, b" 1 2 3 4 5 6 7 8 9");
+    Ok(calls >= 6 && calls <= 9 && occurrences(&written, b" 11 12 13 14 15 16 17") == 6)
+}
+
 #[test]
 fn long_messages_cross_the_cores(rt: HostRuntime) -> Result<(), Fail> {
     for _ in 0..20 {
-        let written = run_on_two_cores(&rt, LONG_CALLS)?;
-        // each call as its step and its record, and as an answer where the server asked after it
-        let calls = occurrences(&written, b" 1 2 3 4 5 6 7 8 9");
-        assert!(rt; calls >= 6 && calls <= 9);
-        // each answer as its step and its record
-        assert!(rt; occurrences(&written, b" 11 12 13 14 15 16 17") == 6);
+        assert!(rt; are_long(&rt)?);
     }
     Ok(())
 }
@@ -168,19 +205,32 @@ const FAULTS: &[(&str, LineFault)] = &[
     ("user t1 nbsend 1 7\nendpoint", LineFault::LateBoot),
 ];
 
+/// Whether these lines behind the boot are faulty so, at the last.
+fn is_faulty<R: AllocGlobal + Threads + Wait + Sync>(
+    rt: &R,
+    lines: &str,
+    why: LineFault,
+) -> Result<bool, Fail> {
+    let script = format!(in rt.alloc(); "{ONE_CORE}{lines}\n")?;
+    let line = if why == LineFault::LateBoot { 19 } else { 18 };
+    Ok(ends(rt, script.as_bytes(), None, SimFault::Script { line, why }))
+}
+
 #[test]
 fn faulty_lines_of_users_are_told(rt: HostRuntime) -> Result<(), Fail> {
     for &(lines, why) in FAULTS {
-        let script = format!(in rt.alloc(); "{ONE_CORE}{lines}\n")?;
-        let (result, written) = run_users(&rt, script.as_bytes(), None);
-        let line = if why == LineFault::LateBoot { 19 } else { 18 };
-        assert!(rt; result == Err(SimFault::Script { line, why }), "{lines}");
-        assert!(rt; written.is_empty(), "{lines}");
+        assert!(rt; is_faulty(&rt, lines, why)?, "{lines}");
     }
-    let (result, written) = run_users(&rt, b"", None);
     let why = LineFault::NoCores;
-    assert!(rt; result == Err(SimFault::Script { line: 1, why }));
-    assert!(rt; written.is_empty());
+    assert!(rt; ends(&rt, b"", None, SimFault::Script { line: 1, why }));
+    Ok(())
+}
+
+/// Adds one line more than the book has room for.
+fn add_many(script: &mut Vec<u8>) -> Result<(), Fail> {
+    for _ in 0..1_000_000u32 {
+        script.extend_from_slice(b"user t1 recv 1 8\n")?;
+    }
     Ok(())
 }
 
@@ -188,39 +238,37 @@ fn faulty_lines_of_users_are_told(rt: HostRuntime) -> Result<(), Fail> {
 fn a_run_fills_the_book(rt: HostRuntime) -> Result<(), Fail> {
     let mut script = Vec::new(rt.alloc());
     script.extend_from_slice(ONE_CORE.as_bytes())?;
-    // one more than the book has room for
-    for _ in 0..1_000_000u32 {
-        script.extend_from_slice(b"user t1 recv 1 8\n")?;
-    }
-    let (result, written) = run_users(&rt, &script, None);
-    assert!(rt; result == Err(SimFault::BookFull));
-    assert!(rt; written.is_empty());
+    add_many(&mut script)?;
+    assert!(rt; ends(&rt, &script, None, SimFault::BookFull));
     Ok(())
+}
+
+/// What the replay of a script gives, and how much it writes.
+fn replay(alloc: Global, script: &[u8]) -> (Result<(), SimFault>, usize) {
+    let mut written = Vec::new(alloc);
+    let result = match Sink::new(alloc, &mut written) {
+        Ok(mut sink) => simulate(alloc, &mut Source::new(script), &mut sink),
+        Err(_) => Err(SimFault::OutOfMemory),
+    };
+    (result, written.len())
 }
 
 #[test]
 fn a_users_line_is_no_step(rt: HostRuntime) -> Result<(), Fail> {
     let script = format!(in rt.alloc(); "{ONE_CORE}user t1 nbsend 1 7\n")?;
-    let mut written = Vec::new(rt.alloc());
-    let result = simulate(
-        rt.alloc(),
-        &mut Source::new(script.as_bytes()),
-        &mut Sink::new(rt.alloc(), &mut written)?,
-    );
     let why = LineFault::Form;
-    assert!(rt; result == Err(SimFault::Script { line: 18, why }));
-    assert!(rt; written.is_empty());
+    let fault = SimFault::Script { line: 18, why };
+    assert!(rt; replay(rt.alloc(), script.as_bytes()) == (Err(fault), 0));
     Ok(())
 }
 
 #[test]
 fn another_number_of_cores_is_a_fault(rt: HostRuntime) -> Result<(), Fail> {
     let script = format!(in rt.alloc(); "# users\n{ONE_CORE}user t1 nbsend 1 7\nnonsense\n")?;
+    let why = LineFault::Number;
+    let fault = SimFault::Script { line: 2, why };
     for cores in [2, 16] {
-        let (result, written) = run_users(&rt, script.as_bytes(), Some(cores));
-        let why = LineFault::Number;
-        assert!(rt; result == Err(SimFault::Script { line: 2, why }));
-        assert!(rt; written.is_empty());
+        assert!(rt; ends(&rt, script.as_bytes(), Some(cores), fault));
     }
     Ok(())
 }
@@ -245,16 +293,31 @@ impl Write for Failing {
     }
 }
 
-#[test]
-fn a_failing_read_or_write_is_told(rt: HostRuntime) -> Result<(), Fail> {
+/// What a run gives whose reads fail, and how many failed.
+fn run_unread<R: AllocGlobal + Threads + Wait + Sync>(rt: &R) -> (Result<(), SimFault>, u64) {
     let mut written = Vec::new(rt.alloc());
     let mut source = Source::new(Failing);
-    let mut sink = Sink::new(rt.alloc(), &mut written)?;
-    let result = run_text(&rt, &mut source, &mut sink, None, &Open);
-    assert!(rt; result == Err(SimFault::Read) && source.failed() == 1);
-    let mut source = Source::new(TWO_CORES.as_bytes());
-    let mut sink = Sink::new(rt.alloc(), Failing)?;
-    let result = run_text(&rt, &mut source, &mut sink, None, &Open);
-    assert!(rt; result == Err(SimFault::Write) && sink.failed() == 1);
-    Ok(())
+    let result = match Sink::new(rt.alloc(), &mut written) {
+        Ok(mut sink) => run_text(rt, &mut source, &mut sink, None, &Open),
+        Err(_) => Err(SimFault::OutOfMemory),
+    };
+    (result, source.failed())
+}
+
+/// What a run gives whose writes fail, and how many failed.
+fn run_unwritten<R: AllocGlobal + Threads + Wait + Sync>(rt: &R) -> (Result<(), SimFault>, u64) {
+    match Sink::new(rt.alloc(), Failing) {
+        Ok(mut sink) => {
+            let mut source = Source::new(TWO_CORES.as_bytes());
+            let result = run_text(rt, &mut source, &mut sink, None, &Open);
+            (result, sink.failed())
+        }
+        Err(_) => (Err(SimFault::OutOfMemory), 0),
+    }
+}
+
+#[test]
+fn a_failing_read_or_write_is_told(rt: HostRuntime) {
+    assert!(rt; run_unread(&rt) == (Err(SimFault::Read), 1));
+    assert!(rt; run_unwritten(&rt) == (Err(SimFault::Write), 1));
 }

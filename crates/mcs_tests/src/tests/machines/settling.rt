@@ -1,11 +1,11 @@
 //! Machines whose entries are made by hand.
 ghost use Rattle.std.specs.Prelude.{◌≡◌};
 
-use crate::tests::machines::boots::{ONE_CORE, TWO_CORES, boot_of, replay_of, thread, trace_of};
-use mcs_book::Book;
+use crate::tests::machines::boots::{ONE_CORE, TWO_CORES, boot_of, has_trace, replay_of, thread};
+use mcs_book::{Book, Line};
 use mcs_cores::{CoreSeat, FinishFault, Machine, Settled};
 use mcs_kernel::{Boot, Kernel};
-use mcs_queues::LinkedLines;
+use mcs_queues::{Lines, LinkedLines};
 use mcs_types::{Badge, CORES, Mail};
 use std::alloc::Global;
 use std::marker::Brand;
@@ -42,75 +42,123 @@ enum Seats {
     NeverGiven,
 }
 
-/// Enters the steps of a book, and compares the answers.
-fn enter_steps<G: Ledger, R: Wait>(
+/// Enters the step of a line, and compares the answer.
+fn enter_step<G: Ledger, L: Lines, R: Wait>(
     rt: &R,
     alloc: Global,
-    machine: &Machine<G, LinkedLines>,
+    machine: &Machine<G, L>,
+    seat: &mut CoreSeat<G>,
+    (number, line): (usize, &Line<'_>),
+) -> Result<(), Fail> {
+    let answer = line.answer(alloc)?;
+    let step = line.step(alloc)?;
+    match machine.enter(rt, alloc, seat, step.thread, step.entry) {
+        Ok(told) if told.line == number && told.answer.is_same(&answer) => Ok(()),
+        _ => Err(Fail::from("the entry is let in as its line")),
+    }
+}
+
+/// Enters the steps of a book, and compares the answers.
+fn enter_steps<G: Ledger, L: Lines, R: Wait>(
+    rt: &R,
+    alloc: Global,
+    machine: &Machine<G, L>,
     seat: &mut CoreSeat<G>,
     book: &Book,
 ) -> Result<(), Fail> {
     for i in 1..book.lines() {
         let line = book.line(i).ok_or("a line of the book")?;
-        let step = line.step(alloc)?;
-        let answer = line.answer(alloc)?;
-        match machine.enter(rt, alloc, seat, step.thread, step.entry) {
-            Ok(told) if told.line == i && told.answer.is_same(&answer) => {}
-            _ => return Err(Fail::from("the entry is let in as its line")),
-        }
+        enter_step(rt, alloc, machine, seat, (i, &line))?;
     }
     Ok(())
 }
 
-/// Enters the steps of a book on a machine with this ledger, and finishes it with this boot and these seats.
-fn finish_steps<G: Ledger, R: Wait>(
+/// The seats of a machine, of which the first has entered the steps of a book.
+fn entered<G: Ledger, L: Lines, R: Wait>(
+    rt: &R,
+    alloc: Global,
+    machine: &mut Machine<G, L>,
+    book: &Book,
+) -> Result<Vec<CoreSeat<G>>, Fail> {
+    let Ok(mut seats) = machine.seats(rt, alloc) else {
+        return Err(Fail::from("seats are given"));
+    };
+    match seats.first_mut() {
+        Some(seat) => enter_steps(rt, alloc, machine, seat, book)?,
+        None => return Err(Fail::from("there is a seat")),
+    }
+    Ok(seats)
+}
+
+/// The seats with which a machine is finished.
+fn seats_for<G: Ledger, L: Lines, R: Wait>(
+    rt: &R,
+    alloc: Global,
+    machine: &mut Machine<G, L>,
+    book: &Book,
+    kept: Seats,
+) -> Result<Vec<CoreSeat<G>>, Fail> {
+    match kept {
+        Seats::NeverGiven => Ok(Vec::new(alloc)),
+        Seats::All => entered(rt, alloc, machine, book),
+        Seats::NotOne => {
+            let mut seats = entered(rt, alloc, machine, book)?;
+            let _ = seats.pop();
+            Ok(seats)
+        }
+    }
+}
+
+/// How a machine ends.
+type Ended<L> = Result<Settled<L>, FinishFault>;
+
+/// Enters the steps of a book on a machine with this ledger, and finishes it with this boot and
+/// these seats.
+fn finish_steps<G: Ledger, L: Lines, R: Wait>(
     rt: &R,
     alloc: Global,
     blank: Blank,
     book: &Book,
     end: (&Boot, Seats),
-) -> Result<Result<Settled<LinkedLines>, FinishFault>, Fail>
+) -> Result<Ended<L>, Fail>
     requires name { blank.name ≡ G.name }
     requires parts { blank.parts ≡ G.parts }
     requires sixteen { blank.parts ≡ CORES }
 {
     let (boot, kept) = end;
     let begun = boot_of(alloc, book)?;
-    let kernel: Kernel<LinkedLines> = Kernel::new(alloc, &begun)?;
-    let mut machine = Machine::<G, LinkedLines>::new(kernel, blank);
-    if kept == Seats::NeverGiven {
-        return Ok(machine.finish(alloc, boot, Vec::new(alloc)));
-    }
-    let Ok(mut seats) = machine.seats(rt, alloc) else {
-        return Err(Fail::from("seats are given"));
-    };
-    match seats.first_mut() {
-        Some(seat) => enter_steps(rt, alloc, &machine, seat, book)?,
-        None => return Err(Fail::from("there is a seat")),
-    }
-    if kept == Seats::NotOne {
-        let _ = seats.pop();
-    }
+    let kernel: Kernel<L> = Kernel::new(alloc, &begun)?;
+    let mut machine = Machine::<G, L>::new(kernel, blank);
+    let seats = seats_for(rt, alloc, &mut machine, book, kept)?;
     Ok(machine.finish(alloc, boot, seats))
 }
 
 /// The boot of a script.
 fn boot_of_script(alloc: Global, script: &str) -> Result<Boot, Fail> {
     let replay = replay_of(alloc, script)?;
-    boot_of(alloc, replay.book().ok_or("a book")?)
+    match replay.book() {
+        Some(book) => boot_of(alloc, book),
+        None => Err(Fail::from("a book")),
+    }
 }
 
-/// Enters a send and its receive on a machine of one core, and finishes it with this boot and these seats.
+/// Enters a send and its receive on a machine of one core, and finishes it with this boot and these
+/// seats.
 fn finished<R: Wait>(
     rt: &R,
     alloc: Global,
     boot: &Boot,
     kept: Seats,
-) -> Result<Result<Settled<LinkedLines>, FinishFault>, Fail> {
+) -> Result<Ended<LinkedLines>, Fail> {
     let script = format!(in alloc; "{ONE_CORE}{STEPS}")?;
     let replay = replay_of(alloc, script.as_str())?;
-    let book = replay.book().ok_or("a book")?;
-    finish_steps::<Brand, R>(rt, alloc, Blank::new(16), book, (boot, kept))
+    match replay.book() {
+        Some(book) => {
+            let end = (boot, kept);
+            finish_steps::<Brand, LinkedLines, R>(rt, alloc, Blank::new(16), book, end)
+        }
+        None => Err(Fail::from("a book")),
+    }
 }
 
 /// Whether this message reached a thread: its badge is 9, its label 7, its words 5 and 6.
@@ -129,13 +177,13 @@ fn settles(rt: HostRuntime) -> Result<(), Fail> {
     let Ok(settled) = finished(&rt, rt.alloc(), &boot, Seats::All)? else {
         return Err(Fail::from("the machine settles"));
     };
-    let want = format!(in rt.alloc(); "{ONE_CORE}{TRACE}")?;
-    assert!(rt; trace_of(rt.alloc(), settled.book())?.as_slice() == want.as_bytes());
-    assert!(rt; is_mail(settled.kernel().mail(thread(2))));
+    let is_mail = is_mail(settled.kernel().mail(thread(2)));
+    assert!(rt; is_mail && has_trace(rt.alloc(), settled.book(), ONE_CORE, TRACE)?);
     Ok(())
 }
 
-/// Boots with which a machine of one core is finished, what becomes of its seats, and how that ends.
+/// Boots with which a machine of one core is finished, what becomes of its seats, and how that
+/// ends.
 const FAULTS: &[(&str, Seats, FinishFault)] = &[
     (ONE_CORE, Seats::NotOne, FinishFault::MissingSeat),
     (ONE_CORE, Seats::NeverGiven, FinishFault::MissingSeat),
@@ -143,12 +191,20 @@ const FAULTS: &[(&str, Seats, FinishFault)] = &[
     (TWO_CORES, Seats::All, FinishFault::OtherBoot),
 ];
 
+/// Whether a machine of one core that is finished with this boot and these seats ends so.
+fn is_fault<R: Wait>(
+    rt: &R,
+    alloc: Global,
+    (script, kept, want): (&str, Seats, FinishFault),
+) -> Result<bool, Fail> {
+    let boot = boot_of_script(alloc, script)?;
+    Ok(finished(rt, alloc, &boot, kept)?.err() == Some(want))
+}
+
 #[test]
 fn others_do_not_settle(rt: HostRuntime) -> Result<(), Fail> {
-    for (i, &(script, kept, want)) in FAULTS.iter().enumerate() {
-        let boot = boot_of_script(rt.alloc(), script)?;
-        let ended = finished(&rt, rt.alloc(), &boot, kept)?.err();
-        assert!(rt; ended == Some(want), "machine {i}");
+    for (i, fault) in FAULTS.iter().enumerate() {
+        assert!(rt; is_fault(&rt, rt.alloc(), *fault)?, "machine {i}");
     }
     Ok(())
 }

@@ -1,4 +1,4 @@
-//! What the program tells of its faults, its arguments and its command line.
+//! What the program reports of its faults, its arguments and its command line.
 use mcs_sim::{Options, SimFault, answer_status, arguments, options};
 use mcs_text::LineFault;
 use std::alloc::Global;
@@ -36,13 +36,17 @@ const FAULTS: &[(SimFault, u8, &str)] = &[
     (SimFault::Failed, 7, "mcssim: run failed"),
 ];
 
+/// Whether a fault has this status and this text.
+fn is_reported(alloc: Global, fault: SimFault, status: u8, text: &str) -> Result<bool, Fail> {
+    Ok(fault.status() == status && fault.to_string(alloc)?.as_str() == text)
+}
+
 #[test]
 fn faults_of_lines_are_told_by_their_numbers(rt: HostRuntime) -> Result<(), Fail> {
     for &(why, number, text) in LINE_FAULTS {
-        assert!(rt; why.number() == number, "{text}");
         let fault = SimFault::Script { line: 1, why };
-        assert!(rt; fault.to_string(rt.alloc())?.as_str() == text, "{text}");
-        assert!(rt; fault.status() == 2, "{text}");
+        assert!(rt; why.number() == number, "{text}");
+        assert!(rt; is_reported(rt.alloc(), fault, 2, text)?, "{text}");
     }
     Ok(())
 }
@@ -50,8 +54,7 @@ fn faults_of_lines_are_told_by_their_numbers(rt: HostRuntime) -> Result<(), Fail
 #[test]
 fn other_faults_have_their_texts(rt: HostRuntime) -> Result<(), Fail> {
     for &(fault, status, text) in FAULTS {
-        assert!(rt; fault.status() == status, "{text}");
-        assert!(rt; fault.to_string(rt.alloc())?.as_str() == text, "{text}");
+        assert!(rt; is_reported(rt.alloc(), fault, status, text)?, "{text}");
     }
     Ok(())
 }
@@ -84,25 +87,33 @@ impl<'a> Env for Given<'a> {
     }
 }
 
+/// Whether these two arguments are words, of which the second asks for a replay.
+fn asks_replay(alloc: Global, given: &[&[u8]]) -> bool {
+    match arguments(&(Given { arguments: given }, alloc)) {
+        Ok(words) => words.len() == 2 && words[1].as_str() == "replay",
+        Err(_) => false,
+    }
+}
+
+/// Why these arguments are no words.
+fn fault_of(alloc: Global, given: &[&[u8]]) -> Option<SimFault> {
+    arguments(&(Given { arguments: given }, alloc)).err()
+}
+
 #[test]
-fn an_argument_that_is_no_text_is_a_fault(rt: HostRuntime) -> Result<(), Fail> {
-    let given: [&[u8]; 2] = [b"mcssim", b"replay"];
-    let words = arguments(&(Given { arguments: &given }, rt.alloc()))
-        .ok()
-        .ok_or("words")?;
-    assert!(rt; words.len() == 2 && words[1].as_str() == "replay");
-    let given: [&[u8]; 2] = [b"mcssim", b"\xff"];
-    let fault = arguments(&(Given { arguments: &given }, rt.alloc())).err();
+fn an_argument_that_is_no_text_is_a_fault(rt: HostRuntime) {
+    assert!(rt; asks_replay(rt.alloc(), &[b"mcssim", b"replay"]));
+    let fault = fault_of(rt.alloc(), &[b"mcssim", b"\xff"]);
     assert!(rt; fault == Some(SimFault::Argument));
-    Ok(())
 }
 
 /// The status and the text of what the command line answers, where it asks for no command.
 fn answer(alloc: Global, words: &[&str]) -> Result<Option<(u8, String)>, Fail> {
-    match options(alloc, words) {
-        Ok(_) => Ok(None),
-        Err(answer) => Ok(Some((answer_status(&answer), answer.to_string(alloc)?))),
-    }
+    let Err(answer) = options(alloc, words) else {
+        return Ok(None);
+    };
+    let text = answer.to_string(alloc)?;
+    Ok(Some((answer_status(&answer), text)))
 }
 
 /// How many cores a run is to have, where the command line asks for a run.
@@ -111,6 +122,11 @@ fn cores(alloc: Global, words: &[&str]) -> Option<Option<u8>> {
         Ok(Options::Run { cores }) => Some(cores),
         _ => None,
     }
+}
+
+/// Whether a command line asks for a command.
+fn is_command(alloc: Global, words: &[&str]) -> bool {
+    options(alloc, words).is_ok()
 }
 
 /// Command lines that ask for a run, and the cores that they say; the first asks for a replay.
@@ -123,12 +139,11 @@ const RUNS: &[(&[&str], Option<Option<u8>>)] = &[
 ];
 
 #[test]
-fn a_run_has_the_cores_that_are_said(rt: HostRuntime) -> Result<(), Fail> {
+fn a_run_has_the_cores_that_are_said(rt: HostRuntime) {
     for (i, &(words, want)) in RUNS.iter().enumerate() {
-        assert!(rt; answer(rt.alloc(), words)?.is_none(), "line {i}");
+        assert!(rt; is_command(rt.alloc(), words), "line {i}");
         assert!(rt; cores(rt.alloc(), words) == want, "line {i}");
     }
-    Ok(())
 }
 
 /// Other command lines, the status that they end with, and what is said of them.
@@ -162,14 +177,26 @@ const ANSWERED: &[(&[&str], u8, &str)] = &[
     ),
 ];
 
+/// Whether a command line is answered with this status, and a text that has this; the whole text
+/// where nothing else is said.
+fn is_answered(
+    alloc: Global,
+    (words, status, text): (&[&str], u8, &str),
+    is_all: bool,
+) -> Result<bool, Fail> {
+    match answer(alloc, words)? {
+        Some((told, said)) => Ok(
+            told == status && said.as_str().contains(text) && (!is_all || said.as_str() == text),
+        ),
+        None => Ok(false),
+    }
+}
+
 #[test]
 fn other_command_lines_are_answered(rt: HostRuntime) -> Result<(), Fail> {
-    for (i, &(words, status, text)) in ANSWERED.iter().enumerate() {
-        let (told, said) = answer(rt.alloc(), words)?.ok_or("an answer")?;
-        assert!(rt; told == status, "line {i}");
-        assert!(rt; said.as_str().contains(text), "line {i}");
+    for (i, line) in ANSWERED.iter().enumerate() {
         // the version is all that is said of it
-        assert!(rt; i != 0 || said.as_str() == text, "line {i}");
+        assert!(rt; is_answered(rt.alloc(), *line, i == 0)?, "line {i}");
     }
     Ok(())
 }

@@ -5,7 +5,8 @@ use mcs_text::LineFault;
 use std::alloc::Global;
 use std::test::Fail;
 
-/// What is wrong with a script of the first example that ends in this beginning of one of its lines, if anything is.
+/// What is wrong with a script of the first example that ends in this beginning of one of its
+/// lines, if anything is.
 fn cut_fault(number: u64, beginning: &str) -> Option<LineFault> {
     let is_whole = beginning.is_empty() || BOOT.lines().any(|line| line == beginning);
     let is_step = FIRST_STEPS.lines().any(|line| line == beginning);
@@ -36,23 +37,45 @@ fn cut(script: &str, end: usize) -> Result<(), SimFault> {
     }
 }
 
+/// What a script gives, and how many bytes it writes.
+fn run_length(alloc: Global, script: &[u8]) -> (Result<(), SimFault>, usize) {
+    let (result, written) = run(alloc, script);
+    (result, written.len())
+}
+
 #[test]
 fn a_script_cut_anywhere_is_read_or_faulty(rt: HostRuntime) -> Result<(), Fail> {
     let script = format!(in rt.alloc(); "{BOOT}{FIRST_STEPS}")?;
     for end in 0..=script.len() {
-        let (result, _) = run(rt.alloc(), &script.as_bytes()[..end])?;
+        let (result, _) = run_length(rt.alloc(), &script.as_bytes()[..end]);
         assert!(rt; result == cut(script.as_str(), end), "{end} bytes");
     }
     Ok(())
 }
 
-/// A text and so many pieces behind it.
-fn repeated(alloc: Global, text: &str, piece: &str, count: u32) -> Result<Vec<u8>, Fail> {
-    let mut script = Vec::new(alloc);
-    script.extend_from_slice(text.as_bytes())?;
+/// Adds so many pieces.
+fn add_pieces(script: &mut Vec<u8>, piece: &str, count: u32) -> Result<(), Fail> {
     for _ in 0..count {
         script.extend_from_slice(piece.as_bytes())?;
     }
+    Ok(())
+}
+
+/// Adds a text, so many pieces and an end.
+fn add_all(
+    script: &mut Vec<u8>,
+    (text, piece, count, end): (&str, &str, u32, &str),
+) -> Result<(), Fail> {
+    script.extend_from_slice(text.as_bytes())?;
+    add_pieces(script, piece, count)?;
+    script.extend_from_slice(end.as_bytes())?;
+    Ok(())
+}
+
+/// A text and so many pieces behind it, and an end.
+fn repeated(alloc: Global, parts: (&str, &str, u32, &str)) -> Result<Vec<u8>, Fail> {
+    let mut script = Vec::new(alloc);
+    add_all(&mut script, parts)?;
     Ok(script)
 }
 
@@ -91,33 +114,53 @@ const LONG_SCRIPTS: &[(&str, &str, u32, &str, Option<(u64, LineFault)>)] = &[
     ),
 ];
 
+/// Whether such a script ends so, and writes just where it ends well.
+fn is_read(
+    alloc: Global,
+    parts: (&str, &str, u32, &str),
+    want: Result<(), SimFault>,
+) -> Result<bool, Fail> {
+    let script = repeated(alloc, parts)?;
+    let (result, length) = run_length(alloc, &script);
+    Ok(result == want && (length == 0) == want.is_err())
+}
+
 #[test]
 fn long_scripts_are_read_or_faulty(rt: HostRuntime) -> Result<(), Fail> {
     for (i, &(text, piece, count, end, fault)) in LONG_SCRIPTS.iter().enumerate() {
-        let mut script = repeated(rt.alloc(), text, piece, count)?;
-        script.extend_from_slice(end.as_bytes())?;
-        let (result, written) = run(rt.alloc(), &script)?;
         let want = match fault {
             None => Ok(()),
             Some((line, why)) => Err(SimFault::Script { line, why }),
         };
-        assert!(rt; result == want, "script {i}");
-        assert!(rt; written.is_empty() == want.is_err(), "script {i}");
+        assert!(rt;
+            is_read(rt.alloc(), (text, piece, count, end), want)?,
+            "script {i}"
+        );
     }
     Ok(())
 }
 
+/// A step that is refused, and what the trace has for it.
+const REFUSED: &str = "0 t1 recv 1 8\n";
+
+const TOLD: &str = "0 t1 recv 1 8\n= refused 5\n";
+
+/// Whether a script ends so and writes this, or a beginning of it where it ends by a fault.
+fn writes(alloc: Global, script: &[u8], want: &[u8], end: Result<(), SimFault>) -> bool {
+    let (result, written) = run(alloc, script);
+    let is_written = match end {
+        Ok(()) => written.as_slice() == want,
+        Err(_) => want.starts_with(&written),
+    };
+    result == end && is_written
+}
+
 #[test]
 fn a_full_book_takes_no_step(rt: HostRuntime) -> Result<(), Fail> {
-    let step = "0 t1 recv 1 8\n";
-    let mut script = repeated(rt.alloc(), BOOT, step, 999_999)?;
-    let want = repeated(rt.alloc(), BOOT, "0 t1 recv 1 8\n= refused 5\n", 999_999)?;
-    let (result, written) = run(rt.alloc(), &script)?;
-    assert!(rt; result == Ok(()));
-    assert!(rt; written == want);
-    script.extend_from_slice(step.as_bytes())?;
-    let (result, written) = run(rt.alloc(), &script)?;
-    assert!(rt; result == Err(SimFault::BookFull));
-    assert!(rt; want.starts_with(&written));
+    let want = repeated(rt.alloc(), (BOOT, TOLD, 999_999, ""))?;
+    let script = repeated(rt.alloc(), (BOOT, REFUSED, 1_000_000, ""))?;
+    let full = &script[..script.len().saturating_sub(REFUSED.len())];
+    assert!(rt; writes(rt.alloc(), full, &want, Ok(())));
+    assert!(rt; writes(rt.alloc(), &script, &want, Err(SimFault::BookFull)));
     Ok(())
 }

@@ -2,7 +2,6 @@
 use crate::tests::replays::streams::{Input, Output, pipe};
 use mcs_sim::SimFault;
 use std::alloc::Global;
-use std::test::Fail;
 
 /// A CNode, two endpoints, five threads with a context each, and capabilities to them.
 pub const BOOT: &str = "\
@@ -50,7 +49,8 @@ pub const FIRST_STEPS: &str = "\
 0 t2 recv 2 8
 ";
 
-/// Two calls on one context, of which the first is answered before the second; the last step is turned away.
+/// Two calls on one context, of which the first is answered before the second; the last step is
+/// turned away.
 pub const MIDDLE_STEPS: &str = "\
 0 t2 recv 2 8
 0 t3 recv 3 9
@@ -105,9 +105,9 @@ pub const MIDDLE_TRACE: &str = "\
 ";
 
 /// What a script gives, and the bytes that it writes.
-pub fn run(alloc: Global, script: &[u8]) -> Result<(Result<(), SimFault>, Vec<u8>), Fail> {
+pub fn run(alloc: Global, script: &[u8]) -> (Result<(), SimFault>, Vec<u8>) {
     let mut output = Output::new(alloc);
     let result = pipe(alloc, Input::new(script), &mut output);
     let Output { taken, .. } = output;
-    Ok((result, taken))
+    (result, taken)
 }

@@ -1,4 +1,4 @@
-//! Scripts of users: a fault is told when it was read.
+//! Scripts of users: a fault is reported when it was read.
 use crate::tests::replays::runs::BOOT;
 use crate::tests::replays::streams::Output;
 use mcs_sim::{Open, SimFault, Sink, Source, run_text, simulate};
@@ -69,36 +69,49 @@ fn replay<F: Read + Drop>(alloc: Global, from: F) -> (Result<(), SimFault>, usiz
 /// How many lines the boot has.
 const BOOT_LINES: u32 = 36;
 
-/// Texts before a line that has no end, the number of that line, how the fault is told, and how many reads come to its 4,097th
-/// byte: one for each line of the text, and two of 4,096 bytes.
+/// Texts before a line that has no end, the number of that line, how the fault is reported, and how
+/// many reads come to its 4,097th byte: one for each line of the text, and two of 4,096 bytes.
 const ENDLESS: &[(&str, u64, &str, u32)] = &[
     ("", 1, "mcssim: line 1: fault 7", 2),
     ("cores 1\n", 2, "mcssim: line 2: fault 7", 3),
     (BOOT, 37, "mcssim: line 37: fault 7", BOOT_LINES + 2),
 ];
 
+/// Whether a fault has this text.
+fn has_text(alloc: Global, fault: SimFault, text: &str) -> Result<bool, Fail> {
+    Ok(fault.to_string(alloc)?.as_str() == text)
+}
+
+/// Whether a run of such a text ends by this fault behind so many reads, and writes nothing.
+fn ends_run<R: AllocGlobal + Threads + Wait + Sync>(
+    rt: &R,
+    text: &str,
+    cores: Option<u8>,
+    fault: SimFault,
+    reads: u32,
+) -> bool {
+    let mut input = Endless::new(text);
+    run(rt, &mut input, cores) == (Err(fault), 0) && input.reads == reads
+}
+
+/// Whether a replay of such a text does.
+fn ends_replay(alloc: Global, text: &str, fault: SimFault, reads: u32) -> bool {
+    let mut input = Endless::new(text);
+    replay(alloc, &mut input) == (Err(fault), 0) && input.reads == reads
+}
+
 #[test]
 fn an_endless_line_is_told_at_its_4097th_byte(rt: HostRuntime) -> Result<(), Fail> {
     let why = LineFault::LongLine;
     for &(text, line, told, reads) in ENDLESS {
         let fault = SimFault::Script { line, why };
-        let mut input = Endless::new(text);
-        let given = run(&rt, &mut input, None);
+        assert!(rt; ends_run(&rt, text, None, fault, reads), "run: line {line}");
         assert!(rt;
-            given == (Err(fault), 0) && input.reads == reads,
-            "run: line {line}"
-        );
-        let mut input = Endless::new(text);
-        let given = replay(rt.alloc(), &mut input);
-        assert!(rt;
-            given == (Err(fault), 0) && input.reads == reads,
+            ends_replay(rt.alloc(), text, fault, reads),
             "replay: line {line}"
         );
         assert!(rt; fault.status() == 2, "line {line}");
-        assert!(rt;
-            fault.to_string(rt.alloc())?.as_str() == told,
-            "line {line}"
-        );
+        assert!(rt; has_text(rt.alloc(), fault, told)?, "line {line}");
     }
     Ok(())
 }
@@ -116,61 +129,97 @@ const FAULTS: &[(&str, u32, LineFault)] = &[
     ("#\n\nuser t1 setprio 11 11 256\n", 39, LineFault::Number),
 ];
 
+/// Whether a run of these lines behind the boot ends by this fault when it has read so many lines.
+fn is_faulty<R: AllocGlobal + Threads + Wait + Sync>(
+    rt: &R,
+    lines: &str,
+    line: u32,
+    why: LineFault,
+) -> Result<bool, Fail> {
+    let script = format!(in rt.alloc(); "{BOOT}{lines}")?;
+    let fault = SimFault::Script {
+        line: u64::from(line),
+        why,
+    };
+    Ok(ends_run(rt, script.as_str(), None, fault, line))
+}
+
 #[test]
 fn a_fault_is_told_before_the_next_line_is_read(rt: HostRuntime) -> Result<(), Fail> {
     for &(lines, line, why) in FAULTS {
-        let script = format!(in rt.alloc(); "{BOOT}{lines}")?;
-        let mut input = Endless::new(script.as_str());
-        let (result, length) = run(&rt, &mut input, None);
-        let fault = SimFault::Script {
-            line: u64::from(line),
-            why,
-        };
-        assert!(rt; result == Err(fault) && length == 0, "{lines}");
-        assert!(rt; input.reads == line, "{lines}");
+        assert!(rt; is_faulty(&rt, lines, line, why)?, "{lines}");
     }
     Ok(())
 }
 
 #[test]
 fn other_cores_are_told_at_the_first_line(rt: HostRuntime) -> Result<(), Fail> {
-    let mut input = Endless::new(BOOT);
-    let (result, length) = run(&rt, &mut input, Some(2));
     let (line, why) = (1, LineFault::Number);
     let fault = SimFault::Script { line, why };
-    assert!(rt; result == Err(fault) && length == 0);
-    assert!(rt; input.reads == 1);
-    assert!(rt; fault.to_string(rt.alloc())?.as_str() == "mcssim: line 1: fault 3");
+    assert!(rt; ends_run(&rt, BOOT, Some(2), fault, 1));
+    assert!(rt; has_text(rt.alloc(), fault, "mcssim: line 1: fault 3")?);
     Ok(())
 }
 
 /// How many bytes line 37 has, and what is wrong with it, if anything is.
 const LENGTHS: &[(u32, Option<LineFault>)] = &[(4_096, None), (4_097, Some(LineFault::LongLine))];
 
+/// Adds so many letters, and an end.
+fn add_line(script: &mut String, length: u32, end: &str) -> Result<(), Fail> {
+    for _ in 0..length {
+        script.push_str("#")?;
+    }
+    script.push_str(end)?;
+    Ok(())
+}
+
+/// The boot, and a line of so many bytes with this end.
+fn with_line(alloc: Global, length: u32, end: &str) -> Result<String, Fail> {
+    let mut script = format!(in alloc; "{BOOT}")?;
+    add_line(&mut script, length, end)?;
+    Ok(script)
+}
+
+/// Whether something ends so, and writes just where it ends well.
+fn ends_so((ended, taken): (Result<(), SimFault>, usize), want: Result<(), SimFault>) -> bool {
+    ended == want && (taken == 0) == want.is_err()
+}
+
+/// Whether a run and a replay of a line of so many bytes end so.
+fn is_as_long<R: AllocGlobal + Threads + Wait + Sync>(
+    rt: &R,
+    length: u32,
+    end: &str,
+    want: Result<(), SimFault>,
+) -> Result<bool, Fail> {
+    let script = with_line(rt.alloc(), length, end)?;
+    Ok(
+        ends_so(run(rt, script.as_bytes(), None), want)
+            && ends_so(replay(rt.alloc(), script.as_bytes()), want),
+    )
+}
+
+/// Whether that is so with each end of the line.
+fn are_as_long<R: AllocGlobal + Threads + Wait + Sync>(
+    rt: &R,
+    length: u32,
+    want: Result<(), SimFault>,
+) -> Result<bool, Fail> {
+    Ok(
+        is_as_long(rt, length, "", want)?
+            && is_as_long(rt, length, "\n", want)?
+            && is_as_long(rt, length, "\nendpoint\n", want)?,
+    )
+}
+
 #[test]
 fn a_line_has_4096_bytes_at_most(rt: HostRuntime) -> Result<(), Fail> {
     for &(length, why) in LENGTHS {
-        for end in ["", "\n", "\nendpoint\n"] {
-            let mut script = format!(in rt.alloc(); "{BOOT}")?;
-            for _ in 0..length {
-                script.push_str("#")?;
-            }
-            script.push_str(end)?;
-            let want = match why {
-                None => Ok(()),
-                Some(why) => Err(SimFault::Script { line: 37, why }),
-            };
-            let (result, taken) = run(&rt, script.as_bytes(), None);
-            assert!(rt;
-                result == want && (taken == 0) == want.is_err(),
-                "run: {length}"
-            );
-            let (result, taken) = replay(rt.alloc(), script.as_bytes());
-            assert!(rt;
-                result == want && (taken == 0) == want.is_err(),
-                "replay: {length}"
-            );
-        }
+        let want = match why {
+            None => Ok(()),
+            Some(why) => Err(SimFault::Script { line: 37, why }),
+        };
+        assert!(rt; are_as_long(&rt, length, want)?, "{length} bytes");
     }
     Ok(())
 }

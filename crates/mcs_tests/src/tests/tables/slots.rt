@@ -160,7 +160,8 @@ const DONE: Result<(), Refusal> = Ok(());
 /// What the three slots hold.
 type AllHeld = (Option<Held>, Option<Held>, Option<Held>);
 
-/// Calls, their answers, what then the three slots hold, and how many capabilities to the two endpoints there are.
+/// Calls, their answers, what then the three slots hold, and how many capabilities to the two
+/// endpoints there are.
 const CALLS: &[(Call, Result<(), Refusal>, AllHeld, [u32; 2])] = &[
     (
         Call::Copy(A, B, 2),
@@ -311,6 +312,15 @@ fn calls_on_slots_answer(rt: HostRuntime) -> Result<(), Fail> {
     Ok(())
 }
 
+/// Objects, and the radices of those that are CNodes.
+const RADICES: &[(Kind, u32, Option<u8>)] = &[
+    (Kind::CNode, 1, Some(3)),
+    (Kind::CNode, 2, Some(1)),
+    (Kind::CNode, 3, None),
+    (Kind::CNode, 0, None),
+    (Kind::Thread, 1, None),
+];
+
 /// Slots, and whether they are there in two CNodes of 8 and of 2.
 const SLOTS: &[(u32, u8, bool)] = &[
     (1, 0, true),
@@ -326,9 +336,9 @@ const SLOTS: &[(u32, u8, bool)] = &[
 fn cnodes_have_their_slots(rt: HostRuntime) -> Result<(), Fail> {
     let slots = Slots::new(rt.alloc(), &[3, 1], Tallied::All)?;
     slots.are_pages();
-    let radices = [1, 2, 3, 0].map(|serial| slots.radix(object(Kind::CNode, serial)));
-    assert!(rt; radices == [Some(3), Some(1), None, None]);
-    assert!(rt; slots.radix(object(Kind::Thread, 1)).is_none());
+    for &(kind, serial, radix) in RADICES {
+        assert!(rt; slots.radix(object(kind, serial)) == radix);
+    }
     for &(cnode, index, is_there) in SLOTS {
         assert!(rt;
             slots.has_slot(slot(cnode, index)) == is_there,

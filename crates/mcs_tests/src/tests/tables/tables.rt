@@ -6,6 +6,7 @@ use mcs_types::{
     Badge, Cap, CoreId, Ending, Guard, Kind, Mail, Message, Mode, ObjId, Prio, Queue, Refusal,
     Rights, Status,
 };
+use std::alloc::Global;
 use std::test::Fail;
 
 fn object(kind: Kind, serial: u32) -> ObjId {
@@ -106,7 +107,7 @@ const RECEIVES: Block = Block::Queued {
 const CALLS: Block = Block::OnReply { reply: OWN };
 
 /// Changes of threads, whether they are done, and what is then kept of the first two.
-const THREAD_CALLS: &[(u32, ThreadCall, bool, ThreadRow, ThreadRow)] = &[
+const THREAD_CALLS: &[ThreadRowCall] = &[
     (
         1,
         ThreadCall::Prio(5),
@@ -216,33 +217,42 @@ fn keeps(threads: &Threads, id: ObjId, maximum: u8, root: &Cap) -> bool {
     }
 }
 
+/// Adds a thread. Whether it has this serial, and keeps what it was given.
+fn is_added(threads: &mut Threads, serial: u32, maximum: u8, root: &Cap) -> bool {
+    add_thread(threads, maximum, root) == Some(thread(serial))
+        && keeps(threads, thread(serial), maximum, root)
+}
+
+/// A thread, a change, whether it is done, and what is then kept of the first two threads.
+type ThreadRowCall = (u32, ThreadCall, bool, ThreadRow, ThreadRow);
+
+/// Whether a change is done or not as it says, and these rows are kept then.
+fn is_changed(
+    threads: &mut Threads,
+    (serial, call, is_done, first, second): ThreadRowCall,
+) -> bool {
+    call.is_done(threads, thread(serial)) == is_done
+        && is_row(threads, 1, first)
+        && is_row(threads, 2, second)
+}
+
 #[test]
 fn rows_of_threads_are_changed(rt: HostRuntime) -> Result<(), Fail> {
-    let mut threads = Threads::new(rt.alloc())?;
     let root = root().ok_or("no right")?;
-    for (maximum, serial) in [(9, 1), (7, 2)] {
-        assert!(rt; add_thread(&mut threads, maximum, &root) == Some(thread(serial)));
-        assert!(rt; keeps(&threads, thread(serial), maximum, &root));
-    }
+    let mut threads = Threads::new(rt.alloc())?;
+    assert!(rt; is_added(&mut threads, 1, 9, &root) && is_added(&mut threads, 2, 7, &root));
     threads.are_few();
-    for (i, &(serial, call, is_done, first, second)) in THREAD_CALLS.iter().enumerate() {
-        assert!(rt;
-            call.is_done(&mut threads, thread(serial)) == is_done,
-            "call {i}"
-        );
-        assert!(rt; is_row(&threads, 1, first), "the first after call {i}");
-        assert!(rt; is_row(&threads, 2, second), "the second after call {i}");
+    for (i, call) in THREAD_CALLS.iter().enumerate() {
+        assert!(rt; is_changed(&mut threads, *call), "call {i}");
     }
-    assert!(rt;
-        threads.set_prio(reply(2), Prio(1)).is_none(),
-        "it is no thread"
-    );
-    assert!(rt; threads.made() == 2);
-    assert!(rt; add_thread(&mut threads, 1, &root) == Some(thread(3)));
+    // it is no thread
+    let is_none = threads.set_prio(reply(2), Prio(1)).is_none();
+    assert!(rt; is_none && threads.made() == 2 && is_added(&mut threads, 3, 1, &root));
     Ok(())
 }
 
-/// What blocks a thread, the queue in which it then stands, and whether it receives with its own reply object and with another.
+/// What blocks a thread, the queue in which it then stands, and whether it receives with its own
+/// reply object and with another.
 const BLOCKS: &[(Block, Option<Queue>, [bool; 2])] = &[
     (RECEIVES, Some(RECEIVERS), [true, false]),
     (CALLS, None, [false, false]),
@@ -256,34 +266,47 @@ fn blocked_threads_stand_in_their_queues(rt: HostRuntime) -> Result<(), Fail> {
         threads.block(a, block).ok_or("no such thread")?;
         let row = threads.get(a).ok_or("no such thread")?;
         assert!(rt; row.queue() == queue);
-        assert!(rt; [OWN, reply(5)].map(|reply| row.receives_with(reply)) == receives);
+        assert!(rt; [row.receives_with(OWN), row.receives_with(reply(5))] == receives);
     }
     Ok(())
 }
 
+/// The label of the message that last reached a thread, if one did.
+fn label_of(threads: &Threads, id: ObjId) -> Option<u64> {
+    match threads.mail(id) {
+        Some(Mail::Message { message, .. }) => Some(message.label()),
+        Some(Mail::Word { .. }) | None => None,
+    }
+}
+
+/// Whether a thread keeps a message that reaches it, until it is closed.
+fn keeps_mail(alloc: Global, threads: &mut Threads, id: ObjId) -> Result<bool, Fail> {
+    let message = Message::new(alloc, 7, &[5, 6])?.ok_or("too many words")?;
+    let badge = Badge(3);
+    let is_empty = threads.mail(id).is_none();
+    let is_set = threads
+        .set_mail(id, Mail::Message { badge, message })
+        .is_some();
+    Ok(
+        is_empty
+            && is_set
+            && label_of(threads, id) == Some(7)
+            && threads.close(id).is_some()
+            && threads.mail(id).is_none(),
+    )
+}
+
 #[test]
 fn threads_keep_their_mail(rt: HostRuntime) -> Result<(), Fail> {
+    let root = root().ok_or("no right")?;
     let mut threads = Threads::new(rt.alloc())?;
-    let a = add_thread(&mut threads, 9, &root().ok_or("no right")?).ok_or("no room")?;
-    assert!(rt; threads.mail(a).is_none());
-    let message = Message::new(rt.alloc(), 7, &[5, 6])?.ok_or("too many words")?;
-    let badge = Badge(3);
-    assert!(rt;
-        threads
-            .set_mail(a, Mail::Message { badge, message })
-            .is_some()
-    );
-    let label = match threads.mail(a) {
-        Some(Mail::Message { message, .. }) => Some(message.label()),
-        _ => None,
-    };
-    assert!(rt; label == Some(7));
-    assert!(rt; threads.close(a).is_some());
-    assert!(rt; threads.mail(a).is_none());
+    let a = add_thread(&mut threads, 9, &root).ok_or("no room")?;
+    assert!(rt; keeps_mail(rt.alloc(), &mut threads, a)?);
     Ok(())
 }
 
-/// A call on reply objects. Objects are named by their serials: reply objects first, then threads and contexts.
+/// A call on reply objects. Objects are named by their serials: reply objects first, then threads
+/// and contexts.
 #[derive(Clone, Copy)]
 enum ReplyCall {
     /// One is made, of this serial.
@@ -354,17 +377,28 @@ impl ReplyCall {
     }
 }
 
-/// Whether these stand in the chain of the first context, from the top, and these are whom the first three reply objects owe.
-fn is_chain(replies: &Replies, chain: &[u32], owed: [Option<u32>; 3]) -> bool {
-    let chained = chain.iter().map(|serial| reply(*serial));
-    let first = chain.first().copied();
-    replies.chain_of(context(1)).eq(chained)
-        && replies.top_of(context(1)) == named(Kind::Reply, first)
-        && [1, 2, 3].map(|serial| replies.owed(reply(serial)))
-            == owed.map(|caller| named(Kind::Thread, caller))
+/// Whether these stand in the chain of the first context, from the top.
+fn is_chain(replies: &Replies, chain: &[u32]) -> bool {
+    let mut links = replies.chain_of(context(1));
+    for serial in chain {
+        if links.next() != Some(reply(*serial)) {
+            return false;
+        }
+    }
+    links.next().is_none()
 }
 
-/// Calls, whether they are done, the chain of the first context after each, and whom the first three reply objects owe then.
+/// Whether this is the top of that chain, and these are whom the first three reply objects owe.
+fn are_owed(replies: &Replies, top: Option<u32>, owed: [Option<u32>; 3]) -> bool {
+    let [one, two, three] = owed;
+    replies.top_of(context(1)) == named(Kind::Reply, top)
+        && replies.owed(reply(1)) == named(Kind::Thread, one)
+        && replies.owed(reply(2)) == named(Kind::Thread, two)
+        && replies.owed(reply(3)) == named(Kind::Thread, three)
+}
+
+/// Calls, whether they are done, the chain of the first context after each, and whom the first
+/// three reply objects owe then.
 const REPLY_CALLS: &[(ReplyCall, bool, &[u32], [Option<u32>; 3])] = &[
     (ReplyCall::Add(1), true, &[], [None, None, None]),
     (ReplyCall::Add(2), true, &[], [None, None, None]),
@@ -465,7 +499,10 @@ fn calls_on_reply_objects_answer(rt: HostRuntime) -> Result<(), Fail> {
             call.is_done(&mut replies) == is_done,
             "the answer of call {i}"
         );
-        assert!(rt; is_chain(&replies, chain, owed), "the chain after call {i}");
+        assert!(rt;
+            is_chain(&replies, chain) && are_owed(&replies, chain.first().copied(), owed),
+            "the chain after call {i}"
+        );
     }
     replies.are_chained();
     assert!(rt; replies.rows().given() == 3);
@@ -474,7 +511,8 @@ fn calls_on_reply_objects_answer(rt: HostRuntime) -> Result<(), Fail> {
     Ok(())
 }
 
-/// A call on contexts. Objects are named by their serials: contexts first, then threads or notifications.
+/// A call on contexts. Objects are named by their serials: contexts first, then threads or
+/// notifications.
 #[derive(Clone, Copy)]
 enum ContextCall {
     /// One of this core is made, of this serial.
@@ -507,7 +545,8 @@ fn close_context(contexts: &mut Contexts, id: ObjId) -> bool {
     true
 }
 
-/// Gives a context that is there to a thread that may hold it and holds none, or to nobody. Whether it is given.
+/// Gives a context that is there to a thread that may hold it and holds none, or to nobody. Whether
+/// it is given.
 fn give_context(contexts: &mut Contexts, id: ObjId, to: Option<u32>) -> bool {
     if contexts.core(id).is_none() {
         return false;
@@ -567,9 +606,13 @@ fn is_context(contexts: &Contexts, serial: u32, want: ContextRow) -> bool {
         return contexts.core(id).is_none();
     };
     let holder = named(Kind::Thread, holder);
-    contexts.core(id) == Some(CoreId(core))
+    let is_held = match holder {
+        Some(thread) => contexts.of(thread) == Some(id),
+        None => true,
+    };
+    is_held
+        && contexts.core(id) == Some(CoreId(core))
         && contexts.holder(id) == holder
-        && holder.is_none_or(|thread| contexts.of(thread) == Some(id))
         && contexts.home_of(id) == named(Kind::Notification, home)
 }
 
