@@ -269,12 +269,15 @@ fn compared(line: &[u8]) -> &[u8] {
 fn are_alike(one: &[u8], other: &[u8]) -> bool {
     let mut left = one.split(|byte| *byte == b'\n');
     let mut right = other.split(|byte| *byte == b'\n');
-    let _ = (left.next(), right.next());
-    for _ in 0..=one.len() {
-        match (left.next(), right.next()) {
-            (None, None) => return true,
-            (Some(line), Some(twin)) if compared(line) == compared(twin) => {}
-            _ => return false,
+    for number in 0..=one.len() {
+        let Some(line) = left.next() else {
+            return right.next().is_none();
+        };
+        let Some(twin) = right.next() else {
+            return false;
+        };
+        if number > 0 && compared(line) != compared(twin) {
+            return false;
         }
     }
     false
@@ -304,14 +307,6 @@ fn explore_random<W: Write>(rt: &HostRuntime, to: &mut W) -> Result<(), ExploreF
     Ok(())
 }
 
-/// The fault of the program; that of a question is one of the script's form.
-fn fault_of(fault: ExploreFault) -> LabFault {
-    match fault {
-        ExploreFault::Lab(fault) => fault,
-        ExploreFault::Question { line, why: _ } => LabFault::Form { line },
-    }
-}
-
 /// Explores all scripts and random ones, and asks all questions.
 fn try_all<W: Write + Drop>(rt: &HostRuntime, to: &mut W) -> Result<(), ExploreFault> {
     for &path in SCRIPTS {
@@ -324,10 +319,12 @@ fn try_all<W: Write + Drop>(rt: &HostRuntime, to: &mut W) -> Result<(), ExploreF
     explore_random(rt, to)
 }
 
-/// Explores all scripts, and asks all questions.
+/// Explores all scripts and random ones, and asks all questions. A fault is written where the rest
+/// would come.
 pub fn explore_all<W: Write + Drop>(rt: &HostRuntime, to: &mut W) -> Result<(), LabFault> {
-    match try_all(rt, to) {
-        Ok(()) => Ok(()),
-        Err(fault) => Err(fault_of(fault)),
+    if let Err(fault) = try_all(rt, to) {
+        writeln!(to, "{fault}")?;
+        return Err(LabFault::Read);
     }
+    Ok(())
 }
