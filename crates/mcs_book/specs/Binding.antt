@@ -1,4 +1,5 @@
--- Contexts that are given to threads (manual: Threads and Execution), or homed at notifications (own).
+-- Contexts that are given to threads (manual: Threads and Execution), or homed at notifications
+-- (own).
 use Rattle.std.specs.Prelude.{Bool, ◌&&◌, is_none, Some, Ok, Err}
 use Rattle.mcs_types.specs.declared.id.ObjId.{ObjId}
 use Rattle.mcs_types.specs.declared.id.Kind.{Kind}

@@ -1,4 +1,5 @@
--- Cancelling what a thread is blocked on, and the end of an object (manual: Capability Spaces, deletion; Threads and Execution).
+-- Cancelling what a thread is blocked on, and the end of an object (manual: Capability Spaces,
+-- deletion; Threads and Execution).
 use Rattle.std.specs.Prelude.{Option, Some, None, List, ◌++◌}
 use Rattle.mcs_types.specs.declared.id.ObjId.{ObjId}
 use Rattle.mcs_types.specs.declared.id.Kind.{Kind}

@@ -1,4 +1,5 @@
--- Fair books: seven laws, in nine clauses, over records, lines and the questions about them. None speaks of the table of entries.
+-- Fair books: seven laws, in nine clauses, over records, lines and the questions about them. None
+-- speaks of the table of entries.
 use Rattle.std.specs.Prelude.{ℕ, ◌≡◌, ◌≢◌, ◌<◌, ◌⊎◌, false, Bool, Option, Some, None, ◌==◌, IsTrue}
 use Rattle.std.specs.List.{list_any}
 use Rattle.mcs_types.specs.Brings.{message_of}
@@ -45,12 +46,14 @@ address_used _ = None
 abbrev pub IsOver : Log → Line → ObjId → ObjId → ℕ → Type 0
 IsOver before l x e badge = (a : ℕ) × (cap : Cap) × (address_used l.step.entry ≡ Some a) × IsNamed before x a cap × (e ≡ cap.obj) × (badge ≡ cap.badge.0)
 
--- Whole, when sent: by the line's thread, with the message of its entry, over the capability that it named.
+-- Whole, when sent: by the line's thread, with the message of its entry, over the capability that
+-- it named.
 abbrev pub IsSentWhole : Log → Line → Log → Rec → Type 0
 IsSentWhole before l R (Sent x e mode badge message) = (x ≡ l.step.thread) × (message_of l.step.entry ≡ Some message) × IsOver before l x e badge.0
 IsSentWhole before l R _ = Unit {0}
 
--- Whole, when taken: the line's own thread is answered badge and message; another has them in its mail after the line.
+-- Whole, when taken: the line's own thread is answered badge and message; another has them in its
+-- mail after the line.
 abbrev pub IsTakenWhole : Log → Line → Log → Rec → Type 0
 IsTakenWhole after l R (Took m p) = (s : Letter) → letter R m ≡ Some s → (p ≡ l.step.thread → l.answer ≡ Got s.badge s.message) × (p ≢ l.step.thread → mail_of after p ≡ Some (letter_mail s))
 IsTakenWhole after l R _ = Unit {0}
@@ -96,7 +99,8 @@ pub record IsOpenOf (R : Log) (x e : ObjId) (m : ℕ) : Type 0 where
   pub of_sender : sent.sender ≡ x
   pub on_endpoint : sent.endpoint ≡ e
 
--- Never after cancellation: a thread is among the senders of e exactly where a message of it on e is open, and no thread has two.
+-- Never after cancellation: a thread is among the senders of e exactly where a message of it on e
+-- is open, and no thread has two.
 pub record SendersAreOpen (R : Log) : Type 0 where
   pub queued : (x e : ObjId) → queue_of R x ≡ Some (Senders e) → (m : ℕ) × IsOpenOf R x e m
   pub open_queued : (x e : ObjId) (m : ℕ) → IsOpenOf R x e m → queue_of R x ≡ Some (Senders e)
@@ -109,7 +113,8 @@ AnswersOwed R (Void r x ending) = owed_by R r ≡ Some x
 AnswersOwed R (Owes r x s) = owed_by R r ≡ None
 AnswersOwed R _ = Unit {0}
 
--- A reply that tops a chain when paid returns the context that it brought, if its caller holds none.
+-- A reply that tops a chain when paid returns the context that it brought, if its caller holds
+-- none.
 abbrev pub GivesBack : Log → Log → Rec → Type 0
 GivesBack after R (Paid r x message) = (s : ObjId) → head_of (chain_of R s) ≡ Some r → context_of R x ≡ None → (brought_to R r ≡ Some s) × (holder_of after s ≡ Some x)
 GivesBack after R _ = Unit {0}

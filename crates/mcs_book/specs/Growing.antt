@@ -1,4 +1,5 @@
--- The same answers as recursions that compute as the log grows: what the code does. That they are the public ones is proved.
+-- The same answers as recursions that compute as the log grows: what the code does. That they are
+-- the public ones is proved.
 use Rattle.std.specs.Prelude.{ℕ, Bool, false, cond, ◌||◌, ◌==◌, nat_lt, Option, Some, None, List, [], ◌∷◌, map}
 use Rattle.mcs_types.specs.declared.id.ObjId.{ObjId}
 use Rattle.mcs_types.specs.declared.record.Queue.{Queue}

@@ -1,4 +1,5 @@
--- What lookup answers, said without its steps: the end of the complete path, or the refusal of the longest path (manual: Capability Spaces, lookup).
+-- What lookup answers, said without its steps: the end of the complete path, or the refusal of the
+-- longest path (manual: Capability Spaces, lookup).
 use Rattle.std.specs.Prelude.{ℕ, ◌≤◌, Bool, ◌≡◌, ◌≢◌, ◌⊎◌, ◌↔◌, Option, Some, None, Ok, Err, List, [], ◌∷◌, ◌++◌, length}
 use Rattle.mcs_types.specs.declared.id.ObjId.{ObjId}
 use Rattle.mcs_types.specs.declared.cap.Cap.{Cap}
@@ -26,11 +27,13 @@ led_to S (Some cap) (index ∷ path) = led_to S (next_cnode S cap index) path
 abbrev pub BeginWith : List Bool → List Bool → Type 0
 BeginWith guard bits = (rest : List Bool) × (bits ≡ guard ++ rest)
 
--- the refusal at a CNode capability: of its guard, where the bits left do not begin with it, else of the depth
+-- the refusal at a CNode capability: of its guard, where the bits left do not begin with it, else
+-- of the depth
 abbrev pub IsRefusalAt : Cap → List Bool → Refusal → Type 0
 IsRefusalAt cap left refusal = ((BeginWith (guard_of cap) left → ⊥) × (refusal ≡ GuardMismatch)) ⊎ (BeginWith (guard_of cap) left × (refusal ≡ DepthMismatch))
 
--- no complete path spells the bits; the longest path that spells their beginning leads to the CNode capability where lookup is refused
+-- no complete path spells the bits; the longest path that spells their beginning leads to the CNode
+-- capability where lookup is refused
 pub record IsStuck (S : Space) (cap : Cap) (bits : List Bool) (refusal : Refusal) : Type 0 where
   pub incomplete : (path : List (List Bool)) (at : Reached) → IsComplete S cap bits path at → ⊥
   pub path : List (List Bool)
@@ -48,7 +51,8 @@ pub record EndsEmpty (S : Space) (cap : Cap) (bits : List Bool) : Type 0 where
   pub along : IsComplete S cap bits path at
   pub empty : S.slot at.cnode at.index ≡ None
 
--- an address names no capability from a root: the slot at the path's end is empty, or no complete path spells the address
+-- an address names no capability from a root: the slot at the path's end is empty, or no complete
+-- path spells the address
 abbrev pub IsUnnamedFrom : Space → Cap → ℕ → Refusal → Type 0
 IsUnnamedFrom S root address refusal = (EndsEmpty S root (bits_of 64 address) × (refusal ≡ Missing)) ⊎ IsStuck S root (bits_of 64 address) refusal
 
@@ -62,7 +66,8 @@ IsUnnamed R t address refusal =
 abbrev pub IsDepth : ℕ → Type 0
 IsDepth depth = (1 ≤ depth) × (depth ≤ 64)
 
--- the slot that an index and a depth name from a root: a complete path ends there, and no bits are left
+-- the slot that an index and a depth name from a root: a complete path ends there, and no bits are
+-- left
 pub record IsSlotNamedFrom (S : Space) (root : Cap) (place : Place) (name : SlotName) : Type 0 where
   pub in_depth : IsDepth place.depth
   pub path : List (List Bool)
@@ -85,13 +90,15 @@ pub record EndsEarly (S : Space) (cap : Cap) (bits : List Bool) : Type 0 where
   pub along : IsComplete S cap bits path at
   pub some_left : at.left ≢ []
 
--- an index and a depth name no slot from a root: the depth is out of range, which comes first; bits remain at the path's end; or no complete path spells the bits
+-- an index and a depth name no slot from a root: the depth is out of range, which comes first; bits
+-- remain at the path's end; or no complete path spells the bits
 abbrev pub IsSlotUnnamedFrom : Space → Cap → Place → Refusal → Type 0
 IsSlotUnnamedFrom S root place refusal =
     ((IsDepth place.depth → ⊥) × (refusal ≡ Range))
     ⊎ (IsDepth place.depth × ((EndsEarly S root (bits_of place.depth place.index) × (refusal ≡ DepthMismatch)) ⊎ IsStuck S root (bits_of place.depth place.index) refusal))
 
--- t names no slot by an index and a depth: the depth is out of range, which comes first; it has no root; or they name none from it
+-- t names no slot by an index and a depth: the depth is out of range, which comes first; it has no
+-- root; or they name none from it
 abbrev pub IsSlotUnnamed : Log → ObjId → Place → Refusal → Type 0
 IsSlotUnnamed R t place refusal =
     ((IsDepth place.depth → ⊥) × (refusal ≡ Range))

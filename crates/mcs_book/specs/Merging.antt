@@ -1,4 +1,5 @@
--- What the lines of a core are: those of the book in their order, of which none of that core is left out.
+-- What the lines of a core are: those of the book in their order, of which none of that core is
+-- left out.
 use Rattle.std.specs.Prelude.{ℕ, ◌<◌, ◌≡◌, ◌≢◌, ◌⊎◌, List, [], ◌∷◌}
 use Rattle.mcs_types.specs.declared.id.CoreId.{CoreId}
 use Rattle.mcs_book.specs.Logs.{Log}
@@ -22,7 +23,8 @@ AreMerged [] (b ∷ ns) (l ∷ ls) = (b ≡ l) × AreMerged [] ns ls
 AreMerged (a ∷ ms) (b ∷ ns) (l ∷ ls) = ((a ≡ l) × AreMerged ms (b ∷ ns) ls) ⊎ ((b ≡ l) × AreMerged (a ∷ ms) ns ls)
 AreMerged _ _ _ = ⊥
 
--- the lines of a core and those of the others together are the book's lines after the boot, each in its order
+-- the lines of a core and those of the others together are the book's lines after the boot, each in
+-- its order
 pub record HasLinesOf (b : Book) (core : CoreId) : Type 0 where
   pub own : AreOfCore core (of_core b core)
   pub others : List Line

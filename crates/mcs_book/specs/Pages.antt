@@ -1,4 +1,5 @@
--- How a book is kept: the records of all lines side by side, and where each line ends, over what was packed.
+-- How a book is kept: the records of all lines side by side, and where each line ends, over what
+-- was packed.
 use Rattle.std.specs.Prelude.{ℕ, zero, suc, ◌≡◌, ◌≤◌, ◌<◌, ◌+◌, ◌-◌, ◌*◌, ◌^◌, List, [], ◌∷◌, take, drop, Vec, vec_len, vec_capacity}
 use Rattle.mcs_types.specs.declared.record.Rec.{Rec}
 use Rattle.mcs_types.specs.declared.entry.Step.{Step}
@@ -13,15 +14,17 @@ use Rattle.mcs_book.specs.Logs.{Log}
 use Rattle.mcs_book.specs.History.{Line, Book}
 use Rattle.mcs_book.specs.declared.book.TheConstants.{MOST_WORDS}
 
--- a book, the records of the line that is open (the newest first), how many more lines its boot has room for, and the room
--- that is left in the open line: room 0 has no room, and room n + 1 has room for n more records and the head of the line
+-- a book, the records of the line that is open (the newest first), how many more lines its boot has
+-- room for, and the room that is left in the open line: room 0 has no room, and room n + 1 has room
+-- for n more records and the head of the line
 pub record Written : Type 0 where
   pub book : Book
   pub hand : Log
   pub boot_room : ℕ
   pub room : ℕ
 
--- the lists have room for so many records, of MOST_WORDS words each, and for as many heads, at places that can be named
+-- the lists have room for so many records, of MOST_WORDS words each, and for as many heads, at
+-- places that can be named
 pub record HasSpace {Z : Type 0} (hs : Vec Head Z) (ps : Vec Packed Z) (a : Arena) (n : ℕ) : Type 0 where
   pub heads : vec_len hs + n ≤ vec_capacity hs
   pub packed : vec_len ps + n ≤ vec_capacity ps
@@ -61,6 +64,7 @@ start_at start hs zero = start
 start_at start [] (suc i) = start
 start_at start (h ∷ hs) (suc i) = start_at h.end hs i
 
--- the head of a line: who entered on which core, the entry and the answer as they were packed, and where its records end
+-- the head of a line: who entered on which core, the entry and the answer as they were packed, and
+-- where its records end
 abbrev pub line_head : Step → PackedEntry → PackedAnswer → ℕ → Head
 line_head s entry answer end = record { entry = entry; end = end; serial = s.thread.serial; answer_at = answer.at; answer = answer.form; kind = s.thread.kind; core = s.core }

@@ -65,7 +65,8 @@ abbrev pub pending_of_any : Log → Option ObjId → Option ℕ
 pending_of_any R None = None
 pending_of_any R (Some n) = pending R n
 
--- t receives on an endpoint: a word of its bound notification, else the message of the first sender, else nothing yet
+-- t receives on an endpoint: a word of its bound notification, else the message of the first
+-- sender, else nothing yet
 unfoldable pub receive_message : ObjId → ObjId → Option ObjId → Bool → Act
 receive_message t e r blocking R =
     hear t (bound_of R t) (pending_of_any R (bound_of R t))
@@ -92,7 +93,8 @@ bound_elsewhere (Some u) t = not (same u t)
 unfoldable pub may_wait : Log → ObjId → Cap → Checked Passed
 may_wait R t cap = need (not (bound_elsewhere (tied_to R cap.obj) t)) AlreadyBound
 
--- a receive, by the kind of its source; reply is the reply object for an endpoint, which is looked up only there
+-- a receive, by the kind of its source; reply is the reply object for an endpoint, which is looked
+-- up only there
 unfoldable pub receive_by : Kind → Log → ObjId → Cap → Checked (Option ObjId) → Bool → Checked Act
 receive_by Endpoint R t cap reply blocking = do
   need (may_read cap) NoRight
@@ -127,7 +129,8 @@ reply_receive R t cap address message = do
   receive ← receive_over R t cap (Ok r) true
   Ok (before (pay_any r message) receive)
 
--- sends, and then receives over a second capability: all checks come first, and the receive is what is answered
+-- sends, and then receives over a second capability: all checks come first, and the receive is what
+-- is answered
 unfoldable pub send_receive : Log → ObjId → Checked Act → ℕ → Checked (Option ObjId) → Checked Act
 send_receive R t sending address reply = do
   send ← sending

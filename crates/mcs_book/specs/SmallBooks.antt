@@ -1,4 +1,5 @@
--- Small books on one boot: two that are legal, and for each law of fair books one that breaks it. Records stand in the order in which they were made, lines the newest first.
+-- Small books on one boot: two that are legal, and for each law of fair books one that breaks it.
+-- Records stand in the order in which they were made, lines the newest first.
 use Rattle.std.specs.Prelude.{ℕ, None, Some, List, [], ◌∷◌}
 use Rattle.mcs_types.specs.Views.{Content}
 use Rattle.mcs_types.specs.declared.id.Badge.{Badge}
@@ -47,7 +48,8 @@ waits_to_receive i = line i (do_.Recv 2 8) Waits (rec.Joins (t i) (Receivers (e 
 abbrev pub takes_with : Badge → ℕ → ℕ → ℕ → Line
 takes_with b i m j = line i (do_.Recv 2 8) (Got b (text j)) (rec.Took m (t i) ∷ rec.Parts (t j) (Senders (e 1)) ∷ rec.Turns (t j) Running ∷ [])
 
--- the first thread, whose context is its own, calls the second, which stands in its queue without one and gets it
+-- the first thread, whose context is its own, calls the second, which stands in its queue without
+-- one and gets it
 abbrev pub calls : Line
 calls = line 1 (do_.Call 2 (text 3)) Waits (rec.Sent (t 1) (e 1) how.Call (badge 0) (text 3) ∷ rec.Took 0 (t 2) ∷ rec.Parts (t 2) (Receivers (e 1)) ∷ rec.Owes (r 1) (t 1) (Some (s 1)) ∷ rec.Holds (s 1) (Some (t 2)) ∷ rec.Turns (t 2) Running ∷ [])
 

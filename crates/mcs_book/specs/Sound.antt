@@ -1,4 +1,5 @@
--- What must hold before each record is made. Fair books follow from sound ones; no word of the table of entries is used.
+-- What must hold before each record is made. Fair books follow from sound ones; no word of the
+-- table of entries is used.
 use Rattle.std.specs.Prelude.{ℕ, ◌≡◌, ◌≢◌, ◌<◌, ◌^◌, false, Some, None, IsTrue, IsSome}
 use Rattle.std.specs.Option.{IfSome}
 use Rattle.mcs_types.specs.declared.id.ObjId.{ObjId}

@@ -1,4 +1,5 @@
--- Messages that are taken, and callers that are answered (manual: Message Passing; donation is this profile's).
+-- Messages that are taken, and callers that are answered (manual: Message Passing; donation is this
+-- profile's).
 use Rattle.std.specs.Prelude.{Option, Some, None, List, [], ◌∷◌}
 use Rattle.mcs_types.specs.Views.{Content}
 use Rattle.mcs_types.specs.declared.id.ObjId.{ObjId}
@@ -29,7 +30,8 @@ abbrev pub back_to : ObjId → Option ObjId → Option ObjId → List Rec
 back_to x (Some s) None = Holds s (Some x) ∷ []
 back_to x _ _ = []
 
--- the context s passes to x: one whose chain was topped returns, one that is homed is found, and one that is given comes along
+-- the context s passes to x: one whose chain was topped returns, one that is homed is found, and
+-- one that is given comes along
 unfoldable pub give_back : Option ObjId → ObjId → Piece
 give_back s x R = back_to x s (context_of R x)
 
@@ -37,7 +39,8 @@ give_back s x R = back_to x s (context_of R x)
 unfoldable pub give : ObjId → ObjId → Piece
 give x p R = give_back (context_of R x) p R
 
--- what becomes of the sender x when p takes its message with the reply object r; after a plain send it goes on as said
+-- what becomes of the sender x when p takes its message with the reply object r; after a plain send
+-- it goes on as said
 abbrev pub settle : SendMode → ObjId → ObjId → Option ObjId → Piece → Piece
 settle how.Plain x p r goes_on = goes_on
 settle how.Call x p (Some r) goes_on = owe r x p

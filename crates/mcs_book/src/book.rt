@@ -15,8 +15,8 @@ use std::alloc::Global;
 use std::marker::Model;
 use std::mem;
 
-/// A line of the book: an entry by a thread on a core, its answer, and its records. It is read by value, and takes no
-/// memory from an allocator.
+/// A line of the book: an entry by a thread on a core, its answer, and its records. It is read by
+/// value, and takes no memory from an allocator.
 #[derive(Drop)]
 pub struct Line<'a> {
     head: &'a Head,
@@ -88,7 +88,8 @@ impl<'a> Line<'a> {
         self.packed.len()
     }
 
-    /// The record of number `i` where the book keeps it, if there is one, in the order in which they were recorded.
+    /// The record of number `i` where the book keeps it, if there is one, in the order in which
+    /// they were recorded.
     pub fn kept_record(&self, i: usize) -> Option<KeptRecord<'_>>
         ensures { result ≡ slice_get self.now.records i }
     {
@@ -127,11 +128,12 @@ fn record_at<'a>(
     }
 }
 
-/// The boot, and a line for each entry that was let in. All is kept packed: a head for each line, the records of all
-/// lines side by side, and the words that they name. `sent` has the place of the words of each message. The packed records
-/// from `start` on are those of the open line, and `room` is 0 or how many more it may have, and one more. Beside these the lists
-/// have room for `ahead` records, heads and all. Two hints for the open line's head: the words of the line stand from `first` on, and
-/// those of its answer may stand at `place`.
+/// The boot, and a line for each entry that was let in. All is kept packed: a head for each line,
+/// the records of all lines side by side, and the words that they name. `sent` has the place of the
+/// words of each message. The packed records from `start` on are those of the open line, and `room`
+/// is 0 or how many more it may have, and one more. Beside these the lists have room for `ahead`
+/// records, heads and all. Two hints for the open line's head: the words of the line stand from
+/// `first` on, and those of its answer may stand at `place`.
 pub struct Book {
     cores: u8,
     boot: Vec<BootLine>,
@@ -146,7 +148,8 @@ pub struct Book {
     place: u32,
 }
 
-// By hand, so that it is a function of its own: a derived drop would be proved anew wherever a book is let go.
+// By hand, so that it is a function of its own: a derived drop would be proved anew wherever a book
+// is let go.
 impl Drop for Book {
     fn drop(self) {
         let Book {
@@ -243,10 +246,12 @@ fn line_at<'a>(
     }
 }
 
-// What packs a record, makes room for it or closes its line is inlined where it is made: the kind of the record is known there.
+// What packs a record, makes room for it or closes its line is inlined where it is made: the kind
+// of the record is known there.
 
-/// Notes where the words of a message that was sent stand, and where those of the line's answer may: those of what was taken
-/// or heard. A place is a hint: what stands there is compared before it is shared.
+/// Notes where the words of a message that was sent stand, and where those of the line's answer
+/// may: those of what was taken or heard. A place is a hint: what stands there is compared before
+/// it is shared.
 #[inline(always)]
 fn note_place(sent: &mut Vec<u32>, place: &mut u32, packed: &Packed) {
     match packed {
@@ -399,7 +404,8 @@ const MESSAGE_ROOM: usize = 122;
 /// The most words that one entry keeps: two large addresses besides.
 const ENTRY_ROOM: usize = MESSAGE_ROOM + 2;
 
-/// How many words long messages of records may take beyond six each: a line has at most one record with a message.
+/// How many words long messages of records may take beyond six each: a line has at most one record
+/// with a message.
 const SPARE_WORDS: usize = MESSAGE_ROOM - MOST_WORDS;
 
 /// The room of how many records the words of one line's entry, answer and long messages take.
@@ -408,10 +414,12 @@ const HEAD_RECORDS: usize = (SPARE_WORDS + 2 * ENTRY_ROOM) / MOST_WORDS + 1;
 /// The most records of one line, for which there may be room.
 const MOST_RECORDS: usize = 1_000_000;
 
-/// For how many lines with as many records room is made ahead: long lists grow where they stand, so early room saves copies.
+/// For how many lines with as many records room is made ahead: long lists grow where they stand, so
+/// early room saves copies.
 const LINES_AHEAD: usize = 16;
 
-/// The most records, words and wide records, to which more may be added: so places stay below 3 times 2 to the 30.
+/// The most records, words and wide records, to which more may be added: so places stay below 3
+/// times 2 to the 30.
 const MOST_KEPT: usize = 1 << 31;
 
 /// The most records for which there is room ahead.
@@ -481,8 +489,8 @@ impl Book {
         (heads, packed, arena, sent)
     }
 
-    /// An equal book, with as much room, so that it takes memory for a line only where this one would, in the memory of a spare
-    /// one. OutOfMemory where memory is refused.
+    /// An equal book, with as much room, so that it takes memory for a line only where this one
+    /// would, in the memory of a spare one. OutOfMemory where memory is refused.
     pub fn copy(&self, alloc: Global, spare: Option<Book>) -> Result<Book, OutOfMemory>
         ensures { IfOk result (λ b. b ≡ self.now) }
     {
@@ -508,7 +516,8 @@ impl Book {
         })
     }
 
-    /// Makes room for one line of the boot; where there is room it takes no memory. The book is as it was.
+    /// Makes room for one line of the boot; where there is room it takes no memory. The book is as
+    /// it was.
     pub fn reserve_boot_line(&mut self) -> Result<(), OutOfMemory>
         ensures room { OnOk result (0 < self.new.boot_room) }
         ensures full { OnErr result (self.old.boot_room ≡ 0) }
@@ -532,7 +541,8 @@ impl Book {
         self.place = 0;
     }
 
-    /// Adds a line to the boot, for which there is room, and lets go of the records of the open line.
+    /// Adds a line to the boot, for which there is room, and lets go of the records of the open
+    /// line.
     pub fn add_boot_line(&mut self, line: BootLine)
         requires { 0 < self.old.boot_room }
         ensures line { self.new.book ≡ with_boot_line self.old.book line }
@@ -546,7 +556,8 @@ impl Book {
         }
     }
 
-    /// Gives the open line room for so many more records, of the room ahead. Whether that is enough.
+    /// Gives the open line room for so many more records, of the room ahead. Whether that is
+    /// enough.
     #[inline(always)]
     fn give_room(&mut self, records: usize) -> bool
         ensures room { IsTrue result → records < self.new.room }
@@ -595,9 +606,10 @@ impl Book {
         Ok(())
     }
 
-    /// Makes room for one line with that many records beside those that it has; where there is room it takes no memory. The
-    /// book is as it was. It is out of memory as well for more than 1,000,000 records, and where more than 2 to the 31 records or
-    /// words are kept and what there is room for ahead is used up.
+    /// Makes room for one line with that many records beside those that it has; where there is room
+    /// it takes no memory. The book is as it was. It is out of memory as well for more than
+    /// 1,000,000 records, and where more than 2 to the 31 records or words are kept and what there
+    /// is room for ahead is used up.
     #[inline(always)]
     pub fn reserve(&mut self, records: usize) -> Result<(), OutOfMemory>
         ensures room { OnOk result (records < self.new.room) }
@@ -689,7 +701,8 @@ impl Book {
         self.room -= 1;
     }
 
-    /// Notes records in order, for which there is room. What stands in their places then means nothing.
+    /// Notes records in order, for which there is room. What stands in their places then means
+    /// nothing.
     fn note_all(&mut self, records: &mut [Rec])
         requires { length records.old < self.old.room }
         ensures hand { self.new.hand ≡ reverse records.old ++ self.old.hand }
@@ -724,7 +737,8 @@ impl Book {
         self.place = 0;
     }
 
-    /// Adds a line, and empties the records, whose room stays. Lets go of the records of the open line.
+    /// Adds a line, and empties the records, whose room stays. Lets go of the records of the open
+    /// line.
     pub fn append(&mut self, step: &Step, answer: &Answer, records: &mut Vec<Rec>)
         requires { vec_len records.old < self.old.room }
         ensures line { self.new.book
@@ -753,8 +767,8 @@ impl Book {
         self.heads.len() + 1
     }
 
-    /// The line of number `i`, if there is one: the boot is number 0 and no line, and the first line after it is
-    /// number 1.
+    /// The line of number `i`, if there is one: the boot is number 0 and no line, and the first
+    /// line after it is number 1.
     pub fn line(&self, i: usize) -> Option<Line<'_>>
         ensures { result ≡ line_of_number self.now.book i }
     {

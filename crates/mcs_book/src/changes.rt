@@ -8,7 +8,8 @@ ghost use Rattle.mcs_book.specs.Logs.{Log};
 ghost use Rattle.mcs_book.specs.SlotRecords.{HasNone, is_making, is_of_slots};
 ghost use Rattle.mcs_book.specs.Table.{does};
 
-/// An entry that does not change slots records nothing of slots, and no object that was made or ended.
+/// An entry that does not change slots records nothing of slots, and no object that was made or
+/// ended.
 pub fn slots_stay()
     ghost at: { Log × CoreId × ObjId × Entry }
     requires { changes_slots at.3 ≡ false }

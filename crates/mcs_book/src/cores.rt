@@ -4,8 +4,8 @@ ghost use Rattle.mcs_book.specs.History.{Line, Book, IsLegal, of_core};
 ghost use Rattle.mcs_book.specs.Each.{EachLine};
 ghost use Rattle.mcs_book.specs.Merging.{HasLinesOf, IsLineOf, IsOfFirst};
 
-/// The lines of a core are of that core, and together with the lines of the others they are the book's, each in its
-/// order.
+/// The lines of a core are of that core, and together with the lines of the others they are the
+/// book's, each in its order.
 pub fn core_lines()
     ghost at: { Book × CoreId }
     ensures { HasLinesOf at.0 at.1 }

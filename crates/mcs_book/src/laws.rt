@@ -31,30 +31,33 @@ pub fn none_beside()
     ensures { AfterEachLine NoneWaitBeside book }
 {}
 
-/// After each line of a legal book a thread stands among the senders of an endpoint exactly where a message of it is
-/// open there, and no thread has two.
+/// After each line of a legal book a thread stands among the senders of an endpoint exactly where a
+/// message of it is open there, and no thread has two.
 pub fn not_cancelled()
     ghost book: { Book }
     requires { IsLegal book }
     ensures { AfterEachLine SendersAreOpen book }
 {}
 
-/// Each record of a legal book was allowed when it was made: what must hold before a record of its kind did hold.
+/// Each record of a legal book was allowed when it was made: what must hold before a record of its
+/// kind did hold.
 pub fn sound()
     ghost book: { Book }
     requires { IsLegal book }
     ensures { Sound (log_of book) }
 {}
 
-/// In a legal book a reply object that is paid or void owed that caller, and one that comes to owe owed nobody.
+/// In a legal book a reply object that is paid or void owed that caller, and one that comes to owe
+/// owed nobody.
 pub fn answered_once()
     ghost book: { Book }
     requires { IsLegal book }
     ensures { EachRecord AnswersOwed book }
 {}
 
-/// After the line of an answer in a legal book the caller has the message of the line's entry as its mail, and, where
-/// the answer topped a chain and the caller held no context, the context that it brought.
+/// After the line of an answer in a legal book the caller has the message of the line's entry as
+/// its mail, and, where the answer topped a chain and the caller held no context, the context that
+/// it brought.
 pub fn answered_whole()
     ghost book: { Book }
     requires { IsLegal book }
@@ -68,8 +71,8 @@ pub fn not_deleted()
     ensures { EachRecord TakesAlive book }
 {}
 
-/// When a message of a legal book is taken, its sender is the first of the senders in the queue, or its taker the first of
-/// the receivers, never both.
+/// When a message of a legal book is taken, its sender is the first of the senders in the queue, or
+/// its taker the first of the receivers, never both.
 pub fn by_priority()
     ghost book: { Book }
     requires { IsLegal book }

@@ -17,7 +17,8 @@ pub fn entry_short()
     ensures { length (does at.0 at.1 at.2 at.3).records ≤ most_records (length (threads at.0)) }
 {}
 
-/// No line of a legal book after the boot's has more than 32 records, and four more for each thread of the boot.
+/// No line of a legal book after the boot's has more than 32 records, and four more for each thread
+/// of the boot.
 pub fn lines_short()
     ghost book: { Book }
     requires { IsLegal book }

@@ -12,8 +12,9 @@ pub fn one_path()
     ensures { HasOnePath (log_of at.0) at.1 at.2 }
 {}
 
-/// After a legal book lookup finds a capability at an address exactly where a complete path names it. It is refused exactly
-/// where the path ends in an empty slot, or as the longest path says where none is complete.
+/// After a legal book lookup finds a capability at an address exactly where a complete path names
+/// it. It is refused exactly where the path ends in an empty slot, or as the longest path says
+/// where none is complete.
 pub fn capability_lookup()
     ghost at: { Book × ObjId × ℕ }
     requires { IsLegal at.0 }
@@ -21,9 +22,9 @@ pub fn capability_lookup()
     ensures refused { RefusesUnnamed (log_of at.0) at.1 at.2 }
 {}
 
-/// After a legal book lookup finds a slot by an index and a depth exactly where a complete path ends there with no
-/// bits left. It is refused exactly where its depth is out of range, bits remain at the path's end, or as the longest path
-/// says where none is complete.
+/// After a legal book lookup finds a slot by an index and a depth exactly where a complete path
+/// ends there with no bits left. It is refused exactly where its depth is out of range, bits remain
+/// at the path's end, or as the longest path says where none is complete.
 pub fn slot_lookup()
     ghost at: { Book × ObjId × Place }
     requires { IsLegal at.0 }

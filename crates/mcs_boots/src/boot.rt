@@ -21,11 +21,12 @@ use std::alloc::Global;
 use std::marker::Model;
 use taking::takes_line;
 
-/// How a machine begins: the number of cores, and lines with which nothing is wrong (own). Clauses see the lines newest
-/// first.
+/// How a machine begins: the number of cores, and lines with which nothing is wrong (own). Clauses
+/// see the lines newest first.
 #[derive(Drop)]
 pub struct Boot {
-    // No thread waits yet, so these lines stay empty, and no room for links is cleared twice; nor is one for all tallies.
+    // No thread waits yet, so these lines stay empty, and no room for links is cleared twice; nor
+    // is one for all tallies.
     state: State<ObjectQueues<PlainLines>>,
 }
 
@@ -42,8 +43,8 @@ impl Model for Boot {
 }
 
 impl Boot {
-    /// A boot with this number of cores and no other line. Number (3) exactly where there is no core, or there are more
-    /// than 16; otherwise it fails only out of memory (10).
+    /// A boot with this number of cores and no other line. Number (3) exactly where there is no
+    /// core, or there are more than 16; otherwise it fails only out of memory (10).
     pub fn new(alloc: Global, cores: u8) -> Result<Boot, BootFault>
         ensures cores { IfOk result (λ b. b.cores ≡ cores) }
         ensures lines { IfOk result (λ b. b.lines ≡ []) }
@@ -59,9 +60,10 @@ impl Boot {
         }
     }
 
-    /// Adds a line. The boot is as it was where a number is out of its range (3), an object that the line names was not
-    /// made (4), there are too many objects (5), or a slot is filled, a context is held, or a thread or a notification is
-    /// bound already (6): the first of these; or where memory is refused (10).
+    /// Adds a line. The boot is as it was where a number is out of its range (3), an object that
+    /// the line names was not made (4), there are too many objects (5), or a slot is filled, a
+    /// context is held, or a thread or a notification is bound already (6): the first of these; or
+    /// where memory is refused (10).
     pub fn add(&mut self, line: BootLine) -> Result<(), BootFault>
         ensures ok { OnOk result (self.new ≡ adds_line self.old line) }
         ensures err { OnErr result (self.new ≡ self.old) }

@@ -1,4 +1,5 @@
--- Queues that are emptied, one thread after another: what is left of each queue, and what is left to be recorded.
+-- Queues that are emptied, one thread after another: what is left of each queue, and what is left
+-- to be recorded.
 use Rattle.std.specs.Prelude.{◌≡◌, ◌<◌, List, [], ◌∷◌, ◌++◌, Option, Some, None, length}
 use Rattle.std.proofs.Common.{refl, ap, sym, ◌∙◌, inl, subst, append_assoc, arith}
 use Rattle.mcs_types.specs.declared.id.ObjId.{ObjId}

@@ -148,7 +148,8 @@ homed-alone R n s sound home c k = elim (set-split c s None (home_of R c) (Some 
 pub still-unwatched : (R S : Log) (n : ObjId) → S ≡ onto (clears n R) R → IsEmptyLine R (Waiters n) → IsUnbound R n → IsEmptyLine S (Waiters n) × IsUnbound S n
 still-unwatched R S n is empty unbound = subst (λ L. IsEmptyLine L (Waiters n) × IsUnbound L n) (sym is) (cleared (λ L. IsEmptyLine L (Waiters n) × IsUnbound L n) n R (λ s h. h) (empty, unbound))
 
--- a context that is homed nowhere and held by nobody: what is recorded, and that it is still homed nowhere
+-- a context that is homed nowhere and held by nobody: what is recorded, and that it is still homed
+-- nowhere
 pub unbind-is : (s : ObjId) (R : Log) → (unhomes s then unholds s) R ≡ unbind s R
 unfolding ◌then◌ unbind
 unbind-is s R = go (home_of R s)

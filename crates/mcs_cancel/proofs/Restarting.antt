@@ -1,4 +1,5 @@
--- The senders of an endpoint that restart, one after another: what each leaves of the queue, and what is left to be recorded.
+-- The senders of an endpoint that restart, one after another: what each leaves of the queue, and
+-- what is left to be recorded.
 use Rattle.std.specs.Prelude.{ℕ, ◌≡◌, ◌≢◌, ◌<◌, Bool, true, false, cond, List, [], ◌∷◌, Option, Some, None, filter, length}
 use Rattle.std.specs.Option.{IfSome}
 use Rattle.std.proofs.Common.{refl, ap, sym, ◌∙◌, inl, inr, subst, arith}
@@ -44,14 +45,16 @@ badged R badge xs = filter (λ x. has_badge badge (open_of R x)) xs
 abbrev pub restarts_from : Log → ObjId → ℕ → Option ObjId → Piece
 restarts_from R e badge at = cancel_all (badged R badge (senders_from R e at)) Restart
 
--- between two turns: the next one stands in the queue, and once those from it on restart, all do that were to
+-- between two turns: the next one stands in the queue, and once those from it on restart, all do
+-- that were to
 pub record IsUnderWay (e : ObjId) (badge : ℕ) (at : Option ObjId) (old now : Now) : Type 0 where
   pub sound : Sound (so_far now)
   pub stands : IfSome at (λ x. queue_of (so_far now) x ≡ Some (Senders e))
   pub room : HasRoomFor (restarts_from (so_far now) e badge at) now
   pub made : adds_all (restarts_from (so_far now) e badge at (so_far now)) now ≡ adds_all (restarts_with (so_far old) e badge (so_far old)) old
 
--- after x, who was among the senders of e, was cancelled: it left the queue, and others are as they were
+-- after x, who was among the senders of e, was cancelled: it left the queue, and others are as they
+-- were
 pub record IsWithout (x e : ObjId) (R S : Log) : Type 0 where
   pub line : growing_queue S (Senders e) ≡ without x (growing_queue R (Senders e))
   pub letters : (y : ObjId) → y ≢ x → growing_open S y ≡ growing_open R y

@@ -1,4 +1,5 @@
--- What an object is that ends; and what its end takes from others, in the parts in which the code does it.
+-- What an object is that ends; and what its end takes from others, in the parts in which the code
+-- does it.
 use Rattle.std.specs.Prelude.{ℕ, ◌≡◌, ◌≢◌, false, None}
 use Rattle.mcs_types.specs.declared.id.ObjId.{ObjId}
 use Rattle.mcs_types.specs.declared.record.Rec.TheVariants.{Holds, Homed}

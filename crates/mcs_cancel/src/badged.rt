@@ -1,4 +1,5 @@
-//! CancelBadged: the senders whose open messages have one badge restart (manual: Capability Spaces; Message Passing).
+//! CancelBadged: the senders whose open messages have one badge restart (manual: Capability Spaces;
+//! Message Passing).
 ghost use Rattle.std.specs.Prelude.{◌≡◌, option_copied};
 ghost use Rattle.mcs_types.specs.declared.entry.Entry.{Entry};
 ghost use Rattle.mcs_types.specs.declared.id.Kind.{Kind};
@@ -25,7 +26,8 @@ fn has_badge(letter: Option<&Letter>, badge: Badge) -> bool
     }
 }
 
-/// Cancels a sender where its open message has this badge: it restarts. Answers who stood behind it.
+/// Cancels a sender where its open message has this badge: it restarts. Answers who stood behind
+/// it.
 fn restart_one<W: Waiting>(state: &mut State<W>, sender: ObjId, badge: Badge) -> Option<ObjId>
     requires there { IsThere (so_far state.old) Kind.Thread sender }
     requires room { HasRoomFor (restarts_one badge.0 sender) state.old }
@@ -39,7 +41,8 @@ fn restart_one<W: Waiting>(state: &mut State<W>, sender: ObjId, badge: Badge) ->
     next
 }
 
-/// Cancels each sender of an endpoint whose open message has this badge, first to last: it restarts.
+/// Cancels each sender of an endpoint whose open message has this badge, first to last: it
+/// restarts.
 fn restart_senders<W: Waiting>(state: &mut State<W>, endpoint: ObjId, badge: Badge)
     requires room { HasRoomFor (restarts_with (so_far state.old) endpoint badge.0) state.old }
     ensures { Makes (restarts_with (so_far state.old) endpoint badge.0) state.old state.new }
@@ -52,7 +55,8 @@ fn restart_senders<W: Waiting>(state: &mut State<W>, endpoint: ObjId, badge: Bad
     }
 }
 
-/// Cancels each sender of an endpoint whose open message has the badge of a capability to it; nobody where that is 0.
+/// Cancels each sender of an endpoint whose open message has the badge of a capability to it;
+/// nobody where that is 0.
 fn restart_badged<W: Waiting>(state: &mut State<W>, cap: Cap)
     requires room { HasRoomFor (restarts_badged (so_far state.old) cap) state.old }
     ensures { Makes (restarts_badged (so_far state.old) cap) state.old state.new }
@@ -62,7 +66,8 @@ fn restart_badged<W: Waiting>(state: &mut State<W>, cap: Cap)
     }
 }
 
-/// The capability whose badge a thread that is there cancels: one to an endpoint, with all four rights.
+/// The capability whose badge a thread that is there cancels: one to an endpoint, with all four
+/// rights.
 fn badged_endpoint<W: Waiting>(
     state: &State<W>,
     thread: ObjId,
@@ -78,9 +83,10 @@ fn badged_endpoint<W: Waiting>(
     Ok(cap)
 }
 
-/// CancelBadged: each queued sender whose message has the badge of the capability restarts, and its message is dropped; badge 0
-/// cancels nobody. The refusals are 1 to 3 of the lookup, 4 for a capability of another kind, and 5 where one of the four rights
-/// is missing; they change nothing (manual: Capability Spaces; Message Passing).
+/// CancelBadged: each queued sender whose message has the badge of the capability restarts, and its
+/// message is dropped; badge 0 cancels nobody. The refusals are 1 to 3 of the lookup, 4 for a
+/// capability of another kind, and 5 where one of the four rights is missing; they change nothing
+/// (manual: Capability Spaces; Message Passing).
 pub fn cancel_badged<W: Waiting>(
     state: &mut State<W>,
     core: CoreId,

@@ -12,7 +12,8 @@ use mcs_object_queues::Waiting;
 use mcs_state::State;
 use mcs_types::{Ending, Mode, ObjId, Queue, Status};
 
-/// The open message of a thread that leaves this queue is dropped, where it sends there: nobody receives it (own).
+/// The open message of a thread that leaves this queue is dropped, where it sends there: nobody
+/// receives it (own).
 fn drop_letter<W: Waiting>(state: &mut State<W>, thread: ObjId, queue: Queue)
     requires room { HasRoomFor (drops_from thread queue) state.old }
     ensures { Makes (drops_from thread queue) state.old state.new }
@@ -77,9 +78,9 @@ fn leave<W: Waiting>(state: &mut State<W>, thread: ObjId)
     }
 }
 
-/// Cancels what a thread is blocked on, and sets its mode: a queued sender's message is dropped, a thread leaves its queue, and
-/// the reply object that owes a caller owes nobody any more; its chain loses it and what lies below (own; manual: Threads and
-/// Execution).
+/// Cancels what a thread is blocked on, and sets its mode: a queued sender's message is dropped, a
+/// thread leaves its queue, and the reply object that owes a caller owes nobody any more; its chain
+/// loses it and what lies below (own; manual: Threads and Execution).
 pub fn cancel<W: Waiting>(state: &mut State<W>, thread: ObjId, mode: Mode)
     requires there { IsThere (so_far state.old) Kind.Thread thread }
     requires room { HasRoomFor (cancelled thread mode) state.old }

@@ -24,7 +24,8 @@ pub fn find_thread<W: Waiting>(
     find_object(state, thread, Kind::Thread, address)
 }
 
-/// The thread to which a priority is given, where it is at most the maximum controlled priority of the authority.
+/// The thread to which a priority is given, where it is at most the maximum controlled priority of
+/// the authority.
 pub fn thread_to_set<W: Waiting>(
     state: &State<W>,
     thread: ObjId,

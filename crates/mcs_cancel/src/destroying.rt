@@ -68,7 +68,8 @@ fn clear<W: Waiting>(state: &mut State<W>, notification: ObjId)
     }
 }
 
-/// Nobody is left with a notification: its waiters restart, no thread is bound to it, and no context is homed at it.
+/// Nobody is left with a notification: its waiters restart, no thread is bound to it, and no
+/// context is homed at it.
 fn release_notification<W: Waiting>(state: &mut State<W>, notification: ObjId)
     requires room { HasRoomFor (releases notification Kind.Notification) state.old }
     ensures made { Makes (releases notification Kind.Notification) state.old state.new }
@@ -130,7 +131,8 @@ fn dismiss<W: Waiting>(state: &mut State<W>, reply: ObjId)
     }
 }
 
-/// A reply object owes nobody any more: the caller that it owed is Inactive, and the context whose chain it topped returns to it.
+/// A reply object owes nobody any more: the caller that it owed is Inactive, and the context whose
+/// chain it topped returns to it.
 fn void_deleted<W: Waiting>(state: &mut State<W>, reply: ObjId)
     requires room { HasRoomFor (voided reply) state.old }
     ensures { Makes (voided reply) state.old state.new }
@@ -217,8 +219,8 @@ fn release_object<W: Waiting>(state: &mut State<W>, object: ObjId)
     }
 }
 
-/// Destroys an object that no slot names any more: what waits for it or holds it is cancelled or let go, and it ends (own;
-/// manual: Capability Spaces, deletion).
+/// Destroys an object that no slot names any more: what waits for it or holds it is cancelled or
+/// let go, and it ends (own; manual: Capability Spaces, deletion).
 pub fn destroy<W: Waiting>(state: &mut State<W>, object: ObjId)
     requires there { IsTrue (is_alive (so_far state.old) object) }
     requires kind { IsNoCNode object }

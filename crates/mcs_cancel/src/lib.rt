@@ -1,4 +1,5 @@
-//! What ends a thread's waiting, and what sets its mode and its priority (manual: Threads and Execution).
+//! What ends a thread's waiting, and what sets its mode and its priority (manual: Threads and
+//! Execution).
 #![tactic(auto)]
 
 mod badged;

@@ -1,4 +1,5 @@
--- The row of DeleteCap is what the code does, and an object that ends with its last capability may end.
+-- The row of DeleteCap is what the code does, and an object that ends with its last capability may
+-- end.
 use Rattle.std.specs.Prelude.{ℕ, ◌≡◌, ◌==◌, Bool, true, false, cond, not, ◌∷◌, Some, None, Ok, Err}
 use Rattle.std.proofs.Common.{refl, ap, sym, ◌∙◌, subst}
 use Rattle.std.proofs.lemmas.Bool.{eq-eqb, eqb-true}

@@ -1,4 +1,5 @@
--- The rows of the entries that make objects are what the code does; what is known of a slot once a thread was woken and an object made.
+-- The rows of the entries that make objects are what the code does; what is known of a slot once a
+-- thread was woken and an object made.
 use Rattle.std.specs.Prelude.{ℕ, ◌≡◌, ◌≢◌, ◌<◌, ◌^◌, ◌∷◌, Bool, true, false, cond, is_none, nat_lt, Option, Some, Ok, Err, IsTrue}
 use Rattle.std.proofs.Common.{refl, ap, sym, ◌∙◌, subst}
 use Rattle.mcs_types.specs.Limits.{object_limit}

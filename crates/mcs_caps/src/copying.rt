@@ -14,7 +14,8 @@ use mcs_slots::{with_badge, with_mask};
 use mcs_state::{State, wake};
 use mcs_types::{Badge, Cap, CoreId, ObjId, Place, Refusal, Rights};
 
-/// Wakes the thread, and puts a capability to the object of the one that was found into the empty slot.
+/// Wakes the thread, and puts a capability to the object of the one that was found into the empty
+/// slot.
 // a part of its callers, so that what was found does not go through memory
 #[inline(always)]
 fn fill<W: Waiting>(state: &mut State<W>, thread: ObjId, at: &Placing, cap: Cap)
@@ -42,9 +43,10 @@ fn shift<W: Waiting>(state: &mut State<W>, thread: ObjId, at: &Placing)
     state.fills(at.source, None);
 }
 
-/// CopyCap: the slot at the destination gets the capability at the source, with those of its rights that are asked for. The
-/// refusals are 6, 2 and 3 of the source's and then of the destination's lookup, 8 where the source is empty, and 7 where the
-/// destination is full; they change nothing (manual: Capability Spaces).
+/// CopyCap: the slot at the destination gets the capability at the source, with those of its rights
+/// that are asked for. The refusals are 6, 2 and 3 of the source's and then of the destination's
+/// lookup, 8 where the source is empty, and 7 where the destination is full; they change nothing
+/// (manual: Capability Spaces).
 pub fn copy_cap<W: Waiting>(
     state: &mut State<W>,
     core: CoreId,
@@ -63,8 +65,9 @@ pub fn copy_cap<W: Waiting>(
     Ok(())
 }
 
-/// MintCap: as CopyCap, and the capability gets a badge. Refused like CopyCap, and then with 4 where the source is to no
-/// endpoint or notification and with 12 where it is badged, whatever badge is asked for (manual: Capability Spaces).
+/// MintCap: as CopyCap, and the capability gets a badge. Refused like CopyCap, and then with 4
+/// where the source is to no endpoint or notification and with 12 where it is badged, whatever
+/// badge is asked for (manual: Capability Spaces).
 pub fn mint_cap<W: Waiting>(
     state: &mut State<W>,
     core: CoreId,
@@ -84,8 +87,8 @@ pub fn mint_cap<W: Waiting>(
     Ok(())
 }
 
-/// MoveCap: the slot at the destination gets the capability at the source as it is, and the source is emptied. Refused like
-/// CopyCap (manual: Capability Spaces).
+/// MoveCap: the slot at the destination gets the capability at the source as it is, and the source
+/// is emptied. Refused like CopyCap (manual: Capability Spaces).
 pub fn move_cap<W: Waiting>(
     state: &mut State<W>,
     core: CoreId,

@@ -47,7 +47,8 @@ fn find_deletable<W: Waiting>(
     Ok(at.by_fields())
 }
 
-/// Destroys an object that is there, where no slot names it any more; this is never asked of a CNode that no slot names.
+/// Destroys an object that is there, where no slot names it any more; this is never asked of a
+/// CNode that no slot names.
 fn destroy_last<W: Waiting>(state: &mut State<W>, object: ObjId)
     requires there { IsTrue (is_alive (so_far state.old) object) }
     requires kind { count_of (so_far state.old) object ≡ 0 → IsNoCNode object }
@@ -87,9 +88,9 @@ fn delete<W: Waiting>(state: &mut State<W>, thread: ObjId, at: SlotId)
     }
 }
 
-/// DeleteCap: the slot is emptied, and where it held the last capability to an object, the object is destroyed; an empty slot
-/// stays empty. The refusals are 6, 2 and 3 of the slot's lookup, and 13 for the last capability to a CNode; they change nothing
-/// (manual: Capability Spaces).
+/// DeleteCap: the slot is emptied, and where it held the last capability to an object, the object
+/// is destroyed; an empty slot stays empty. The refusals are 6, 2 and 3 of the slot's lookup, and
+/// 13 for the last capability to a CNode; they change nothing (manual: Capability Spaces).
 pub fn delete_cap<W: Waiting>(
     state: &mut State<W>,
     core: CoreId,

@@ -1,5 +1,5 @@
-//! Operations on capabilities in slots. Each call adds the records of its row of the table, and gives that row's answer
-//! (manual: Capability Spaces).
+//! Operations on capabilities in slots. Each call adds the records of its row of the table, and
+//! gives that row's answer (manual: Capability Spaces).
 #![tactic(auto)]
 
 mod checks;

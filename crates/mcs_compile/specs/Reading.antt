@@ -1,4 +1,5 @@
--- What the lines of a plan before its first step add, one after another, or the first that is refused (own).
+-- What the lines of a plan before its first step add, one after another, or the first that is
+-- refused (own).
 use Rattle.std.specs.Prelude.{◌≡◌, ◌+◌, ℕ, List, [], ◌∷◌, Result, Ok, Err, length, take, nat_le}
 use Rattle.std.specs.Option.{ForSome}
 use Rattle.mcs_names.specs.declared.fault.PlanFault.{PlanFault}
@@ -23,7 +24,8 @@ abbrev pub and_then : {A B : Type 0} → ReadAt A → (A → ReadAt B) → ReadA
 and_then (Ok x) f = f x
 and_then (Err e) f = Err e
 
--- a fault that is told is the one that the reading ends in, at its line; that memory was refused says nothing
+-- a fault that is told is the one that the reading ends in, at its line; that memory was refused
+-- says nothing
 abbrev pub RefusesAt : {X : Type 0} → ReadAt X → PlanFault → Type 0
 RefusesAt read fault = ForSome (told_by fault.why) (λ e. read ≡ Err (fault.line, e))
 

@@ -16,14 +16,16 @@ pub record HasBootOfPlan (s : Script) : Type 0 where
   pub cores : s.cores ≡ cores_of s.laid.plan.cores s.laid.plan.contexts.items
   pub boot : s.boot.items ≡ boot_of s.laid.plan s.laid.layouts.items
 
--- the steps that make threads passive, and the lines from the first step on, are taken; a script says whether these are of users
+-- the steps that make threads passive, and the lines from the first step on, are taken; a script
+-- says whether these are of users
 pub record HasStepsOf (found : List (List ℕ)) (s : Script) : Type 0 where
   pub entries : Entries
   pub taken : behind_said (laid_said s.laid) found ≡ Ok entries
   pub users : s.is_users ≡ are_users entries
 
--- the plan of a script is what lines say before the first step, and the thread that makes others passive where one is; its spaces are
--- laid out, and what each thread can name is what its space has
+-- the plan of a script is what lines say before the first step, and the thread that makes others
+-- passive where one is; its spaces are laid out, and what each thread can name is what its space
+-- has
 pub record HasPlanOfLines (found : List (List ℕ)) (s : Script) : Type 0 where
   pub plan : Said
   pub says : plan_said found ≡ Ok plan

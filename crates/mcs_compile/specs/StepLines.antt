@@ -1,4 +1,5 @@
--- What the lines of a plan from its first step on are taken for, one after another, or the first that is refused (own).
+-- What the lines of a plan from its first step on are taken for, one after another, or the first
+-- that is refused (own).
 use Rattle.std.specs.Prelude.{◌+◌, ◌-◌, ◌&&◌, ℕ, Bool, List, [], ◌∷◌, Option, Some, None, Ok, Err, codes, bytes_eq, option_map, if◌then◌else◌}
 use Rattle.std.specs.Option.{unwrap_or}
 use Rattle.mcs_types.specs.declared.id.CoreId.{CoreId}

@@ -26,18 +26,21 @@ few_lines found = if nat_lt LINES (length found) then Err (LINES + 1, limit LINE
 abbrev pub lines_in : List ℕ → ReadAt (List (List ℕ))
 lines_in bytes = if is_utf8 bytes then few_lines (lines bytes) else Err (line_of bytes (utf8_valid_len bytes), no_text)
 
--- all lines are taken, and the boot is refused, which is told at the last: a machine may not have what it makes
+-- all lines are taken, and the boot is refused, which is told at the last: a machine may not have
+-- what it makes
 pub record RefusesBoot (laid : LaidPlan) (found : List (List ℕ)) (fault : PlanFault) : Type 0 where
   pub entries : Entries
   pub taken : behind_said laid found ≡ Ok entries
   pub line : fault.line ≡ length found
   pub told : Refuses (boot_fits laid.plan) fault.why
 
--- what is refused of a plan that is laid out: the first step or line that may not be taken, or in the end its boot
+-- what is refused of a plan that is laid out: the first step or line that may not be taken, or in
+-- the end its boot
 abbrev pub RefusesLaid : LaidPlan → List (List ℕ) → PlanFault → Type 0
 RefusesLaid laid found fault = RefusesAt (behind_said laid found) fault ⊎ RefusesBoot laid found fault
 
--- what is refused of a plan that is laid out with the thread that makes others passive, where one is
+-- what is refused of a plan that is laid out with the thread that makes others passive, where one
+-- is
 pub record RefusesStarted (plan : Said) (found : List (List ℕ)) (fault : PlanFault) : Type 0 where
   pub new : Said
   pub started : IsStarted plan new

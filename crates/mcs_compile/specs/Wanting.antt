@@ -99,7 +99,8 @@ asked_more names words line = do
   need (is_asked word) (not_wanted word)
   answers_more names rest (with_word line word)
 
--- a question: what it asks of; behind the name of an object a word of questions; then names and numbers
+-- a question: what it asks of; behind the name of an object a word of questions; then names and
+-- numbers
 abbrev pub question_read : NameList → List ℕ → List (List ℕ) → Read (List ℕ)
 question_read names first words = do
   line ← subject_more names first (codes "#?")

@@ -216,7 +216,8 @@ impl Compiler {
         at(opening.line, self.add_opening(alloc, opening))
     }
 
-    /// Does what makes the thread passive that is at this place. A fault is told at the line that makes it so.
+    /// Does what makes the thread passive that is at this place. A fault is told at the line that
+    /// makes it so.
     fn open(&mut self, alloc: Global, place: usize) -> Result<(), PlanFault>
         requires { place < length self.old.laid.plan.passives.items }
         ensures added { OnOk result (opened_at (laid_said self.old.laid) place ≡ Ok tt) }
@@ -259,8 +260,8 @@ impl Compiler {
         at(0, self.add_step(alloc, starter, "suspend starter"))
     }
 
-    /// The steps before the first of the plan: each passive thread receives, and its context is taken
-    /// away; then the thread that did this suspends itself.
+    /// The steps before the first of the plan: each passive thread receives, and its context is
+    /// taken away; then the thread that did this suspends itself.
     fn open_all(&mut self, alloc: Global) -> Result<(), PlanFault>
         ensures added { OnOk result (opened_said (laid_said self.old.laid) ≡ Ok tt) }
         ensures told { IfErr result (RefusesAt (opened_said (laid_said self.old.laid))) }
@@ -271,8 +272,8 @@ impl Compiler {
         self.leave(alloc)
     }
 
-    /// Mixed where lines of the other kind stood before, PassiveUser for one of a user where a thread is
-    /// passive.
+    /// Mixed where lines of the other kind stood before, PassiveUser for one of a user where a
+    /// thread is passive.
     fn goes_with(&mut self, head: Head) -> Result<(), Why>
         ensures goes { OnOk result
             (goes_on (laid_said self.old.laid) self.old.entries head.core ≡ Ok self.new.entries) }
@@ -591,7 +592,8 @@ fn lines_in(alloc: Global, bytes: &[u8]) -> Result<Vec<&str>, PlanFault>
     few_lines(alloc, text)
 }
 
-/// The script of a plan (own), whose boot is that of the plan. A fault tells the first line that is refused, and why.
+/// The script of a plan (own), whose boot is that of the plan. A fault tells the first line that is
+/// refused, and why.
 #[tactic(auto, using(crate::proofs::Said::has_plan_of, crate::proofs::Said::refused_lines))]
 pub fn compile(alloc: Global, bytes: &[u8]) -> Result<Script, PlanFault>
     ensures boot { IfOk result HasBootOfPlan }

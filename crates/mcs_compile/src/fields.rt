@@ -58,7 +58,8 @@ fn sends(count: u8) -> Fields
     ]
 }
 
-/// How many addresses stand behind the word of an entry that has nothing else; None where it is none of these.
+/// How many addresses stand behind the word of an entry that has nothing else; None where it is
+/// none of these.
 fn address_count(key: &str) -> Option<u8>
     ensures { result ≡ address_count key.now }
 {
@@ -82,7 +83,8 @@ fn send_count(key: &str) -> Option<u8>
     }
 }
 
-/// What stands behind the word of one that names places, or sets a priority; None where it is none of these.
+/// What stands behind the word of one that names places, or sets a priority; None where it is none
+/// of these.
 fn placing(key: &str) -> Option<Fields>
     ensures { result ≡ placing key.now }
 {

@@ -2,10 +2,11 @@
 //!
 //! ```text
 //! bytes ── lines ──> lines
-//! lines before the first step ── mcs_plans ──> Plan ── mcs_laying ──> Laid: the boot, and what each thread names
-//! lines of steps and of users ── steps, entries ──> the same lines, with addresses in the place of names
+//! lines before the first step ── mcs_plans ──> Plan ── mcs_laying ──> Laid: the boot, and what
+//!     each thread names
+//! lines of steps and of users ── steps, entries ──> the same lines, with addresses for names
 //! lines that begin with `?`   ── wanting ──> what `mcslab check` reads
-//! all of these are a Script   ── writing ──> the text; mapping ──> the table of names and addresses
+//! all of these are a Script   ── writing ──> the text; mapping ──> the table of names
 //! ```
 #![tactic(auto)]
 

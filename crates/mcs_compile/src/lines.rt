@@ -10,7 +10,8 @@ ghost use Rattle.mcs_compile.specs.Stepping.{cut_at_colon, asks, begins_steps, c
 use mcs_names::{Why, is_white, split_comment};
 use std::alloc::{AllocError, Global};
 
-/// How many bytes a line of a plan, or one that is made of it, may have (own): a script's may have 4,096.
+/// How many bytes a line of a plan, or one that is made of it, may have (own): a script's may have
+/// 4,096.
 pub const LINE_BYTES: usize = 4_000;
 
 /// The lines of a text.
@@ -56,7 +57,8 @@ pub fn is_short(line: &str) -> Result<(), Why>
     })
 }
 
-/// A comment of a script; one that begins with `!` is a question to all orders, which stands there as it is.
+/// A comment of a script; one that begins with `!` is a question to all orders, which stands there
+/// as it is.
 fn comment_of(alloc: Global, comment: &str) -> Result<String, AllocError> {
     let comment = comment.trim();
     if comment.is_empty() {

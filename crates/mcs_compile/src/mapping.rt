@@ -78,8 +78,8 @@ fn add_objects(alloc: Global, to: &mut String, script: &Script) -> Result<(), Al
     Ok(())
 }
 
-/// A line for each name of each thread: the thread, the name, the address, and the capability as the
-/// plan wrote it; then the objects and their names.
+/// A line for each name of each thread: the thread, the name, the address, and the capability as
+/// the plan wrote it; then the objects and their names.
 pub fn write_map(alloc: Global, script: &Script) -> Result<String, AllocError> {
     let (threads, names) = widths(script);
     let mut to = String::new(alloc);

@@ -170,7 +170,8 @@ unheld old new id core given is made x = ap (λ r. option_and_then (λ (r : Cont
         let number = ap (λ (y : ObjId). y.serial) (here ∙ is) in
         absurd (omega (arith, high, number))
 
--- a row is written over that of a context: its holder is that of the row, and its core as it was where both have it
+-- a row is written over that of a context: its holder is that of the row, and its core as it was
+-- where both have it
 pub holder_written : (s : Objects ContextRow) (id x : ObjId) (r : ContextRow) → IsSome (value_at s id) → holder_at (with_value s id r) x ≡ value_after x id r.holder (holder_at s x)
 holder_written s id x r there = ap (option_and_then (λ k. k.holder)) (value-written s id x r there) ∙ go (same x id)
   where
@@ -200,7 +201,8 @@ unhomed old new id core given is made x = ap (λ r. option_and_then (λ (r : Con
         let number = ap (λ (y : ObjId). y.serial) (here ∙ is) in
         absurd (omega (arith, high, number))
 
--- a row is written over that of a context: its home is that of the row, and its holder or home as it was where both have it
+-- a row is written over that of a context: its home is that of the row, and its holder or home as
+-- it was where both have it
 pub home_written : (s : Objects ContextRow) (id x : ObjId) (r : ContextRow) → IsSome (value_at s id) → home_at (with_value s id r) x ≡ value_after x id r.home (home_at s x)
 home_written s id x r there = ap (option_and_then (λ k. k.home)) (value-written s id x r there) ∙ go (same x id)
   where

@@ -1,4 +1,5 @@
--- What a contract sees of `Contexts`: what is kept of each context that is there, and what each thread holds.
+-- What a contract sees of `Contexts`: what is kept of each context that is there, and what each
+-- thread holds.
 use Rattle.std.specs.Prelude.{◌≡◌, Bool, cond, ◌&&◌, ◌||◌, List, length, nat_le, Option, Some, None, is_some, is_none, option_map, option_and_then, Result, Ok, Err}
 use Rattle.mcs_types.specs.declared.id.ObjId.{ObjId}
 use Rattle.mcs_types.specs.declared.id.CoreId.{CoreId}
@@ -109,7 +110,8 @@ LendsContexts old new from to = (x : ObjId) → context_in new x ≡ lent_contex
 abbrev pub is_holder : ObjId → Bool
 is_holder t = same_kind t.kind Thread && nat_le 1 t.serial && nat_le t.serial 256
 
--- whether a thread may lend its context to another: the first holds one, and the second may hold one and holds none
+-- whether a thread may lend its context to another: the first holds one, and the second may hold
+-- one and holds none
 abbrev pub may_lend : Holding → ObjId → ObjId → Bool
 may_lend v from to = is_some (context_in v from) && is_holder to && is_none (context_in v to)
 
@@ -117,7 +119,8 @@ may_lend v from to = is_some (context_in v from) && is_holder to && is_none (con
 abbrev pub joined : Holding → ObjId → ObjId → Result (Unit {0}) Refusal
 joined v s t = cond (is_some (holder_in v s) || is_some (home_in v s) || is_some (context_in v t)) (Err AlreadyBound) (Ok tt)
 
--- whether a context may wake with a thread: it is there and nobody holds it, and the thread may hold one and holds none
+-- whether a context may wake with a thread: it is there and nobody holds it, and the thread may
+-- hold one and holds none
 abbrev pub may_wake : Holding → ObjId → ObjId → Bool
 may_wake v s t = is_some (core_in v s) && is_none (holder_in v s) && is_holder t && is_none (context_in v t)
 

@@ -13,8 +13,8 @@ use std::alloc::Global;
 use std::marker::Model;
 use std::mem;
 
-/// A scheduling context: its core, the thread that holds it (manual: Threads and Execution), and the notification at which it is
-/// homed (own).
+/// A scheduling context: its core, the thread that holds it (manual: Threads and Execution), and
+/// the notification at which it is homed (own).
 #[derive(Clone, Copy)]
 pub struct ContextRow {
     core: CoreId,
@@ -22,15 +22,16 @@ pub struct ContextRow {
     home: Option<ObjId>,
 }
 
-/// Up to 256 scheduling contexts, which come and go under serials that count from 1, and the threads of the serials 1 to 256
-/// that hold them (manual: Threads and Execution). A context has at most one holder and a thread at most one context. All
-/// memory is taken when they are made (own).
+/// Up to 256 scheduling contexts, which come and go under serials that count from 1, and the
+/// threads of the serials 1 to 256 that hold them (manual: Threads and Execution). A context has at
+/// most one holder and a thread at most one context. All memory is taken when they are made (own).
 pub struct Contexts {
     rows: Store<ContextRow>,
     held: Vec<Option<ObjId>>,
 }
 
-// By hand, so that it is a function of its own: a derived drop would be proved anew wherever it is let go.
+// By hand, so that it is a function of its own: a derived drop would be proved anew wherever it is
+// let go.
 impl Drop for Contexts {
     fn drop(self) {
         let Contexts { rows: _, held: _ } = self;
@@ -112,7 +113,8 @@ impl Contexts {
         (rows, held)
     }
 
-    /// A table like this one, in the memory of a spare one (own). OutOfMemory where memory is refused.
+    /// A table like this one, in the memory of a spare one (own). OutOfMemory where memory is
+    /// refused.
     pub fn copy(&self, alloc: Global, spare: Option<Contexts>) -> Result<Contexts, OutOfMemory>
         ensures { IfOk result (λ t. t ≡ self.now) }
     {
@@ -129,14 +131,16 @@ impl Contexts {
         })
     }
 
-    /// What is kept of each context: how many were made and are there, and whether there is room for one more (own).
+    /// What is kept of each context: how many were made and are there, and whether there is room
+    /// for one more (own).
     pub fn rows(&self) -> &Store<ContextRow>
         ensures { result.now ≡ self.now.rows }
     {
         &self.rows
     }
 
-    /// Adds a context of a core where there is room, as `rows` tell: its serial is the next, and nobody holds it (own).
+    /// Adds a context of a core where there is room, as `rows` tell: its serial is the next, and
+    /// nobody holds it (own).
     pub fn add(&mut self, core: CoreId) -> ObjId
         requires { no_room self.old ≡ false }
         ensures id { result ≡ next_context self.old }
@@ -154,8 +158,8 @@ impl Contexts {
         })
     }
 
-    /// Forgets a context that is there, as `core` tells, and that nobody holds, as `holder` tells: its serial is never given again
-    /// (manual: Kernel Services and Objects).
+    /// Forgets a context that is there, as `core` tells, and that nobody holds, as `holder` tells:
+    /// its serial is never given again (manual: Kernel Services and Objects).
     pub fn close(&mut self, context: ObjId)
         requires there { IsSome (core_in self.old context) }
         requires free { holder_in self.old context ≡ None }
@@ -169,7 +173,8 @@ impl Contexts {
         self.rows.remove(context);
     }
 
-    /// The core of a context, or None where it was not made or was closed (manual: Threads and Execution).
+    /// The core of a context, or None where it was not made or was closed (manual: Threads and
+    /// Execution).
     pub fn core(&self, context: ObjId) -> Option<CoreId>
         ensures { result ≡ core_in self.now context }
     {
@@ -193,7 +198,8 @@ impl Contexts {
         row.home
     }
 
-    /// The context that a thread holds, or None where it holds none (manual: Threads and Execution).
+    /// The context that a thread holds, or None where it holds none (manual: Threads and
+    /// Execution).
     pub fn of(&self, thread: ObjId) -> Option<ObjId>
         ensures { result ≡ context_in self.now thread }
     {
@@ -201,8 +207,8 @@ impl Contexts {
         Some(*context)
     }
 
-    /// Holding is one to one: two contexts with one holder are one context. What is held was made, and the holder is a thread of
-    /// a serial from 1 to 256 (own).
+    /// Holding is one to one: two contexts with one holder are one context. What is held was made,
+    /// and the holder is a thread of a serial from 1 to 256 (own).
     pub fn is_one_to_one(&self)
         ensures pairs { IsOneToOne self.now }
         ensures one_context { HoldersDiffer self.now }
@@ -212,7 +218,8 @@ impl Contexts {
         let _ = &self.held;
     }
 
-    /// A context that was made is held by this thread from now on, which holds none, or by nobody (manual: Threads and Execution).
+    /// A context that was made is held by this thread from now on, which holds none, or by nobody
+    /// (manual: Threads and Execution).
     // a part of its callers, which know whether a thread is named
     #[inline(always)]
     pub fn give(&mut self, context: ObjId, thread: Option<ObjId>)
@@ -236,9 +243,10 @@ impl Contexts {
         }
     }
 
-    /// Gives a context to a thread. Refused, in this order, where the context was not made or was closed (Missing; own), where
-    /// the thread is none of a serial from 1 to 256 (Range; own), and where the context has a holder or a home, or the thread has a
-    /// context (AlreadyBound): then nothing changes (manual: Threads and Execution).
+    /// Gives a context to a thread. Refused, in this order, where the context was not made or was
+    /// closed (Missing; own), where the thread is none of a serial from 1 to 256 (Range; own), and
+    /// where the context has a holder or a home, or the thread has a context (AlreadyBound): then
+    /// nothing changes (manual: Threads and Execution).
     pub fn bind(&mut self, context: ObjId, thread: ObjId) -> Result<(), Refusal>
         ensures answer { result ≡ bound self.old context thread }
         ensures refused { OnErr result (self.new ≡ self.old) }
@@ -264,8 +272,9 @@ impl Contexts {
         Ok(())
     }
 
-    /// Gives a context to a thread, whether it is homed or not. False where the context was not made or was closed, where it has a
-    /// holder, and where the thread is none of a serial from 1 to 256 or has a context: then nothing changes (own).
+    /// Gives a context to a thread, whether it is homed or not. False where the context was not
+    /// made or was closed, where it has a holder, and where the thread is none of a serial from 1
+    /// to 256 or has a context: then nothing changes (own).
     pub fn wake(&mut self, context: ObjId, thread: ObjId) -> bool
         ensures answer { result ≡ may_wake self.old context thread }
         ensures refused { OnFalse result (self.new ≡ self.old) }
@@ -286,7 +295,8 @@ impl Contexts {
         true
     }
 
-    /// Takes a context from its holder. NotBound where nobody holds it: then nothing changes (manual: Threads and Execution).
+    /// Takes a context from its holder. NotBound where nobody holds it: then nothing changes
+    /// (manual: Threads and Execution).
     pub fn unbind(&mut self, context: ObjId) -> Result<(), Refusal>
         ensures answer { result ≡ unbound self.old context }
         ensures refused { OnErr result (self.new ≡ self.old) }
@@ -306,8 +316,9 @@ impl Contexts {
         }
     }
 
-    /// Homes a context at a notification, whether it is held or not. Refused where the context was not made or was closed (Missing),
-    /// and where it is homed (AlreadyBound): then nothing changes (own).
+    /// Homes a context at a notification, whether it is held or not. Refused where the context was
+    /// not made or was closed (Missing), and where it is homed (AlreadyBound): then nothing changes
+    /// (own).
     pub fn home(&mut self, context: ObjId, notification: ObjId) -> Result<(), Refusal>
         ensures answer { result ≡ homed self.old context }
         ensures refused { OnErr result (self.new ≡ self.old) }
@@ -327,7 +338,8 @@ impl Contexts {
         }
     }
 
-    /// Takes a context from its home. NotBound where it is homed nowhere: then nothing changes (own).
+    /// Takes a context from its home. NotBound where it is homed nowhere: then nothing changes
+    /// (own).
     pub fn unhome(&mut self, context: ObjId) -> Result<(), Refusal>
         ensures answer { result ≡ unhomed self.old context }
         ensures refused { OnErr result (self.new ≡ self.old) }
@@ -346,8 +358,9 @@ impl Contexts {
         }
     }
 
-    /// Moves the context of one thread to another. False where the first holds none, and where the second holds one or is no
-    /// thread of a serial from 1 to 256: then nothing changes (manual: Threads and Execution).
+    /// Moves the context of one thread to another. False where the first holds none, and where the
+    /// second holds one or is no thread of a serial from 1 to 256: then nothing changes (manual:
+    /// Threads and Execution).
     pub fn lend(&mut self, from: ObjId, to: ObjId) -> bool
         ensures answer { result ≡ may_lend self.old from to }
         ensures refused { OnFalse result (self.new ≡ self.old) }

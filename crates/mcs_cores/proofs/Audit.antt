@@ -10,7 +10,8 @@ use Rattle.mcs_seats.specs.Settling.{HasSeats, AreCounted, Because, HasReason}
 use Rattle.mcs_seats.specs.declared.settle.FinishFault.{FinishFault}
 use Rattle.mcs_seats.proofs.Counting.{enough-seats}
 
--- where no core lacks a seat, no part of the ledger is missing, so the seats were told what it counts
+-- where no core lacks a seat, no part of the ledger is missing, so the seats were told what it
+-- counts
 pub all-told : (b : Book) (seats : List Seat) (given : Bool) (kept parts total : ℕ)
     → kept + (if given then b.boot.cores else 0) ≡ core_limit → parts ≡ core_limit → total ≡ length b.lines
     → kept + length seats ≤ parts → (kept + length seats ≡ parts → told_by seats ≡ total) → AreCounted b seats

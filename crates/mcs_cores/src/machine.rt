@@ -16,8 +16,9 @@ use std::marker::Model;
 use std::sync::ledger::{Blank, Book, Ledger, Share};
 use std::sync::{Mutex, MutexGuard, Wait};
 
-/// What lies under the lock: the kernel, and the ledger of the lines that seats were told. Clauses see the kernel's book. The
-/// ledger's total is the number of lines after the boot, and a part of it is each core's.
+/// What lies under the lock: the kernel, and the ledger of the lines that seats were told. Clauses
+/// see the kernel's book. The ledger's total is the number of lines after the boot, and a part of
+/// it is each core's.
 #[derive(Drop)]
 pub struct LockedKernel<G: Ledger, L: Lines> {
     kernel: Kernel<L>,
@@ -61,8 +62,8 @@ impl<G: Ledger, L: Lines> LockedKernel<G, L> {
         seat.enter(alloc, &mut self.kernel, &mut self.book, thread, prepared)
     }
 
-    /// A seat for each of so many cores, where none was given yet: as many as the boot has. No invariant says outside of the lock
-    /// what is true under it, so both are tested again.
+    /// A seat for each of so many cores, where none was given yet: as many as the boot has. No
+    /// invariant says outside of the lock what is true under it, so both are tested again.
     fn seats(&mut self, alloc: Global, cores: u8) -> Result<Vec<CoreSeat<G>>, OutOfMemory>
         ensures unchanged { self.new ≡ self.old }
         ensures seats { IfOk result (λ v. AreNew v.items) }
@@ -77,7 +78,8 @@ impl<G: Ledger, L: Lines> LockedKernel<G, L> {
         Ok(seats)
     }
 
-    /// Compares what the seats were told with the book, and audits the ledger with the shares of all.
+    /// Compares what the seats were told with the book, and audits the ledger with the shares of
+    /// all.
     fn settle(
         self,
         alloc: Global,
@@ -148,7 +150,8 @@ fn new_seats<G: Ledger>(
     Ok(seats)
 }
 
-/// A kernel that cores share: each entry has the lock for itself, from its first test to its last record.
+/// A kernel that cores share: each entry has the lock for itself, from its first test to its last
+/// record.
 #[derive(Drop)]
 pub struct Machine<G: Ledger, L: Lines> {
     kernel: Mutex<LockedKernel<G, L>>,
@@ -166,7 +169,8 @@ pub enum SeatsFault {
 }
 
 impl<G: Ledger, L: Lines> Machine<G, L> {
-    /// A machine of a kernel whose book has line 0 alone, over a new ledger with a part for each of 16 cores.
+    /// A machine of a kernel whose book has line 0 alone, over a new ledger with a part for each of
+    /// 16 cores.
     pub fn new(kernel: Kernel<L>, blank: Blank) -> Machine<G, L>
         requires name { blank.name ≡ G.name }
         requires parts { blank.parts ≡ G.parts }
@@ -225,9 +229,10 @@ impl<G: Ledger, L: Lines> Machine<G, L> {
         kernel.into_inner()
     }
 
-    /// Lets in an entry of a thread on the seat's core, or turns it away; the seat keeps the entry and what became of it. It
-    /// waits for the lock, behind which the seat takes no memory. OutOfMemory where the seat or the kernel gets no room: then
-    /// both are as they were, and the entry is dropped.
+    /// Lets in an entry of a thread on the seat's core, or turns it away; the seat keeps the entry
+    /// and what became of it. It waits for the lock, behind which the seat takes no memory.
+    /// OutOfMemory where the seat or the kernel gets no room: then both are as they were, and the
+    /// entry is dropped.
     pub fn enter<R: Wait>(
         &self,
         rt: &R,
@@ -244,9 +249,10 @@ impl<G: Ledger, L: Lines> Machine<G, L> {
         self.kernel.lock(rt).enter(alloc, seat, thread, prepared)
     }
 
-    /// Compares what the seats were told with the book, as settle_seats does, and hands the kernel back where all agree. No
-    /// clause can name the book that lay under the lock where it is not handed back: a fault is right for some legal book. By
-    /// the ledger either book has as many lines after the boot as the seats were told, where no core lacks one.
+    /// Compares what the seats were told with the book, as settle_seats does, and hands the kernel
+    /// back where all agree. No clause can name the book that lay under the lock where it is not
+    /// handed back: a fault is right for some legal book. By the ledger either book has as many
+    /// lines after the boot as the seats were told, where no core lacks one.
     pub fn finish(
         self,
         alloc: Global,

@@ -46,7 +46,8 @@ impl UserPosition {
         }
     }
 
-    /// What the user of this number can give now; None where it has no entry left, or its thread may enter nowhere.
+    /// What the user of this number can give now; None where it has no entry left, or its thread
+    /// may enter nowhere.
     fn offer<L: Lines>(&self, kernel: &Kernel<L>, user: usize) -> Option<Offer> {
         let row = kernel.thread(self.thread)?;
         let status = row.status();
@@ -91,7 +92,8 @@ impl Positions {
         })
     }
 
-    /// What a core sees now. Each user is asked once what it can give, since its thread may enter on one core alone.
+    /// What a core sees now. Each user is asked once what it can give, since its thread may enter
+    /// on one core alone.
     pub(crate) fn look<L: Lines>(&self, kernel: &Kernel<L>, core: CoreId) -> Sight {
         let mut sight = Sight::new(core);
         for (user, position) in self.users.iter().enumerate() {
@@ -102,8 +104,8 @@ impl Positions {
         sight
     }
 
-    /// Enters what a core picked, and moves the user's position on where it was let in; None where that position was moved
-    /// since the pick.
+    /// Enters what a core picked, and moves the user's position on where it was let in; None where
+    /// that position was moved since the pick.
     pub(crate) fn enter<G: Ledger, L: Lines>(
         &mut self,
         alloc: Global,

@@ -45,7 +45,8 @@ type Done<G> = (CoreSeat<G>, Result<(), RunFault>);
 /// The threads of the cores.
 type Running<G> = Vec<thread::JoinHandle<Done<G>>>;
 
-/// Whether a run ends because an entry was turned away. What the kernel turned away for its thread's sake is picked anew.
+/// Whether a run ends because an entry was turned away. What the kernel turned away for its
+/// thread's sake is picked anew.
 fn ends_run(turned: Turned) -> Result<(), RunFault> {
     match turned {
         Turned::OutOfMemory => Err(RunFault::OutOfMemory),
@@ -58,7 +59,8 @@ fn ends_run(turned: Turned) -> Result<(), RunFault> {
 }
 
 impl<G: Ledger, L: Lines, T: Gate> RunContext<'_, G, L, T> {
-    /// Tells those of some cores that wait what they pick. They do not wait any more, and have to be woken.
+    /// Tells those of some cores that wait what they pick. They do not wait any more, and have to
+    /// be woken.
     fn tell<R: Wait>(
         &self,
         rt: &R,
@@ -84,8 +86,8 @@ impl<G: Ledger, L: Lines, T: Gate> RunContext<'_, G, L, T> {
         told
     }
 
-    /// What the core does next, by what it sees now, with the cores that have to be woken for that. Where no core can pick
-    /// anything, the run is over.
+    /// What the core does next, by what it sees now, with the cores that have to be woken for that.
+    /// Where no core can pick anything, the run is over.
     fn look<R: Wait>(
         &self,
         rt: &R,
@@ -121,9 +123,10 @@ impl<G: Ledger, L: Lines, T: Gate> RunContext<'_, G, L, T> {
         next
     }
 
-    /// Enters what the core picked, where its user has not moved since, and looks what the core does next. Only what the core
-    /// looked at may be entered, so the users' positions stay locked from the test whether they moved until they are moved
-    /// on. The locks are taken once for both, and others are woken when they are given up.
+    /// Enters what the core picked, where its user has not moved since, and looks what the core
+    /// does next. Only what the core looked at may be entered, so the users' positions stay locked
+    /// from the test whether they moved until they are moved on. The locks are taken once for both,
+    /// and others are woken when they are given up.
     fn enter<R: Wait>(
         &self,
         rt: &R,
@@ -209,8 +212,8 @@ fn lowest_fault(
     }
 }
 
-/// Starts a thread for each seat, for which there is room; where one is refused, the run ends with the fault of the lowest
-/// core.
+/// Starts a thread for each seat, for which there is room; where one is refused, the run ends with
+/// the fault of the lowest core.
 fn start_all<
     's,
     E,
@@ -246,7 +249,8 @@ fn start_all<
     (running, fault)
 }
 
-/// Joins all threads, and gathers their seats, for which there is room; with the fault of the lowest core.
+/// Joins all threads, and gathers their seats, for which there is room; with the fault of the
+/// lowest core.
 fn join_all<G: Ledger, R: Threads>(
     rt: &R,
     running: Running<G>,
@@ -302,17 +306,20 @@ fn run_all<G: Ledger + Send + Sync, L: Lines + Send + Sync, T: Gate, R: Threads 
 }
 
 impl<G: Ledger + Send + Sync, L: Lines + Send + Sync> Machine<G, L> {
-    /// Works off the users' lists, each core by a host thread of its own, until no thread that may run has entries left;
-    /// an entry that is to be given again counts among them (own). A core picks its thread of greatest priority, then of
-    /// lowest serial, among those with entries left; it gives the thread's next entry, or its last one again where that was
-    /// answered Waits and the thread was restarted. Where the user gave another entry meanwhile, nothing is entered, and
-    /// after that, as after an entry that was turned away, the core picks anew. The gate is called between the pick and
-    /// the entry, and after an entry that was let in. There has to be a seat for each core of the machine: for a core
-    /// without one, which has entries left, the others wait.
+    /// Works off the users' lists, each core by a host thread of its own, until no thread that may
+    /// run has entries left; an entry that is to be given again counts among them (own). A core
+    /// picks its thread of greatest priority, then of lowest serial, among those with entries left;
+    /// it gives the thread's next entry, or its last one again where that was answered Waits and
+    /// the thread was restarted. Where the user gave another entry meanwhile, nothing is entered,
+    /// and after that, as after an entry that was turned away, the core picks anew. The gate is
+    /// called between the pick and the entry, and after an entry that was let in. There has to be a
+    /// seat for each core of the machine: for a core without one, which has entries left, the
+    /// others wait.
     ///
-    /// All seats come back but those whose thread could not be started. BookFull (1) where the book has no room for an
-    /// entry, OutOfMemory (2) where a growth was refused, NoThread (3) where a thread could not be started: of several
-    /// faults that of the lowest core. The other cores then stop at their next turn.
+    /// All seats come back but those whose thread could not be started. BookFull (1) where the book
+    /// has no room for an entry, OutOfMemory (2) where a growth was refused, NoThread (3) where a
+    /// thread could not be started: of several faults that of the lowest core. The other cores then
+    /// stop at their next turn.
     pub fn run<R: Threads + Wait + Sync, T: Gate>(
         &self,
         rt: &R,

@@ -25,8 +25,8 @@ struct News {
     changed: Condvar,
 }
 
-/// How far the users are, and the news of each core. The lock of the positions is taken before the kernel's, and either before
-/// that of news.
+/// How far the users are, and the news of each core. The lock of the positions is taken before the
+/// kernel's, and either before that of news.
 #[derive(Drop)]
 pub(crate) struct SharedPositions {
     pub(crate) positions: Mutex<Positions>,
@@ -66,7 +66,8 @@ impl SharedPositions {
         })
     }
 
-    /// Tells a core something. Who does so wakes it when the locks are given up, for which it would have to wait.
+    /// Tells a core something. Who does so wakes it when the locks are given up, for which it would
+    /// have to wait.
     pub(crate) fn tell<R: Wait>(&self, rt: &R, core: CoreId, next: Next) {
         if let Some(news) = self.news.get(core.0 as usize) {
             *news.told.lock(rt) = next;
@@ -95,7 +96,8 @@ impl SharedPositions {
         }
     }
 
-    /// Ends the run for all cores: they stop at their next turn. Those that wait are told so, and have to be woken.
+    /// Ends the run for all cores: they stop at their next turn. Those that wait are told so, and
+    /// have to be woken.
     pub(crate) fn end<R: Wait>(&self, rt: &R, positions: &mut Positions) -> CoreSet {
         positions.over = true;
         for core in 0..CORES {

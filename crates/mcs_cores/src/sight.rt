@@ -2,8 +2,8 @@
 use crate::core_set::CoreSet;
 use mcs_types::{CoreId, ObjId, Prio};
 
-/// An entry that a core picked: the user and its thread, the number of the entry in the user's list, and how often the
-/// user's position had been moved by then.
+/// An entry that a core picked: the user and its thread, the number of the entry in the user's
+/// list, and how often the user's position had been moved by then.
 #[derive(Clone, Copy, Drop)]
 pub(crate) struct Turn {
     pub(crate) thread: ObjId,

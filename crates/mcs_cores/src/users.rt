@@ -23,7 +23,8 @@ impl Model for UserList {
 }
 
 impl UserList {
-    /// Adds an entry to the end. OutOfMemory where a growth was refused: then the list is as it was.
+    /// Adds an entry to the end. OutOfMemory where a growth was refused: then the list is as it
+    /// was.
     fn push(&mut self, entry: Entry) -> Result<(), OutOfMemory>
         ensures added { OnOk result
             (self.new ≡ record self.old { entries = self.old.entries ++ entry ∷ [] }) }
@@ -60,7 +61,8 @@ impl Users {
         }
     }
 
-    /// Adds an entry to the end of a thread's list. OutOfMemory where a growth was refused: then the lists are as they were.
+    /// Adds an entry to the end of a thread's list. OutOfMemory where a growth was refused: then
+    /// the lists are as they were.
     pub fn add(&mut self, thread: ObjId, entry: Entry) -> Result<(), OutOfMemory>
         ensures added { OnOk result (self.new ≡ with_entry self.old thread entry) }
         ensures unchanged { OnErr result (self.new ≡ self.old) }

@@ -1,4 +1,5 @@
-//! One level of lookup: the next bits of an address are the guard of a CNode's capability, and then the index of a slot.
+//! One level of lookup: the next bits of an address are the guard of a CNode's capability, and then
+//! the index of a slot.
 ghost use Rattle.std.specs.Prelude.{◌≡◌, ◌≤◌, ◌<◌, ◌/◌, ◌%◌, ◌^◌, IfOk};
 ghost use Rattle.mcs_cspace.specs.Levels.{past_guard, level_at};
 
@@ -46,7 +47,8 @@ fn index_at(word: u64, below: u32, width: u32) -> u8
     (word >> below & mask) as u8
 }
 
-/// How many bits are left behind a guard, where the next of `left` bits of the address are the guard's. Most guards have none.
+/// How many bits are left behind a guard, where the next of `left` bits of the address are the
+/// guard's. Most guards have none.
 #[tactic(auto, unfolding(crate::specs::Levels::past_guard))]
 fn past_guard(guard: Guard, left: u32, address: u64) -> Result<u32, Refusal>
     requires { left ≤ 64 }
@@ -63,8 +65,8 @@ fn past_guard(guard: Guard, left: u32, address: u64) -> Result<u32, Refusal>
     Ok(left - size)
 }
 
-/// One level by numbers: where `left` bits of the address are left, the first of these are the guard, and the next the index. Of a
-/// guard's value its low bits count, as many as the guard has.
+/// One level by numbers: where `left` bits of the address are left, the first of these are the
+/// guard, and the next the index. Of a guard's value its low bits count, as many as the guard has.
 #[tactic(auto, unfolding(crate::specs::Levels::level_at))]
 pub(crate) fn level(guard: Guard, radix: u8, left: u32, address: u64) -> Result<Step, Refusal>
     requires within { left ≤ 64 }

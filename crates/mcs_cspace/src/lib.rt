@@ -1,4 +1,5 @@
-//! Guarded lookup in capability spaces: over the slots of all CNodes, by shifts and masks of a word.
+//! Guarded lookup in capability spaces: over the slots of all CNodes, by shifts and masks of a
+//! word.
 #![tactic(auto)]
 
 mod levels;

@@ -65,9 +65,10 @@ fn place_from(slots: &Slots, root: &Cap, place: Place) -> Result<SlotId, Refusal
     }
 }
 
-/// The capability that an address of 64 bits names from a root (manual: Capability Spaces). It stands in the slot at the end of
-/// the complete path; refused with Missing where that slot is empty, and else as the longest path says: GuardMismatch, or
-/// DepthMismatch. Any root may be given: of a guard's value the low bits count, as many as the guard has, and a CNode that is not
+/// The capability that an address of 64 bits names from a root (manual: Capability Spaces). It
+/// stands in the slot at the end of the complete path; refused with Missing where that slot is
+/// empty, and else as the longest path says: GuardMismatch, or DepthMismatch. Any root may be
+/// given: of a guard's value the low bits count, as many as the guard has, and a CNode that is not
 /// there has a radix of 0 and empty slots (own).
 // a part of its caller, so that the answer of 48 bytes is not put together and read again
 #[inline(always)]
@@ -80,10 +81,11 @@ pub fn lookup(slots: &Slots, root: &Cap, address: u64) -> Result<Cap, Refusal>
     cap_from(slots, root, address)
 }
 
-/// The slot that an index and a depth name from a root (manual: Capability Spaces). Refused with Range for a depth of 0 or
-/// above 64, which comes first, with DepthMismatch where bits are left at the path's end, and else as the longest path says.
-/// Any root may be given, as for `lookup`. So the slot is there exactly where its CNode is: each slot on the way is below 2 to the
-/// radix of its CNode, and a path may end at index 0 of a CNode that is not there (own).
+/// The slot that an index and a depth name from a root (manual: Capability Spaces). Refused with
+/// Range for a depth of 0 or above 64, which comes first, with DepthMismatch where bits are left at
+/// the path's end, and else as the longest path says. Any root may be given, as for `lookup`. So
+/// the slot is there exactly where its CNode is: each slot on the way is below 2 to the radix of
+/// its CNode, and a path may end at index 0 of a CNode that is not there (own).
 pub fn lookup_slot(slots: &Slots, root: &Cap, place: Place) -> Result<SlotId, Refusal>
     ensures value { named_by result ≡ slot_from (slots_space slots.now) root.now place }
     ensures named { IfOk result (EndsAt slots.now root.now place) }

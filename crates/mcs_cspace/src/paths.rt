@@ -8,7 +8,8 @@ use crate::levels::{Step, level};
 use mcs_slots::{Page, SlotId, Slots};
 use mcs_types::{Cap, Kind, ObjId, Refusal};
 
-/// The slot at which lookup ends, with the slots of its CNode, and how many bits of the address are left there.
+/// The slot at which lookup ends, with the slots of its CNode, and how many bits of the address are
+/// left there.
 #[derive(Clone, Copy)]
 pub(crate) struct End<'a> {
     pub(crate) page: Option<&'a Page>,
@@ -52,7 +53,8 @@ pub(crate) fn slot_in(page: Option<&Page>, index: u8) -> Option<Cap>
     page?.get(index)
 }
 
-/// The capability to the CNode at which lookup goes on: bits are left, and the slot of this CNode holds it.
+/// The capability to the CNode at which lookup goes on: bits are left, and the slot of this CNode
+/// holds it.
 fn next_in(page: Option<&Page>, step: Step) -> Option<Cap>
     ensures { result ≡ next_on (option_copied page.entry) step }
 {
@@ -81,7 +83,8 @@ fn end_at<'a>(page: Option<&'a Page>, cnode: ObjId, step: Step) -> End<'a>
     }
 }
 
-/// The slot at the end of the path from a root that spells the low `depth` bits of an address, and how many of them are left.
+/// The slot at the end of the path from a root that spells the low `depth` bits of an address, and
+/// how many of them are left.
 // a part of its callers, so that the end of a path is not moved
 #[inline(always)]
 pub(crate) fn find<'a>(

@@ -1,4 +1,5 @@
--- The arrows of a picture: one for each message that was taken, each answer and each word that was heard, in their order.
+-- The arrows of a picture: one for each message that was taken, each answer and each word that was
+-- heard, in their order.
 use Rattle.std.specs.Prelude.{ℕ, ◌+◌, List, [], ◌∷◌, ◌++◌, length, slice_get, unwrap_or}
 use Rattle.mcs_types.specs.declared.id.ObjId.{ObjId}
 use Rattle.mcs_types.specs.declared.record.Rec.{Rec}
@@ -30,8 +31,8 @@ start_of s here m = unwrap_or (slice_get s.sent m) here
 abbrev pub with_arrow : Strokes → Shown → Point → Point → Strokes
 with_arrow s shown from to = record s { arrows = s.arrows ++ (record { shown = shown; from = from; to = to }) ∷ [] }
 
--- a record more, in a row in which the thread `here` enters: a message leads from its sender to its taker, an answer and a word
--- from who enters to whom they reach
+-- a record more, in a row in which the thread `here` enters: a message leads from its sender to its
+-- taker, an answer and a word from who enters to whom they reach
 abbrev pub with_record : Point → Strokes → Rec → Strokes
 with_record here s (Sent x e mode badge message) = record s { sent = s.sent ++ beside here x ∷ [] }
 with_record here s (Took m p) = with_arrow s (Message m) (start_of s here m) (beside here p)

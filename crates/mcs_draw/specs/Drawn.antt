@@ -14,12 +14,14 @@ pub record AreDrawn (s : Strokes) (looked : List Look) (picked : List (Option Ob
   pub looks : looked ≡ looks_of (boot_log b.boot.lines) b.lines
   pub picks : ArePicks b.boot.cores (boot_log b.boot.lines) b.lines picked
 
--- these strokes are those of the lines behind the first, which stands first here and is the newest; in it this thread enters
+-- these strokes are those of the lines behind the first, which stands first here and is the newest;
+-- in it this thread enters
 abbrev pub IsDrawnBefore : Strokes → ObjId → List Line → Type 0
 IsDrawnBefore s t [] = ⊥
 IsDrawnBefore s t (l ∷ ls) = (s ≡ strokes_of ls) × (t ≡ l.step.thread)
 
--- these strokes, looks and picks are those of a book without its last line, in which this thread enters
+-- these strokes, looks and picks are those of a book without its last line, in which this thread
+-- enters
 pub record AreDrawnBefore (s : Strokes) (looked : List Look) (picked : List (Option ObjId)) (t : ObjId) (b : Book) : Type 0 where
   pub strokes : IsDrawnBefore s t b.lines
   pub looks : looked ≡ looks_before (boot_log b.boot.lines) b.lines

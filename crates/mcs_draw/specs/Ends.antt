@@ -25,8 +25,9 @@ ends_of a = record { shown = a.shown; from = a.from.thread; to = a.to.thread }
 abbrev pub sender_of : Log → ℕ → Option ObjId
 sender_of R m = option_map (λ (s : Letter). s.sender) (letter R m)
 
--- what a record draws in a line of t, where R stands before it: a message that is taken leads from its sender to its taker (each was
--- sent, in a fair book), an answer and a word from t to whom they reach, and nothing else is drawn
+-- what a record draws in a line of t, where R stands before it: a message that is taken leads from
+-- its sender to its taker (each was sent, in a fair book), an answer and a word from t to whom they
+-- reach, and nothing else is drawn
 abbrev pub ends_made : ObjId → Log → Rec → List Ends
 ends_made t R (Took m p) = (record { shown = Message m; from = unwrap_or (sender_of R m) t; to = p }) ∷ []
 ends_made t R (Paid r x message) = (record { shown = Answer r; from = t; to = x }) ∷ []

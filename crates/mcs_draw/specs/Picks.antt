@@ -17,7 +17,8 @@ pub record AddsPicks (R : Log) (n : ℕ) (old new : List (Option ObjId)) : Type 
   pub count : length row ≡ n
   pub picks : ArePicksFrom R 0 row
 
--- the rows behind the boot and behind each of these lines, the newest of which stands first, of so many cores
+-- the rows behind the boot and behind each of these lines, the newest of which stands first, of so
+-- many cores
 abbrev pub ArePicks : ℕ → Log → List Line → List (Option ObjId) → Type 0
 ArePicks cores B [] ps = AddsPicks B cores [] ps
 ArePicks cores B (l ∷ ls) ps = (old : List (Option ObjId)) × ArePicks cores B ls old × AddsPicks (past B (l ∷ ls)) cores old ps

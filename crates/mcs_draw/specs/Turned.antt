@@ -8,7 +8,8 @@ use Rattle.mcs_book.specs.History.{Book}
 use Rattle.mcs_kernel.specs.declared.fault.EnterFault.{EnterFault}
 use Rattle.mcs_draw.specs.declared.drawn.Away.{Away}
 
--- a step that was turned away: how many lines stood before it, who would have entered and where, its text, and why
+-- a step that was turned away: how many lines stood before it, who would have entered and where,
+-- its text, and why
 pub record Noted : Type 0 where
   pub behind : ℕ
   pub core : CoreId

@@ -1,4 +1,5 @@
-//! The arrows of a picture: each message from its sender to its taker, each answer, and each word that was heard.
+//! The arrows of a picture: each message from its sender to its taker, each answer, and each word
+//! that was heard.
 ghost use Rattle.std.specs.Prelude.{◌≡◌, IfOk, OnOk};
 ghost use Rattle.mcs_draw.specs.Arrows.{beside, no_strokes, start_of, with_arrow, with_record, with_records};
 

@@ -54,8 +54,8 @@ pub struct Window {
     pub last: usize,
 }
 
-/// What is drawn of a run so far: the strokes, the looks of all threads in each row, which thread each core picks in each row, and
-/// the steps that were turned away.
+/// What is drawn of a run so far: the strokes, the looks of all threads in each row, which thread
+/// each core picks in each row, and the steps that were turned away.
 #[derive(Drop)]
 pub struct Drawing {
     pub kernel: Kernel<LinkedLines>,
@@ -136,7 +136,8 @@ impl Drawing {
         })
     }
 
-    /// Draws the last line of the book, in which this thread enters; what stands before it is drawn.
+    /// Draws the last line of the book, in which this thread enters; what stands before it is
+    /// drawn.
     #[tactic(auto, using(crate::proofs::DrawnLaws::drawn_row))]
     fn add_row(&mut self, alloc: Global, thread: ObjId) -> Result<(), AllocError>
         requires before { AreDrawnBefore self.old.strokes self.old.looks.items self.old.picks.items
@@ -194,8 +195,8 @@ impl Drawing {
         }
     }
 
-    /// Notes a step that may not enter for this reason: BookFull where it is that the book is full, and OutOfMemory where memory is
-    /// refused.
+    /// Notes a step that may not enter for this reason: BookFull where it is that the book is full,
+    /// and OutOfMemory where memory is refused.
     #[tactic(auto, using(crate::proofs::DrawnLaws::step_turned))]
     fn keep_out(
         &mut self,
@@ -220,8 +221,9 @@ impl Drawing {
         Ok(())
     }
 
-    /// Draws a step, whose line in the script is this: one that may not enter leaves the book as it is, and is noted. BookFull where
-    /// the book is full for it, and OutOfMemory where memory is refused; then the drawing is of no use.
+    /// Draws a step, whose line in the script is this: one that may not enter leaves the book as it
+    /// is, and is noted. BookFull where the book is full for it, and OutOfMemory where memory is
+    /// refused; then the drawing is of no use.
     #[tactic(auto, using(crate::proofs::DrawnLaws::drawn_same))]
     pub fn enter(&mut self, alloc: Global, step: &Step, text: &str) -> Result<(), DrawFault>
         requires drawn { AreDrawn self.old.strokes self.old.looks.items self.old.picks.items
@@ -242,7 +244,8 @@ impl Drawing {
         }
     }
 
-    /// The arrows join the threads that the questions about the book name, and each message was sent from where its sender stands.
+    /// The arrows join the threads that the questions about the book name, and each message was
+    /// sent from where its sender stands.
     #[tactic(auto, using(crate::proofs::EndLaws::drawn_ends, crate::proofs::EndLaws::drawn_sender))]
     pub fn joins_as_asked(&self)
         requires drawn { AreDrawn self.now.strokes self.now.looks.items self.now.picks.items
@@ -255,7 +258,8 @@ impl Drawing {
         let _ = &self.strokes;
     }
 
-    /// Each message that was taken has a sender, so that nobody stands in for one in what `joins_as_asked` says.
+    /// Each message that was taken has a sender, so that nobody stands in for one in what
+    /// `joins_as_asked` says.
     #[tactic(auto, using(crate::proofs::SenderLaws::senders_there))]
     pub fn senders_known(&self)
         ensures { EachRecord HasSender self.now.kernel }

@@ -8,7 +8,8 @@ use mcs_queues::LinkedLines;
 use mcs_types::{Kind, ObjId, Status};
 use std::alloc::AllocError;
 
-/// How a thread looks in a row: what it does, and the context that it holds, whose colour its bar has.
+/// How a thread looks in a row: what it does, and the context that it holds, whose colour its bar
+/// has.
 #[derive(Clone, Copy, PartialEq, Eq, Debug)]
 pub struct Look {
     pub status: Option<Status>,

@@ -158,8 +158,8 @@ pub fn copy(alloc: Global, entry: &Entry) -> Result<Entry, Failed> {
     }
 }
 
-/// What the threads of the example enter: the first message is received, and then a call of 120 words, which is answered with 60
-/// by a reply and receive.
+/// What the threads of the example enter: the first message is received, and then a call of 120
+/// words, which is answered with 60 by a reply and receive.
 pub fn entries(alloc: Global) -> Result<[(ObjId, Entry); 5], Failed> {
     let (first, second) = (object(Kind::Thread, 1), object(Kind::Thread, 2));
     let (cap, reply) = (2, 8);
@@ -185,7 +185,8 @@ pub fn entries(alloc: Global) -> Result<[(ObjId, Entry); 5], Failed> {
     ])
 }
 
-/// What a kernel tells of a thread: what it does, and the label and the number of words of its mail.
+/// What a kernel tells of a thread: what it does, and the label and the number of words of its
+/// mail.
 fn told(kernel: &Kernel<LinkedLines>, thread: ObjId) -> (Option<Status>, Option<(u64, usize)>) {
     let mail = match kernel.mail(thread) {
         Some(Mail::Message { message, .. }) => Some((message.label(), message.words().len())),

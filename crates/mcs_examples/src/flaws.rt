@@ -1,4 +1,5 @@
-//! What is found of pages, texts and scripts that have a flaw, and of such as differ a little and have none.
+//! What is found of pages, texts and scripts that have a flaw, and of such as differ a little and
+//! have none.
 use crate::forms::is_sequence;
 use crate::places::is_clear;
 use mcs_lab::{LabFault, check};

@@ -1,4 +1,5 @@
-//! The forms of lines that Mermaid's documentation of sequence diagrams names, as far as pictures use them:
+//! The forms of lines that Mermaid's documentation of sequence diagrams names, as far as pictures
+//! use them:
 //!
 //! ```text
 //! sequenceDiagram
@@ -20,7 +21,8 @@ fn is_id(word: &str) -> bool {
     }
 }
 
-/// Whether it is a text: some letters, and none that ends a statement; a letter may be written by its number or name, `#59;`.
+/// Whether it is a text: some letters, and none that ends a statement; a letter may be written by
+/// its number or name, `#59;`.
 fn is_text(text: &str) -> bool {
     let mut is_within = false;
     for letter in text.chars() {

@@ -1,6 +1,7 @@
-//! What the first example gives by calls of the kernel, and then each script of standard input: what it gives is written, and that it
-//! gives the same in pieces, and its trace itself, is tested. `#!` begins the name of the script behind its line; `#!+` that of lines
-//! which are put behind the script that `#!` named last. A call that memory was refused to is given once more.
+//! What the first example gives by calls of the kernel, and then each script of standard input:
+//! what it gives is written, and that it gives the same in pieces, and its trace itself, is tested.
+//! `#!` begins the name of the script behind its line; `#!+` that of lines which are put behind the
+//! script that `#!` named last. A call that memory was refused to is given once more.
 ghost use Rattle.std.specs.Prelude.{◌≤◌, length};
 
 use crate::calls::trace_of_calls;
@@ -18,7 +19,8 @@ const MORE: &[u8] = b"#!+";
 /// The most bytes of all scripts.
 const MOST: usize = 1 << 20;
 
-/// The scripts of standard input. The room for them is asked for once more where memory was refused.
+/// The scripts of standard input. The room for them is asked for once more where memory was
+/// refused.
 fn read_scripts(rt: &HostRuntime) -> Result<Vec<u8>, SimFault> {
     let mut text = match Vec::with_capacity(rt.alloc(), MOST) {
         Ok(text) => text,
@@ -88,7 +90,8 @@ fn joined(alloc: Global, text: &[u8], more: &[u8]) -> Result<Vec<u8>, AllocError
     Ok(script)
 }
 
-/// Writes what a script gives behind another. The room for both is asked for once more where memory was refused.
+/// Writes what a script gives behind another. The room for both is asked for once more where memory
+/// was refused.
 fn write_behind(rt: &HostRuntime, name: &[u8], base: &[u8], lines: &[u8]) -> io::Result<()> {
     let script = match joined(rt.alloc(), base, lines) {
         Ok(script) => script,
@@ -119,8 +122,8 @@ fn write_all(rt: &HostRuntime, text: &[u8]) -> io::Result<()> {
     Ok(())
 }
 
-/// Writes the trace of the first example by calls, and what each script of standard input gives. True where they could be read and
-/// written.
+/// Writes the trace of the first example by calls, and what each script of standard input gives.
+/// True where they could be read and written.
 pub fn tell_given(rt: &HostRuntime) -> bool {
     match trace_of_calls(rt.alloc()) {
         Ok(text) => {

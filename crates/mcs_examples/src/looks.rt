@@ -32,7 +32,8 @@ fn flaw_of(alloc: Global, page: &[u8], format: Format) -> Result<Option<&'static
     })
 }
 
-/// Draws a script, and tells whether the picture is the one that is kept, and whether its texts stand clear.
+/// Draws a script, and tells whether the picture is the one that is kept, and whether its texts
+/// stand clear.
 pub fn look_at<R: Read + Drop>(
     alloc: Global,
     script: R,

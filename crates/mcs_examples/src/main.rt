@@ -1,9 +1,11 @@
-//! The scripts of `examples/` that consist of steps are checked, for each says what its steps answer, and drawn, as those of its
-//! gallery: each picture is compared with the one that is kept beside its script, and looked at. So are pages, texts and scripts with a
-//! flaw. All orders of the scripts of users are gone through, and plans are compiled. Told is besides what a search finds of a small
-//! system, for which texts patterns stand, what is stuck at the end of some scripts, and what the scripts of standard input give, which
-//! is all that is told where no file is named (so `tests/each-allocation.sh` has each allocation refused in turn, and wants the same
-//! traces). With a number alone, a byte of each plan is changed so many times, and no more is done.
+//! The scripts of `examples/` that consist of steps are checked, for each says what its steps
+//! answer, and drawn, as those of its gallery: each picture is compared with the one that is kept
+//! beside its script, and looked at. So are pages, texts and scripts with a flaw. All orders of the
+//! scripts of users are gone through, and plans are compiled. Told is besides what a search finds
+//! of a small system, for which texts patterns stand, what is stuck at the end of some scripts, and
+//! what the scripts of standard input give, which is all that is told where no file is named (so
+//! `tests/each-allocation.sh` has each allocation refused in turn, and wants the same traces). With
+//! a number alone, a byte of each plan is changed so many times, and no more is done.
 #![tactic(auto)]
 
 mod calls;
@@ -82,8 +84,8 @@ fn check_all<W: Write + Drop>(
 /// How many times a byte of each plan is changed, where no number is given.
 const CHANGES: usize = 50;
 
-/// Checks the scripts of all files, draws them and the gallery, explores, compiles, and tells what is found. True where each script
-/// holds.
+/// Checks the scripts of all files, draws them and the gallery, explores, compiles, and tells what
+/// is found. True where each script holds.
 fn tell_all(rt: &HostRuntime, paths: &[String]) -> Result<bool, LabFault> {
     let mut to = BufWriter::new(rt.alloc(), io::writer(rt))?;
     let all_hold = check_all(rt, &mut to, paths)?;

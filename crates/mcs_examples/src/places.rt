@@ -1,4 +1,5 @@
-//! Where everything stands on a page of SVG, whose marks have a line each: the boxes of all texts, and those of bars and arrows.
+//! Where everything stands on a page of SVG, whose marks have a line each: the boxes of all texts,
+//! and those of bars and arrows.
 use crate::pen::{Pen, Place};
 use std::alloc::{AllocError, Global};
 use unicode_width::UnicodeWidthChar;

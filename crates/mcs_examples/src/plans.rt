@@ -1,6 +1,6 @@
-//! Plans: each of the gallery, and a small one, is compiled, and its script compared with the one that is kept beside it; then
-//! each plan with a fault, and what is told of it; then a plan of two levels, the map and the names of one, and plans with a byte
-//! changed.
+//! Plans: each of the gallery, and a small one, is compiled, and its script compared with the one
+//! that is kept beside it; then each plan with a fault, and what is told of it; then a plan of two
+//! levels, the map and the names of one, and plans with a byte changed.
 use mcs_compile::write_map;
 use mcs_lab::LabFault;
 use mcs_names::tell_names;
@@ -178,8 +178,8 @@ fn changed(plan: &[u8], alloc: Global, random: &mut Pcg32) -> Result<Vec<u8>, La
     Ok(changed)
 }
 
-/// Changes a byte of each plan so many times: each gives a script, which was read back and runs without a fault, or a fault of the
-/// plan. Tells how many did not.
+/// Changes a byte of each plan so many times: each gives a script, which was read back and runs
+/// without a fault, or a fault of the plan. Tells how many did not.
 pub fn try_changes<W: Write>(rt: &HostRuntime, to: &mut W, times: usize) -> Result<(), LabFault> {
     let mut random = Pcg32::new(1, 1);
     let mut wrong: usize = 0;

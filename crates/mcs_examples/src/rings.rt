@@ -7,7 +7,8 @@ use mcs_lab::LabFault;
 use std::alloc::{AllocError, Global};
 use std::io::Write;
 
-/// Places 0 to n - 1, from each of which one goes on by one or doubles; the number of steps so far is no part of the key.
+/// Places 0 to n - 1, from each of which one goes on by one or doubles; the number of steps so far
+/// is no part of the key.
 #[derive(Drop)]
 pub struct Ring {
     pub n: u32,
@@ -104,7 +105,8 @@ impl System for Ring {
 /// How many states are enough for a ring of 1,000, and how many steps are expanded.
 const BUDGETS: &[(usize, usize)] = &[(2000, 2000), (2000, 3), (10, 2000)];
 
-/// Tells how much of the ring is found by each budget, how far the place lies behind which is looked next, and the last.
+/// Tells how much of the ring is found by each budget, how far the place lies behind which is
+/// looked next, and the last.
 pub fn tell_rings<W: Write>(alloc: Global, to: &mut W) -> Result<(), LabFault> {
     for &(states, depth) in BUDGETS {
         let found = explore(alloc, &mut Ring { n: 1000 }, Budget { states, depth })?;

@@ -50,7 +50,8 @@ fn feed(alloc: Global, run: &mut ReplayRun, script: &[u8], piece: usize) -> Resu
     run.end(alloc)
 }
 
-/// What a script gives that is fed in pieces of so many bytes: how it ended, and the trace of the book at its end.
+/// What a script gives that is fed in pieces of so many bytes: how it ended, and the trace of the
+/// book at its end.
 fn fed(
     alloc: Global,
     script: &[u8],
@@ -73,7 +74,8 @@ fn replayed_again(alloc: Global, script: &[u8]) -> Result<Told, OutOfMemory> {
     }
 }
 
-/// Whether it gives this in pieces, asked once more where memory was refused: then the book has a beginning of it.
+/// Whether it gives this in pieces, asked once more where memory was refused: then the book has a
+/// beginning of it.
 fn is_fed(alloc: Global, script: &[u8], piece: usize, whole: &Told) -> Result<bool, OutOfMemory> {
     let (text, ended) = match fed(alloc, script, piece) {
         Ok((text, Err(SimFault::OutOfMemory))) if !whole.trace.starts_with(&text) => {
@@ -85,8 +87,8 @@ fn is_fed(alloc: Global, script: &[u8], piece: usize, whole: &Told) -> Result<bo
     Ok(given(text, ended)?.is_same(whole))
 }
 
-/// What a script gives, and what is wrong with it, if anything is: in pieces of a byte, of seven bytes or of all it gives something
-/// else, or its trace does not give itself.
+/// What a script gives, and what is wrong with it, if anything is: in pieces of a byte, of seven
+/// bytes or of all it gives something else, or its trace does not give itself.
 pub fn given_by(alloc: Global, script: &[u8]) -> Result<(Told, Option<&'static str>), OutOfMemory> {
     let whole = replayed_again(alloc, script)?;
     for piece in [1, 7, usize::MAX] {

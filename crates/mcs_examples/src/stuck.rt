@@ -1,5 +1,5 @@
-//! Scripts at whose end threads are stuck, each beside one like it at whose end none is, and one whose messages are dropped: what is
-//! told of each.
+//! Scripts at whose end threads are stuck, each beside one like it at whose end none is, and one
+//! whose messages are dropped: what is told of each.
 use mcs_lab::LabFault;
 use mcs_sim::Source;
 use mcs_told::{Wanted, explain, show_state};

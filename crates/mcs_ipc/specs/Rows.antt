@@ -144,7 +144,8 @@ lent_of None own = own
 abbrev pub lent : Log → ObjId → ObjId → Option ObjId
 lent R x p = lent_of (context_of R p) (context_of R x)
 
--- a sender who stood in a queue runs again after a plain send; one who did not stand there runs still
+-- a sender who stood in a queue runs again after a plain send; one who did not stand there runs
+-- still
 abbrev pub resumes : Bool → ObjId → Piece
 resumes true x = say (Turns x Running)
 resumes false x = nothing

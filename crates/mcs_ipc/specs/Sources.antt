@@ -48,7 +48,8 @@ waitable R t (Ok cap) = cond (bound_elsewhere (tied_to R cap.obj) t) (Err Alread
 abbrev pub notification_source : Log → ObjId → Cap → Checked Source
 notification_source R t cap = waitable R t (readable (Ok cap))
 
--- what t receives from over a capability to an object of this kind; a reply object is named for an endpoint alone
+-- what t receives from over a capability to an object of this kind; a reply object is named for an
+-- endpoint alone
 abbrev pub source_by : Kind → Log → ObjId → Cap → Option ℕ → Checked Source
 source_by kind.Endpoint R t cap r = endpoint_source cap (reply_named R t r)
 source_by kind.Notification R t cap r = notification_source R t cap

@@ -12,7 +12,8 @@ use mcs_slots::{by_fields, takes_badge};
 use mcs_state::{State, find_object, object_at, of_kind, with_read, with_write};
 use mcs_types::{Cap, Kind, ObjId, Refusal};
 
-/// What a thread sends over: an endpoint or a notification, by this capability, or a reply object, which it pays.
+/// What a thread sends over: an endpoint or a notification, by this capability, or a reply object,
+/// which it pays.
 #[derive(Clone, Copy)]
 pub enum Target {
     Endpoint(Cap),
@@ -27,7 +28,8 @@ pub struct Receiving {
     pub reply: Option<ObjId>,
 }
 
-/// What a thread receives from: an endpoint, with its reply object, or a notification, on which it waits.
+/// What a thread receives from: an endpoint, with its reply object, or a notification, on which it
+/// waits.
 #[derive(Clone, Copy)]
 pub enum Source {
     Endpoint(Receiving),

@@ -22,7 +22,8 @@ fn is_loose<W: Waiting>(state: &State<W>, context: ObjId) -> bool
     state.holder(context).is_none() && state.home_of(context).is_none() && state.is_unlent(context)
 }
 
-/// What a bind changes: a loose context is given to a thread that holds none, or homed at a notification at which none is.
+/// What a bind changes: a loose context is given to a thread that holds none, or homed at a
+/// notification at which none is.
 fn give<W: Waiting>(state: &State<W>, context: ObjId, object: ObjId) -> Result<Change, Refusal>
     ensures { result ≡ given object.kind (so_far state.now) context object }
 {
@@ -63,9 +64,10 @@ fn find_change<W: Waiting>(
     give(state, context, cap.obj)
 }
 
-/// BindCtx: a thread holds the context from now on, or it is homed at a notification (own). The refusals are 1 to 3 of the lookups,
-/// the context's first, and 4 for a capability of another kind; then 9 where the context is held, homed, or a reply object stands
-/// in its chain (own), and where the thread holds one or another context is homed at the notification. They change nothing
+/// BindCtx: a thread holds the context from now on, or it is homed at a notification (own). The
+/// refusals are 1 to 3 of the lookups, the context's first, and 4 for a capability of another kind;
+/// then 9 where the context is held, homed, or a reply object stands in its chain (own), and where
+/// the thread holds one or another context is homed at the notification. They change nothing
 /// (manual: Threads and Execution).
 pub fn bind_context<W: Waiting>(
     state: &mut State<W>,
@@ -108,8 +110,9 @@ fn unbind_awake<W: Waiting>(state: &mut State<W>, thread: ObjId, context: ObjId)
     unbind(state, context);
 }
 
-/// UnbindCtx: nobody holds the context, and it is homed nowhere any more. The refusals are 1 to 3 of the lookup, 4 for a capability
-/// of another kind, and 10 where nobody holds it and it is homed nowhere; they change nothing (manual: Threads and Execution; own).
+/// UnbindCtx: nobody holds the context, and it is homed nowhere any more. The refusals are 1 to 3
+/// of the lookup, 4 for a capability of another kind, and 10 where nobody holds it and it is homed
+/// nowhere; they change nothing (manual: Threads and Execution; own).
 pub fn unbind_context<W: Waiting>(
     state: &mut State<W>,
     core: CoreId,

@@ -1,6 +1,6 @@
-//! Sending, calling and receiving on endpoints and notifications, answers to callers, and giving contexts to threads. Each
-//! call adds the records of its row of the table, and gives that row's answer (manual: Message Passing; Notifications;
-//! Threads and Execution).
+//! Sending, calling and receiving on endpoints and notifications, answers to callers, and giving
+//! contexts to threads. Each call adds the records of its row of the table, and gives that row's
+//! answer (manual: Message Passing; Notifications; Threads and Execution).
 #![tactic(auto)]
 
 mod checks;

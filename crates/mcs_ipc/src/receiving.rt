@@ -20,8 +20,8 @@ use mcs_object_queues::Waiting;
 use mcs_state::{State, wake};
 use mcs_types::{Answer, Copies, CoreId, Mode, ObjId, Queue};
 
-/// Cancels whoever uses a reply object, the caller that it owes or the receiver that stands with it: it becomes inactive
-/// (own).
+/// Cancels whoever uses a reply object, the caller that it owes or the receiver that stands with
+/// it: it becomes inactive (own).
 fn free<W: Waiting>(state: &mut State<W>, reply: ObjId)
     requires there { IsThere (so_far state.old) Kind.Reply reply }
     requires room { HasRoomFor (freed reply) state.old }
@@ -46,7 +46,8 @@ fn free_any<W: Waiting>(state: &mut State<W>, reply: Option<ObjId>)
     }
 }
 
-/// Waits among the receivers, where the thread blocks; its context goes home where that is the notification bound to the thread (own).
+/// Waits among the receivers, where the thread blocks; its context goes home where that is the
+/// notification bound to the thread (own).
 // a part of its caller, so that neither registers nor the reply object go through memory
 #[inline(always)]
 fn stand<W: Waiting>(
@@ -109,8 +110,9 @@ fn take_first<W: Waiting>(
     }
 }
 
-/// Hears the pending word of the thread's notification, or else takes the message of the first sender. Where there is
-/// neither, the thread waits if it blocks (manual: Notifications; Message Passing).
+/// Hears the pending word of the thread's notification, or else takes the message of the first
+/// sender. Where there is neither, the thread waits if it blocks (manual: Notifications; Message
+/// Passing).
 fn hear_or_take<W: Waiting>(
     state: &mut State<W>,
     thread: ObjId,
@@ -131,8 +133,8 @@ fn hear_or_take<W: Waiting>(
     }
 }
 
-/// Frees the reply object, and receives: a pending word comes before a message. Where there is neither, the thread waits if
-/// it blocks.
+/// Frees the reply object, and receives: a pending word comes before a message. Where there is
+/// neither, the thread waits if it blocks.
 fn receive_on<W: Waiting>(
     state: &mut State<W>,
     thread: ObjId,
@@ -172,13 +174,15 @@ pub fn receive_from<W: Waiting>(
     }
 }
 
-/// Recv and Wait where it blocks, and NBRecv and NBWait where not; Recv and NBRecv name a reply object. Over an endpoint the
-/// reply object's present user is cancelled; then the pending word of the thread's notification is heard, or else the message
-/// of the first sender is taken. Where there is neither, the thread waits among the receivers, with the reply object, if it
-/// blocks, and otherwise the answer is Empty; the reply object's user is cancelled all the same (own). Over a notification its
-/// pending word is heard, or else the thread waits on it, or is answered Empty; the reply object is not looked up. The refusals
-/// are 1 to 3 of the lookups, 4 for a capability of another kind, 5 where Read is missing, and 9 where the notification is
-/// bound to another thread; they change nothing (manual: Message Passing; Notifications).
+/// Recv and Wait where it blocks, and NBRecv and NBWait where not; Recv and NBRecv name a reply
+/// object. Over an endpoint the reply object's present user is cancelled; then the pending word of
+/// the thread's notification is heard, or else the message of the first sender is taken. Where
+/// there is neither, the thread waits among the receivers, with the reply object, if it blocks, and
+/// otherwise the answer is Empty; the reply object's user is cancelled all the same (own). Over a
+/// notification its pending word is heard, or else the thread waits on it, or is answered Empty;
+/// the reply object is not looked up. The refusals are 1 to 3 of the lookups, 4 for a capability of
+/// another kind, 5 where Read is missing, and 9 where the notification is bound to another thread;
+/// they change nothing (manual: Message Passing; Notifications).
 pub fn receive<W: Waiting>(
     state: &mut State<W>,
     core: CoreId,
@@ -203,9 +207,9 @@ pub fn receive<W: Waiting>(
     }
 }
 
-/// ReplyRecv: the reply object is paid, and then the thread receives with it, as by Recv, or waits on a notification. All
-/// tests come first, that of the reply object also over a notification: the refusals are those of Recv, and change nothing
-/// (manual: Message Passing; Notifications).
+/// ReplyRecv: the reply object is paid, and then the thread receives with it, as by Recv, or waits
+/// on a notification. All tests come first, that of the reply object also over a notification: the
+/// refusals are those of Recv, and change nothing (manual: Message Passing; Notifications).
 pub fn reply_receive<W: Waiting>(
     state: &mut State<W>,
     core: CoreId,

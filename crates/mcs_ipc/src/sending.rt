@@ -21,7 +21,8 @@ use mcs_object_queues::Waiting;
 use mcs_state::{State, wake};
 use mcs_types::{BOOK_LINES, Badge, Cap, Copies, CoreId, Mode, ObjId, Queue, Refusal, SendMode};
 
-/// How a call over a capability is sent: without Grant and GrantReply it cannot be answered (manual: Message Passing).
+/// How a call over a capability is sent: without Grant and GrantReply it cannot be answered
+/// (manual: Message Passing).
 fn call_mode(cap: &Cap) -> SendMode
     ensures { result ≡ call_mode cap.now }
 {
@@ -91,8 +92,8 @@ fn send_to<W: Waiting>(
     waits(mode)
 }
 
-/// Sends to an endpoint with a badge, or calls: the first receiver takes the message. Where nobody receives, the thread
-/// waits if it blocks, and otherwise the message is dropped.
+/// Sends to an endpoint with a badge, or calls: the first receiver takes the message. Where nobody
+/// receives, the thread waits if it blocks, and otherwise the message is dropped.
 fn send_over<W: Waiting>(
     state: &mut State<W>,
     thread: ObjId,
@@ -165,12 +166,13 @@ pub fn send_target<W: Waiting>(
     }
 }
 
-/// Send where it blocks, and NBSend where not. Over an endpoint the first receiver takes the message; where nobody receives, the
-/// thread waits among the senders if it blocks, and otherwise the message is dropped, with no record and the same answer. Over a
-/// notification the message is left out, and the notification is signalled with the badge of the capability; over a reply
-/// object the caller that it owes is answered, if it owes one. The refusals are 1 to 3 of the lookup, 4 for a capability of
-/// another kind, and 5 where one to an endpoint or a notification lacks Write; they change nothing (manual: Message Passing;
-/// Notifications).
+/// Send where it blocks, and NBSend where not. Over an endpoint the first receiver takes the
+/// message; where nobody receives, the thread waits among the senders if it blocks, and otherwise
+/// the message is dropped, with no record and the same answer. Over a notification the message is
+/// left out, and the notification is signalled with the badge of the capability; over a reply
+/// object the caller that it owes is answered, if it owes one. The refusals are 1 to 3 of the
+/// lookup, 4 for a capability of another kind, and 5 where one to an endpoint or a notification
+/// lacks Write; they change nothing (manual: Message Passing; Notifications).
 pub fn send<W: Waiting>(
     state: &mut State<W>,
     core: CoreId,
@@ -193,11 +195,12 @@ pub fn send<W: Waiting>(
     Ok(send_target(state, thread, target, SendMode::Plain, message, blocks))
 }
 
-/// Call: over an endpoint the first receiver takes the message, and its reply object owes the thread an answer, or else the
-/// thread waits among the senders. A call that cannot be answered, since Grant and GrantReply are missing or the receiver
-/// names no reply object, leaves the thread inactive once it is taken. A receiver that holds no context is lent the
-/// thread's (own). The refusals are 1 to 3 of the lookup, 4 for a capability of another kind, and 5 where Write is missing;
-/// they change nothing (manual: Message Passing).
+/// Call: over an endpoint the first receiver takes the message, and its reply object owes the
+/// thread an answer, or else the thread waits among the senders. A call that cannot be answered,
+/// since Grant and GrantReply are missing or the receiver names no reply object, leaves the thread
+/// inactive once it is taken. A receiver that holds no context is lent the thread's (own). The
+/// refusals are 1 to 3 of the lookup, 4 for a capability of another kind, and 5 where Write is
+/// missing; they change nothing (manual: Message Passing).
 pub fn call<W: Waiting>(
     state: &mut State<W>,
     core: CoreId,

@@ -34,8 +34,8 @@ fn context_to_lend<W: Waiting>(state: &State<W>, caller: ObjId, receiver: ObjId)
     }
 }
 
-/// A reply object owes a caller an answer, which the receiver is to give. A receiver that holds no context is lent the
-/// caller's (own).
+/// A reply object owes a caller an answer, which the receiver is to give. A receiver that holds no
+/// context is lent the caller's (own).
 fn owe<W: Waiting>(state: &mut State<W>, reply: ObjId, caller: ObjId, receiver: ObjId)
     requires calling { IsCalling (so_far state.old) reply caller receiver }
     requires room { HasRoomFor (owed_by reply caller receiver) state.old }
@@ -60,9 +60,9 @@ fn give<W: Waiting>(state: &mut State<W>, sender: ObjId, receiver: ObjId)
     give_back(state, own, receiver);
 }
 
-/// What becomes of the sender of a message that is taken: a caller is owed an answer, or is inactive where nobody can answer
-/// it; after a plain send a sender that stood in a queue runs again; a sender that gives its context parts with it (manual: Message
-/// Passing; own).
+/// What becomes of the sender of a message that is taken: a caller is owed an answer, or is
+/// inactive where nobody can answer it; after a plain send a sender that stood in a queue runs
+/// again; a sender that gives its context parts with it (manual: Message Passing; own).
 // a part of its callers, which know whether the sender stood in a queue
 #[inline(always)]
 pub fn settle<W: Waiting>(
@@ -91,8 +91,8 @@ pub fn settle<W: Waiting>(
     }
 }
 
-/// Takes the open message of the first sender for a thread that receives with a reply object, or without one. The answer is an
-/// equal message.
+/// Takes the open message of the first sender for a thread that receives with a reply object, or
+/// without one. The answer is an equal message.
 // a part of its caller, so that the message is moved once less
 #[inline(always)]
 pub fn take<W: Waiting>(

@@ -30,7 +30,8 @@ next_count n = min (n + 1) (2 ^ 64 - 1)
 abbrev pub after_step : Run → Step → Run
 after_step r s = record { book = with_step r.book s; taken = next_count r.taken }
 
--- what a step is answered: what the table says where its thread may enter, and nothing where it is turned away
+-- what a step is answered: what the table says where its thread may enter, and nothing where it is
+-- turned away
 abbrev pub answer_to : Book → Step → Option Answer
 answer_to b s = elim (may_enter (log_of b) s.core s.thread) [ true ↦ Some ((does (log_of b) s.core s.thread s.entry).answer) | false ↦ None ]
 
@@ -39,7 +40,8 @@ abbrev pub is_book_full : Option EnterFault → Bool
 is_book_full (Some BookFull) = true
 is_book_full _ = false
 
--- the number of the first of these steps that would be let in and for which the book is full; n were taken before
+-- the number of the first of these steps that would be let in and for which the book is full; n
+-- were taken before
 abbrev pub full_after : ℕ → Book → List Step → Option ℕ
 full_after n b [] = None
 full_after n b (s ∷ ss) = cond (is_book_full (fault_of b s.core s.thread)) (Some (n + 1)) (full_after (n + 1) (with_step b s) ss)
@@ -48,8 +50,9 @@ full_after n b (s ∷ ss) = cond (is_book_full (fault_of b s.core s.thread)) (So
 abbrev pub full_in : Boot → List Step → Option ℕ
 full_in boot ss = full_after 0 (record { boot = boot; lines = [] }) ss
 
--- a fault of a replay of so many steps, whose first step with a full book has this number: BookFull comes at that step alone,
--- and OutOfMemory at one of the steps before it, or at the boot, which has the number 0
+-- a fault of a replay of so many steps, whose first step with a full book has this number: BookFull
+-- comes at that step alone, and OutOfMemory at one of the steps before it, or at the boot, which
+-- has the number 0
 abbrev pub EndsAt : ℕ → Option ℕ → ReplayFault → Type 0
 EndsAt count full (ended.BookFull n) = full ≡ Some n
 EndsAt count full (ended.OutOfMemory n) = (n ≤ count) × IfSome full (λ m. n < m)

@@ -21,8 +21,8 @@ pub enum EnterFault {
     OutOfMemory = 5,
 }
 
-/// Why a replay ended: the numbers 1 and 2, with the number of the step from 1 (0 for the boot). Nothing is handed
-/// back.
+/// Why a replay ended: the numbers 1 and 2, with the number of the step from 1 (0 for the boot).
+/// Nothing is handed back.
 #[derive(Clone, Copy, PartialEq, Eq, Debug, Error)]
 pub enum ReplayFault {
     /// The first step that was let in for which the book is full.

@@ -80,7 +80,8 @@ fn answer_send(answer: &mut Answer, waits: Result<bool, Refusal>)
     }
 }
 
-// Who sends a message is a function of its own, so that what is lent with it is cleared where it is lent alone.
+// Who sends a message is a function of its own, so that what is lent with it is cleared where it is
+// lent alone.
 
 /// Send and NBSend, with the copies of their message that take memory.
 #[inline(always)]
@@ -178,8 +179,8 @@ fn do_exchange<W: Waiting>(
     exchange(state, core, thread, cap, source, reply, copies, answer)
 }
 
-/// Does an entry of a thread that may enter: a table, with an arm for each entry. The copies of its message that take memory are
-/// made before, so it takes none.
+/// Does an entry of a thread that may enter: a table, with an arm for each entry. The copies of its
+/// message that take memory are made before, so it takes none.
 #[inline(always)]
 fn operate<W: Waiting>(
     state: &mut State<W>,
@@ -335,7 +336,8 @@ fn operate<W: Waiting>(
 }
 
 impl<L: Lines> Kernel<L> {
-    /// A kernel whose book has line 0 alone: the boot with the records of its lines. It makes the room of all tables.
+    /// A kernel whose book has line 0 alone: the boot with the records of its lines. It makes the
+    /// room of all tables.
     pub fn new(alloc: Global, boot: &Boot) -> Result<Kernel<L>, OutOfMemory>
         ensures { IfOk result (λ k. k ≡ record { boot = boot.now; lines = [] }) }
     {
@@ -343,8 +345,8 @@ impl<L: Lines> Kernel<L> {
         Ok(Kernel { state })
     }
 
-    /// The same where the boot ends: its tables are let go before those of the kernel are made, so that the memory of one kernel is
-    /// enough.
+    /// The same where the boot ends: its tables are let go before those of the kernel are made, so
+    /// that the memory of one kernel is enough.
     pub(crate) fn after(alloc: Global, boot: Boot) -> Result<Kernel<L>, OutOfMemory>
         ensures { IfOk result (λ k. k ≡ record { boot = boot; lines = [] }) }
     {
@@ -365,7 +367,8 @@ impl<L: Lines> Kernel<L> {
         Ok(Kernel { state })
     }
 
-    /// The book of all entries that were let in. It is legal and fair, and has at most 1,000,000 lines.
+    /// The book of all entries that were let in. It is legal and fair, and has at most 1,000,000
+    /// lines.
     pub fn book(&self) -> &Book
         ensures lent { result.now.book ≡ self.now }
         ensures legal { IsLegal self.now }
@@ -408,8 +411,8 @@ impl<L: Lines> Kernel<L> {
         }
     }
 
-    /// Does a step that is let in: its line is added. OutOfMemory where the room for it, or a copy of its message, is refused; all
-    /// memory is taken before the first change.
+    /// Does a step that is let in: its line is added. OutOfMemory where the room for it, or a copy
+    /// of its message, is refused; all memory is taken before the first change.
     // a part of `admit`, so that the answer of 72 bytes is moved once less
     #[inline(always)]
     fn serve(&mut self, alloc: Global, step: &Step) -> Result<Answer, OutOfMemory>
@@ -437,9 +440,10 @@ impl<L: Lines> Kernel<L> {
         Ok(answer)
     }
 
-    /// Lets in the entry of a step, and adds its line to the book, also where the answer is a refusal; or turns it away for
-    /// the first of EnterFault's reasons, and then nothing has changed. OutOfMemory comes only where the others do not.
-    /// The thread need not be the one of greatest priority.
+    /// Lets in the entry of a step, and adds its line to the book, also where the answer is a
+    /// refusal; or turns it away for the first of EnterFault's reasons, and then nothing has
+    /// changed. OutOfMemory comes only where the others do not. The thread need not be the one of
+    /// greatest priority.
     // the answer of 72 bytes is not moved where this is a part of its caller
     #[inline(always)]
     pub fn admit(&mut self, alloc: Global, step: &Step) -> Result<Answer, EnterFault>

@@ -13,7 +13,8 @@ use mcs_types::{Answer, OutOfMemory, Step};
 use std::alloc::Global;
 use std::marker::Model;
 
-/// A replay that goes on: a kernel, and how many steps it took. Clauses see its book and that count.
+/// A replay that goes on: a kernel, and how many steps it took. Clauses see its book and that
+/// count.
 #[derive(Drop)]
 pub struct Replay<L: Lines> {
     kernel: Kernel<L>,
@@ -29,7 +30,8 @@ impl<L: Lines> Model for Replay<L> {
 }
 
 impl<L: Lines> Replay<L> {
-    /// A replay on a kernel with this boot, before the first step. OutOfMemory where the room of its tables is refused.
+    /// A replay on a kernel with this boot, before the first step. OutOfMemory where the room of
+    /// its tables is refused.
     pub fn new(alloc: Global, boot: Boot) -> Result<Replay<L>, OutOfMemory>
         ensures { IfOk result (λ r. r ≡ begun boot) }
     {
@@ -37,10 +39,11 @@ impl<L: Lines> Replay<L> {
         Ok(Replay { kernel, taken: 0 })
     }
 
-    /// Takes the next step and gives its answer, or None where it is turned away, and then the book stays as it is. Either way
-    /// the step is counted, up to usize::MAX. BookFull comes exactly at a step that would be let in and for which the book is
-    /// full, and OutOfMemory where the room for its line is refused, each with the number of the step, from 1. After a fault
-    /// nothing has changed, and the same step may be given again.
+    /// Takes the next step and gives its answer, or None where it is turned away, and then the book
+    /// stays as it is. Either way the step is counted, up to usize::MAX. BookFull comes exactly at
+    /// a step that would be let in and for which the book is full, and OutOfMemory where the room
+    /// for its line is refused, each with the number of the step, from 1. After a fault nothing has
+    /// changed, and the same step may be given again.
     pub fn advance(&mut self, alloc: Global, step: &Step) -> Result<Option<Answer>, ReplayFault>
         ensures room { OnOk result
             (is_book_full (fault_of self.old.book step.now.core step.now.thread) ≡ false) }

@@ -13,8 +13,8 @@ Names met numbers rows = map (slice_get met) numbers ≡ map (λ (r : List ℕ).
 abbrev pub Adds : List (List ℕ) → List ℕ → List (List ℕ) → List ℕ → List (List ℕ) → Type 0
 Adds old before new after more = (rows : List (List ℕ)) → Names old before rows → Names new after (rows ++ more)
 
--- the rows that were met, in the order of their numbers, whether keys are told to decide, and whether they tell the numbers of
--- messages apart
+-- the rows that were met, in the order of their numbers, whether keys are told to decide, and
+-- whether they tell the numbers of messages apart
 pub record Known : Type 0 where
   pub met : List (List ℕ)
   pub is_exact : Bool

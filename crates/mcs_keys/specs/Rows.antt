@@ -114,7 +114,8 @@ choice_list_numbers pick stale = list_numbers pick_numbers (with_any_pick pick s
 abbrev pub choice_numbers : Going → List (Option Pick) → List ℕ
 choice_numbers g picks = below (λ i. option_numbers (list_numbers pick_numbers) (slice_get (choices picks g.stale) i)) g.book.boot.cores
 
--- the rows of a state of users, where the cores have these picks, and numbers of messages are told apart or not
+-- the rows of a state of users, where the cores have these picks, and numbers of messages are told
+-- apart or not
 abbrev pub rows_of : Bool → List User → Going → List (Option Pick) → List (List ℕ)
 rows_of numbered users g picks = count_numbers numbered (log_of g.book) ∷ place_numbers users g ∷ choice_numbers g picks ∷ object_rows numbered (log_of g.book)
 

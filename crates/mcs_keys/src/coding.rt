@@ -4,8 +4,8 @@ ghost use Rattle.mcs_keys.specs.Bytes.{code, coded};
 
 use std::alloc::{AllocError, Global};
 
-/// The key of a state: the numbers of its rows, in bytes. It is compared whole: keys with the same bytes have the same numbers, and
-/// rows with one number are equal.
+/// The key of a state: the numbers of its rows, in bytes. It is compared whole: keys with the same
+/// bytes have the same numbers, and rows with one number are equal.
 pub type Key = Vec<u8>;
 
 /// How many bytes a number has.

@@ -1,4 +1,5 @@
-//! The rows of a state, exactly: where those of two states are equal, no later turn tells the states apart.
+//! The rows of a state, exactly: where those of two states are equal, no later turn tells the
+//! states apart.
 ghost use Rattle.std.specs.Prelude.{ℕ, List, ◌≡◌, ◌+◌, ◌++◌, ◌∷◌, [], IfOk, OnOk, option_copied, map};
 ghost use Rattle.mcs_book.specs.History.{log_of};
 ghost use Rattle.mcs_book.specs.Queues.{queued_in};
@@ -377,8 +378,8 @@ fn put_objects<L: Lines>(
     Ok(())
 }
 
-/// The numbers of the rows of a state, in which the cores have these picks, among those that were met. The numbers of messages
-/// are told apart or not.
+/// The numbers of the rows of a state, in which the cores have these picks, among those that were
+/// met. The numbers of messages are told apart or not.
 pub fn exact_numbers<L: Lines>(
     alloc: Global,
     met: &mut Met,

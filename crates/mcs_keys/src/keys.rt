@@ -18,8 +18,8 @@ use mcs_walks::{OrdersFault, Users, Walk, picked};
 use std::alloc::Global;
 use std::marker::Model;
 
-/// The rows that were met, and what all keys of a search have in common. Clauses see the rows in the order of their numbers, and
-/// whether keys are exact.
+/// The rows that were met, and what all keys of a search have in common. Clauses see the rows in
+/// the order of their numbers, and whether keys are exact.
 #[derive(Drop)]
 pub struct Keys {
     alloc: Global,
@@ -78,9 +78,10 @@ fn put_threads<L: Lines>(
 }
 
 impl Keys {
-    /// No row. Where keys are exact, states are one only where they differ in nothing that a book records later, or, where the
-    /// numbers of messages are not told apart, in nothing but these; else they are left out too, and objects that are made after
-    /// the boot are named by the lowest slot that names them.
+    /// No row. Where keys are exact, states are one only where they differ in nothing that a book
+    /// records later, or, where the numbers of messages are not told apart, in nothing but these;
+    /// else they are left out too, and objects that are made after the boot are named by the lowest
+    /// slot that names them.
     pub fn new(alloc: Global, boot: &Boot, users: &Users, is_exact: bool, numbered: bool) -> Keys
         ensures { result ≡ record { met = []; is_exact = is_exact; numbered = numbered } }
     {
@@ -247,8 +248,8 @@ impl Keys {
         self.canonical_numbers(users, walk, picks)
     }
 
-    /// The key of a state, in which the cores have these picks. Where keys are exact, it names the state's rows among those that
-    /// were met. OutOfMemory where memory was refused.
+    /// The key of a state, in which the cores have these picks. Where keys are exact, it names the
+    /// state's rows among those that were met. OutOfMemory where memory was refused.
     pub fn key<L: Lines>(
         &mut self,
         users: &Users,

@@ -6,8 +6,8 @@ ghost use Rattle.mcs_like_runs.specs.Runs.{IsReached, AreAlike};
 ghost use Rattle.mcs_keys.specs.Naming.{Keeps};
 ghost use Rattle.mcs_keys.specs.Rows.{HaveSameRows, IsKey};
 
-/// Two runs (at.3, at.4) of users (at.1) after a boot without fault (at.2) are alike where they have equal rows, in which the
-/// numbers of messages are told apart or not (at.0).
+/// Two runs (at.3, at.4) of users (at.1) after a boot without fault (at.2) are alike where they
+/// have equal rows, in which the numbers of messages are told apart or not (at.0).
 pub fn rows_decide()
     ghost at: { Bool × List User × Boot × Going × Going }
     requires boot { IsFaultless at.2 }
@@ -30,7 +30,8 @@ pub fn key_decides()
     ensures { AreAlike at.0 at.1 at.2 at.3 at.4 }
 {}
 
-/// A key (at.5) of a state (at.4) of users (at.3) stays one as more rows are met (at.1 before, at.2 after).
+/// A key (at.5) of a state (at.4) of users (at.3) stays one as more rows are met (at.1 before, at.2
+/// after).
 pub fn key_stays()
     ghost at: { Bool × List (List ℕ) × List (List ℕ) × List User × Going × List ℕ }
     requires kept { Keeps at.1 at.2 }

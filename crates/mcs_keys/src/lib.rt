@@ -1,9 +1,10 @@
-//! The keys of states: two states with one key have the same future (own). Exact keys are proved to: states with one key are
-//! alike. Canonical keys find more states to be one, and that they may is tested.
+//! The keys of states: two states with one key have the same future (own). Exact keys are proved
+//! to: states with one key are alike. Canonical keys find more states to be one, and that they may
+//! is tested.
 //!
 //! ```text
-//! a state ── exact ──> all its answers, in rows of numbers            ── met ──> its key: the numbers of its rows
-//!         ── names, rows ──> what decides its future, in fewer rows   ── met ──> its key
+//! a state ── exact ──> all its answers, in rows of numbers ── met ──> its key: their numbers
+//!         ── names, rows ──> what decides its future       ── met ──> its key
 //! ```
 #![tactic(auto)]
 

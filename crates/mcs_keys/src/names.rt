@@ -41,8 +41,8 @@ impl Counts {
     }
 }
 
-/// The objects that were made after the boot and are there, in the order of the lowest slots that name them. Each stands in a
-/// slot as long as it is there.
+/// The objects that were made after the boot and are there, in the order of the lowest slots that
+/// name them. Each stands in a slot as long as it is there.
 #[derive(Drop)]
 pub struct Names {
     counts: Counts,
@@ -109,8 +109,8 @@ impl Names {
         self.later.as_slice()
     }
 
-    /// The name of an object, from 1 on, by which it is told from all others of its kind. One that stands in no slot has its
-    /// serial behind all names.
+    /// The name of an object, from 1 on, by which it is told from all others of its kind. One that
+    /// stands in no slot has its serial behind all names.
     pub fn name(&self, object: ObjId) -> u64 {
         let serial = object.serial as u64;
         let count = self.counts.of(object.kind) as u64;

@@ -1,5 +1,5 @@
-//! What decides the future of a state, in canonical rows: the numbers of messages are left out, and objects that were made after
-//! the boot have names of their own. That it does is tested.
+//! What decides the future of a state, in canonical rows: the numbers of messages are left out, and
+//! objects that were made after the boot have names of their own. That it does is tested.
 use crate::names::Names;
 use crate::numbers::{Row, kind_number, send_number};
 use mcs_kernel::Kernel;
@@ -95,8 +95,8 @@ pub fn put_thread<L: Lines>(
     put_letter(row, names, kernel.open(thread))
 }
 
-/// The queue in which a thread stands first, where another stands behind it: so each such queue is there once. Who stands alone
-/// is told by what it does.
+/// The queue in which a thread stands first, where another stands behind it: so each such queue is
+/// there once. Who stands alone is told by what it does.
 pub fn put_queue<L: Lines>(
     row: &mut Row,
     kernel: &Kernel<L>,
@@ -179,8 +179,8 @@ fn put_standing<L: Lines>(
     Ok(())
 }
 
-/// A context: where it is gone, or its home and its chain, where there are, and its core where it was made after the boot. That of
-/// one that the boot made stays.
+/// A context: where it is gone, or its home and its chain, where there are, and its core where it
+/// was made after the boot. That of one that the boot made stays.
 fn put_context<L: Lines>(
     row: &mut Row,
     kernel: &Kernel<L>,

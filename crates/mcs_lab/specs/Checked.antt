@@ -1,4 +1,5 @@
--- The verdicts on a script, line by line: a definition over its text and the book that its steps make.
+-- The verdicts on a script, line by line: a definition over its text and the book that its steps
+-- make.
 use Rattle.std.specs.Prelude.{ℕ, ◌-◌, Bool, true, false, cond, List, [], ◌∷◌, ◌==◌, ◌&&◌, take, length, Option, Some, None}
 use Rattle.mcs_book.specs.History.{Book}
 use Rattle.mcs_phases.specs.Going.{Going, no_line, at_line, fed}
@@ -29,7 +30,8 @@ unread = record { run = at_line no_line; last = NoStep; step = [] }
 abbrev pub last_of : Option Book → Option Book → Last
 last_of before after = cond (line_count after == line_count before) Away (LetIn 0 (sent_count before))
 
--- what comes of a line that is no remark, before which the book was this one; while the boot goes on it is no step
+-- what comes of a line that is no remark, before which the book was this one; while the boot goes
+-- on it is no step
 abbrev pub stepped : Option Book → Option Book → Checked → List ℕ → Told × Checked
 stepped before None c text = (told.Nothing, c)
 stepped before (Some b) c text = (told.Step, record c { last = last_of before (Some b); step = text })
@@ -61,7 +63,8 @@ abbrev pub remarked : Checked → Option (List ℕ) → Told
 remarked c None = told.Nothing
 remarked c (Some text) = answered c text (asked_of text)
 
--- what comes of a line by its first byte, where the replay has taken it, and before it the book was this one
+-- what comes of a line by its first byte, where the replay has taken it, and before it the book was
+-- this one
 abbrev pub judged_by : Option Book → Checked → ℕ → List ℕ → Told × Checked
 judged_by before c b text =
     cond (b == 61) (told.Answer (answers_so c.last (newest (book_of c)) text), c)

@@ -43,8 +43,8 @@ answers_so NoStep l text = false
 answers_so Away l text = false
 answers_so (LetIn next sent) l text = is_answer l text
 
--- the place behind the first record that is written so, of those from a number on, before which so many messages were sent, and how many
--- were sent before that place
+-- the place behind the first record that is written so, of those from a number on, before which so
+-- many messages were sent, and how many were sent before that place
 abbrev pub found_from : ℕ → ℕ → List Rec → List ℕ → Option (ℕ × ℕ)
 found_from next sent [] text = None
 found_from next sent (r ∷ rs) text = cond (bytes_eq (record_text sent r) text) (Some (next + 1, sent_with sent r)) (found_from (next + 1) (sent_with sent r) rs text)

@@ -67,7 +67,8 @@ impl<W: Write + Drop> Checker<W> {
         self.verdict.put(b" - line ")?;
         self.verdict.word(&Token::Number(self.judge.line()))?;
         self.verdict.put(b": ")?;
-        // What holds is spelled as the trace spells it, and most of the rest is plain: the whole line is written at once.
+        // What holds is spelled as the trace spells it, and most of the rest is plain: the whole
+        // line is written at once.
         if holds || is_plain(said) {
             self.verdict.put(said)?;
             self.verdict.put(b"\n")?;
@@ -141,7 +142,8 @@ impl<W: Write + Drop> Checker<W> {
         put_quoted(&mut self.to, &self.names, bare(step))
     }
 
-    /// Tells a verdict, and of what does not hold what was wanted, what was seen, and behind which step.
+    /// Tells a verdict, and of what does not hold what was wanted, what was seen, and behind which
+    /// step.
     fn tell(&mut self, holds: bool, about: About, said: &[u8]) -> Result<(), LabFault> {
         self.put_verdict(holds, said)?;
         if holds {
@@ -209,7 +211,8 @@ impl<W: Write + Drop> TakesLines for Checker<W> {
     }
 }
 
-/// Checks a script, and writes a verdict for each line that says what is wanted, as TAP. True where all hold.
+/// Checks a script, and writes a verdict for each line that says what is wanted, as TAP. True where
+/// all hold.
 pub fn check<R: Read, W: Write + Drop>(
     alloc: Global,
     from: &mut Source<R>,

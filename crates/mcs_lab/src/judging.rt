@@ -205,7 +205,8 @@ impl Judge {
         self.run.kernel()
     }
 
-    /// The line of the book of the last step, where that was let in, and how many messages were sent before it.
+    /// The line of the book of the last step, where that was let in, and how many messages were
+    /// sent before it.
     pub fn entered(&self) -> Option<(Line<'_>, u128)> {
         match self.last {
             Last::LetIn { .. } => Some((newest(&self.run)?, self.sent_before as u128)),
@@ -278,7 +279,8 @@ impl Judge {
         kernel.fault(core, thread)
     }
 
-    /// Whether the last step was turned away, and for the reason that a text gives, if it gives one.
+    /// Whether the last step was turned away, and for the reason that a text gives, if it gives
+    /// one.
     fn was_away(&mut self, why: Option<EnterFault>, text: &[u8]) -> Result<bool, LabFault>
         ensures holds { IfOk result (λ holds. holds
             ≡ was_away self.old.last (reason (book_of self.old) self.old.step) why text.now) }

@@ -7,7 +7,8 @@ pub enum Last {
     NoStep,
     /// It was turned away.
     Away,
-    /// It was let in. Its records are compared from this one on, before which so many messages were sent.
+    /// It was let in. Its records are compared from this one on, before which so many messages were
+    /// sent.
     LetIn { next: usize, sent: u128 },
 }
 

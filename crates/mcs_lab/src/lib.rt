@@ -1,4 +1,5 @@
-//! Scripts that test themselves: whether what stands behind each step holds, by questions to the kernel.
+//! Scripts that test themselves: whether what stands behind each step holds, by questions to the
+//! kernel.
 #![tactic(auto)]
 
 mod asking;

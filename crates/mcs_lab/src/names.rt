@@ -51,8 +51,9 @@ impl Names {
         }
     }
 
-    /// Takes a line of a script. Where it begins with `#@ ` it gives a name: an object, and one word of letters, digits, `-`, `_`
-    /// and `.`, which has not the shape of an object's id. Fault Form where it has not this form.
+    /// Takes a line of a script. Where it begins with `#@ ` it gives a name: an object, and one
+    /// word of letters, digits, `-`, `_` and `.`, which has not the shape of an object's id. Fault
+    /// Form where it has not this form.
     pub fn hear(&mut self, alloc: Global, number: u64, line: &[u8]) -> Result<(), LabFault> {
         let [b'#', b'@', b' ', text @ .., b'\n'] = line else {
             return Ok(());
@@ -149,8 +150,9 @@ impl Names {
         }
     }
 
-    /// The objects that have a name, and the name that each was given last: the one of a number, from 0, of all that were given. None
-    /// where the object has another one, or there is no such number.
+    /// The objects that have a name, and the name that each was given last: the one of a number,
+    /// from 0, of all that were given. None where the object has another one, or there is no such
+    /// number.
     pub fn given(&self, number: usize) -> Option<(ObjId, &[u8])> {
         let given = self.all.get(number)?;
         let name = given.name.as_slice();

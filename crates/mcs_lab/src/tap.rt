@@ -11,7 +11,8 @@ pub fn bare(line: &[u8]) -> &[u8] {
     }
 }
 
-/// Writes the bytes of a word: of two kinds each stands behind another byte, and what is not printable is a `?`.
+/// Writes the bytes of a word: of two kinds each stands behind another byte, and what is not
+/// printable is a `?`.
 fn put_word<W: Write>(to: &mut W, word: &[u8], before: u8, kinds: [u8; 2]) -> io::Result<()> {
     for byte in word {
         if *byte == kinds[0] || *byte == kinds[1] {
@@ -35,7 +36,8 @@ pub fn put_description<W: Write>(to: &mut W, text: &[u8]) -> io::Result<()> {
     put_word(to, text, b'\\', [b'#', b'\\'])
 }
 
-/// Writes a text of YAML between single quotes, in which a quote is doubled, with the names of what its words stand for.
+/// Writes a text of YAML between single quotes, in which a quote is doubled, with the names of what
+/// its words stand for.
 pub fn put_quoted<W: Write>(to: &mut W, names: &Names, text: &[u8]) -> io::Result<()> {
     to.write_all(b"'")?;
     let mut words = Words::new(text);

@@ -22,7 +22,8 @@ use Rattle.mcs_spaces.specs.declared.layout.Layout.{Layout}
 use Rattle.mcs_spaces.specs.Layouts.{bits_behind, zero_guard}
 use Rattle.mcs_laying.specs.declared.boot.Site.{Site}
 
--- the CNode at a place, from 0: those of the spaces come first, and behind them the further ones of larger spaces
+-- the CNode at a place, from 0: those of the spaces come first, and behind them the further ones of
+-- larger spaces
 abbrev pub cnode_at : ℕ → ObjId
 cnode_at place = record { kind = kind.CNode; serial = place + 1 }
 
@@ -34,7 +35,8 @@ bare obj guard = record { obj = obj; rights = 0; badge = record { 0 = 0 }; guard
 abbrev pub layout_at : List Layout → ℕ → Layout
 layout_at layouts place = unwrap_or (slice_get layouts place) (record { root = 1; leaf = 0; within = 0 })
 
--- the guard of a capability, in a slot of a space, to the root of another: it takes the bits that the other's slots leave
+-- the guard of a capability, in a slot of a space, to the root of another: it takes the bits that
+-- the other's slots leave
 abbrev pub guard_to : Layout → Layout → Guard
 guard_to here there = zero_guard (here.within - (there.root + there.leaf))
 
@@ -96,8 +98,9 @@ abbrev pub filling : List Layout → List Space → ℕ → Option Space → Lis
 filling layouts spaces place None = []
 filling layouts spaces place (Some space) = space_lines layouts (site_of spaces place space) space
 
--- the boot of a plan, behind the line of its cores: a CNode for each space and those of larger ones; the endpoints, notifications
--- and reply objects; each context, each thread, each slot that holds something, each binding; nothing else
+-- the boot of a plan, behind the line of its cores: a CNode for each space and those of larger
+-- ones; the endpoints, notifications and reply objects; each context, each thread, each slot that
+-- holds something, each binding; nothing else
 abbrev pub boot_of : Plan → List Layout → List BootLine
 boot_of plan layouts =
     map root_line layouts

@@ -14,7 +14,8 @@ use Rattle.mcs_spaces.specs.Layouts.{layout_of_radix, layout_of_slots}
 abbrev pub slots_in : SaidSpace → ℕ
 slots_in space = min (length space.slots) 65535 + 1
 
--- how the slots of a space are laid out: by its radix, where one is said, or else by how many they are
+-- how the slots of a space are laid out: by its radix, where one is said, or else by how many they
+-- are
 abbrev pub own_layout_by : Option ℕ → ℕ → Layout
 own_layout_by (Some radix) slots = layout_of_radix radix
 own_layout_by None slots = layout_of_slots slots
@@ -46,7 +47,8 @@ most_bits spaces slots = fold (λ most slot. max (bits_held spaces slot.1) most)
 abbrev pub bits_within : List SaidSpace → SaidSpace → ℕ
 bits_within spaces space = most_bits spaces space.slots
 
--- the layout of a space among all: its own, and the bits of the CNodes that it holds capabilities to
+-- the layout of a space among all: its own, and the bits of the CNodes that it holds capabilities
+-- to
 abbrev pub layout_among : List SaidSpace → SaidSpace → Layout
 layout_among spaces space =
     record { root = (own_layout space).root; leaf = (own_layout space).leaf; within = bits_within spaces space }

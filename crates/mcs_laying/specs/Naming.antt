@@ -15,7 +15,8 @@ abbrev pub named_by : {A : Type 0} → List (Vec Named A) → ObjId → List ℕ
 named_by {A} tables t word =
     option_and_then (λ (k : ℕ). option_and_then (λ (table : Vec Named A). find (is_row word) table.items) (slice_get tables k)) (place_of kind.Thread t)
 
--- how many cores there are: as many as the plan says, or one more than the last that a context is on
+-- how many cores there are: as many as the plan says, or one more than the last that a context is
+-- on
 abbrev pub cores_of : Option ℕ → List CoreId → ℕ
 cores_of (Some cores) contexts = cores
 cores_of None contexts = min (fold (λ last core. max core.0 last) 0 contexts + 1) 255

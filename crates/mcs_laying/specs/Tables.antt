@@ -12,7 +12,8 @@ use Rattle.mcs_laying.specs.declared.tables.Named.{Named}
 use Rattle.mcs_laying.specs.Boot.{each, guarded, layout_at}
 use Rattle.mcs_laying.specs.Layouts.{layouts_of}
 
--- a name of a thread: what its slot holds when the boot has ended, its address, and the place of the slot
+-- a name of a thread: what its slot holds when the boot has ended, its address, and the place of
+-- the slot
 pub record Row : Type 0 where
   pub name : List ℕ
   pub cap : Option Cap
@@ -40,7 +41,8 @@ rows_by rows slots = each (length slots) (λ i. row_at rows i (slice_get slots i
 abbrev pub held_then : List Layout → ℕ → Option Cap → Option Cap
 held_then layouts space cap = option_map (λ c. guarded layouts space c) cap
 
--- the address of a slot of a space, which the bits of the CNodes stand behind that it holds capabilities to
+-- the address of a slot of a space, which the bits of the CNodes stand behind that it holds
+-- capabilities to
 abbrev pub address_in : Layout → ℕ → ℕ
 address_in l index = index * 2 ^ l.within
 
@@ -68,7 +70,8 @@ inner_row layouts outer space address name cap =
       place = record { index = address; depth = 64 };
     }
 
--- the rows of one of its slots, whose slot 0 has this address, and of all, where there is such a space
+-- the rows of one of its slots, whose slot 0 has this address, and of all, where there is such a
+-- space
 abbrev pub inner_slot : List Layout → List ℕ → ℕ → ℕ → ℕ → List ℕ → Option Cap → List Row
 inner_slot layouts outer first space index name cap = inner_row layouts outer space (first + index) name cap ∷ []
 

@@ -13,7 +13,8 @@ use Rattle.mcs_laying.specs.Laid.{LaidPlan, row_named}
 use Rattle.mcs_laying.specs.Layouts.{space_behind}
 use Rattle.mcs_laying.specs.Tables.{Row}
 
--- the parts of a word: the name of a slot, and behind a slash that of a slot of the CNode that it holds a capability to
+-- the parts of a word: the name of a slot, and behind a slash that of a slot of the CNode that it
+-- holds a capability to
 abbrev pub outer_in : List ℕ → List ℕ
 outer_in word = front_of 47 word
 

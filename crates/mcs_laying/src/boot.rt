@@ -22,8 +22,8 @@ use mcs_spaces::LEAF;
 use mcs_types::{BootLine, Cap, Guard, Kind, ObjId};
 use std::alloc::{AllocError, Global};
 
-/// Where the slots of a space stand: in its root, the CNode at a place, or in so many others, the first of them at another
-/// place.
+/// Where the slots of a space stand: in its root, the CNode at a place, or in so many others, the
+/// first of them at another place.
 #[derive(Clone, Copy)]
 pub struct Site {
     pub place: usize,
@@ -291,7 +291,8 @@ impl Laid {
         Ok(lines)
     }
 
-    /// The lines of the boot, behind that of its cores. Limit where it makes more of a kind than a machine may have.
+    /// The lines of the boot, behind that of its cores. Limit where it makes more of a kind than a
+    /// machine may have.
     pub fn boot_lines(&self, alloc: Global) -> Result<Vec<BootLine>, Why>
         ensures made { IfOk result (λ ls. ls.items ≡ boot_of self.now.plan self.now.layouts.items) }
         ensures fits { OnOk result (boot_fits (said self.now.plan) ≡ Ok tt) }

@@ -131,8 +131,8 @@ impl Laid {
         Ok(laid)
     }
 
-    /// Lays the spaces of a plan out. Twice at the line of the first passive thread where `starter` is
-    /// a name already.
+    /// Lays the spaces of a plan out. Twice at the line of the first passive thread where `starter`
+    /// is a name already.
     pub fn new(alloc: Global, plan: Plan) -> Result<Laid, PlanFault>
         ensures plan { IfOk result (λ laid. IsStarted (said plan) (said laid.plan)) }
         ensures laid { IfOk result IsLaid }

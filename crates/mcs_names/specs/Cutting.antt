@@ -10,11 +10,13 @@ is_white b = b == 32 || b == 9
 abbrev pub is_some_text : List ℕ → Bool
 is_some_text bs = not (length bs == 0)
 
--- the words of a line: what stands between white space, from one to the next, where that is something
+-- the words of a line: what stands between white space, from one to the next, where that is
+-- something
 abbrev pub words_of : List ℕ → List (List ℕ)
 words_of line = filter is_some_text (slice_split is_white line)
 
--- how many bytes stand before the `#` of a comment, which stands where one may begin or behind white space; all where there is none
+-- how many bytes stand before the `#` of a comment, which stands where one may begin or behind
+-- white space; all where there is none
 abbrev pub code_len : Bool → List ℕ → ℕ
 code_len begins [] = 0
 code_len begins (b ∷ bs) = cond (begins && b == 35) 0 (1 + code_len (is_white b) bs)

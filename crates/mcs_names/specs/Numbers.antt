@@ -37,7 +37,8 @@ abbrev pub ReadsNumber : ℕ → List (List ℕ) → ℕ → List (List ℕ) →
 ReadsNumber limit [] n left = ⊥
 ReadsNumber limit (word ∷ words) n left = (left ≡ words) × (number_within limit word ≡ Some n)
 
--- why no number is read: no word is there, or the first, which is told, spells none within the limit
+-- why no number is read: no word is there, or the first, which is told, spells none within the
+-- limit
 abbrev pub TellsNoNumber : ℕ → List (List ℕ) → Why → Type 0
 TellsNoNumber limit [] (why.Missing wanted) = Unit {0}
 TellsNoNumber limit (word ∷ words) (why.Not told wanted) = (string_bytes told ≡ word) × (number_within limit word ≡ None)

@@ -13,7 +13,8 @@ pub record MayAdd (names : NameList) (kind : Kind) (word : List ℕ) : Type 0 wh
   pub fresh : find names word ≡ None
   pub room : count_of kind names < limit_of kind
 
--- why it may not: each fault exactly where the ones before it do not hold; memory may be refused wherever it is asked for
+-- why it may not: each fault exactly where the ones before it do not hold; memory may be refused
+-- wherever it is asked for
 abbrev pub MayNotAdd : NameList → Kind → List ℕ → Why → Type 0
 MayNotAdd names kind word (why.Not told wanted) = (string_bytes told ≡ word) × (is_name word ≡ false)
 MayNotAdd names kind word (why.Twice told) = (string_bytes told ≡ word) × (is_name word ≡ true) × IsSome (find names word)
@@ -54,7 +55,8 @@ abbrev pub TellsMissing : List (List ℕ) → Why → Type 0
 TellsMissing words (why.Missing wanted) = words ≡ []
 TellsMissing words _ = ⊥
 
--- the fault of a line whose next word is not the one that is wanted: it ends, or has another, which is told
+-- the fault of a line whose next word is not the one that is wanted: it ends, or has another, which
+-- is told
 abbrev pub TellsOther : List ℕ → List (List ℕ) → Why → Type 0
 TellsOther wanted [] (why.Missing missing) = Unit {0}
 TellsOther wanted (word ∷ words) (why.Not told missing) = (string_bytes told ≡ word) × (word ≢ wanted)

@@ -150,8 +150,8 @@ impl Names {
         Ok(())
     }
 
-    /// Names the next object of a kind. Not where the word is no name, Twice where it is one already, and Limit where there are
-    /// as many of the kind as there may be.
+    /// Names the next object of a kind. Not where the word is no name, Twice where it is one
+    /// already, and Limit where there are as many of the kind as there may be.
     pub fn add(&mut self, alloc: Global, kind: Kind, name: &str) -> Result<ObjId, Why>
         ensures added { IfOk result (λ o. Adds self.old kind name.now o self.new) }
         ensures told { IfErr result (MayNotAdd self.old kind name.now) }

@@ -40,7 +40,8 @@ fn add_told(
     Ok(())
 }
 
-/// A trace, in which each object has the name that the script gives it. Lines that begin with `#` stay as they are.
+/// A trace, in which each object has the name that the script gives it. Lines that begin with `#`
+/// stay as they are.
 pub fn tell_names(alloc: Global, script: &[u8], trace: &[u8]) -> Result<Vec<u8>, AllocError> {
     let names = names_of(alloc, script)?;
     let mut to = Vec::new(alloc);

@@ -107,7 +107,8 @@ impl<'a> Words<'a> {
         }
     }
 
-    /// Takes a number, in decimal or hexadecimal. Missing where no word is left, Not where it is none, or above the limit.
+    /// Takes a number, in decimal or hexadecimal. Missing where no word is left, Not where it is
+    /// none, or above the limit.
     #[tactic(auto, using(crate::proofs::Entries::takes_number, crate::proofs::Spelled::reads_number, crate::proofs::Spelled::too_large, crate::proofs::Spelled::no_number))]
     pub fn number(&mut self, alloc: Global, wanted: &'static str, limit: u64) -> Result<u64, Why>
         ensures taken { OnOk result (TakesNumber self.old self.new) }
@@ -165,7 +166,8 @@ fn code_len(line: &[u8]) -> usize
     line.len()
 }
 
-/// A line without its comment, and the comment. A comment begins with `#`, at the line's beginning or behind a space or a tab.
+/// A line without its comment, and the comment. A comment begins with `#`, at the line's beginning
+/// or behind a space or a tab.
 pub fn split_comment<'a>(line: &'a str) -> (&'a str, Option<&'a str>)
     ensures code { result.0.now ≡ code_of line.now }
     ensures comment { option_map (λ c. c.now) result.1 ≡ comment_of line.now }
@@ -194,7 +196,8 @@ fn begins_with_plus(word: &str) -> bool
     }
 }
 
-/// The number that digits of this base spell. None where they are no digits of it, or spell more than 64 bits.
+/// The number that digits of this base spell. None where they are no digits of it, or spell more
+/// than 64 bits.
 #[tactic(auto, using(crate::proofs::Spelled::parsed, crate::proofs::Spelled::signed))]
 fn number_in(radix: u32, digits: &str) -> Option<u64>
     requires lower { 2 ≤ radix }
@@ -296,7 +299,8 @@ fn is_name_text(word: &[u8]) -> bool
     }
 }
 
-/// Whether a word may be a name: it begins with a letter, has letters, digits, `-`, `_` and `.`, and not the shape of an id.
+/// Whether a word may be a name: it begins with a letter, has letters, digits, `-`, `_` and `.`,
+/// and not the shape of an id.
 pub fn is_name(word: &str) -> bool
     ensures { result ≡ is_name word.now }
 {

@@ -1,5 +1,5 @@
--- What a contract sees of `Notifications`: the pending word of each notification that is there, the thread bound to it, and the
--- context that is homed at it.
+-- What a contract sees of `Notifications`: the pending word of each notification that is there, the
+-- thread bound to it, and the context that is homed at it.
 use Rattle.std.specs.Prelude.{◌≡◌, ℕ, Bool, Option, Some, is_some, option_and_then}
 use Rattle.mcs_types.specs.declared.id.ObjId.{ObjId}
 use Rattle.mcs_types.specs.declared.id.Kind.TheVariants.{Notification}

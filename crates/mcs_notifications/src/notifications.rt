@@ -13,7 +13,8 @@ use mcs_types::{Badge, Kind, OBJECTS, ObjId, OutOfMemory};
 use std::alloc::Global;
 use std::marker::Model;
 
-/// A notification: its pending word, the thread bound to it (manual: Notifications), and the context that is homed at it (own).
+/// A notification: its pending word, the thread bound to it (manual: Notifications), and the
+/// context that is homed at it (own).
 #[derive(Clone, Copy)]
 pub struct NotificationRow {
     word: Option<u64>,
@@ -21,14 +22,15 @@ pub struct NotificationRow {
     homed: Option<ObjId>,
 }
 
-/// Up to 256 notifications, which come and go under serials that count from 1: the pending word of each, and the thread bound to
-/// it. A word is pending as soon as one badge was raised, also badge 0 (manual: Notifications). All memory is taken when they are
-/// made (own).
+/// Up to 256 notifications, which come and go under serials that count from 1: the pending word of
+/// each, and the thread bound to it. A word is pending as soon as one badge was raised, also badge
+/// 0 (manual: Notifications). All memory is taken when they are made (own).
 pub struct Notifications {
     rows: Store<NotificationRow>,
 }
 
-// By hand, so that it is a function of its own: a derived drop would be proved anew wherever it is let go.
+// By hand, so that it is a function of its own: a derived drop would be proved anew wherever it is
+// let go.
 impl Drop for Notifications {
     fn drop(self) {
         let Notifications { rows: _ } = self;
@@ -75,7 +77,8 @@ impl Notifications {
         rows
     }
 
-    /// A table like this one, in the memory of a spare one (own). OutOfMemory where memory is refused.
+    /// A table like this one, in the memory of a spare one (own). OutOfMemory where memory is
+    /// refused.
     pub fn copy(
         &self,
         alloc: Global,
@@ -92,7 +95,8 @@ impl Notifications {
         })
     }
 
-    /// Adds a notification where there is room: its serial is the next, no word is pending, and it is bound to no thread (own).
+    /// Adds a notification where there is room: its serial is the next, no word is pending, and it
+    /// is bound to no thread (own).
     pub fn add(&mut self) -> ObjId
         requires { no_room self.old ≡ false }
         ensures id { result ≡ next_notification self.old }
@@ -113,8 +117,8 @@ impl Notifications {
         })
     }
 
-    /// Forgets a notification that is bound to no thread, and its word, if one is pending: its serial is never given again
-    /// (manual: Kernel Services and Objects).
+    /// Forgets a notification that is bound to no thread, and its word, if one is pending: its
+    /// serial is never given again (manual: Kernel Services and Objects).
     pub fn close(&mut self, notification: ObjId)
         requires there { is_there self.old notification ≡ true }
         requires unbound { thread_in self.old notification ≡ None }
@@ -128,7 +132,8 @@ impl Notifications {
         self.rows.remove(notification);
     }
 
-    /// What is kept of each notification: how many were made and are there, and whether there is room for one more (own).
+    /// What is kept of each notification: how many were made and are there, and whether there is
+    /// room for one more (own).
     pub fn rows(&self) -> &Store<NotificationRow>
         ensures { result.now ≡ self.now.rows }
     {
@@ -153,15 +158,16 @@ impl Notifications {
         self.rows.get(notification).is_some()
     }
 
-    /// The pending word of a notification, or None where none is, and where it is not there (manual: Notifications).
+    /// The pending word of a notification, or None where none is, and where it is not there
+    /// (manual: Notifications).
     pub fn word(&self, notification: ObjId) -> Option<u64>
         ensures { result ≡ word_in self.now notification }
     {
         self.rows.get(notification)?.word
     }
 
-    /// The pending word of a notification that is there gains the bits of a badge; where none was pending, it is the badge, also
-    /// where that is 0 (manual: Notifications).
+    /// The pending word of a notification that is there gains the bits of a badge; where none was
+    /// pending, it is the badge, also where that is 0 (manual: Notifications).
     pub fn raise(&mut self, notification: ObjId, badge: Badge)
         requires { is_there self.old notification ≡ true }
         ensures counts { counts self.new ≡ counts self.old }
@@ -175,8 +181,8 @@ impl Notifications {
         self.rows.set(notification, NotificationRow { word, ..row });
     }
 
-    /// Clears the pending word of a notification, and gives it; None, and nothing changes, where none was pending, and where the
-    /// notification is not there (manual: Notifications).
+    /// Clears the pending word of a notification, and gives it; None, and nothing changes, where
+    /// none was pending, and where the notification is not there (manual: Notifications).
     pub fn hear(&mut self, notification: ObjId) -> Option<u64>
         ensures word { result ≡ word_in self.old notification }
         ensures counts { counts self.new ≡ counts self.old }
@@ -191,8 +197,8 @@ impl Notifications {
         row.word
     }
 
-    /// The thread to which a notification is bound, or None where it is bound to none, and where it is not there (manual:
-    /// Notifications).
+    /// The thread to which a notification is bound, or None where it is bound to none, and where it
+    /// is not there (manual: Notifications).
     pub fn bound(&self, notification: ObjId) -> Option<ObjId>
         ensures { result ≡ thread_in self.now notification }
     {
@@ -213,7 +219,8 @@ impl Notifications {
             .set(notification, NotificationRow { thread, ..row });
     }
 
-    /// The context that is homed at a notification, or None where none is, and where it is not there (own).
+    /// The context that is homed at a notification, or None where none is, and where it is not
+    /// there (own).
     pub fn homed(&self, notification: ObjId) -> Option<ObjId>
         ensures { result ≡ homed_in self.now notification }
     {

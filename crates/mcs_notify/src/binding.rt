@@ -12,7 +12,8 @@ use mcs_object_queues::Waiting;
 use mcs_state::{Change, State, change_awake, find_object, of_kind, with_read};
 use mcs_types::{CoreId, Kind, ObjId, Queue, Refusal};
 
-/// What a bind changes: the thread has no notification, and the notification is bound to nobody, and nobody waits on it.
+/// What a bind changes: the thread has no notification, and the notification is bound to nobody,
+/// and nobody waits on it.
 fn tie_to_make<W: Waiting>(
     state: &State<W>,
     thread: ObjId,
@@ -51,9 +52,10 @@ fn tie_to_end<W: Waiting>(state: &State<W>, thread: ObjId, holder: u64) -> Resul
     })
 }
 
-/// BindNtfn: the notification is bound to the thread from now on. The refusals are 1 to 3 of the lookups, the thread's
-/// first, 4 for a capability of another kind, 5 where the notification's lacks Read, and 9 where the thread has a
-/// notification, the notification is bound, or a thread waits on it (own); they change nothing (manual: Notifications).
+/// BindNtfn: the notification is bound to the thread from now on. The refusals are 1 to 3 of the
+/// lookups, the thread's first, 4 for a capability of another kind, 5 where the notification's
+/// lacks Read, and 9 where the thread has a notification, the notification is bound, or a thread
+/// waits on it (own); they change nothing (manual: Notifications).
 pub fn bind<W: Waiting>(
     state: &mut State<W>,
     core: CoreId,
@@ -72,8 +74,9 @@ pub fn bind<W: Waiting>(
     Ok(())
 }
 
-/// UnbindNtfn: no notification is bound to the thread from now on. The refusals are 1 to 3 of the lookup, 4 for a
-/// capability of another kind, and 10 where none is bound; they change nothing (manual: Notifications).
+/// UnbindNtfn: no notification is bound to the thread from now on. The refusals are 1 to 3 of the
+/// lookup, 4 for a capability of another kind, and 10 where none is bound; they change nothing
+/// (manual: Notifications).
 pub fn unbind<W: Waiting>(
     state: &mut State<W>,
     core: CoreId,

@@ -1,5 +1,5 @@
-//! Operations on notifications: signals, waits and bindings. Each call adds the records of its row of the table, or of a
-//! part of one, and gives that row's answer (manual: Notifications).
+//! Operations on notifications: signals, waits and bindings. Each call adds the records of its row
+//! of the table, or of a part of one, and gives that row's answer (manual: Notifications).
 #![tactic(auto)]
 
 mod binding;

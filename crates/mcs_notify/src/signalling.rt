@@ -46,7 +46,8 @@ fn first_waiter<W: Waiting>(state: &State<W>, notification: ObjId) -> Option<Hea
     Some(Hearer { thread, queue })
 }
 
-/// Who hears the next word of a notification: the bound thread where it receives, else the first waiter.
+/// Who hears the next word of a notification: the bound thread where it receives, else the first
+/// waiter.
 fn next_hearer<W: Waiting>(state: &State<W>, notification: ObjId) -> Option<Hearer>
     ensures { result ≡ next_hearer (so_far state.now) notification }
 {
@@ -76,7 +77,8 @@ fn leave<W: Waiting>(state: &mut State<W>, hearer: &Hearer)
     state.parts(hearer.thread, hearer.queue);
 }
 
-/// The context that is homed at a notification, where nobody holds it and it came along no call that has not ended (own).
+/// The context that is homed at a notification, where nobody holds it and it came along no call
+/// that has not ended (own).
 fn spare_context<W: Waiting>(state: &State<W>, notification: ObjId) -> Option<ObjId>
     ensures { result ≡ if_spare (so_far state.now) (homed_at (so_far state.now) notification) }
 {
@@ -102,8 +104,9 @@ fn go_on<W: Waiting>(state: &mut State<W>, notification: ObjId, word: u64, heare
     state.turns(hearer.thread, Mode::Running);
 }
 
-/// A hearer takes the word, leaves its queue, and runs. The context that is homed at the notification wakes with it, where nobody holds
-/// that and it came along no call that has not ended, and where the hearer holds none (own).
+/// A hearer takes the word, leaves its queue, and runs. The context that is homed at the
+/// notification wakes with it, where nobody holds that and it came along no call that has not
+/// ended, and where the hearer holds none (own).
 fn hear<W: Waiting>(state: &mut State<W>, notification: ObjId, word: u64, hearer: &Hearer)
     requires stands { queue_of (so_far state.old) hearer.now.thread ≡ Some hearer.now.queue }
     requires pending { pending (so_far state.old) notification ≡ Some word }
@@ -117,9 +120,10 @@ fn hear<W: Waiting>(state: &mut State<W>, notification: ObjId, word: u64, hearer
     give_back(state, context, hearer.thread);
 }
 
-/// Signals a notification with a badge, whose bits are added to the word. Where no word was pending, somebody hears it: the
-/// bound thread if it receives on an endpoint, else the first waiter. It leaves its queue, and runs (manual: Notifications), with the
-/// context that is homed at the notification, where that is free (own).
+/// Signals a notification with a badge, whose bits are added to the word. Where no word was
+/// pending, somebody hears it: the bound thread if it receives on an endpoint, else the first
+/// waiter. It leaves its queue, and runs (manual: Notifications), with the context that is homed at
+/// the notification, where that is free (own).
 pub fn signal<W: Waiting>(state: &mut State<W>, notification: ObjId, badge: Badge)
     requires there { IsThere (so_far state.old) Kind.Notification notification }
     requires waiting { OnlyBoundWait (so_far state.old) }
@@ -143,8 +147,9 @@ fn cap_to_signal<W: Waiting>(state: &State<W>, thread: ObjId, address: u64) -> R
     with_write(of_kind(state.capability(thread, address), Kind::Notification))
 }
 
-/// Signal: the notification is signalled with the badge of the capability. The refusals are 1 to 3 of the lookup, 4 for a
-/// capability of another kind, and 5 where Write is missing; they change nothing (manual: Notifications).
+/// Signal: the notification is signalled with the badge of the capability. The refusals are 1 to 3
+/// of the lookup, 4 for a capability of another kind, and 5 where Write is missing; they change
+/// nothing (manual: Notifications).
 pub fn signal_at<W: Waiting>(
     state: &mut State<W>,
     core: CoreId,

@@ -13,7 +13,8 @@ use mcs_object_queues::Waiting;
 use mcs_state::{State, stand};
 use mcs_types::{Answer, ObjId, Queue};
 
-/// Whether a thread may wait on a notification: only the bound thread may, where one is bound (manual: Notifications; own).
+/// Whether a thread may wait on a notification: only the bound thread may, where one is bound
+/// (manual: Notifications; own).
 pub fn may_wait<W: Waiting>(state: &State<W>, thread: ObjId, notification: ObjId) -> bool
     ensures { result ≡ not (bound_elsewhere (tied_to (so_far state.now) notification) thread) }
 {
@@ -23,9 +24,10 @@ pub fn may_wait<W: Waiting>(state: &State<W>, thread: ObjId, notification: ObjId
     }
 }
 
-/// Takes the pending word of a notification. Where none is pending, the thread waits if it blocks, and otherwise the answer
-/// is Empty. Nobody else is bound to the notification (manual: Notifications). A thread that waits gives up its context where that is homed
-/// at the notification (own).
+/// Takes the pending word of a notification. Where none is pending, the thread waits if it blocks,
+/// and otherwise the answer is Empty. Nobody else is bound to the notification (manual:
+/// Notifications). A thread that waits gives up its context where that is homed at the notification
+/// (own).
 pub fn wait<W: Waiting>(
     state: &mut State<W>,
     thread: ObjId,
@@ -58,8 +60,8 @@ pub fn wait<W: Waiting>(
     }
 }
 
-/// Takes the pending word of the notification that is bound to a thread. There is none where no notification is bound, or
-/// none of its words is pending (manual: Notifications).
+/// Takes the pending word of the notification that is bound to a thread. There is none where no
+/// notification is bound, or none of its words is pending (manual: Notifications).
 pub fn take_bound<W: Waiting>(state: &mut State<W>, thread: ObjId) -> Option<u64>
     requires { HasRoomFor (takes_bound thread) state.old }
     ensures word { result ≡ pending_of_any (so_far state.old) (bound_of (so_far state.old) thread) }

@@ -22,15 +22,17 @@ const WAITERS: u16 = 2 * OBJECTS;
 /// How many lines there are.
 const LINES: u16 = 3 * OBJECTS;
 
-/// Queues over lines with numbers: the line of a queue goes by the place of its object, which the next object in that place
-/// gets again. An object is forgotten only where nobody stands in its queues, so a line is empty while its place is vacant (own).
+/// Queues over lines with numbers: the line of a queue goes by the place of its object, which the
+/// next object in that place gets again. An object is forgotten only where nobody stands in its
+/// queues, so a line is empty while its place is vacant (own).
 pub struct ObjectQueues<L: Lines> {
     endpoints: Store<()>,
     notifications: Store<()>,
     lines: L,
 }
 
-// By hand, so that it is a function of its own: a derived drop would be proved anew wherever it is let go.
+// By hand, so that it is a function of its own: a derived drop would be proved anew wherever it is
+// let go.
 impl<L: Lines> Drop for ObjectQueues<L> {
     fn drop(self) {
         let ObjectQueues {

@@ -11,7 +11,8 @@ pub record Object (T : Type 0) : Type 0 where
   pub place : ℕ
   pub value : T
 
--- the kind of all ids, how many objects there may be, how many serials were given, and the objects by rising serial
+-- the kind of all ids, how many objects there may be, how many serials were given, and the objects
+-- by rising serial
 pub record Objects (T : Type 0) : Type 0 where
   pub kind : Kind
   pub room : ℕ
@@ -135,7 +136,8 @@ module _ {T : Type 0} where
     pub low : 1 ≤ id.serial
     pub high : id.serial ≤ s.given
 
-  -- places are below the room and different, so a place tells its object; what has a place has a value, and was given
+  -- places are below the room and different, so a place tells its object; what has a place has a
+  -- value, and was given
   pub record HasPlaces (s : Objects T) : Type 0 where
     pub room : (x : ObjId) (p : ℕ) → place_at s x ≡ Some p → p < s.room
     pub apart : (x y : ObjId) (p : ℕ) → place_at s x ≡ Some p → place_at s y ≡ Some p → x ≡ y

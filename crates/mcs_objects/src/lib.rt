@@ -1,4 +1,5 @@
-//! Objects of one kind, each under an id that is given once, and what is kept of each elsewhere by the place of its serial.
+//! Objects of one kind, each under an id that is given once, and what is kept of each elsewhere by
+//! the place of its serial.
 #![tactic(auto)]
 
 mod full;

@@ -28,15 +28,16 @@ pub fn empty_places<T: Drop>(alloc: Global, count: u16) -> Result<Vec<Option<T>>
     Ok(places)
 }
 
-/// What is kept of an object of a kind: the object of serial n has the place n - 1. None where nothing is kept of it, and for
-/// an object of another kind or beyond the places (own).
+/// What is kept of an object of a kind: the object of serial n has the place n - 1. None where
+/// nothing is kept of it, and for an object of another kind or beyond the places (own).
 pub fn kept_at<T: Drop>(kind: Kind, places: &[Option<T>], id: ObjId) -> Option<&T>
     ensures { option_copied result ≡ kept_at kind places.now id }
 {
     places.get(id.place(kind)?)?.as_ref()
 }
 
-/// Keeps this, or nothing, of an object of a kind that has a place, in place of what was kept of it (own).
+/// Keeps this, or nothing, of an object of a kind that has a place, in place of what was kept of it
+/// (own).
 pub fn keep<T: Drop>(kind: Kind, places: &mut Vec<Option<T>>, id: ObjId, kept: Option<T>)
     requires { HasPlace kind places.old.items id }
     ensures kept { KeepsAt kind places.old.items places.new.items id kept }
@@ -48,8 +49,8 @@ pub fn keep<T: Drop>(kind: Kind, places: &mut Vec<Option<T>>, id: ObjId, kept: O
     places[(id.serial - 1) as usize] = kept;
 }
 
-/// Takes out what is kept of an object of a kind. None, and nothing changes, where nothing is kept of it, and for an object of
-/// another kind or beyond the places (own).
+/// Takes out what is kept of an object of a kind. None, and nothing changes, where nothing is kept
+/// of it, and for an object of another kind or beyond the places (own).
 pub fn take<T: Drop>(kind: Kind, places: &mut Vec<Option<T>>, id: ObjId) -> Option<T>
     ensures value { result ≡ kept_at kind places.old.items id }
     ensures kept { KeepsAt kind places.old.items places.new.items id None }

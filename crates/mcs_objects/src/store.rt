@@ -22,8 +22,9 @@ struct Row {
     place: u16,
 }
 
-/// Up to 256 objects of one kind, each with a value (own). Serials count from 1 in the order of making, and none is given
-/// twice, so an id whose object was removed finds nothing for good. All memory is taken when it is made.
+/// Up to 256 objects of one kind, each with a value (own). Serials count from 1 in the order of
+/// making, and none is given twice, so an id whose object was removed finds nothing for good. All
+/// memory is taken when it is made.
 #[derive(Drop)]
 pub struct Store<T> {
     kind: Kind,
@@ -125,8 +126,8 @@ impl<T: Clone> Store<T> {
         rows
     }
 
-    /// A store like this one, in the memory of a spare one, where a clone of a value equals the value (own). OutOfMemory where
-    /// memory is refused.
+    /// A store like this one, in the memory of a spare one, where a clone of a value equals the
+    /// value (own). OutOfMemory where memory is refused.
     pub fn copy(&self, alloc: Global, spare: Option<Store<T>>) -> Result<Store<T>, OutOfMemory>
         requires clones { (x y : T) → T.is_clone x y → y ≡ x }
         ensures { IfOk result (λ t. t ≡ self.now) }
@@ -170,15 +171,16 @@ impl<T: Drop> Store<T> {
         })
     }
 
-    /// The store is a map: its serials rise and were given, and its places are below its room and different.
+    /// The store is a map: its serials rise and were given, and its places are below its room and
+    /// different.
     fn is_map(&self)
         ensures { IsMap self.now }
     {
         let _ = &self.values;
     }
 
-    /// Two objects that are there have different places, below the store's room, so a place tells its object. What is there was
-    /// given (own).
+    /// Two objects that are there have different places, below the store's room, so a place tells
+    /// its object. What is there was given (own).
     pub fn are_apart(&self)
         ensures { HasPlaces self.now }
     {
@@ -224,8 +226,8 @@ impl<T: Drop> Store<T> {
         self.rows.len()
     }
 
-    /// Adds an object where there is room, and takes no memory. Its id has the store's kind and the serial after the one given
-    /// last (own).
+    /// Adds an object where there is room, and takes no memory. Its id has the store's kind and the
+    /// serial after the one given last (own).
     pub fn add(&mut self, value: T) -> ObjId
         requires { is_full self.old ≡ false }
         ensures id { result ≡ next_id self.old }
@@ -237,8 +239,8 @@ impl<T: Drop> Store<T> {
         self.push(value)
     }
 
-    /// Adds an object as `add` does. Refused where the room is full or each serial was given: then the value comes back, and the
-    /// store is as it was (own).
+    /// Adds an object as `add` does. Refused where the room is full or each serial was given: then
+    /// the value comes back, and the store is as it was (own).
     pub fn make(&mut self, value: T) -> Result<ObjId, NoRoom<T>>
         ensures refused { IsErr result ↔ IsTrue (is_full self.old) }
         ensures id { IfOk result (λ id. id ≡ next_id self.old) }
@@ -315,7 +317,8 @@ impl<T: Drop> Store<T> {
         Some(self.values.remove(row.place as usize))
     }
 
-    /// Takes an object out and gives its value, or None where it is not there: then the store is as it was (own).
+    /// Takes an object out and gives its value, or None where it is not there: then the store is as
+    /// it was (own).
     pub fn remove(&mut self, id: ObjId) -> Option<T>
         ensures value { result ≡ value_at self.old id }
         ensures shape { OnSome result (IsOneFewer (shape self.old) (shape self.new)) }
@@ -327,8 +330,8 @@ impl<T: Drop> Store<T> {
         self.take(id)
     }
 
-    /// The place of an object, below the store's room, or None where the object is not there. It is the same as long as the
-    /// object is there, and different for two objects that are there (own).
+    /// The place of an object, below the store's room, or None where the object is not there. It is
+    /// the same as long as the object is there, and different for two objects that are there (own).
     pub fn place(&self, id: ObjId) -> Option<u16>
         ensures { result ≡ place_at self.now id }
     {

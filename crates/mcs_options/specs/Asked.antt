@@ -40,7 +40,8 @@ abbrev pub Asks : List Text → Options → Type 0
 Asks words Replay = (rest : List Text) × Names words (codes "replay") rest × IsEnd rest
 Asks words (Run cores) = (rest : List Text) × Names words (codes "run") rest × SaysCores rest cores
 
--- the value of the option `--cores` reads as this number, and where there is no value there is no number
+-- the value of the option `--cores` reads as this number, and where there is no value there is no
+-- number
 abbrev pub ReadsCores : Option Text → Option ℕ → Type 0
 ReadsCores None cores = cores ≡ None
 ReadsCores (Some text) cores = ReadsOne {T = ℕ} {E = ParseIntError} (ParsesUnsigned 8 10) text cores

@@ -67,9 +67,10 @@ fn chosen(matches: &ArgMatches<'_>) -> Options
     }
 }
 
-/// What the words of the command line ask for; the first is the program's name. An error says what is wrong with them, or
-/// has the help or the version that was asked for: it is of a kind that the rules of the command line give these words, or
-/// tells that there was no memory; and where they give a kind it comes.
+/// What the words of the command line ask for; the first is the program's name. An error says what
+/// is wrong with them, or has the help or the version that was asked for: it is of a kind that the
+/// rules of the command line give these words, or tells that there was no memory; and where they
+/// give a kind it comes.
 pub fn options<'a>(alloc: Global, words: &'a [&'a str]) -> Result<Options, Error>
     // What is given is what the words ask for, and what they ask for is given.
     ensures asked { IfOk result (Asks (map (λ w. w.now) words.entry.now)) }

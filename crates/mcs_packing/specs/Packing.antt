@@ -199,8 +199,9 @@ abbrev pub AllFit : List Packed → List ℕ → List Rec → Type 0
 AllFit [] ws rs = Unit {0}
 AllFit (p ∷ ps) ws rs = Fits p ws rs × AllFit ps ws rs
 
--- there is room for what so many records keep in the arena, and for a head: a record keeps six words, and long messages of records
--- may use up the spare words besides; an entry keeps 124 words, and an answer fewer
+-- there is room for what so many records keep in the arena, and for a head: a record keeps six
+-- words, and long messages of records may use up the spare words besides; an entry keeps 124 words,
+-- and an answer fewer
 pub record HasRoom (a : Arena) (n : ℕ) : Type 0 where
   pub words : vec_len a.words + (6 * n + (a.spare + 248)) ≤ vec_capacity a.words
   pub named : vec_len a.words + (6 * n + (a.spare + 248)) ≤ 3 * 2 ^ 30
@@ -238,6 +239,7 @@ MayFit o a = IfSome o (λ p. FitsIn p a)
 abbrev pub IsPlain : Option Packed → Rec → Type 0
 IsPlain o fact = IfSome o (λ p. record_of p [] [] ≡ fact) × IfSome o (λ p. Fits p [] [])
 
--- a record was packed into an arena, which only grew; or it is not of the form, and the arena is as it was
+-- a record was packed into an arena, which only grew; or it is not of the form, and the arena is as
+-- it was
 abbrev pub Packs : Arena → Arena → Option Packed → Rec → Type 0
 Packs old new packed fact = MayStandFor packed new fact × MayFit packed new × Grew old new × IfNone packed (new ≡ old)

@@ -4,7 +4,8 @@ ghost use Rattle.mcs_packing.specs.Addresses.{AddressFits, GrewWords, HasWordRoo
 
 use crate::arena::{Arena, keep_one};
 
-/// The first packed address that stands for a place among the words; those below stand for themselves.
+/// The first packed address that stands for a place among the words; those below stand for
+/// themselves.
 const FIRST_FAR: u32 = 1 << 30;
 
 /// An address, packed: itself where it is small, and else the place of its word.

@@ -7,9 +7,10 @@ use crate::packed::Packed;
 use mcs_types::{Badge, INLINE_WORDS, Message, OutOfMemory, Rec, copy_rows, emptied};
 use std::alloc::Global;
 
-/// The words that packed records, entries and answers name by their places, and the records that fit no packed form. A
-/// message stands as its label and its words, and a badge behind them where one is kept with it; a large address stands alone. Both
-/// lists only grow. `spare` is how many words the long messages of records may still take beyond six each.
+/// The words that packed records, entries and answers name by their places, and the records that
+/// fit no packed form. A message stands as its label and its words, and a badge behind them where
+/// one is kept with it; a large address stands alone. Both lists only grow. `spare` is how many
+/// words the long messages of records may still take beyond six each.
 #[derive(Drop)]
 pub struct Arena {
     pub words: Vec<u64>,
@@ -177,7 +178,8 @@ fn keep_two(words: &mut Vec<u64>, word: u64, serial: u32) -> u32
 }
 
 impl Arena {
-    /// The same words and records, with as much room, in the memory of a spare one. OutOfMemory where memory is refused.
+    /// The same words and records, with as much room, in the memory of a spare one. OutOfMemory
+    /// where memory is refused.
     pub fn copy(&self, alloc: Global, spare: Option<Arena>) -> Result<Arena, OutOfMemory>
         ensures words { IfOk result (λ a. a.words.items ≡ self.now.words.items) }
         ensures wide { IfOk result (λ a. a.wide.items ≡ self.now.wide.items) }
@@ -196,8 +198,8 @@ impl Arena {
         })
     }
 
-    /// Keeps the message of a record, and answers where. None, and nothing changes, where the message is long and the spare words
-    /// are used up.
+    /// Keeps the message of a record, and answers where. None, and nothing changes, where the
+    /// message is long and the spare words are used up.
     pub(crate) fn keep(&mut self, message: &Message) -> Option<u32>
         requires { HasRoom self.old 1 }
         ensures value { IfSome result (λ at. HoldsAt self.new.words.items at message.now) }
@@ -227,7 +229,8 @@ impl Arena {
         Some(keep_badged(&mut self.words, message, badge))
     }
 
-    /// Keeps the message of an answer and a badge behind it, and answers where: at this place, if they stand there already.
+    /// Keeps the message of an answer and a badge behind it, and answers where: at this place, if
+    /// they stand there already.
     pub(crate) fn share(&mut self, message: &Message, badge: Badge, place: u32) -> u32
         requires { HasMessageRoom self.old 1 }
         ensures value { HoldsAt self.new.words.items result message.now }
@@ -281,7 +284,8 @@ impl Arena {
         keep_two(&mut self.words, word, serial)
     }
 
-    /// Keeps the word of an entry or an answer, and answers where: at this place, if it stands there already.
+    /// Keeps the word of an entry or an answer, and answers where: at this place, if it stands
+    /// there already.
     pub(crate) fn share_word(&mut self, word: u64, place: u32) -> u32
         requires { HasMessageRoom self.old 1 }
         ensures value { word_at self.new.words.items result ≡ word }

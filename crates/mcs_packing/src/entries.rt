@@ -50,8 +50,9 @@ pub enum OverPlace {
     MakeContext,
 }
 
-/// An entry, packed: `at` is a place among the words, of a message with `len` words or of a badge. Addresses stand in the order
-/// in which the entry names them, and a place as its depth and its index.
+/// An entry, packed: `at` is a place among the words, of a message with `len` words or of a badge.
+/// Addresses stand in the order in which the entry names them, and a place as its depth and its
+/// index.
 #[derive(Clone, Copy)]
 pub enum PackedEntry {
     Sends {
@@ -112,8 +113,8 @@ pub enum PackedEntry {
 
 const _: () = prove!(size_of::<PackedEntry>() == 16);
 
-// Each form is packed as a part of `pack_entry`, but for the one that three entries share. A message goes first: so no packed
-// address waits for its call.
+// Each form is packed as a part of `pack_entry`, but for the one that three entries share. A
+// message goes first: so no packed address waits for its call.
 
 impl Arena {
     /// Packs an entry that sends a message.
@@ -386,9 +387,10 @@ impl Arena {
         }
     }
 
-    /// Packs an entry, for which there is room, into `into`. Its message or its badge may stand at a place already. What was packed
-    /// before stands for what it stood for.
-    // a part of its caller, but for invocations: so the entry is packed where it stays, and no place for it is handed on
+    /// Packs an entry, for which there is room, into `into`. Its message or its badge may stand at
+    /// a place already. What was packed before stands for what it stood for.
+    // a part of its caller, but for invocations: so the entry is packed where it stays, and no
+    // place for it is handed on
     #[inline(always)]
     pub fn pack_entry(&mut self, entry: &Entry, place: u32, into: &mut PackedEntry)
         requires { HasMessageRoom self.old 1 }
@@ -520,7 +522,8 @@ fn unpack_at(form: OverPlace, place: Place) -> Entry
     }
 }
 
-/// The entry that a packed one stands for: a table, a row for each form. A message of four words takes no memory.
+/// The entry that a packed one stands for: a table, a row for each form. A message of four words
+/// takes no memory.
 pub fn unpack_entry(alloc: Global, entry: &PackedEntry, words: &[u64]) -> Result<Entry, OutOfMemory>
     requires { EntryFits entry.now words.now }
     ensures { IfOk result (λ e. e ≡ entry_of entry.now words.now) }

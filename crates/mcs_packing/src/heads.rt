@@ -19,15 +19,16 @@ pub enum AnswerForm {
     Refused(Refusal),
 }
 
-/// An answer, packed: `at` is the place among the words of a message that was got or of a word that was heard.
+/// An answer, packed: `at` is the place among the words of a message that was got or of a word that
+/// was heard.
 #[derive(Clone, Copy)]
 pub struct PackedAnswer {
     pub form: AnswerForm,
     pub at: u32,
 }
 
-/// The head of a line: who entered on which core, the entry, the answer as `PackedAnswer` has it, and where the records end
-/// among those of all lines.
+/// The head of a line: who entered on which core, the entry, the answer as `PackedAnswer` has it,
+/// and where the records end among those of all lines.
 #[derive(Clone, Copy)]
 pub struct Head {
     pub entry: PackedEntry,
@@ -50,8 +51,8 @@ fn placeless(form: AnswerForm) -> PackedAnswer
 }
 
 impl Arena {
-    /// Packs an answer, for which there is room. Its message or its word may stand at a place already. What was packed before
-    /// stands for what it stood for.
+    /// Packs an answer, for which there is room. Its message or its word may stand at a place
+    /// already. What was packed before stands for what it stood for.
     pub fn pack_answer(&mut self, answer: &Answer, place: u32) -> PackedAnswer
         requires { HasMessageRoom self.old 1 }
         ensures value { answer_of result.form result.at self.new.words.items ≡ answer.now }

@@ -1,4 +1,5 @@
-//! What was packed stands for the same after more was packed: laws, each the contract of a function that does nothing.
+//! What was packed stands for the same after more was packed: laws, each the contract of a function
+//! that does nothing.
 ghost use Rattle.std.specs.Prelude.{◌≡◌};
 ghost use Rattle.mcs_packing.specs.declared.arena.Arena.{Arena};
 ghost use Rattle.mcs_packing.specs.declared.packed.Packed.{Packed};

@@ -1,10 +1,12 @@
-//! Messages that are lent to the record of them, so that no copy is made but for a record that is kept whole.
+//! Messages that are lent to the record of them, so that no copy is made but for a record that is
+//! kept whole.
 ghost use Rattle.std.specs.Prelude.{◌≡◌};
 
 use mcs_types::Message;
 use std::marker::Model;
 
-/// A message that is lent, beside a spare one where a copy of it takes memory. Clauses see the message.
+/// A message that is lent, beside a spare one where a copy of it takes memory. Clauses see the
+/// message.
 #[derive(Drop)]
 pub struct Lent<'a> {
     pub message: &'a Message,

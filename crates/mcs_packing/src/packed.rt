@@ -18,8 +18,8 @@ pub enum Side {
     Waiters,
 }
 
-/// A record, packed: an object whose kind the record tells is its serial, a thread the serial less 1, and `at` is a place among
-/// the words.
+/// A record, packed: an object whose kind the record tells is its serial, a thread the serial less
+/// 1, and `at` is a place among the words.
 #[derive(Clone, Copy)]
 pub enum Packed {
     /// An object that keeps nothing was made.
@@ -49,7 +49,8 @@ pub enum Packed {
         cnode: u32,
         serial: u32,
     },
-    /// A slot holds a capability with a badge, which stands among the words, and behind it the serial of the slot's CNode.
+    /// A slot holds a capability with a badge, which stands among the words, and behind it the
+    /// serial of the slot's CNode.
     FilledBadged {
         index: u8,
         rights: Rights,
@@ -57,8 +58,8 @@ pub enum Packed {
         serial: u32,
         at: u32,
     },
-    /// A slot holds a capability to a CNode with a guard of so many bits, whose value stands among the words, and behind it the
-    /// serial of the slot's CNode.
+    /// A slot holds a capability to a CNode with a guard of so many bits, whose value stands among
+    /// the words, and behind it the serial of the slot's CNode.
     FilledGuarded {
         index: u8,
         rights: Rights,
@@ -186,7 +187,8 @@ fn serial_of(id: &ObjId, kind: Kind) -> Option<u32>
     }
 }
 
-/// The serial of a thread less 1, where a byte holds it: threads of legal books have the serials 1 to 256.
+/// The serial of a thread less 1, where a byte holds it: threads of legal books have the serials 1
+/// to 256.
 #[inline(always)]
 fn thread_of(id: &ObjId) -> Option<u8>
     ensures { IfSome result (λ t. id.now ≡ object Kind.Thread (t + 1)) }
@@ -532,7 +534,8 @@ impl Arena {
         Some(Packed::RaisedAt { notification, at })
     }
 
-    /// Packs a slot with a capability that has a badge and no guard, or is to a CNode and has a guard and no badge.
+    /// Packs a slot with a capability that has a badge and no guard, or is to a CNode and has a
+    /// guard and no badge.
     fn pack_marked(&mut self, cnode: &ObjId, index: u8, cap: &Cap) -> Option<Packed>
         requires { HasRoom self.old 1 }
         ensures { Packs self.old self.new result (Rec.Slot cnode.now index (Some cap.now)) }
@@ -677,8 +680,8 @@ impl Arena {
         }
     }
 
-    /// Packs a record, for which there is room. What was packed before stands for what it stood for. Where the kind of the record
-    /// is known, its part alone is left here.
+    /// Packs a record, for which there is room. What was packed before stands for what it stood
+    /// for. Where the kind of the record is known, its part alone is left here.
     #[inline(always)]
     pub fn pack(&mut self, fact: Rec) -> Packed
         requires { HasRoom self.old 1 }

@@ -11,7 +11,8 @@ use std::fmt::Write;
 /// How many colours there are.
 const COLOURS: u32 = 7;
 
-/// Half the width of a bar, and the width of the strip for a context that a thread holds while it waits.
+/// Half the width of a bar, and the width of the strip for a context that a thread holds while it
+/// waits.
 const HALF: u64 = 6;
 
 const STRIP: u64 = 4;

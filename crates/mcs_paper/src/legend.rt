@@ -1,4 +1,5 @@
-//! What stands below the lanes: what every thread does at the end, and what the colours and lines mean.
+//! What stands below the lanes: what every thread does at the end, and what the colours and lines
+//! mean.
 use crate::bars::{put_coloured, put_state};
 use crate::naming::{Names, put_full_name};
 use crate::paper::{Area, put_area, put_text};
@@ -56,7 +57,8 @@ struct Legend {
 }
 
 impl Legend {
-    /// The place of a sample with a text of so many columns; where the page ends a line, it begins the next.
+    /// The place of a sample with a text of so many columns; where the page ends a line, it begins
+    /// the next.
     fn next(&mut self, sample: u64, text: &str) -> Area {
         let needed = columns(text)
             .saturating_mul(COLUMN)

@@ -62,7 +62,8 @@ fn put_sent<N: Names>(
     Ok(())
 }
 
-/// Adds what the record of an arrow says: the badge, label and words of a message, those of an answer, or a word.
+/// Adds what the record of an arrow says: the badge, label and words of a message, those of an
+/// answer, or a word.
 pub fn put_label<N: Names>(
     alloc: Global,
     to: &mut String,
@@ -144,7 +145,8 @@ pub fn put_whole_look<N: Names>(to: &mut String, names: &N, look: Look) -> Resul
     }
 }
 
-/// Whether a look has its note, where the row before had this one: a thread that runs has one where its context is another.
+/// Whether a look has its note, where the row before had this one: a thread that runs has one where
+/// its context is another.
 pub fn has_note(before: Look, now: Look) -> bool {
     if is_ready(now.status) {
         return now.context != before.context;
@@ -152,7 +154,8 @@ pub fn has_note(before: Look, now: Look) -> bool {
     now.status != before.status
 }
 
-/// The thread at whose lane the mark of a record stands; None where it has no mark. Who enters stands in for what is no thread.
+/// The thread at whose lane the mark of a record stands; None where it has no mark. Who enters
+/// stands in for what is no thread.
 pub fn marked(strokes: &Strokes, here: Point, fact: &Rec) -> Option<ObjId> {
     match fact {
         Rec::Dropped { message } => Some(strokes.start_of(here, *message).thread),

@@ -45,7 +45,8 @@ pub fn put_area(to: &mut String, class: &str, area: Area, title: &str) -> Result
     to.push_str("</title></rect>\n")
 }
 
-/// The page's styles: colours that most readers tell apart, by Okabe and Ito, on a light and on a dark ground.
+/// The page's styles: colours that most readers tell apart, by Okabe and Ito, on a light and on a
+/// dark ground.
 pub const STYLE: &str = "<style>
 text{font:11px 'DejaVu Sans Mono',Menlo,Consolas,monospace;fill:#111;paint-order:stroke;stroke:#fff;stroke-width:3px;stroke-linejoin:round}
 .ground{fill:#fff}

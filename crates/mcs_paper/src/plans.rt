@@ -1,6 +1,7 @@
-//! Where everything stands on the page. Each row has as many slots as its texts need: arrows have one each, with its label above it, and
-//! below them what is written beside a lane stands in the gap to its right. An arrow that waited runs down beside its lane, nearer than
-//! any text stands, and crosses over within its slot. So no text stands on another, on a lane, or on an arrow.
+//! Where everything stands on the page. Each row has as many slots as its texts need: arrows have
+//! one each, with its label above it, and below them what is written beside a lane stands in the
+//! gap to its right. An arrow that waited runs down beside its lane, nearer than any text stands,
+//! and crosses over within its slot. So no text stands on another, on a lane, or on an arrow.
 use crate::naming::{Names, put_name};
 use crate::notes::{has_note, marked, put_label, put_look, put_mark};
 use crate::texts::{columns, cut};
@@ -26,15 +27,16 @@ const NOTE_COLUMNS: u64 = 36;
 
 const STEP_COLUMNS: u64 = 48;
 
-/// The least distance of two lanes, how far a text keeps off a lane, and at which distance from it an arrow that waits runs down.
+/// The least distance of two lanes, how far a text keeps off a lane, and at which distance from it
+/// an arrow that waits runs down.
 const LANE_GAP: u64 = 84;
 
 pub const CLEAR: u64 = 13;
 
 pub const BESIDE: u64 = 9;
 
-/// Within its slot, where an arrow crosses over, and the baselines of its label and of a text beside a lane. The tip of an arrow is
-/// eight high, and a text goes up by nine and down by three.
+/// Within its slot, where an arrow crosses over, and the baselines of its label and of a text
+/// beside a lane. The tip of an arrow is eight high, and a text goes up by nine and down by three.
 pub const ARROW_AT: u64 = 13;
 
 pub const LABEL_AT: u64 = 9;
@@ -285,7 +287,8 @@ impl<'a, N: Names> Planner<'a, N> {
         Ok(())
     }
 
-    /// Adds the labels of the arrows of a row that do not stand above them, at the lanes where they end.
+    /// Adds the labels of the arrows of a row that do not stand above them, at the lanes where they
+    /// end.
     fn add_labels(
         &mut self,
         row: &mut Row,
@@ -417,7 +420,8 @@ impl<'a, N: Names> Planner<'a, N> {
         Ok(())
     }
 
-    /// Adds the rows of the steps that were turned away behind a line; those behind lines before it are passed.
+    /// Adds the rows of the steps that were turned away behind a line; those behind lines before it
+    /// are passed.
     fn add_turned_away(&mut self, number: usize) -> Result<(), AllocError> {
         let drawing = self.drawing;
         for at in self.next_away..drawing.away.len() {

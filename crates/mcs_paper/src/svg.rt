@@ -12,7 +12,8 @@ use mcs_draw::{Drawing, Shown, Window};
 use std::alloc::{AllocError, Global};
 use std::fmt::Write;
 
-/// How far from a lane an arrow begins, how far from it its tip stands, and where one to its own lane turns back.
+/// How far from a lane an arrow begins, how far from it its tip stands, and where one to its own
+/// lane turns back.
 const EDGE: u64 = 6;
 
 const TIP: u64 = 7;
@@ -116,7 +117,8 @@ fn aside(x: u64, is_right: bool, far: u64) -> u64 {
     }
 }
 
-/// Adds the line of an arrow. One that waited runs down beside its lane to the slot in which it crosses over.
+/// Adds the line of an arrow. One that waited runs down beside its lane to the slot in which it
+/// crosses over.
 fn put_path(to: &mut String, plan: &Plan, stroke: &Stroke) -> Result<(), AllocError> {
     let (from, end) = (stroke.arrow.from.thread, stroke.arrow.to.thread);
     let (a, b) = (lane_at(plan, lane_of(from)), lane_at(plan, lane_of(end)));

@@ -1,4 +1,5 @@
-//! Texts as they stand on a page: how wide they are, cut where they are too wide, and with what a page's marks would hide.
+//! Texts as they stand on a page: how wide they are, cut where they are too wide, and with what a
+//! page's marks would hide.
 use std::alloc::{AllocError, Global};
 use unicode_width::{UnicodeWidthChar, UnicodeWidthStr};
 

@@ -55,7 +55,8 @@ cap_of cap = do
   value ← below word_limit cap.value
   Ok (record { obj = object_of cap.kind cap.serial; rights = cap.rights; badge = record { 0 = badge }; guard = record { bits = bits; value = value } })
 
--- the line that is spelled, after the log of the lines before it, where each number fits its type; nothing else is tested
+-- the line that is spelled, after the log of the lines before it, where each number fits its type;
+-- nothing else is tested
 unfoldable pub fitted : Log → RawBootLine → Result BootLine LineFault
 fitted R (raw.Cores n) = cores_of n >>= λ cores. Err fault.Taken
 fitted R (raw.CNode n) = byte_of n >>= λ radix. Ok (boot.CNode radix)

@@ -54,7 +54,8 @@ abbrev pub step_spelled : ℕ → ℕ → List ℕ → List (List ℕ) → Resul
 step_spelled cores threads line [] = Err why.Form
 step_spelled cores threads line (w ∷ ws) = behind_boot (boot_key w) (step_of cores threads line)
 
--- the step that the line of this number says, where it is not skipped, behind a boot with so many cores and threads
+-- the step that the line of this number says, where it is not skipped, behind a boot with so many
+-- cores and threads
 unfoldable pub step_line : ℕ → ℕ → ℕ → List ℕ → Result (Option Step) LineFault
 step_line cores threads number line = says_something number line >>= λ says. if says then step_spelled cores threads line (words_of line) else Ok None
 
@@ -72,7 +73,8 @@ abbrev pub stands : Option Boot → Result Book SimFault → Result BootOrBook S
 stands boot (Ok k) = Ok (record { boot = boot; book = Some k })
 stands boot (Err e) = Err e
 
--- what stands once a script has this boot and these steps, before which it had none: the first step ends the boot
+-- what stands once a script has this boot and these steps, before which it had none: the first step
+-- ends the boot
 abbrev pub opened : Option Boot → List Step → Result BootOrBook SimFault
 opened boot [] = Ok (record { boot = boot; book = None })
 opened None (s ∷ ss) = Ok not_begun
@@ -104,8 +106,8 @@ after_line s number line = after_line_on s s.book number line
 
 -- ---- line by line
 
--- what a replay holds between two lines: what stands, and how many lines there were; and after a fault that fault, and nothing else but the
--- book
+-- what a replay holds between two lines: what stands, and how many lines there were; and after a
+-- fault that fault, and nothing else but the book
 pub record Course : Type 0 where
   pub stands : BootOrBook
   pub lines : ℕ
@@ -132,7 +134,8 @@ past_line c (Err e) = ended_by e c
 unfoldable pub with_line : Course → List ℕ → Course
 with_line c line = past_line c (after_line c.stands (c.lines + 1) line)
 
--- what stands at the end of the input, where this is the number of the line that would follow: the boot has ended, if no step ended it
+-- what stands at the end of the input, where this is the number of the line that would follow: the
+-- boot has ended, if no step ended it
 abbrev pub after_end_on : BootOrBook → Option Book → Option Boot → ℕ → Result BootOrBook SimFault
 after_end_on s (Some k) boot number = Ok s
 after_end_on s None (Some b) number = Ok (record { boot = None; book = Some (begun_by b) })
@@ -157,7 +160,8 @@ boot_ended c = boot_ended_after c c.fault
 
 -- ---- byte by byte
 
--- what a replay holds between two bytes: beside the lines that have ended the bytes of the one that has not, unless a fault ended it
+-- what a replay holds between two bytes: beside the lines that have ended the bytes of the one that
+-- has not, unless a fault ended it
 pub record Going : Type 0 where
   pub course : Course
   pub line : List ℕ

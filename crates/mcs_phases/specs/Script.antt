@@ -1,4 +1,5 @@
--- What a script says: its boot and the items behind it, up to the first faulty line. The items are steps, or entries of users.
+-- What a script says: its boot and the items behind it, up to the first faulty line. The items are
+-- steps, or entries of users.
 use Rattle.std.specs.Prelude.{◌≡◌, ℕ, ◌+◌, Bool, true, List, [], ◌∷◌, ◌++◌, length, Option, Some, None, Result, Ok, Err, nat_lt, not, ◌==◌, ◌||◌, if◌then◌else◌}
 use Rattle.mcs_types.specs.declared.id.Kind.TheVariants as kind
 use Rattle.mcs_types.specs.declared.entry.Step.{Step}
@@ -32,8 +33,8 @@ Reads view (Ok x) read = read ≡ Ok (view x)
 Reads view (Err (not_taken.Line e)) read = read ≡ Err e
 Reads view (Err not_taken.OutOfMemory) read = Unit {0}
 
--- how a script is read: the number of cores that it has to say, where that is given, and the item that a line behind the boot spells,
--- where so many cores and threads are there
+-- how a script is read: the number of cores that it has to say, where that is given, and the item
+-- that a line behind the boot spells, where so many cores and threads are there
 pub record Grammar (T : Type 0) : Type 0 where
   pub cores : Option ℕ
   pub item : ℕ → ℕ → List ℕ → Result T LineFault
@@ -122,7 +123,8 @@ script_from grammar s number (line ∷ lines) = elim (read_line grammar s number
   | Err e ↦ (s, Some (number, e))
 ]
 
--- what a text says: its boot and its items, or those before the first faulty line, with that line's number and its fault
+-- what a text says: its boot and its items, or those before the first faulty line, with that line's
+-- number and its fault
 unfoldable pub script_of : {T : Type 0} → Grammar T → List ℕ → Script T × Option (ℕ × LineFault)
 script_of grammar text = script_from grammar no_script 1 (lines_of text)
 

@@ -4,7 +4,8 @@ ghost use Rattle.std.specs.Prelude.{◌≡◌};
 use mcs_text::LineFault;
 use std::fmt;
 
-/// Why the program ended early. Its text is the line that the program tells, without the newline at the end.
+/// Why the program ended early. Its text is the line that the program tells, without the newline at
+/// the end.
 #[derive(Clone, Copy, PartialEq, Eq, Debug)]
 pub enum SimFault {
     /// An argument of the command line is not UTF-8.
@@ -19,8 +20,8 @@ pub enum SimFault {
     BookFull,
     /// Memory was refused.
     OutOfMemory,
-    /// A run of users could not be ended well: a host thread was not started, or the book does not agree with what the cores
-    /// were told.
+    /// A run of users could not be ended well: a host thread was not started, or the book does not
+    /// agree with what the cores were told.
     Failed,
 }
 

@@ -14,8 +14,8 @@ use mcs_types::{Kind, OutOfMemory, Room, SCRIPT_LINES, Step};
 use std::alloc::Global;
 use std::marker::Model;
 
-/// The run of the steps behind a boot, which has so many cores and threads, room for the words of the next step where it
-/// was made and not used yet, and a step, into which the next is read.
+/// The run of the steps behind a boot, which has so many cores and threads, room for the words of
+/// the next step where it was made and not used yet, and a step, into which the next is read.
 pub struct StepRun {
     cores: u8,
     threads: u32,
@@ -24,7 +24,8 @@ pub struct StepRun {
     step: Step,
 }
 
-// By hand, so that it is a function of its own: a derived drop would be proved anew wherever a run is let go.
+// By hand, so that it is a function of its own: a derived drop would be proved anew wherever a run
+// is let go.
 impl Drop for StepRun {
     fn drop(self) {
         let StepRun {
@@ -156,8 +157,9 @@ impl StepRun {
     }
 }
 
-/// Reads the step that a line of this number says behind a boot with so many cores and threads, if it is not skipped. Answers
-/// whether it says one. The room is used up by a message of more than four words.
+/// Reads the step that a line of this number says behind a boot with so many cores and threads, if
+/// it is not skipped. Answers whether it says one. The room is used up by a message of more than
+/// four words.
 #[tactic(auto, unfolding(crate::specs::Going::step_line))]
 fn read_step_line(
     alloc: Global,
@@ -183,7 +185,8 @@ fn read_step_line(
     Ok(true)
 }
 
-/// Reads a line of this number while the boot goes on, and answers the step that it says, with which the boot ends.
+/// Reads a line of this number while the boot goes on, and answers the step that it says, with
+/// which the boot ends.
 fn read_opening(
     opening: &mut Script<Step>,
     alloc: Global,
@@ -221,7 +224,8 @@ fn end_opening(
     Ok(Some(run))
 }
 
-/// Reads a line of this number while the boot goes on, and answers the run of the step that it says, if it says one.
+/// Reads a line of this number while the boot goes on, and answers the run of the step that it
+/// says, if it says one.
 fn open(
     opening: &mut Script<Step>,
     alloc: Global,
@@ -306,8 +310,8 @@ impl Phase {
         self.take_opening_line(alloc, number, line)
     }
 
-    /// Ends the boot at the end of the input, where no step did. Fault Script with NoCores (1) and this number of a line where no
-    /// line said the number of cores.
+    /// Ends the boot at the end of the input, where no step did. Fault Script with NoCores (1) and
+    /// this number of a line where no line said the number of cores.
     #[tactic(auto, unfolding(crate::specs::Going::after_end))]
     pub fn end_boot(&mut self, alloc: Global, number: u64) -> Result<(), SimFault>
         requires { HasNoItems self.old }

@@ -26,8 +26,9 @@ pub trait Item: Sized + Drop {
     /// The item that a line spells, where so many cores and threads are there.
     ghost item: { ℕ → ℕ → List ℕ → Result Self LineFault };
 
-    /// The item that a line spells, where so many cores and threads are there. Fault Form where it spells none; Number where a
-    /// number is out of its range; NoObject where the thread is not there.
+    /// The item that a line spells, where so many cores and threads are there. Fault Form where it
+    /// spells none; Number where a number is out of its range; NoObject where the thread is not
+    /// there.
     fn read(
         alloc: Global,
         cores: u8,
@@ -135,7 +136,8 @@ fn is_skipped(line: &[u8]) -> bool
     matches!(line, [] | [b'#' | b'=' | b'+', ..])
 }
 
-/// Whether a line says something. Fault ManyLines (9) or LongLine (7) where there may be no such line.
+/// Whether a line says something. Fault ManyLines (9) or LongLine (7) where there may be no such
+/// line.
 pub fn says_something(number: u64, line: &[u8]) -> Result<bool, LineFault>
     ensures says { Gives (λ says. says) result (says_something number line.now) }
     ensures numbered { OnOk result (number ≤ SCRIPT_LINES) }
@@ -366,8 +368,8 @@ impl<T: Item> Script<T> {
         }
     }
 
-    /// Takes the line of this number, where so many cores are asked for. The faults are tested in the order 9, 7, 1, 8, 2, 3,
-    /// 4, 5, 6, and a faulty line leaves the script as it was.
+    /// Takes the line of this number, where so many cores are asked for. The faults are tested in
+    /// the order 9, 7, 1, 8, 2, 3, 4, 5, 6, and a faulty line leaves the script as it was.
     #[tactic(auto, unfolding(crate::specs::Script::read_line))]
     pub fn read_line(
         &mut self,

@@ -153,8 +153,9 @@ fn page_of(
     Ok(Some(page))
 }
 
-/// Draws a script of steps, or a trace: the lines of the book in a window. Its faults are those of `mcs_lab`: a line that is refused,
-/// a name without its form, a read, a write, a full book, or memory that is refused.
+/// Draws a script of steps, or a trace: the lines of the book in a window. Its faults are those of
+/// `mcs_lab`: a line that is refused, a name without its form, a read, a write, a full book, or
+/// memory that is refused.
 pub fn draw_script<R: Read, W: Write>(
     alloc: Global,
     from: &mut Source<R>,

@@ -113,7 +113,8 @@ within k kind name names old room = go (same_kind kind k) refl
         let sum : count_of k (with_name kind name names) ≡ count_of k names = none_more k kind name names p in
         omega (arith, old, sum)
 
--- names as they are to be, of which no more than may be are of the kinds that no line but their own makes
+-- names as they are to be, of which no more than may be are of the kinds that no line but their own
+-- makes
 pub record AreTidy (names : NameList) : Type 0 where
   pub named : list_all (λ n. is_name n.0) names ≡ true
   pub once : AreOnce names

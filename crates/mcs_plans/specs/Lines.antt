@@ -1,4 +1,5 @@
--- What the line of objects, of slots, of a binding or of the cores adds to a plan, or why it is refused.
+-- What the line of objects, of slots, of a binding or of the cores adds to a plan, or why it is
+-- refused.
 use Rattle.std.specs.Prelude.{◌==◌, ◌&&◌, ◌∷◌, ℕ, zero, suc, Bool, false, not, List, [], length, Option, Some, None, Ok, Err, is_some, is_none, nat_lt, bytes_eq, codes, slice_get, if◌then◌else◌}
 use Rattle.mcs_types.specs.declared.id.Kind.{Kind}
 use Rattle.mcs_types.specs.declared.id.Kind.TheVariants as kind
@@ -52,7 +53,8 @@ abbrev pub has_slot : Option SaidSpace → List ℕ → Bool
 has_slot None name = false
 has_slot (Some space) name = is_some (find space.slots name)
 
--- the name of a slot that is given none: that of its object, or where that is taken its whole word; an empty slot is given one
+-- the name of a slot that is given none: that of its object, or where that is taken its whole word;
+-- an empty slot is given one
 abbrev pub usual_name : Option SaidSpace → List ℕ → Read (List ℕ)
 usual_name space word = do
   need (not (is_dash word)) missing

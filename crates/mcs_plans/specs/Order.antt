@@ -28,7 +28,8 @@ AreApart [] = Unit {0}
 AreApart (tie ∷ ties) =
     (is_thread_bound ties tie.thread ≡ false) × (is_notification_bound ties tie.notification ≡ false) × AreApart ties
 
--- names are names, each given once; no more is made of a kind than there may be; spaces and bindings are as they may be
+-- names are names, each given once; no more is made of a kind than there may be; spaces and
+-- bindings are as they may be
 pub record IsInOrder (s : Said) : Type 0 where
   pub names : list_all (λ n. is_name n.0) s.names ≡ true
   pub once : AreOnce s.names

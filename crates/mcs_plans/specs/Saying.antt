@@ -81,7 +81,8 @@ with_slot place name cap s = record s { spaces = at_place place (with_last name 
 abbrev pub with_name : Kind → List ℕ → NameList → NameList
 with_name kind name names = names ++ (name, next_of kind names) ∷ []
 
--- a plan with an object more; with a context more, and its core; with a space more, which has no slots
+-- a plan with an object more; with a context more, and its core; with a space more, which has no
+-- slots
 abbrev pub with_object : Kind → List ℕ → Said → Said
 with_object kind name s = record s { names = with_name kind name s.names }
 

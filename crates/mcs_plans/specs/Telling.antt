@@ -6,7 +6,8 @@ use Rattle.mcs_names.specs.Naming.{find}
 use Rattle.mcs_plans.specs.declared.plan.Space.{Space}
 use Rattle.mcs_plans.specs.Slots.{slots_of, most_slots}
 
--- why a space may not have a slot more of this name: each fault exactly where the one before it does not hold
+-- why a space may not have a slot more of this name: each fault exactly where the one before it
+-- does not hold
 abbrev pub MayNotHave : Space → List ℕ → Why → Type 0
 MayNotHave space name (why.Twice told) = (string_bytes told ≡ name) × IsSome (find (slots_of space) name)
 MayNotHave space name (why.Limit what limit) =

@@ -1,4 +1,5 @@
--- What the line of a context, of a space or of a thread adds to a plan, or why it is refused; and each line before the first step.
+-- What the line of a context, of a space or of a thread adds to a plan, or why it is refused; and
+-- each line before the first step.
 use Rattle.std.specs.Prelude.{◌≡◌, ◌++◌, ◌∷◌, ◌-◌, ◌==◌, ◌&&◌, ℕ, zero, suc, Bool, true, false, not, List, [], length, Option, Some, None, Ok, Err, is_some, codes, bytes_eq, option_map, string_bytes, if◌then◌else◌}
 use Rattle.std.specs.Option.{unwrap_or, ok_or}
 use Rattle.mcs_types.specs.declared.id.ObjId.{ObjId}
@@ -138,7 +139,8 @@ abbrev pub with_own_context : List ℕ → Form → Said → Read Said
 with_own_context name form s =
     if form.has_context then context_more (name ++ codes ".context") (record { 0 = form.core }) s else Ok s
 
--- the place of the space that a thread is in, and the plan with it: its own comes behind the others, and is made for it
+-- the place of the space that a thread is in, and the plan with it: its own comes behind the
+-- others, and is made for it
 abbrev pub with_own_space : List ℕ → Option (List ℕ) → Said → Read (ℕ × Said)
 with_own_space name None s = do
   more ← space_more (name ++ codes ".space") None s

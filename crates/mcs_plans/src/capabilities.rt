@@ -97,8 +97,9 @@ fn wanted_of(kind: Kind, word: &str) -> &'static str {
     "a capability: its badge is a number of 64 bits"
 }
 
-/// The capability that a word spells: an object, and for an endpoint or a notification its rights (all of them where none are
-/// said) and its badge. NoName where there is no such object, Not where the rights or the badge are none.
+/// The capability that a word spells: an object, and for an endpoint or a notification its rights
+/// (all of them where none are said) and its badge. NoName where there is no such object, Not where
+/// the rights or the badge are none.
 pub fn cap_of(alloc: Global, names: &Names, word: &str) -> Result<Cap, Why>
     ensures spelt { IfOk result (λ c. cap_read names.now word.now ≡ Ok c) }
     ensures told { IfErr result (Refuses (cap_read names.now word.now)) }

@@ -121,7 +121,8 @@ impl Space {
         Ok(())
     }
 
-    /// Adds a slot behind the others. Twice where its name is there, and Limit where the space is full.
+    /// Adds a slot behind the others. Twice where its name is there, and Limit where the space is
+    /// full.
     #[tactic(auto, using(crate::proofs::SlotNames::counted))]
     pub fn add(&mut self, alloc: Global, name: &str, slot: Slot) -> Result<(), Why>
         ensures added { OnOk result (AddsSlot self.old name.now slot self.new) }
@@ -235,8 +236,8 @@ impl Plan {
         }
     }
 
-    /// How many objects of a kind the script makes, up to 2^32 - 1: those of the plan, the thread that
-    /// makes others passive with its context and its space, and the CNodes of larger spaces.
+    /// How many objects of a kind the script makes, up to 2^32 - 1: those of the plan, the thread
+    /// that makes others passive with its context and its space, and the CNodes of larger spaces.
     pub fn made(&self, kind: Kind) -> u32
         ensures { result ≡ min (made_of (said self.now) kind) 4294967295 }
     {

@@ -503,7 +503,8 @@ impl Plan {
             .any(|tie| tie.notification.is_same(notification))
     }
 
-    /// The line of a binding: `tie THREAD NOTIFICATION`. Bound where one of the two is bound already.
+    /// The line of a binding: `tie THREAD NOTIFICATION`. Bound where one of the two is bound
+    /// already.
     fn read_tie(&mut self, alloc: Global, words: &mut Words<'_>) -> Result<(), Why>
         ensures added { OnOk result (tie_line words.old (said self.old) ≡ Ok (said self.new)) }
         ensures told { IfErr result (Refuses (tie_line words.old (said self.old))) }
@@ -579,8 +580,8 @@ impl Plan {
         }
     }
 
-    /// The name of a slot that has none of its own: that of its object, or the whole word where that
-    /// is taken. Missing for an empty slot.
+    /// The name of a slot that has none of its own: that of its object, or the whole word where
+    /// that is taken. Missing for an empty slot.
     fn usual_name(&self, alloc: Global, place: usize, word: &str) -> Result<String, Why>
         ensures name { IfOk result (λ n.
             usual_name (slice_get (said self.now).spaces place) word.now ≡ Ok (string_bytes n)) }
@@ -631,8 +632,8 @@ impl Plan {
         space.add(alloc, name, slot)
     }
 
-    /// A capability of a space, with `as NAME` behind it where it is to have a name of its own; `-` is
-    /// an empty slot.
+    /// A capability of a space, with `as NAME` behind it where it is to have a name of its own; `-`
+    /// is an empty slot.
     fn put_slot(
         &mut self,
         alloc: Global,
@@ -727,8 +728,8 @@ impl Plan {
         }
     }
 
-    /// A line before the first step. Where it is refused, the first fault is told, and what the plan says then is not: the caller
-    /// lets it go.
+    /// A line before the first step. Where it is refused, the first fault is told, and what the
+    /// plan says then is not: the caller lets it go.
     pub fn read(&mut self, alloc: Global, line: u64, words: &[&str]) -> Result<(), Why>
         ensures taken { OnOk result (ReadsLine line (texts words.now) self.old (said self.new)) }
         ensures refused { IfErr result (RefusesLine line (texts words.now) self.old) }

@@ -51,7 +51,8 @@ Points old new q p o = (k c : ℕ) → finger new k c ≡ cond ((k == q) && (c =
 abbrev pub NoneMoves : FingerRows → FingerRows → Type 0
 NoneMoves old new = (k c : ℕ) (u : ThreadNo) → finger new k c ≡ Some u → finger old k c ≡ Some u
 
--- the finger of priority p in line q does not point at thread t any more, none points where it did not, and every other is as it was
+-- the finger of priority p in line q does not point at thread t any more, none points where it did
+-- not, and every other is as it was
 pub record IsReleased (old new : FingerRows) (q p : ℕ) (t : ThreadNo) : Type 0 where
   pub left : finger new q p ≢ Some t
   pub same : NoneMoves old new

@@ -31,8 +31,8 @@ impl LineFingers {
         }
     }
 
-    /// The nearest priority below another that has a finger, or any other where none has. No clause says so: what is found there
-    /// is compared.
+    /// The nearest priority below another that has a finger, or any other where none has. No clause
+    /// says so: what is found there is compared.
     fn known_below(&self, p: Prio) -> u8 {
         let mut word = p.0 / 64;
         let mut bits = self.known[word as usize] & ((1 << (p.0 % 64)) - 1);
@@ -44,10 +44,12 @@ impl LineFingers {
     }
 }
 
-/// For each line and each priority a finger: a thread that stands in the line with that priority (own). The first that joins while
-/// there is none becomes it, so most often no other of its priority stands ahead of it.
+/// For each line and each priority a finger: a thread that stands in the line with that priority
+/// (own). The first that joins while there is none becomes it, so most often no other of its
+/// priority stands ahead of it.
 ///
-/// Lines without fingers share the first row, in which there are none: no memory is written for a line before it has a finger.
+/// Lines without fingers share the first row, in which there are none: no memory is written for a
+/// line before it has a finger.
 #[derive(Drop)]
 pub struct Fingers {
     rows: Vec<LineFingers>,
@@ -142,7 +144,8 @@ impl Fingers {
         }
     }
 
-    /// Points the finger of a priority at a thread, or at none, in a line that has a row of its own.
+    /// Points the finger of a priority at a thread, or at none, in a line that has a row of its
+    /// own.
     fn point(&mut self, q: LineNo, p: Prio, to: Option<ThreadNo>)
         requires line { q.0 < length self.old.places }
         requires own { slice_index_or self.old.places q.0 0 ≢ 0 }
@@ -169,7 +172,8 @@ impl Fingers {
     {
         let here = self.at(q, p);
         self.open(q);
-        // Written in either case: which it is cannot be foreseen, and a wrong guess costs more than a write.
+        // Written in either case: which it is cannot be foreseen, and a wrong guess costs more than
+        // a write.
         let to = match here {
             Some(u) => u,
             None => t,

@@ -15,15 +15,17 @@ use std::alloc::Global;
 use std::marker::{Brand, Model};
 use std::sync::ledger::{Blank, Ledger};
 
-/// Lines as links: each thread's slot names the threads before and behind it, and each line's slot its first and its last. To
-/// leave a line or to ask for a neighbour reads no other thread's slot; to join one walks past threads of a lower priority,
-/// from the finger of the nearest lower one that has a finger, or from the line's end (own). `new` takes all memory.
+/// Lines as links: each thread's slot names the threads before and behind it, and each line's slot
+/// its first and its last. To leave a line or to ask for a neighbour reads no other thread's slot;
+/// to join one walks past threads of a lower priority, from the finger of the nearest lower one
+/// that has a finger, or from the line's end (own). `new` takes all memory.
 pub struct LinkedLines {
     slots: LinkSlots,
     fingers: Fingers,
 }
 
-// By hand, so that it is a function of its own: a derived drop would be proved anew wherever it is let go.
+// By hand, so that it is a function of its own: a derived drop would be proved anew wherever it is
+// let go.
 impl Drop for LinkedLines {
     fn drop(self) {
         let LinkedLines {
@@ -46,8 +48,8 @@ impl Model for LinkedLines {
         × Pointed s.fingers s.slots };
 }
 
-/// Where a walk to a priority begins: ahead of a finger of a lower one, or at the line's end. It answers the thread that is to be
-/// visited next, and the one behind it.
+/// Where a walk to a priority begins: ahead of a finger of a lower one, or at the line's end. It
+/// answers the thread that is to be visited next, and the one behind it.
 fn begin<G: Ledger>(
     slots: &LinkSlots,
     fingers: &Fingers,
@@ -71,7 +73,8 @@ fn begin<G: Ledger>(
     }
 }
 
-/// Between which threads of a line a priority belongs, by a walk from a finger or from the line's end.
+/// Between which threads of a line a priority belongs, by a walk from a finger or from the line's
+/// end.
 fn seek<G: Ledger>(
     slots: &LinkSlots,
     fingers: &Fingers,
@@ -97,7 +100,8 @@ fn seek<G: Ledger>(
     (before, after)
 }
 
-/// Writes a thread's slot, and the links to it: what is next to the thread `around.0`, and previous to `around.1`.
+/// Writes a thread's slot, and the links to it: what is next to the thread `around.0`, and previous
+/// to `around.1`.
 fn relink(
     slots: &mut LinkSlots,
     q: LineNo,
@@ -153,8 +157,8 @@ fn leave(slots: &mut LinkSlots, fingers: &mut Fingers, t: ThreadNo) -> Option<Li
     Some(q)
 }
 
-/// Makes a thread the finger of its priority, if that has none. Answers whether. A thread that stands alone needs none, so a line
-/// that never has two takes no memory for fingers.
+/// Makes a thread the finger of its priority, if that has none. Answers whether. A thread that
+/// stands alone needs none, so a line that never has two takes no memory for fingers.
 fn offer(
     fingers: &mut Fingers,
     q: LineNo,
@@ -262,7 +266,8 @@ impl LinkedLines {
         (slots, fingers)
     }
 
-    /// `join`, which counts its visits: at most one more than threads of a lower priority stand in the line (own).
+    /// `join`, which counts its visits: at most one more than threads of a lower priority stand in
+    /// the line (own).
     pub fn join_counted<G: Ledger>(
         &mut self,
         t: ThreadNo,
@@ -285,8 +290,8 @@ impl LinkedLines {
         may
     }
 
-    /// `shift`, which counts its visits: none where the thread stands in no line, and else at most one more than other threads
-    /// of a lower priority stand in its line (own).
+    /// `shift`, which counts its visits: none where the thread stands in no line, and else at most
+    /// one more than other threads of a lower priority stand in its line (own).
     pub fn shift_counted<G: Ledger>(&mut self, t: ThreadNo, p: Prio, steps: &mut Steps<G>) -> bool
         ensures answer { result ≡ is_some (stands_at self.old t.0) }
         ensures line { ShiftsLine (spelled self.old) (spelled self.new) (stands_at self.old)
@@ -394,7 +399,8 @@ impl Lines for LinkedLines {
         next_in(&self.slots, t)
     }
 
-    /// As the trait's. At most four links differ after it, and at most one finger, which then points nowhere (own).
+    /// As the trait's. At most four links differ after it, and at most one finger, which then
+    /// points nowhere (own).
     fn part(&mut self, t: ThreadNo) -> Option<LineNo>
         ensures answer { line_number result ≡ stands_at self.old t.0 }
         ensures line { (k : ℕ) → spelled self.new k ≡ without t.0 (spelled self.old k) }

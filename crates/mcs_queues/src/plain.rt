@@ -8,7 +8,8 @@ use mcs_types::{OutOfMemory, Prio, copy_rows};
 use std::alloc::Global;
 use std::marker::Model;
 
-/// A thread in its line. The priority takes four bytes, so that a row takes eight and moves as one word.
+/// A thread in its line. The priority takes four bytes, so that a row takes eight and moves as one
+/// word.
 #[derive(Clone, Copy)]
 struct Row {
     thread: ThreadNo,
@@ -18,16 +19,17 @@ struct Row {
 
 const _: () = prove!(size_of::<Row>() == 8);
 
-/// All lines in one list of rows: a row for each thread that stands in a line, and the rows of a line in that line's order.
-/// One list, so that nothing in it can disagree and its text is short enough to read; each call walks it for that. `new`
-/// takes room for a row of every thread.
+/// All lines in one list of rows: a row for each thread that stands in a line, and the rows of a
+/// line in that line's order. One list, so that nothing in it can disagree and its text is short
+/// enough to read; each call walks it for that. `new` takes room for a row of every thread.
 pub struct PlainLines {
     rows: Vec<Row>,
     threads: u16,
     lines: u16,
 }
 
-// By hand, so that it is a function of its own: a derived drop would be proved anew wherever it is let go.
+// By hand, so that it is a function of its own: a derived drop would be proved anew wherever it is
+// let go.
 impl Drop for PlainLines {
     fn drop(self) {
         let PlainLines {

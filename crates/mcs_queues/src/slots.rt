@@ -24,8 +24,8 @@ pub struct LineSlot {
     pub last: Option<ThreadNo>,
 }
 
-/// How many slots of threads other than the one that a call names were read. It takes no bytes at run time, and only
-/// `LinkSlots::visit` adds to it (own).
+/// How many slots of threads other than the one that a call names were read. It takes no bytes at
+/// run time, and only `LinkSlots::visit` adds to it (own).
 #[derive(Drop)]
 pub struct Steps<G: Ledger> {
     book: Book<G>,

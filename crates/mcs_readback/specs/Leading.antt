@@ -9,12 +9,14 @@ use Rattle.mcs_book.specs.Slots.{SlotName, slot}
 use Rattle.mcs_state.specs.Questions.{named_for, placed_for}
 use Rattle.mcs_laying.specs.declared.tables.Named.{Named}
 
--- an address of a thread names what a slot holds, unless that is nothing, or a capability to a CNode, through which lookup goes on
+-- an address of a thread names what a slot holds, unless that is nothing, or a capability to a
+-- CNode, through which lookup goes on
 abbrev pub IsNamed : Log → ObjId → ℕ → Option Cap → Type 0
 IsNamed R t address None = Unit {0}
 IsNamed R t address (Some cap) = (same_kind cap.obj.kind kind.CNode ≡ true) ⊎ (named_for R t address ≡ Some (Ok cap))
 
--- a name of a thread leads to what its slot holds: its place is that of a slot which holds it, and its address names it
+-- a name of a thread leads to what its slot holds: its place is that of a slot which holds it, and
+-- its address names it
 pub record Leads (R : Log) (t : ObjId) (n : Named) : Type 0 where
   pub at : SlotName
   pub placed : placed_for R t n.place ≡ Some (Ok at)

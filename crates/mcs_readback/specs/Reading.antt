@@ -26,13 +26,14 @@ pub record IsBootOf (s : Script) (boot : Boot) : Type 0 where
   pub cores : boot.cores ≡ s.cores
   pub lines : reverse boot.lines ≡ s.boot.items
 
--- a boot is that of a plan: its cores, and then in order what the plan makes, fills and binds, and nothing else
+-- a boot is that of a plan: its cores, and then in order what the plan makes, fills and binds, and
+-- nothing else
 pub record IsPlansBoot (laid : Laid) (boot : Boot) : Type 0 where
   pub cores : boot.cores ≡ cores_of laid.plan.cores laid.plan.contexts.items
   pub lines : reverse boot.lines ≡ boot_of laid.plan laid.layouts.items
 
--- a text is a script of steps without a fault, its boot is that of the plan, and behind this each name of each thread leads to what
--- its slot holds
+-- a text is a script of steps without a fault, its boot is that of the plan, and behind this each
+-- name of each thread leads to what its slot holds
 pub record IsVouched (text : List ℕ) (laid : Laid) : Type 0 where
   pub book : Book
   pub script : IsScript text book

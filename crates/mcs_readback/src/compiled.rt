@@ -101,10 +101,10 @@ fn read_back(alloc: Global, script: Script) -> Result<Compiled, CompileFault>
 }
 
 /// The script of a plan (own), which was read back: what was read of its text is a script of steps
-/// without a fault, whose boot is that of the plan, and behind this each name of each thread leads to
-/// what its slot holds. Of a plan of users that is the boot, and each line behind it was read as that of
-/// a user. Fault Plan tells the first line of the plan that is refused; Script, Boot, OtherBoot, Astray
-/// and User come only where this program is wrong.
+/// without a fault, whose boot is that of the plan, and behind this each name of each thread leads
+/// to what its slot holds. Of a plan of users that is the boot, and each line behind it was read as
+/// that of a user. Fault Plan tells the first line of the plan that is refused; Script, Boot,
+/// OtherBoot, Astray and User come only where this program is wrong.
 pub fn compile_text(alloc: Global, plan: &[u8]) -> Result<Compiled, CompileFault>
     ensures { IfOk result (λ c. IsVouched c.read.items c.script.laid) }
 {

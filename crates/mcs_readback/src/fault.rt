@@ -5,8 +5,8 @@ use mcs_types::{BootFault, OutOfMemory};
 use std::alloc::AllocError;
 use thiserror::Error;
 
-/// Why no script comes of a plan. Only the first and the last are the plan's fault or the machine's:
-/// the others say that this program is wrong.
+/// Why no script comes of a plan. Only the first and the last are the plan's fault or the
+/// machine's: the others say that this program is wrong.
 #[derive(Debug, Drop, Error)]
 pub enum CompileFault {
     /// A line of the plan is refused.

@@ -1,5 +1,5 @@
-//! What a plan becomes, read back: a script without a fault, with the plan's boot, in which each name
-//! leads to what it stands for.
+//! What a plan becomes, read back: a script without a fault, with the plan's boot, in which each
+//! name leads to what it stands for.
 //!
 //! ```text
 //! plan ── mcs_compile ──> Script ── text ── reading ──> the book that the text makes

@@ -34,7 +34,8 @@ differences f [] (y ∷ ys) = 1 + differences f [] ys
 differences f (x ∷ xs) [] = 1 + differences f xs []
 differences f (x ∷ xs) (y ∷ ys) = cond (f x y) 0 1 + differences f xs ys
 
--- how many rows that are not at home went, came, or have another top, where what stays keeps its order
+-- how many rows that are not at home went, came, or have another top, where what stays keeps its
+-- order
 abbrev pub row_changes : List Top → List Top → ℕ
 row_changes [] ys = length ys
 row_changes (x ∷ xs) [] = 1 + row_changes xs []

@@ -1,4 +1,5 @@
--- How `Replies` keeps the chains: a link for each place of a reply object, and the top of each chain. No public clause cites this module.
+-- How `Replies` keeps the chains: a link for each place of a reply object, and the top of each
+-- chain. No public clause cites this module.
 use Rattle.std.specs.Prelude.{ℕ, zero, suc, ◌≡◌, ◌≢◌, true, Bool, false, cond, ◌==◌, List, [], ◌∷◌, length, map, slice_index_or, slice_set, is_none, Option, Some, None, option_map, option_and_then}
 use Rattle.mcs_types.specs.declared.id.ObjId.{ObjId}
 use Rattle.mcs_types.specs.declared.id.Kind.TheVariants.{Reply}

@@ -1,4 +1,5 @@
--- What a contract sees of `Replies`: what is kept of each reply object that is there, and the chain of each context.
+-- What a contract sees of `Replies`: what is kept of each reply object that is there, and the chain
+-- of each context.
 use Rattle.std.specs.Prelude.{◌≡◌, ℕ, Bool, true, false, cond, ◌&&◌, List, [], ◌∷◌, Option, Some, is_some, is_none, IsSome, option_and_then}
 use Rattle.mcs_types.specs.declared.id.ObjId.{ObjId}
 use Rattle.mcs_types.specs.declared.id.Kind.TheVariants.{Reply}
@@ -30,7 +31,8 @@ no_room v = is_full v.rows
 abbrev pub next_reply : Owing → ObjId
 next_reply v = next_id v.rows
 
--- whether a reply object is among rows, the receiver that stands with it, and the caller that it owes
+-- whether a reply object is among rows, the receiver that stands with it, and the caller that it
+-- owes
 abbrev pub has_row : Objects ReplyRow → ObjId → Bool
 has_row rows r = is_some (value_at rows r)
 

@@ -10,7 +10,8 @@ use crate::places::PlaceNo;
 use crate::tops::Tops;
 use mcs_types::{Ending, OBJECTS, ObjId};
 
-/// Where a reply object stands in a chain: its context, and the places of the reply objects above and below it (own).
+/// Where a reply object stands in a chain: its context, and the places of the reply objects above
+/// and below it (own).
 #[derive(Clone, Copy)]
 pub struct Link {
     context: ObjId,
@@ -155,8 +156,8 @@ pub(crate) fn lay(
     put(links, place, Some(link));
 }
 
-/// Takes the top of a chain off it: the top moves down by one. At most three links change: the top of the context, the link of
-/// the reply object, and that of the one below it.
+/// Takes the top of a chain off it: the top moves down by one. At most three links change: the top
+/// of the context, the link of the reply object, and that of the one below it.
 fn pop(links: &mut Vec<Option<Link>>, tops: &mut Tops, place: PlaceNo, link: Link)
     requires sound { Sound links.old.items tops.old }
     requires at { link_at links.old.items place.0 ≡ Some link }
@@ -193,7 +194,8 @@ fn cut(links: &mut Vec<Option<Link>>, tops: &mut Tops, place: PlaceNo, link: Lin
     cut_top(tops, link);
 }
 
-/// Takes a linked reply object from its chain, as its debt ends. Gives the context whose chain it topped.
+/// Takes a linked reply object from its chain, as its debt ends. Gives the context whose chain it
+/// topped.
 fn end(
     links: &mut Vec<Option<Link>>,
     tops: &mut Tops,
@@ -222,8 +224,8 @@ fn end(
     if is_top { Some(link.context) } else { None }
 }
 
-/// Takes the reply object of a place from the chain in which it is, if it is in one, as its debt ends. Gives the context whose
-/// chain it topped.
+/// Takes the reply object of a place from the chain in which it is, if it is in one, as its debt
+/// ends. Gives the context whose chain it topped.
 pub(crate) fn leave(
     links: &mut Vec<Option<Link>>,
     tops: &mut Tops,

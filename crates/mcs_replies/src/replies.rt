@@ -21,31 +21,34 @@ use mcs_types::{Ending, Kind, OBJECTS, ObjId, OutOfMemory, copy_rows};
 use std::alloc::Global;
 use std::marker::Model;
 
-/// A reply object: the receiver that stands with it, and the caller that it owes an answer (manual: Message Passing).
+/// A reply object: the receiver that stands with it, and the caller that it owes an answer (manual:
+/// Message Passing).
 #[derive(Clone, Copy)]
 pub struct ReplyRow {
     receiver: Option<ObjId>,
     caller: Option<ObjId>,
 }
 
-/// A debt that ended: the caller that was owed, and the context whose chain the reply object topped before, if it topped one
-/// (own).
+/// A debt that ended: the caller that was owed, and the context whose chain the reply object topped
+/// before, if it topped one (own).
 #[derive(Clone, Copy, PartialEq, Eq, Debug)]
 pub struct Ended {
     pub caller: ObjId,
     pub topped: Option<ObjId>,
 }
 
-/// Up to 256 reply objects, which come and go under serials that count from 1: the receiver that stands with each, the caller
-/// that it owes, and the chain of each context (manual: Message Passing; chains are own). What stands in a chain owes, and
-/// stands in no other. All memory is taken when they are made (own).
+/// Up to 256 reply objects, which come and go under serials that count from 1: the receiver that
+/// stands with each, the caller that it owes, and the chain of each context (manual: Message
+/// Passing; chains are own). What stands in a chain owes, and stands in no other. All memory is
+/// taken when they are made (own).
 pub struct Replies {
     rows: Store<ReplyRow>,
     links: Vec<Option<Link>>,
     tops: Tops,
 }
 
-// By hand, so that it is a function of its own: a derived drop would be proved anew wherever it is let go.
+// By hand, so that it is a function of its own: a derived drop would be proved anew wherever it is
+// let go.
 impl Drop for Replies {
     fn drop(self) {
         let Replies {
@@ -140,7 +143,8 @@ impl Replies {
         (rows, links, tops)
     }
 
-    /// A table like this one, in the memory of a spare one (own). OutOfMemory where memory is refused.
+    /// A table like this one, in the memory of a spare one (own). OutOfMemory where memory is
+    /// refused.
     pub fn copy(&self, alloc: Global, spare: Option<Replies>) -> Result<Replies, OutOfMemory>
         ensures { IfOk result (λ t. t ≡ self.now) }
     {
@@ -158,14 +162,16 @@ impl Replies {
         })
     }
 
-    /// What is kept of each reply object: how many were made and are there, and whether there is room for one more (own).
+    /// What is kept of each reply object: how many were made and are there, and whether there is
+    /// room for one more (own).
     pub fn rows(&self) -> &Store<ReplyRow>
         ensures { result.now ≡ self.now.rows }
     {
         &self.rows
     }
 
-    /// Adds a reply object where there is room: its serial is the next, it owes nobody, and no receiver stands with it (own).
+    /// Adds a reply object where there is room: its serial is the next, it owes nobody, and no
+    /// receiver stands with it (own).
     pub fn add(&mut self) -> ObjId
         requires { no_room self.old ≡ false }
         ensures id { result ≡ next_reply self.old }
@@ -192,14 +198,16 @@ impl Replies {
         self.rows.get(reply).is_some()
     }
 
-    /// The receiver that stands with a reply object, or None where none does (manual: Message Passing).
+    /// The receiver that stands with a reply object, or None where none does (manual: Message
+    /// Passing).
     pub fn receiver(&self, reply: ObjId) -> Option<ObjId>
         ensures { result ≡ receiver_in self.now reply }
     {
         self.rows.get(reply)?.receiver
     }
 
-    /// Has this receiver stand with a reply object that is there, or none (manual: Message Passing).
+    /// Has this receiver stand with a reply object that is there, or none (manual: Message
+    /// Passing).
     pub fn set_receiver(&mut self, reply: ObjId, receiver: Option<ObjId>)
         requires { is_there self.old reply ≡ true }
         ensures counts { counts self.new ≡ counts self.old }
@@ -218,8 +226,8 @@ impl Replies {
         self.rows.get(reply)?.caller
     }
 
-    /// Who uses a reply object: the caller that it owes, or else the receiver that stands with it; None where nobody does (manual:
-    /// Message Passing).
+    /// Who uses a reply object: the caller that it owes, or else the receiver that stands with it;
+    /// None where nobody does (manual: Message Passing).
     pub fn user(&self, reply: ObjId) -> Option<ObjId>
         ensures { result ≡ option_or (owed_in self.now reply) (receiver_in self.now reply) }
     {
@@ -227,7 +235,8 @@ impl Replies {
         row.caller.or(row.receiver)
     }
 
-    /// What stands in a chain is there and owes, stands in no other chain, and once in its own (own).
+    /// What stands in a chain is there and owes, stands in no other chain, and once in its own
+    /// (own).
     pub fn are_chained(&self)
         ensures { IsChained self.now }
     {
@@ -245,7 +254,8 @@ impl Replies {
         ensures there { (r : ObjId) → is_there self.new r ≡ is_there self.old r }
         ensures receivers { (r : ObjId) → receiver_in self.new r ≡ receiver_in self.old r }
     {
-        // A law for the proof: reply objects that owe have different places, so there is room for a debt.
+        // A law for the proof: reply objects that owe have different places, so there is room for a
+        // debt.
         self.rows.are_apart();
         keep_caller(&mut self.rows, reply, place, Some(caller));
         let Some(context) = brought else {
@@ -254,8 +264,9 @@ impl Replies {
         links::lay(&mut self.links, &mut self.tops, place, reply, context);
     }
 
-    /// A reply object owes a caller from now on, and lies on top of the chain of the context that the caller brought. False where
-    /// it owes already or is not there: then nothing changes (manual: Message Passing; chains are own).
+    /// A reply object owes a caller from now on, and lies on top of the chain of the context that
+    /// the caller brought. False where it owes already or is not there: then nothing changes
+    /// (manual: Message Passing; chains are own).
     pub fn owe(&mut self, reply: ObjId, caller: ObjId, brought: Option<ObjId>) -> bool
         ensures answer { result ≡ may_owe self.old reply }
         ensures refused { OnFalse result (self.new ≡ self.old) }
@@ -275,9 +286,10 @@ impl Replies {
         true
     }
 
-    /// The debt of a reply object is paid. On top of a chain it is taken off; else it and all below leave their chain, and those
-    /// below owe still. None, and nothing changes, where it owes nobody (manual: Message Passing; chains are own). On top of a chain
-    /// at most three links change, however long the chain is (own).
+    /// The debt of a reply object is paid. On top of a chain it is taken off; else it and all below
+    /// leave their chain, and those below owe still. None, and nothing changes, where it owes
+    /// nobody (manual: Message Passing; chains are own). On top of a chain at most three links
+    /// change, however long the chain is (own).
     pub fn pay(&mut self, reply: ObjId) -> Option<Ended>
         ensures caller { option_map (λ e. e.caller) result ≡ owed_in self.old reply }
         ensures topped { IfSome result (λ e. NamesTopped self.old reply e.topped) }
@@ -294,9 +306,9 @@ impl Replies {
         self.void(reply, Ending::Deleted)
     }
 
-    /// The debt of a reply object becomes void. Deleted, a reply object leaves its chain as if it had paid; cancelled, it and all
-    /// below leave it, also from the top. None, and nothing changes, where it owes nobody (manual: Message Passing; chains are
-    /// own).
+    /// The debt of a reply object becomes void. Deleted, a reply object leaves its chain as if it
+    /// had paid; cancelled, it and all below leave it, also from the top. None, and nothing
+    /// changes, where it owes nobody (manual: Message Passing; chains are own).
     // a part of its callers, which know how the debt ends
     #[inline(always)]
     pub fn void(&mut self, reply: ObjId, how: Ending) -> Option<Ended>
@@ -319,7 +331,8 @@ impl Replies {
         Some(Ended { caller, topped })
     }
 
-    /// The reply objects in the chain of a context, from the top; none where it came along no chain (own).
+    /// The reply objects in the chain of a context, from the top; none where it came along no chain
+    /// (own).
     pub fn chain_of(&self, context: ObjId) -> Chain<'_>
         ensures { rest_of result ≡ chain_in self.now context }
     {
@@ -348,8 +361,8 @@ impl Replies {
         links::drop_links(&mut self.links, &mut self.tops, context);
     }
 
-    /// Forgets a reply object that owes nobody and with which no receiver stands: its serial is never given again (manual:
-    /// Kernel Services and Objects).
+    /// Forgets a reply object that owes nobody and with which no receiver stands: its serial is
+    /// never given again (manual: Kernel Services and Objects).
     pub fn close(&mut self, reply: ObjId)
         requires there { is_there self.old reply ≡ true }
         requires alone { receiver_in self.old reply ≡ None }

@@ -16,8 +16,9 @@ pub struct Top {
     top: PlaceNo,
 }
 
-/// The top of each chain that is not empty (own). The row of a context stands at its home, which its serial tells, or among the
-/// others, where the row of another context was at home as it came: their serials then differ by a multiple of 256, which is rare.
+/// The top of each chain that is not empty (own). The row of a context stands at its home, which
+/// its serial tells, or among the others, where the row of another context was at home as it came:
+/// their serials then differ by a multiple of 256, which is rare.
 #[derive(Drop)]
 pub struct Tops {
     homes: Vec<Option<Top>>,

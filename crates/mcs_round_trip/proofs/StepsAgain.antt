@@ -1,4 +1,5 @@
--- Each step of a legal book is read again: its thread is one of the boot's, its core one of the boot's, its numbers are in range.
+-- Each step of a legal book is read again: its thread is one of the boot's, its core one of the
+-- boot's, its numbers are in range.
 use Rattle.std.specs.Prelude.{ℕ, ◌+◌, ◌<◌, ◌≤◌, ◌≡◌, true, List, [], ◌∷◌, Some, None, refl, length}
 use Rattle.std.proofs.Common.{subst, arith}
 use Rattle.mcs_types.specs.declared.id.ObjId.{ObjId}

@@ -6,8 +6,8 @@ ghost use Rattle.mcs_phases.specs.Script.{steps};
 ghost use Rattle.mcs_sim.specs.Runs.{written};
 ghost use Rattle.mcs_round_trip.specs.Readable.{IsReadable};
 
-/// A legal book's trace, read again, gives its boot and its steps; no line of it is faulty. The trace has at most 2,000,000
-/// lines.
+/// A legal book's trace, read again, gives its boot and its steps; no line of it is faulty. The
+/// trace has at most 2,000,000 lines.
 pub fn read_again()
     ghost book: { Book }
     requires { IsReadable book }

@@ -233,7 +233,8 @@ pub line-foreign : (w : Trail) (k : ℕ) (l : Line) → AreRightTo w k → IsLat
     → line_of_number w.book w.at ≡ Some l → (l.step.core.0 == w.core.0) ≡ false → AreRightTo (past_line w) k
 line-foreign w k l h later some is other = past-foreign w k h later (notes-foreign w.book w.core w.at l some is other)
 
--- before the next line, which is the core's own, so many calls are right, and the next one was not turned away before it
+-- before the next line, which is the core's own, so many calls are right, and the next one was not
+-- turned away before it
 pub record IsBeforeOwn (w : Trail) (k : ℕ) (l : Line) : Type 0 where
   pub right : AreRightTo w k
   pub later : IsLater w.at (drop k w.calls)

@@ -48,8 +48,8 @@ abbrev pub WhyTurned : Book → CoreId → ObjId → Turned → Type 0
 WhyTurned b c t (turned.Away n f) = (n ≡ length b.lines + 1) × (fault_of b c t ≡ Some f)
 WhyTurned b c t turned.OutOfMemory = Unit {0}
 
--- an entry of a thread that had this result: the seat keeps what became of it, and the book has its line and gave its answer,
--- or is as it was where it was turned away
+-- an entry of a thread that had this result: the seat keeps what became of it, and the book has its
+-- line and gave its answer, or is as it was where it was turned away
 pub record Enters (old new : Seat) (before after : Book) (t : ObjId) (e : Entry) (r : Result Answered Turned) : Type 0 where
   pub seat : new ≡ noted old t e r
   pub let_in : OnOk r (fault_of before old.core t ≡ None)

@@ -72,8 +72,8 @@ abbrev pub later_notes : List Note → List Note
 later_notes [] = []
 later_notes (n ∷ ns) = ns
 
--- a call of which this became is right, where the core is still told these notes and the book had at least so many lines:
--- it was told the next line, or turned away rightly before that line came
+-- a call of which this became is right, where the core is still told these notes and the book had
+-- at least so many lines: it was told the next line, or turned away rightly before that line came
 abbrev pub IsRightAt : Book → CoreId → List Note → ℕ → Call → Outcome → Type 0
 IsRightAt b c notes lines x (Told a) = next_note notes ≡ Some (told_note x a)
 IsRightAt b c notes lines x (Away n f) = (lines ≤ n) × (n ≤ next_line b notes) × (fault_of (cut b (n - 1)) c x.thread ≡ Some f)
@@ -98,7 +98,8 @@ AreRight b c notes lines [] = notes ≡ []
 AreRight b c notes lines (x ∷ xs) =
     IsRight b c notes lines x × AreRight b c (notes_after x.outcome notes) (lines_after x.outcome) xs
 
--- the n-th of these calls is the first that is not right; or all are, n is one more than they are, and the core is told more
+-- the n-th of these calls is the first that is not right; or all are, n is one more than they are,
+-- and the core is told more
 abbrev pub IsTornAt : Book → CoreId → List Note → ℕ → List Call → ℕ → Type 0
 IsTornAt b c notes lines [] n = (n ≡ 1) × (notes ≢ [])
 IsTornAt b c notes lines (x ∷ xs) n =
@@ -123,7 +124,8 @@ entry_told c n = (record { core = c; thread = n.thread; entry = n.entry }, n.ans
 abbrev pub entry_of : Line → Step × Answer
 entry_of l = (l.step, l.answer)
 
--- a seat was told its core's lines and no other, in order, with their numbers and answers, and was turned away rightly
+-- a seat was told its core's lines and no other, in order, with their numbers and answers, and was
+-- turned away rightly
 abbrev pub Agrees : Book → Seat → Type 0
 Agrees b s = AreRight b s.core (notes_of b s.core) 1 (reverse s.calls)
 
@@ -171,7 +173,8 @@ Because b boot seats OtherBoot = HasSeats b seats × (b.boot ≢ boot)
 Because b boot seats (Torn c n) = HasSeats b seats × (b.boot ≡ boot) × HasTorn b seats c n
 Because b boot seats OutOfMemory = Unit {0}
 
--- there is a legal book of as many lines as these seats were told, which they do not settle for this reason
+-- there is a legal book of as many lines as these seats were told, which they do not settle for
+-- this reason
 pub record HasReason (boot : Boot) (seats : List Seat) (f : FinishFault) : Type 0 where
   pub book : Book
   pub legal : IsLegal book

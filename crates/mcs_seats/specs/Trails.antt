@@ -35,7 +35,8 @@ pub record IsLineAt (p : Place) (c : LineCopy) : Type 0 where
   pub step : c.step ≡ line.step
   pub answer : c.answer ≡ line.answer
 
--- the calls of a core, the oldest first, which were followed past the lines of a book before that of number `at`
+-- the calls of a core, the oldest first, which were followed past the lines of a book before that
+-- of number `at`
 pub record Trail : Type 0 where
   pub book : Book
   pub core : CoreId

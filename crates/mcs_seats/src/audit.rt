@@ -5,8 +5,8 @@ ghost use Rattle.mcs_seats.specs.Seats.{told_by};
 use crate::seat::CoreSeat;
 use std::sync::ledger::{Book, Ledger, Share};
 
-/// Puts the shares of seats to what was kept of their ledger, and audits that: where no part is missing, the seats were told as
-/// many lines as the ledger counts.
+/// Puts the shares of seats to what was kept of their ledger, and audits that: where no part is
+/// missing, the seats were told as many lines as the ledger counts.
 pub fn audit_seats<G: Ledger>(book: &mut Book<G>, kept: Share<G>, seats: Vec<CoreSeat<G>>)
     requires { kept.amount ≡ 0 }
     ensures parts { kept.parts + length seats.items ≤ G.parts }

@@ -2,7 +2,8 @@
 use mcs_kernel::EnterFault;
 use mcs_types::{Answer, Entry, ObjId};
 
-/// An entry that was let in: the number of its line in the book, and its answer. The boot is number 0.
+/// An entry that was let in: the number of its line in the book, and its answer. The boot is number
+/// 0.
 #[derive(Drop)]
 pub struct Answered {
     pub line: usize,
@@ -29,7 +30,8 @@ pub struct Call {
 /// Why an entry has no line.
 #[derive(Clone, Copy, PartialEq, Eq, Debug)]
 pub enum Turned {
-    /// It was turned away (1 to 4 of EnterFault) when the book had so many lines, the boot's among them.
+    /// It was turned away (1 to 4 of EnterFault) when the book had so many lines, the boot's among
+    /// them.
     Away { lines: usize, fault: EnterFault },
     /// A growth was refused: that of the seat, which comes first, or that of the kernel.
     OutOfMemory,

@@ -6,8 +6,8 @@ use mcs_types::{Answer, Entry, OutOfMemory, Room};
 use std::alloc::Global;
 use std::marker::Model;
 
-/// An entry, the seat's copy of it, and room for the seat's copy of a message with which it may be answered. Clauses see the
-/// entry.
+/// An entry, the seat's copy of it, and room for the seat's copy of a message with which it may be
+/// answered. Clauses see the entry.
 #[derive(Drop)]
 pub struct Prepared {
     pub(crate) entry: Entry,
@@ -28,7 +28,8 @@ impl Model for Prepared {
 }
 
 impl Prepared {
-    /// The entry with its copy, and with room where it receives. OutOfMemory where one of them is refused.
+    /// The entry with its copy, and with room where it receives. OutOfMemory where one of them is
+    /// refused.
     pub(crate) fn new(alloc: Global, entry: Entry) -> Result<Prepared, OutOfMemory>
         ensures { IfOk result (λ p. p ≡ entry) }
     {

@@ -1,4 +1,5 @@
-//! Whether the calls of seats agree with a book, which is made again once for all of them, line by line (own).
+//! Whether the calls of seats agree with a book, which is made again once for all of them, line by
+//! line (own).
 ghost use Rattle.std.specs.Prelude.{◌≡◌, ◌==◌, ◌≤◌, ◌+◌, ◌-◌, true, All, IfOk, IfNone, IfSome, OnOk, IsTrue, ◌↔◌, Some, drop, length, map};
 ghost use Rattle.mcs_book.specs.History.{line_of_number};
 ghost use Rattle.mcs_kernel.specs.Faults.{fault_of};
@@ -35,8 +36,8 @@ impl LineCopy {
     }
 }
 
-/// A book that is made again, line by line. The replay has made the lines before that of number `at`. Clauses see the book and
-/// that number.
+/// A book that is made again, line by line. The replay has made the lines before that of number
+/// `at`. Clauses see the book and that number.
 #[derive(Drop)]
 struct Retrace<'a, L: Lines> {
     book: &'a Book,
@@ -98,12 +99,13 @@ impl<'a, L: Lines> Retrace<'a, L> {
 pub(crate) enum Progress {
     /// So many are; of the others none was turned away before the next line.
     Right(usize),
-    /// The call of this number, counted from 1, is the first that is not; one more than there are, where the core was told more.
+    /// The call of this number, counted from 1, is the first that is not; one more than there are,
+    /// where the core was told more.
     Torn(usize),
 }
 
-/// The calls of a seat, which were followed past the lines of a book before that of number `at`. Clauses see the book, the core,
-/// the calls and that number.
+/// The calls of a seat, which were followed past the lines of a book before that of number `at`.
+/// Clauses see the book, the core, the calls and that number.
 #[derive(Drop)]
 struct Follower<'a> {
     book: &'a Book,
@@ -161,7 +163,8 @@ impl<'a> Follower<'a> {
         }
     }
 
-    /// How far the calls are right, when those are followed that were turned away before the next line.
+    /// How far the calls are right, when those are followed that were turned away before the next
+    /// line.
     fn follow_away<L: Lines>(&self, retrace: &Retrace<'_, L>) -> Progress
         requires { IsBeside retrace.now self.now }
         ensures { IsReady self.now result }
@@ -190,7 +193,8 @@ impl<'a> Follower<'a> {
         Progress::Right(self.calls.len())
     }
 
-    /// How far the calls are right behind the next line, which is the core's: the next call has to be told it.
+    /// How far the calls are right behind the next line, which is the core's: the next call has to
+    /// be told it.
     fn follow_own(&self, count: usize, line: &LineCopy) -> Progress
         requires right { AreRightTo self.now count }
         requires later { IsLater self.now.at (drop count self.now.calls) }
@@ -239,7 +243,8 @@ impl<'a> Follower<'a> {
         self.at += 1;
     }
 
-    /// The number of the first call that does not agree with the book, behind whose last line it stands.
+    /// The number of the first call that does not agree with the book, behind whose last line it
+    /// stands.
     fn torn_call<L: Lines>(&self, retrace: &Retrace<'_, L>) -> Option<usize>
         requires beside { IsBeside retrace.now self.now }
         requires end { retrace.now.at ≡ length retrace.now.book.lines + 1 }
@@ -306,8 +311,8 @@ fn pass_next<L: Lines>(
     retrace.make_line(alloc, &line)
 }
 
-/// The core of the first follower whose calls do not agree with the book, behind whose last line all stand, and the number of
-/// the first such call.
+/// The core of the first follower whose calls do not agree with the book, behind whose last line
+/// all stand, and the number of the first such call.
 fn torn_follower<L: Lines>(
     followers: &Vec<Follower<'_>>,
     retrace: &Retrace<'_, L>,
@@ -325,8 +330,9 @@ fn torn_follower<L: Lines>(
     None
 }
 
-/// The first seat whose calls do not agree with a book, by its core and the number of the first such call. The book is made
-/// once: before each line the calls are compared that were turned away there, and then the line with the next call of its core.
+/// The first seat whose calls do not agree with a book, by its core and the number of the first
+/// such call. The book is made once: before each line the calls are compared that were turned away
+/// there, and then the line with the next call of its core.
 pub(crate) fn first_torn<G: Ledger, L: Lines>(
     alloc: Global,
     book: &Book,

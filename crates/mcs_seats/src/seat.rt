@@ -10,8 +10,8 @@ use std::alloc::Global;
 use std::marker::Model;
 use std::sync::ledger::{Book, Ledger, Share};
 
-/// What a core knows of its calls. Its share of the ledger counts the lines that it was told. Clauses see the core and the
-/// calls, newest first.
+/// What a core knows of its calls. Its share of the ledger counts the lines that it was told.
+/// Clauses see the core and the calls, newest first.
 #[derive(Drop)]
 pub struct CoreSeat<G: Ledger> {
     core: CoreId,
@@ -90,8 +90,9 @@ impl<G: Ledger> CoreSeat<G> {
         share
     }
 
-    /// Makes what a call of the seat needs before the kernel's lock is taken: room for the call, a copy of the entry, and for an
-    /// entry that receives room for a copy of its answer. OutOfMemory where one of them is refused.
+    /// Makes what a call of the seat needs before the kernel's lock is taken: room for the call, a
+    /// copy of the entry, and for an entry that receives room for a copy of its answer. OutOfMemory
+    /// where one of them is refused.
     pub fn prepare(&mut self, alloc: Global, entry: Entry) -> Result<Prepared, OutOfMemory>
         ensures same { self.new ≡ self.old }
         ensures entry { IfOk result (λ p. p ≡ entry) }
@@ -100,9 +101,10 @@ impl<G: Ledger> CoreSeat<G> {
         Prepared::new(alloc, entry)
     }
 
-    /// Lets in an entry of a thread on the seat's core, or turns it away, as Kernel::enter does; the seat keeps the entry
-    /// and what became of it. OutOfMemory where the seat has no room for the call, which `prepare` makes, or the kernel gets
-    /// none: then seat and kernel are as they were.
+    /// Lets in an entry of a thread on the seat's core, or turns it away, as Kernel::enter does;
+    /// the seat keeps the entry and what became of it. OutOfMemory where the seat has no room for
+    /// the call, which `prepare` makes, or the kernel gets none: then seat and kernel are as they
+    /// were.
     pub fn enter<L: Lines>(
         &mut self,
         alloc: Global,

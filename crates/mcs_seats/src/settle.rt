@@ -22,8 +22,8 @@ pub enum FinishFault {
     MissingSeat,
     /// The machine did not begin with the boot given.
     OtherBoot,
-    /// The n-th call of a core, counted from 1, is the first that does not agree with the book; one more than it made, where
-    /// it was not told all lines of its own.
+    /// The n-th call of a core, counted from 1, is the first that does not agree with the book; one
+    /// more than it made, where it was not told all lines of its own.
     Torn { core: CoreId, n: usize },
     /// A growth was refused.
     OutOfMemory,
@@ -136,10 +136,12 @@ impl<L: Lines> Settled<L> {
     }
 }
 
-/// Settles a kernel with these seats: its book is legal and fair, it begins with the boot given, and each seat was told its
-/// core's lines and no other, in order, with their numbers and answers, and was turned away rightly. MissingSeat (1) where a
-/// core of the book has no seat, OtherBoot (2) where the book begins otherwise, Torn (3) with the first call of a core that
-/// does not agree, tested in this order; OutOfMemory (4) where a growth was refused. On a fault nothing is handed back.
+/// Settles a kernel with these seats: its book is legal and fair, it begins with the boot given,
+/// and each seat was told its core's lines and no other, in order, with their numbers and answers,
+/// and was turned away rightly. MissingSeat (1) where a core of the book has no seat, OtherBoot (2)
+/// where the book begins otherwise, Torn (3) with the first call of a core that does not agree,
+/// tested in this order; OutOfMemory (4) where a growth was refused. On a fault nothing is handed
+/// back.
 pub fn settle_seats<G: Ledger, L: Lines>(
     alloc: Global,
     kernel: Kernel<L>,

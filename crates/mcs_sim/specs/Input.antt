@@ -10,6 +10,7 @@ pub record BeginsNext (text : List ℕ) : Type 0 where
   pub full : length (lines_of before) ≡ 2000000
   pub next : length (lines_of text) ≡ 2000001
 
--- a text of one byte more than all lines may have, or of all lines that there may be and the first byte of the next
+-- a text of one byte more than all lines may have, or of all lines that there may be and the first
+-- byte of the next
 abbrev pub IsTooLong : List ℕ → Type 0
 IsTooLong text = (length text ≡ 8194000001) ⊎ BeginsNext text

@@ -29,7 +29,8 @@ pub record IsTakenTo (line : ℕ) (why : LineFault) (t : Script Step) (c : Cours
   pub ended : c.fault ≡ Some (fault.Script line why)
   pub book : c.stands.book ≡ (boot_or_book_of t.boot t.items).book
 
--- a script was taken to the first step for which the book is full: the book is that of the steps before it
+-- a script was taken to the first step for which the book is full: the book is that of the steps
+-- before it
 pub record IsTakenToFull (t : Script Step) (c : Course) : Type 0 where
   pub before : List Step
   pub step : Step

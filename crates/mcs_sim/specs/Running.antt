@@ -19,15 +19,16 @@ use Rattle.mcs_sim.specs.Users.{UsersStopSoon}
 use Rattle.mcs_sim.specs.Trace.{trace}
 use Rattle.mcs_sim.specs.Runs.{Begins}
 
--- all of an input was read, in which nothing is wrong: it says this boot and these entries, where so many cores were asked for
+-- all of an input was read, in which nothing is wrong: it says this boot and these entries, where
+-- so many cores were asked for
 pub record Reads (asked : Option ℕ) (left left' : Option (List ℕ)) (boot : Boot) (entries : List UserEntry) : Type 0 where
   pub text : List ℕ
   pub read : Consumes left left' text
   pub ended : IsAtEnd left'
   pub faultless : users asked text ≡ (record { boot = Some boot; items = entries }, None)
 
--- an input was read to a faulty line: the input has ended, or the fault stands, whatever follows; and at most a piece was read behind
--- what gave no fault
+-- an input was read to a faulty line: the input has ended, or the fault stands, whatever follows;
+-- and at most a piece was read behind what gave no fault
 pub record ReadsTo (line : ℕ) (why : LineFault) (asked : Option ℕ) (left left' : Option (List ℕ)) : Type 0 where
   pub text : List ℕ
   pub read : Consumes left left' text
@@ -74,8 +75,8 @@ pub record IsBookOf (boot : Boot) (book : Book) : Type 0 where
   pub legal : IsLegal book
   pub fair : IsFair book
 
--- what a run leaves that ended without fault: it read all of the input, and wrote all of the trace of a book that is legal and fair and
--- begins with the boot that it read
+-- what a run leaves that ended without fault: it read all of the input, and wrote all of the trace
+-- of a book that is legal and fair and begins with the boot that it read
 pub record RunFinishes (asked : Option ℕ) (left left' out out' : Option (List ℕ)) : Type 0 where
   pub boot : Boot
   pub entries : List UserEntry
@@ -93,8 +94,8 @@ pub record RunWrites (asked : Option ℕ) (left left' out out' : Option (List �
   pub settled : IsBookOf boot book
   pub wrote : Begins out out' (trace book)
 
--- what a run leaves that ended early: nothing was written, but where the writing itself failed. Memory may be refused while users are
--- read, or behind that
+-- what a run leaves that ended early: nothing was written, but where the writing itself failed.
+-- Memory may be refused while users are read, or behind that
 abbrev pub RunEnds : SimFault → (asked : Option ℕ) (left left' out out' : Option (List ℕ)) → Type 0
 RunEnds fault.Argument asked left left' out out' = ⊥
 RunEnds (fault.Script line why) asked left left' out out' = ReadsTo line why asked left left' × Appends out out' []

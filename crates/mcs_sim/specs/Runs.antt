@@ -72,7 +72,8 @@ abbrev pub IsFairBefore : Option Boot → List Step → Type 0
 IsFairBefore b [] = Unit {0}
 IsFairBefore b (s ∷ ss) = IsFairRun b (s ∷ ss)
 
--- what a run of a text leaves that ended early, but for a read fault: all that is told before a faulty line, or a beginning of that
+-- what a run of a text leaves that ended early, but for a read fault: all that is told before a
+-- faulty line, or a beginning of that
 abbrev pub Leaves : SimFault → (old new : Option (List ℕ)) (text : List ℕ) → Type 0
 Leaves fault.Argument old new text = ⊥
 Leaves (fault.Script line why) old new text = Appends old new (written text) × ((steps text).1 ≡ Some (line, why)) × IsRoomy (steps text).0.boot (steps text).0.items
@@ -83,8 +84,9 @@ Leaves fault.BookFull old new text = Begins old new (written text) × IsFull (st
 Leaves fault.OutOfMemory old new text = Begins old new (written text)
 Leaves fault.Failed old new text = ⊥
 
--- what a run leaves that ended without fault: it read a text to the end of the input, in which nothing is wrong, and wrote all of the
--- trace of the book that its steps make after its boot, which is legal and fair
+-- what a run leaves that ended without fault: it read a text to the end of the input, in which
+-- nothing is wrong, and wrote all of the trace of the book that its steps make after its boot,
+-- which is legal and fair
 pub record Finishes (left left' out out' : Option (List ℕ)) : Type 0 where
   pub text : List ℕ
   pub boot : Boot
@@ -100,7 +102,8 @@ pub record Finishes (left left' out out' : Option (List ℕ)) : Type 0 where
 abbrev pub TellsMore : {W : Type 0} → (W → Option (List ℕ)) → (old new : Sink W) → (before after : Option Book) → Type 0
 TellsMore contents old new before after = (more : List ℕ) × (trace_of after ≡ trace_of before ++ more) × Puts contents old new more
 
--- what the trace of a book has more than that of one before was written behind what a sink kept back
+-- what the trace of a book has more than that of one before was written behind what a sink kept
+-- back
 abbrev pub WritesMore : {W : Type 0} → (W → Option (List ℕ)) → (old new : Sink W) → (before after : Option Book) → Type 0
 WritesMore contents old new before after = (more : List ℕ) × (trace_of after ≡ trace_of before ++ more) × Appends (contents old.writer) (contents new.writer) (kept old ++ more)
 
@@ -134,9 +137,10 @@ pub record ReadsText (left left' : Option (List ℕ)) (text : List ℕ) : Type 0
 abbrev pub WritesLines : (old new : Option (List ℕ)) (text : List ℕ) → Type 0
 WritesLines old new text = Appends old new (trace_of (fed (at_line no_line) text).course.stands.book)
 
--- what a run leaves that ended early: it read a text, and left what the text gives before the fault; a line's fault is what is wrong with
--- the text, whatever follows. Where a read fails the trace of all lines before it was written, and that is a beginning of what the text
--- gives; after a fault of writing, or a refusal of memory, a beginning of that was written
+-- what a run leaves that ended early: it read a text, and left what the text gives before the
+-- fault; a line's fault is what is wrong with the text, whatever follows. Where a read fails the
+-- trace of all lines before it was written, and that is a beginning of what the text gives; after a
+-- fault of writing, or a refusal of memory, a beginning of that was written
 abbrev pub Ends : SimFault → (left left' out out' : Option (List ℕ)) → Type 0
 Ends (fault.Script line why) left left' out out' = (text : List ℕ) × ReadsText left left' text × IsNamed left' text line why × Leaves (fault.Script line why) out out' text
 Ends fault.Read left left' out out' = (text : List ℕ) × ReadsText left left' text × WritesLines out out' text × Begins out out' (written text)

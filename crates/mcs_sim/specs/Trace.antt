@@ -50,7 +50,8 @@ abbrev pub trace_of : Option Book → List ℕ
 trace_of None = []
 trace_of (Some b) = trace b
 
--- all of a trace was told: so many lines, with that of the boot, and so many messages sent with them
+-- all of a trace was told: so many lines, with that of the boot, and so many messages sent with
+-- them
 abbrev pub all_told : Book → Told
 all_told b = record { lines = length b.lines + 1; sent = sent_in 0 (reverse b.lines) }
 
@@ -74,7 +75,8 @@ pub record IsToldBy (t : Told) (k : Option Book) : Type 0 where
   pub is : t ≡ told_of k
   pub fits : t.sent ≤ (t.lines - 1) * 2 ^ 64
 
--- so much was told of a beginning of a book, or nothing; no line has more messages than 64 bits can count
+-- so much was told of a beginning of a book, or nothing; no line has more messages than 64 bits can
+-- count
 pub record IsToldOf (t : Told) (b : Book) : Type 0 where
   pub fits : t.sent ≤ (t.lines - 1) * 2 ^ 64
   pub few : t.lines ≤ length b.lines + 1

@@ -10,7 +10,8 @@ use Rattle.mcs_phases.specs.declared.fault.SimFault.TheVariants as fault
 use Rattle.mcs_phases.specs.Script.{Script, no_script, of_users, script_from, users}
 use Rattle.mcs_phases.specs.Going.{HasNoNewline}
 
--- what the lines that have ended said, where so many cores may be asked for, how many they are, and the bytes of the line that has not ended
+-- what the lines that have ended said, where so many cores may be asked for, how many they are, and
+-- the bytes of the line that has not ended
 pub record Users : Type 0 where
   pub asked : Option ℕ
   pub script : Script UserEntry
@@ -71,8 +72,8 @@ IsFaultAtEnd u _ = ⊥
 abbrev pub AreFaultless : (asked : Option ℕ) (text : List ℕ) → Type 0
 AreFaultless asked text = (line : ℕ) (why : LineFault) → (users asked text).1 ≡ Some (line, why) → length (lines_of text) < line
 
--- a text gives no fault yet: none of the lines that have ended is faulty, and the last has not ended and is no longer than a line may be,
--- nor one too many
+-- a text gives no fault yet: none of the lines that have ended is faulty, and the last has not
+-- ended and is no longer than a line may be, nor one too many
 pub record GoesOn (asked : Option ℕ) (text : List ℕ) : Type 0 where
   pub ended : List ℕ
   pub last : List ℕ

@@ -13,8 +13,9 @@ use std::alloc::Global;
 use std::marker::Model;
 use std::mem;
 
-/// A replay of a script of steps that comes in pieces: it holds the boot until that has ended, then the book, and of the text
-/// no more than the line that has not ended (own). Once a fault has ended it, it takes no byte any more.
+/// A replay of a script of steps that comes in pieces: it holds the boot until that has ended, then
+/// the book, and of the text no more than the line that has not ended (own). Once a fault has ended
+/// it, it takes no byte any more.
 #[derive(Drop)]
 pub struct ReplayRun {
     phase: Phase,
@@ -51,14 +52,16 @@ impl ReplayRun {
         })
     }
 
-    /// The kernel after the steps so far; None until the boot has ended, which its first step does, or the end of the input.
+    /// The kernel after the steps so far; None until the boot has ended, which its first step does,
+    /// or the end of the input.
     pub fn kernel(&self) -> Option<&Kernel<LinkedLines>>
         ensures { option_copied result ≡ self.now.course.stands.book }
     {
         self.phase.kernel()
     }
 
-    /// The book of the steps so far; None until the boot has ended, which its first step does, or the end of the input.
+    /// The book of the steps so far; None until the boot has ended, which its first step does, or
+    /// the end of the input.
     pub fn book(&self) -> Option<&Book>
         ensures lent { book_lent result ≡ self.now.course.stands.book }
         ensures fair { IsFairBook self.now.course.stands.book }
@@ -188,9 +191,10 @@ impl ReplayRun {
         Ok(())
     }
 
-    /// Takes a piece of the input, whose end may stand anywhere in a line. Fault Script comes at the latest with the newline
-    /// of its line, its 4,097th byte, or the first byte of line 2,000,001. After a fault the book is that of the steps before
-    /// it, and each later call answers the same fault.
+    /// Takes a piece of the input, whose end may stand anywhere in a line. Fault Script comes at
+    /// the latest with the newline of its line, its 4,097th byte, or the first byte of line
+    /// 2,000,001. After a fault the book is that of the steps before it, and each later call
+    /// answers the same fault.
     pub fn feed(&mut self, alloc: Global, piece: &[u8]) -> Result<(), SimFault>
         ensures takes { Takes self.old piece.now self.new }
         ensures told { result ≡ answer_of self.new.course.fault }
@@ -206,8 +210,8 @@ impl ReplayRun {
         self.keep(rest)
     }
 
-    /// The input has ended: a last line may lack its newline, and where no step came the boot ends here. Fault Script with
-    /// NoCores (1) where no line said the number of cores.
+    /// The input has ended: a last line may lack its newline, and where no step came the boot ends
+    /// here. Fault Script with NoCores (1) where no line said the number of cores.
     pub fn end(&mut self, alloc: Global) -> Result<(), SimFault>
         ensures takes { TakesEnd self.old self.new }
         ensures told { result ≡ answer_of self.new.course.fault }

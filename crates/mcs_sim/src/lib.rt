@@ -1,15 +1,19 @@
 //! From the bytes of a script to the bytes of its trace.
 //!
 //! ```text
-//! reader -> Source -> pieces -+-> TracedRun -> ReplayRun -> lines -> Phase ----------+-> Book -> Sink -> writer
-//!                             +-> UserLines -> lines -> Script -> Users -> Machine --+
+//! reader -> Source -> pieces -+-> TracedRun -> ReplayRun -> lines -> Phase --+-> Book
+//!                             +-> UserLines -> lines -> Script -> Users       |
+//!                                                        -> Machine ---------+
+//! Book -> Sink -> writer
 //! ```
 //!
-//! The upper way is `simulate`: `feeding` cuts pieces into lines and keeps the first fault, `Phase` takes a line (the boot so
-//! far, or from its end on the run of the steps), and `replaying` writes what each piece adds to the trace before it reads on.
-//! The lower way is `run_text`: `users` reads to the end, and `running` runs what all users said on a machine and writes then.
-//! `Source` tries a read again that is interrupted, `Script` says what a line says, and `writing` writes the trace of a book,
-//! or what of it was not told. `startup` tells how the program ends. `laws` has what holds of all texts, however they are cut.
+//! The upper way is `simulate`: `feeding` cuts pieces into lines and keeps the first fault, `Phase`
+//! takes a line (the boot so far, or from its end on the run of the steps), and `replaying` writes
+//! what each piece adds to the trace before it reads on. The lower way is `run_text`: `users` reads
+//! to the end, and `running` runs what all users said on a machine and writes then. `Source` tries
+//! a read again that is interrupted, `Script` says what a line says, and `writing` writes the trace
+//! of a book, or what of it was not told. `startup` tells how the program ends. `laws` has what
+//! holds of all texts, however they are cut.
 #![tactic(auto)]
 
 mod feeding;

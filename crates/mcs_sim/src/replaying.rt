@@ -29,7 +29,8 @@ fn put_more<W: Write>(to: &mut Sink<W>, told: &mut Told, run: &ReplayRun)
     }
 }
 
-/// Puts what of a run's book was not told, if it has one, where the step of a single line more was read of this text.
+/// Puts what of a run's book was not told, if it has one, where the step of a single line more was
+/// read of this text.
 #[tactic(auto, using(crate::proofs::TraceLaws::puts_nothing))]
 fn put_line<W: Write>(to: &mut Sink<W>, told: &mut Told, run: &ReplayRun, text: &[u8])
     requires told { IsToldUpTo told.old run.now.course.stands.book }
@@ -96,7 +97,8 @@ impl TracedRun {
         taken
     }
 
-    /// Takes a piece of a script, and puts what each of its lines adds to the trace behind it: the text of a step is its line then.
+    /// Takes a piece of a script, and puts what each of its lines adds to the trace behind it: the
+    /// text of a step is its line then.
     fn feed<W: Write>(
         &mut self,
         alloc: Global,
@@ -119,7 +121,8 @@ impl TracedRun {
         taken
     }
 
-    /// Takes a piece of a script, or its end where the piece is empty, and puts what it adds to the trace.
+    /// Takes a piece of a script, or its end where the piece is empty, and puts what it adds to the
+    /// trace.
     fn put_piece<W: Write>(
         &mut self,
         alloc: Global,
@@ -146,9 +149,10 @@ impl TracedRun {
         let _ = self.run.book();
     }
 
-    /// Takes a piece of a script, or its end where the piece is empty, and writes what it adds to the trace: the boot once that
-    /// has ended, and each line of the book. So who asks for more only then has written the trace of all lines so far. Fault
-    /// Write where a call of the writer failed; else the fault of the script, after which the trace of the steps before it is
+    /// Takes a piece of a script, or its end where the piece is empty, and writes what it adds to
+    /// the trace: the boot once that has ended, and each line of the book. So who asks for more
+    /// only then has written the trace of all lines so far. Fault Write where a call of the writer
+    /// failed; else the fault of the script, after which the trace of the steps before it is
     /// written.
     pub fn take_piece<W: Write>(
         &mut self,
@@ -175,13 +179,15 @@ impl TracedRun {
     }
 }
 
-/// Replays a script as it comes, and writes its trace: the boot once that has ended, and each line of the book once it is there.
-/// Before each read the trace of all lines that were read is written. After Ok the whole trace is written, of a book that is
-/// legal and fair. Where a line is faulty the trace of the steps before it is written, of such a book, and nothing where the
-/// fault stands in the boot. After a read fault the trace of the lines read is written; after any other fault a beginning of
-/// the trace of the steps; BookFull comes only where the book is full at a step. Nothing is read behind the piece of at most
-/// 4,096 bytes in which a fault stands. A read or a write that is interrupted is tried again, at most 1,000 times in a row; a
-/// write that takes no byte is a fault.
+/// Replays a script as it comes, and writes its trace: the boot once that has ended, and each line
+/// of the book once it is there. Before each read the trace of all lines that were read is written.
+/// After Ok the whole trace is written, of a book that is legal and fair. Where a line is faulty
+/// the trace of the steps before it is written, of such a book, and nothing where the fault stands
+/// in the boot. After a read fault the trace of the lines read is written; after any other fault a
+/// beginning of the trace of the steps; BookFull comes only where the book is full at a step.
+/// Nothing is read behind the piece of at most 4,096 bytes in which a fault stands. A read or a
+/// write that is interrupted is tried again, at most 1,000 times in a row; a write that takes no
+/// byte is a fault.
 pub fn simulate<R: Read, W: Write>(
     alloc: Global,
     from: &mut Source<R>,

@@ -1,4 +1,5 @@
-//! A script of users, from bytes to bytes: they run on a machine, and the trace of its book is written.
+//! A script of users, from bytes to bytes: they run on a machine, and the trace of its book is
+//! written.
 ghost use Rattle.std.specs.Prelude.{◌≡◌, ◌≤◌, IfOk, IfErr, OnOk, Err};
 ghost use Rattle.mcs_book.specs.History.{IsLegal};
 ghost use Rattle.mcs_book.specs.Fair.{IsFair};
@@ -22,8 +23,8 @@ use std::sync::Wait;
 use std::sync::ledger::{Blank, Ledger};
 use std::thread::Threads;
 
-/// The boot and the entries of users that a source says, to its end or to a fault, which is told with the piece in which it
-/// stands.
+/// The boot and the entries of users that a source says, to its end or to a fault, which is told
+/// with the piece in which it stands.
 fn read_users<R: Read>(
     alloc: Global,
     from: &mut Source<R>,
@@ -130,14 +131,17 @@ fn run_users<X: Threads + Wait + Sync, T: Gate>(
     settle_run::<Brand, X, T>(rt, alloc, blank, boot, &users, gate)
 }
 
-/// Reads a boot and the entries of users, runs them on a machine with a host thread for each core, settles it, and writes the
-/// trace of its book. Where a number of cores is asked for, a script that says another is refused with fault Number at the
-/// line that says it. After Ok the whole trace is written, of a book that is legal and fair and begins with the boot that was
-/// read. After Write a beginning of such a trace is written, and after any other fault nothing: Script where a line is faulty,
-/// OutOfMemory where memory was refused while users were read or behind that, BookFull where the book had no room for an entry, Failed where a host thread was not started or the book does not agree
-/// with what the cores were told. Nothing is read behind the piece of at most 4,096 bytes in which a fault stands: that of a
-/// line comes with its newline, its 4,097th byte, or the first byte of line 2,000,001. The gate is called as `Machine::run`
-/// says. Reads and writes are tried again as `simulate` does.
+/// Reads a boot and the entries of users, runs them on a machine with a host thread for each core,
+/// settles it, and writes the trace of its book. Where a number of cores is asked for, a script
+/// that says another is refused with fault Number at the line that says it. After Ok the whole
+/// trace is written, of a book that is legal and fair and begins with the boot that was read. After
+/// Write a beginning of such a trace is written, and after any other fault nothing: Script where a
+/// line is faulty, OutOfMemory where memory was refused while users were read or behind that,
+/// BookFull where the book had no room for an entry, Failed where a host thread was not started or
+/// the book does not agree with what the cores were told. Nothing is read behind the piece of at
+/// most 4,096 bytes in which a fault stands: that of a line comes with its newline, its 4,097th
+/// byte, or the first byte of line 2,000,001. The gate is called as `Machine::run` says. Reads and
+/// writes are tried again as `simulate` does.
 pub fn run_text<R: Read, W: Write, X: AllocGlobal + Threads + Wait + Sync, T: Gate>(
     rt: &X,
     from: &mut Source<R>,

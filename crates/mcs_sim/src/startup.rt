@@ -21,8 +21,8 @@ fn reading_fault(error: &io::Error) -> SimFault
     }
 }
 
-/// The arguments in order; the first is the program's name. Fault Argument where one is not UTF-8, OutOfMemory where memory is
-/// refused.
+/// The arguments in order; the first is the program's name. Fault Argument where one is not UTF-8,
+/// OutOfMemory where memory is refused.
 pub fn arguments<R: Env + AllocGlobal>(rt: &R) -> Result<Vec<String>, SimFault>
     ensures { IfErr result IsOfArguments }
 {
@@ -33,8 +33,8 @@ pub fn arguments<R: Env + AllocGlobal>(rt: &R) -> Result<Vec<String>, SimFault>
     Ok(all)
 }
 
-/// The exit status of the program where the command line asks for no run: 0 where it asks for the help or the version, else
-/// that of a fault.
+/// The exit status of the program where the command line asks for no run: 0 where it asks for the
+/// help or the version, else that of a fault.
 pub fn answer_status(answer: &Error) -> u8
     ensures { result ≡ answer_status (kind_of answer.now) }
 {

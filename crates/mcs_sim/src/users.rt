@@ -12,8 +12,8 @@ use memchr::memchr;
 use std::alloc::Global;
 use std::marker::Model;
 
-/// What the lines of users that have ended said, where so many cores may be asked for, and of the text no more than the line
-/// that has not ended.
+/// What the lines of users that have ended said, where so many cores may be asked for, and of the
+/// text no more than the line that has not ended.
 #[derive(Drop)]
 pub struct UserLines {
     asked: Option<u8>,
@@ -136,8 +136,9 @@ impl UserLines {
         self.take_kept(alloc)
     }
 
-    /// Takes a piece of the input, whose end may stand anywhere in a line. Fault Script comes at the latest with the newline
-    /// of its line, its 4,097th byte, or the first byte of line 2,000,001.
+    /// Takes a piece of the input, whose end may stand anywhere in a line. Fault Script comes at
+    /// the latest with the newline of its line, its 4,097th byte, or the first byte of line
+    /// 2,000,001.
     pub fn feed(&mut self, alloc: Global, piece: &[u8]) -> Result<(), SimFault>
         ensures ok { OnOk result (TakesUsers piece.now self.old self.new) }
         ensures err { IfErr result (IsFaultIn piece.now self.old) }
@@ -163,7 +164,8 @@ impl UserLines {
         self.take_kept(alloc)
     }
 
-    /// The boot and the entries that all lines said. Fault Script with NoCores (1) where no line said the number of cores.
+    /// The boot and the entries that all lines said. Fault Script with NoCores (1) where no line
+    /// said the number of cores.
     fn into_said(self) -> Result<(Boot, Vec<UserEntry>), SimFault>
         requires { self.line ≡ [] }
         ensures ok { IfOk result (λ r. read_to_end self
@@ -190,7 +192,8 @@ impl UserLines {
         }
     }
 
-    /// The input has ended: the boot and the entries that it said. A last line may lack its newline.
+    /// The input has ended: the boot and the entries that it said. A last line may lack its
+    /// newline.
     pub fn end(mut self, alloc: Global) -> Result<(Boot, Vec<UserEntry>), SimFault>
         ensures ok { IfOk result (λ r. read_to_end self
             ≡ (record { boot = Some r.0; items = r.1.items }, None)) }

@@ -32,8 +32,8 @@ fn count_sent(sent: u128, fact: &KeptRecord<'_>) -> u128
     if fact.is_sent() { sent + 1 } else { sent }
 }
 
-/// Writes the records of a line before which so many messages were sent, and answers how many were sent with them. The text of a
-/// message is copied where its step was read.
+/// Writes the records of a line before which so many messages were sent, and answers how many were
+/// sent with them. The text of a message is copied where its step was read.
 #[inline(always)]
 fn put_records<W: Write>(
     sink: &mut Sink<W>,
@@ -72,7 +72,8 @@ fn put_book_line<W: Write>(sink: &mut Sink<W>, sent: u128, line: &Line<'_>) -> u
     put_records(sink, sent, line, None)
 }
 
-/// Writes a line before which so many messages were sent, and whose step was read of this text, as `put_book_line` does.
+/// Writes a line before which so many messages were sent, and whose step was read of this text, as
+/// `put_book_line` does.
 #[inline(always)]
 fn put_read_line<W: Write>(sink: &mut Sink<W>, sent: u128, line: &Line<'_>, text: &[u8]) -> u128
     requires few { sent + 2 ^ 64 < 2 ^ 128 }
@@ -91,7 +92,8 @@ fn put_read_line<W: Write>(sink: &mut Sink<W>, sent: u128, line: &Line<'_>, text
     put_records(sink, sent, line, Some(&read))
 }
 
-/// How much of a book's trace was told: so many of its lines, with that of the boot, and so many messages sent with them.
+/// How much of a book's trace was told: so many of its lines, with that of the boot, and so many
+/// messages sent with them.
 #[derive(Clone, Copy)]
 pub struct Told {
     lines: usize,
@@ -107,7 +109,8 @@ impl Told {
     }
 }
 
-/// Puts the lines behind those that were told, and answers how many messages were sent with all of them.
+/// Puts the lines behind those that were told, and answers how many messages were sent with all of
+/// them.
 // a part of its caller, as what it calls is: the parts of a line that is kept stay in registers
 #[inline(always)]
 fn put_lines<W: Write>(sink: &mut Sink<W>, told: Told, book: &Book) -> u128
@@ -153,8 +156,8 @@ pub fn put_untold<W: Write>(sink: &mut Sink<W>, told: &mut Told, book: &Book)
     told.lines = book.lines();
 }
 
-/// Puts what of a book's trace was not told, as `put_untold` does. The step of a single line that the book has more was read of this
-/// text, which is its line, so it is not spelled again.
+/// Puts what of a book's trace was not told, as `put_untold` does. The step of a single line that
+/// the book has more was read of this text, which is its line, so it is not spelled again.
 #[tactic(auto, unfolding(crate::specs::Trace::untold))]
 pub fn put_read<W: Write>(sink: &mut Sink<W>, told: &mut Told, book: &Book, text: &[u8])
     requires told { IsToldOf told.old book.now.book }
@@ -176,8 +179,8 @@ pub fn put_read<W: Write>(sink: &mut Sink<W>, told: &mut Told, book: &Book, text
     }
 }
 
-/// Writes the trace of a book: its boot, and then for each line its step, its answer and its records. What the sink kept back
-/// is dropped first. Only the writer can fail it.
+/// Writes the trace of a book: its boot, and then for each line its step, its answer and its
+/// records. What the sink kept back is dropped first. Only the writer can fail it.
 pub fn trace<W: Write>(book: &Book, sink: &mut Sink<W>) -> Result<(), SimFault>
     ensures ok { OnOk result (Writes W.contents sink.old sink.new (trace book.now.book)) }
     ensures err { OnErr result (WritesPart W.contents sink.old sink.new (trace book.now.book)) }

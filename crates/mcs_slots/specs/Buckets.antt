@@ -5,7 +5,8 @@ use Rattle.mcs_types.specs.declared.cap.Cap.{Cap}
 use Rattle.mcs_types.specs.Ids.{kind_number}
 use Rattle.mcs_slots.specs.declared.tallies.TheConstants.{SERIALS}
 
--- the bucket of an object: objects of one kind share it where their serials differ by a multiple of SERIALS
+-- the bucket of an object: objects of one kind share it where their serials differ by a multiple of
+-- SERIALS
 abbrev pub bucket_of : ObjId → ℕ
 bucket_of o = (o.serial % SERIALS) * 6 + kind_number o.kind
 

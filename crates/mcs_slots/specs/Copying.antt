@@ -1,4 +1,5 @@
--- What a copy, a mint or a move brings to its destination, or the first check that fails: those of the book's table.
+-- What a copy, a mint or a move brings to its destination, or the first check that fails: those of
+-- the book's table.
 use Rattle.std.specs.Prelude.{ℕ, ◌==◌, is_none, List, Result, Ok, Err}
 use Rattle.mcs_types.specs.declared.id.Badge.{Badge}
 use Rattle.mcs_types.specs.declared.cap.Cap.{Cap}

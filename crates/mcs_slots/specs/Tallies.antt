@@ -10,7 +10,8 @@ use Rattle.mcs_slots.specs.Pages.{Page}
 abbrev pub holding : (Option Cap → Bool) → List Page → ℕ
 holding q S = sum_by (λ p. count_by q p.caps) S
 
--- a tally tells of bucket b how many slots hold a capability to one of its objects, the owner, and how many to any of them
+-- a tally tells of bucket b how many slots hold a capability to one of its objects, the owner, and
+-- how many to any of them
 pub record TellsOf (S : List Page) (b : ℕ) (t : Tally) : Type 0 where
   pub held : t.held ≡ holding (is_owned b t.owner) S
   pub total : t.total ≡ holding (falls_in b) S

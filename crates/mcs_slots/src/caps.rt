@@ -5,7 +5,8 @@ ghost use Rattle.mcs_slots.specs.Masks.{masked, badged};
 
 use mcs_types::{Badge, Cap, Guard, Kind, ObjId, Rights};
 
-/// An equal capability, put together by its fields: so the compiler need not keep the bytes between them.
+/// An equal capability, put together by its fields: so the compiler need not keep the bytes between
+/// them.
 #[inline(always)]
 pub fn by_fields(cap: &Cap) -> Cap
     ensures { result ≡ cap.now }

@@ -54,7 +54,8 @@ impl Pages {
     ghost use Rattle.mcs_slots.specs.Pages.{empty_page, page_at, radix_of, slot_at, HasSlot, held, ArePages};
     ghost use Rattle.mcs_slots.specs.Filling.{filled};
 
-    /// Empty CNodes of these radices, each 1 to 8, in order: their serials are 1, 2 and so on. There are 64 at most.
+    /// Empty CNodes of these radices, each 1 to 8, in order: their serials are 1, 2 and so on.
+    /// There are 64 at most.
     pub(crate) fn new(alloc: Global, radices: &[u8]) -> Result<Pages, OutOfMemory>
         requires few { length radices.now ≤ 64 }
         requires radices { All (λ r. (1 ≤ r) × (r ≤ 8)) radices.now }
@@ -80,8 +81,9 @@ impl Pages {
         })
     }
 
-    /// Adds an empty CNode of a radix from 1 to 8, where fewer than 64 are there, as `len` tells: its serial is the next. The memory
-    /// for its slots is taken here; where it is refused, the slots are as they were.
+    /// Adds an empty CNode of a radix from 1 to 8, where fewer than 64 are there, as `len` tells:
+    /// its serial is the next. The memory for its slots is taken here; where it is refused, the
+    /// slots are as they were.
     pub(crate) fn add(&mut self, radix: u8) -> Result<(), OutOfMemory>
         requires few { length self.old < 64 }
         requires some { 1 ≤ radix }

@@ -17,7 +17,8 @@ pub struct SlotId {
 }
 
 impl SlotId {
-    /// The same slot, put together by its fields: so the compiler need not keep the bytes between them.
+    /// The same slot, put together by its fields: so the compiler need not keep the bytes between
+    /// them.
     #[inline(always)]
     pub fn by_fields(self) -> SlotId
         ensures { result ≡ self }
@@ -32,14 +33,16 @@ impl SlotId {
     }
 }
 
-/// The slots of up to 64 CNodes, whose serials count from 1 (own). The memory of a CNode is taken when it is added, as a boot does;
-/// beside `new` and `add` no call takes any. The tallies are a memo of what the slots hold, and change with them.
+/// The slots of up to 64 CNodes, whose serials count from 1 (own). The memory of a CNode is taken
+/// when it is added, as a boot does; beside `new` and `add` no call takes any. The tallies are a
+/// memo of what the slots hold, and change with them.
 pub struct Slots {
     pages: Pages,
     tallies: Tallies,
 }
 
-// By hand, so that it is a function of its own: a derived drop would be proved anew wherever it is let go.
+// By hand, so that it is a function of its own: a derived drop would be proved anew wherever it is
+// let go.
 impl Drop for Slots {
     fn drop(self) {
         let Slots {
@@ -67,8 +70,8 @@ impl Slots {
     ghost use Rattle.mcs_slots.specs.Filling.{filled, Fills, Moves};
     ghost use Rattle.mcs_slots.specs.Copying.{source_cap, copy_of, mint_of, answered};
 
-    /// Empty CNodes of these radices, each 1 to 8, in order: their serials are 1, 2 and so on. There are 64 at most. What is tallied
-    /// changes no answer, but how long a count takes.
+    /// Empty CNodes of these radices, each 1 to 8, in order: their serials are 1, 2 and so on.
+    /// There are 64 at most. What is tallied changes no answer, but how long a count takes.
     pub fn new(alloc: Global, radices: &[u8], tallied: Tallied) -> Result<Slots, OutOfMemory>
         requires few { length radices.now ≤ 64 }
         requires radices { All (λ r. (1 ≤ r) × (r ≤ 8)) radices.now }
@@ -102,8 +105,9 @@ impl Slots {
         })
     }
 
-    /// Adds an empty CNode of a radix from 1 to 8, where fewer than 64 are there, as `len` tells: its serial is the next. The memory
-    /// for its slots is taken here; where it is refused, the slots are as they were.
+    /// Adds an empty CNode of a radix from 1 to 8, where fewer than 64 are there, as `len` tells:
+    /// its serial is the next. The memory for its slots is taken here; where it is refused, the
+    /// slots are as they were.
     pub fn add(&mut self, radix: u8) -> Result<(), OutOfMemory>
         requires few { length self.old < 64 }
         requires some { 1 ≤ radix }
@@ -227,9 +231,9 @@ impl Slots {
         Ok(with_badge(&cap, rights, badge))
     }
 
-    /// Copies a capability into another slot with those of its rights that are asked for; both slots are there (manual:
-    /// Capability Spaces). Refused, in this order, where the source is empty (SlotEmpty) and where the destination is full
-    /// (SlotFull): then nothing changes.
+    /// Copies a capability into another slot with those of its rights that are asked for; both
+    /// slots are there (manual: Capability Spaces). Refused, in this order, where the source is
+    /// empty (SlotEmpty) and where the destination is full (SlotFull): then nothing changes.
     pub fn copy(&mut self, source: SlotId, dest: SlotId, rights: Rights) -> Result<(), Refusal>
         requires source { HasSlot self.old source }
         requires dest { HasSlot self.old dest }
@@ -242,8 +246,9 @@ impl Slots {
         Ok(())
     }
 
-    /// Copies a capability like `copy`, and sets its badge. Refused like `copy`, and then where the capability is to no endpoint
-    /// or notification (WrongKind) and where the source's badge is not 0 (BadgeNotAllowed): then nothing changes.
+    /// Copies a capability like `copy`, and sets its badge. Refused like `copy`, and then where the
+    /// capability is to no endpoint or notification (WrongKind) and where the source's badge is not
+    /// 0 (BadgeNotAllowed): then nothing changes.
     pub fn mint(
         &mut self,
         source: SlotId,
@@ -262,7 +267,8 @@ impl Slots {
         Ok(())
     }
 
-    /// Moves a capability into another slot as it is, and empties its own. Refused like `copy`: then nothing changes.
+    /// Moves a capability into another slot as it is, and empties its own. Refused like `copy`:
+    /// then nothing changes.
     pub fn move_cap(&mut self, source: SlotId, dest: SlotId) -> Result<(), Refusal>
         requires source { HasSlot self.old source }
         requires dest { HasSlot self.old dest }
@@ -276,8 +282,9 @@ impl Slots {
         Ok(())
     }
 
-    /// How many slots hold a capability to an object. The tally of its bucket tells it; where another object came into the bucket
-    /// first, or there is no tally, all slots are looked at (own).
+    /// How many slots hold a capability to an object. The tally of its bucket tells it; where
+    /// another object came into the bucket first, or there is no tally, all slots are looked at
+    /// (own).
     pub fn count_of(&self, obj: ObjId) -> u32
         ensures { result ≡ held self.now obj }
     {

@@ -14,10 +14,12 @@ const SERIALS: u32 = 4_096;
 /// How many buckets there are: one for each kind and each remainder of a serial.
 const BUCKETS: usize = 6 * SERIALS as usize;
 
-/// How many buckets a copy has tallies of, the first: copies are made of small systems, again and again (own).
+/// How many buckets a copy has tallies of, the first: copies are made of small systems, again and
+/// again (own).
 const COPIED: usize = 6 * 64;
 
-/// Which buckets have a tally: all, or the first, where capabilities to one object are hardly ever counted (own).
+/// Which buckets have a tally: all, or the first, where capabilities to one object are hardly ever
+/// counted (own).
 #[derive(Clone, Copy, PartialEq, Eq, Debug)]
 pub enum Tallied {
     All,
@@ -37,8 +39,9 @@ impl Tallied {
     }
 }
 
-/// What is known of the objects of a bucket, which are of one kind: the serial of the one that came first, the owner, how many slots
-/// hold a capability to it, and how many to any of them. There are fewer slots than 16 bits count.
+/// What is known of the objects of a bucket, which are of one kind: the serial of the one that came
+/// first, the owner, how many slots hold a capability to it, and how many to any of them. There are
+/// fewer slots than 16 bits count.
 #[derive(Clone, Copy)]
 pub(crate) struct Tally {
     owner: u32,
@@ -46,7 +49,8 @@ pub(crate) struct Tally {
     total: u16,
 }
 
-/// A tally for each bucket of objects, or for the first of them. They change with the slots, one capability at a time.
+/// A tally for each bucket of objects, or for the first of them. They change with the slots, one
+/// capability at a time.
 #[derive(Drop)]
 pub(crate) struct Tallies {
     tallies: Vec<Tally>,
@@ -95,8 +99,8 @@ impl Tally {
         self.total = self.total.saturating_sub(1);
     }
 
-    /// One capability to an object of its bucket more. The object is its owner from now on where no slot held a capability to one of
-    /// them. The slots are too few for a count to be cut off.
+    /// One capability to an object of its bucket more. The object is its owner from now on where no
+    /// slot held a capability to one of them. The slots are too few for a count to be cut off.
     fn count_up(&mut self, obj: ObjId)
         ensures { self.new ≡ one_more obj self.old }
     {
@@ -137,7 +141,8 @@ impl Tallies {
         })
     }
 
-    /// The tallies of the first buckets, in the memory of spare ones. OutOfMemory where memory is refused.
+    /// The tallies of the first buckets, in the memory of spare ones. OutOfMemory where memory is
+    /// refused.
     pub(crate) fn copy(&self, alloc: Global, spare: Option<Tallies>) -> Result<Tallies, OutOfMemory>
         ensures { IfOk result (λ t. AreFrom t self.now) }
     {

@@ -1,4 +1,5 @@
--- Where the slots of a space that is laid out stand, and what they hold (manual: Capability Spaces).
+-- Where the slots of a space that is laid out stand, and what they hold (manual: Capability
+-- Spaces).
 use Rattle.std.specs.Prelude.{ℕ, ◌-◌, ◌/◌, ◌%◌, ◌^◌, ◌<◌, ◌≡◌, ◌⊎◌, Some, None, Ok}
 use Rattle.mcs_types.specs.declared.id.ObjId.{ObjId}
 use Rattle.mcs_types.specs.declared.cap.Cap.{Cap}
@@ -6,7 +7,8 @@ use Rattle.mcs_book.specs.Lookup.{Space, cnode_cap, capability_from}
 use Rattle.mcs_spaces.specs.declared.layout.Layout.{Layout}
 use Rattle.mcs_spaces.specs.Layouts.{bits_behind, zero_guard}
 
--- the capability to the root, and the radix of its CNode, are as the layout says; bits of the address as many as these are left
+-- the capability to the root, and the radix of its CNode, are as the layout says; bits of the
+-- address as many as these are left
 pub record IsRoot (S : Space) (root : Cap) (l : Layout) (bits : ℕ) : Type 0 where
   pub guard : root.guard ≡ zero_guard (bits - bits_behind l)
   pub radix : S.radix root.obj ≡ l.root
@@ -31,7 +33,8 @@ pub record IsBehind (S : Space) (root : Cap) (l : Layout) (slot : ℕ) (c : ObjI
 abbrev pub Stands : Space → Cap → Layout → ℕ → ObjId → ℕ → Type 0
 Stands S root l slot c i = IsInRoot root l slot c i ⊎ IsBehind S root l slot c i
 
--- a slot of a space holds this capability; where bits are left behind its index, that is to no CNode
+-- a slot of a space holds this capability; where bits are left behind its index, that is to no
+-- CNode
 pub record Holds (S : Space) (root : Cap) (l : Layout) (slot : ℕ) (cap : Cap) : Type 0 where
   pub of_root : IsRoot S root l 64
   pub cnode : ObjId
@@ -40,7 +43,8 @@ pub record Holds (S : Space) (root : Cap) (l : Layout) (slot : ℕ) (cap : Cap) 
   pub there : S.slot cnode index ≡ Some cap
   pub last : (l.within ≡ 0) ⊎ (cnode_cap (Some cap) ≡ None)
 
--- in every space that is laid out so, lookup of the address from its root gives the capability that the slot holds
+-- in every space that is laid out so, lookup of the address from its root gives the capability that
+-- the slot holds
 abbrev pub IsAddressOf : Layout → ℕ → ℕ → Type 0
 IsAddressOf l slot address =
     (S : Space) (root cap : Cap) → Holds S root l slot cap → capability_from S root address ≡ Ok cap

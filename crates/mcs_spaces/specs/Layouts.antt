@@ -35,7 +35,8 @@ bits_for count =
 abbrev pub layout_of_radix : ℕ → Layout
 layout_of_radix radix = record { root = radix; leaf = 0; within = 0 }
 
--- the layout of so many slots: one CNode for up to 256 of them, and more in the root for a larger space
+-- the layout of so many slots: one CNode for up to 256 of them, and more in the root for a larger
+-- space
 abbrev pub layout_of_slots : ℕ → Layout
 layout_of_slots slots =
     if nat_le slots 256 then layout_of_radix (bits_for slots)

@@ -15,7 +15,8 @@ pub struct Layout {
     pub root: u8,
     /// The radix of the CNodes in the root: 8, or 0 where the slots stand in the root itself.
     pub leaf: u8,
-    /// How many bits name a slot of a CNode that a slot of the space holds a capability to, 0 to 16.
+    /// How many bits name a slot of a CNode that a slot of the space holds a capability to, 0 to
+    /// 16.
     pub within: u8,
 }
 
@@ -39,7 +40,8 @@ fn bits_for(count: u32) -> u8
 }
 
 impl Layout {
-    /// The layout of a space with so many slots, up to 65,536: one CNode for up to 256. No slot of it leads further.
+    /// The layout of a space with so many slots, up to 65,536: one CNode for up to 256. No slot of
+    /// it leads further.
     #[tactic(auto, using(crate::proofs::Walks::larger_enough))]
     pub fn of_slots(slots: u32) -> Layout
         ensures value { result ≡ layout_of_slots slots }
@@ -105,8 +107,8 @@ impl Layout {
         }
     }
 
-    /// The guard of a capability, in one of its slots, to the root of another space: it takes the bits that the other's slots
-    /// leave of `within`.
+    /// The guard of a capability, in one of its slots, to the root of another space: it takes the
+    /// bits that the other's slots leave of `within`.
     pub fn guard_within(&self, other: &Layout) -> Guard
         requires here { IsLaidOut self.now }
         requires there { IsLaidOut other.now }
@@ -128,8 +130,8 @@ impl Layout {
         (slot as u64) << self.within
     }
 
-    /// The address of a slot: what stands there is what it names, in every space that is laid out so (manual: Capability
-    /// Spaces).
+    /// The address of a slot: what stands there is what it names, in every space that is laid out
+    /// so (manual: Capability Spaces).
     pub fn address(&self, slot: u32) -> u64
         requires laid_out { IsLaidOut self.now }
         requires within { slot < 2 ^ (self.now.root + self.now.leaf) }
@@ -150,7 +152,8 @@ impl Layout {
         }
     }
 
-    /// The address of a slot in a CNode that one of its slots holds a capability to. Its place has a depth of 64.
+    /// The address of a slot in a CNode that one of its slots holds a capability to. Its place has
+    /// a depth of 64.
     pub fn address_within(&self, slot: u32, inner: u32) -> u64
         requires laid_out { IsLaidOut self.now }
         requires within { slot < 2 ^ (self.now.root + self.now.leaf) }

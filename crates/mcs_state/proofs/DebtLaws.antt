@@ -1,4 +1,5 @@
--- Debts of reply objects: who is owed after one begins or ends, and which chain a reply object tops.
+-- Debts of reply objects: who is owed after one begins or ends, and which chain a reply object
+-- tops.
 use Rattle.std.specs.Prelude.{◌≡◌, true, false, ◌∷◌, Option, Some, None, IsSome, option_map, option_and_then, unwrap_or}
 use Rattle.std.specs.Option.{IfSome}
 use Rattle.std.proofs.Common.{refl, ap, sym, ◌∙◌, inl, inr}

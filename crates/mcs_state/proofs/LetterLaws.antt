@@ -106,7 +106,8 @@ opened R x m s sound number h =
       kept = ap (λ y. growing_open R y) own ∙ h;
     }
 
--- the place of a sender whose open message has this number is emptied: that message is no thread's any more
+-- the place of a sender whose open message has this number is emptied: that message is no thread's
+-- any more
 pub dropped : (R : Log) (old new : List (Option Letter)) (x : ObjId) (m : ℕ) → Sound R → IsNumberOf m (open_of R x) → KeepsLetter x None old new → LosesLetter R m old new
 dropped R old new x m sound number h =
     let found = number-open R x m sound number in

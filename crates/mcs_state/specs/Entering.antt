@@ -12,7 +12,8 @@ use Rattle.mcs_book.specs.Notifications.{bound_of}
 use Rattle.mcs_book.specs.Fair.{IsOpenOf}
 use Rattle.mcs_book.specs.Sound.{IsThere, IsIdle}
 
--- t is a thread that is there, is blocked on nothing, and is not inactive; its root is a CNode that is there
+-- t is a thread that is there, is blocked on nothing, and is not inactive; its root is a CNode that
+-- is there
 pub record IsEntering (R : Log) (t : ObjId) : Type 0 where
   pub there : IsThere R kind.Thread t
   pub idle : IsIdle R t

@@ -278,7 +278,8 @@ abbrev pub attended : Queue → Option ObjId → Option ObjId
 attended (Receivers e) reply = reply
 attended _ reply = None
 
--- how the reply objects follow a record; a debt that is paid leaves its chain as one whose reply object is deleted
+-- how the reply objects follow a record; a debt that is paid leaves its chain as one whose reply
+-- object is deleted
 abbrev pub RepliesFollow : Log → Rec → Owing → Owing → Type 0
 RepliesFollow R (rec.Made o f) old new = RepliesFollowMade o.kind o old new
 RepliesFollow R (rec.Closed o) old new = RepliesFollowClosed o.kind o old new
@@ -323,13 +324,15 @@ pub record KeepsHomed (n : ObjId) (s : Option ObjId) (old new : Signals) : Type 
   pub threads : (x : ObjId) → thread_in new x ≡ thread_in old x
   pub homed : SetsHomed old new n s
 
--- a context is homed at this notification from now on; or, where it is none, nothing is homed where it was
+-- a context is homed at this notification from now on; or, where it is none, nothing is homed where
+-- it was
 abbrev pub Rehomes : ObjId → Option ObjId → Option ObjId → Signals → Signals → Type 0
 Rehomes s from (Some n) old new = KeepsHomed n (Some s) old new
 Rehomes s (Some n) None old new = KeepsHomed n None old new
 Rehomes s None None old new = new ≡ old
 
--- a thread is bound to this notification from now on; or, where it is none, the one to which the thread was bound is free
+-- a thread is bound to this notification from now on; or, where it is none, the one to which the
+-- thread was bound is free
 abbrev pub Rebinds : ObjId → Option ObjId → Option ObjId → Signals → Signals → Type 0
 Rebinds t from (Some n) old new = KeepsBound n (Some t) old new
 Rebinds t (Some n) None old new = KeepsBound n None old new

@@ -34,7 +34,8 @@ is_plain_kind Notification = true
 is_plain_kind Reply = true
 is_plain_kind _ = false
 
--- whether no more than so many objects of a kind may be there at a time; of the others so many may be made
+-- whether no more than so many objects of a kind may be there at a time; of the others so many may
+-- be made
 abbrev pub has_limit : Kind → Bool
 has_limit Context = true
 has_limit k = is_plain_kind k

@@ -40,8 +40,8 @@ ROOM = object_limit
 abbrev pub HAND : ℕ
 HAND = record_limit
 
--- the threads of each queue, the queue of each thread, whether the object of a queue is there, and how many endpoints and
--- notifications were made and are there
+-- the threads of each queue, the queue of each thread, whether the object of a queue is there, and
+-- how many endpoints and notifications were made and are there
 pub record Queueing : Type 0 where
   pub line : Queue → List Waiter
   pub queue : ObjId → Option Queue
@@ -102,7 +102,8 @@ pub record QueuesAgree (v : Queueing) (R : Log) : Type 0 where
   pub queue : (t : ObjId) → v.queue t ≡ queue_of R t
   pub has : (q : Queue) → v.has q ≡ is_there R (queue_kind q) (queue_object q)
 
--- the reply objects, the receiver that stands with each, the caller that it owes, and the chain of each context
+-- the reply objects, the receiver that stands with each, the caller that it owes, and the chain of
+-- each context
 pub record RepliesAgree (v : Owing) (R : Log) : Type 0 where
   pub counts : reply_counts v ≡ shape_said kind.Reply R
   pub there : (r : ObjId) → has_reply v r ≡ is_there R kind.Reply r
@@ -114,7 +115,8 @@ pub record RepliesAgree (v : Owing) (R : Log) : Type 0 where
 abbrev pub word_said : Log → ObjId → Option ℕ
 word_said R n = cond (is_there R kind.Notification n) (growing_word R n) None
 
--- the notifications, their pending words, the thread bound to each, and the context that is homed at each
+-- the notifications, their pending words, the thread bound to each, and the context that is homed
+-- at each
 pub record NotificationsAgree (v : Signals) (R : Log) : Type 0 where
   pub counts : notification_counts v ≡ shape_said kind.Notification R
   pub there : (n : ObjId) → has_notification v n ≡ is_there R kind.Notification n
@@ -122,8 +124,8 @@ pub record NotificationsAgree (v : Signals) (R : Log) : Type 0 where
   pub threads : (n : ObjId) → thread_in v n ≡ tied_to R n
   pub homed : (n : ObjId) → homed_in v n ≡ homed_at R n
 
--- the pages of the CNodes: as many as were made, with their radices, what their slots hold, and how many hold a capability to
--- an object
+-- the pages of the CNodes: as many as were made, with their radices, what their slots hold, and how
+-- many hold a capability to an object
 pub record SlotsAgree (pages : List Page) (R : Log) : Type 0 where
   pub made : length pages ≡ counted (makes_kind kind.CNode) R
   pub radices : (c : ObjId) → unwrap_or (radix_of pages c) 0 ≡ radix_kept (form_of R c)

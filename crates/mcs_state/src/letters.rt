@@ -68,8 +68,8 @@ fn copied(alloc: Global, letter: &Option<OpenLetter>) -> Result<Option<OpenLette
     }
 }
 
-/// The open messages of threads, each in the place of its sender, up to the last sender that there was: a copy is as small. All
-/// memory is taken when they are made. Clauses see the places.
+/// The open messages of threads, each in the place of its sender, up to the last sender that there
+/// was: a copy is as small. All memory is taken when they are made. Clauses see the places.
 pub struct Letters {
     places: Vec<Option<OpenLetter>>,
 }
@@ -86,7 +86,8 @@ impl Model for Letters {
     ghost invariant = { λ l. (vec_len l.places ≤ ROOM) × (ROOM ≤ vec_capacity l.places) };
 }
 
-// By hand, so that it is a function of its own: a derived drop would be proved anew wherever a state is let go.
+// By hand, so that it is a function of its own: a derived drop would be proved anew wherever a
+// state is let go.
 impl Drop for Letters {
     fn drop(self) {
         let Letters { places: _ } = self;
@@ -174,7 +175,8 @@ impl Letters {
         keep(Kind::Thread, &mut self.places, sender, Some(letter));
     }
 
-    /// The open message of a thread, which is open no more; None, and nothing changes, where it has none.
+    /// The open message of a thread, which is open no more; None, and nothing changes, where it has
+    /// none.
     pub fn close(&mut self, sender: ObjId) -> Option<OpenLetter>
         ensures value { result ≡ kept_at Kind.Thread self.old sender }
         ensures kept { KeepsAt Kind.Thread self.old self.new sender None }
@@ -183,7 +185,8 @@ impl Letters {
     }
 }
 
-/// A letter becomes the mail of its receiver, a thread that is there. The answer is an equal message.
+/// A letter becomes the mail of its receiver, a thread that is there. The answer is an equal
+/// message.
 // a part of its caller, so that the letter is moved once less
 #[inline(always)]
 pub fn deliver(threads: &mut Threads, receiver: ObjId, letter: OpenLetter) -> Message

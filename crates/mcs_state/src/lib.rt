@@ -1,4 +1,5 @@
-//! The state of the kernel: tables that agree with the book and with the records of the line in hand.
+//! The state of the kernel: tables that agree with the book and with the records of the line in
+//! hand.
 //!
 //! ```text
 //! operations of mcs_cancel, mcs_notify, mcs_ipc, mcs_caps
@@ -8,11 +9,12 @@
 //! the change that it is in the tables          replies, notifications, slots
 //! ```
 //!
-//! A primitive adds exactly its record (`hands` its two), and asks for no more than that it is allowed; a query answers what
-//! the definition says of all records so far. That the tables say of each id what the records say is the invariant of `State`,
-//! so what stands above names no table. `state` has the primitives and the queries, by what they change or answer; `changing`,
-//! `attending`, `returning` and `waking` are steps that operations share; `letters` and `queued` are the open messages and the
-//! threads of a queue.
+//! A primitive adds exactly its record (`hands` its two), and asks for no more than that it is
+//! allowed; a query answers what the definition says of all records so far. That the tables say of
+//! each id what the records say is the invariant of `State`, so what stands above names no table.
+//! `state` has the primitives and the queries, by what they change or answer; `changing`,
+//! `attending`, `returning` and `waking` are steps that operations share; `letters` and `queued`
+//! are the open messages and the threads of a queue.
 #![tactic(auto)]
 
 mod attending;

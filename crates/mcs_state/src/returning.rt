@@ -43,7 +43,8 @@ fn is_homed_at<W: Waiting>(state: &State<W>, context: ObjId, notification: ObjId
     }
 }
 
-/// The context that a thread holds, where it is homed at this notification and came along no call that has not ended.
+/// The context that a thread holds, where it is homed at this notification and came along no call
+/// that has not ended.
 fn context_at_home<W: Waiting>(
     state: &State<W>,
     thread: ObjId,
@@ -61,8 +62,8 @@ fn context_at_home<W: Waiting>(
     }
 }
 
-/// A thread gives up the context that it holds, where that is homed at the notification by which the thread may wake, and came along
-/// no call that has not ended.
+/// A thread gives up the context that it holds, where that is homed at the notification by which
+/// the thread may wake, and came along no call that has not ended.
 fn go_home<W: Waiting>(state: &mut State<W>, thread: ObjId, notification: Option<ObjId>)
     requires room { HasRoomFor (gone_home thread notification) state.old }
     ensures { Makes (gone_home thread notification) state.old state.new }
@@ -73,8 +74,8 @@ fn go_home<W: Waiting>(state: &mut State<W>, thread: ObjId, notification: Option
     }
 }
 
-/// A thread stands in a queue with a reply object, and its context goes home, where it is homed at the notification by which the
-/// thread may wake.
+/// A thread stands in a queue with a reply object, and its context goes home, where it is homed at
+/// the notification by which the thread may wake.
 // a part of its callers, which know the kind of the queue
 #[inline(always)]
 pub fn stand<W: Waiting>(

@@ -48,8 +48,8 @@ pub struct State<W: Waiting> {
     sent: u32,
 }
 
-// By hand, so that it is a function of its own: a derived drop would be proved anew wherever a state, a boot or a kernel is
-// let go.
+// By hand, so that it is a function of its own: a derived drop would be proved anew wherever a
+// state, a boot or a kernel is let go.
 impl<W: Waiting> Drop for State<W> {
     fn drop(self) {
         let State {
@@ -247,7 +247,8 @@ impl<W: Waiting> State<W> {
         self.book.add_boot_line(line);
     }
 
-    // The primitives that most lines make are inlined: of the choice among records the one that is made is left.
+    // The primitives that most lines make are inlined: of the choice among records the one that is
+    // made is left.
 
     /// Moves the records in hand to a line of the book.
     #[inline(always)]
@@ -371,8 +372,8 @@ impl<W: Waiting> State<W> {
         self.letters.open(sender, letter);
     }
 
-    /// The open message of a sender, which has this number, is received: it moves to the mail of its receiver. The answer is an
-    /// equal message.
+    /// The open message of a sender, which has this number, is received: it moves to the mail of
+    /// its receiver. The answer is an equal message.
     #[inline(always)]
     pub fn took(&mut self, number: u32, sender: ObjId, receiver: ObjId) -> Message
         requires allowed { Allowed (so_far self.old) (Rec.Took number receiver) }

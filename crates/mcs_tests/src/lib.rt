@@ -1,4 +1,5 @@
-//! Tests of tables, kernels, machines and whole scripts that cross crates, and of what no clause says.
+//! Tests of tables, kernels, machines and whole scripts that cross crates, and of what no clause
+//! says.
 #![tactic(auto)]
 
 #[cfg(test)]

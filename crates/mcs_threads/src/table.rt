@@ -11,8 +11,8 @@ use mcs_types::{Cap, Kind, Mail, Mode, OBJECTS, ObjId, OutOfMemory, Prio, copy_r
 use std::alloc::Global;
 use std::marker::Model;
 
-/// The threads that were made, at most 256, whose serials count from 1 (own): what is kept of each, and its mail. All memory is
-/// taken when the table is made.
+/// The threads that were made, at most 256, whose serials count from 1 (own): what is kept of each,
+/// and its mail. All memory is taken when the table is made.
 pub struct Threads {
     rows: Vec<Option<ThreadRow>>,
     mails: Vec<Option<Mail>>,
@@ -30,7 +30,8 @@ impl Model for Threads {
         × (256 ≤ vec_capacity t.rows) × (256 ≤ vec_capacity t.mails) };
 }
 
-// By hand, so that it is a function of its own: a derived drop would be proved anew wherever it is let go.
+// By hand, so that it is a function of its own: a derived drop would be proved anew wherever it is
+// let go.
 impl Drop for Threads {
     fn drop(self) {
         let Threads { rows: _, mails: _ } = self;
@@ -118,8 +119,9 @@ impl Threads {
         let _ = &self.rows;
     }
 
-    /// Makes a thread, where fewer than 256 were made, and gives its id: its serial is the next. Its priority is 0, it is inactive,
-    /// and no mail has reached it (manual: Threads and Execution).
+    /// Makes a thread, where fewer than 256 were made, and gives its id: its serial is the next.
+    /// Its priority is 0, it is inactive, and no mail has reached it (manual: Threads and
+    /// Execution).
     pub fn add(&mut self, maximum: Prio, root: Cap) -> ObjId
         requires { made self.old < 256 }
         ensures id { result ≡ next_thread self.old }
@@ -143,8 +145,8 @@ impl Threads {
         kept_at(Kind::Thread, &self.rows, id)
     }
 
-    /// What last reached a thread; None where nothing did, and for what is no thread, was never made or was closed (manual:
-    /// Message Passing).
+    /// What last reached a thread; None where nothing did, and for what is no thread, was never
+    /// made or was closed (manual: Message Passing).
     pub fn mail(&self, id: ObjId) -> Option<&Mail>
         ensures { option_copied result ≡ mail_of self.now id }
     {
@@ -170,8 +172,8 @@ impl Threads {
         keep(Kind::Thread, &mut self.mails, id, mail);
     }
 
-    /// Sets the mode of a thread; None for what is no thread, was never made or was closed: then nothing changes (manual: Threads
-    /// and Execution).
+    /// Sets the mode of a thread; None for what is no thread, was never made or was closed: then
+    /// nothing changes (manual: Threads and Execution).
     pub fn set_mode(&mut self, id: ObjId, mode: Mode) -> Option<()>
         ensures found { IsSome result ↔ IsSome (row_of self.old id) }
         ensures changed { ChangesRow (λ r. record r { mode = mode }) self.old self.new id }
@@ -195,7 +197,8 @@ impl Threads {
         Some(())
     }
 
-    /// Blocks a thread on a queue or on a reply object, whatever blocked it before; None like `set_mode` (manual: Message Passing).
+    /// Blocks a thread on a queue or on a reply object, whatever blocked it before; None like
+    /// `set_mode` (manual: Message Passing).
     pub fn block(&mut self, id: ObjId, block: Block) -> Option<()>
         ensures found { IsSome result ↔ IsSome (row_of self.old id) }
         ensures changed { ChangesRow (λ r. record r { block = Some block }) self.old self.new id }
@@ -243,7 +246,8 @@ impl Threads {
         Some(())
     }
 
-    /// Gives a thread a mail in place of the one that it had; None like `set_mode` (manual: Message Passing).
+    /// Gives a thread a mail in place of the one that it had; None like `set_mode` (manual: Message
+    /// Passing).
     pub fn set_mail(&mut self, id: ObjId, mail: Mail) -> Option<()>
         ensures found { IsSome result ↔ IsSome (row_of self.old id) }
         ensures mails { IsSome (row_of self.old id) → SetsMail self.old self.new id (Some mail) }
@@ -256,7 +260,8 @@ impl Threads {
         Some(())
     }
 
-    /// Forgets a thread and its mail: its serial is never given again. None like `set_mode` (manual: Kernel Services and Objects).
+    /// Forgets a thread and its mail: its serial is never given again. None like `set_mode`
+    /// (manual: Kernel Services and Objects).
     pub fn close(&mut self, id: ObjId) -> Option<()>
         ensures found { IsSome result ↔ IsSome (row_of self.old id) }
         ensures rows { SetsRow self.old self.new id None }

@@ -1,8 +1,9 @@
 //! The forms of the lines, as they are shown, and by which their words are named.
 use mcs_text::{Lines, Words};
 
-/// The forms of the lines of scripts and traces. Of a step it marks what names a capability of the thread's space: `@` an address,
-/// `%` an index that stands before its depth. Words that end in `..` stand for all that follow.
+/// The forms of the lines of scripts and traces. Of a step it marks what names a capability of the
+/// thread's space: `@` an address, `%` an index that stands before its depth. Words that end in
+/// `..` stand for all that follow.
 pub const FORMS: &str = "\
 The boot:
   cores count
@@ -218,7 +219,8 @@ fn before_common<'a>(first: &'a [u8], second: &'a [u8]) -> (&'a [u8], &'a [u8]) 
     (a, b)
 }
 
-/// Whether two words differ in one letter that is other, missing or more, or in two that are exchanged.
+/// Whether two words differ in one letter that is other, missing or more, or in two that are
+/// exchanged.
 fn is_near(a: &[u8], b: &[u8]) -> bool {
     let (a, b) = behind_common(a, b);
     match before_common(a, b) {

@@ -88,7 +88,8 @@ fn put_unlike(page: &mut Page, number: u64, fault: &[u8], name: &[u8]) {
     page.put(b"\n");
 }
 
-/// Puts what is wrong with the word of this number, where it is one of the form's. True where no word behind it is to be looked at.
+/// Puts what is wrong with the word of this number, where it is one of the form's. True where no
+/// word behind it is to be looked at.
 fn put_pair(page: &mut Page, number: u64, field: Field<'_>, word: Option<&[u8]>) -> bool {
     let Some(word) = word else {
         if !field.is_last {

@@ -30,7 +30,8 @@ fn put_object<'a>(
     }
 }
 
-/// Puts a line of an answer or a record, with its sign: its word under `kind`, and the others under the names of its form.
+/// Puts a line of an answer or a record, with its sign: its word under `kind`, and the others under
+/// the names of its form.
 fn put_line(alloc: Global, page: &mut Page, sign: u8, line: &[u8]) {
     let (_, Some(behind)) = split_word(line) else {
         return page.put(b"null");

@@ -1,4 +1,5 @@
-//! What is told of a script: why a step did nothing, what is stuck, who stands where, and its book as JSON. It only writes.
+//! What is told of a script: why a step did nothing, what is stuck, who stands where, and its book
+//! as JSON. It only writes.
 #![tactic(auto)]
 
 mod forms;

@@ -90,7 +90,8 @@ pub fn put_members(page: &mut Page, members: &[Member<'_>]) {
     page.put(b"}");
 }
 
-/// The words of a text as members under the names of a form, and those that have none under `more`. None where memory is refused.
+/// The words of a text as members under the names of a form, and those that have none under `more`.
+/// None where memory is refused.
 pub fn members_of<'a>(
     alloc: Global,
     kind: Option<Member<'a>>,

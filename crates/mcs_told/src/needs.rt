@@ -6,12 +6,14 @@ use mcs_queues::LinkedLines;
 use mcs_types::{Entry, Kind, ObjId, OutOfMemory, Queue, Status, ThreadSet};
 use std::alloc::Global;
 
-/// Of a thread that may not enter: which CNodes hold a capability by which another thread may let it go on.
+/// Of a thread that may not enter: which CNodes hold a capability by which another thread may let
+/// it go on.
 #[derive(Clone, Copy)]
 pub struct Need {
     /// By which it goes on.
     by: CNodes,
-    /// By which it is only made to give its entry again, which is blocked as before where its space has not changed.
+    /// By which it is only made to give its entry again, which is blocked as before where its space
+    /// has not changed.
     again: CNodes,
     /// To what it is blocked on, each: it goes on where that is deleted.
     named: CNodes,
@@ -34,7 +36,8 @@ fn sent_over(alloc: Global, book: &Book, thread: ObjId) -> Result<Option<u64>, O
     Ok(None)
 }
 
-/// Whether the entry of a thread that stands among the senders of an endpoint would be sent there again.
+/// Whether the entry of a thread that stands among the senders of an endpoint would be sent there
+/// again.
 fn sends_again(
     alloc: Global,
     kernel: &Kernel<LinkedLines>,
@@ -117,7 +120,8 @@ impl Need {
         }
     }
 
-    /// Whether threads whose spaces have these CNodes may let a thread go on whose space has those of its own.
+    /// Whether threads whose spaces have these CNodes may let a thread go on whose space has those
+    /// of its own.
     fn is_met(self, own: CNodes, theirs: CNodes) -> bool {
         theirs.meets(self.by)
             || theirs.meets(self.again) && theirs.meets(own)
@@ -178,8 +182,8 @@ impl Needs {
         }
     }
 
-    /// The threads that may enter some time: those that may now, and all that they may let go on, by any capability in the
-    /// spaces of all of them.
+    /// The threads that may enter some time: those that may now, and all that they may let go on,
+    /// by any capability in the spaces of all of them.
     pub fn free(&self, kernel: &Kernel<LinkedLines>, spaces: &Spaces) -> ThreadSet {
         let mut free = ThreadSet::new();
         let mut theirs = CNodes::new();

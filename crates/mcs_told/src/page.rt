@@ -6,8 +6,8 @@ use mcs_types::{ObjId, Queue};
 use std::alloc::{AllocError, Global};
 use std::io::Write;
 
-/// What was told and is not written yet. Where memory is refused the rest is left out and nothing is written any more, so who puts
-/// the text together need not ask.
+/// What was told and is not written yet. Where memory is refused the rest is left out and nothing
+/// is written any more, so who puts the text together need not ask.
 #[derive(Drop)]
 pub struct Page {
     text: Vec<u8>,

@@ -37,7 +37,8 @@ fn put_radix(page: &mut Page, radix: u32, behind: u32) {
     page.put(b" are left");
 }
 
-/// Puts the slot that lookup takes at a level, and what holds it up there; the level behind it, if lookup goes on.
+/// Puts the slot that lookup takes at a level, and what holds it up there; the level behind it, if
+/// lookup goes on.
 fn put_slot(page: &mut Page, index: u64, held: Option<Cap>, left: u32) -> Option<Level> {
     page.put(b" ");
     page.number(index);
@@ -58,7 +59,8 @@ fn put_slot(page: &mut Page, index: u64, held: Option<Cap>, left: u32) -> Option
     }
 }
 
-/// Puts the slot that lookup takes at a level, or why it takes none; the level behind it, if lookup goes on.
+/// Puts the slot that lookup takes at a level, or why it takes none; the level behind it, if lookup
+/// goes on.
 fn put_level(
     page: &mut Page,
     kernel: &Kernel<LinkedLines>,

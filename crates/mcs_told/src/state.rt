@@ -10,7 +10,8 @@ use mcs_sim::Source;
 use std::alloc::Global;
 use std::io::{Read, Write};
 
-/// Of a state: behind which line, whether only what is stuck is told, and whether it is written as JSON.
+/// Of a state: behind which line, whether only what is stuck is told, and whether it is written as
+/// JSON.
 #[derive(Clone, Copy)]
 pub struct Wanted {
     pub at: Option<u64>,
@@ -70,8 +71,8 @@ fn put_state(
     waits.put(page, kernel, names) || !wanted.stuck
 }
 
-/// Reads a script as far as is wanted, and puts what is wanted of its state. False where only what is stuck is wanted, and
-/// something is.
+/// Reads a script as far as is wanted, and puts what is wanted of its state. False where only what
+/// is stuck is wanted, and something is.
 fn read_state<R: Read>(
     alloc: Global,
     from: &mut Source<R>,
@@ -88,8 +89,8 @@ fn read_state<R: Read>(
     Ok(put_state(page, kernel, &reader.names, &waits, wanted))
 }
 
-/// Shows who stands where behind a line of a script, or at its end, and what is stuck. False where only what is stuck is wanted, and
-/// something is.
+/// Shows who stands where behind a line of a script, or at its end, and what is stuck. False where
+/// only what is stuck is wanted, and something is.
 pub fn show_state<R: Read, W: Write + Drop>(
     alloc: Global,
     from: &mut Source<R>,

@@ -1,4 +1,5 @@
-//! Who waits for whom, and which threads nobody can let go on: by the book and by questions to the kernel.
+//! Who waits for whom, and which threads nobody can let go on: by the book and by questions to the
+//! kernel.
 use crate::needs::{Need, Needs};
 use crate::page::Page;
 use crate::spaces::{Spaces, object};
@@ -9,7 +10,8 @@ use mcs_queues::LinkedLines;
 use mcs_types::{Kind, ObjId, OutOfMemory, Queue, Rec, Status, ThreadSet};
 use std::alloc::Global;
 
-/// The thread that took the call for which a reply object owed last: the one that received in the same line.
+/// The thread that took the call for which a reply object owed last: the one that received in the
+/// same line.
 pub fn taker_of(alloc: Global, book: &Book, reply: ObjId) -> Result<Option<ObjId>, OutOfMemory> {
     for number in (1..book.lines()).rev() {
         let Some(line) = book.line(number) else {
@@ -68,7 +70,8 @@ fn add_receivers(
     Ok(())
 }
 
-/// The threads that are likely to let a thread go on: who took its call, or who received on the endpoint before.
+/// The threads that are likely to let a thread go on: who took its call, or who received on the
+/// endpoint before.
 fn likely(
     alloc: Global,
     kernel: &Kernel<LinkedLines>,
@@ -154,7 +157,8 @@ fn preferred(count: u32, some: &ThreadSet, others: ThreadSet) -> ThreadSet {
 }
 
 impl Waits {
-    /// Who waits for whom now, and who is stuck: it waits, and no thread that is not stuck itself can ever let it go on.
+    /// Who waits for whom now, and who is stuck: it waits, and no thread that is not stuck itself
+    /// can ever let it go on.
     pub fn new(alloc: Global, kernel: &Kernel<LinkedLines>) -> Result<Waits, LabFault> {
         let spaces = Spaces::new(alloc, kernel)?;
         let Ok(needs) = Needs::new(alloc, kernel) else {
@@ -225,7 +229,8 @@ impl Waits {
         self.stuck.contains(thread)
     }
 
-    /// Adds the stuck threads for which one of these, or the thread itself, waits. False where there are no more.
+    /// Adds the stuck threads for which one of these, or the thread itself, waits. False where
+    /// there are no more.
     fn reach_more(&self, thread: ObjId, reached: &mut ThreadSet) -> bool {
         let mut grew = false;
         for from in 1..=self.count {

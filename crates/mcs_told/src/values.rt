@@ -119,7 +119,8 @@ impl<'a> Values<'a> {
         }
     }
 
-    /// Puts a queue, where some stand there, behind others or as the first. False where none stand there.
+    /// Puts a queue, where some stand there, behind others or as the first. False where none stand
+    /// there.
     fn put_queue(&self, page: &mut Page, queue: Queue, is_first: bool) -> bool {
         let mut is_empty = true;
         for thread in self.kernel.queue(queue) {

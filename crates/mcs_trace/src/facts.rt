@@ -1,5 +1,6 @@
-//! The lines of answers and records: each form once. The room that they ask for is that of any line. Those of most lines are inlined
-//! where the trace is written; those that come seldom are not, since a function takes in only so much.
+//! The lines of answers and records: each form once. The room that they ask for is that of any
+//! line. Those of most lines are inlined where the trace is written; those that come seldom are
+//! not, since a function takes in only so much.
 ghost use Rattle.std.specs.Prelude.{◌≡◌, ◌≤◌, ◌+◌, ◌∷◌, ◌++◌, [], IfSome, length};
 ghost use Rattle.mcs_trace.specs.Room.{Adds, HasRoom};
 ghost use Rattle.mcs_trace.specs.Reading.{IsMessageText};
@@ -137,7 +138,8 @@ impl Line {
         self.byte(b'\n');
     }
 
-    /// The record of a caller that is owed an answer, with the context that it brought along, if it brought one.
+    /// The record of a caller that is owed an answer, with the context that it brought along, if it
+    /// brought one.
     #[inline(always)]
     #[tactic(auto, unfolding(mcs_text::specs::Spelling::line_text))]
     pub fn owes(&mut self, reply: ObjId, caller: ObjId, context: Option<ObjId>)

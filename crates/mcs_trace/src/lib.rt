@@ -1,6 +1,7 @@
-//! The lines of a trace, written into a sink. Those of steps, answers and records come from what the book keeps: nothing is
-//! unpacked on the way. What writes a part of a line is inlined, so that of the choices among words that alone is left which is
-//! taken there; what grows too large the compiler leaves out of line.
+//! The lines of a trace, written into a sink. Those of steps, answers and records come from what
+//! the book keeps: nothing is unpacked on the way. What writes a part of a line is inlined, so that
+//! of the choices among words that alone is left which is taken there; what grows too large the
+//! compiler leaves out of line.
 #![tactic(auto)]
 
 mod boot;

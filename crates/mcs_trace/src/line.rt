@@ -12,7 +12,8 @@ pub const SIZE: usize = 65_536;
 /// How many bytes of a long text are moved at once.
 const PART: usize = 16;
 
-/// Text that is put together at the front of a buffer. Clauses see the text alone, as a list of its bytes.
+/// Text that is put together at the front of a buffer. Clauses see the text alone, as a list of its
+/// bytes.
 #[derive(Drop)]
 pub struct Line {
     pub(crate) end: usize,
@@ -63,7 +64,8 @@ impl Line {
         self.end = 0;
     }
 
-    // The end is read once, before the bytes are written: so it stays in a register from word to word.
+    // The end is read once, before the bytes are written: so it stays in a register from word to
+    // word.
 
     /// A byte.
     #[inline(always)]
@@ -88,7 +90,8 @@ impl Line {
         Simd::<u8, N>::from_slice(&text[at..]).copy_to_slice(&mut buffer[front..]);
     }
 
-    /// Bytes, N to twice as many: the first N, and the last N whichever of them stand there already.
+    /// Bytes, N to twice as many: the first N, and the last N whichever of them stand there
+    /// already.
     #[inline(always)]
     fn ends<const N: usize>(&mut self, bytes: &[u8])
         requires least { N ≤ length bytes.now }
@@ -103,7 +106,8 @@ impl Line {
         self.end = front + bytes.len();
     }
 
-    /// Bytes. They are moved 4, 8 or 16 at a time, and the last so many whichever of them stand there already.
+    /// Bytes. They are moved 4, 8 or 16 at a time, and the last so many whichever of them stand
+    /// there already.
     // a copy of a length that is not known would go byte by byte
     #[inline(always)]
     pub fn bytes(&mut self, bytes: &[u8])
@@ -155,7 +159,8 @@ impl Line {
         self.byte(b'\n');
     }
 
-    /// A few bytes, one after the other: where they are known they are stored together, and no call compares where they stand.
+    /// A few bytes, one after the other: where they are known they are stored together, and no call
+    /// compares where they stand.
     #[inline(always)]
     pub fn few_bytes(&mut self, bytes: &[u8])
         requires { HasRoom self.old (length bytes.now) }

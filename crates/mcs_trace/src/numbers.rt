@@ -10,7 +10,8 @@ use crate::rooms::{COUNT, MESSAGE, NUMBER};
 use itoa::Buffer;
 use mcs_types::MESSAGE_WORDS;
 
-// Digits have several writers: with `itoa` in their place a script takes 11 to 18 in a hundred instructions more.
+// Digits have several writers: with `itoa` in their place a script takes 11 to 18 in a hundred
+// instructions more.
 /// The two digits of each number below 100.
 static PAIRS: [u8; 200] =
     *b"00010203040506070809101112131415161718192021222324252627282930313233343536373839404142434445464748495051525354555657585960616263646566676869707172737475767778798081828384858687888990919293949596979899";
@@ -52,7 +53,8 @@ fn digit_count(n: u64) -> usize
     }
 }
 
-/// The last so many of the two digits of each of two numbers below 100 in front, and anything behind them.
+/// The last so many of the two digits of each of two numbers below 100 in front, and anything
+/// behind them.
 #[inline(always)]
 fn last_digits(high: u64, low: u64, count: usize) -> [u8; 4]
     requires high { high < 100 }
@@ -90,7 +92,8 @@ pub fn number_length(n: u64) -> usize
     }
 }
 
-/// Two digits of a number below 100, also where the first is 0. Answers where what follows them stands.
+/// Two digits of a number below 100, also where the first is 0. Answers where what follows them
+/// stands.
 #[inline(always)]
 fn put_pair(buffer: &mut [u8], at: usize, n: u64) -> usize
     requires small { n < 100 }
@@ -138,8 +141,8 @@ fn put_first_of(buffer: &mut [u8], at: usize, bytes: [u8; 4], count: usize) -> u
     at + count
 }
 
-/// A number below 10,000. Its four digits are stored together, and moved to the front by those that are 0, so no branch depends
-/// on how many there are.
+/// A number below 10,000. Its four digits are stored together, and moved to the front by those that
+/// are 0, so no branch depends on how many there are.
 #[inline(always)]
 fn put_short(buffer: &mut [u8], at: usize, n: u64) -> usize
     requires small { n < 10000 }
@@ -166,7 +169,8 @@ fn put_middle(buffer: &mut [u8], at: usize, n: u64) -> usize
     put_four(buffer, at, n % 10_000)
 }
 
-/// A number of nine digits or more. It is never a part of `put_long`, which saves no registers for it so.
+/// A number of nine digits or more. It is never a part of `put_long`, which saves no registers for
+/// it so.
 #[inline(never)]
 fn put_huge(buffer: &mut [u8], at: usize, n: u64) -> usize
     requires large { 100000000 ≤ n }
@@ -184,8 +188,8 @@ fn put_huge(buffer: &mut [u8], at: usize, n: u64) -> usize
     put_eight(buffer, at, n % 100_000_000)
 }
 
-/// A number of 10 or more. It is a function of its own, as most numbers of a trace have one digit; where it ends is answered in a
-/// register, so that nobody reads it back from the line.
+/// A number of 10 or more. It is a function of its own, as most numbers of a trace have one digit;
+/// where it ends is answered in a register, so that nobody reads it back from the line.
 #[inline(never)]
 fn put_long(buffer: &mut [u8], at: usize, n: u64) -> usize
     requires large { 10 ≤ n }

@@ -67,8 +67,8 @@ pub fn put_kept_answer<W: Write>(sink: &mut Sink<W>, answer: &KeptAnswer<'_>)
     write_kept_answer(&mut sink.line, answer.form, answer.at, answer.words);
 }
 
-/// Writes the line of a record, before which so many messages were sent. Where it has the message of this step, whose line was read,
-/// the text of that is copied.
+/// Writes the line of a record, before which so many messages were sent. Where it has the message
+/// of this step, whose line was read, the text of that is copied.
 #[tactic(auto, using(crate::proofs::Outputs::puts_line_then))]
 #[inline(always)]
 pub fn put_read_record<W: Write>(

@@ -22,7 +22,8 @@ fn key_length(key: Key) -> usize
     key.text().len()
 }
 
-/// How many bytes stand before the message of an entry: who enters, the word of the entry, and an address.
+/// How many bytes stand before the message of an entry: who enters, the word of the entry, and an
+/// address.
 #[inline(always)]
 fn front_length(from: Entrant, key: Key, address: u64) -> usize
     ensures value { result ≡ length (front_text from key address) }
@@ -124,7 +125,8 @@ impl<'a> Model for ReadStep<'a> {
 }
 
 impl<'a> ReadStep<'a> {
-    /// The text of a message, where it is that of the step, and stands behind one address or two. None says nothing.
+    /// The text of a message, where it is that of the step, and stands behind one address or two.
+    /// None says nothing.
     #[inline(always)]
     pub fn message_text(&self, label: u64, words: &[u64]) -> Option<&[u8]>
         ensures { IfSome result (λ t. IsMessageText t.now label words.now) }

@@ -369,7 +369,8 @@ fn write_read_message(
     write_message_of(line, sent, packed, words, wide, Some(&read))
 }
 
-/// The line of a record that stands as it is, before which so many messages were sent: a table, with an arm for each record.
+/// The line of a record that stands as it is, before which so many messages were sent: a table,
+/// with an arm for each record.
 fn write_record(line: &mut Line, sent: u128, fact: &Rec)
     requires { HasRoom line.old LINE }
     ensures { line.new ≡ line.old ++ record_text sent fact.now }
@@ -445,7 +446,8 @@ fn write_record(line: &mut Line, sent: u128, fact: &Rec)
     }
 }
 
-/// The line of a record where it is kept, before which so many messages were sent. The text of a message that was read is copied.
+/// The line of a record where it is kept, before which so many messages were sent. The text of a
+/// message that was read is copied.
 #[inline(always)]
 pub fn write_kept(
     line: &mut Line,

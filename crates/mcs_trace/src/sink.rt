@@ -67,7 +67,8 @@ fn write_out<W: Write>(writer: &mut W, failed: &mut u64, bytes: &[u8]) -> Result
 }
 
 impl<W: Drop> Sink<W> {
-    /// A sink that keeps nothing back, with room for some lines, so that not each is a write of its own.
+    /// A sink that keeps nothing back, with room for some lines, so that not each is a write of its
+    /// own.
     pub fn new(alloc: Global, writer: W) -> Result<Sink<W>, AllocError>
         ensures writer { IfOk result (λ s. s.writer ≡ writer) }
         ensures kept { IfOk result (λ s. kept s ≡ []) }
@@ -122,7 +123,8 @@ impl<W: Write> Sink<W> {
         self.line.clear();
     }
 
-    /// Writes what is kept back. It is out of line, so that who makes room only tests whether there is some.
+    /// Writes what is kept back. It is out of line, so that who makes room only tests whether there
+    /// is some.
     #[cold]
     #[inline(never)]
     pub fn flush(&mut self)

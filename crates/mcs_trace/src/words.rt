@@ -32,7 +32,8 @@ impl Line {
     }
 
     /// A fixed word.
-    // the table of all keys does not count in what takes in this one, so that the records which most lines have are inlined
+    // the table of all keys does not count in what takes in this one, so that the records which
+    // most lines have are inlined
     #[inline]
     pub fn key(&mut self, key: Key)
         requires { HasRoom self.old KEY }

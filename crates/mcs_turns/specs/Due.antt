@@ -7,7 +7,8 @@ use Rattle.mcs_types.specs.declared.record.Status.TheVariants as status
 use Rattle.mcs_turns.specs.declared.position.Position.{Position}
 use Rattle.mcs_turns.specs.declared.position.Pick.{Pick}
 
--- the number of the entry that a user gives now: the last one again where its thread waited and was restarted
+-- the number of the entry that a user gives now: the last one again where its thread waited and was
+-- restarted
 abbrev pub due_by : Option Status → Position → ℕ
 due_by (Some status.Restart) p = unwrap_or p.waited p.next
 due_by _ p = p.next
@@ -49,8 +50,9 @@ choices (k ∷ ks) (s ∷ ss) = with_any_pick k s ∷ choices ks ss
 abbrev pub without_user : ℕ → List Pick → List Pick
 without_user user js = filter (λ (j : Pick). not (j.user == user)) js
 
--- the stale picks of each core from the number i on, after a line by the user on the core: that core has none; each other keeps
--- its own and what it would have picked before the line, without those of the user, who has moved
+-- the stale picks of each core from the number i on, after a line by the user on the core: that
+-- core has none; each other keeps its own and what it would have picked before the line, without
+-- those of the user, who has moved
 abbrev pub stale_after : ℕ → ℕ → ℕ → List (Option Pick) → List (List Pick) → List (List Pick)
 stale_after core user i picks [] = []
 stale_after core user i [] (s ∷ ss) = cond (i == core) [] (without_user user s) ∷ stale_after core user (i + 1) [] ss

@@ -1,4 +1,5 @@
--- Runs of users: each turn enters what a core picks, or what it picked since its last line and whose user has not moved (own).
+-- Runs of users: each turn enters what a core picks, or what it picked since its last line and
+-- whose user has not moved (own).
 use Rattle.std.specs.Prelude.{ℕ, zero, suc, ◌≡◌, ◌<◌, ◌+◌, ◌⊎◌, true, cond, nat_lt, map, length, List, [], ◌∷◌, Option, Some, None, slice_get}
 use Rattle.std.specs.List.{Contains}
 use Rattle.mcs_types.specs.declared.id.ObjId.{ObjId}
@@ -19,8 +20,8 @@ use Rattle.mcs_turns.specs.declared.position.Position.{Position}
 use Rattle.mcs_turns.specs.declared.position.Pick.{Pick}
 use Rattle.mcs_turns.specs.Due.{due_by, begun, moved_past, stale_after, none_stale}
 
--- a thread, its entries in the order in which it gives them, and the number of the entry with which it goes on after the last;
--- none where the last is its last
+-- a thread, its entries in the order in which it gives them, and the number of the entry with which
+-- it goes on after the last; none where the last is its last
 pub record User : Type 0 where
   pub thread : ObjId
   pub entries : List Entry
@@ -43,7 +44,8 @@ pub record CanGive (users : List User) (g : Going) (core : CoreId) (i : ℕ) (u 
   pub left : due (log_of g.book) u p < length u.entries
   pub enters : may_enter (log_of g.book) core u.thread ≡ true
 
--- it is the due entry of a user who can give one, and whose thread goes before those of all others who can
+-- it is the due entry of a user who can give one, and whose thread goes before those of all others
+-- who can
 pub record IsBest (users : List User) (g : Going) (core : CoreId) (k : Pick) : Type 0 where
   pub user : User
   pub place : Position
@@ -77,7 +79,8 @@ put_at (suc i) x (y ∷ ys) = y ∷ put_at i x ys
 abbrev pub outcome : Book → Step → Outcome
 outcome b s = does (log_of b) s.core s.thread s.entry
 
--- the number of the entry behind one that is not the last: the next, and behind the last that with which the user goes on
+-- the number of the entry behind one that is not the last: the next, and behind the last that with
+-- which the user goes on
 abbrev pub again_by : Option ℕ → ℕ → ℕ → ℕ
 again_by None entries next = next
 again_by (Some first) entries next = cond (nat_lt next entries) next first

@@ -6,8 +6,8 @@ ghost use Rattle.mcs_book.specs.History.{IsLegal};
 ghost use Rattle.mcs_turns.specs.declared.position.Pick.{Pick};
 ghost use Rattle.mcs_turns.specs.Turns.{User, Going, AreApart, AreInRange, ArePicks, IsRun, IsTurn};
 
-/// The book of a run of users (at.0) after a boot without fault (at.1), by so many turns (at.2), is legal, where the numbers
-/// of all their entries are in their ranges.
+/// The book of a run of users (at.0) after a boot without fault (at.1), by so many turns (at.2), is
+/// legal, where the numbers of all their entries are in their ranges.
 pub fn run_legal()
     ghost at: { List User × Boot × ℕ × Going }
     requires boot { IsFaultless at.1 }
@@ -26,7 +26,8 @@ pub fn run_long()
     ensures stale { length at.3.stale ≡ at.1.cores }
 {}
 
-/// Where no two users (at.0) have one thread, the cores have one list of picks (at.2 and at.3) at a point of a run (at.1).
+/// Where no two users (at.0) have one thread, the cores have one list of picks (at.2 and at.3) at a
+/// point of a run (at.1).
 pub fn one_pick()
     ghost at: { List User × Going × List (Option Pick) × List (Option Pick) }
     requires apart { AreApart at.0 }
@@ -35,8 +36,8 @@ pub fn one_pick()
     ensures { at.2 ≡ at.3 }
 {}
 
-/// Where no two users (at.0) have one thread, an entry (at.2) that a core (at.1) enters at a point of a run (at.3) leads to one
-/// point (at.4 and at.5).
+/// Where no two users (at.0) have one thread, an entry (at.2) that a core (at.1) enters at a point
+/// of a run (at.3) leads to one point (at.4 and at.5).
 pub fn one_turn()
     ghost at: { List User × CoreId × Pick × Going × Going × Going }
     requires apart { AreApart at.0 }

@@ -4,14 +4,16 @@ ghost use Rattle.mcs_turns.specs.Due.{due_by, begun, moved_past, is_same, is_ahe
 
 use mcs_types::{Answer, Status};
 
-/// How far a user is: the number of its next entry, from 0, and that of its last one where the answer to it was Waits.
+/// How far a user is: the number of its next entry, from 0, and that of its last one where the
+/// answer to it was Waits.
 #[derive(Clone, Copy, Drop)]
 pub struct Position {
     pub next: usize,
     pub waited: Option<usize>,
 }
 
-/// An entry that a core picked: the number of the user, from 0, and that of the entry in the user's list, from 0.
+/// An entry that a core picked: the number of the user, from 0, and that of the entry in the user's
+/// list, from 0.
 #[derive(Clone, Copy, Drop, Default)]
 pub struct Pick {
     pub user: usize,
@@ -29,8 +31,8 @@ impl Position {
         }
     }
 
-    /// The number of the entry that the user gives now, by the status of its thread: the last one again where the thread
-    /// waited and was restarted, and else the next.
+    /// The number of the entry that the user gives now, by the status of its thread: the last one
+    /// again where the thread waited and was restarted, and else the next.
     pub fn due(&self, status: Option<Status>) -> usize
         ensures { result ≡ due_by status self.now }
     {

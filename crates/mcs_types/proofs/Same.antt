@@ -1,4 +1,5 @@
--- What a derived `==` of an enum tells: exactly whether two values are the same, where that of each field does.
+-- What a derived `==` of an enum tells: exactly whether two values are the same, where that of each
+-- field does.
 use Rattle.std.proofs.Common.{◌≡◌, Bool, true, false, ◌&&◌, ◌↔◌, IsTrue, List, [], ◌∷◌, ap, sym, subst, ◌∙◌, true≢false}
 use Rattle.std.specs.Cmp.{first_so, second_so}
 use mathlib.Core.Logic.{inl, inr}

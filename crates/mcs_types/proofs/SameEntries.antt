@@ -1,4 +1,5 @@
--- `==` of entries and of answers tells exactly whether they are the same: a line for each shape of fields.
+-- `==` of entries and of answers tells exactly whether they are the same: a line for each shape of
+-- fields.
 use Rattle.std.proofs.Common.{◌==◌, rules}
 use Rattle.std.specs.Cmp.{unsigned_Decides, first_so, second_so}
 use Rattle.std.specs.Cmp.Lexicographic.{pointwise, pointwise_decides}

@@ -1,4 +1,5 @@
--- Chains of reply objects, listed from the top: what stands in one, and what the ending of a debt leaves of it (own).
+-- Chains of reply objects, listed from the top: what stands in one, and what the ending of a debt
+-- leaves of it (own).
 use Rattle.std.specs.Prelude.{Bool, cond, Option, Some, None, List, [], ◌∷◌}
 use Rattle.std.specs.List.{list_any}
 use Rattle.mcs_types.specs.declared.id.ObjId.{ObjId}
@@ -20,7 +21,8 @@ abbrev pub above : ObjId → List ObjId → List ObjId
 above r [] = []
 above r (o ∷ os) = cond (same o r) [] (o ∷ above r os)
 
--- the chain after a debt of r ended in order: at the top it is taken off, else what stands above stays
+-- the chain after a debt of r ended in order: at the top it is taken off, else what stands above
+-- stays
 abbrev pub taken_off : ObjId → List ObjId → List ObjId
 taken_off r [] = []
 taken_off r (o ∷ os) = cond (same o r) os (o ∷ above r os)

@@ -15,7 +15,8 @@ begun_with t e = record { thread = t; entries = e ∷ []; again = None }
 abbrev pub with_more : User → Entry → User
 with_more u e = record u { entries = u.entries ++ e ∷ [] }
 
--- users with an entry more: at the end of its thread's list, or in a list of its own before the first one of a later thread
+-- users with an entry more: at the end of its thread's list, or in a list of its own before the
+-- first one of a later thread
 abbrev pub with_entry : List User → ObjId → Entry → List User
 with_entry [] t e = begun_with t e ∷ []
 with_entry (u ∷ us) t e =

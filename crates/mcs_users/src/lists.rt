@@ -8,8 +8,8 @@ use mcs_types::{Entry, ObjId, OutOfMemory};
 use std::alloc::Global;
 use std::marker::Model;
 
-/// A thread, its entries in the order in which it gives them, and the number of the entry, from 0, with which it goes on after
-/// the last; None where the last is its last.
+/// A thread, its entries in the order in which it gives them, and the number of the entry, from 0,
+/// with which it goes on after the last; None where the last is its last.
 #[derive(Drop)]
 pub struct UserList {
     pub thread: ObjId,
@@ -55,7 +55,8 @@ impl UserList {
         self.entries.iter().any(|entry| entry.changes_slots())
     }
 
-    /// Adds an entry to the end. OutOfMemory where a growth was refused: then the list is as it was.
+    /// Adds an entry to the end. OutOfMemory where a growth was refused: then the list is as it
+    /// was.
     fn push(&mut self, entry: Entry) -> Result<(), OutOfMemory>
         ensures added { OnOk result
             (self.new ≡ record self.old { entries = self.old.entries ++ entry ∷ [] }) }
@@ -65,7 +66,8 @@ impl UserList {
     }
 }
 
-/// Lists of entries, of which each is a thread's. Clauses see a list of threads, each with its entries.
+/// Lists of entries, of which each is a thread's. Clauses see a list of threads, each with its
+/// entries.
 #[derive(Drop)]
 pub(crate) struct Lists {
     alloc: Global,
@@ -158,7 +160,8 @@ impl Lists {
         }
     }
 
-    /// Adds an entry to the end of a thread's list. OutOfMemory where a growth was refused: then the lists are as they were.
+    /// Adds an entry to the end of a thread's list. OutOfMemory where a growth was refused: then
+    /// the lists are as they were.
     pub(crate) fn add(&mut self, thread: ObjId, entry: Entry) -> Result<(), OutOfMemory>
         ensures added { OnOk result (self.new ≡ with_entry self.old thread entry) }
         ensures unchanged { OnErr result (self.new ≡ self.old) }
@@ -174,8 +177,8 @@ impl Lists {
         }
     }
 
-    /// Lets the list in a place go on with an entry of it, by its number from 0. False where it has no such entry; then nothing
-    /// changed.
+    /// Lets the list in a place go on with an entry of it, by its number from 0. False where it has
+    /// no such entry; then nothing changed.
     pub(crate) fn repeat_at(&mut self, place: usize, number: usize) -> bool
         requires { place < length self.old }
         ensures yes { result ≡ true → (u : User) → slice_get self.old place ≡ Some u

@@ -75,7 +75,8 @@ impl Picks {
         self.picks.iter().any(|other| pick.is_same(*other))
     }
 
-    /// These and one more, if there is one and it is not among them, without those of a user, if there is one.
+    /// These and one more, if there is one and it is not among them, without those of a user, if
+    /// there is one.
     fn merged(
         &self,
         alloc: Global,
@@ -104,7 +105,8 @@ impl Picks {
         Ok(Picks { picks })
     }
 
-    /// These and one more, if there is one and it is not among them. OutOfMemory where memory was refused.
+    /// These and one more, if there is one and it is not among them. OutOfMemory where memory was
+    /// refused.
     pub fn with(&self, alloc: Global, pick: Option<Pick>) -> Result<Picks, OutOfMemory>
         ensures { IfOk result (λ p. p ≡ with_any_pick pick self.now) }
     {

@@ -9,7 +9,8 @@ use mcs_types::{Entry, ObjId, OutOfMemory};
 use std::alloc::Global;
 use std::marker::Model;
 
-/// The users of a script, no two of one thread. Clauses see a list of threads, each with its entries.
+/// The users of a script, no two of one thread. Clauses see a list of threads, each with its
+/// entries.
 #[derive(Drop)]
 pub struct Users {
     lists: Lists,
@@ -71,7 +72,8 @@ impl Users {
         self.lists().iter().any(|user| user.changes_slots())
     }
 
-    /// Adds an entry to the end of a thread's list. OutOfMemory where a growth was refused: then the lists are as they were.
+    /// Adds an entry to the end of a thread's list. OutOfMemory where a growth was refused: then
+    /// the lists are as they were.
     pub fn add(&mut self, thread: ObjId, entry: Entry) -> Result<(), OutOfMemory>
         ensures added { OnOk result (self.new ≡ with_entry self.old thread entry) }
         ensures unchanged { OnErr result (self.new ≡ self.old) }
@@ -79,8 +81,8 @@ impl Users {
         self.lists.add(thread, entry)
     }
 
-    /// Lets the list of a thread go on with an entry of it, by its number from 0. False where it has no such entry; then nothing
-    /// changed.
+    /// Lets the list of a thread go on with an entry of it, by its number from 0. False where it
+    /// has no such entry; then nothing changed.
     pub fn repeat(&mut self, thread: ObjId, number: usize) -> bool
         ensures yes { result ≡ true → (i : ℕ) (u : User)
             → position (λ v. same v.thread thread) self.old ≡ Some i → slice_get self.old i ≡ Some u

@@ -133,7 +133,8 @@ core-below b core t legal enters =
     } in
     (legal-cores longer after).0
 
--- a turn that the rule has enters what its core picks or picked before, by the one list of picks that there is
+-- a turn that the rule has enters what its core picks or picked before, by the one list of picks
+-- that there is
 pub turn-picked : (users : List User) (g h : Going) (picks : List (Option Pick)) (core : CoreId) (k : Pick) → AreApart users → ArePicks users g picks → IsTurn users core k g h → IsPicked g picks core k
 turn-picked users g h picks core k apart are turn = go turn.picked
   where

@@ -71,7 +71,8 @@ picked_of ks i = picked_by (slice_get ks i)
     picked_by None = None
     picked_by (Some k) = k
 
--- the stale picks of the core in a place after a line by a user on the core, where these were the picks
+-- the stale picks of the core in a place after a line by a user on the core, where these were the
+-- picks
 abbrev pub left_stale : ℕ → ℕ → List (Option Pick) → ℕ → List Pick → List Pick
 left_stale core user picks i stale = cond (i == core) [] (without_user user (with_any_pick (picked_of picks i) stale))
 

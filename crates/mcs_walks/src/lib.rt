@@ -1,5 +1,6 @@
-//! One way through the orders in which the entries of users can come: a kernel, how far each user is, and what each core may
-//! enter. Each turn is one that the rule of a turn has, so what is reached is a run (own).
+//! One way through the orders in which the entries of users can come: a kernel, how far each user
+//! is, and what each core may enter. Each turn is one that the rule of a turn has, so what is
+//! reached is a run (own).
 #![tactic(auto)]
 
 mod copies;

@@ -98,8 +98,8 @@ impl<L: Lines> Walk<L> {
         Ok(turns)
     }
 
-    /// The turns of all cores, where the cores have these picks: each that the rule has, and those of threads that may not enter.
-    /// OutOfMemory where memory was refused.
+    /// The turns of all cores, where the cores have these picks: each that the rule has, and those
+    /// of threads that may not enter. OutOfMemory where memory was refused.
     pub fn turns(
         &self,
         alloc: Global,

@@ -35,15 +35,16 @@ struct Offer {
     thread: ObjId,
 }
 
-/// A kernel, the positions of its users, and for each core what it picked since its last line and whose user has not moved.
-/// Clauses see how far a run is.
+/// A kernel, the positions of its users, and for each core what it picked since its last line and
+/// whose user has not moved. Clauses see how far a run is.
 pub struct Walk<L: Lines> {
     kernel: Kernel<L>,
     places: Vec<Position>,
     stale: Vec<Picks>,
 }
 
-// By hand, so that it is a function of its own: a derived drop would be proved anew wherever a walk is let go.
+// By hand, so that it is a function of its own: a derived drop would be proved anew wherever a walk
+// is let go.
 impl<L: Lines> Drop for Walk<L> {
     fn drop(self) {
         let Walk {
@@ -237,7 +238,8 @@ impl<L: Lines> Walk<L> {
         self.places.get(user).copied()
     }
 
-    /// What a core picked since its last line and whose user has not moved; none where there is no such core.
+    /// What a core picked since its last line and whose user has not moved; none where there is no
+    /// such core.
     pub fn stale(&self, core: CoreId) -> Option<&Picks>
         ensures { option_copied result ≡ slice_get self.now.stale core.0 }
     {
@@ -263,7 +265,8 @@ impl<L: Lines> Walk<L> {
         })
     }
 
-    /// The better of what a user can give and of the best that those before it can give on that core.
+    /// The better of what a user can give and of the best that those before it can give on that
+    /// core.
     #[tactic(auto, using(crate::proofs::Picking::is_first))]
     fn better(&self, users: &Users, user: usize, offer: Offer, best: Option<Pick>) -> Pick
         requires offer { IsOffer users.now self.now user (Some offer) }
@@ -301,7 +304,8 @@ impl<L: Lines> Walk<L> {
         }
     }
 
-    /// What each core picks: the due entry of the user who can give one and whose thread goes before those of all others who can.
+    /// What each core picks: the due entry of the user who can give one and whose thread goes
+    /// before those of all others who can.
     #[tactic(auto, using(crate::proofs::Picking::none_best, crate::proofs::Picking::best_picks))]
     pub fn picks(&self, alloc: Global, users: &Users) -> Result<Vec<Option<Pick>>, OutOfMemory>
         ensures { IfOk result (λ v. ArePicks users.now self.now v.items) }
@@ -313,7 +317,8 @@ impl<L: Lines> Walk<L> {
         Ok(picks)
     }
 
-    /// The stale picks of the core in a place after a line by a user on a core, where the cores had these picks before it.
+    /// The stale picks of the core in a place after a line by a user on a core, where the cores had
+    /// these picks before it.
     fn left_of(
         &self,
         alloc: Global,
@@ -335,7 +340,8 @@ impl<L: Lines> Walk<L> {
         }
     }
 
-    /// The stale picks of all cores after a line by a user on a core, where the cores had these picks before it.
+    /// The stale picks of all cores after a line by a user on a core, where the cores had these
+    /// picks before it.
     fn stale_after(
         &self,
         alloc: Global,
@@ -365,7 +371,8 @@ impl<L: Lines> Walk<L> {
         }
     }
 
-    /// Whether a turn enters what its core picks, where the cores have these picks, or what it picked before.
+    /// Whether a turn enters what its core picks, where the cores have these picks, or what it
+    /// picked before.
     fn may_take(&self, picks: &[Option<Pick>], turn: Turn) -> bool
         ensures yes { result ≡ true → IsPicked self.now picks.now turn.core turn.pick }
         ensures no { result ≡ false → IsPicked self.now picks.now turn.core turn.pick → ⊥ }
@@ -373,8 +380,9 @@ impl<L: Lines> Walk<L> {
         is_picked(picks, turn) || self.was_picked(turn)
     }
 
-    /// Lets in an entry of a user, which has this number in its list and whose thread may enter on the core of a turn, where the
-    /// cores have these picks, and moves on. After an error nothing has changed.
+    /// Lets in an entry of a user, which has this number in its list and whose thread may enter on
+    /// the core of a turn, where the cores have these picks, and moves on. After an error nothing
+    /// has changed.
     fn enter(
         &mut self,
         alloc: Global,
@@ -402,8 +410,9 @@ impl<L: Lines> Walk<L> {
         }
     }
 
-    /// Makes a turn, where the cores have these picks, and gives what it was answered; None where the rule has no such turn. Then,
-    /// and after an error, nothing has changed. BookFull where the book has 1,000,000 lines, OutOfMemory where memory was refused.
+    /// Makes a turn, where the cores have these picks, and gives what it was answered; None where
+    /// the rule has no such turn. Then, and after an error, nothing has changed. BookFull where the
+    /// book has 1,000,000 lines, OutOfMemory where memory was refused.
     pub fn turn(
         &mut self,
         alloc: Global,
@@ -448,7 +457,8 @@ impl<L: Lines> Walk<L> {
         (kernel, places)
     }
 
-    /// The same walk once more, which goes on by itself, in the memory of a spare one. OutOfMemory where memory was refused.
+    /// The same walk once more, which goes on by itself, in the memory of a spare one. OutOfMemory
+    /// where memory was refused.
     pub fn copy(&self, alloc: Global, spare: Option<Walk<L>>) -> Result<Walk<L>, OutOfMemory>
         ensures { IfOk result (λ w. w ≡ self.now) }
     {

@@ -1,4 +1,5 @@
--- What a look for an answer that is not of a pattern and one for an end without one come to together.
+-- What a look for an answer that is not of a pattern and one for an end without one come to
+-- together.
 use Rattle.std.specs.Prelude.{ℕ, ◌≡◌, ◌<◌, ◌+◌, ◌⊎◌, false, List, Option, Some, None, length, slice_get}
 use Rattle.std.proofs.Common.{ap, sym, ◌∙◌, inl, inr, arith}
 use Rattle.mcs_questions.specs.declared.asking.Event.{Event}

@@ -1,4 +1,5 @@
--- Patterns that name no message stand for lines whatever the numbers of messages; and mail names none.
+-- Patterns that name no message stand for lines whatever the numbers of messages; and mail names
+-- none.
 use Rattle.std.specs.Prelude.{ℕ, ◌≡◌, ◌-◌, ◌+◌, ◌/◌, ◌%◌, nat_lt, ◌||◌, ◌&&◌, ◌==◌, suc, zero, cond, Bool, true, false, map, List, [], ◌∷◌, ◌++◌, Option, length, take, decimal, bytes_eq, codes, if◌then◌else◌}
 use Rattle.std.specs.List.{list_any, flat_map}
 use Rattle.std.proofs.Common.{refl, ap, sym, ◌∙◌, subst, arith}
@@ -83,7 +84,8 @@ decimal-one : (n : ℕ) → words_of (109 ∷ decimal n) ≡ (109 ∷ decimal n)
 unfolding digits
 decimal-one n = words-whole (109 ∷ decimal n) (refl, onto-digits 64 n [] tt)
 
--- no name of a message is among the words: then they stand for lists that differ in such a name alike
+-- no name of a message is among the words: then they stand for lists that differ in such a name
+-- alike
 stands : (ws us vs : List (List ℕ)) (m n : ℕ) → NameNone ws → are_matched ws (us ++ (109 ∷ decimal m) ∷ vs) ≡ are_matched ws (us ++ (109 ∷ decimal n) ∷ vs)
 stands [] [] vs m n h = refl
 stands [] (u ∷ us) vs m n h = refl

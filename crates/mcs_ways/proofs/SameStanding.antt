@@ -25,7 +25,8 @@ status_tells = values_tell status_type.enum _ (assumption (last queue, last id))
 abbrev made : ObjId → Option Status → Bool → ℕ → Standing
 made t s e n = record { thread = t; status = s; has_entries = e; answered = n }
 
--- standings of two threads, of which one has entries and the other not, or that were answered other numbers, or whose statuses are another
+-- standings of two threads, of which one has entries and the other not, or that were answered other
+-- numbers, or whose statuses are another
 pub other_thread : (a b : Standing) → same a.thread b.thread ≡ false → (false ≡ true) ↔ (a ≡ b)
 other_thread a b other = (λ h. absurd cc, λ e. absurd (differ (sym (same-self a.thread) ∙ ap (λ (x : Standing). same a.thread x.thread) e ∙ other)))
   where

@@ -114,7 +114,8 @@ abbrev pub AreNotedMail : List User → Going → ℕ → Turn → List Reached 
 AreNotedMail users g place t [] old new = new ≡ old
 AreNotedMail users g place t (r ∷ rs) old new = (mid : Tables) × (IsNotedMail users g place t r old mid × AreNotedMail users g place t rs mid new)
 
--- by a turn that led to this state this answer reached a thread, and this entry of its user waited and comes to it
+-- by a turn that led to this state this answer reached a thread, and this entry of its user waited
+-- and comes to it
 pub record IsMailed (users : List User) (g : Going) (user number : ℕ) (t : Turn) (a : Answer) : Type 0 where
   pub index : ℕ
   pub reached : Reached
@@ -131,7 +132,8 @@ pub record IsAnswerOf (users : List User) (turns : List Made) (user number : ℕ
   pub turn : made.turn ≡ t.turn
   pub is : IsOwnAnswer made user number t.answer ⊎ IsMailed users made.going user number made.turn t.answer
 
--- each answer of an entry is that of a turn that was shown, and each answer of such a turn but Waits is among those of its entry
+-- each answer of an entry is that of a turn that was shown, and each answer of such a turn but
+-- Waits is among those of its entry
 pub record AreAnswersOf (users : List User) (turns : List Made) (tables : Tables) : Type 0 where
   pub entries : (user number : ℕ) → IsEntry users user number → (told : List Told) × (table_of tables user number ≡ Some told)
   pub each : (user number : ℕ) (told : List Told) (i : ℕ) (t : Told) → table_of tables user number ≡ Some told → slice_get told i ≡ Some t → IsAnswerOf users turns user number t

@@ -53,7 +53,8 @@ pub record IsEndOf (users : List User) (states : List Sight) (k : Kind) : Type 0
   pub place : sight.place ≡ k.place
   pub standing : standings users sight.going ≡ k.standing
 
--- each kind is that of a state that was shown and is over, no two are the same, and each such state is of one of them
+-- each kind is that of a state that was shown and is over, no two are the same, and each such state
+-- is of one of them
 pub record AreEndsOf (users : List User) (states : List Sight) (kinds : List Kind) : Type 0 where
   pub each : (i : ℕ) (k : Kind) → slice_get kinds i ≡ Some k → IsEndOf users states k
   pub all : (j : ℕ) (s : Sight) → slice_get states j ≡ Some s → s.is_over ≡ true → (i : ℕ) × IsKindAt kinds (standings users s.going) i

@@ -31,7 +31,8 @@ pub record IsEndFound {K : Type 0} (users : List User) (boot : Boot) (found : En
   pub over : IsOver users going
   pub standing : standings users going ≡ k.standing
 
--- each kind of ends is that of a state that was looked behind, no two are the same, and each such state that is over is of one of them
+-- each kind of ends is that of a state that was looked behind, no two are the same, and each such
+-- state that is over is of one of them
 pub record AreEndsFound {K : Type 0} (users : List User) (boot : Boot) (found : Entries K Turn) (done : ℕ) (kinds : List Kind) : Type 0 where
   pub each : (i : ℕ) (k : Kind) → slice_get kinds i ≡ Some k → IsEndFound users boot found done k
   pub all : (place : ℕ) (g : Going) → place < done → IsAt users boot found place g → IsOver users g → (i : ℕ) × IsKindAt kinds (standings users g) i
@@ -43,7 +44,8 @@ pub record IsAnswered (t : Turn) (h : Going) (i n : ℕ) (a : Answer) : Type 0 w
   pub number : t.pick.number ≡ n
   pub answer : last_answer h.book ≡ Some a
 
--- the rule has the turn of an answer from the state in its place: the entry was answered so, or waited, and this reached it
+-- the rule has the turn of an answer from the state in its place: the entry was answered so, or
+-- waited, and this reached it
 pub record IsAnswerFound {K : Type 0} (users : List User) (boot : Boot) (found : Entries K Turn) (done user number : ℕ) (t : Told) : Type 0 where
   pub within : t.place < done
   pub state : Going
@@ -52,15 +54,16 @@ pub record IsAnswerFound {K : Type 0} (users : List User) (boot : Boot) (found :
   pub turn : Leads users t.turn state going
   pub is : IsAnswered t.turn going user number t.answer ⊎ IsMailed users going user number t.turn t.answer
 
--- each entry has answers, each of them is that of a turn from a state that was looked behind, and what each such turn was answered
--- but Waits is among those of its entry
+-- each entry has answers, each of them is that of a turn from a state that was looked behind, and
+-- what each such turn was answered but Waits is among those of its entry
 pub record AreAnswersFound {K : Type 0} (users : List User) (boot : Boot) (found : Entries K Turn) (done : ℕ) (tables : Tables) : Type 0 where
   pub entries : (user number : ℕ) → IsEntry users user number → (told : List Told) × (table_of tables user number ≡ Some told)
   pub each : (user number : ℕ) (told : List Told) (i : ℕ) (t : Told) → table_of tables user number ≡ Some told → slice_get told i ≡ Some t → IsAnswerFound users boot found done user number t
   pub all : (place : ℕ) (t : Turn) (g h : Going) (a : Answer) (told : List Told) → place < done → IsAt users boot found place g → Leads users t g h → last_answer h.book ≡ Some a → (a ≡ answer.Waits → ⊥)
       → table_of tables t.pick.user t.pick.number ≡ Some told → IsAmong told a
 
--- what each turn from a state that was looked behind brought to an entry that waited is among the answers of that entry
+-- what each turn from a state that was looked behind brought to an entry that waited is among the
+-- answers of that entry
 abbrev pub IsMailFound : {K : Type 0} → List User → Boot → Entries K Turn → ℕ → Tables → Type 0
 IsMailFound users boot found done tables = (place : ℕ) (t : Turn) (g h : Going) (user number : ℕ) (a : Answer) (told : List Told) → place < done → IsAt users boot found place g → Leads users t g h → IsMailed users h user number t a
     → table_of tables user number ≡ Some told → IsAmong told a
@@ -75,12 +78,14 @@ pub record IsKeptOf (tables : Tables) (user number : ℕ) (a : Answer) : Type 0 
   pub at : table_of tables user number ≡ Some told
   pub among : IsAmong told a
 
--- what each turn of each run was answered, but Waits, and what it brought to an entry that waited, is among the answers of its entry
+-- what each turn of each run was answered, but Waits, and what it brought to an entry that waited,
+-- is among the answers of its entry
 pub record AreAnswersInRuns (users : List User) (boot : Boot) (tables : Tables) : Type 0 where
   pub own : (n : ℕ) (t : Turn) (g h : Going) (a : Answer) → IsRun users boot n g → Leads users t g h → last_answer h.book ≡ Some a → (a ≡ answer.Waits → ⊥) → IsKeptOf tables t.pick.user t.pick.number a
   pub mail : (n : ℕ) (t : Turn) (g h : Going) (user number : ℕ) (a : Answer) → IsRun users boot n g → Leads users t g h → IsMailed users h user number t a → IsKeptOf tables user number a
 
--- so many turns lead from states that were looked behind, and so many of these are over, as far as a count goes
+-- so many turns lead from states that were looked behind, and so many of these are over, as far as
+-- a count goes
 pub record AreCountedFound {K : Type 0} (users : List User) (boot : Boot) (found : Entries K Turn) (done : ℕ) (made over : ℕ) : Type 0 where
   pub shown : Shown
   pub are : AreShown users (beginning users boot) (paths_below found done) shown
@@ -132,7 +137,8 @@ pub record IsHeldInRuns (users : List User) (boot : Boot) (q : Asked) : Type 0 w
   pub states : (n : ℕ) (g : Going) → IsRun users boot n g → fails users q None g ≡ false
   pub turns : (n : ℕ) (t : Turn) (g h : Going) → IsRun users boot n g → Leads users t g h → fails users q (Some t) h ≡ false
 
--- no run in which there is an end, an answer or a failure like one that is kept has fewer turns than lead to that
+-- no run in which there is an end, an answer or a failure like one that is kept has fewer turns
+-- than lead to that
 pub record AreShortest {K : Type 0} (users : List User) (boot : Boot) (found : Entries K Turn) (questions : List AskedLine) (kinds : List Kind) (tables : Tables) (failed : List (Option Sighting)) : Type 0 where
   pub ends : (i n : ℕ) (k : Kind) (g : Going) → slice_get kinds i ≡ Some k → IsRun users boot n g → IsOver users g → standings users g ≡ k.standing → depth_at found k.place ≤ n
   pub answers : (user number i n : ℕ) (told : List Told) (t : Told) (u : Turn) (g h : Going) → table_of tables user number ≡ Some told → slice_get told i ≡ Some t → IsRun users boot n g → Leads users u g h

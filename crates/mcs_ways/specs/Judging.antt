@@ -29,7 +29,8 @@ use Rattle.mcs_questions.specs.Patterns.{is_match}
 abbrev pub place_of : List User → ObjId → Option ℕ
 place_of users thread = position (λ (u : User). same u.thread thread) users
 
--- how many entries a user at this position was answered for good, by the status of its thread: one that waits is not among them
+-- how many entries a user at this position was answered for good, by the status of its thread: one
+-- that waits is not among them
 abbrev pub answered_by : Option Status → Position → ℕ
 answered_by (Some status.Running) p = p.next
 answered_by st p = unwrap_or p.waited p.next
@@ -123,7 +124,8 @@ abbrev pub NameNone : List (List ℕ) → Type 0
 NameNone [] = Unit {0}
 NameNone (w ∷ ws) = ((n : ℕ) → bytes_eq w (109 ∷ decimal n) ≡ false) × NameNone ws
 
--- states in which the numbers of messages are told apart decide each question; others do, but for patterns that name a message
+-- states in which the numbers of messages are told apart decide each question; others do, but for
+-- patterns that name a message
 abbrev pub IsDecided : Bool → Asked → Type 0
 IsDecided false (asked.Never pattern) = NameNone (words_of pattern.items)
 IsDecided numbered q = Unit {0}

@@ -11,7 +11,8 @@ use Rattle.mcs_ways.specs.Firsts.{AreFirst}
 use Rattle.mcs_ways.specs.Judged.{AreJudged}
 use Rattle.mcs_ways.specs.Stuck.{AreNotedBy, Noted}
 
--- the ends, the answers and the mail of all that was shown, and where questions failed in it, each where it was shown first
+-- the ends, the answers and the mail of all that was shown, and where questions failed in it, each
+-- where it was shown first
 pub record IsKept (users : List User) (questions : List AskedLine) (shown : Shown) (kinds : List Kind) (tables : Tables) (failed : List (Option Sighting)) : Type 0 where
   pub ends : AreEndsOf users shown.states kinds
   pub answers : AreAnswersOf users shown.turns tables

@@ -21,7 +21,8 @@ abbrev pub taken : ObjId → Option Answer → Option Reached
 taken t None = None
 taken t (Some a) = Some (record { thread = t; answer = a })
 
--- what reaches a thread by a record: what it takes, what its call is answered, the word that it hears, or that it goes on
+-- what reaches a thread by a record: what it takes, what its call is answered, the word that it
+-- hears, or that it goes on
 abbrev pub reaching : Option Answer → Rec → Option Reached
 reaching got (rec.Took m t) = taken t got
 reaching got (rec.Paid r t message) = Some (record { thread = t; answer = answer.Got (record { 0 = 0 }) message })

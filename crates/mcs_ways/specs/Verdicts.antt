@@ -81,7 +81,8 @@ abbrev pub IsAlways : List Told → List ℕ → List Kind → Event → Option 
 IsAlways told pattern kinds e None = IsNotIn told pattern false (length told) × HasEach kinds e (length kinds)
 IsAlways told pattern kinds e (Some seen) = IsFoundIn told pattern false seen ⊎ IsWithout kinds e seen
 
--- what is told of a question, which failed first here, if it did, and whose user can't go on from there first, if it can't somewhere
+-- what is told of a question, which failed first here, if it did, and whose user can't go on from
+-- there first, if it can't somewhere
 abbrev pub IsVerdict : List User → List Kind → Tables → Option Sighting → Option Sighting → Asked → Verdict → Type 0
 IsVerdict users kinds tables f stuck (asked.Idle thread entries) v = v ≡ record { holds = true; seen = None }
 IsVerdict users kinds tables f stuck (asked.Again event) v = v ≡ record { holds = true; seen = None }

@@ -2,8 +2,8 @@
 //! is asked of them.
 //!
 //! ```text
-//! source ── reading ──> the boot, the users, the texts of their entries, the questions (`#!`) by mcs_questions
-//!     ── mcs_orders ──> each state and each turn, told to `watching`: ends, answers, and where a question fails
+//! source ── reading ──> the boot, the users, the texts of their entries, the questions (`#!`)
+//!     ── mcs_orders ──> each state and each turn, reported to `watching`: ends, answers, failures
 //!     ── report ──> text, and scripts of steps
 //! ```
 #![tactic(auto)]

@@ -1,5 +1,6 @@
-//! The program: `mcssim replay` reads a script of steps from standard input and writes its trace to standard output, and
-//! `mcssim run` a script of users, which it runs on a host thread for each core.
+//! The program: `mcssim replay` reads a script of steps from standard input and writes its trace to
+//! standard output, and `mcssim run` a script of users, which it runs on a host thread for each
+//! core.
 #![tactic(auto)]
 
 use clap::Error;

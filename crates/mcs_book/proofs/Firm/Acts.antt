@@ -1,4 +1,5 @@
--- The entering thread while it acts: it runs and is blocked on nothing, while others are answered and cancelled.
+-- The entering thread while it acts: it runs and is blocked on nothing, while others are answered
+-- and cancelled.
 use Rattle.std.specs.Prelude.{◌<◌, ◌^◌, Bool, true, false, ◌≡◌, ◌≢◌, ◌⊎◌, List, [], ◌∷◌, Option, Some, None, refl, unwrap_or}
 use Rattle.std.specs.Option.{option_or}
 use Rattle.std.proofs.Common.{sym, ◌∙◌, ap, inl, inr, subst}

@@ -34,7 +34,8 @@ use Rattle.mcs_book.proofs.SoundLogs.KeptLaws.{set-split, set-self, set-kept, ne
 use Rattle.mcs_book.proofs.Firm.Laws.{Firm, Strict, firm-sound, context-none, tied-bound, tied-none, homed_at-home, homed_at-none, topped-there}
 use Rattle.mcs_book.proofs.Firm.Cancel.{IsLeft, cancelled, Outlasts, outlasts-cancel, outlasts-cancel_all, all-cancelled, line-emptied, line-in, in-line, in-left, in-right, in-either}
 
--- a debt of r to x is ended, x goes on in some mode, and the context of the chain that r topped returns to x
+-- a debt of r to x is ended, x goes on in some mode, and the context of the chain that r topped
+-- returns to x
 abbrev ending : Log → Rec → ObjId → ObjId → Mode → Piece
 ending R e r x mode = say e then say (rec.Turns x mode) then give_back (topped_by R r) x
 

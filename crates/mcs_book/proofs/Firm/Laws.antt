@@ -1,4 +1,5 @@
--- Firm logs: each record was allowed, and some more held, which the records of legal books keep. What follows of those.
+-- Firm logs: each record was allowed, and some more held, which the records of legal books keep.
+-- What follows of those.
 use Rattle.std.specs.Prelude.{ℕ, ◌<◌, ◌^◌, Bool, true, false, cond, not, ◌&&◌, ◌||◌, ◌==◌, ◌≡◌, List, [], ◌∷◌, Option, Some, None, refl, find, is_none, is_some, option_and_then}
 use Rattle.std.specs.List.{list_any}
 use Rattle.std.proofs.Common.{sym, ◌∙◌, ap, inl, inr, arith, subst}
@@ -40,7 +41,8 @@ use Rattle.mcs_book.proofs.Queues.NoneBeside.{made-more}
 use Rattle.mcs_book.proofs.Threads.HoldingLaws.{find-alone, holder-context_of}
 use Rattle.mcs_book.proofs.SoundLogs.KeptLaws.{given-split, set-split, never-both, there-next, there-closed, owed-there, owed-one, bound-there, home-there, home-one}
 
--- what is kept of a record beside what is allowed: of roots, badges, waiters, and of messages that are taken
+-- what is kept of a record beside what is allowed: of roots, badges, waiters, and of messages that
+-- are taken
 abbrev pub Also : Log → Rec → Type 0
 Also R (rec.Made o (form.Runner maximum root)) = IsThere R kind.CNode root.obj
 Also R (rec.Slot c i (Some cap)) = cap.badge.0 < 2 ^ 64

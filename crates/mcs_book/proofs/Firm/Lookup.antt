@@ -1,4 +1,5 @@
--- What lookup finds in a firm log: a capability to an object that is there, and a slot of a CNode that is there.
+-- What lookup finds in a firm log: a capability to an object that is there, and a slot of a CNode
+-- that is there.
 use Rattle.std.specs.Prelude.{ℕ, zero, suc, ◌+◌, ◌*◌, ◌<◌, ◌^◌, Bool, true, false, cond, ◌≡◌, List, [], ◌∷◌, length, fold, Option, Some, None, Ok, Err, refl}
 use Rattle.std.proofs.Common.{sym, ◌∙◌, ap, arith, subst}
 use Rattle.std.proofs.Math.Nat.{pow-suc}

@@ -44,7 +44,8 @@ use Rattle.mcs_book.proofs.Firm.Lookup.{passed-map, passed-need, passed-needed, 
 use Rattle.mcs_book.proofs.Firm.Acts.{Acting, Since, since-ending, since-send, acting-pay, acting-signal}
 use Rattle.mcs_book.proofs.Firm.Messages.{firm-before, firm-receive_on, firm-wait_on, firm-sends, acting-sends, since-sends}
 
--- the log after the entering thread was woken is, but for its mode, the one on which its entry was checked
+-- the log after the entering thread was woken is, but for its mode, the one on which its entry was
+-- checked
 pub record Woken (S W : Log) : Type 0 where
   pub since : Since S W
   pub forms : (o : ObjId) → form_of W o ≡ form_of S o

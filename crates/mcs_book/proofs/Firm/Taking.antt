@@ -98,7 +98,8 @@ firm-signal n badge R there small firm = then-next Firm (say (rec.Raised n badge
     go (Some old) is = raised
     go None is = hears (tied_to R n) refl (queue_of_any R (tied_to R n)) refl (first_in R (Waiters n)) (λ x first. first-stands R (Waiters n) x first) is
 
--- a free reply object that is there comes to owe an idle thread, with the contexts that the two hold
+-- a free reply object that is there comes to owe an idle thread, with the contexts that the two
+-- hold
 firm-owe : (r x p : ObjId) (R : Log) → IsThere R kind.Reply r → IsFreeReply R r → IsThere R kind.Thread x → IsIdle R x → IsThere R kind.Thread p → Firm R → Firm (onto (owe r x p R) R)
 unfolding owe
 firm-owe r x p R there free caller idle taker firm = go (context_of R p) refl (context_of R x) refl
@@ -207,7 +208,8 @@ firm-handed R s p unsettled alive first at there idle firm = then-next Firm (too
     ends : (R' : Log) → Both R' → Firm (rec.Turns p Running ∷ R')
     ends R' h = (((h.1.there, h.1.idle), tt), h.0)
 
--- the message of a sender who stands in its queue is taken by t, who receives with a free reply object, or with none
+-- the message of a sender who stands in its queue is taken by t, who receives with a free reply
+-- object, or with none
 pub firm-taken : (R : Log) (s : Letter) (t : ObjId) (r : Option ObjId) → is_open R s.number ≡ true → TakesAlive R (rec.Took s.number t) → TakesFirst R (rec.Took s.number t) → queue_of R s.sender ≡ Some (Senders s.endpoint)
     → IsThere R kind.Thread t → ((d : ObjId) → r ≡ Some d → IsThere R kind.Reply d × IsFreeReply R d) → Firm R → Firm (onto (taken s t r R) R)
 unfolding taken
@@ -242,7 +244,8 @@ firm-taken R s t r unsettled alive first at taker free firm = then-next Firm (to
         (λ d is. let f : IsThere R kind.Reply d × IsFreeReply R d = free d is in (f.0, (f.1.0, λ y e at' with'. f.1.1 y e ((left-queue R s.sender y (Senders s.endpoint) (Receivers e) at').1) with')))
         (((there, idle), tt), firm2) firm2
 
--- what the records of a signal leave as it is, and those of a message that is sent with its sender's context and handed over
+-- what the records of a signal leave as it is, and those of a message that is sent with its
+-- sender's context and handed over
 pub record OutlastsSend (F : Log → Type 0) : Type 0 where
   pub raised : (R : Log) (n : ObjId) (badge : Badge) → F R → F (rec.Raised n badge ∷ R)
   pub heard : (R : Log) (x n : ObjId) (word : ℕ) → F R → F (rec.Heard x n word ∷ R)

@@ -1,4 +1,5 @@
--- What last reached a thread: a message taken, or an answer, stays there until something else reaches it.
+-- What last reached a thread: a message taken, or an answer, stays there until something else
+-- reaches it.
 use Rattle.std.specs.Prelude.{ℕ, Bool, true, false, cond, not, ◌≡◌, ◌≢◌, List, [], ◌∷◌, Option, Some, None, refl, unwrap_or, option_map}
 use Rattle.std.proofs.Common.{◌∙◌, ap}
 use Rattle.mcs_types.specs.Views.{Content}

@@ -1,5 +1,5 @@
--- In every legal book, after each line, a thread stands among the senders of an endpoint exactly where a message of it
--- is open there, and no thread has two.
+-- In every legal book, after each line, a thread stands among the senders of an endpoint exactly
+-- where a message of it is open there, and no thread has two.
 use Rattle.std.specs.Prelude.{ℕ, Bool, true, false, cond, not, ◌||◌, ◌==◌, ◌≡◌, ◌≢◌, ◌⊎◌, [], ◌∷◌, Option, Some, None, refl, find, is_some, unwrap_or}
 use Rattle.std.specs.List.{list_any}
 use Rattle.std.proofs.Common.{sym, ◌∙◌, ap, inl, inr, subst}
@@ -36,7 +36,8 @@ pub record Opened (R : Log) : Type 0 where
   pub open_queued : (x e : ObjId) (m : ℕ) → IsOpenOf R x e m → queue_of R x ≡ Some (Senders e)
   pub one : (x e e' : ObjId) (m n : ℕ) → IsOpenOf R x e m → IsOpenOf R x e' n → m ≡ n
 
--- a message that is open after a record which sends none was open before, and the record does not settle it
+-- a message that is open after a record which sends none was open before, and the record does not
+-- settle it
 pub open-back : (R : Log) (r : Rec) (x e : ObjId) (m : ℕ) → letters (r ∷ R) ≡ letters R → IsOpenOf (r ∷ R) x e m → (settles m r ≡ false) × IsOpenOf R x e m
 open-back R r x e m same_letters h =
     let same_letter : letter (r ∷ R) m ≡ letter R m = ap (λ ls. find (λ s. s.number == m) ls) same_letters in

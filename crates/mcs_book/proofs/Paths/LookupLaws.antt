@@ -1,4 +1,5 @@
--- Lookup is the path: what it finds and what it refuses, both ways, where each CNode on the way has an index of some bits.
+-- Lookup is the path: what it finds and what it refuses, both ways, where each CNode on the way has
+-- an index of some bits.
 use Rattle.std.specs.Prelude.{ℕ, zero, suc, ◌+◌, ◌≤◌, Bool, ◌≡◌, ◌≢◌, Option, Some, None, Ok, Err, List, [], ◌∷◌, ◌++◌, length, refl}
 use Rattle.std.proofs.Common.{sym, ◌∙◌, ap, append_assoc, subst, inl, inr, arith}
 use Rattle.std.proofs.lemmas.List.{length-append}

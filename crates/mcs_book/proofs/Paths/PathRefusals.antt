@@ -1,4 +1,5 @@
--- Lookup follows a complete path to its end, and is refused at the end of the longest path where none is complete.
+-- Lookup follows a complete path to its end, and is refused at the end of the longest path where
+-- none is complete.
 use Rattle.std.specs.Prelude.{ℕ, zero, suc, ◌+◌, ◌≤◌, Bool, true, false, cond, ◌≡◌, ◌≢◌, ◌⊎◌, Option, Some, None, Ok, Err, List, [], ◌∷◌, ◌++◌, length, refl}
 use Rattle.std.proofs.Common.{sym, ◌∙◌, ap, append_assoc, append-nil, subst, inl, inr, arith}
 use Rattle.std.proofs.lemmas.List.{length-append}

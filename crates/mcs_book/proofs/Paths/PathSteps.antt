@@ -1,4 +1,5 @@
--- Paths, a level at a time: what spells the same bits takes the same way, and lookup follows a complete path to its end.
+-- Paths, a level at a time: what spells the same bits takes the same way, and lookup follows a
+-- complete path to its end.
 use Rattle.std.specs.Prelude.{ℕ, ◌+◌, ◌≤◌, Bool, true, false, ◌&&◌, ◌≡◌, ◌≢◌, Option, Some, None, Ok, Err, List, [], ◌∷◌, ◌++◌, length, take, drop, refl, nat_le}
 use Rattle.std.specs.List.{starts_with}
 use Rattle.std.proofs.Common.{sym, ◌∙◌, ap, append_assoc, subst, inl, inr, arith}

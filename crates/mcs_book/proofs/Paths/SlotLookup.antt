@@ -1,4 +1,5 @@
--- Lookup of a slot by an index and a depth is the path, both ways: depth first, then the root, then the path's end.
+-- Lookup of a slot by an index and a depth is the path, both ways: depth first, then the root, then
+-- the path's end.
 use Rattle.std.specs.Prelude.{ℕ, ◌≤◌, Bool, true, false, ◌≡◌, ◌≢◌, ◌⊎◌, Option, Some, None, Ok, Err, List, [], ◌∷◌, refl}
 use Rattle.std.proofs.Common.{sym, ◌∙◌, ap, inl, inr, arith}
 use Rattle.mcs_types.specs.declared.id.ObjId.{ObjId}

@@ -41,7 +41,8 @@ pub record HasOpen (R : Log) (x : ObjId) : Type 0 where
   pub open_still : is_open R number ≡ true
   pub of_sender : sent.sender ≡ x
 
--- who stands in a queue was made, a queued sender has an open message, and nobody waits beside; the entering thread t was made
+-- who stands in a queue was made, a queued sender has an open message, and nobody waits beside; the
+-- entering thread t was made
 pub record Beside (t : ObjId) (R : Log) : Type 0 where
   pub ends : Each EndsOpen R
   pub made : (x : ObjId) (q : Queue) → queue_of R x ≡ Some q → (x.kind ≡ kind.Thread) × (was_made R x ≡ true)

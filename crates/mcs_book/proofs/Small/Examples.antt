@@ -148,7 +148,8 @@ joined_word = refl
 abbrev a_receiver : ℕ → ℕ → ℕ → Outcome
 a_receiver i k d = line Waits (rec.Joins (t i) (Receivers (e k)) (Some (r d)) ∷ [])
 
--- thread i calls thread j, which holds no context, with message m of a label; context k goes with the call
+-- thread i calls thread j, which holds no context, with message m of a label; context k goes with
+-- the call
 abbrev a_call : ℕ → ℕ → ℕ → ℕ → ℕ → Outcome
 a_call m i j d k = line Waits (rec.Sent (t i) (e d) how.Call (badge 0) (message (m + 1)) ∷ rec.Took m (t j) ∷ rec.Parts (t j) (Receivers (e d)) ∷ rec.Owes (r d) (t i) (Some (s k)) ∷ rec.Holds (s k) (Some (t j)) ∷ rec.Turns (t j) Running ∷ [])
 
@@ -286,7 +287,8 @@ pub last_cnode : outcomes ((book_of nested_cnodes (by 1 (do_.DeleteCap (at_depth
 unfolding computing
 last_cnode = refl
 
--- a context that is homed at a notification goes to its hearer, who gives it up as it waits again: a plain message wakes without it
+-- a context that is homed at a notification goes to its hearer, who gives it up as it waits again:
+-- a plain message wakes without it
 pub homed_context : outcomes_of (by 2 (do_.BindNtfn 12 4) ∷ by 2 (do_.Recv 2 8) ∷ by 5 (do_.UnbindCtx 22) ∷ by 5 (do_.BindCtx 22 4) ∷ by 1 (do_.Signal 7) ∷ by 2 (do_.Recv 2 8)
     ∷ by 5 (do_.BindCtx 22 12) ∷ by 1 (do_.Send 1 (message 1)) ∷ by 2 (do_.Recv 2 8) ∷ by 5 (do_.UnbindCtx 22) ∷ []) ≡
     line Done (rec.Tied (t 2) (Some (n 1)) ∷ [])

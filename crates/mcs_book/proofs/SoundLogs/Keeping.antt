@@ -1,5 +1,5 @@
--- What each piece keeps, if the steps that belong together do. A step is one record aside, or the records of a
--- message or a line that come together.
+-- What each piece keeps, if the steps that belong together do. A step is one record aside, or the
+-- records of a message or a line that come together.
 use Rattle.std.specs.Prelude.{ℕ, Bool, true, false, cond, ◌≡◌, List, [], ◌∷◌, ◌++◌, Option, Some, None, refl}
 use Rattle.mcs_types.specs.Views.{Content}
 use Rattle.mcs_types.specs.declared.id.ObjId.{ObjId}

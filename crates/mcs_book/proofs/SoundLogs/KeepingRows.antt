@@ -42,7 +42,8 @@ use Rattle.mcs_book.specs.Table.{row, wakes, outcome_of, does}
 use Rattle.mcs_book.proofs.Books.Checking.{OnPassed, passed-ok, passed-err, passed-after, passed-bind, passed-next}
 use Rattle.mcs_book.proofs.SoundLogs.Keeping.{sent_record, onto-append, Steps, Keeps, keeps-nothing, then-next, keeps-then, keeps-any, keeps-if, keeps-say, keeps-handed, keeps-taken, keeps-pay, keeps-signal, keeps-cancel, keeps-cancel_all, keeps-unbind, keeps-destroy}
 
--- steps of the entering thread t: those that keep J, and those that end its entry, after which I holds
+-- steps of the entering thread t: those that keep J, and those that end its entry, after which I
+-- holds
 pub record Entering (t : ObjId) (J I : Log → Type 0) : Type 0 where
   pub steps : Steps J
   pub ends : (R : Log) → J R → I R

@@ -1,5 +1,5 @@
--- What holds after each record of a sound log: of who stands, of who is owed, of who holds a context, of bindings, and
--- of slots.
+-- What holds after each record of a sound log: of who stands, of who is owed, of who holds a
+-- context, of bindings, and of slots.
 use Rattle.std.specs.Prelude.{ℕ, Bool, true, false, not, ◌&&◌, ◌||◌, ◌==◌, ◌≡◌, ◌≢◌, ◌⊎◌, [], ◌∷◌, Option, Some, None, refl, unwrap_or}
 use Rattle.std.proofs.Common.{sym, ◌∙◌, ap, inl, inr, subst}
 use Rattle.mcs_types.specs.declared.id.ObjId.{ObjId}

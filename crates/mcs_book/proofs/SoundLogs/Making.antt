@@ -1,4 +1,5 @@
--- Which records each piece makes. Messages, answers and words stand in few pieces, and so do beginnings and ends of objects.
+-- Which records each piece makes. Messages, answers and words stand in few pieces, and so do
+-- beginnings and ends of objects.
 use Rattle.std.specs.Prelude.{ℕ, Bool, true, false, cond, ◌≡◌, List, [], ◌∷◌, ◌++◌, Option, Some, None, refl}
 use Rattle.mcs_types.specs.declared.id.ObjId.{ObjId}
 use Rattle.mcs_types.specs.declared.id.Badge.{Badge}
@@ -35,7 +36,8 @@ Passes q (r ∷ made) = (q r ≡ true) × Passes q made
 pub record Makes (q : Rec → Bool) (p : Piece) : Type 0 where
   pub passes : (R : Log) → Passes q (p R)
 
--- whether a record is no message, answer or word, joins no queue, owes nobody, fills no slot, and neither makes nor closes an object
+-- whether a record is no message, answer or word, joins no queue, owes nobody, fills no slot, and
+-- neither makes nor closes an object
 abbrev pub is_plain : Rec → Bool
 is_plain (rec.Made o form) = false
 is_plain (rec.Closed o) = false
@@ -48,7 +50,8 @@ is_plain (rec.Paid r x message) = false
 is_plain (rec.Heard x n word) = false
 is_plain _ = true
 
--- whether a record is no message that is sent or taken and no answer, joins no queue, owes nobody, fills no slot, and neither makes nor closes an object
+-- whether a record is no message that is sent or taken and no answer, joins no queue, owes nobody,
+-- fills no slot, and neither makes nor closes an object
 abbrev pub is_quiet : Rec → Bool
 is_quiet (rec.Sent x e mode badge message) = false
 is_quiet (rec.Took m p) = false

@@ -1,4 +1,5 @@
--- What must hold before a record so that whoever stands in a queue or is owed an answer is there, and what follows of a log of such records.
+-- What must hold before a record so that whoever stands in a queue or is owed an answer is there,
+-- and what follows of a log of such records.
 use Rattle.std.specs.Prelude.{ℕ, ◌≤◌, ◌==◌, Bool, true, false, cond, not, ◌&&◌, ◌||◌, ◌≡◌, ◌≢◌, List, [], ◌∷◌, Some, None, refl, find, unwrap_or}
 use Rattle.std.proofs.Common.{sym, ◌∙◌, ap, inl, inr, subst}
 use Rattle.mcs_types.specs.declared.id.ObjId.{ObjId}
@@ -30,10 +31,10 @@ use Rattle.mcs_book.proofs.SoundLogs.Making.{Passes, is_plain}
 abbrev pub IsReplyMade : Log → ObjId → Type 0
 IsReplyMade R r = (r.kind ≡ kind.Reply) × (was_made R r ≡ true)
 
--- who joins a queue is a thread that is there and is owed nothing, with a reply object that was made;
--- who comes to be owed is one that stands in no queue and is owed nothing;
--- a thread that is closed stands in no queue and is owed nothing;
--- a slot holds a capability to what was made, a CNode's index has some bits, and a thread's root is a CNode that was made
+-- who joins a queue is a thread that is there and is owed nothing, with a reply object that was
+-- made; who comes to be owed is one that stands in no queue and is owed nothing; a thread that is
+-- closed stands in no queue and is owed nothing; a slot holds a capability to what was made, a
+-- CNode's index has some bits, and a thread's root is a CNode that was made
 abbrev pub Safe : Log → Rec → Type 0
 Safe R (rec.Joins t q reply) = (t.kind ≡ kind.Thread) × (is_alive R t ≡ true) × IsOwedNothing R t × ((r : ObjId) → reply ≡ Some r → IsReplyMade R r)
 Safe R (rec.Owes r x c) = IsReplyMade R r × (x.kind ≡ kind.Thread) × (is_alive R x ≡ true) × (queue_of R x ≡ None) × IsOwedNothing R x

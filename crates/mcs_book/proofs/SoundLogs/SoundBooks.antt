@@ -1,4 +1,5 @@
--- Every legal book is sound: each record was allowed when it was made. And the laws of single records that follow.
+-- Every legal book is sound: each record was allowed when it was made. And the laws of single
+-- records that follow.
 use Rattle.std.specs.Prelude.{List, [], ◌∷◌}
 use Rattle.std.proofs.Common.{◌∙◌, ap}
 use Rattle.mcs_types.specs.declared.record.Rec.{Rec}

@@ -21,7 +21,8 @@ use Rattle.mcs_book.proofs.Queues.Standings.{safe-begins, safe-boot, safe-past}
 abbrev pub ArePaidWhole : Log → Line → Type 0
 ArePaidWhole R l = EachOf (IsPaidWhole (onto l.records R) l) R l.records
 
--- the messages and the answers of a line are whole, and contexts return where the log after it is sound
+-- the messages and the answers of a line are whole, and contexts return where the log after it is
+-- sound
 abbrev IsAllWhole : Log → Line → Type 0
 IsAllWhole R l = IsWholeLine R l × ArePaidWhole R l × (Sound (onto l.records R) → EachOf (GivesBack (onto l.records R)) R l.records)
 
@@ -30,7 +31,8 @@ each-before : (P : Log → Rec → Type 0) (R : Log) (made : List Rec) → Each 
 each-before P R [] h = h
 each-before P R (r ∷ made) h = (each-before P (r ∷ R) made h).1
 
--- what holds where the records so far were allowed holds of each record of a line after which the log is sound
+-- what holds where the records so far were allowed holds of each record of a line after which the
+-- log is sound
 each-allowed : (P : Log → Rec → Type 0) (R : Log) (made : List Rec) → Sound (onto made R) → EachOf (λ S r. Sound S → P S r) R made → EachOf P R made
 each-allowed P R [] sound h = tt
 each-allowed P R (r ∷ made) sound h = (h.0 (each-before Allowed R (r ∷ made) sound), each-allowed P (r ∷ R) made sound h.1)
@@ -87,7 +89,8 @@ all-whole b legal = lines-whole (boot_log b.boot.lines) b.lines (safe-boot b.boo
 pub legal-whole : (b : Book) → IsLegal b → EachLine IsWholeLine b
 legal-whole b legal = each_line-map IsAllWhole IsWholeLine (λ R l h. h.0) (boot_log b.boot.lines) b.lines (all-whole b legal)
 
--- the law: contexts return with the answers of a legal book whose log is sound, and the answers are whole
+-- the law: contexts return with the answers of a legal book whose log is sound, and the answers are
+-- whole
 pub sound-answers_whole : (b : Book) → IsLegal b → Sound (log_of b) → EachLine AnswersWhole b
 sound-answers_whole b legal sound = lines-answers (boot_log b.boot.lines) b.lines sound (all-whole b legal)
   where

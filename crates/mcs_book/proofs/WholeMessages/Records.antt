@@ -1,4 +1,5 @@
--- Whole messages and answers, a piece at a time: what is sent, taken and paid, and what reaches its taker or caller.
+-- Whole messages and answers, a piece at a time: what is sent, taken and paid, and what reaches its
+-- taker or caller.
 use Rattle.std.specs.Prelude.{ℕ, Bool, true, false, ◌≡◌, ◌≢◌, List, [], ◌∷◌, ◌++◌, Option, Some, None, refl, unwrap_or}
 use Rattle.std.proofs.Common.{sym, ◌∙◌, ap, subst}
 use Rattle.mcs_types.specs.Views.{Content}
@@ -66,8 +67,8 @@ abbrev pub MadeOn : CoreId → Rec → Type 0
 MadeOn core (rec.Made o form) = (c : CoreId) → form ≡ OnCore c → c ≡ core
 MadeOn core _ = Unit {0}
 
--- what is said of the records of a step with its answer: R stands before its line, and `after` once it is done;
--- what returns is said where the records so far were allowed
+-- what is said of the records of a step with its answer: R stands before its line, and `after` once
+-- it is done; what returns is said where the records so far were allowed
 abbrev pub IsWhole : Log → Log → Step → Answer → Log → Rec → Type 0
 IsWhole R after s a S r =
     let l : Line = record { step = s; answer = a; records = [] } in
@@ -97,8 +98,8 @@ quiet-all R after s a S made h = each-passes (IsWhole R after s a) is_quiet (qui
 pub plain-all : (R after : Log) (s : Step) (a : Answer) (S : Log) (made : List Rec) → Passes is_plain made → AreWhole R after s a S made
 plain-all R after s a S made h = quiet-all R after s a S made (passes-map is_plain is_quiet plain-quiet made h)
 
--- the entering thread t is there, stands in no queue and is owed nothing; all records so far are safe,
--- and what the slots hold after R was made
+-- the entering thread t is there, stands in no queue and is owed nothing; all records so far are
+-- safe, and what the slots hold after R was made
 pub record Begins (R : Log) (t : ObjId) (S : Log) : Type 0 where
   pub thread : t.kind ≡ kind.Thread
   pub alive : is_alive S t ≡ true
@@ -240,7 +241,8 @@ sends-whole R s cap mode message a alone h ha = record { whole = λ S b. go S b 
         = λ o c named. (safe-named S p o b.safe named, b.thread, b.alive, none-plain (rec.Took l.number p ∷ sent_record l ∷ S) s.thread (rec.Parts p (Receivers cap.obj)) refl b.stands_none, b.owed_nothing) in
         (sent-whole R (onto (handed l p (sent_record l ∷ S)) (sent_record l ∷ S)) s a S cap mode message h, handed-whole R (onto (handed l p (sent_record l ∷ S)) (sent_record l ∷ S)) s a (sent_record l ∷ S) l p [] there.alive (begins-other R s.thread S p (Receivers cap.obj) b at) owes tt refl)
 
--- a message is sent with its sender's context before more is done, which reaches nobody but the sender
+-- a message is sent with its sender's context before more is done, which reaches nobody but the
+-- sender
 pub sends-first : (R after : Log) (s : Step) (cap : Cap) (message : Content) (done nobody a : Answer) (S : Log) (more : List Rec) → IsSending R s cap message → Begins R s.thread S → ((x : ObjId) → x ≢ s.thread → Passes (is_still x) more)
     → let made : List Rec = (sends (letter_over s.thread cap how.Give message) done (answers nobody nothing) S).records in after ≡ onto more (onto made S) → AreWhole R after s a S made
 unfolding sends sends_to ◌then◌

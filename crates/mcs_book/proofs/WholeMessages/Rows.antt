@@ -119,12 +119,14 @@ pay-none_stands R t S r message x b owed =
     go None is = is
     go (Some q) is = absurd ((safe-standing S x q b.safe is).owed_nothing r owed)
 
--- what comes after an answer: it reaches nobody but the entering thread, and any other who stands in no queue keeps its context
+-- what comes after an answer: it reaches nobody but the entering thread, and any other who stands
+-- in no queue keeps its context
 pub record Follows (t : ObjId) (S : Log) (more : List Rec) : Type 0 where
   pub still : (x : ObjId) → x ≢ t → Passes (is_still x) more
   pub holders : (c y : ObjId) → y ≢ t → holder_of S c ≡ Some y → queue_of S y ≡ None → holder_of (onto more S) c ≡ Some y
 
--- an answer is whole, where nothing more reaches its caller; and the context that it brought returns
+-- an answer is whole, where nothing more reaches its caller; and the context that it brought
+-- returns
 pay-whole : (R after : Log) (s : Step) (a : Answer) (S : Log) (r : ObjId) (message : Content) (more : List Rec) → message_of s.entry ≡ Some message → Begins R s.thread S
     → Follows s.thread (onto (pay r message S) S) more → after ≡ onto more (onto (pay r message S) S) → AreWhole R after s a S (pay r message S)
 pay-whole R after s a S r message more carries b f is = go (owed_by S r) refl
@@ -371,7 +373,8 @@ begins-quiets : (R : Log) (t : ObjId) (S : Log) (made : List Rec) → Passes is_
 begins-quiets R t S [] h b = b
 begins-quiets R t S (r ∷ made) h b = begins-quiets R t (r ∷ S) made h.1 (begins-quiet R t S r h.0 b)
 
--- what is sent before a receive: it is whole where what comes after it reaches nobody else, and the entering thread goes on
+-- what is sent before a receive: it is whole where what comes after it reaches nobody else, and the
+-- entering thread goes on
 pub record WholeFirst (R : Log) (s : Step) (p : Piece) : Type 0 where
   pub whole : (S after : Log) (a : Answer) (more : List Rec) → Begins R s.thread S → Follows s.thread (onto (p S) S) more → after ≡ onto more (onto (p S) S) → AreWhole R after s a S (p S)
   pub begins : (S : Log) → Begins R s.thread S → Begins R s.thread (onto (p S) S)

@@ -1,4 +1,5 @@
--- What each entry sends, takes and answers is whole, where those who stand in their queues or are owed an answer are there.
+-- What each entry sends, takes and answers is whole, where those who stand in their queues or are
+-- owed an answer are there.
 use Rattle.std.specs.Prelude.{ℕ, Bool, true, false, ◌||◌, ◌≡◌, ◌≢◌, is_none, List, ◌∷◌, ◌++◌, Option, Some, None, Ok, Err, refl}
 use Rattle.std.proofs.Common.{sym, ◌∙◌, ap, subst}
 use Rattle.mcs_types.specs.Views.{Content}

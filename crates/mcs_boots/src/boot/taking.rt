@@ -80,7 +80,8 @@ fn takes_context<W: Waiting>(state: &mut State<W>, thread: ObjId, context: Optio
     }
 }
 
-/// Makes the records of a line, which nothing is wrong with; where memory is refused the state is as it was.
+/// Makes the records of a line, which nothing is wrong with; where memory is refused the state is
+/// as it was.
 fn takes_records<W: Waiting>(state: &mut State<W>, line: &BootLine) -> Result<(), OutOfMemory>
     requires cores { state.old.book.boot.cores ≤ core_limit }
     requires faultless { IsTrue (is_ok

@@ -1,4 +1,5 @@
-//! Questions to the kernel: who stands where, who holds and owes what, and what capabilities name. None takes memory.
+//! Questions to the kernel: who stands where, who holds and owes what, and what capabilities name.
+//! None takes memory.
 ghost use Rattle.std.specs.Prelude.{◌≡◌, option_copied, option_map};
 ghost use Rattle.mcs_book.specs.Logs.{counted};
 ghost use Rattle.mcs_book.specs.Objects.{form_of, is_alive, makes_kind};
@@ -62,7 +63,8 @@ impl<L: Lines> Kernel<L> {
         self.state.priority_of(thread)
     }
 
-    /// The threads in a queue, first to last; none where its object is not there (manual: Message Passing).
+    /// The threads in a queue, first to last; none where its object is not there (manual: Message
+    /// Passing).
     pub fn queue(&self, queue: Queue) -> Queued<'_, ObjectQueues<L>>
         ensures { behind result.left (so_far result.state.now) result.at
             ≡ queued_in (log_of self.now) queue }
@@ -70,7 +72,8 @@ impl<L: Lines> Kernel<L> {
         self.state.queued(queue)
     }
 
-    /// The message of a thread that nobody has received; None where there is none (manual: Message Passing).
+    /// The message of a thread that nobody has received; None where there is none (manual: Message
+    /// Passing).
     pub fn open(&self, thread: ObjId) -> Option<&Letter>
         ensures { option_copied result ≡ open_of (log_of self.now) thread }
     {
@@ -105,29 +108,32 @@ impl<L: Lines> Kernel<L> {
         self.state.home_of(context)
     }
 
-    /// The reply objects in the chain of a context, from the top; none where the context is not there (own).
+    /// The reply objects in the chain of a context, from the top; none where the context is not
+    /// there (own).
     pub fn chain(&self, context: ObjId) -> Chain<'_>
         ensures { rest_of result ≡ chain_of (log_of self.now) context }
     {
         self.state.chain(context)
     }
 
-    /// The caller that a reply object owes an answer; None where it owes nobody (manual: Message Passing).
+    /// The caller that a reply object owes an answer; None where it owes nobody (manual: Message
+    /// Passing).
     pub fn owed(&self, reply: ObjId) -> Option<ObjId>
         ensures { result ≡ owed_by (log_of self.now) reply }
     {
         self.state.owed(reply)
     }
 
-    /// The thread that receives with a reply object; None where none does (manual: Message Passing).
+    /// The thread that receives with a reply object; None where none does (manual: Message
+    /// Passing).
     pub fn receiver(&self, reply: ObjId) -> Option<ObjId>
         ensures { result ≡ receiver_with (log_of self.now) reply }
     {
         self.state.receiver_with(reply)
     }
 
-    /// The pending word of a notification; None where no badge was raised since it was heard last, and where the notification is
-    /// not there (manual: Notifications).
+    /// The pending word of a notification; None where no badge was raised since it was heard last,
+    /// and where the notification is not there (manual: Notifications).
     pub fn word(&self, notification: ObjId) -> Option<u64>
         ensures { result ≡ word_of (log_of self.now) notification }
     {
@@ -141,7 +147,8 @@ impl<L: Lines> Kernel<L> {
         self.state.bound_of(thread)
     }
 
-    /// The thread to which a notification is bound; None where it is bound to none (manual: Notifications).
+    /// The thread to which a notification is bound; None where it is bound to none (manual:
+    /// Notifications).
     pub fn tied(&self, notification: ObjId) -> Option<ObjId>
         ensures { result ≡ tied_to (log_of self.now) notification }
     {
@@ -155,30 +162,34 @@ impl<L: Lines> Kernel<L> {
         self.state.radix(cnode)
     }
 
-    /// The capability in a slot; None where the slot is empty or not there (manual: Capability Spaces).
+    /// The capability in a slot; None where the slot is empty or not there (manual: Capability
+    /// Spaces).
     pub fn capability(&self, cnode: ObjId, index: u8) -> Option<Cap>
         ensures { result ≡ slot (log_of self.now) cnode index }
     {
         self.state.slot(SlotId { cnode, index })
     }
 
-    /// What an address of a thread names: its capability, or Missing, GuardMismatch or DepthMismatch where it names none; None
-    /// where the thread is not there (manual: Capability Spaces).
+    /// What an address of a thread names: its capability, or Missing, GuardMismatch or
+    /// DepthMismatch where it names none; None where the thread is not there (manual: Capability
+    /// Spaces).
     pub fn named(&self, thread: ObjId, address: u64) -> Option<Result<Cap, Refusal>>
         ensures { result ≡ named_for (log_of self.now) thread address }
     {
         self.state.named(thread, address)
     }
 
-    /// The slot that a place of a thread names: its CNode and index, or Range, GuardMismatch or DepthMismatch where it names none;
-    /// None where the thread is not there (manual: Capability Spaces).
+    /// The slot that a place of a thread names: its CNode and index, or Range, GuardMismatch or
+    /// DepthMismatch where it names none; None where the thread is not there (manual: Capability
+    /// Spaces).
     pub fn placed(&self, thread: ObjId, place: Place) -> Option<Result<SlotId, Refusal>>
         ensures { option_map (λ r. named_by r) result ≡ placed_for (log_of self.now) thread place }
     {
         self.state.placed(thread, place)
     }
 
-    /// The capability to the root of a thread's space; None where the thread is not there (manual: Capability Spaces).
+    /// The capability to the root of a thread's space; None where the thread is not there (manual:
+    /// Capability Spaces).
     pub fn root(&self, thread: ObjId) -> Option<Cap>
         ensures { result ≡ root_said (log_of self.now) thread }
     {

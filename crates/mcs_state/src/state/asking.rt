@@ -1,4 +1,5 @@
-//! Questions to the tables of what may not be there: each answers its definition over all records so far.
+//! Questions to the tables of what may not be there: each answers its definition over all records
+//! so far.
 ghost use Rattle.std.specs.Prelude.{◌≡◌, option_copied, option_map};
 ghost use Rattle.mcs_book.specs.Objects.{is_alive};
 ghost use Rattle.mcs_book.specs.Queues.{queued_in};
@@ -34,7 +35,8 @@ impl<W: Waiting> State<W> {
         }
     }
 
-    /// The reply objects in the chain of a context, from the top; none where the context is not there (own).
+    /// The reply objects in the chain of a context, from the top; none where the context is not
+    /// there (own).
     pub fn chain(&self, context: ObjId) -> Chain<'_>
         ensures { rest_of result ≡ chain_of (so_far self.now) context }
     {
@@ -74,8 +76,8 @@ impl<W: Waiting> State<W> {
         }
     }
 
-    /// The pending word of a notification; None where no badge was raised since it was heard last, and where the notification is
-    /// not there (manual: Notifications).
+    /// The pending word of a notification; None where no badge was raised since it was heard last,
+    /// and where the notification is not there (manual: Notifications).
     pub fn word(&self, notification: ObjId) -> Option<u64>
         ensures { result ≡ word_of (so_far self.now) notification }
     {
@@ -83,7 +85,8 @@ impl<W: Waiting> State<W> {
         self.notifications.word(notification)
     }
 
-    /// What an address of a thread names; None where the thread is not there (manual: Capability Spaces).
+    /// What an address of a thread names; None where the thread is not there (manual: Capability
+    /// Spaces).
     pub fn named(&self, thread: ObjId, address: u64) -> Option<Result<Cap, Refusal>>
         ensures { result ≡ named_for (so_far self.now) thread address }
     {
@@ -93,7 +96,8 @@ impl<W: Waiting> State<W> {
         }
     }
 
-    /// The slot that a place of a thread names; None where the thread is not there (manual: Capability Spaces).
+    /// The slot that a place of a thread names; None where the thread is not there (manual:
+    /// Capability Spaces).
     pub fn placed(&self, thread: ObjId, place: Place) -> Option<Result<SlotId, Refusal>>
         ensures { option_map (λ r. named_by r) result ≡ placed_for (so_far self.now) thread place }
     {
@@ -103,7 +107,8 @@ impl<W: Waiting> State<W> {
         }
     }
 
-    /// The capability to the root of a thread's space; None where the thread is not there (manual: Capability Spaces).
+    /// The capability to the root of a thread's space; None where the thread is not there (manual:
+    /// Capability Spaces).
     pub fn root_of(&self, thread: ObjId) -> Option<Cap>
         ensures { result ≡ root_said (so_far self.now) thread }
     {

@@ -11,7 +11,8 @@ use mcs_notifications::Notifications;
 use mcs_object_queues::Waiting;
 use mcs_types::{Kind, ObjId, Rec};
 
-/// A notification that is there ends, to which no thread is bound and at which no context is homed; its word is gone.
+/// A notification that is there ends, to which no thread is bound and at which no context is homed;
+/// its word is gone.
 fn end_notification(notifications: &mut Notifications, notification: ObjId)
     requires there { is_there notifications.old notification ≡ true }
     requires unbound { thread_in notifications.old notification ≡ None }

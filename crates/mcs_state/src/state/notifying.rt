@@ -29,7 +29,8 @@ fn tie(threads: &mut Threads, thread: ObjId, notification: Option<ObjId>)
     };
 }
 
-/// A notification that is there is bound to a thread now; or, where none is named, the one to which it was bound is free.
+/// A notification that is there is bound to a thread now; or, where none is named, the one to which
+/// it was bound is free.
 fn rebind(notifications: &mut Notifications, thread: ObjId, from: Option<ObjId>, to: Option<ObjId>)
     requires from { IfSome from (λ n. is_there notifications.old n ≡ true) }
     requires to { IfSome to (λ n. is_there notifications.old n ≡ true) }
@@ -42,7 +43,8 @@ fn rebind(notifications: &mut Notifications, thread: ObjId, from: Option<ObjId>,
     }
 }
 
-/// A context that is there and homed nowhere is homed at a notification now; or, where none is named, one that is homed nowhere.
+/// A context that is there and homed nowhere is homed at a notification now; or, where none is
+/// named, one that is homed nowhere.
 // a part of its caller, so that no name goes through memory
 #[inline(always)]
 fn home(contexts: &mut Contexts, context: ObjId, notification: Option<ObjId>)
@@ -57,7 +59,8 @@ fn home(contexts: &mut Contexts, context: ObjId, notification: Option<ObjId>)
     prove!(is_changed);
 }
 
-/// A notification that is there is the home of a context now; or, where none is named, the one that was its home is none.
+/// A notification that is there is the home of a context now; or, where none is named, the one that
+/// was its home is none.
 fn rehome(notifications: &mut Notifications, context: ObjId, from: Option<ObjId>, to: Option<ObjId>)
     requires from { IfSome from (λ n. is_there notifications.old n ≡ true) }
     requires to { IfSome to (λ n. is_there notifications.old n ≡ true) }
@@ -99,7 +102,8 @@ impl<W: Waiting> State<W> {
         self.notifications.hear(notification);
     }
 
-    /// A notification is bound to a thread from now on, or none is any more (manual: Notifications).
+    /// A notification is bound to a thread from now on, or none is any more (manual:
+    /// Notifications).
     pub fn ties(&mut self, thread: ObjId, notification: Option<ObjId>)
         requires allowed { Allowed (so_far self.old) (Rec.Tied thread notification) }
         requires room { length self.old.hand + 1 < self.old.room }
@@ -143,7 +147,8 @@ impl<W: Waiting> State<W> {
         self.notifications.homed(notification)
     }
 
-    /// The notification that is bound to a thread; None where none is, and for what is no thread (manual: Notifications).
+    /// The notification that is bound to a thread; None where none is, and for what is no thread
+    /// (manual: Notifications).
     pub fn bound_of(&self, thread: ObjId) -> Option<ObjId>
         ensures { result ≡ bound_of (so_far self.now) thread }
     {
@@ -153,15 +158,16 @@ impl<W: Waiting> State<W> {
         }
     }
 
-    /// The thread to which a notification is bound; None where it is bound to none (manual: Notifications).
+    /// The thread to which a notification is bound; None where it is bound to none (manual:
+    /// Notifications).
     pub fn tied_to(&self, notification: ObjId) -> Option<ObjId>
         ensures { result ≡ tied_to (so_far self.now) notification }
     {
         self.notifications.bound(notification)
     }
 
-    /// The pending word of a notification that is there; None where no badge was raised since it was heard last (manual:
-    /// Notifications).
+    /// The pending word of a notification that is there; None where no badge was raised since it
+    /// was heard last (manual: Notifications).
     pub fn pending(&self, notification: ObjId) -> Option<u64>
         requires { IsThere (so_far self.now) Kind.Notification notification }
         ensures { result ≡ pending (so_far self.now) notification }

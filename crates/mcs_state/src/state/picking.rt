@@ -44,7 +44,8 @@ impl<W: Waiting> State<W> {
         }
     }
 
-    /// Whether a thread may enter on a core: it is Running or in Restart, and holds a context of that core.
+    /// Whether a thread may enter on a core: it is Running or in Restart, and holds a context of
+    /// that core.
     pub fn may_enter(&self, core: CoreId, thread: ObjId) -> bool
         ensures { result ≡ may_enter (so_far self.now) core thread }
     {
@@ -59,7 +60,8 @@ impl<W: Waiting> State<W> {
         self.may_enter(core, thread) && !passed.contains(thread)
     }
 
-    /// Whether the thread of a number has a greater priority than the best of those before it, if there is one.
+    /// Whether the thread of a number has a greater priority than the best of those before it, if
+    /// there is one.
     fn is_above(&self, number: u16, best: Option<u16>) -> bool
         requires there { IsThere (so_far self.now) Kind.Thread (thread_at number) }
         requires best { IfSome best (λ n. IsThere (so_far self.now) Kind.Thread (thread_at n)) }
@@ -73,7 +75,8 @@ impl<W: Waiting> State<W> {
         }
     }
 
-    /// The better of the thread of a number and of the best of those before it, where a set is passed over.
+    /// The better of the thread of a number and of the best of those before it, where a set is
+    /// passed over.
     fn better(
         &self,
         core: CoreId,
@@ -100,8 +103,8 @@ impl<W: Waiting> State<W> {
         self.threads.made()
     }
 
-    /// Of the threads that may enter on a core and are not in the set, the one of greatest priority, then of lowest
-    /// serial; None where there is none (own).
+    /// Of the threads that may enter on a core and are not in the set, the one of greatest
+    /// priority, then of lowest serial; None where there is none (own).
     pub fn pick(&self, core: CoreId, passed: &ThreadSet) -> Option<ObjId>
         ensures { IsPick (so_far self.now) core passed.now result }
     {

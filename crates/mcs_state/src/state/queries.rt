@@ -127,7 +127,8 @@ impl<W: Waiting> State<W> {
         }
     }
 
-    /// What last reached a thread; None where nothing did, and for what is no thread or is not there (manual: Message Passing).
+    /// What last reached a thread; None where nothing did, and for what is no thread or is not
+    /// there (manual: Message Passing).
     pub fn mail(&self, id: ObjId) -> Option<&Mail>
         ensures { option_copied result ≡ mail_of (so_far self.now) id }
     {
@@ -242,7 +243,8 @@ impl<W: Waiting> State<W> {
         self.queues.first(queue)
     }
 
-    /// The thread behind another in its queue. None where it is the last of it or stands in no queue (own).
+    /// The thread behind another in its queue. None where it is the last of it or stands in no
+    /// queue (own).
     pub fn next(&self, thread: ObjId) -> Option<ObjId>
         ensures { result ≡ next_of (so_far self.now) thread }
     {
@@ -250,22 +252,24 @@ impl<W: Waiting> State<W> {
         self.queues.next(thread)
     }
 
-    /// The thread that receives with a reply object, or None where none does (manual: Message Passing).
+    /// The thread that receives with a reply object, or None where none does (manual: Message
+    /// Passing).
     pub fn receiver_with(&self, reply: ObjId) -> Option<ObjId>
         ensures { result ≡ receiver_with (so_far self.now) reply }
     {
         self.replies.receiver(reply)
     }
 
-    /// The caller that a reply object owes an answer, or None where it owes nobody (manual: Message Passing).
+    /// The caller that a reply object owes an answer, or None where it owes nobody (manual: Message
+    /// Passing).
     pub fn owed(&self, reply: ObjId) -> Option<ObjId>
         ensures { result ≡ owed_by (so_far self.now) reply }
     {
         self.replies.owed(reply)
     }
 
-    /// Who uses a reply object: the caller that it owes, or the receiver that stands with it; None where nobody does (manual:
-    /// Message Passing).
+    /// Who uses a reply object: the caller that it owes, or the receiver that stands with it; None
+    /// where nobody does (manual: Message Passing).
     pub fn user_of(&self, reply: ObjId) -> Option<ObjId>
         ensures { result ≡ user_of (so_far self.now) reply }
     {
@@ -286,8 +290,8 @@ impl<W: Waiting> State<W> {
         self.top_of(context).is_none()
     }
 
-    /// The capability that a thread that is there names by an address: Missing where there is none, GuardMismatch and
-    /// DepthMismatch where the address leads nowhere.
+    /// The capability that a thread that is there names by an address: Missing where there is none,
+    /// GuardMismatch and DepthMismatch where the address leads nowhere.
     // a part of its callers, so that the capability is moved once less
     #[inline(always)]
     pub fn capability(&self, thread: ObjId, address: u64) -> Result<Cap, Refusal>
@@ -297,8 +301,9 @@ impl<W: Waiting> State<W> {
         lookup(&self.slots, self.root(thread), address)
     }
 
-    /// The slot that a thread that is there names by an index and a depth: Range for a depth of 0 or above 64, which comes
-    /// first, and GuardMismatch and DepthMismatch where the bits lead to no slot.
+    /// The slot that a thread that is there names by an index and a depth: Range for a depth of 0
+    /// or above 64, which comes first, and GuardMismatch and DepthMismatch where the bits lead to
+    /// no slot.
     pub fn slot_named(&self, thread: ObjId, place: Place) -> Result<SlotId, Refusal>
         requires { IsThere (so_far self.now) Kind.Thread thread }
         ensures { named_by result ≡ slot_named (so_far self.now) thread place }

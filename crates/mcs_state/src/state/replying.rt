@@ -46,7 +46,8 @@ fn answers(threads: &mut Threads, caller: ObjId, message: Message)
 }
 
 impl<W: Waiting> State<W> {
-    /// A reply object owes a caller an answer; the context is the one that the caller brought along (manual: Message Passing).
+    /// A reply object owes a caller an answer; the context is the one that the caller brought along
+    /// (manual: Message Passing).
     pub fn owes(&mut self, reply: ObjId, caller: ObjId, brought: Option<ObjId>)
         requires allowed { Allowed (so_far self.old) (Rec.Owes reply caller brought) }
         requires room { length self.old.hand + 1 < self.old.room }
@@ -62,8 +63,8 @@ impl<W: Waiting> State<W> {
         owe(&mut self.replies, reply, caller, brought);
     }
 
-    /// The caller that a reply object owes is answered. The answer is the context whose chain the reply object topped before, if
-    /// it topped one (manual: Message Passing; chains are own).
+    /// The caller that a reply object owes is answered. The answer is the context whose chain the
+    /// reply object topped before, if it topped one (manual: Message Passing; chains are own).
     pub fn paid(&mut self, reply: ObjId, caller: ObjId, message: Copies<'_>) -> Option<ObjId>
         requires allowed { Allowed (so_far self.old) (Rec.Paid reply caller message) }
         requires room { length self.old.hand + 1 < self.old.room }
@@ -85,7 +86,8 @@ impl<W: Waiting> State<W> {
         topped(self.replies.pay(reply))
     }
 
-    /// The debt of a reply object becomes void. The answer is as that of `paid` (manual: Message Passing; chains are own).
+    /// The debt of a reply object becomes void. The answer is as that of `paid` (manual: Message
+    /// Passing; chains are own).
     pub fn voids(&mut self, reply: ObjId, caller: ObjId, how: Ending) -> Option<ObjId>
         requires allowed { Allowed (so_far self.old) (Rec.Void reply caller how) }
         requires room { length self.old.hand + 1 < self.old.room }

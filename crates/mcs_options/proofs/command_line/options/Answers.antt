@@ -86,7 +86,8 @@ found_is a words m found line matches is =
     subst (λ rows. IsChosen rows found) ((matches (ap is_simple line ∙ is_simple_line)).1
     ∙ ap (λ b. subcommand_of b words) line) is
 
--- an error that a line gives, by the kinds that it has: what is asked for was not given for want of memory alone
+-- an error that a line gives, by the kinds that it has: what is asked for was not given for want of
+-- memory alone
 refused_given : (words : List Text) (e : Error) → HasKind (fault_of mcssim_line words) e → (choice : Options)
     → Asks words choice → IsMemory e
 refused_given words e has choice asked = go (subst (λ kinds. HasKind kinds e) (no_fault words choice asked) has)

@@ -3,7 +3,8 @@ use mcs_sim::{SimFault, Sink, Source, simulate};
 use std::alloc::Global;
 use std::io::{self, ErrorKind, Read, Write};
 
-/// Gives a text a piece at a time, then so many interruptions, then the end; where no read is left, it fails.
+/// Gives a text a piece at a time, then so many interruptions, then the end; where no read is left,
+/// it fails.
 #[derive(Drop)]
 pub struct Input<'a> {
     pub text: &'a [u8],
@@ -39,8 +40,8 @@ impl<'a> Read for Input<'a> {
     }
 }
 
-/// Interrupts so many writes, then takes what each brings, a piece at a time, while there is room; where no write is left, it
-/// fails.
+/// Interrupts so many writes, then takes what each brings, a piece at a time, while there is room;
+/// where no write is left, it fails.
 #[derive(Drop)]
 pub struct Output {
     pub taken: Vec<u8>,

@@ -42,7 +42,8 @@ fn next_number(n: u64) -> u64 {
         .wrapping_add(1_442_695_040_888_963_407)
 }
 
-/// A call on reply objects, which are named by their numbers in a list, or by none where they are not there.
+/// A call on reply objects, which are named by their numbers in a list, or by none where they are
+/// not there.
 #[derive(Clone, Copy)]
 enum Call {
     Owe(Debt),
@@ -54,7 +55,8 @@ enum Call {
     Renew(usize),
 }
 
-/// What the links are compared with: the debts of 256 reply objects in the order in which they came.
+/// What the links are compared with: the debts of 256 reply objects in the order in which they
+/// came.
 #[derive(Drop)]
 struct Plain {
     replies: Vec<ObjId>,
@@ -146,8 +148,9 @@ impl Plain {
         }
     }
 
-    /// The call that a number stands for. One chain in a thousand calls grows long, and in the next thousand there are many. One
-    /// ending in four is of any reply object, the others are at the top.
+    /// The call that a number stands for. One chain in a thousand calls grows long, and in the next
+    /// thousand there are many. One ending in four is of any reply object, the others are at the
+    /// top.
     fn call(&self, call: u32, n: u64) -> Call {
         let many = if call / 1_000 % 2 == 0 { 1 } else { 256 };
         let context = context((n >> 36) as u32 % many);
@@ -199,7 +202,8 @@ fn renewed(replies: &mut Replies, reply: ObjId) -> Option<ObjId> {
     Some(replies.add())
 }
 
-/// A new reply object comes in the place of one. Whether the links and the list say the same of what it owes.
+/// A new reply object comes in the place of one. Whether the links and the list say the same of
+/// what it owes.
 fn renew(replies: &mut Replies, plain: &mut Plain, number: usize) -> bool {
     if let Some(reply) = renewed(replies, plain.reply(number)) {
         plain.put(number, reply);

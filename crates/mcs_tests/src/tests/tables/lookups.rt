@@ -23,8 +23,9 @@ fn root(cnode: u32, rights: Rights, guard: Guard) -> Cap {
     }
 }
 
-/// Two CNodes, of 16 and of 8 slots: slot 2 of the first leads with the guard 01 to the second, whose slot 5 holds a capability
-/// to an endpoint. Beside it the root, with a guard of 55 zeros, and that capability.
+/// Two CNodes, of 16 and of 8 slots: slot 2 of the first leads with the guard 01 to the second,
+/// whose slot 5 holds a capability to an endpoint. Beside it the root, with a guard of 55 zeros,
+/// and that capability.
 fn two_levels(alloc: Global) -> Result<(Slots, Cap, Cap), Fail> {
     let mut slots = Slots::new(alloc, &[4, 3], Tallied::All)?;
     let none = Rights::new(0).ok_or("no right")?;

@@ -16,7 +16,8 @@ fn named(kind: Kind, serial: Option<u32>) -> Option<ObjId> {
     Some(object(kind, serial?))
 }
 
-/// A call on notifications. Objects are named by their serials: notifications first, then threads and contexts.
+/// A call on notifications. Objects are named by their serials: notifications first, then threads
+/// and contexts.
 #[derive(Clone, Copy)]
 enum Call {
     /// One is made, of this serial.
@@ -72,7 +73,8 @@ impl Call {
     }
 }
 
-/// The word of a notification, the thread to which it is bound, and the context to which it is home.
+/// The word of a notification, the thread to which it is bound, and the context to which it is
+/// home.
 type Kept = (Option<u64>, Option<u32>, Option<u32>);
 
 /// What is kept of one that nobody uses, or that is not there.

@@ -81,7 +81,8 @@ fn kept_by_place(store: &Store<u64>, serial: u32) -> Kept {
     Some((*store.get_at(id, place)?, place))
 }
 
-/// Calls on the full store, the values and places of the first three objects after each, how many were made and are there.
+/// Calls on the full store, the values and places of the first three objects after each, how many
+/// were made and are there.
 const CALLS: &[(Call, (Kept, Kept, Kept), (u32, usize))] = &[
     (
         Call::Write(2, 21),

@@ -31,7 +31,8 @@ enum Call {
 }
 
 impl Call {
-    /// The call that a number stands for. Three of four calls name one of three lines, so that lines are long.
+    /// The call that a number stands for. Three of four calls name one of three lines, so that
+    /// lines are long.
     fn numbered(n: u64) -> Call {
         let t = ThreadNo(((n >> 20) % (THREADS as u64 + 2)) as u16);
         let lines = if (n >> 60) % 4 == 0 {
@@ -151,7 +152,8 @@ fn plain_lines_answer(rt: HostRuntime) -> Result<(), Fail> {
     Ok(())
 }
 
-/// Whether two threads join a line, and the first goes behind the second, with visits that are counted.
+/// Whether two threads join a line, and the first goes behind the second, with visits that are
+/// counted.
 fn move_counted<G: Ledger>(lines: &mut LinkedLines, blank: Blank) -> bool
     requires name { blank.name ≡ G.name }
     requires parts { blank.parts ≡ G.parts }
