@@ -1,5 +1,5 @@
 #!/bin/sh
-# Refuses each allocation in turn, and each thread: crates/mcs_examples, with no file named, gives each call once more that memory was
+# Refuses each allocation in turn, and each thread: crates/mcs_test_examples, with no file named, gives each call once more that memory was
 # refused to, and writes the same traces; mcssim replay ends with status 6 and a beginning of the trace, or with status 0 and all of
 # it, which is counted; mcssim run ends with status 6 or 7 and nothing written, or with status 0 and a trace that gives itself again;
 # where a thread is refused it ends with status 7 and nothing written. Each does so for short messages and for messages of more than
@@ -58,7 +58,7 @@ build() {
     [ -x "crates/$1/out/$1" ] && return
     (cd "crates/$1" && shift && rt run -- "$@") <crates/mcssim/stdin >"$work/built" 2>&1 || { cat "$work/built"; exit 1; }
 }
-build mcs_examples
+build mcs_test_examples
 build mcssim replay
 
 # Runs a program on $input with the allocation (REFUSED) or the thread (REFUSED_THREAD) of this number refused: its output is in
@@ -76,16 +76,16 @@ refuse_any() {
     [ -e "$work/counted" ]
 }
 
-# Tries mcs_examples on a script.
+# Tries mcs_test_examples on a script.
 scripts() {
     input=$1
     number=1
-    crates/mcs_examples/out/mcs_examples <"$input" >"$work/plain"
-    while refuse $number crates/mcs_examples/out/mcs_examples; do
+    crates/mcs_test_examples/out/mcs_test_examples <"$input" >"$work/plain"
+    while refuse $number crates/mcs_test_examples/out/mcs_test_examples; do
         cmp "$work/out" "$work/plain"
         number=$((number + 1))
     done
-    echo "mcs_examples, $input: $((number - 1)) allocations, each refused in turn, and each call given again"
+    echo "mcs_test_examples, $input: $((number - 1)) allocations, each refused in turn, and each call given again"
     [ $number -gt 1 ]
 }
 

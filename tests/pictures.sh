@@ -7,7 +7,7 @@
 set -eu
 program=$1 folder=$2 keep=${3:-}
 tests=$(dirname "$0")
-data=$tests/../crates/mcs_examples/data/gallery
+data=$tests/../crates/mcs_test_examples/data/gallery
 mkdir -p "$folder"
 for script in "$data"/*.mcs "$tests"/../examples/*.mcs; do
     grep -q '^user ' "$script" && continue

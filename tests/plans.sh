@@ -4,8 +4,8 @@
 set -eu
 cd "$(dirname "$0")/.."
 program=crates/mcslab/out/mcslab
-examples=$PWD/crates/mcs_examples/out/mcs_examples
-data=crates/mcs_examples/data
+examples=$PWD/crates/mcs_test_examples/out/mcs_test_examples
+data=crates/mcs_test_examples/data
 for needed in "$program" "$examples"; do
     [ -x "$needed" ] || { echo "plans.sh: run rt ci first, which leaves $needed"; exit 1; }
 done

@@ -3,7 +3,7 @@
 
     python3 tests/random-orders.py MCSLAB [COUNT [SEED]]   so many scripts (2,000), from a seed (1)
     python3 tests/random-orders.py --data [COUNT [SEED]]   prints so many scripts (50), from a seed
-                                                           (2), as data of mcs_examples
+                                                           (2), as data of mcs_test_examples
 
 Of each script the kinds of ends, the answers of all entries with their steps, the users that are
 stuck and the verdicts have to be the same, and both searches whole. The scripts use each of the 27

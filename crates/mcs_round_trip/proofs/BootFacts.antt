@@ -20,7 +20,7 @@ use Rattle.mcs_book.specs.Sound.{Sound, IsFormOf}
 use Rattle.mcs_book.specs.Boots.{boot_log, is_object, fits_guard, fits_kind, has_no_rights, has_no_guard}
 use Rattle.mcs_types.proofs.Ids.{parts, same_kind-equal}
 use Rattle.mcs_types.specs.Ranges.{IsWord}
-use Rattle.mcs_line_laws.specs.LineLaws.{IsName, HasNoRights, HasNoGuard, FitsKind}
+use Rattle.mcs_text.specs.LineLaws.{IsName, HasNoRights, HasNoGuard, FitsKind}
 use Rattle.mcs_phases.specs.BootLines.{serial_of, object_of}
 use Rattle.mcs_round_trip.proofs.StepsAgain.{IsSerial, boot-serial}
 

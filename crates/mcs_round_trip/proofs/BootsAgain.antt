@@ -24,9 +24,9 @@ use Rattle.mcs_types.proofs.Ids.{parts}
 use Rattle.mcs_book.proofs.SoundLogs.SoundBooks.{legal-sound}
 use Rattle.mcs_book.proofs.Queues.Standings.{line-checked}
 use Rattle.mcs_text.specs.Table.{form_line, boot_form, cores_form}
-use Rattle.mcs_line_laws.specs.LineLaws.{IsContextName, FitsLine, raw_context, raw_cap, raw_of, IsLineReadAgain}
-use Rattle.mcs_line_laws.proofs.RoundTrip.{below-is}
-use Rattle.mcs_line_laws.proofs.BootLinesAgain.{boot_line-again, cores_line-words, boot_key-cores, cores_line-again}
+use Rattle.mcs_text.specs.LineLaws.{IsContextName, FitsLine, raw_context, raw_cap, raw_of, IsLineReadAgain}
+use Rattle.mcs_text.proofs.RoundTrip.{below-is}
+use Rattle.mcs_text.proofs.BootLinesAgain.{boot_line-again, cores_line-words, boot_key-cores, cores_line-again}
 use Rattle.mcs_phases.specs.BootLines.{context_of, cores_of, cap_of, fitted, if_passed, with_line}
 use Rattle.mcs_phases.specs.Script.{of_steps, no_script, first_boot, next_boot, later_line, by_boot, spelled}
 use Rattle.mcs_round_trip.proofs.BootFacts.{guard-fits, kind-fits, FitsTypes, kind-types, radix-few, IsBootName, boot-made, boot-name, named, object-again}

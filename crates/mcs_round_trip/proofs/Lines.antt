@@ -9,7 +9,7 @@ use Rattle.mcs_types.specs.declared.record.Rec.{Rec}
 use Rattle.mcs_book.specs.History.{Line, Book}
 use Rattle.mcs_text.specs.Table.{Form, form_text, form_line, cores_form, boot_form, entry_form, answer_form, rec_form, record_text}
 use Rattle.mcs_text.specs.Reading.{lines_of}
-use Rattle.mcs_line_laws.proofs.TextBytes.{lines_of-form}
+use Rattle.mcs_text.proofs.TextBytes.{lines_of-form}
 use Rattle.mcs_sim.specs.Trace.{sent_with, sent_after, records_trace, line_trace, lines_trace, boot_lines_trace, trace}
 
 -- the lines of a text of forms

@@ -7,9 +7,9 @@ use Rattle.mcs_types.specs.declared.record.Rec.{Rec}
 use Rattle.mcs_book.specs.Boots.{Boot}
 use Rattle.mcs_text.specs.Table.{Form, form_line, entry_form, rec_form}
 use Rattle.mcs_text.specs.Reading.{words_of, step_of}
-use Rattle.mcs_line_laws.proofs.TextBytes.{boot_key-decimal, step_line-first, record_line-first}
-use Rattle.mcs_line_laws.proofs.FormWords.{form_rest}
-use Rattle.mcs_line_laws.proofs.EntryLines.{step_line-words}
+use Rattle.mcs_text.proofs.TextBytes.{boot_key-decimal, step_line-first, record_line-first}
+use Rattle.mcs_text.proofs.FormWords.{form_rest}
+use Rattle.mcs_text.proofs.EntryLines.{step_line-words}
 use Rattle.mcs_phases.specs.Script.{Script, of_steps, threads_of, next_items, later_line, by_boot, spelled, is_skipped, read_line, script_from}
 use Rattle.mcs_sim.specs.Trace.{sent_with}
 use Rattle.mcs_sim.proofs.ScriptLaws.{script_from-ok}

@@ -22,7 +22,7 @@ use Rattle.mcs_book.proofs.Objects.MadeLaws.{made-in, serial-below, made-serial}
 use Rattle.mcs_book.proofs.SoundLogs.SoundBooks.{legal-sound}
 use Rattle.mcs_book.proofs.Queues.Sorted.{In}
 use Rattle.mcs_kernel.proofs.Serials.{one-more}
-use Rattle.mcs_line_laws.proofs.EntryLines.{step_line_again}
+use Rattle.mcs_text.proofs.EntryLines.{step_line_again}
 use Rattle.mcs_phases.specs.Script.{threads_of}
 use Rattle.mcs_round_trip.proofs.Scripts.{IsStepAgain}
 

@@ -12,7 +12,7 @@ use Rattle.mcs_text.specs.Table.{Form, form_line, cores_form, boot_form, entry_f
 use Rattle.mcs_text.specs.Reading.{lines_of, words_of}
 use Rattle.mcs_sim.specs.Trace.{sent_with, sent_after, sent_in, trace}
 use Rattle.mcs_phases.specs.Script.{Script, of_steps, no_script, spelled, read_line, script_from, script_of, steps}
-use Rattle.mcs_line_laws.proofs.TextBytes.{boot_line-first, answer_line-first}
+use Rattle.mcs_text.proofs.TextBytes.{boot_line-first, answer_line-first}
 use Rattle.mcs_round_trip.proofs.Lengths.{IsSmall, length-line, small-few}
 use Rattle.mcs_round_trip.proofs.Lines.{record_forms, line_forms, lines_forms, trace_forms, lines_of-trace}
 use Rattle.mcs_round_trip.proofs.Scripts.{Takes, takes-none, takes-one, takes-then, takes-records, read_line-skipped, read_line-spelled, so_far, AreSmall, IsStepAgain, read_line-step}

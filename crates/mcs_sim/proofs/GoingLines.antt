@@ -13,7 +13,7 @@ use Rattle.mcs_text.specs.declared.key.Key.{Key}
 use Rattle.mcs_text.specs.Keys.{boot_key}
 use Rattle.mcs_text.specs.Reading.{◌>>=◌, words_of, step_of}
 use Rattle.mcs_text.specs.Table.{step_text}
-use Rattle.mcs_line_laws.proofs.StepsWritten.{step-written}
+use Rattle.mcs_text.proofs.StepsWritten.{step-written}
 use Rattle.mcs_phases.specs.declared.fault.SimFault.{SimFault}
 use Rattle.mcs_phases.specs.declared.fault.SimFault.TheVariants as fault
 use Rattle.mcs_sim.specs.declared.writing.Told.{Told}

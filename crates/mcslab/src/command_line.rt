@@ -3,7 +3,7 @@ use crate::compiling::{self, Made};
 use crate::drawing::{self, Drawn};
 use crate::exploring::{self, Sought};
 use clap::{Arg, ArgAction, ArgMatches, Command as Words, Error, value_parser};
-use mcs_told::{FORMS, Wanted};
+use mcs_lab_inspect::{FORMS, Wanted};
 use std::alloc::Global;
 
 /// The version of the program (own).

@@ -1,10 +1,10 @@
 //! Plans and names, as the command line asks for them.
 use crate::command_line::with;
 use clap::{Arg, ArgAction, ArgMatches, Command as Words, Error};
-use mcs_compile::write_map;
-use mcs_lab::LabFault;
-use mcs_names::tell_names;
-use mcs_readback::{CompileFault, Compiled, compile_text};
+use mcs_lab_check::LabFault;
+use mcs_plan_compile::write_map;
+use mcs_plan_source::tell_names;
+use mcs_plan_validate::{CompileFault, Compiled, compile_text};
 use std::alloc::Global;
 use std::fs;
 use std::io::{self, Read, Write};

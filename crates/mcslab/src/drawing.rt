@@ -1,7 +1,7 @@
 //! The picture of a script, as the command line asks for it.
 use crate::command_line::with;
 use clap::{Arg, ArgMatches, Command as Words, Error, value_parser};
-use mcs_pictures::{Format, Window};
+use mcs_lab_render::{Format, Window};
 use std::alloc::Global;
 
 /// What is drawn, and as what.

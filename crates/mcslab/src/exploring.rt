@@ -1,10 +1,10 @@
 //! The search through all orders, as the command line asks for it.
 use crate::command_line::with;
 use clap::{Arg, ArgAction, ArgMatches, Command as Words, Error, value_parser};
-use mcs_lab::LabFault;
-use mcs_questions::ExploreFault;
+use mcs_explore_questions::ExploreFault;
+use mcs_explore_report::{Explored, Output, Progress, Saves, Wanted, explore_and_tell};
+use mcs_lab_check::LabFault;
 use mcs_sim::Source;
-use mcs_ways::{Explored, Output, Progress, Saves, Wanted, explore_and_tell};
 use std::alloc::{AllocError, Global};
 use std::fs;
 use std::io::{self, IsTerminal, Read, Write};

@@ -1,5 +1,0 @@
-use Rattle.mcs_alike.proofs.Exactly.{but-numbers}
-use Rattle.mcs_alike.proofs.alike_weaker.Goals as goal
-
-pub returns : goal.returns
-returns g c = but-numbers g.at.0 g.at.1 c.requires

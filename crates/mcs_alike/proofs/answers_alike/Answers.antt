@@ -1,5 +1,0 @@
-use Rattle.mcs_alike.proofs.Answering.{answers-exact}
-use Rattle.mcs_alike.proofs.answers_alike.Goals as goal
-
-pub returns : goal.returns
-returns g c = answers-exact g.at.0 g.at.1 c.requires.0 c.requires.1.0 c.requires.1.1

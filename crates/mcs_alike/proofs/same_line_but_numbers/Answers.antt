@@ -1,5 +1,0 @@
-use Rattle.mcs_alike.proofs.Books.{line-outcomes}
-use Rattle.mcs_alike.proofs.same_line_but_numbers.Goals as goal
-
-pub returns : goal.returns
-returns g c = line-outcomes g.at.0 g.at.1 g.at.2 c.requires.0 c.requires.1.0 c.requires.1.1

@@ -1,6 +1,0 @@
-use Rattle.std.proofs.Common.{◌≡◌, take}
-use Rattle.mcs_draw.specs.Arrows.{with_records}
-use Rattle.mcs_draw.proofs.arrows.Strokes.add_line.Given as goal
-
-abbrev pub invariant-loop-i : goal.invariant-loop-i
-invariant-loop-i l = l.self ≡ with_records l.here l.initial.self (take l.i l.line.records)

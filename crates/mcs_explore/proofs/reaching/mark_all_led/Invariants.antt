@@ -1,9 +1,0 @@
-use Rattle.mcs_explore.specs.Reaching.{unmarked}
-use Rattle.mcs_explore.proofs.Marks.{IsMarking}
-use Rattle.mcs_explore.proofs.reaching.mark_all_led.Given as goal
-
-abbrev pub invariant-loop : goal.invariant-loop
-invariant-loop l = IsMarking l.edges l.initial.marks.items l.marks.items
-
-abbrev pub decreases-loop : goal.decreases-loop
-decreases-loop l = unmarked l.marks.items

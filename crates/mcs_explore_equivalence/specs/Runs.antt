@@ -1,0 +1,50 @@
+-- Runs that no later turn tells apart (own).
+use Rattle.std.specs.Prelude.{ℕ, ◌≡◌, Bool, List, ◌∷◌, Option}
+use Rattle.mcs_types.specs.declared.id.CoreId.{CoreId}
+use Rattle.mcs_book.specs.Boots.{Boot}
+use Rattle.mcs_book.specs.History.{Line, Book, log_of}
+use Rattle.mcs_turns.specs.declared.position.Pick.{Pick}
+use Rattle.mcs_turns.specs.Due.{choices}
+use Rattle.mcs_turns.specs.Turns.{User, Going, ArePicks, IsRun, IsTurn}
+use Rattle.mcs_explore_equivalence.specs.Likeness.{AlikeBy}
+use Rattle.mcs_explore_equivalence.specs.Books.{outcome_of}
+use Rattle.mcs_explore_equivalence.specs.ButNumbers.{SameButNumbers}
+
+-- some run gets so far
+pub record IsReached (users : List User) (boot : Boot) (g : Going) : Type 0 where
+  pub turns : ℕ
+  pub run : IsRun users boot turns g
+
+-- two runs have alike logs, in which numbers of messages are told apart or not, and their users are
+-- where those of the other are: so their cores have the same picks
+pub record AreClose (numbered : Bool) (users : List User) (boot : Boot) (g h : Going) : Type 0 where
+  pub left : IsReached users boot g
+  pub right : IsReached users boot h
+  pub logs : AlikeBy numbered (log_of g.book) (log_of h.book)
+  pub places : g.places ≡ h.places
+
+-- and each core may enter the same in both: its pick is as good as a stale one
+pub record AreAlike (numbered : Bool) (users : List User) (boot : Boot) (g h : Going) : Type 0 where
+  pub close : AreClose numbered users boot g h
+  pub choices : (picks : List (Option Pick)) → ArePicks users g picks → choices picks g.stale ≡ choices picks h.stale
+
+-- the newest lines of two books have the same answer, and the same records but for the numbers of
+-- messages
+abbrev pub SameNewest : Book → Book → Type 0
+SameNewest b c = AreSame b.lines c.lines
+  where
+    AreSame : List Line → List Line → Type 0
+    AreSame (l ∷ ls) (m ∷ ms) = SameButNumbers (outcome_of l) (outcome_of m)
+    AreSame ls ms = ⊥
+
+-- a core makes the same turn in another run as one that led to t: it is answered the same, with the
+-- same records but for the numbers of messages, and what is behind it is alike
+pub record IsSameTurn (numbered : Bool) (users : List User) (boot : Boot) (core : CoreId) (k : Pick) (t h : Going) : Type 0 where
+  pub going : Going
+  pub turn : IsTurn users core k h going
+  pub newest : SameNewest t.book going.book
+  pub alike : AreAlike numbered users boot t going
+
+-- so is each turn of one of two alike runs made in the other
+abbrev pub AreSameTurns : Bool → List User → Boot → Type 0
+AreSameTurns numbered users boot = (g h t : Going) (core : CoreId) (k : Pick) → AreAlike numbered users boot g h → IsTurn users core k g t → IsSameTurn numbered users boot core k t h

@@ -1,0 +1,270 @@
+//! The keys of states: two states with one key have the same future.
+ghost use Rattle.std.specs.Prelude.{◌≡◌, [], true, length, IfOk};
+ghost use Rattle.mcs_explore_keys.specs.Naming.{Keeps};
+ghost use Rattle.mcs_turns.specs.Turns.{ArePicks};
+ghost use Rattle.mcs_explore_keys.specs.Rows.{IsKey, NameRows};
+
+use crate::coding::{Key, key_of};
+use crate::exact::exact_numbers;
+use crate::met::{Met, Numbers};
+use crate::names::{Counts, Names};
+use crate::numbers::Row;
+use crate::rows::{put_object, put_queue, put_slots, put_stale, put_thread};
+use mcs_explore_walk::{OrdersFault, Users, Walk, picked};
+use mcs_kernel::{Boot, Kernel};
+use mcs_queues::Lines;
+use mcs_turns::Pick;
+use mcs_types::{CoreId, Kind, ObjId};
+use std::alloc::Global;
+use std::marker::Model;
+
+/// The rows that were met, and what all keys of a search have in common. Clauses see the rows in
+/// the order of their numbers, and whether keys are exact.
+#[derive(Drop)]
+pub struct Keys {
+    alloc: Global,
+    met: Met,
+    counts: Counts,
+    is_exact: bool,
+    numbered: bool,
+    changes_slots: bool,
+}
+
+impl Model for Keys {
+    ghost use Rattle.mcs_explore_keys.specs.Naming.{Known};
+
+    ghost Value = { Known };
+
+    ghost view = { λ k. record { met = k.met; is_exact = k.is_exact; numbered = k.numbered } };
+}
+
+/// How many numbers a row has room for before it grows.
+const ROOM: usize = 128;
+
+/// The object of a kind in a place.
+fn object_at(kind: Kind, place: u32) -> ObjId {
+    ObjId {
+        kind,
+        serial: place.saturating_add(1),
+    }
+}
+
+/// The kinds of objects of which there is more than what threads, queues and slots have of them.
+const KINDS: [Kind; 3] = [Kind::Notification, Kind::Reply, Kind::Context];
+
+/// Adds the canonical rows of all threads, each put together in the memory of one row.
+fn put_threads<L: Lines>(
+    met: &mut Met,
+    row: &mut Row,
+    numbers: &mut Numbers,
+    threads: u32,
+    users: &Users,
+    walk: &Walk<L>,
+    names: &Names,
+) -> Result<(), OrdersFault>
+    ensures { Keeps met.old met.new }
+{
+    for place in 0..threads {
+        let thread = object_at(Kind::Thread, place);
+        let position = match users.find(thread) {
+            Some(user) => walk.place(user),
+            None => None,
+        };
+        row.clear();
+        put_thread(row, walk.kernel(), names, thread, position)?;
+        met.put(numbers, row)?;
+    }
+    Ok(())
+}
+
+impl Keys {
+    /// No row. Where keys are exact, states are one only where they differ in nothing that a book
+    /// records later, or, where the numbers of messages are not told apart, in nothing but these;
+    /// else they are left out too, and objects that are made after the boot are named by the lowest
+    /// slot that names them.
+    pub fn new(alloc: Global, boot: &Boot, users: &Users, is_exact: bool, numbered: bool) -> Keys
+        ensures { result ≡ record { met = []; is_exact = is_exact; numbered = numbered } }
+    {
+        Keys {
+            alloc,
+            met: Met::new(alloc),
+            counts: Counts::new(boot),
+            is_exact,
+            numbered,
+            changes_slots: users.change_slots(),
+        }
+    }
+
+    /// How many rows were met.
+    pub fn rows(&self) -> usize
+        ensures { result ≡ length self.now.met }
+    {
+        self.met.len()
+    }
+
+    /// The objects of one kind, and those that were made later.
+    fn put_kind<L: Lines>(
+        &self,
+        row: &mut Row,
+        kernel: &Kernel<L>,
+        names: &Names,
+        kind: Kind,
+    ) -> Result<(), OrdersFault> {
+        for place in 0..self.counts.of(kind) {
+            put_object(row, kernel, names, object_at(kind, place))?;
+        }
+        for object in names.later() {
+            if object.kind.is_same(kind) {
+                put_object(row, kernel, names, *object)?;
+            }
+        }
+        Ok(())
+    }
+
+    /// All objects but threads and CNodes.
+    fn put_objects<L: Lines>(
+        &self,
+        row: &mut Row,
+        kernel: &Kernel<L>,
+        names: &Names,
+    ) -> Result<(), OrdersFault> {
+        row.clear();
+        for place in 0..self.counts.of(Kind::Thread) {
+            put_queue(row, kernel, names, object_at(Kind::Thread, place))?;
+        }
+        for kind in KINDS.iter() {
+            self.put_kind(row, kernel, names, *kind)?;
+        }
+        Ok(())
+    }
+
+    /// All slots.
+    fn put_all_slots<L: Lines>(
+        &self,
+        row: &mut Row,
+        kernel: &Kernel<L>,
+        names: &Names,
+    ) -> Result<(), OrdersFault> {
+        row.clear();
+        for place in 0..self.counts.of(Kind::CNode) {
+            put_slots(row, kernel, names, object_at(Kind::CNode, place))?;
+        }
+        Ok(())
+    }
+
+    /// Adds the number of the row of all slots, where they may change.
+    fn name_slots<L: Lines>(
+        &mut self,
+        row: &mut Row,
+        numbers: &mut Numbers,
+        kernel: &Kernel<L>,
+        names: &Names,
+    ) -> Result<(), OrdersFault>
+        ensures kept { Keeps self.old.met self.new.met }
+        ensures mode { self.new.is_exact ≡ self.old.is_exact }
+        ensures apart { self.new.numbered ≡ self.old.numbered }
+    {
+        if !self.changes_slots {
+            return Ok(());
+        }
+        self.put_all_slots(row, kernel, names)?;
+        self.met.put(numbers, row)?;
+        Ok(())
+    }
+
+    /// What each core may enter besides its pick.
+    fn put_all_stale<L: Lines>(
+        &self,
+        row: &mut Row,
+        walk: &Walk<L>,
+        picks: &[Option<Pick>],
+    ) -> Result<(), OrdersFault> {
+        row.clear();
+        for core in 0..walk.kernel().book().cores() {
+            let pick = picked(picks, core as usize);
+            put_stale(row, walk, CoreId(core), pick)?;
+        }
+        Ok(())
+    }
+
+    /// The numbers of the canonical rows of a state, in which the cores have these picks.
+    fn canonical_numbers<L: Lines>(
+        &mut self,
+        users: &Users,
+        walk: &Walk<L>,
+        picks: &[Option<Pick>],
+    ) -> Result<Numbers, OrdersFault>
+        ensures kept { Keeps self.old.met self.new.met }
+        ensures mode { self.new.is_exact ≡ self.old.is_exact }
+        ensures apart { self.new.numbered ≡ self.old.numbered }
+    {
+        let kernel = walk.kernel();
+        let names = Names::new(self.alloc, kernel, self.counts, self.changes_slots)?;
+        let threads = self.counts.of(Kind::Thread);
+        let mut row = Vec::with_capacity(self.alloc, ROOM)?;
+        let mut numbers = Vec::with_capacity(self.alloc, (threads as usize).saturating_add(3))?;
+        put_threads(
+            &mut self.met,
+            &mut row,
+            &mut numbers,
+            threads,
+            users,
+            walk,
+            &names,
+        )?;
+        self.put_objects(&mut row, kernel, &names)?;
+        self.met.put(&mut numbers, &row)?;
+        self.name_slots(&mut row, &mut numbers, kernel, &names)?;
+        self.put_all_stale(&mut row, walk, picks)?;
+        self.met.put(&mut numbers, &row)?;
+        Ok(numbers)
+    }
+
+    /// The numbers of the rows of a state, in which the cores have these picks.
+    fn numbers<L: Lines>(
+        &mut self,
+        users: &Users,
+        walk: &Walk<L>,
+        picks: &[Option<Pick>],
+    ) -> Result<Numbers, OrdersFault>
+        requires { ArePicks users.now walk.now picks.now }
+        ensures exact { self.old.is_exact ≡ true
+            → IfOk result (λ n. NameRows self.old.numbered self.new.met users.now walk.now n.items) }
+        ensures kept { Keeps self.old.met self.new.met }
+        ensures mode { self.new.is_exact ≡ self.old.is_exact }
+        ensures apart { self.new.numbered ≡ self.old.numbered }
+    {
+        if self.is_exact {
+            let numbers = exact_numbers(
+                self.alloc,
+                &mut self.met,
+                users,
+                walk,
+                picks,
+                self.numbered,
+            )?;
+            return Ok(numbers);
+        }
+        self.canonical_numbers(users, walk, picks)
+    }
+
+    /// The key of a state, in which the cores have these picks. Where keys are exact, it names the
+    /// state's rows among those that were met. OutOfMemory where memory was refused.
+    pub fn key<L: Lines>(
+        &mut self,
+        users: &Users,
+        walk: &Walk<L>,
+        picks: &[Option<Pick>],
+    ) -> Result<Key, OrdersFault>
+        requires { ArePicks users.now walk.now picks.now }
+        ensures exact { self.old.is_exact ≡ true
+            → IfOk result (λ k. IsKey self.old.numbered self.new.met users.now walk.now k.items) }
+        ensures kept { Keeps self.old.met self.new.met }
+        ensures mode { self.new.is_exact ≡ self.old.is_exact }
+        ensures apart { self.new.numbered ≡ self.old.numbered }
+    {
+        let numbers = self.numbers(users, walk, picks)?;
+        let key = key_of(self.alloc, &numbers)?;
+        Ok(key)
+    }
+}

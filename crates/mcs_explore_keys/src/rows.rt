@@ -1,0 +1,270 @@
+//! What decides the future of a state, in canonical rows: the numbers of messages are left out, and
+//! objects that were made after the boot have names of their own. That it does is tested.
+use crate::names::Names;
+use crate::numbers::{Row, kind_number, send_number};
+use mcs_explore_walk::Walk;
+use mcs_kernel::Kernel;
+use mcs_queues::Lines;
+use mcs_turns::{Pick, Position};
+use mcs_types::{Cap, CoreId, Kind, Letter, ObjId, Prio, Queue, Status};
+use std::alloc::{AllocError, Global};
+
+/// A number, where there is one: one more than it, or 0.
+fn more(number: Option<usize>) -> u64 {
+    match number {
+        Some(number) => (number as u64).saturating_add(1),
+        None => 0,
+    }
+}
+
+/// The position of a user.
+fn put_place(row: &mut Row, place: Option<Position>) -> Result<(), AllocError> {
+    match place {
+        Some(place) => {
+            row.extend_from_slice(&[place.next as u64, more(place.waited)])?;
+        }
+        None => {}
+    }
+    Ok(())
+}
+
+/// The number of a queue's sort, and its object.
+fn queue_parts(queue: Queue) -> (u64, ObjId) {
+    match queue {
+        Queue::Senders(object) => (1, object),
+        Queue::Receivers(object) => (2, object),
+        Queue::Waiters(object) => (3, object),
+    }
+}
+
+/// What a thread does, and the object for which it waits.
+fn status_parts(names: &Names, status: Option<Status>) -> (u64, u64) {
+    match status {
+        None => (0, 0),
+        Some(Status::Running) => (1, 0),
+        Some(Status::Restart) => (2, 0),
+        Some(Status::Inactive) => (3, 0),
+        Some(Status::Closed) => (4, 0),
+        Some(Status::OnReply(reply)) => (5, names.name(reply)),
+        Some(Status::Queued(queue)) => {
+            let (sort, object) = queue_parts(queue);
+            (sort.saturating_add(5), names.name(object))
+        }
+    }
+}
+
+/// A message that nobody has received, without its number.
+fn put_letter(row: &mut Row, names: &Names, letter: Option<&Letter>) -> Result<(), AllocError> {
+    let Some(letter) = letter else {
+        return Ok(());
+    };
+    row.extend_from_slice(&[
+        send_number(letter.mode),
+        names.name(letter.endpoint),
+        letter.badge.0,
+        letter.message.label(),
+    ])?;
+    row.extend_from_slice(letter.message.words())
+}
+
+/// The number of a priority.
+fn priority_number(priority: Option<Prio>) -> u64 {
+    match priority {
+        Some(priority) => priority.0 as u64,
+        None => 256,
+    }
+}
+
+/// What a thread does and has, and how far its user is.
+pub fn put_thread<L: Lines>(
+    row: &mut Row,
+    kernel: &Kernel<L>,
+    names: &Names,
+    thread: ObjId,
+    place: Option<Position>,
+) -> Result<(), AllocError> {
+    put_place(row, place)?;
+    let (status, object) = status_parts(names, kernel.status(thread));
+    row.extend_from_slice(&[
+        names.name_or_none(kernel.context(thread)),
+        names.name_or_none(kernel.bound(thread)),
+        priority_number(kernel.priority(thread)),
+        status,
+        object,
+    ])?;
+    put_letter(row, names, kernel.open(thread))
+}
+
+/// The queue in which a thread stands first, where another stands behind it: so each such queue is
+/// there once. Who stands alone is told by what it does.
+pub fn put_queue<L: Lines>(
+    row: &mut Row,
+    kernel: &Kernel<L>,
+    names: &Names,
+    thread: ObjId,
+) -> Result<(), AllocError> {
+    let Some(Status::Queued(queue)) = kernel.status(thread) else {
+        return Ok(());
+    };
+    let mut threads = kernel.queue(queue);
+    let (Some(first), Some(second)) = (threads.next(), threads.next()) else {
+        return Ok(());
+    };
+    if !first.is_same(thread) {
+        return Ok(());
+    }
+    let (sort, object) = queue_parts(queue);
+    row.push(sort.saturating_add(6))?;
+    row.push(names.name(object))?;
+    row.push(first.serial as u64)?;
+    row.push(second.serial as u64)?;
+    for thread in threads {
+        row.push(thread.serial as u64)?;
+    }
+    row.push(0)?;
+    Ok(())
+}
+
+/// The pending word of a notification, where there is one.
+fn put_word<L: Lines>(
+    row: &mut Row,
+    kernel: &Kernel<L>,
+    names: &Names,
+    notification: ObjId,
+) -> Result<(), AllocError> {
+    if let Some(word) = kernel.word(notification) {
+        row.push(1)?;
+        row.push(names.name(notification))?;
+        row.push(word)?;
+    }
+    Ok(())
+}
+
+/// Who receives with a reply object. Whom it owes is told by what that thread does.
+fn put_reply<L: Lines>(
+    row: &mut Row,
+    kernel: &Kernel<L>,
+    names: &Names,
+    reply: ObjId,
+) -> Result<(), AllocError> {
+    if let Some(receiver) = kernel.receiver(reply) {
+        row.push(2)?;
+        row.push(names.name(reply))?;
+        row.push(receiver.serial as u64)?;
+    }
+    Ok(())
+}
+
+/// The home of a context and its chain.
+fn put_standing<L: Lines>(
+    row: &mut Row,
+    kernel: &Kernel<L>,
+    names: &Names,
+    context: ObjId,
+) -> Result<(), AllocError> {
+    let home = kernel.home(context);
+    let mut chain = kernel.chain(context);
+    let top = chain.next();
+    if home.is_none() && top.is_none() {
+        return Ok(());
+    }
+    row.push(3)?;
+    row.push(names.name(context))?;
+    row.push(names.name_or_none(home))?;
+    row.push(names.name_or_none(top))?;
+    for reply in chain {
+        row.push(names.name(reply))?;
+    }
+    row.push(0)?;
+    Ok(())
+}
+
+/// A context: where it is gone, or its home and its chain, where there are, and its core where it
+/// was made after the boot. That of one that the boot made stays.
+fn put_context<L: Lines>(
+    row: &mut Row,
+    kernel: &Kernel<L>,
+    names: &Names,
+    context: ObjId,
+) -> Result<(), AllocError> {
+    match kernel.core(context) {
+        None => {
+            row.push(4)?;
+            row.push(names.name(context))?;
+        }
+        Some(core) if names.is_later(context) => {
+            row.push(5)?;
+            row.push(names.name(context))?;
+            row.push(core.0 as u64)?;
+        }
+        Some(_) => {}
+    }
+    put_standing(row, kernel, names, context)
+}
+
+/// What there is of an object besides what threads and slots have of it.
+pub fn put_object<L: Lines>(
+    row: &mut Row,
+    kernel: &Kernel<L>,
+    names: &Names,
+    object: ObjId,
+) -> Result<(), AllocError> {
+    match object.kind {
+        Kind::CNode | Kind::Thread | Kind::Endpoint => Ok(()),
+        Kind::Notification => put_word(row, kernel, names, object),
+        Kind::Reply => put_reply(row, kernel, names, object),
+        Kind::Context => put_context(row, kernel, names, object),
+    }
+}
+
+/// A slot and its capability.
+fn put_cap(row: &mut Row, names: &Names, index: u8, cap: &Cap) -> Result<(), AllocError> {
+    row.push(index as u64)?;
+    row.push(kind_number(cap.obj.kind))?;
+    row.push(names.name(cap.obj))?;
+    row.push(cap.rights.bits() as u64)?;
+    row.push(cap.badge.0)?;
+    row.push(cap.guard.bits as u64)?;
+    row.push(cap.guard.value)?;
+    Ok(())
+}
+
+/// The slots of a CNode that hold something.
+pub fn put_slots<L: Lines>(
+    row: &mut Row,
+    kernel: &Kernel<L>,
+    names: &Names,
+    cnode: ObjId,
+) -> Result<(), AllocError> {
+    for index in 0..=u8::MAX {
+        if let Some(cap) = kernel.capability(cnode, index) {
+            put_cap(row, names, index, &cap)?;
+        }
+    }
+    row.push(256)?;
+    Ok(())
+}
+
+/// What a core may enter besides its pick.
+pub fn put_stale<L: Lines>(
+    row: &mut Row,
+    walk: &Walk<L>,
+    core: CoreId,
+    pick: Option<Pick>,
+) -> Result<(), AllocError> {
+    let Some(stale) = walk.stale(core) else {
+        return Ok(());
+    };
+    for stale in stale.as_slice() {
+        let is_picked = match pick {
+            Some(pick) => pick.is_same(*stale),
+            None => false,
+        };
+        if !is_picked {
+            row.push(core.0 as u64)?;
+            row.push(stale.user as u64)?;
+            row.push(stale.number as u64)?;
+        }
+    }
+    Ok(())
+}

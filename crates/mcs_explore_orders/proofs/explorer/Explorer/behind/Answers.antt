@@ -1,0 +1,32 @@
+use Rattle.std.specs.Prelude.{◌≡◌, Option, Some, IfNone, IfSome}
+use Rattle.std.proofs.Common.{refl, sym, subst}
+use Rattle.mcs_types.specs.declared.entry.Answer.{Answer}
+use Rattle.mcs_explore_walk.specs.Walks.{HasNoTurn, last_answer}
+use Rattle.mcs_explore_orders.specs.Trails.{Leads}
+use Rattle.mcs_explore_orders.specs.Shown.{HasCounted, SeesTurn}
+use Rattle.mcs_explore_orders.proofs.Telling.{turn-counted, turn-told}
+use Rattle.mcs_explore_orders.proofs.explorer.Explorer.behind.Goals as goal
+
+pub returns-in_err-key-clause-later : goal.returns-in_err-key-clause-later
+returns-in_err-key-clause-later g c = rw (← c.self.view_is) (record { search = record { users = refl; boot = refl; exact = c.key.ensures.mode; numbered = c.key.ensures.apart; met = c.key.ensures.kept }; aim = c.see_turn.ensures.aim })
+
+pub returns-clause-later : goal.returns-clause-later
+returns-clause-later g c = rw (← c.self.view_is) (record { search = record { users = refl; boot = refl; exact = c.key.ensures.mode; numbered = c.key.ensures.apart; met = c.key.ensures.kept }; aim = c.see_turn.ensures.aim })
+
+pub returns-clause-told : goal.returns-clause-told
+returns-clause-told g c =
+    let users = c.self.inside.users.now in
+    let walk = c.args.walk.value in
+    let behind = c.turn.new.self in
+    let there = c.deref_mut.ensures.value in
+    let leads = subst (λ w. Leads users c.args.turn w behind) there (subst (λ (o : Option Answer). IfSome o (λ a. Leads users c.args.turn c.deref_mut.result.now behind)) c.in-Some.is c.in_ok-answer.ensures.turn) in
+    let told = subst (λ (o : Option Answer). IfSome o (λ a. last_answer behind.book ≡ Some a)) c.in-Some.is c.in_ok-answer.ensures.answer in
+    let sees = subst (λ h. SeesTurn g.W.Watch.HasSeen c.self.inside.watch c.see_turn.new.self users c.args.place c.args.turn c.in-Some.answer h) c.deref.ensures c.in_ok-see_turn.ensures.sees in
+    rw (← c.self.view_is) (turn-told (HasCounted g.W.Watch.HasSeen) _ _ users c.args.place c.args.turn walk behind c.in-Some.answer leads told
+    (turn-counted g.W.Watch.HasSeen _ _ users c.args.place c.args.turn c.in-Some.answer behind c.saturating_add-self-inside.ensures refl sees))
+
+pub returns-in_default-clause-none : goal.returns-in_default-clause-none
+returns-in_default-clause-none g c =
+    let users = c.self.inside.users.now in
+    let none = subst (λ o. IfNone o (HasNoTurn users c.deref_mut.result.now c.args.turn.core c.args.turn.pick)) c.in_default.is c.in_ok-answer.ensures.no_turn in
+    rw (← c.self.view_is) (λ h leads. none h (subst (λ w. Leads users c.args.turn w h) (sym c.deref_mut.ensures.value) leads))

@@ -1,0 +1,54 @@
+-- What a search has seen of a run (own).
+use Rattle.std.specs.Prelude.{ℕ, ◌≡◌, ◌≤◌, ◌<◌, Bool, List, Some, length, slice_get}
+use Rattle.mcs_book.specs.Boots.{Boot}
+use Rattle.mcs_turns.specs.Turns.{User, Going, Follows, IsRun, beginning}
+use Rattle.mcs_explore_search.specs.declared.search.Edge.{Edge}
+use Rattle.mcs_explore_search.specs.Paths.{Path, Run}
+use Rattle.mcs_explore_search.specs.Reaching.{IsLink}
+use Rattle.mcs_explore_search.specs.Search.{Entries, depth_at, path_of}
+use Rattle.mcs_explore_walk.specs.declared.walk.Turn.{Turn}
+use Rattle.mcs_explore_equivalence.specs.Runs.{AreAlike}
+use Rattle.mcs_explore_orders.specs.Trails.{Leads}
+
+-- the state in a place is that of a run, by as many turns as its depth says, which are those of its
+-- path
+pub record IsFoundRun {K : Type 0} (users : List User) (boot : Boot) (found : Entries K Turn) (place : ℕ) (g : Going) : Type 0 where
+  pub run : IsRun users boot (depth_at found place) g
+  pub path : Path (Leads users) (beginning users boot) (path_of found place) g
+
+-- each state that was found is so
+abbrev pub AreFoundRuns : {K : Type 0} → List User → Boot → Entries K Turn → Type 0
+AreFoundRuns users boot found = (place : ℕ) → place < length found → (g : Going) × IsFoundRun users boot found place g
+
+-- a state was found that no later turn tells apart from the end of a run of n turns, by no more
+-- turns; the numbers of messages are told apart or not
+pub record IsSeen {K : Type 0} (numbered : Bool) (users : List User) (boot : Boot) (found : Entries K Turn) (n : ℕ) (g : Going) : Type 0 where
+  pub place : ℕ
+  pub within : place < length found
+  pub going : Going
+  pub is : IsFoundRun users boot found place going
+  pub like : AreAlike numbered users boot g going
+  pub near : depth_at found place ≤ n
+
+-- so is each run
+abbrev pub AreAllSeen : {K : Type 0} → Bool → List User → Boot → Entries K Turn → Type 0
+AreAllSeen numbered users boot found = (n : ℕ) (g : Going) → IsRun users boot n g → IsSeen numbered users boot found n g
+
+-- a run of edges from a place, to a state that no later turn tells apart from this one
+pub record IsAlongEdges (numbered : Bool) (users : List User) (boot : Boot) (states : List Going) (edges : List Edge) (i n : ℕ) (k : Going) : Type 0 where
+  pub end : ℕ
+  pub state : Going
+  pub there : slice_get states end ≡ Some state
+  pub run : Run (IsLink edges) i n end
+  pub like : AreAlike numbered users boot k state
+
+-- the edges between the states that were found are the runs of the users, but for likeness: each
+-- run from a state that is like a found one goes along edges, and edges from a found state are a
+-- run from each state that is like it
+pub record IsGraphOfRuns {K : Type 0} (numbered : Bool) (users : List User) (boot : Boot) (found : Entries K Turn) (edges : List Edge) : Type 0 where
+  pub states : List Going
+  pub long : length states ≡ length found
+  pub each : (i : ℕ) (g : Going) → slice_get states i ≡ Some g → IsFoundRun users boot found i g
+  pub along : (n i : ℕ) (g h k : Going) → slice_get states i ≡ Some g → AreAlike numbered users boot h g → Run (Follows users) h n k → IsAlongEdges numbered users boot states edges i n k
+  pub runs : (n i j : ℕ) (g h k : Going) → slice_get states i ≡ Some g → slice_get states j ≡ Some k → AreAlike numbered users boot h g → Run (IsLink edges) i n j
+      → (m : Going) × (Run (Follows users) h n m × AreAlike numbered users boot m k)

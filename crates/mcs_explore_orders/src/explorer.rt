@@ -1,0 +1,435 @@
+//! The turns of users after a boot as a system of points, each of which has a key.
+ghost use Rattle.std.specs.Prelude.{◌≡◌, ◌++◌, ◌∷◌, [], IfOk, OnOk, IfSome, IfNone, List, is_none};
+ghost use Rattle.std.specs.List.{list_all};
+ghost use Rattle.mcs_turns.specs.Turns.{User, Going, ArePicks, beginning};
+ghost use Rattle.mcs_explore_walk.specs.declared.walk.Turn.{Turn};
+ghost use Rattle.mcs_explore_orders.specs.Trails.{Leads};
+ghost use Rattle.mcs_explore_orders.specs.Exploring.{AreNextsOf, IsKeyIn, numbers_of};
+ghost use Rattle.mcs_explore_orders.specs.Shown.{HasCounted, IsToldState, IsToldTurn, SeesState, SeesTurn, Shown, Tells, TellsOn};
+ghost use Rattle.mcs_explore_orders.specs.Watching.{GoesOn, counting};
+
+use crate::packed::PackedTurn;
+use crate::trail::Trail;
+use mcs_explore_keys::{Key, Keys};
+use mcs_explore_search::System;
+use mcs_explore_walk::{OrdersFault, Turn, Users, Walk};
+use mcs_kernel::Boot;
+use mcs_queues::PlainLines;
+use mcs_turns::Pick;
+use mcs_types::{Answer, OutOfMemory};
+use std::alloc::Global;
+use std::marker::Model;
+
+/// To whom a search reports what it sees. A state is named by its place in the order in which it
+/// was found.
+pub trait Watch: Drop {
+    // what it was shown of runs of these users
+    ghost HasSeen: { Self → List User → Shown → Type 0 };
+
+    // what it goes by, which nothing that it is shown changes
+    ghost Aim: { Type 0 };
+
+    ghost aim: { Self → Aim };
+
+    /// The state in this place; it is over where no core has a pick.
+    fn see_state(
+        &mut self,
+        users: &Users,
+        place: usize,
+        walk: &Walk<PlainLines>,
+        is_over: bool,
+    ) -> Result<(), OrdersFault>
+        ensures aim { aim self.new ≡ aim self.old }
+        ensures sees { OnOk result (SeesState HasSeen self.old self.new
+            users.now place walk.now is_over) };
+
+    /// A turn from the state in this place: its answer, and what is behind it.
+    fn see_turn(
+        &mut self,
+        users: &Users,
+        place: usize,
+        turn: Turn,
+        answer: &Answer,
+        walk: &Walk<PlainLines>,
+    ) -> Result<(), OrdersFault>
+        ensures aim { aim self.new ≡ aim self.old }
+        ensures sees { OnOk result (SeesTurn HasSeen self.old self.new
+            users.now place turn answer.now walk.now) };
+}
+
+/// The points of runs of users after a boot, their keys, and to whom they are reported.
+pub struct Explorer<'a, W: Watch> {
+    boot: &'a Boot,
+    users: &'a Users,
+    keys: Keys,
+    trail: Trail,
+    watch: W,
+    turns: usize,
+    ends: usize,
+}
+
+// By hand, so that it is a function of its own: a derived drop would be proved anew wherever it is
+// freed.
+impl<'a, W: Watch> Drop for Explorer<'a, W> {
+    fn drop(self) {
+        let Explorer {
+            boot: _,
+            users: _,
+            keys: _,
+            trail: _,
+            watch: _,
+            turns: _,
+            ends: _,
+        } = self;
+    }
+}
+
+impl<'a, W: Watch> Model for Explorer<'a, W> {
+    ghost use Rattle.std.specs.Prelude.{◌≡◌};
+    ghost use Rattle.mcs_turns.specs.Turns.{beginning};
+    ghost use Rattle.mcs_explore_orders.specs.Trails.{IsTrail};
+    ghost use Rattle.mcs_explore_orders.specs.Watching.{Watching};
+
+    ghost Value = { Watching W };
+
+    ghost view = { λ e. record {
+      search = record {
+        users = e.users.now;
+        boot = e.boot.now;
+        keys = e.keys;
+        trail = e.trail;
+      };
+      watch = e.watch;
+      turns = e.turns;
+      ends = e.ends;
+    } };
+
+    ghost invariant = { λ e. (e.trail.start ≡ beginning e.users.now e.boot.now)
+        × IsTrail e.users.now e.trail.start e.trail.points };
+}
+
+impl<'a, W: Watch> Explorer<'a, W> {
+    /// At the beginning of a run.
+    pub fn new(
+        alloc: Global,
+        boot: &'a Boot,
+        users: &'a Users,
+        is_exact: bool,
+        numbered: bool,
+        watch: W,
+    ) -> Result<Explorer<'a, W>, OrdersFault>
+        ensures users { IfOk result (λ e. e.search.users ≡ users.now) }
+        ensures boot { IfOk result (λ e. e.search.boot ≡ boot.now) }
+        ensures exact { IfOk result (λ e. e.search.keys.is_exact ≡ is_exact) }
+        ensures numbered { IfOk result (λ e. e.search.keys.numbered ≡ numbered) }
+        ensures watch { IfOk result (λ e. e.watch ≡ watch) }
+        ensures turns { IfOk result (λ e. e.turns ≡ 0) }
+        ensures ends { IfOk result (λ e. e.ends ≡ 0) }
+    {
+        let start = Walk::new(alloc, boot, users)?;
+        Ok(Explorer {
+            boot,
+            users,
+            keys: Keys::new(alloc, boot, users, is_exact, numbered),
+            trail: Trail::new(alloc, start),
+            watch,
+            turns: 0,
+            ends: 0,
+        })
+    }
+
+    /// How many rows the keys have.
+    pub fn rows(&self) -> usize {
+        self.keys.rows()
+    }
+
+    /// How many turns were made, up to `usize::MAX`.
+    pub fn turns(&self) -> usize
+        ensures { result ≡ self.now.turns }
+    {
+        self.turns
+    }
+
+    /// How many of the states that were expanded are over, up to `usize::MAX`.
+    pub fn ends(&self) -> usize
+        ensures { result ≡ self.now.ends }
+    {
+        self.ends
+    }
+
+    /// To whom they were reported.
+    pub fn watch(&self) -> &W
+        ensures { result.now ≡ self.now.watch }
+    {
+        &self.watch
+    }
+
+    /// Tells of the state in a place.
+    fn tell(
+        &mut self,
+        place: usize,
+        walk: &Walk<PlainLines>,
+        picks: &[Option<Pick>],
+    ) -> Result<(), OrdersFault>
+        requires { ArePicks self.old.search.users walk.now picks.now }
+        ensures search { self.new.search ≡ self.old.search }
+        ensures aim { W.aim self.new.watch ≡ W.aim self.old.watch }
+        ensures told { OnOk result (IsToldState (HasCounted W.HasSeen)
+            (counting self.old) (counting self.new) self.old.search.users place walk.now) }
+    {
+        let is_over = is_over(picks);
+        self.ends = self.ends.saturating_add(usize::from(is_over));
+        self.watch.see_state(self.users, place, walk, is_over)
+    }
+
+    /// The key of what is behind a turn from the state in a place, where its cores have these
+    /// picks; None where the rule has no such turn. The turn is made on the walk.
+    fn behind(
+        &mut self,
+        alloc: Global,
+        place: usize,
+        turn: Turn,
+        picks: &[Option<Pick>],
+        walk: Box<Walk<PlainLines>>,
+    ) -> Result<Option<Key>, OrdersFault>
+        requires { ArePicks self.old.search.users walk.value picks.now }
+        ensures later { GoesOn W.aim self.old self.new }
+        ensures trail { self.new.search.trail ≡ self.old.search.trail }
+        ensures some { IfOk result (λ o. IfSome o (λ k. (h : Going)
+            × (Leads self.old.search.users turn walk.value h
+            × IsKeyIn self.new.search h k.items))) }
+        ensures told { IfOk result (λ o. IfSome o (λ k. IsToldTurn (HasCounted W.HasSeen)
+            (counting self.old) (counting self.new) self.old.search.users
+            place turn walk.value)) }
+        ensures none { IfOk result (λ o. IfNone o ((h : Going)
+            → Leads self.old.search.users turn walk.value h → ⊥)) }
+        ensures unseen { IfOk result (λ o. IfNone o (counting self.new ≡ counting self.old)) }
+    {
+        let mut walk = walk;
+        let Some(answer) = walk.turn(alloc, self.users, picks, turn)? else {
+            return Ok(None);
+        };
+        self.turns = self.turns.saturating_add(1);
+        self.watch
+            .see_turn(self.users, place, turn, &answer, &walk)?;
+        let picks = walk.picks(alloc, self.users)?;
+        let key = self.keys.key(self.users, &walk, &picks)?;
+        self.trail.let_go(walk);
+        Ok(Some(key))
+    }
+
+    /// Notes what is behind a turn from the state in a place, where the rule has it. The turn is
+    /// made on the walk.
+    fn add_next(
+        &mut self,
+        alloc: Global,
+        place: usize,
+        turn: Turn,
+        picks: &[Option<Pick>],
+        walk: Box<Walk<PlainLines>>,
+        nexts: &mut Vec<(PackedTurn, Key)>,
+    ) -> Result<(), OrdersFault>
+        requires { ArePicks self.old.search.users walk.value picks.now }
+        ensures later { GoesOn W.aim self.old self.new }
+        ensures trail { self.new.search.trail ≡ self.old.search.trail }
+        ensures nexts { OnOk result ((ts : List Turn)
+            → AreNextsOf self.old.search walk.value ts (numbers_of nexts.old.items)
+            → AreNextsOf self.new.search walk.value (ts ++ turn ∷ [])
+            (numbers_of nexts.new.items)) }
+        ensures told { OnOk result (TellsOn (HasCounted W.HasSeen)
+            (counting self.old) (counting self.new)
+            self.old.search.users place walk.value turn) }
+    {
+        self.users.are_apart();
+        if let Some(key) = self.behind(alloc, place, turn, picks, walk)? {
+            let label = PackedTurn::of(turn)?;
+            push(nexts, (label, key))?;
+        }
+        Ok(())
+    }
+
+    /// A walk once more, in the memory of a spare one.
+    fn copy_of(
+        &mut self,
+        alloc: Global,
+        walk: &Walk<PlainLines>,
+    ) -> Result<Box<Walk<PlainLines>>, OutOfMemory>
+        ensures copy { IfOk result (λ copy. copy.value ≡ walk.now) }
+        ensures unchanged { self.new ≡ self.old }
+    {
+        self.trail.copy_of(alloc, walk)
+    }
+
+    /// Lets a walk go, whose memory is used again.
+    fn let_go(&mut self, walk: Box<Walk<PlainLines>>)
+        ensures { self.new ≡ self.old }
+    {
+        self.trail.let_go(walk);
+    }
+
+    /// Notes what is behind a turn from the state in a place, made on a copy of the walk.
+    fn add_copy(
+        &mut self,
+        alloc: Global,
+        place: usize,
+        turn: Turn,
+        picks: &[Option<Pick>],
+        walk: &Walk<PlainLines>,
+        nexts: &mut Vec<(PackedTurn, Key)>,
+    ) -> Result<(), OrdersFault>
+        requires { ArePicks self.old.search.users walk.now picks.now }
+        ensures later { GoesOn W.aim self.old self.new }
+        ensures trail { self.new.search.trail ≡ self.old.search.trail }
+        ensures nexts { OnOk result ((ts : List Turn)
+            → AreNextsOf self.old.search walk.now ts (numbers_of nexts.old.items)
+            → AreNextsOf self.new.search walk.now (ts ++ turn ∷ []) (numbers_of nexts.new.items)) }
+        ensures told { OnOk result (TellsOn (HasCounted W.HasSeen)
+            (counting self.old) (counting self.new)
+            self.old.search.users place walk.now turn) }
+    {
+        let copy = self.copy_of(alloc, walk)?;
+        self.add_next(alloc, place, turn, picks, copy, nexts)
+    }
+
+    /// Notes what is behind some turns from the state in a place, each on a copy of the walk.
+    fn add_nexts(
+        &mut self,
+        alloc: Global,
+        place: usize,
+        turns: &[Turn],
+        picks: &[Option<Pick>],
+        walk: &Walk<PlainLines>,
+        nexts: &mut Vec<(PackedTurn, Key)>,
+    ) -> Result<(), OrdersFault>
+        requires picks { ArePicks self.old.search.users walk.now picks.now }
+        requires none { nexts.old.items ≡ [] }
+        ensures later { GoesOn W.aim self.old self.new }
+        ensures trail { self.new.search.trail ≡ self.old.search.trail }
+        ensures nexts { OnOk result
+            (AreNextsOf self.new.search walk.now turns.now (numbers_of nexts.new.items)) }
+        ensures told { OnOk result (Tells (HasCounted W.HasSeen)
+            (counting self.old) (counting self.new)
+            self.old.search.users place walk.now turns.now) }
+    {
+        for index in 0..turns.len() {
+            self.add_copy(alloc, place, turns[index], picks, walk, nexts)?;
+        }
+        Ok(())
+    }
+
+    /// What is behind some turns from the state in a place: the last is made on the walk itself, so
+    /// that a copy less is made.
+    fn nexts_by(
+        &mut self,
+        alloc: Global,
+        place: usize,
+        turns: &[Turn],
+        picks: &[Option<Pick>],
+        walk: Box<Walk<PlainLines>>,
+    ) -> Result<Vec<(PackedTurn, Key)>, OrdersFault>
+        requires { ArePicks self.old.search.users walk.value picks.now }
+        ensures later { GoesOn W.aim self.old self.new }
+        ensures trail { self.new.search.trail ≡ self.old.search.trail }
+        ensures nexts { IfOk result (λ nexts.
+            AreNextsOf self.new.search walk.value turns.now (numbers_of nexts.items)) }
+        ensures told { OnOk result (Tells (HasCounted W.HasSeen)
+            (counting self.old) (counting self.new)
+            self.old.search.users place walk.value turns.now) }
+    {
+        let mut nexts = Vec::with_capacity(alloc, turns.len())?;
+        let Some((last, others)) = turns.split_last() else {
+            self.let_go(walk);
+            return Ok(nexts);
+        };
+        self.add_nexts(alloc, place, others, picks, &walk, &mut nexts)?;
+        self.add_next(alloc, place, *last, picks, walk, &mut nexts)?;
+        Ok(nexts)
+    }
+}
+
+/// Whether no core has a pick, of all of these.
+fn is_over(picks: &[Option<Pick>]) -> bool
+    ensures { result ≡ list_all is_none picks.now }
+{
+    picks.iter().all(|pick| pick.is_none())
+}
+
+/// Adds a turn and a key to the end.
+fn push(nexts: &mut Vec<(PackedTurn, Key)>, next: (PackedTurn, Key)) -> Result<(), OrdersFault>
+    ensures { OnOk result (nexts.new.items ≡ nexts.old.items ++ next ∷ []) }
+{
+    match nexts.push(next) {
+        Ok(()) => Ok(()),
+        Err(_) => Err(OrdersFault::OutOfMemory),
+    }
+}
+
+impl<'a, W: Watch> System for Explorer<'a, W> {
+    ghost use Rattle.std.specs.Prelude.{◌≡◌};
+    ghost use Rattle.mcs_turns.specs.Turns.{Going, beginning};
+    ghost use Rattle.mcs_explore_orders.specs.Trails.{Leads};
+    ghost use Rattle.mcs_explore_orders.specs.Exploring.{IsKeyIn, LooksLike};
+    ghost use Rattle.mcs_explore_orders.specs.Shown.{HasCounted, HasSeenAll};
+    ghost use Rattle.mcs_explore_orders.specs.Watching.{GoesOn, counting};
+    ghost use Rattle.mcs_explore_orders.specs.Later.{goes-itself, goes-further, keeps-start, keeps-steps, keeps-likeness, keeps-keys, one-key, same-key};
+
+    type Label = PackedTurn;
+
+    type Key = Key;
+
+    type Fault = OrdersFault;
+
+    ghost State = { Going };
+
+    ghost start = { λ e. beginning e.search.users e.search.boot };
+
+    ghost Leads = { λ e. Leads e.search.users };
+
+    ghost Like = { λ e. LooksLike e.search };
+
+    ghost IsKey = { λ e g k. IsKeyIn e.search g k.items };
+
+    ghost HasSeen = { λ e paths. HasSeenAll (HasCounted W.HasSeen) (counting e) e.search.users
+        (beginning e.search.users e.search.boot) paths };
+
+    ghost Later = { λ e f. GoesOn W.aim e f };
+
+    fn first(&mut self, alloc: Global) -> Result<Key, OrdersFault> {
+        let walk = self.trail.walk_to(alloc, self.users, &[], &[])?;
+        let picks = walk.picks(alloc, self.users)?;
+        self.keys.key(self.users, &walk, &picks)
+    }
+
+    fn nexts(
+        &mut self,
+        alloc: Global,
+        place: usize,
+        path: &[PackedTurn],
+        next: &[PackedTurn],
+    ) -> Result<Vec<(PackedTurn, Key)>, OrdersFault> {
+        self.users.are_apart();
+        let walk = self.trail.walk_to(alloc, self.users, path, next)?;
+        let picks = walk.picks(alloc, self.users)?;
+        self.tell(place, &walk, &picks)?;
+        let turns = walk.turns(alloc, self.users, &picks)?;
+        let nexts = self.nexts_by(alloc, place, &turns, &picks, walk)?;
+        Ok(nexts)
+    }
+
+    ghost same = { λ e. goes-itself W.aim e };
+
+    ghost further = { λ e f g. goes-further W.aim e f g };
+
+    ghost keeps_start = { λ e f later. keeps-start e.search f.search later.search };
+
+    ghost keeps_steps = { λ e f later. keeps-steps e.search f.search later.search };
+
+    ghost keeps_likeness = { λ e f later. keeps-likeness e.search f.search later.search };
+
+    ghost keeps_keys = { λ e f later g k is.
+        keeps-keys e.search f.search later.search g k.items is };
+
+    ghost alike = { λ e p q g h k. one-key e.search p q g h k.items };
+
+    ghost as_good = { λ e g k c same is. same-key e.search g k.items c.items same is };
+}

@@ -1,0 +1,48 @@
+//! Turns that are made again.
+ghost use Rattle.std.specs.Prelude.{◌≡◌, OnOk};
+ghost use Rattle.mcs_book.specs.Boots.{Boot};
+ghost use Rattle.mcs_turns.specs.Turns.{Going};
+ghost use Rattle.mcs_explore_equivalence.specs.Runs.{IsReached};
+ghost use Rattle.mcs_explore_search.specs.Paths.{Path};
+ghost use Rattle.mcs_explore_orders.specs.Steps.{Moves};
+ghost use Rattle.mcs_explore_orders.specs.Trails.{Leads};
+
+use mcs_explore_walk::{OrdersFault, Turn, Users, Walk};
+use mcs_queues::Lines;
+use mcs_types::Answer;
+use std::alloc::Global;
+
+/// Makes a turn, if the rule has it, and gives what it was answered; else nothing has changed.
+fn step<L: Lines>(
+    alloc: Global,
+    users: &Users,
+    walk: &mut Walk<L>,
+    turn: Turn,
+) -> Result<Option<Answer>, OrdersFault>
+    ensures moves { OnOk result (Moves users.now walk.old walk.new) }
+    ensures leads { OnOk result ((h : Going) → Leads users.now turn walk.old h → walk.new ≡ h) }
+{
+    users.are_apart();
+    let picks = walk.picks(alloc, users)?;
+    walk.turn(alloc, users, &picks, turn)
+}
+
+/// Makes turns, those that the rule has.
+pub fn follow<L: Lines>(
+    alloc: Global,
+    users: &Users,
+    walk: &mut Walk<L>,
+    turns: &[Turn],
+) -> Result<(), OrdersFault>
+    // what a run reached goes on as one
+    ensures reached { OnOk result ((boot : Boot)
+        → IsReached users.now boot walk.old → IsReached users.now boot walk.new) }
+    // it is where these turns lead, if they lead somewhere
+    ensures path { OnOk result ((g : Going)
+        → Path (Leads users.now) walk.old turns.now g → walk.new ≡ g) }
+{
+    for index in 0..turns.len() {
+        step(alloc, users, walk, turns[index])?;
+    }
+    Ok(())
+}

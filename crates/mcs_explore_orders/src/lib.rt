@@ -1,0 +1,21 @@
+//! All orders in which the entries of users can come: a search through the states of a kernel and
+//! its users, the nearest first, which expands one state of all that have the same future (own).
+//!
+//! ```text
+//! users ── walk ──> a kernel, how far each user is, and what each core may enter
+//!     ── trail ──> the walks along a path of turns; the last is copied for each turn from it
+//!     ── keys ──> the key of a state: what decides its future
+//!     ── explorer ──> the system that `mcs_explore_search` searches; it reports to a `Watch`
+//! ```
+#![tactic(auto)]
+
+mod explorer;
+mod following;
+mod packed;
+mod search;
+mod trail;
+
+pub use explorer::{Explorer, Watch};
+pub use mcs_explore_search::Budget;
+pub use mcs_explore_walk::{OrdersFault, Pick, Position, Turn, UserList, Users, Walk};
+pub use search::{Orders, explore, retrace};

@@ -1,0 +1,190 @@
+//! The search, the nearest states first.
+ghost use Rattle.std.specs.Prelude.{ℕ, ◌≡◌, ◌≤◌, ◌-◌, ◌⊎◌, ◌↔◌, true, IsTrue, IfOk, OnOk, length};
+ghost use Rattle.mcs_book.specs.Boots.{IsFaultless};
+ghost use Rattle.mcs_turns.specs.Turns.{Going, AreInRange, beginning};
+ghost use Rattle.mcs_explore_equivalence.specs.Runs.{IsReached};
+ghost use Rattle.mcs_explore_search.specs.Paths.{Path};
+ghost use Rattle.mcs_explore_search.specs.Reaching.{AreWithin};
+ghost use Rattle.mcs_explore_search.specs.Search.{AreSorted, IsSpent, depth_at, path_of, paths_below};
+ghost use Rattle.mcs_explore_orders.specs.Seen.{AreAllSeen, AreFoundRuns, IsGraphOfRuns};
+ghost use Rattle.mcs_explore_orders.specs.Shown.{HasCounted, HasSeenAll, nothing};
+ghost use Rattle.mcs_explore_orders.specs.Trails.{Leads};
+ghost use Rattle.mcs_explore_orders.specs.Watching.{counting};
+
+use crate::explorer::{Explorer, Watch};
+use crate::following::follow;
+use crate::packed::{PackedTurn, unpacked};
+use mcs_explore_keys::Key;
+use mcs_explore_search::{Budget, Edge, Search};
+use mcs_explore_walk::{OrdersFault, Turn, Users, Walk};
+use mcs_kernel::Boot;
+use mcs_queues::Lines;
+use std::alloc::Global;
+
+/// The states that were found, and to whom they were reported.
+pub struct Orders<'a, W: Watch> {
+    alloc: Global,
+    search: Search<Key, PackedTurn>,
+    explorer: Explorer<'a, W>,
+}
+
+// By hand, so that it is a function of its own: a derived drop would be proved anew wherever it is
+// freed.
+impl<'a, W: Watch> Drop for Orders<'a, W> {
+    fn drop(self) {
+        let Orders {
+            alloc: _,
+            search: _,
+            explorer: _,
+        } = self;
+    }
+}
+
+/// Makes turns again, from the boot on, those that the rule has: what they reach is a run. BookFull
+/// where the book has 1,000,000 lines, OutOfMemory where memory was refused.
+pub fn retrace<L: Lines>(
+    alloc: Global,
+    boot: &Boot,
+    users: &Users,
+    turns: &[Turn],
+) -> Result<Walk<L>, OrdersFault>
+    ensures reached { IfOk result (λ walk. IsReached users.now boot.now walk) }
+    // it is where the path leads, if it leads somewhere
+    ensures path { IfOk result (λ walk. (g : Going)
+        → Path (Leads users.now) (beginning users.now boot.now) turns.now g → walk ≡ g) }
+{
+    let mut walk = Walk::new(alloc, boot, users)?;
+    follow(alloc, users, &mut walk, turns)?;
+    Ok(walk)
+}
+
+impl<'a, W: Watch> Orders<'a, W> {
+    /// How many states were found.
+    pub fn states(&self) -> usize
+        ensures { result ≡ length self.now.search.map.entries }
+    {
+        self.search.states()
+    }
+
+    /// How many of them were expanded.
+    pub fn done(&self) -> usize
+        ensures { result ≡ self.now.search.done }
+    {
+        self.search.done
+    }
+
+    /// Whether all were expanded.
+    pub fn is_whole(&self) -> bool
+        ensures { IsTrue result ↔ (length self.now.search.map.entries ≤ self.now.search.done) }
+    {
+        self.search.is_whole()
+    }
+
+    /// Returns the turns between them, by their places.
+    pub fn edges(&self) -> &[Edge]
+        ensures { result.now ≡ self.now.search.edges.items }
+    {
+        &self.search.edges
+    }
+
+    /// How many rows their keys have.
+    pub fn rows(&self) -> usize {
+        self.explorer.rows()
+    }
+
+    /// How many turns lead from states that were expanded, up to `usize::MAX`.
+    pub fn turns(&self) -> usize
+        ensures { result ≡ self.now.explorer.turns }
+    {
+        self.explorer.turns()
+    }
+
+    /// How many of the states that were expanded are over, up to `usize::MAX`.
+    pub fn ends(&self) -> usize
+        ensures { result ≡ self.now.explorer.ends }
+    {
+        self.explorer.ends()
+    }
+
+    /// To whom they were reported.
+    pub fn watch(&self) -> &W
+        ensures { result.now ≡ self.now.explorer.watch }
+    {
+        self.explorer.watch()
+    }
+
+    /// By how many turns the state in a place was found.
+    pub fn depth(&self, place: usize) -> usize
+        ensures { result ≡ depth_at self.now.search.map.entries place }
+    {
+        self.search.depth(place)
+    }
+
+    /// By how many turns the last state was found, which no other takes more.
+    pub fn deepest(&self) -> usize
+        ensures last { result ≡ depth_at self.now.search.map.entries
+            (length self.now.search.map.entries - 1) }
+        ensures greatest { AreSorted self.now.search.map.entries
+            → (place : ℕ) → depth_at self.now.search.map.entries place ≤ result }
+    {
+        self.depth(self.states().saturating_sub(1))
+    }
+
+    /// The turns by which the state in a place was found, the first one first.
+    pub fn path(&self, place: usize) -> Result<Vec<Turn>, OrdersFault>
+        ensures { IfOk result (λ turns. turns.items ≡ path_of self.now.search.map.entries place) }
+    {
+        let packed = self.search.path(self.alloc, place)?;
+        let turns = unpacked(self.alloc, &packed)?;
+        Ok(turns)
+    }
+}
+
+/// Expands one state after another, the earliest found first, until none is left or the budget
+/// ends. BookFull where a book has 1,000,000 lines; OutOfMemory where memory was refused, and where
+/// a user's number has more than 16 bits, or that of an entry, a row or a state that is expanded
+/// more than 32.
+pub fn explore<'a, W: Watch>(
+    alloc: Global,
+    boot: &'a Boot,
+    users: &'a Users,
+    is_exact: bool,
+    numbered: bool,
+    budget: Budget,
+    watch: W,
+) -> Result<Orders<'a, W>, OrdersFault>
+    // each state that was found is that of a run, by the turns of its path
+    ensures runs { IfOk result (λ o. AreFoundRuns users.now boot.now o.search.map.entries) }
+    ensures sorted { IfOk result (λ o. AreSorted o.search.map.entries) }
+    // it ends where all were expanded, or by the budget alone
+    ensures budget { IfOk result (λ o. (length o.search.map.entries ≤ o.search.done)
+        ⊎ IsSpent budget.states budget.depth o.search.done o.search.map.entries) }
+    // where keys are exact and all states were expanded, each run ends in a state that no later
+    // turn tells apart from one that was found, by no more turns: but for the numbers of messages,
+    // where these are not told apart
+    ensures whole { IfOk result (λ o. is_exact ≡ true → IsFaultless boot.now → AreInRange users.now
+        → length o.search.map.entries ≤ o.search.done
+        → AreAllSeen numbered users.now boot.now o.search.map.entries) }
+    // edges lie between states that were found, and then they are the runs of the users
+    ensures within { IfOk result (λ o. AreWithin o.search.edges.items
+        (length o.search.map.entries)) }
+    ensures graph { IfOk result (λ o. is_exact ≡ true → IsFaultless boot.now → AreInRange users.now
+        → length o.search.map.entries ≤ o.search.done
+        → IsGraphOfRuns numbered users.now boot.now o.search.map.entries o.search.edges.items) }
+    // each state that was expanded was shown, and each turn from it, and no other, and these were
+    // counted
+    ensures shown { IfOk result (λ o. W.HasSeen watch users.now nothing
+        → HasSeenAll (HasCounted W.HasSeen) (counting o.explorer)
+        users.now (beginning users.now boot.now)
+        (paths_below o.search.map.entries o.search.done)) }
+    // the watch goes by the same as before
+    ensures aim { IfOk result (λ o. W.aim o.explorer.watch ≡ W.aim watch) }
+{
+    let mut explorer = Explorer::new(alloc, boot, users, is_exact, numbered, watch)?;
+    let search = mcs_explore_search::explore(alloc, &mut explorer, budget)?;
+    Ok(Orders {
+        alloc,
+        search,
+        explorer,
+    })
+}

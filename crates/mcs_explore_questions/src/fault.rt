@@ -1,0 +1,243 @@
+//! Why a question is refused.
+use mcs_lab_check::LabFault;
+use std::alloc::{AllocError, AllocFailed, Global};
+use std::{fmt, io};
+use thiserror::Error;
+
+/// A word of a line. It is shown with each byte escaped that is not printable.
+#[derive(Debug, Drop)]
+pub struct Word {
+    bytes: Vec<u8>,
+}
+
+impl Word {
+    /// A copy of these bytes.
+    pub fn new(alloc: Global, bytes: &[u8]) -> Result<Word, AllocError> {
+        Ok(Word {
+            bytes: Vec::from_slice(alloc, bytes)?,
+        })
+    }
+}
+
+impl fmt::Display for Word {
+    fn fmt<W: fmt::Write>(&self, f: &mut fmt::Formatter<W>) -> fmt::Result {
+        write!(f, "\"{}\"", self.bytes.as_slice().escape_ascii())
+    }
+}
+
+/// How many of what there is are told at most.
+const TOLD: usize = 8;
+
+/// What there is, as it is told: eight of them at most.
+#[derive(Debug, Drop)]
+pub struct Listed {
+    bytes: Vec<u8>,
+    count: usize,
+}
+
+impl Listed {
+    /// Nothing.
+    pub fn new(alloc: Global) -> Listed {
+        Listed {
+            bytes: Vec::new(alloc),
+            count: 0,
+        }
+    }
+
+    /// Adds one, or two dots in place of all behind the eighth.
+    pub fn add(&mut self, what: &[u8]) -> Result<(), AllocError> {
+        let count = self.count;
+        self.count = count.saturating_add(1);
+        if count > TOLD {
+            return Ok(());
+        }
+        if count > 0 {
+            self.bytes.extend_from_slice(b", ")?;
+        }
+        self.bytes
+            .extend_from_slice(if count == TOLD { b".." } else { what })
+    }
+}
+
+impl fmt::Display for Listed {
+    fn fmt<W: fmt::Write>(&self, f: &mut fmt::Formatter<W>) -> fmt::Result {
+        if self.count == 0 {
+            return f.write_str("none");
+        }
+        write!(f, "{}", self.bytes.as_slice().escape_ascii())
+    }
+}
+
+/// Why a question is refused. What is told names the word, and what there is.
+#[derive(Debug, Drop, Error)]
+pub enum QuestionFault {
+    #[error("a blank is missing behind #!, before {word}")]
+    NoBlank {
+        word: Word,
+    },
+    #[error("nothing is asked; questions begin with: {there}")]
+    Nothing {
+        there: &'static str,
+    },
+    #[error("{word} asks nothing; questions begin with: {there}")]
+    Unknown {
+        word: Word,
+        there: &'static str,
+    },
+    #[error("{wanted} is missing at the end")]
+    Missing {
+        wanted: &'static str,
+    },
+    #[error("{field} is missing at the end, or **")]
+    Short {
+        field: Word,
+    },
+    #[error("{word} is one word too many")]
+    TooMany {
+        word: Word,
+    },
+    #[error("{word} is not {wanted}")]
+    Not {
+        word: Word,
+        wanted: &'static str,
+    },
+    #[error("{word} is not \"{wanted}\"")]
+    Other {
+        word: Word,
+        wanted: &'static str,
+    },
+    #[error("an entry that waits has no answer yet, and {word} is none: ask never = waits")]
+    Waits {
+        word: Word,
+    },
+    #[error("{word} stands behind **, which stands for the rest")]
+    BehindRest {
+        word: Word,
+    },
+    #[error("{word} names no thread that has entries; those are: {there}")]
+    NoUser {
+        word: Word,
+        there: Listed,
+    },
+    #[error("{word} is the name of two objects")]
+    Several {
+        word: Word,
+    },
+    #[error("{word} is not the number of an entry of {thread}, which has entries 1 to {count}")]
+    NoEntry {
+        word: Word,
+        thread: String,
+        count: usize,
+    },
+    #[error("{word} has no entry in it")]
+    Empty {
+        word: Word,
+    },
+    #[error("{word} begins no answer; answers begin with: {there}")]
+    NoAnswer {
+        word: Word,
+        there: Listed,
+    },
+    #[error("{word} begins no record; records begin with: {there}")]
+    NoRecord {
+        word: Word,
+        there: Listed,
+    },
+    #[error("no line can have these {count} words")]
+    NoLine {
+        count: usize,
+    },
+    #[error("{word} is no object that can be there; there are: {there}")]
+    NoObject {
+        word: Word,
+        there: Listed,
+    },
+    #[error("{thread} goes on again already")]
+    AgainTwice {
+        thread: String,
+    },
+    #[error("entry {number} of {thread} comes again: ask {instead}")]
+    ComesAgain {
+        thread: String,
+        number: usize,
+        instead: &'static str,
+    },
+    #[error("out of memory")]
+    OutOfMemory,
+}
+
+impl From<AllocError> for QuestionFault {
+    fn from(_error: AllocError) -> QuestionFault {
+        QuestionFault::OutOfMemory
+    }
+}
+
+impl<T: Drop> From<AllocFailed<T>> for QuestionFault {
+    fn from(_error: AllocFailed<T>) -> QuestionFault {
+        QuestionFault::OutOfMemory
+    }
+}
+
+/// Why a script of users is not explored to the end.
+#[derive(Debug, Drop)]
+pub enum ExploreFault {
+    /// As other commands tell it.
+    Lab(LabFault),
+    /// A question of the script is refused; lines count from 1.
+    Question { line: u64, why: QuestionFault },
+}
+
+impl ExploreFault {
+    /// The fault of the question in a line.
+    pub fn of_line(line: u64, why: QuestionFault) -> ExploreFault {
+        match why {
+            QuestionFault::OutOfMemory => ExploreFault::Lab(LabFault::OutOfMemory),
+            why => ExploreFault::Question { line, why },
+        }
+    }
+
+    /// The exit status of the program, 2 to 6 (own).
+    pub fn status(&self) -> u8 {
+        match self {
+            ExploreFault::Lab(fault) => fault.status(),
+            ExploreFault::Question { .. } => 2,
+        }
+    }
+}
+
+impl From<LabFault> for ExploreFault {
+    fn from(fault: LabFault) -> ExploreFault {
+        ExploreFault::Lab(fault)
+    }
+}
+
+impl From<io::Error> for ExploreFault {
+    fn from(error: io::Error) -> ExploreFault {
+        ExploreFault::Lab(LabFault::from(error))
+    }
+}
+
+impl From<AllocError> for ExploreFault {
+    fn from(error: AllocError) -> ExploreFault {
+        ExploreFault::Lab(LabFault::from(error))
+    }
+}
+
+impl<T: Drop> From<AllocFailed<T>> for ExploreFault {
+    fn from(_error: AllocFailed<T>) -> ExploreFault {
+        ExploreFault::Lab(LabFault::OutOfMemory)
+    }
+}
+
+impl fmt::Display for ExploreFault {
+    fn fmt<W: fmt::Write>(&self, f: &mut fmt::Formatter<W>) -> fmt::Result {
+        match self {
+            ExploreFault::Lab(fault) => write!(f, "{fault}"),
+            ExploreFault::Question { line, why } => {
+                write!(f, "mcslab: line {line}: question: {why}")
+            }
+        }
+    }
+}
+
+impl std::error::Error for ExploreFault {}

@@ -1,0 +1,40 @@
+//! Patterns: lines of words, in which `*` stands for a word and `**`, at the end, for the rest.
+ghost use Rattle.std.specs.Prelude.{◌≡◌};
+ghost use Rattle.mcs_explore_questions.specs.Patterns.{is_match, is_rest, is_word};
+
+use mcs_text::Words;
+
+/// Whether a word of a pattern stands for the rest.
+fn is_rest(wanted: &[u8]) -> bool
+    ensures { result ≡ is_rest wanted.now }
+{
+    wanted == b"**".as_slice()
+}
+
+/// Whether a word of a pattern stands for a word.
+fn is_word(wanted: &[u8], word: &[u8]) -> bool
+    ensures { result ≡ is_word wanted.now word.now }
+{
+    wanted == b"*".as_slice() || wanted == word
+}
+
+/// Whether a text is one of those for which a pattern stands (own), both cut into words at single
+/// spaces.
+pub fn is_match(pattern: &[u8], text: &[u8]) -> bool
+    ensures { result ≡ is_match pattern.now text.now }
+{
+    let mut left = Words::new(pattern);
+    let mut words = Words::new(text);
+    while let Some(wanted) = left.next_word() {
+        if is_rest(wanted) {
+            return true;
+        }
+        let Some(word) = words.next_word() else {
+            return false;
+        };
+        if !is_word(wanted, word) {
+            return false;
+        }
+    }
+    !words.has_more()
+}

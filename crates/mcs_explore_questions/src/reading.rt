@@ -1,0 +1,397 @@
+//! Reads the questions of a script.
+use crate::asking::{Asked, Entries, Event, Span, Until};
+use crate::fault::{QuestionFault, Word};
+use crate::forms::{Lines, pattern_of};
+use crate::there::{There, entry_of, id_text, no_entry};
+use mcs_explore_walk::{UserList, Users};
+use mcs_lab_inspect::number_of;
+use mcs_text::Words;
+use mcs_types::ObjId;
+use std::alloc::Global;
+
+/// The words with which questions begin.
+const FIRSTS: &str = "idle, live, answer, answer?, some, never, before, again";
+
+/// A range that a word writes.
+#[derive(Clone, Copy)]
+struct Range {
+    from: usize,
+    to: usize,
+    until: Until,
+}
+
+/// A question that is read word by word.
+#[derive(Drop)]
+struct Reader<'a> {
+    alloc: Global,
+    there: There<'a>,
+    words: Vec<&'a [u8]>,
+    taken: usize,
+}
+
+/// A text without the blanks at its end.
+fn trimmed(text: &[u8]) -> &[u8] {
+    let mut rest = text;
+    for _ in 0..text.len() {
+        match rest {
+            [front @ .., b' ' | b'\t'] => rest = front,
+            _ => return rest,
+        }
+    }
+    rest
+}
+
+/// The words of a text.
+fn words_of<'a>(alloc: Global, text: &'a [u8]) -> Result<Vec<&'a [u8]>, QuestionFault> {
+    let mut all = Vec::new(alloc);
+    let mut words = Words::new(text);
+    for _ in 0..=text.len() {
+        match words.next_word() {
+            Some(word) => all.push(word)?,
+            None => break,
+        }
+    }
+    Ok(all)
+}
+
+impl<'a> Reader<'a> {
+    /// The next word. Missing where none is left.
+    fn need(&mut self, wanted: &'static str) -> Result<&'a [u8], QuestionFault> {
+        let Some(word) = self.words.get(self.taken).copied() else {
+            return Err(QuestionFault::Missing { wanted });
+        };
+        self.taken = self.taken.saturating_add(1);
+        Ok(word)
+    }
+
+    /// The next word, which is left.
+    fn peek(&self) -> Option<&'a [u8]> {
+        self.words.get(self.taken).copied()
+    }
+
+    /// Takes this word. Missing where none is left, Other for another.
+    fn expect(&mut self, wanted: &'static str) -> Result<(), QuestionFault> {
+        let word = self.need(wanted)?;
+        if word == wanted.as_bytes() {
+            return Ok(());
+        }
+        Err(QuestionFault::Other {
+            word: Word::new(self.alloc, word)?,
+            wanted,
+        })
+    }
+
+    /// TooMany where a word is left.
+    fn end(&self) -> Result<(), QuestionFault> {
+        match self.peek() {
+            None => Ok(()),
+            Some(word) => Err(QuestionFault::TooMany {
+                word: Word::new(self.alloc, word)?,
+            }),
+        }
+    }
+
+    /// The user that the next word names.
+    fn user(&mut self) -> Result<&'a UserList, QuestionFault> {
+        let word = self.need("a thread")?;
+        self.there.user(self.alloc, word)
+    }
+
+    /// The entry that the next two words name.
+    fn event(&mut self) -> Result<Event, QuestionFault> {
+        let list = self.user()?;
+        let word = self.need("the number of an entry")?;
+        entry_of(self.alloc, list, word)
+    }
+
+    /// The range that a word writes. Not where it writes none.
+    fn range(&self, word: &[u8], wanted: &'static str) -> Result<Range, QuestionFault> {
+        match range_in(word) {
+            Some(range) => Ok(range),
+            None => Err(QuestionFault::Not {
+                word: Word::new(self.alloc, word)?,
+                wanted,
+            }),
+        }
+    }
+
+    /// Empty where the first of two numbers is behind the last, which a word writes; NoEntry where
+    /// a user has no last.
+    fn expect_entries(
+        &self,
+        list: &UserList,
+        word: &[u8],
+        first: usize,
+        last: usize,
+    ) -> Result<(), QuestionFault> {
+        if last > list.entries.len() {
+            return Err(no_entry(self.alloc, list, word)?);
+        }
+        if first > last {
+            return Err(QuestionFault::Empty {
+                word: Word::new(self.alloc, word)?,
+            });
+        }
+        Ok(())
+    }
+
+    /// The span that the next three words name: `t2 in 1..2`.
+    fn span(&mut self) -> Result<Span, QuestionFault> {
+        let list = self.user()?;
+        self.expect("in")?;
+        let wanted = "a span, as 1..2 or 1..=2";
+        let word = self.need(wanted)?;
+        let Range { from, to, until } = self.range(word, wanted)?;
+        self.expect_entries(list, word, from.saturating_add(1), to)?;
+        Ok(Span {
+            thread: list.thread,
+            from,
+            to,
+            until,
+        })
+    }
+
+    /// The spans that all words name, with `and` between them.
+    fn spans(&mut self) -> Result<Vec<Span>, QuestionFault> {
+        let mut spans = Vec::new(self.alloc);
+        for _ in 0..=self.words.len() {
+            spans.push(self.span()?)?;
+            if self.peek().is_none() {
+                break;
+            }
+            self.expect("and")?;
+        }
+        Ok(spans)
+    }
+
+    /// The pattern that all words are which are left.
+    fn pattern(&mut self, lines: Lines) -> Result<Vec<u8>, QuestionFault> {
+        let words = self.words.get(self.taken..).unwrap_or(&[]);
+        pattern_of(self.alloc, self.there, lines, words)
+    }
+
+    /// The pattern of the answers of an entry, which all words are that are left. Waits where it is
+    /// the answer of one that waits.
+    fn answer(&mut self) -> Result<Vec<u8>, QuestionFault> {
+        if let Some(word) = self.peek()
+            && word == b"waits".as_slice()
+        {
+            return Err(QuestionFault::Waits {
+                word: Word::new(self.alloc, word)?,
+            });
+        }
+        self.pattern(Lines::Answers)
+    }
+
+    /// What is never to be: a line of a pattern, or users in spans at once.
+    fn never(&mut self) -> Result<Asked, QuestionFault> {
+        let lines = match self.peek() {
+            Some(b"=") => Lines::Answers,
+            Some(b"+") => Lines::Records,
+            _ => {
+                let spans = self.spans()?;
+                return Ok(Asked::Apart { spans });
+            }
+        };
+        let sign = self.need("a sign")?;
+        let mut pattern = Vec::from_slice(self.alloc, sign)?;
+        pattern.extend_from_slice(b" ")?;
+        pattern.extend_from_slice(self.pattern(lines)?.as_slice())?;
+        Ok(Asked::Never { pattern })
+    }
+
+    /// The question whose first word was taken.
+    fn asked(&mut self, first: &[u8]) -> Result<Asked, QuestionFault> {
+        match first {
+            b"idle" => self.idle(),
+            b"live" => self.live(),
+            b"answer" => Ok(Asked::Answer {
+                event: self.event()?,
+                pattern: self.answer()?,
+            }),
+            b"answer?" => Ok(Asked::AnswerIf {
+                event: self.event()?,
+                pattern: self.answer()?,
+            }),
+            b"some" => Ok(Asked::Some {
+                event: self.event()?,
+                pattern: self.answer()?,
+            }),
+            b"never" => self.never(),
+            b"before" => self.before(),
+            b"again" => self.again(),
+            _ => Err(QuestionFault::Unknown {
+                word: Word::new(self.alloc, first)?,
+                there: FIRSTS,
+            }),
+        }
+    }
+
+    /// The entries that the next word names, as `2` or `1..=2`, or all where none is left.
+    fn entries(&mut self, list: &UserList) -> Result<Entries, QuestionFault> {
+        let Some(word) = self.peek() else {
+            let last = list.entries.len();
+            return Ok(Entries { first: 1, last });
+        };
+        self.taken = self.taken.saturating_add(1);
+        if !word.iter().any(|byte| *byte == b'.') {
+            let number = entry_of(self.alloc, list, word)?.number;
+            return Ok(Entries {
+                first: number,
+                last: number,
+            });
+        }
+        let Range { from, to, until } = self.range(word, "entries, as 2 or 1..=2")?;
+        if from == 0 {
+            return Err(no_entry(self.alloc, list, word)?);
+        }
+        let last = match until {
+            Until::Given => to.saturating_sub(1),
+            Until::Answered => to,
+        };
+        self.expect_entries(list, word, from, last)?;
+        Ok(Entries { first: from, last })
+    }
+
+    /// A thread that may wait for ever.
+    fn idle(&mut self) -> Result<Asked, QuestionFault> {
+        let list = self.user()?;
+        let entries = self.entries(list)?;
+        self.end()?;
+        Ok(Asked::Idle {
+            thread: list.thread,
+            entries,
+        })
+    }
+
+    /// A user that is never stuck, and the entry that this is asked of, if the line names one.
+    fn live(&mut self) -> Result<Asked, QuestionFault> {
+        let list = self.user()?;
+        let number = match self.peek() {
+            Some(word) => Some(entry_of(self.alloc, list, word)?.number),
+            None => None,
+        };
+        self.taken = self.taken.saturating_add(usize::from(number.is_some()));
+        self.end()?;
+        Ok(Asked::Live {
+            thread: list.thread,
+            number,
+        })
+    }
+
+    /// An entry that is given before another.
+    fn before(&mut self) -> Result<Asked, QuestionFault> {
+        let first = self.event()?;
+        let second = self.event()?;
+        self.end()?;
+        Ok(Asked::Before { first, second })
+    }
+
+    /// The entry with which a list goes on behind its last.
+    fn again(&mut self) -> Result<Asked, QuestionFault> {
+        let event = self.event()?;
+        self.end()?;
+        Ok(Asked::Again { event })
+    }
+}
+
+/// The range of a word: two numbers of at most 9 digits, and two dots between them, behind which
+/// `=` may stand.
+fn range_in(word: &[u8]) -> Option<Range> {
+    let dots = word.iter().position(|byte| *byte == b'.')?;
+    let from = small_number(word.get(..dots)?)?;
+    let (until, to) = match word.get(dots..)? {
+        [b'.', b'.', b'=', to @ ..] => (Until::Answered, to),
+        [b'.', b'.', to @ ..] => (Until::Given, to),
+        _ => return None,
+    };
+    Some(Range {
+        from,
+        to: small_number(to)?,
+        until,
+    })
+}
+
+/// The number that a word of at most 9 digits writes.
+fn small_number(word: &[u8]) -> Option<usize> {
+    if word.len() > 9 {
+        return None;
+    }
+    Some(number_of(word)? as usize)
+}
+
+/// The text of the question of a line `#!`, without its newline: what stands behind the blank,
+/// without blanks at its end. NoBlank where no blank stands there, Nothing where no text does.
+pub fn question_of(alloc: Global, line: &[u8]) -> Result<&[u8], QuestionFault> {
+    let [_, _, behind @ ..] = line else {
+        return Err(QuestionFault::Nothing { there: FIRSTS });
+    };
+    match trimmed(behind) {
+        [] => Err(QuestionFault::Nothing { there: FIRSTS }),
+        [b' ', text @ ..] => Ok(text),
+        text => Err(QuestionFault::NoBlank {
+            word: Word::new(alloc, first_word(text))?,
+        }),
+    }
+}
+
+/// The first word of a text.
+fn first_word(text: &[u8]) -> &[u8] {
+    match Words::new(text).next_word() {
+        Some(word) => word,
+        None => text,
+    }
+}
+
+/// Reads the question of a text. A fault where it has no form of them, or names what is not there.
+pub fn asked_of(alloc: Global, there: There<'_>, text: &[u8]) -> Result<Asked, QuestionFault> {
+    let mut reader = Reader {
+        alloc,
+        there,
+        words: words_of(alloc, text)?,
+        taken: 0,
+    };
+    let first = reader.need("a question")?;
+    reader.asked(first)
+}
+
+/// The list of a thread that goes on again, and the number of the entry with which it does, from 0.
+fn again_of(users: &Users, thread: ObjId) -> Option<usize> {
+    users.at(users.find(thread)?)?.again
+}
+
+/// AgainTwice where a question lets a list go on again that does already.
+pub fn goes_on_once(alloc: Global, users: &Users, asked: &Asked) -> Result<(), QuestionFault> {
+    match asked {
+        Asked::Again { event } if again_of(users, event.thread).is_some() => {
+            Err(QuestionFault::AgainTwice {
+                thread: id_text(alloc, event.thread)?,
+            })
+        }
+        _ => Ok(()),
+    }
+}
+
+/// ComesAgain where a question is about the first time that an entry is given or answered, and that
+/// comes again.
+pub fn comes_once(alloc: Global, users: &Users, asked: &Asked) -> Result<(), QuestionFault> {
+    let (event, instead) = match asked {
+        Asked::Before { first, .. } => (*first, "never"),
+        Asked::Answer { event, .. } => (*event, "answer?"),
+        Asked::Idle { .. }
+        | Asked::Live { .. }
+        | Asked::AnswerIf { .. }
+        | Asked::Some { .. }
+        | Asked::Never { .. }
+        | Asked::Apart { .. }
+        | Asked::Again { .. } => return Ok(()),
+    };
+    match again_of(users, event.thread) {
+        Some(number) if number < event.number => Err(QuestionFault::ComesAgain {
+            thread: id_text(alloc, event.thread)?,
+            number: event.number,
+            instead,
+        }),
+        _ => Ok(()),
+    }
+}

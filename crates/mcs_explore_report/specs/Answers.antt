@@ -1,0 +1,144 @@
+-- The answers that entries get (own).
+use Rattle.std.specs.Prelude.{ℕ, ◌≡◌, ◌==◌, ◌++◌, ◌⊎◌, Bool, true, false, cond, map, set, unwrap_or, List, [], ◌∷◌, Option, Some, None, slice_get}
+use Rattle.mcs_types.specs.declared.entry.Answer.{Answer}
+use Rattle.mcs_types.specs.declared.entry.Answer.TheVariants as answer
+use Rattle.mcs_types.specs.declared.entry.Entry.{Entry}
+use Rattle.mcs_turns.specs.declared.position.Pick.{Pick}
+use Rattle.mcs_turns.specs.Turns.{User, Going}
+use Rattle.mcs_explore_walk.specs.declared.walk.Turn.{Turn}
+use Rattle.mcs_explore_orders.specs.Shown.{Made}
+use Rattle.mcs_explore_report.specs.declared.answers.Told.{Told}
+use Rattle.mcs_explore_report.specs.declared.mail.Reached.{Reached}
+use Rattle.mcs_explore_report.specs.Judging.{place_of}
+use Rattle.mcs_explore_report.specs.Mail.{brought, is_send}
+
+-- the answers of the entries of all users
+abbrev pub Tables : Type 0
+Tables = List (List (List Told))
+
+-- no answer of any entry
+abbrev pub no_answers : List User → Tables
+no_answers users = map (λ (u : User). map (λ (e : Entry). []) u.entries) users
+
+-- the answers of an entry, if there is such an entry
+abbrev pub table_of : Tables → ℕ → ℕ → Option (List Told)
+table_of tables user number = slice_get (unwrap_or (slice_get tables user) []) number
+
+-- this answer is among those
+pub record IsAmong (told : List Told) (a : Answer) : Type 0 where
+  pub place : ℕ
+  pub one : Told
+  pub at : slice_get told place ≡ Some one
+  pub same : one.answer ≡ a
+
+-- an answer is noted, if it is new
+pub record IsNew (t : Told) (old new : List Told) : Type 0 where
+  pub none : IsAmong old t.answer → ⊥
+  pub added : new ≡ old ++ t ∷ []
+
+abbrev pub IsNoted : Told → List Told → List Told → Type 0
+IsNoted t old new = (IsAmong old t.answer × (new ≡ old)) ⊎ IsNew t old new
+
+-- what stands in a place is changed so, if something does, and nothing else is changed
+pub record IsChanged {A : Type 0} (Change : A → A → Type 0) (i : ℕ) (old new : List A) : Type 0 where
+  pub before : A
+  pub after : A
+  pub at : slice_get old i ≡ Some before
+  pub change : Change before after
+  pub changed : new ≡ set old i after
+
+abbrev pub IsChangedAt : {A : Type 0} → (A → A → Type 0) → ℕ → List A → List A → Type 0
+IsChangedAt Change i old new = ((slice_get old i ≡ None) × (new ≡ old)) ⊎ IsChanged Change i old new
+
+-- an answer of an entry of a user is noted, if there is such an entry, and no other
+abbrev pub IsNotedIn : ℕ → Told → List (List Told) → List (List Told) → Type 0
+IsNotedIn number t old new = IsChangedAt (IsNoted t) number old new
+
+abbrev pub IsNotedOf : ℕ → ℕ → Told → Tables → Tables → Type 0
+IsNotedOf user number t old new = IsChangedAt (IsNotedIn number t) user old new
+
+-- what a turn was answered is noted, but for Waits
+abbrev pub IsNotedTurn : Told → Tables → Tables → Type 0
+IsNotedTurn t old new = ((t.answer ≡ answer.Waits) × (new ≡ old)) ⊎ IsNotedOf t.turn.pick.user t.turn.pick.number t old new
+
+-- the number of an entry of a user
+pub record IsEntry (users : List User) (user number : ℕ) : Type 0 where
+  pub one : User
+  pub entry : Entry
+  pub is_user : slice_get users user ≡ Some one
+  pub is_entry : slice_get one.entries number ≡ Some entry
+
+-- what a turn was answered itself
+pub record IsOwnAnswer (m : Made) (i n : ℕ) (a : Answer) : Type 0 where
+  pub user : m.turn.pick.user ≡ i
+  pub number : m.turn.pick.number ≡ n
+  pub answer : m.answer ≡ a
+
+-- whether the entry of a user with this number is Send
+abbrev pub gave_send : List User → ℕ → ℕ → Bool
+gave_send users user number = elim (slice_get users user) [
+  | None ↦ false
+  | Some u ↦ elim (slice_get u.entries number) [ None ↦ false | Some e ↦ is_send e ]
+]
+
+-- whether an entry that waited comes to this: that a thread goes on says so of Send alone
+abbrev pub comes_to : List User → ℕ → ℕ → Answer → Bool
+comes_to users user number answer.Done = gave_send users user number
+comes_to users user number a = true
+
+-- the number of the entry with which a user waited, behind a turn of another user
+abbrev pub waiting : Going → ℕ → Turn → Option ℕ
+waiting g user t = cond (user == t.pick.user) None (elim (slice_get g.places user) [ None ↦ None | Some p ↦ p.waited ])
+
+-- the entry of a user that waited and comes to what reached its thread, if there is one
+abbrev pub mailed_to : List User → Going → Turn → Reached → Option Pick
+mailed_to users g t r = elim (place_of users r.thread) [
+  | None ↦ None
+  | Some user ↦ elim (waiting g user t) [
+    | None ↦ None
+    | Some number ↦ cond (comes_to users user number r.answer) (Some (record { user = user; number = number })) None
+  ]
+]
+
+-- it is noted of this entry, if there is one
+abbrev pub IsNotedFor : Option Pick → Told → Tables → Tables → Type 0
+IsNotedFor None t old new = new ≡ old
+IsNotedFor (Some e) t old new = IsNotedOf e.user e.number t old new
+
+-- what reached a thread by a turn from the state in a place is noted of the entry that comes to it
+abbrev pub IsNotedMail : List User → Going → ℕ → Turn → Reached → Tables → Tables → Type 0
+IsNotedMail users g place t r old new = IsNotedFor (mailed_to users g t r) (record { answer = r.answer; place = place; turn = t }) old new
+
+-- so is all that did, one after the other
+abbrev pub AreNotedMail : List User → Going → ℕ → Turn → List Reached → Tables → Tables → Type 0
+AreNotedMail users g place t [] old new = new ≡ old
+AreNotedMail users g place t (r ∷ rs) old new = (mid : Tables) × (IsNotedMail users g place t r old mid × AreNotedMail users g place t rs mid new)
+
+-- by a turn that led to this state this answer reached a thread, and this entry of its user waited
+-- and comes to it
+pub record IsMailed (users : List User) (g : Going) (user number : ℕ) (t : Turn) (a : Answer) : Type 0 where
+  pub index : ℕ
+  pub reached : Reached
+  pub at : slice_get (brought g.book) index ≡ Some reached
+  pub to : mailed_to users g t reached ≡ Some (record { user = user; number = number })
+  pub answer : reached.answer ≡ a
+
+-- an answer of an entry is that of a turn that was shown
+pub record IsAnswerOf (users : List User) (turns : List Made) (user number : ℕ) (t : Told) : Type 0 where
+  pub index : ℕ
+  pub made : Made
+  pub at : slice_get turns index ≡ Some made
+  pub place : made.place ≡ t.place
+  pub turn : made.turn ≡ t.turn
+  pub is : IsOwnAnswer made user number t.answer ⊎ IsMailed users made.going user number made.turn t.answer
+
+-- each answer of an entry is that of a turn that was shown, and each answer of such a turn but
+-- Waits is among those of its entry
+pub record AreAnswersOf (users : List User) (turns : List Made) (tables : Tables) : Type 0 where
+  pub entries : (user number : ℕ) → IsEntry users user number → (told : List Told) × (table_of tables user number ≡ Some told)
+  pub each : (user number : ℕ) (told : List Told) (i : ℕ) (t : Told) → table_of tables user number ≡ Some told → slice_get told i ≡ Some t → IsAnswerOf users turns user number t
+  pub all : (j : ℕ) (m : Made) (told : List Told) → slice_get turns j ≡ Some m → (m.answer ≡ answer.Waits → ⊥) → table_of tables m.turn.pick.user m.turn.pick.number ≡ Some told → IsAmong told m.answer
+
+-- what a turn that was shown brought to an entry that waited is among the answers of that entry
+abbrev pub AreMailOf : List User → List Made → Tables → Type 0
+AreMailOf users turns tables = (j : ℕ) (m : Made) (user number : ℕ) (a : Answer) (told : List Told) → slice_get turns j ≡ Some m → IsMailed users m.going user number m.turn a → table_of tables user number ≡ Some told → IsAmong told a

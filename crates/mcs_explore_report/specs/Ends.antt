@@ -1,0 +1,61 @@
+-- The kinds of ends (own).
+use Rattle.std.specs.Prelude.{ℕ, ◌≡◌, ◌<◌, ◌+◌, ◌-◌, ◌^◌, ◌++◌, ◌⊎◌, Bool, true, false, min, List, [], ◌∷◌, Some, length, set, slice_get}
+use Rattle.mcs_turns.specs.Turns.{User}
+use Rattle.mcs_explore_report.specs.declared.ends.Standing.{Standing}
+use Rattle.mcs_explore_orders.specs.Shown.{Sight}
+use Rattle.mcs_explore_report.specs.Standings.{standings}
+
+-- how the users stand, in how many states they do, and the place of the first of these
+pub record Kind : Type 0 where
+  pub standing : List Standing
+  pub count : ℕ
+  pub place : ℕ
+
+-- the kind in a place is that in which the users stand so
+pub record IsKindAt (kinds : List Kind) (standing : List Standing) (i : ℕ) : Type 0 where
+  pub kind : Kind
+  pub at : slice_get kinds i ≡ Some kind
+  pub same : kind.standing ≡ standing
+
+-- none of the first n kinds is so
+abbrev pub IsNoKind : List Kind → List Standing → ℕ → Type 0
+IsNoKind kinds standing n = (i : ℕ) (k : Kind) → i < n → slice_get kinds i ≡ Some k → k.standing ≡ standing → ⊥
+
+-- one end more; counts end with the largest
+abbrev pub with_one_more : Kind → Kind
+with_one_more k = record k { count = min (k.count + 1) (2 ^ 64 - 1) }
+
+-- an end of a kind that is there
+pub record IsCounted (standing : List Standing) (old new : List Kind) : Type 0 where
+  pub place : ℕ
+  pub is : IsKindAt old standing place
+  pub counted : new ≡ set old place (with_one_more is.kind)
+
+-- an end of a new kind, in the state of this place
+pub record IsFirst (standing : List Standing) (place : ℕ) (old new : List Kind) : Type 0 where
+  pub none : IsNoKind old standing (length old)
+  pub added : new ≡ old ++ (record { standing = standing; count = 1; place = place }) ∷ []
+
+-- an end is noted
+abbrev pub IsNoted : List Standing → ℕ → List Kind → List Kind → Type 0
+IsNoted standing place old new = IsCounted standing old new ⊎ IsFirst standing place old new
+
+-- the end in a state that is over is noted, and nothing of another
+abbrev pub IsNotedIf : Bool → List Standing → ℕ → List Kind → List Kind → Type 0
+IsNotedIf over standing place old new = ((over ≡ false) × (new ≡ old)) ⊎ ((over ≡ true) × IsNoted standing place old new)
+
+-- the kind is that of a state that was shown and is over
+pub record IsEndOf (users : List User) (states : List Sight) (k : Kind) : Type 0 where
+  pub number : ℕ
+  pub sight : Sight
+  pub at : slice_get states number ≡ Some sight
+  pub over : sight.is_over ≡ true
+  pub place : sight.place ≡ k.place
+  pub standing : standings users sight.going ≡ k.standing
+
+-- each kind is that of a state that was shown and is over, no two are the same, and each such state
+-- is of one of them
+pub record AreEndsOf (users : List User) (states : List Sight) (kinds : List Kind) : Type 0 where
+  pub each : (i : ℕ) (k : Kind) → slice_get kinds i ≡ Some k → IsEndOf users states k
+  pub all : (j : ℕ) (s : Sight) → slice_get states j ≡ Some s → s.is_over ≡ true → (i : ℕ) × IsKindAt kinds (standings users s.going) i
+  pub apart : (i j : ℕ) (k l : Kind) → slice_get kinds i ≡ Some k → slice_get kinds j ≡ Some l → k.standing ≡ l.standing → i ≡ j

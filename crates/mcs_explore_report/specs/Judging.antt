@@ -1,0 +1,131 @@
+-- Where a question fails: in a state, or by a turn (own).
+use Rattle.std.specs.Prelude.{ℕ, ◌≡◌, ◌+◌, ◌-◌, ◌==◌, ◌&&◌, Bool, false, not, nat_lt, nat_le, unwrap_or, List, [], ◌∷◌, Option, Some, None, length, take, position, slice_get, bytes_eq, decimal}
+use Rattle.std.specs.List.{list_all, list_any}
+use Rattle.mcs_types.specs.declared.id.ObjId.{ObjId}
+use Rattle.mcs_types.specs.declared.record.Rec.{Rec}
+use Rattle.mcs_types.specs.declared.record.Status.{Status}
+use Rattle.mcs_types.specs.declared.record.Status.TheVariants as status
+use Rattle.mcs_types.specs.Ids.{same}
+use Rattle.mcs_book.specs.Boots.{boot_log}
+use Rattle.mcs_book.specs.History.{Book, Line, log_of, past}
+use Rattle.mcs_book.specs.Logs.{Log}
+use Rattle.mcs_book.specs.Messages.{next_message}
+use Rattle.mcs_book.specs.Statuses.{status_of}
+use Rattle.mcs_text.specs.Reading.{words_of}
+use Rattle.mcs_text.specs.Table.{answer_text, record_text}
+use Rattle.mcs_sim.specs.Trace.{sent_with}
+use Rattle.mcs_turns.specs.declared.position.Position.{Position}
+use Rattle.mcs_turns.specs.Turns.{User, Going}
+use Rattle.mcs_explore_walk.specs.declared.walk.Turn.{Turn}
+use Rattle.mcs_explore_questions.specs.declared.asking.Asked.{Asked}
+use Rattle.mcs_explore_questions.specs.declared.asking.Asked.TheVariants as asked
+use Rattle.mcs_explore_questions.specs.declared.asking.Event.{Event}
+use Rattle.mcs_explore_questions.specs.declared.asking.Span.{Span}
+use Rattle.mcs_explore_questions.specs.declared.asking.Until.{Until}
+use Rattle.mcs_explore_questions.specs.declared.asking.Until.TheVariants as until
+use Rattle.mcs_explore_questions.specs.Patterns.{is_match}
+
+-- the place of the user of a thread
+abbrev pub place_of : List User → ObjId → Option ℕ
+place_of users thread = position (λ (u : User). same u.thread thread) users
+
+-- how many entries a user at this position was answered for good, by the status of its thread: one
+-- that waits is not among them
+abbrev pub answered_by : Option Status → Position → ℕ
+answered_by (Some status.Running) p = p.next
+answered_by st p = unwrap_or p.waited p.next
+
+-- how many the user in a place was
+abbrev pub answered : List User → Going → ℕ → ℕ
+answered users g i = elim (slice_get users i) [
+  | None ↦ 0
+  | Some u ↦ elim (slice_get g.places i) [ None ↦ 0 | Some p ↦ answered_by (status_of (log_of g.book) u.thread) p ]
+]
+
+-- how many it gave: one that waits is among them
+abbrev pub given_by : Option Status → Position → ℕ
+given_by (Some status.Running) p = p.next
+given_by st p = elim p.waited [ None ↦ p.next | Some last ↦ last + 1 ]
+
+-- how many of its entries came by which a span ends
+abbrev pub ended_by : Until → Option Status → Position → ℕ
+ended_by until.Given st p = given_by st p
+ended_by until.Answered st p = answered_by st p
+
+-- whether a user at this position is in a span, by the status of its thread
+abbrev pub is_within : Span → Option Status → Position → Bool
+is_within s st p = nat_le s.from (answered_by st p) && nat_lt (ended_by s.until st p) s.to
+
+-- whether the user in a place is
+abbrev pub is_at : List User → Going → Span → ℕ → Bool
+is_at users g s i = elim (slice_get users i) [
+  | None ↦ false
+  | Some u ↦ elim (slice_get g.places i) [ None ↦ false | Some p ↦ is_within s (status_of (log_of g.book) u.thread) p ]
+]
+
+-- whether the user of a span is in it
+abbrev pub is_in : List User → Going → Span → Bool
+is_in users g s = elim (place_of users s.thread) [ None ↦ false | Some i ↦ is_at users g s i ]
+
+-- whether a turn gives an entry
+abbrev pub gives : List User → Turn → Event → Bool
+gives users t e = elim (place_of users e.thread) [ None ↦ false | Some i ↦ (i == t.pick.user) && (e.number == t.pick.number + 1) ]
+
+-- whether a user has given an entry
+abbrev pub has_given : List User → Going → Event → Bool
+has_given users g e = elim (place_of users e.thread) [
+  | None ↦ false
+  | Some i ↦ elim (slice_get g.places i) [ None ↦ false | Some p ↦ nat_le e.number p.next ]
+]
+
+-- the lines of a trace for these records, before which so many messages were sent
+abbrev pub record_lines : ℕ → List Rec → List (List ℕ)
+record_lines n [] = []
+record_lines n (r ∷ rs) = record_text n r ∷ record_lines (sent_with n r) rs
+
+-- the lines of a trace behind the step of a line of the book: its answer and its records
+abbrev pub lines_told : ℕ → Line → List (List ℕ)
+lines_told n l = answer_text l.answer ∷ record_lines n l.records
+
+-- those of the newest line of a book
+abbrev pub told_by : Log → List Line → List (List ℕ)
+told_by B [] = []
+told_by B (l ∷ ls) = lines_told (next_message (past B ls)) l
+
+abbrev pub told_last : Book → List (List ℕ)
+told_last b = told_by (boot_log b.boot.lines) b.lines
+
+-- a line without its newline, which is its last byte
+abbrev pub bare : List ℕ → List ℕ
+bare line = take (length line - 1) line
+
+-- whether a pattern stands for a line
+abbrev pub is_line : List ℕ → List ℕ → Bool
+is_line pattern line = is_match pattern (bare line)
+
+-- whether a question fails in a state
+abbrev pub fails_in : List User → Asked → Going → Bool
+fails_in users (asked.Apart spans) g = list_all (is_in users g) spans.items
+fails_in users _ g = false
+
+-- whether it fails by a turn that led to this state
+abbrev pub fails_by : List User → Asked → Turn → Going → Bool
+fails_by users (asked.Never pattern) t h = list_any (is_line pattern.items) (told_last h.book)
+fails_by users (asked.Before first second) t h = gives users t second && not (has_given users h first)
+fails_by users _ t h = false
+
+-- whether it fails in a state, or by the turn that led there
+abbrev pub fails : List User → Asked → Option Turn → Going → Bool
+fails users q None g = fails_in users q g
+fails users q (Some t) g = fails_by users q t g
+
+-- no word of a list is the name of a message, as m4
+abbrev pub NameNone : List (List ℕ) → Type 0
+NameNone [] = Unit {0}
+NameNone (w ∷ ws) = ((n : ℕ) → bytes_eq w (109 ∷ decimal n) ≡ false) × NameNone ws
+
+-- states in which the numbers of messages are told apart decide each question; others do, but for
+-- patterns that name a message
+abbrev pub IsDecided : Bool → Asked → Type 0
+IsDecided false (asked.Never pattern) = NameNone (words_of pattern.items)
+IsDecided numbered q = Unit {0}

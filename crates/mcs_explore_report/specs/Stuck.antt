@@ -1,0 +1,135 @@
+-- Whether entries of users can be answered yet (own).
+use Rattle.std.specs.Prelude.{ℕ, ◌≡◌, ◌==◌, ◌&&◌, ◌||◌, ◌++◌, ◌⊎◌, ◌<◌, ◌-◌, Bool, true, false, not, cond, flat_map, map, nat_le, nat_lt, min, replicate, set, take, List, [], ◌∷◌, Option, Some, None, length, slice_get}
+use Rattle.std.specs.List.{list_any}
+use Rattle.mcs_types.specs.declared.entry.Answer.{Answer}
+use Rattle.mcs_types.specs.declared.entry.Answer.TheVariants as answer
+use Rattle.mcs_book.specs.Boots.{Boot}
+use Rattle.mcs_turns.specs.declared.position.Pick.{Pick}
+use Rattle.mcs_turns.specs.Turns.{User, Going, Follows, IsRun}
+use Rattle.mcs_explore_search.specs.declared.search.Edge.{Edge}
+use Rattle.mcs_explore_search.specs.Paths.{Run}
+use Rattle.mcs_explore_search.specs.Reaching.{IsLed}
+use Rattle.mcs_explore_search.specs.Search.{Entries}
+use Rattle.mcs_explore_walk.specs.declared.walk.Turn.{Turn}
+use Rattle.mcs_explore_walk.specs.Walks.{last_answer}
+use Rattle.mcs_explore_orders.specs.Shown.{Made, Shown, Sight}
+use Rattle.mcs_explore_orders.specs.Trails.{Leads}
+use Rattle.mcs_explore_report.specs.declared.live.Live.{Live}
+use Rattle.mcs_explore_report.specs.declared.mail.Reached.{Reached}
+use Rattle.mcs_explore_report.specs.Answers.{mailed_to}
+use Rattle.mcs_explore_report.specs.Found.{IsAt}
+use Rattle.mcs_explore_report.specs.Judging.{answered}
+use Rattle.mcs_explore_report.specs.Mail.{brought}
+
+-- whether a list that goes on with this entry behind its last comes to another one again
+abbrev pub comes_again : Option ℕ → ℕ → Bool
+comes_again None e = false
+comes_again (Some first) e = nat_le first e
+
+-- whether a user that was answered so many entries was answered what is asked for, and does not
+-- come back to it
+abbrev pub settled_by : User → Option ℕ → ℕ → Bool
+settled_by u None count = nat_le (length u.entries) count
+settled_by u (Some e) count = nat_lt e count && not (comes_again u.again e)
+
+-- whether the user of a question was; so it is where there is no such user
+abbrev pub is_settled : List User → Live → Going → Bool
+is_settled users l g = elim (slice_get users l.user) [ None ↦ true | Some u ↦ settled_by u l.entry (answered users g l.user) ]
+
+-- whether a question is about an entry of a user
+abbrev pub is_about : Live → Pick → Bool
+is_about l k = (k.user == l.user) && elim l.entry [ None ↦ true | Some e ↦ k.number == e ]
+
+-- whether what reached a thread is what an entry comes to that is asked about
+abbrev pub is_mailed : List User → Going → Turn → Live → Reached → Bool
+is_mailed users g t l r = elim (mailed_to users g t r) [ None ↦ false | Some k ↦ is_about l k ]
+
+-- whether an answer is Waits
+abbrev pub is_waits : Answer → Bool
+is_waits answer.Waits = true
+is_waits _ = false
+
+-- whether a turn that led to this state answers an entry that is asked about: its own, or one that
+-- waited
+abbrev pub answers : List User → Live → Turn → Answer → Going → Bool
+answers users l t a g = (is_about l t.pick && not (is_waits a)) || list_any (is_mailed users g t l) (brought g.book)
+
+-- the same, by the newest line of its book
+abbrev pub answers_last : List User → Live → Turn → Going → Bool
+answers_last users l t g = elim (last_answer g.book) [ None ↦ false | Some a ↦ answers users l t a g ]
+
+-- what is asked about is settled in a state, or a turn from it answers it
+abbrev pub IsNear : List User → Live → Going → Type 0
+IsNear users l g = (is_settled users l g ≡ true) ⊎ ((t : Turn) × ((h : Going) × (Leads users t g h × (answers_last users l t h ≡ true))))
+
+-- a run leads on from a state to one where that is so
+pub record IsLive (users : List User) (l : Live) (g : Going) : Type 0 where
+  pub turns : ℕ
+  pub going : Going
+  pub run : Run (Follows users) g turns going
+  pub near : IsNear users l going
+
+-- what is noted of a question: whether it was settled in each state that was shown, and the places
+-- from which a turn answered it
+pub record Noted : Type 0 where
+  pub settled : List Bool
+  pub answered : List ℕ
+
+-- questions, and what is noted of each
+pub record Asking : Type 0 where
+  pub lives : List Live
+  pub notes : List Noted
+
+-- with a state more, and with a turn more
+abbrev pub with_sight : List User → Going → Live → Noted → Noted
+with_sight users g l n = record n { settled = n.settled ++ is_settled users l g ∷ [] }
+
+abbrev pub with_made : List User → ℕ → Turn → Answer → Going → Live → Noted → Noted
+with_made users place t a h l n = record n { answered = n.answered ++ cond (answers users l t a h) (place ∷ []) [] }
+
+-- what is noted of each question is changed so
+pub record AreNotedOn (change : Live → Noted → Noted) (lives : List Live) (old new : List Noted) : Type 0 where
+  pub long : length new ≡ length old
+  pub each : (i : ℕ) (l : Live) (n : Noted) → slice_get lives i ≡ Some l → slice_get old i ≡ Some n → slice_get new i ≡ Some (change l n)
+
+-- what is noted of a question is what was shown
+pub record IsNotedBy (users : List User) (shown : Shown) (l : Live) (n : Noted) : Type 0 where
+  pub settled : n.settled ≡ map (λ (s : Sight). is_settled users l s.going) shown.states
+  pub answered : n.answered ≡ flat_map (λ (m : Made). cond (answers users l m.turn m.answer m.going) (m.place ∷ []) []) shown.turns
+
+-- so it is of each
+pub record AreNotedBy (users : List User) (lives : List Live) (shown : Shown) (notes : List Noted) : Type 0 where
+  pub long : length notes ≡ length lives
+  pub each : (i : ℕ) (l : Live) (n : Noted) → slice_get lives i ≡ Some l → slice_get notes i ≡ Some n → IsNotedBy users shown l n
+
+-- a mark in a place, if there is one, and in each of these places
+abbrev pub with_mark : ℕ → List Bool → List Bool
+with_mark place marks = cond (nat_lt place (length marks)) (set marks place true) marks
+
+abbrev pub with_marks : List ℕ → List Bool → List Bool
+with_marks [] marks = marks
+with_marks (p ∷ ps) marks = with_marks ps (with_mark p marks)
+
+-- the marks of so many places: where a question is settled or a turn answers it, and those that
+-- were not expanded
+abbrev pub first_marks : ℕ → Noted → List Bool
+first_marks states n = with_marks n.answered (take (min (length n.settled) states) n.settled ++ replicate (states - min (length n.settled) states) true)
+
+-- the first place from which no edges lead on to a marked one; none where they do from each
+abbrev pub IsFirstUnled : List Edge → List Bool → Option ℕ → Type 0
+IsFirstUnled edges marks None = (i : ℕ) → i < length marks → IsLed edges marks i
+IsFirstUnled edges marks (Some place) = (place < length marks) × ((IsLed edges marks place → ⊥) × ((i : ℕ) → i < place → IsLed edges marks i))
+
+-- where no run leads on to an answer: at the first such place of all that were found, or nowhere
+pub record IsStuckAt {K : Type 0} (users : List User) (boot : Boot) (l : Live) (found : Entries K Turn) (place : ℕ) : Type 0 where
+  pub within : place < length found
+  pub stuck : (g : Going) → IsAt users boot found place g → IsLive users l g → ⊥
+  pub before : (i : ℕ) (g : Going) → i < place → IsAt users boot found i g → IsLive users l g
+
+abbrev pub IsStuckFirst : {K : Type 0} → List User → Boot → Live → Entries K Turn → Option ℕ → Type 0
+IsStuckFirst users boot l found None = (n : ℕ) (g : Going) → IsRun users boot n g → IsLive users l g
+IsStuckFirst users boot l found (Some place) = IsStuckAt users boot l found place
+
+-- what edges do not lead on to from a place is what no run leads on to
+abbrev pub AreDecided : {K : Type 0} → List User → Boot → List Live → Entries K Turn → List Edge → List Noted → Type 0
+AreDecided users boot lives found edges notes = (i : ℕ) (l : Live) (n : Noted) (o : Option ℕ) → slice_get lives i ≡ Some l → slice_get notes i ≡ Some n → IsFirstUnled edges (first_marks (length found) n) o → IsStuckFirst users boot l found o

@@ -1,0 +1,93 @@
+-- What is told of questions (own).
+use Rattle.std.specs.Prelude.{ℕ, ◌≡◌, ◌-◌, ◌<◌, ◌&&◌, ◌⊎◌, nat_lt, Bool, true, false, is_none, is_some, unwrap_or, List, [], Option, Some, None, length, slice_get}
+use Rattle.std.specs.List.{list_any}
+use Rattle.mcs_types.specs.declared.entry.Answer.{Answer}
+use Rattle.mcs_types.specs.Ids.{same}
+use Rattle.mcs_turns.specs.Turns.{User}
+use Rattle.mcs_explore_report.specs.declared.answers.Told.{Told}
+use Rattle.mcs_explore_questions.specs.declared.asking.Asked.{Asked}
+use Rattle.mcs_explore_questions.specs.declared.asking.Asked.TheVariants as asked
+use Rattle.mcs_explore_questions.specs.declared.asking.Event.{Event}
+use Rattle.mcs_explore_report.specs.declared.ends.Standing.{Standing}
+use Rattle.mcs_explore_report.specs.declared.judging.Sighting.{Sighting}
+use Rattle.mcs_explore_report.specs.declared.verdicts.Verdict.{Verdict}
+use Rattle.mcs_explore_report.specs.Answers.{Tables, table_of}
+use Rattle.mcs_explore_report.specs.Ends.{Kind}
+use Rattle.mcs_explore_report.specs.Judging.{place_of}
+use Rattle.mcs_explore_questions.specs.Patterns.{is_match}
+use Rattle.mcs_explore_report.specs.Saying.{said}
+
+-- whether a pattern stands for an answer
+abbrev pub is_said : List ℕ → Answer → Bool
+is_said pattern a = is_match pattern (said a)
+
+-- an answer for which a pattern stands, or does not, as is wanted, and the turn by which it came
+pub record IsFoundIn (told : List Told) (pattern : List ℕ) (wanted : Bool) (seen : Sighting) : Type 0 where
+  pub index : ℕ
+  pub one : Told
+  pub at : slice_get told index ≡ Some one
+  pub is : is_said pattern one.answer ≡ wanted
+  pub seen_is : seen ≡ record { place = one.place; turn = Some one.turn }
+
+-- none of the first n answers is so
+abbrev pub IsNotIn : List Told → List ℕ → Bool → ℕ → Type 0
+IsNotIn told pattern wanted n = (i : ℕ) (t : Told) → i < n → slice_get told i ≡ Some t → is_said pattern t.answer ≡ wanted → ⊥
+
+-- the answers of an entry
+abbrev pub answers_of : List User → Tables → Event → List Told
+answers_of users tables e = elim (place_of users e.thread) [ None ↦ [] | Some i ↦ unwrap_or (table_of tables i (e.number - 1)) [] ]
+
+-- what a look for such an answer gave: where there is one, and none where there is none
+abbrev pub IsSearched : List Told → List ℕ → Bool → Option Sighting → Type 0
+IsSearched told pattern wanted None = IsNotIn told pattern wanted (length told)
+IsSearched told pattern wanted (Some seen) = IsFoundIn told pattern wanted seen
+
+-- where a question failed first, if it did
+abbrev pub failed_at : List (Option Sighting) → ℕ → Option Sighting
+failed_at failed number = failed_of (slice_get failed number)
+  where
+    failed_of : Option (Option Sighting) → Option Sighting
+    failed_of None = None
+    failed_of (Some f) = f
+
+-- whether a user that stands so in an end has not been answered an entry
+abbrev pub lacks_one : Event → Standing → Bool
+lacks_one e s = same s.thread e.thread && nat_lt s.answered e.number
+
+-- whether an end in which the users stand so comes without an answer of an entry
+abbrev pub lacks : Event → List Standing → Bool
+lacks e standing = list_any (lacks_one e) standing
+
+-- none of the first n kinds of ends does
+abbrev pub HasEach : List Kind → Event → ℕ → Type 0
+HasEach kinds e n = (i : ℕ) (k : Kind) → i < n → slice_get kinds i ≡ Some k → lacks e k.standing ≡ false
+
+-- one of them does, and none before it: the state in which it came first
+pub record IsWithout (kinds : List Kind) (e : Event) (seen : Sighting) : Type 0 where
+  pub index : ℕ
+  pub kind : Kind
+  pub at : slice_get kinds index ≡ Some kind
+  pub lacks : lacks e kind.standing ≡ true
+  pub before : HasEach kinds e index
+  pub seen_is : seen ≡ record { place = kind.place; turn = None }
+
+-- what a look for such an end gave: where there is one, and none where there is none
+abbrev pub IsEndSearched : List Kind → Event → Option Sighting → Type 0
+IsEndSearched kinds e None = HasEach kinds e (length kinds)
+IsEndSearched kinds e (Some seen) = IsWithout kinds e seen
+
+-- an answer that is not of the pattern, or an end without one; none where there is neither
+abbrev pub IsAlways : List Told → List ℕ → List Kind → Event → Option Sighting → Type 0
+IsAlways told pattern kinds e None = IsNotIn told pattern false (length told) × HasEach kinds e (length kinds)
+IsAlways told pattern kinds e (Some seen) = IsFoundIn told pattern false seen ⊎ IsWithout kinds e seen
+
+-- what is told of a question, which failed first here, if it did, and whose user can't go on from
+-- there first, if it can't somewhere
+abbrev pub IsVerdict : List User → List Kind → Tables → Option Sighting → Option Sighting → Asked → Verdict → Type 0
+IsVerdict users kinds tables f stuck (asked.Idle thread entries) v = v ≡ record { holds = true; seen = None }
+IsVerdict users kinds tables f stuck (asked.Again event) v = v ≡ record { holds = true; seen = None }
+IsVerdict users kinds tables f stuck (asked.Live thread number) v = v ≡ record { holds = is_none stuck; seen = stuck }
+IsVerdict users kinds tables f stuck (asked.Answer event pattern) v = (v.holds ≡ is_none v.seen) × IsAlways (answers_of users tables event) pattern.items kinds event v.seen
+IsVerdict users kinds tables f stuck (asked.AnswerIf event pattern) v = (v.holds ≡ is_none v.seen) × IsSearched (answers_of users tables event) pattern.items false v.seen
+IsVerdict users kinds tables f stuck (asked.Some event pattern) v = (v.holds ≡ is_some v.seen) × IsSearched (answers_of users tables event) pattern.items true v.seen
+IsVerdict users kinds tables f stuck _ v = v ≡ record { holds = is_none f; seen = f }

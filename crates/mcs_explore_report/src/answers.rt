@@ -1,0 +1,228 @@
+//! The answers that entries can get.
+ghost use Rattle.std.specs.Prelude.{◌≡◌, ◌↔◌, ◌++◌, ◌∷◌, [], IsTrue, IfOk, OnOk, map, slice_get, unwrap_or};
+ghost use Rattle.mcs_explore_report.specs.Answers.{IsAmong, IsNoted, IsNotedIn, IsNotedOf, IsNotedTurn, no_answers, table_of};
+ghost use Rattle.mcs_explore_report.specs.Mail.{is_send};
+
+use mcs_explore_orders::{OrdersFault, Turn, Users};
+use mcs_types::{Answer, Entry};
+use std::alloc::{AllocError, Global};
+use std::marker::Model;
+
+/// An answer, and the first turn by which it came: from the state in this place.
+#[derive(Drop)]
+pub struct Told {
+    pub answer: Answer,
+    pub place: usize,
+    pub turn: Turn,
+}
+
+/// The answers of an entry, the one that came first before the others.
+#[derive(Drop)]
+struct Table {
+    told: Vec<Told>,
+}
+
+impl Model for Table {
+    ghost use Rattle.std.specs.Prelude.{List};
+    ghost use Rattle.mcs_explore_report.specs.declared.answers.Told.{Told};
+
+    ghost Value = { List Told };
+
+    ghost view = { λ t. t.told.items };
+}
+
+/// The answers of the entries of a user.
+#[derive(Drop)]
+struct Tables {
+    entries: Vec<Table>,
+}
+
+impl Model for Tables {
+    ghost use Rattle.std.specs.Prelude.{List};
+    ghost use Rattle.mcs_explore_report.specs.declared.answers.Told.{Told};
+
+    ghost Value = { List (List Told) };
+
+    ghost view = { λ t. t.entries.items };
+}
+
+/// The answers of all entries of all users.
+#[derive(Drop)]
+pub struct Answers {
+    alloc: Global,
+    users: Vec<Tables>,
+}
+
+impl Model for Answers {
+    ghost use Rattle.std.specs.Prelude.{List};
+    ghost use Rattle.mcs_explore_report.specs.declared.answers.Told.{Told};
+
+    ghost Value = { List (List (List Told)) };
+
+    ghost view = { λ a. a.users.items };
+}
+
+impl Table {
+    /// No answer.
+    fn new(alloc: Global) -> Table
+        ensures { result ≡ [] }
+    {
+        Table {
+            told: Vec::new(alloc),
+        }
+    }
+
+    /// Whether an answer is there.
+    fn has(&self, answer: &Answer) -> bool
+        ensures { IsTrue result ↔ IsAmong self.now answer.now }
+    {
+        for index in 0..self.told.len() {
+            if self.told[index].answer.is_same(answer) {
+                return true;
+            }
+        }
+        false
+    }
+
+    /// Adds an answer to the end.
+    fn push(&mut self, told: Told) -> Result<(), OrdersFault>
+        ensures { OnOk result (self.new ≡ self.old ++ told ∷ []) }
+    {
+        self.told.push(told)?;
+        Ok(())
+    }
+
+    /// Notes an answer, if it is new.
+    fn note(
+        &mut self,
+        alloc: Global,
+        answer: &Answer,
+        place: usize,
+        turn: Turn,
+    ) -> Result<(), OrdersFault>
+        ensures { OnOk result (IsNoted
+            (record { answer = answer.now; place = place; turn = turn }) self.old self.new) }
+    {
+        if self.has(answer) {
+            return Ok(());
+        }
+        let answer = answer.copy(alloc)?;
+        self.push(Told {
+            answer,
+            place,
+            turn,
+        })
+    }
+}
+
+impl Tables {
+    /// No answer of so many entries.
+    fn new(alloc: Global, entries: &[Entry]) -> Result<Tables, AllocError>
+        ensures { IfOk result (λ t. t ≡ map (λ e. []) entries.now) }
+    {
+        let mut tables = Vec::new(alloc);
+        for entry in entries {
+            let _ = entry;
+            tables.push(Table::new(alloc))?;
+        }
+        Ok(Tables { entries: tables })
+    }
+
+    /// The answers of an entry.
+    fn of(&self, number: usize) -> &[Told]
+        ensures { result.now ≡ unwrap_or (slice_get self.now number) [] }
+    {
+        match self.entries.get(number) {
+            Some(table) => table.told.as_slice(),
+            None => &[],
+        }
+    }
+
+    /// Notes an answer of an entry, if it is new.
+    fn note(
+        &mut self,
+        alloc: Global,
+        number: usize,
+        answer: &Answer,
+        place: usize,
+        turn: Turn,
+    ) -> Result<(), OrdersFault>
+        ensures { OnOk result (IsNotedIn number
+            (record { answer = answer.now; place = place; turn = turn }) self.old self.new) }
+    {
+        if number >= self.entries.len() {
+            return Ok(());
+        }
+        let table = &mut self.entries[number];
+        table.note(alloc, answer, place, turn)
+    }
+}
+
+impl Answers {
+    /// No answer yet.
+    pub fn new(alloc: Global, users: &Users) -> Result<Answers, AllocError>
+        ensures { IfOk result (λ a. a ≡ no_answers users.now) }
+    {
+        let mut tables = Vec::new(alloc);
+        let lists = users.lists();
+        for user in lists {
+            tables.push(Tables::new(alloc, &user.entries)?)?;
+        }
+        Ok(Answers {
+            alloc,
+            users: tables,
+        })
+    }
+
+    /// The answers of an entry; none where there is no such entry.
+    pub fn of(&self, user: usize, number: usize) -> &[Told]
+        ensures { result.now ≡ unwrap_or (table_of self.now user number) [] }
+    {
+        match self.users.get(user) {
+            Some(tables) => tables.of(number),
+            None => &[],
+        }
+    }
+
+    /// Notes an answer of an entry, if it is new.
+    pub fn note(
+        &mut self,
+        user: usize,
+        number: usize,
+        answer: &Answer,
+        place: usize,
+        turn: Turn,
+    ) -> Result<(), OrdersFault>
+        ensures { OnOk result (IsNotedOf user number
+            (record { answer = answer.now; place = place; turn = turn }) self.old self.new) }
+    {
+        if user >= self.users.len() {
+            return Ok(());
+        }
+        let tables = &mut self.users[user];
+        tables.note(self.alloc, number, answer, place, turn)
+    }
+
+    /// Notes what a turn from the state in a place was answered, if its entry does not wait.
+    pub fn note_turn(
+        &mut self,
+        answer: &Answer,
+        place: usize,
+        turn: Turn,
+    ) -> Result<(), OrdersFault>
+        ensures { OnOk result (IsNotedTurn
+            (record { answer = answer.now; place = place; turn = turn }) self.old self.new) }
+    {
+        if matches!(answer, Answer::Waits) {
+            return Ok(());
+        }
+        self.note(turn.pick.user, turn.pick.number, answer, place, turn)
+    }
+}
+
+/// Whether an entry is Send, whose thread goes on once its message is taken.
+pub fn is_send(entry: &Entry) -> bool
+    ensures { result ≡ is_send entry.now }
+{
+    matches!(entry, Entry::Send { .. })
+}

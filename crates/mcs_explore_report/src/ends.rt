@@ -1,0 +1,252 @@
+//! How runs end.
+ghost use Rattle.std.specs.Prelude.{◌≡◌, ◌↔◌, ◌++◌, ◌<◌, [], IsTrue, IfOk, IfSome, IfNone, OnOk, Some, length, set, slice_get};
+ghost use Rattle.mcs_explore_report.specs.Standings.{is_blocked, listed, standing_of, standings};
+ghost use Rattle.mcs_explore_report.specs.Ends.{Kind, IsKindAt, IsNoKind, IsNoted, IsNotedIf, with_one_more};
+
+use crate::judging::answered_by;
+use mcs_explore_orders::{OrdersFault, Users, Walk};
+use mcs_queues::PlainLines;
+use mcs_types::{ObjId, Status};
+use std::alloc::Global;
+use std::marker::Model;
+
+/// A user that has not done all, or whose last entry waits.
+#[derive(Clone, Copy, Debug)]
+pub struct Standing {
+    pub thread: ObjId,
+    pub status: Option<Status>,
+    pub has_entries: bool,
+    /// How many of its entries were answered for good: it waits in the next, or has that left.
+    pub answered: usize,
+}
+
+/// Runs that end with the same users standing in the same places: how many states, and the first of
+/// them.
+#[derive(Drop)]
+pub struct End {
+    pub standing: Vec<Standing>,
+    pub count: usize,
+    pub place: usize,
+}
+
+impl Model for End {
+    ghost use Rattle.mcs_explore_report.specs.Ends.{Kind};
+
+    ghost Value = { Kind };
+
+    ghost view = { λ e. record { standing = e.standing.items; count = e.count; place = e.place } };
+}
+
+impl End {
+    /// Counts an end more; counts end with the largest.
+    fn add(&mut self)
+        ensures { self.new ≡ with_one_more self.old }
+    {
+        self.count = self.count.saturating_add(1);
+    }
+}
+
+/// All kinds of ends.
+#[derive(Drop)]
+pub struct Ends {
+    alloc: Global,
+    kinds: Vec<End>,
+}
+
+impl Model for Ends {
+    ghost use Rattle.std.specs.Prelude.{List};
+    ghost use Rattle.mcs_explore_report.specs.Ends.{Kind};
+
+    ghost Value = { List Kind };
+
+    ghost view = { λ e. e.kinds.items };
+}
+
+/// Whether a status is the same as another one.
+fn is_same_status(status: Status, other: Status) -> bool
+    ensures { IsTrue result ↔ (status ≡ other) }
+{
+    status == other
+}
+
+/// The same where there may be none.
+#[tactic(auto, using(crate::proofs::SameStanding::some_status, crate::proofs::SameStanding::none_left, crate::proofs::SameStanding::none_right))]
+fn is_same_or_none(status: Option<Status>, other: Option<Status>) -> bool
+    ensures { IsTrue result ↔ (status ≡ other) }
+{
+    match (status, other) {
+        (Some(status), Some(other)) => is_same_status(status, other),
+        (None, None) => true,
+        (Some(_), None) | (None, Some(_)) => false,
+    }
+}
+
+impl Standing {
+    /// Whether the other user is this one, and stands in the same place.
+    #[tactic(auto, using(crate::proofs::SameStanding::other_thread, crate::proofs::SameStanding::other_entries, crate::proofs::SameStanding::other_answered, crate::proofs::SameStanding::same_rest))]
+    fn is_same(&self, other: &Standing) -> bool
+        ensures { IsTrue result ↔ (self.now ≡ other.now) }
+    {
+        if !self.thread.is_same(other.thread) {
+            return false;
+        }
+        if self.has_entries != other.has_entries {
+            return false;
+        }
+        if self.answered != other.answered {
+            return false;
+        }
+        is_same_or_none(self.status, other.status)
+    }
+}
+
+/// Whether a thread neither runs nor restarts.
+fn is_blocked(status: Option<Status>) -> bool
+    ensures { result ≡ is_blocked status }
+{
+    !matches!(status, Some(Status::Running | Status::Restart))
+}
+
+/// How the user in a place stands; None where it has done all and waits for nothing.
+fn standing_of(users: &Users, walk: &Walk<PlainLines>, user: usize) -> Option<Standing>
+    ensures { result ≡ standing_of users.now walk.now user }
+{
+    let list = users.at(user)?;
+    let place = walk.place(user)?;
+    let status = walk.kernel().status(list.thread);
+    let has_entries = place.is_left(status, list.entries.len());
+    let waits = is_blocked(status) && place.waited.is_some();
+    if has_entries || waits {
+        Some(Standing {
+            thread: list.thread,
+            status,
+            has_entries,
+            answered: answered_by(status, place),
+        })
+    } else {
+        None
+    }
+}
+
+/// Adds what stands, if it does.
+fn push(standing: &mut Vec<Standing>, stands: Option<Standing>) -> Result<(), OrdersFault>
+    ensures { OnOk result (standing.new.items ≡ standing.old.items ++ listed stands) }
+{
+    if let Some(stands) = stands {
+        standing.push(stands)?;
+    }
+    Ok(())
+}
+
+/// How all users stand.
+fn standings(
+    alloc: Global,
+    users: &Users,
+    walk: &Walk<PlainLines>,
+) -> Result<Vec<Standing>, OrdersFault>
+    ensures { IfOk result (λ v. v.items ≡ standings users.now walk.now) }
+{
+    let mut standing = Vec::new(alloc);
+    for user in 0..users.lists().len() {
+        push(&mut standing, standing_of(users, walk, user))?;
+    }
+    Ok(standing)
+}
+
+/// Whether the same users stand in the same places.
+pub fn is_same_kind(standing: &[Standing], other: &[Standing]) -> bool
+    ensures { IsTrue result ↔ (standing.now ≡ other.now) }
+{
+    if standing.len() != other.len() {
+        return false;
+    }
+    for index in 0..standing.len() {
+        if !standing[index].is_same(&other[index]) {
+            return false;
+        }
+    }
+    true
+}
+
+impl Ends {
+    /// No end.
+    pub fn new(alloc: Global) -> Ends
+        ensures { result ≡ [] }
+    {
+        Ends {
+            alloc,
+            kinds: Vec::new(alloc),
+        }
+    }
+
+    /// The kinds, in the order in which they were found.
+    pub fn kinds(&self) -> &[End]
+        ensures { result.now ≡ self.now }
+    {
+        self.kinds.as_slice()
+    }
+
+    /// The kind in which the users stand so.
+    fn find(&self, standing: &[Standing]) -> Option<usize>
+        ensures within { IfSome result (λ i. i < length self.now) }
+        ensures some { IfSome result (λ i. IsKindAt self.now standing.now i) }
+        ensures none { IfNone result (IsNoKind self.now standing.now (length self.now)) }
+    {
+        for index in 0..self.kinds.len() {
+            let kind = &self.kinds[index];
+            if is_same_kind(&kind.standing, standing) {
+                return Some(index);
+            }
+        }
+        None
+    }
+
+    /// Counts an end more of a kind.
+    fn count(&mut self, index: usize)
+        requires { index < length self.old }
+        ensures { (kind : Kind) → slice_get self.old index ≡ Some kind
+            → self.new ≡ set self.old index (with_one_more kind) }
+    {
+        let kind = &mut self.kinds[index];
+        kind.add();
+    }
+
+    /// Notes the end in a state.
+    fn note(
+        &mut self,
+        users: &Users,
+        place: usize,
+        walk: &Walk<PlainLines>,
+    ) -> Result<(), OrdersFault>
+        ensures { OnOk result (IsNoted (standings users.now walk.now) place self.old self.new) }
+    {
+        let standing = standings(self.alloc, users, walk)?;
+        if let Some(index) = self.find(&standing) {
+            self.count(index);
+            return Ok(());
+        }
+        self.kinds.push(End {
+            standing,
+            count: 1,
+            place,
+        })?;
+        Ok(())
+    }
+
+    /// Notes the end in a state, if it is over.
+    pub fn note_state(
+        &mut self,
+        users: &Users,
+        place: usize,
+        walk: &Walk<PlainLines>,
+        is_over: bool,
+    ) -> Result<(), OrdersFault>
+        ensures { OnOk result (IsNotedIf is_over
+            (standings users.now walk.now) place self.old self.new) }
+    {
+        if !is_over {
+            return Ok(());
+        }
+        self.note(users, place, walk)
+    }
+}

@@ -1,0 +1,150 @@
+//! The search, and what is kept of it.
+ghost use Rattle.std.specs.Prelude.{ℕ, ◌≡◌, ◌≤◌, ◌⊎◌, IfOk, Some, length, slice_get};
+ghost use Rattle.mcs_types.specs.declared.entry.Entry.{Entry};
+ghost use Rattle.mcs_types.specs.Ranges.{InRange};
+ghost use Rattle.mcs_turns.specs.Turns.{AreInRange};
+ghost use Rattle.mcs_explore_search.specs.Reaching.{AreWithin};
+ghost use Rattle.mcs_explore_search.specs.Search.{AreSorted, IsSpent};
+ghost use Rattle.mcs_explore_orders.specs.Seen.{AreAllSeen, AreFoundRuns};
+ghost use Rattle.mcs_explore_report.specs.Found.{AreAnswersFound, AreAnswersInRuns, AreCountedFound, AreEndsFound, AreEndsInRuns, AreFirstFound, AreHeldInRuns, AreJudgedFound, AreShortest, IsMailFound};
+ghost use Rattle.mcs_explore_report.specs.Modes.{IsWholeSearch};
+ghost use Rattle.mcs_explore_report.specs.Stuck.{AreDecided};
+
+use crate::live::Live;
+use crate::modes::mode_of;
+use crate::reading::AskedLine;
+use crate::scripts::fault_of;
+use crate::watching::{Progress, Watched};
+use mcs_explore_orders::{Budget, Orders, Users, explore};
+use mcs_kernel::Boot;
+use mcs_lab_check::LabFault;
+use mcs_types::Entry;
+use std::alloc::Global;
+
+/// How far a search goes, and whether it tells states apart by all that a book records.
+#[derive(Clone, Copy)]
+pub struct Wanted {
+    pub states: usize,
+    pub depth: usize,
+    pub is_exact: bool,
+}
+
+/// The numbers of entries are in their ranges.
+fn entries_are_in_range(entries: &[Entry])
+    ensures { (j : ℕ) (e : Entry) → slice_get entries.now j ≡ Some e → InRange e }
+{
+    for index in 0..entries.len() {
+        if let Some(entry) = entries.get(index) {
+            entry.is_in_range();
+        }
+    }
+}
+
+/// The numbers of all entries of users are in their ranges.
+fn are_in_range(users: &Users)
+    ensures { AreInRange users.now }
+{
+    let lists = users.lists();
+    for index in 0..lists.len() {
+        if let Some(list) = lists.get(index) {
+            entries_are_in_range(&list.entries);
+        }
+    }
+}
+
+/// Goes through all orders of users after a boot, as far as is wanted, tells how far it is, and
+/// keeps what comes of them. States are told apart as `mode_of` says.
+pub fn watched<'a, P: Progress>(
+    alloc: Global,
+    boot: &'a Boot,
+    users: &'a Users,
+    asked: &'a [AskedLine],
+    lives: &'a [Live],
+    wanted: Wanted,
+    progress: P,
+) -> Result<Orders<'a, Watched<'a, P>>, LabFault>
+    // each state that was found is that of a run, by the turns of its path
+    ensures runs { IfOk result (λ o. AreFoundRuns users.now boot.now o.search.map.entries) }
+    // a whole search: each run ends in a state that is like one that was found, by no more turns
+    ensures whole { IfOk result (λ o. (is : IsWholeSearch boot.now users.now asked.entry.now
+        wanted.is_exact o.search.map.entries o.search.done)
+        → AreAllSeen is.numbered users.now boot.now o.search.map.entries) }
+    // it ends where all were expanded, or by the budget alone
+    ensures budget { IfOk result (λ o. (length o.search.map.entries ≤ o.search.done)
+        ⊎ IsSpent wanted.states wanted.depth o.search.done o.search.map.entries) }
+    // each end that is kept is that of such a state, and the end of each state that was expanded
+    // and is over is kept
+    ensures ends { IfOk result (λ o. AreEndsFound users.now boot.now
+        o.search.map.entries o.search.done o.explorer.watch.ends) }
+    // each answer that is kept came by a turn from such a state, and what each such turn was
+    // answered but Waits is kept
+    ensures answers { IfOk result (λ o. AreAnswersFound users.now boot.now
+        o.search.map.entries o.search.done o.explorer.watch.answers) }
+    // what each such turn brought to an entry that waited is kept
+    ensures mail { IfOk result (λ o. IsMailFound users.now boot.now
+        o.search.map.entries o.search.done o.explorer.watch.answers) }
+    // of a whole search the end of each run that is over is kept
+    ensures run_ends { IfOk result (λ o. IsWholeSearch boot.now users.now asked.entry.now
+        wanted.is_exact o.search.map.entries o.search.done
+        → AreEndsInRuns users.now boot.now o.explorer.watch.ends) }
+    // and each answer of each turn of each run, but Waits, and what it brought to an entry that
+    // waited
+    ensures run_answers { IfOk result (λ o. IsWholeSearch boot.now users.now asked.entry.now
+        wanted.is_exact o.search.map.entries o.search.done
+        → AreAnswersInRuns users.now boot.now o.explorer.watch.answers) }
+    // each question failed where it says, in such a state or by a turn from one, and if it does not
+    // say so, nowhere
+    ensures judged { IfOk result (λ o. AreJudgedFound users.now boot.now
+        o.search.map.entries o.search.done asked.entry.now o.explorer.watch.failed.items) }
+    // of a whole search those that say nothing fail in no run
+    ensures held { IfOk result (λ o. IsWholeSearch boot.now users.now asked.entry.now
+        wanted.is_exact o.search.map.entries o.search.done
+        → AreHeldInRuns users.now boot.now asked.entry.now o.explorer.watch.failed.items) }
+    // each end, answer and failure is kept in the first place where there is one like it: by the
+    // fewest turns, as these are sorted
+    ensures first { IfOk result (λ o. AreFirstFound users.now boot.now
+        o.search.map.entries o.search.done asked.entry.now o.explorer.watch.ends
+        o.explorer.watch.answers o.explorer.watch.failed.items) }
+    // of a whole search: no run in which there is one like it has fewer turns
+    ensures shortest { IfOk result (λ o. IsWholeSearch boot.now users.now asked.entry.now
+        wanted.is_exact o.search.map.entries o.search.done
+        → AreShortest users.now boot.now o.search.map.entries asked.entry.now
+        o.explorer.watch.ends o.explorer.watch.answers o.explorer.watch.failed.items) }
+    // the turns and the ends that are counted are those of such states, up to the largest count,
+    // and the last is the deepest
+    ensures counts { IfOk result (λ o. AreCountedFound users.now boot.now
+        o.search.map.entries o.search.done o.explorer.turns o.explorer.ends) }
+    ensures sorted { IfOk result (λ o. AreSorted o.search.map.entries) }
+    // of a whole search: what is noted and the edges tell of each user from which state on it is
+    // stuck
+    ensures decided { IfOk result (λ o. IsWholeSearch boot.now users.now asked.entry.now
+        wanted.is_exact o.search.map.entries o.search.done
+        → AreDecided users.now boot.now lives.entry.now o.search.map.entries
+        o.search.edges.items o.explorer.watch.lives.notes) }
+    // its edges lie between states that were found
+    ensures within { IfOk result (λ o. AreWithin o.search.edges.items
+        (length o.search.map.entries)) }
+{
+    boot.is_faultless();
+    users.are_apart();
+    are_in_range(users);
+    let mode = mode_of(boot, users, asked, wanted.is_exact);
+    let watched = Watched::new(alloc, users, asked, lives, progress)?;
+    let budget = Budget {
+        states: wanted.states,
+        depth: wanted.depth,
+    };
+    let orders = match explore(
+        alloc,
+        boot,
+        users,
+        mode.is_proved(),
+        mode.are_numbered(),
+        budget,
+        watched,
+    ) {
+        Ok(orders) => orders,
+        Err(fault) => return Err(fault_of(fault)),
+    };
+    Ok(orders)
+}

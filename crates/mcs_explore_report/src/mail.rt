@@ -1,0 +1,219 @@
+//! What reaches threads whose entries wait, by a line.
+ghost use Rattle.std.specs.Prelude.{◌≡◌, ◌++◌, IfOk, None, OnOk, length};
+ghost use Rattle.mcs_book.specs.History.{line_of_number};
+ghost use Rattle.mcs_explore_report.specs.Answers.{AreNotedMail, IsNotedMail, comes_to, gave_send, mailed_to, waiting};
+ghost use Rattle.mcs_explore_report.specs.Mail.{brought, got_with, listed, reached_from, reaching, taken};
+
+use crate::answers::{Answers, is_send};
+use mcs_book::Line;
+use mcs_explore_orders::{OrdersFault, Turn, Users, Walk};
+use mcs_kernel::Kernel;
+use mcs_queues::PlainLines;
+use mcs_turns::Pick;
+use mcs_types::{Answer, Badge, Mode, ObjId, Rec};
+use std::alloc::Global;
+
+/// What reached a thread.
+#[derive(Drop)]
+pub struct Reached {
+    pub thread: ObjId,
+    pub answer: Answer,
+}
+
+/// What a taker gets of the message that a line sent last, with a record more.
+fn got_with(alloc: Global, got: Option<Answer>, fact: &Rec) -> Result<Option<Answer>, OrdersFault>
+    ensures { IfOk result (λ o. o ≡ got_with got fact.now) }
+{
+    match fact {
+        Rec::Sent { badge, message, .. } => {
+            let message = message.copy(alloc)?;
+            Ok(Some(Answer::Got {
+                badge: *badge,
+                message,
+            }))
+        }
+        _ => Ok(got),
+    }
+}
+
+/// What reaches a thread that takes this, if the line sent it.
+fn taken(alloc: Global, thread: ObjId, got: &Option<Answer>) -> Result<Option<Reached>, OrdersFault>
+    ensures { IfOk result (λ o. o ≡ taken thread got.now) }
+{
+    match got {
+        Some(answer) => {
+            let answer = answer.copy(alloc)?;
+            Ok(Some(Reached { thread, answer }))
+        }
+        None => Ok(None),
+    }
+}
+
+/// What reaches a thread by a record, where a taker gets this of what the line sent last.
+fn reaching(alloc: Global, got: &Option<Answer>, fact: &Rec) -> Result<Option<Reached>, OrdersFault>
+    ensures { IfOk result (λ o. o ≡ reaching got.now fact.now) }
+{
+    match fact {
+        Rec::Took { thread, .. } => taken(alloc, *thread, got),
+        Rec::Paid {
+            caller,
+            message,
+            ..
+        } => {
+            let message = message.copy(alloc)?;
+            let answer = Answer::Got {
+                badge: Badge(0),
+                message,
+            };
+            Ok(Some(Reached {
+                thread: *caller,
+                answer,
+            }))
+        }
+        Rec::Heard { thread, word, .. } => Ok(Some(Reached {
+            thread: *thread,
+            answer: Answer::Heard { word: *word },
+        })),
+        Rec::Turns {
+            thread,
+            mode: Mode::Running,
+        } => Ok(Some(Reached {
+            thread: *thread,
+            answer: Answer::Done,
+        })),
+        _ => Ok(None),
+    }
+}
+
+/// Adds what reached a thread, if something did.
+fn push(all: &mut Vec<Reached>, reached: Option<Reached>) -> Result<(), OrdersFault>
+    ensures { OnOk result (all.new.items ≡ all.old.items ++ listed reached) }
+{
+    if let Some(reached) = reached {
+        all.push(reached)?;
+    }
+    Ok(())
+}
+
+/// What reaches threads by a line.
+fn reached_by(alloc: Global, line: &Line<'_>) -> Result<Vec<Reached>, OrdersFault>
+    ensures { IfOk result (λ v. v.items ≡ reached_from None line.now.records) }
+{
+    let mut all = Vec::new(alloc);
+    let mut got = None;
+    for i in 0..line.record_count() {
+        let Some(fact) = line.record(alloc, i)? else {
+            unreachable!();
+        };
+        got = got_with(alloc, got, &fact)?;
+        push(&mut all, reaching(alloc, &got, &fact)?)?;
+    }
+    Ok(all)
+}
+
+/// The newest line of a kernel's book.
+pub fn newest(kernel: &Kernel<PlainLines>) -> Option<Line<'_>>
+    ensures { result ≡ line_of_number kernel.now (length kernel.now.lines) }
+{
+    let book = kernel.book();
+    book.line(book.lines().saturating_sub(1))
+}
+
+/// Whether the entry of a user with this number is Send.
+fn gave_send(users: &Users, user: usize, number: usize) -> bool
+    ensures { result ≡ gave_send users.now user number }
+{
+    match users.at(user) {
+        Some(list) => match list.entries.get(number) {
+            Some(entry) => is_send(entry),
+            None => false,
+        },
+        None => false,
+    }
+}
+
+/// Whether an entry that waited comes to this: that a thread goes on says so of Send alone.
+fn comes_to(users: &Users, user: usize, number: usize, answer: &Answer) -> bool
+    ensures { result ≡ comes_to users.now user number answer.now }
+{
+    match answer {
+        Answer::Done => gave_send(users, user, number),
+        _ => true,
+    }
+}
+
+/// The number of the entry with which a user waited, behind a turn of another user.
+fn waiting(walk: &Walk<PlainLines>, user: usize, turn: Turn) -> Option<usize>
+    ensures { result ≡ waiting walk.now user turn }
+{
+    if user == turn.pick.user {
+        return None;
+    }
+    walk.place(user)?.waited
+}
+
+/// The entry of a user that waited and comes to what reached its thread, if there is one.
+pub fn mailed_to(
+    users: &Users,
+    walk: &Walk<PlainLines>,
+    turn: Turn,
+    reached: &Reached,
+) -> Option<Pick>
+    ensures { result ≡ mailed_to users.now walk.now turn reached.now }
+{
+    let user = users.find(reached.thread)?;
+    let number = waiting(walk, user, turn)?;
+    if comes_to(users, user, number, &reached.answer) {
+        Some(Pick { user, number })
+    } else {
+        None
+    }
+}
+
+/// Notes what an entry that waited came to, where this reached a thread.
+fn note_reached(
+    answers: &mut Answers,
+    users: &Users,
+    walk: &Walk<PlainLines>,
+    reached: &Reached,
+    place: usize,
+    turn: Turn,
+) -> Result<(), OrdersFault>
+    ensures { OnOk result (IsNotedMail users.now walk.now place turn
+        reached.now answers.old answers.new) }
+{
+    match mailed_to(users, walk, turn, reached) {
+        Some(entry) => answers.note(entry.user, entry.number, &reached.answer, place, turn),
+        None => Ok(()),
+    }
+}
+
+/// Notes what entries that waited came to, where this reached threads: what the newest line
+/// brought.
+pub fn note_mail(
+    answers: &mut Answers,
+    users: &Users,
+    walk: &Walk<PlainLines>,
+    all: &[Reached],
+    place: usize,
+    turn: Turn,
+) -> Result<(), OrdersFault>
+    ensures { OnOk result (AreNotedMail users.now walk.now place turn
+        all.now answers.old answers.new) }
+{
+    for reached in all {
+        note_reached(answers, users, walk, reached, place, turn)?;
+    }
+    Ok(())
+}
+
+/// Returns what the newest line brought to threads.
+#[tactic(auto, using(crate::proofs::Telling::brought_by))]
+pub fn brought(alloc: Global, walk: &Walk<PlainLines>) -> Result<Vec<Reached>, OrdersFault>
+    ensures { IfOk result (λ v. v.items ≡ brought walk.now.book) }
+{
+    match newest(walk.kernel()) {
+        Some(line) => reached_by(alloc, &line),
+        None => Ok(Vec::new(alloc)),
+    }
+}

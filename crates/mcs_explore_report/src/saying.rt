@@ -1,0 +1,107 @@
+//! The texts of answers.
+ghost use Rattle.std.specs.Prelude.{◌≡◌, ◌++◌, IfOk, OnOk, codes};
+ghost use Rattle.std.specs.List.{flat_map};
+ghost use Rattle.mcs_text.specs.Table.{refusal_number};
+ghost use Rattle.mcs_explore_report.specs.Saying.{number_text, said};
+
+use mcs_lab_check::LabFault;
+use mcs_text::Token;
+use mcs_trace::{Line, spell};
+use mcs_types::{Answer, Badge, Message, Refusal};
+use std::alloc::Global;
+
+/// Puts bytes behind a text.
+fn put(text: &mut Vec<u8>, bytes: &[u8]) -> Result<(), LabFault>
+    ensures { OnOk result (text.new.items ≡ text.old.items ++ bytes.now) }
+{
+    text.extend_from_slice(bytes)?;
+    Ok(())
+}
+
+/// Puts a number behind a text, with a space before it, which is spelled in this line.
+fn put_number(text: &mut Vec<u8>, line: &mut Line, number: u64) -> Result<(), LabFault>
+    ensures { OnOk result (text.new.items ≡ text.old.items ++ number_text number) }
+{
+    put(text, b" ")?;
+    spell(line, &Token::Number(number));
+    put(text, line.text())
+}
+
+/// Puts numbers behind a text.
+fn put_numbers(text: &mut Vec<u8>, line: &mut Line, numbers: &[u64]) -> Result<(), LabFault>
+    ensures { OnOk result (text.new.items ≡ text.old.items ++ flat_map number_text numbers.now) }
+{
+    for index in 0..numbers.len() {
+        put_number(text, line, numbers[index])?;
+    }
+    Ok(())
+}
+
+/// Puts a message behind a text.
+fn put_message(
+    text: &mut Vec<u8>,
+    line: &mut Line,
+    badge: Badge,
+    message: &Message,
+) -> Result<(), LabFault>
+    ensures { OnOk result (text.new.items
+        ≡ text.old.items ++ said (Answer.Got badge message.now)) }
+{
+    put(text, b"got")?;
+    put_number(text, line, badge.0)?;
+    put_number(text, line, message.label())?;
+    put_numbers(text, line, message.words())
+}
+
+/// The number of a refusal.
+fn number_of(refusal: Refusal) -> u64
+    ensures { result ≡ refusal_number refusal }
+{
+    match refusal {
+        Refusal::Missing => 1,
+        Refusal::DepthMismatch => 2,
+        Refusal::GuardMismatch => 3,
+        Refusal::WrongKind => 4,
+        Refusal::NoRight => 5,
+        Refusal::Range => 6,
+        Refusal::SlotFull => 7,
+        Refusal::SlotEmpty => 8,
+        Refusal::AlreadyBound => 9,
+        Refusal::NotBound => 10,
+        Refusal::NoRoom => 11,
+        Refusal::BadgeNotAllowed => 12,
+        Refusal::LastCNode => 13,
+    }
+}
+
+/// Puts a word and a number behind a text.
+fn put_one(text: &mut Vec<u8>, line: &mut Line, word: &[u8], number: u64) -> Result<(), LabFault>
+    ensures { OnOk result (text.new.items
+        ≡ text.old.items ++ word.now ++ number_text number) }
+{
+    put(text, word)?;
+    put_number(text, line, number)
+}
+
+/// Puts an answer behind a text, as a trace has it.
+fn put_answer(text: &mut Vec<u8>, line: &mut Line, answer: &Answer) -> Result<(), LabFault>
+    ensures { OnOk result (text.new.items ≡ text.old.items ++ said answer.now) }
+{
+    match answer {
+        Answer::Done => put(text, b"done"),
+        Answer::Got { badge, message } => put_message(text, line, *badge, message),
+        Answer::Heard { word } => put_one(text, line, b"heard", *word),
+        Answer::Empty => put(text, b"empty"),
+        Answer::Waits => put(text, b"waits"),
+        Answer::Refused(refusal) => put_one(text, line, b"refused", number_of(*refusal)),
+    }
+}
+
+/// The text of an answer, as a trace has it, which is spelled in this line.
+pub fn text_of(alloc: Global, line: &mut Line, answer: &Answer) -> Result<Vec<u8>, LabFault>
+    ensures { IfOk result (λ text. text.items ≡ said answer.now) }
+{
+    let mut text = Vec::new(alloc);
+    put_answer(&mut text, line, answer)?;
+    Ok(text)
+}

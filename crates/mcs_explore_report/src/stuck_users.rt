@@ -1,0 +1,115 @@
+//! Users that are stuck from some state on: no order answers an entry of them any more (own).
+ghost use Rattle.std.specs.Prelude.{◌≡◌, IfOk, Some, length, slice_get};
+ghost use Rattle.mcs_explore_search.specs.Reaching.{AreWithin};
+ghost use Rattle.mcs_explore_report.specs.Stuck.{IsFirstUnled, Noted, first_marks};
+
+use crate::judging::Sighting;
+use crate::live::{Live, stuck_at};
+use crate::reading::AskedLine;
+use crate::watching::{Progress, Watched};
+use mcs_explore_orders::Orders;
+use mcs_explore_questions::Asked;
+use mcs_lab_check::LabFault;
+use std::alloc::{AllocError, Global};
+
+/// Users that are stuck from one state on, which is the first such state of each.
+#[derive(Drop)]
+pub struct StuckUsers {
+    pub place: usize,
+    pub users: Vec<usize>,
+}
+
+/// Returns the state in a place as something that is seen.
+pub fn seen_at(place: usize) -> Sighting {
+    Sighting { place, turn: None }
+}
+
+/// Returns the first place from which on the user is stuck that was asked about with this number;
+/// None where it is nowhere. OutOfMemory where memory was refused.
+pub fn first_stuck<P: Progress>(
+    alloc: Global,
+    orders: &Orders<'_, Watched<'_, P>>,
+    number: usize,
+) -> Result<Option<usize>, LabFault>
+    requires { AreWithin orders.now.search.edges.items (length orders.now.search.map.entries) }
+    ensures { IfOk result (λ o. (n : Noted)
+        → slice_get orders.now.explorer.watch.lives.notes number ≡ Some n
+        → IsFirstUnled orders.now.search.edges.items
+        (first_marks (length orders.now.search.map.entries) n) o) }
+{
+    match orders.watch().lives.notes(number) {
+        Some(notes) => stuck_at(alloc, orders, notes),
+        None => Ok(None),
+    }
+}
+
+/// Returns whether a line asks that a user never gets stuck.
+fn is_live(asked: &Asked) -> bool {
+    match asked {
+        Asked::Live { .. } => true,
+        Asked::Idle { .. }
+        | Asked::Answer { .. }
+        | Asked::AnswerIf { .. }
+        | Asked::Some { .. }
+        | Asked::Never { .. }
+        | Asked::Apart { .. }
+        | Asked::Before { .. }
+        | Asked::Again { .. } => false,
+    }
+}
+
+/// Returns how many of the first lines ask that a user never gets stuck.
+fn count_lives(asked: &[AskedLine], lines: usize) -> usize {
+    let mut count: usize = 0;
+    for line in asked.iter().take(lines) {
+        count = count.saturating_add(usize::from(is_live(&line.asked)));
+    }
+    count
+}
+
+/// Returns where the user is stuck first of which a line asks, by the number of that line from 0 on
+/// and what comes of all.
+pub fn stuck_of(asked: &[AskedLine], places: &[Option<usize>], number: usize) -> Option<Sighting> {
+    match places.get(count_lives(asked, number)) {
+        Some(Some(place)) => Some(seen_at(*place)),
+        _ => None,
+    }
+}
+
+/// Adds a user that is stuck from a place on; the nearest place comes first.
+fn add_stuck(
+    alloc: Global,
+    all: &mut Vec<StuckUsers>,
+    place: usize,
+    user: usize,
+) -> Result<(), AllocError> {
+    for stuck in all.iter_mut() {
+        if stuck.place == place {
+            stuck.users.push(user)?;
+            return Ok(());
+        }
+    }
+    let mut users = Vec::new(alloc);
+    users.push(user)?;
+    let behind = all.iter().position(|stuck| place < stuck.place);
+    let number = behind.unwrap_or(all.len());
+    all.insert(number, StuckUsers { place, users })?;
+    Ok(())
+}
+
+/// Returns the users that are stuck and of which no line asks, by the places from which on they
+/// are.
+pub fn stuck_users(
+    alloc: Global,
+    asked: &[AskedLine],
+    lives: &[Live],
+    places: &[Option<usize>],
+) -> Result<Vec<StuckUsers>, AllocError> {
+    let mut all = Vec::new(alloc);
+    for number in count_lives(asked, asked.len())..lives.len() {
+        if let (Some(live), Some(Some(place))) = (lives.get(number), places.get(number)) {
+            add_stuck(alloc, &mut all, *place, live.user)?;
+        }
+    }
+    Ok(all)
+}

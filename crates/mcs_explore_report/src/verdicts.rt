@@ -1,0 +1,185 @@
+//! What is told of questions: whether they hold, and where that is to be seen.
+ghost use Rattle.std.specs.Prelude.{◌≡◌, ◌↔◌, IsTrue, IfOk, is_none, is_some};
+ghost use Rattle.mcs_explore_report.specs.Verdicts.{IsAlways, IsEndSearched, IsSearched, IsVerdict, answers_of, failed_at, is_said, lacks, lacks_one};
+
+use crate::answers::{Answers, Told};
+use crate::ends::{End, Standing};
+use crate::judging::Sighting;
+use crate::reading::AskedLine;
+use crate::saying::text_of;
+use crate::watching::{Progress, Watched};
+use mcs_explore_orders::Users;
+use mcs_explore_questions::{Asked, Event, is_match};
+use mcs_lab_check::LabFault;
+use mcs_trace::Line;
+use std::alloc::Global;
+
+/// Whether a question holds, and where that is to be seen, if somewhere.
+#[derive(Clone, Copy, Drop)]
+pub struct Verdict {
+    pub holds: bool,
+    pub seen: Option<Sighting>,
+}
+
+/// Whether a pattern stands for an answer, or does not, as is wanted.
+fn is_wanted(
+    alloc: Global,
+    line: &mut Line,
+    told: &Told,
+    pattern: &[u8],
+    wanted: bool,
+) -> Result<bool, LabFault>
+    ensures { IfOk result (λ b. IsTrue b ↔ (is_said pattern.now told.now.answer ≡ wanted)) }
+{
+    let text = text_of(alloc, line, &told.answer)?;
+    Ok(is_match(pattern, &text) == wanted)
+}
+
+/// The first answer for which a pattern stands, or does not, as is wanted.
+fn find_answer(
+    alloc: Global,
+    line: &mut Line,
+    told: &[Told],
+    pattern: &[u8],
+    wanted: bool,
+) -> Result<Option<Sighting>, LabFault>
+    ensures { IfOk result (λ o. IsSearched told.now pattern.now wanted o) }
+{
+    for index in 0..told.len() {
+        let one = &told[index];
+        if is_wanted(alloc, line, one, pattern, wanted)? {
+            return Ok(Some(Sighting {
+                place: one.place,
+                turn: Some(one.turn),
+            }));
+        }
+    }
+    Ok(None)
+}
+
+/// Whether a user that stands so in an end has not been answered an entry.
+fn lacks_one(standing: &Standing, event: Event) -> bool
+    ensures { result ≡ lacks_one event standing.now }
+{
+    standing.thread.is_same(event.thread) && standing.answered < event.number
+}
+
+/// Whether an end in which the users stand so comes without an answer of an entry.
+fn lacks(standing: &[Standing], event: Event) -> bool
+    ensures { result ≡ lacks event standing.now }
+{
+    standing.iter().any(|one| lacks_one(one, event))
+}
+
+/// The first end that comes without an answer of an entry.
+pub fn find_end(kinds: &[End], event: Event) -> Option<Sighting>
+    ensures { IsEndSearched kinds.now event result }
+{
+    for index in 0..kinds.len() {
+        let kind = &kinds[index];
+        if lacks(&kind.standing, event) {
+            return Some(Sighting {
+                place: kind.place,
+                turn: None,
+            });
+        }
+    }
+    None
+}
+
+/// The answers of an entry.
+fn answers_of<'a>(users: &Users, answers: &'a Answers, event: Event) -> &'a [Told]
+    ensures { result.now ≡ answers_of users.now answers.entry.now event }
+{
+    match users.find(event.thread) {
+        Some(user) => answers.of(user, event.number.saturating_sub(1)),
+        None => &[],
+    }
+}
+
+/// Where a question failed first, if it did.
+fn failed_at(failed: &[Option<Sighting>], number: usize) -> Option<Sighting>
+    ensures { result ≡ failed_at failed.now number }
+{
+    match failed.get(number) {
+        Some(failed) => *failed,
+        None => None,
+    }
+}
+
+/// What is told of a question where all answers of an entry are to be of a pattern.
+fn all_are(found: Option<Sighting>) -> Verdict
+    ensures holds { result.holds ≡ is_none result.seen }
+    ensures seen { result.seen ≡ found }
+{
+    Verdict {
+        holds: found.is_none(),
+        seen: found,
+    }
+}
+
+/// What is told where some answer is to be.
+fn some_is(found: Option<Sighting>) -> Verdict
+    ensures holds { result.holds ≡ is_some result.seen }
+    ensures seen { result.seen ≡ found }
+{
+    Verdict {
+        holds: found.is_some(),
+        seen: found,
+    }
+}
+
+/// Where an answer is seen for which a pattern does not stand, or else the first end that comes
+/// without one of the entry.
+#[tactic(auto, using(crate::proofs::Always::answer_always, crate::proofs::Always::ends_always))]
+fn find_failure(
+    alloc: Global,
+    line: &mut Line,
+    told: &[Told],
+    pattern: &[u8],
+    kinds: &[End],
+    event: Event,
+) -> Result<Option<Sighting>, LabFault>
+    ensures { IfOk result (λ o. IsAlways told.now pattern.now kinds.now event o) }
+{
+    match find_answer(alloc, line, told, pattern, false)? {
+        Some(seen) => Ok(Some(seen)),
+        None => Ok(find_end(kinds, event)),
+    }
+}
+
+/// Returns the verdict on a question with this number after a search. Answers are spelled in this
+/// line; the place is the first from which the question's user can't go on, if it asks that.
+pub fn verdict_on<P: Progress>(
+    alloc: Global,
+    line: &mut Line,
+    users: &Users,
+    watched: &Watched<'_, P>,
+    number: usize,
+    stuck: Option<Sighting>,
+    question: &AskedLine,
+) -> Result<Verdict, LabFault>
+    ensures { IfOk result (λ v. IsVerdict users.now watched.now.ends watched.now.answers
+        (failed_at watched.now.failed.items number) stuck question.now.asked v) }
+{
+    match &question.asked {
+        Asked::Idle { .. } | Asked::Again { .. } => Ok(all_are(None)),
+        Asked::Live { .. } => Ok(all_are(stuck)),
+        Asked::Answer { event, pattern } => {
+            let told = answers_of(users, &watched.answers, *event);
+            let kinds = watched.ends.kinds();
+            Ok(all_are(find_failure(alloc, line, told, pattern, kinds, *event)?))
+        }
+        Asked::AnswerIf { event, pattern } => {
+            let told = answers_of(users, &watched.answers, *event);
+            Ok(all_are(find_answer(alloc, line, told, pattern, false)?))
+        }
+        Asked::Some { event, pattern } => {
+            let told = answers_of(users, &watched.answers, *event);
+            Ok(some_is(find_answer(alloc, line, told, pattern, true)?))
+        }
+        Asked::Never { .. } | Asked::Apart { .. } | Asked::Before { .. } => {
+            Ok(all_are(failed_at(&watched.failed, number)))
+        }
+    }
+}

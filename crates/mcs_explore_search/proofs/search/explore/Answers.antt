@@ -1,0 +1,73 @@
+use Rattle.std.proofs.Common.{sym}
+use Rattle.mcs_explore_search.proofs.Ending.{search-again, reached, closed-below, graph, whole, least, all-found}
+use Rattle.mcs_explore_search.proofs.search.explore.Goals as goal
+
+pub loop-alloc-preserved : goal.loop-alloc-preserved
+loop-alloc-preserved g c = record {
+  later = g.met.M.System.further c.args.system.now c.loop-alloc.system c.look_behind.new.system c.loop-alloc.invariant.later c.look_behind.ensures.later;
+  seen = λ begun. c.in_ok-look_behind.ensures.seen (c.loop-alloc.invariant.seen begun);
+  searching = c.in_ok-look_behind.ensures.searching;
+}
+
+pub returns-in_err-look_behind-clause-later : goal.returns-in_err-look_behind-clause-later
+returns-in_err-look_behind-clause-later g c = g.met.M.System.further c.args.system.now c.loop-alloc.system c.look_behind.new.system c.loop-alloc.invariant.later c.look_behind.ensures.later
+
+pub returns-clause-reached : goal.returns-clause-reached
+returns-clause-reached g c =
+    let m = c.args.system.now in
+    let n = c.loop-alloc.system in
+    let later = c.loop-alloc.invariant.later in
+    reached g.M.Key.PartialEq.eq g.met.M.Key.Eq.laws (g.M.System.Leads m) (g.M.System.Like m) (g.M.System.IsKey n) (g.M.System.start m) c.loop-alloc.search.done c.loop-alloc.search.map.entries
+    (search-again g.M.Key.PartialEq.eq (g.M.System.Leads n) (g.M.System.Leads m) (g.M.System.Like n) (g.M.System.Like m) (g.M.System.IsKey n) (g.M.System.IsKey n) (g.M.System.start n) (g.M.System.start m)
+    (sym (g.met.M.System.keeps_start m n later)) (λ l s t. let is = g.met.M.System.keeps_steps m n later l s t in (is.1, is.0)) (λ s t. (g.met.M.System.keeps_likeness m n later s t).1) (λ s k h. h)
+    c.loop-alloc.search.done c.loop-alloc.search.map.entries c.loop-alloc.search.edges.items c.loop-alloc.invariant.searching)
+
+pub returns-clause-closed : goal.returns-clause-closed
+returns-clause-closed g c =
+    let m = c.args.system.now in
+    let n = c.loop-alloc.system in
+    let later = c.loop-alloc.invariant.later in
+    closed-below g.M.Key.PartialEq.eq g.met.M.Key.Eq.laws (g.M.System.Leads m) (g.M.System.Like m) (g.M.System.IsKey n) (g.M.System.start m) c.loop-alloc.search.done c.loop-alloc.search.map.entries
+    (search-again g.M.Key.PartialEq.eq (g.M.System.Leads n) (g.M.System.Leads m) (g.M.System.Like n) (g.M.System.Like m) (g.M.System.IsKey n) (g.M.System.IsKey n) (g.M.System.start n) (g.M.System.start m)
+    (sym (g.met.M.System.keeps_start m n later)) (λ l s t. let is = g.met.M.System.keeps_steps m n later l s t in (is.1, is.0)) (λ s t. (g.met.M.System.keeps_likeness m n later s t).1) (λ s k h. h)
+    c.loop-alloc.search.done c.loop-alloc.search.map.entries c.loop-alloc.search.edges.items c.loop-alloc.invariant.searching)
+
+pub returns-clause-whole : goal.returns-clause-whole
+returns-clause-whole g c =
+    let m = c.args.system.now in
+    let n = c.loop-alloc.system in
+    let later = c.loop-alloc.invariant.later in
+    whole g.M.Key.PartialEq.eq g.met.M.Key.Eq.laws (g.M.System.Leads m) (g.M.System.Like m) (g.M.System.IsKey n) (g.M.System.start m) c.loop-alloc.search.done c.loop-alloc.search.map.entries
+    (search-again g.M.Key.PartialEq.eq (g.M.System.Leads n) (g.M.System.Leads m) (g.M.System.Like n) (g.M.System.Like m) (g.M.System.IsKey n) (g.M.System.IsKey n) (g.M.System.start n) (g.M.System.start m)
+    (sym (g.met.M.System.keeps_start m n later)) (λ l s t. let is = g.met.M.System.keeps_steps m n later l s t in (is.1, is.0)) (λ s t. (g.met.M.System.keeps_likeness m n later s t).1) (λ s k h. h)
+    c.loop-alloc.search.done c.loop-alloc.search.map.entries c.loop-alloc.search.edges.items c.loop-alloc.invariant.searching)
+
+pub returns-clause-graph : goal.returns-clause-graph
+returns-clause-graph g c =
+    let m = c.args.system.now in
+    let n = c.loop-alloc.system in
+    let later = c.loop-alloc.invariant.later in
+    graph g.M.Key.PartialEq.eq g.met.M.Key.Eq.laws (g.M.System.Leads m) (g.M.System.Like m) (g.M.System.IsKey n) (g.M.System.start m) c.loop-alloc.search.done c.loop-alloc.search.map.entries
+    (search-again g.M.Key.PartialEq.eq (g.M.System.Leads n) (g.M.System.Leads m) (g.M.System.Like n) (g.M.System.Like m) (g.M.System.IsKey n) (g.M.System.IsKey n) (g.M.System.start n) (g.M.System.start m)
+    (sym (g.met.M.System.keeps_start m n later)) (λ l s t. let is = g.met.M.System.keeps_steps m n later l s t in (is.1, is.0)) (λ s t. (g.met.M.System.keeps_likeness m n later s t).1) (λ s k h. h)
+    c.loop-alloc.search.done c.loop-alloc.search.map.entries c.loop-alloc.search.edges.items c.loop-alloc.invariant.searching)
+
+pub returns-clause-least : goal.returns-clause-least
+returns-clause-least g c = λ likes one.
+    let m = c.args.system.now in
+    let n = c.loop-alloc.system in
+    let later = c.loop-alloc.invariant.later in
+    least g.M.Key.PartialEq.eq g.met.M.Key.Eq.laws (g.M.System.Leads m) (g.M.System.Like m) (g.M.System.IsKey n) (g.M.System.start m) c.loop-alloc.search.done c.loop-alloc.search.map.entries
+    (search-again g.M.Key.PartialEq.eq (g.M.System.Leads n) (g.M.System.Leads m) (g.M.System.Like n) (g.M.System.Like m) (g.M.System.IsKey n) (g.M.System.IsKey n) (g.M.System.start n) (g.M.System.start m)
+    (sym (g.met.M.System.keeps_start m n later)) (λ l s t. let is = g.met.M.System.keeps_steps m n later l s t in (is.1, is.0)) (λ s t. (g.met.M.System.keeps_likeness m n later s t).1) (λ s k h. h)
+    c.loop-alloc.search.done c.loop-alloc.search.map.entries c.loop-alloc.search.edges.items c.loop-alloc.invariant.searching) likes one
+
+pub returns-clause-all : goal.returns-clause-all
+returns-clause-all g c = λ whole likes one.
+    let m = c.args.system.now in
+    let n = c.loop-alloc.system in
+    let later = c.loop-alloc.invariant.later in
+    all-found g.M.Key.PartialEq.eq g.met.M.Key.Eq.laws (g.M.System.Leads m) (g.M.System.Like m) (g.M.System.IsKey n) (g.M.System.start m) c.loop-alloc.search.done c.loop-alloc.search.map.entries
+    (search-again g.M.Key.PartialEq.eq (g.M.System.Leads n) (g.M.System.Leads m) (g.M.System.Like n) (g.M.System.Like m) (g.M.System.IsKey n) (g.M.System.IsKey n) (g.M.System.start n) (g.M.System.start m)
+    (sym (g.met.M.System.keeps_start m n later)) (λ l s t. let is = g.met.M.System.keeps_steps m n later l s t in (is.1, is.0)) (λ s t. (g.met.M.System.keeps_likeness m n later s t).1) (λ s k h. h)
+    c.loop-alloc.search.done c.loop-alloc.search.map.entries c.loop-alloc.search.edges.items c.loop-alloc.invariant.searching) likes one whole

@@ -1,0 +1,59 @@
+//! From which places edges lead on to marked ones (own).
+ghost use Rattle.std.specs.Prelude.{◌≡◌, ◌<◌, length};
+ghost use Rattle.std.specs.Int.{from_bool};
+ghost use Rattle.mcs_explore_search.specs.Reaching.{AreAllLed, AreWithin, IsSweeping, is_marked, joins, marked};
+
+use crate::search::Edge;
+
+/// Returns whether a place is marked.
+fn is_marked(marks: &[bool], place: u32) -> bool
+    ensures { result ≡ is_marked marks.now place }
+{
+    match marks.get(place as usize) {
+        Some(mark) => *mark,
+        None => false,
+    }
+}
+
+/// Marks the place that an edge comes from, where it is not marked and the edge leads to a marked
+/// one. Returns how many that adds.
+fn mark(edge: Edge, marks: &mut Vec<bool>) -> usize
+    requires { edge.from < length marks.old.items }
+    ensures marks { marks.new.items ≡ marked edge marks.old.items }
+    ensures added { result ≡ from_bool (joins edge marks.old.items) }
+{
+    let is_new = is_marked(marks, edge.to) && !is_marked(marks, edge.from);
+    if is_new {
+        marks[edge.from as usize] = true;
+    }
+    usize::from(is_new)
+}
+
+/// Marks each place from which an edge leads to a marked one, the last edge first, and returns how
+/// many that adds.
+fn sweep(edges: &[Edge], marks: &mut Vec<bool>) -> usize
+    requires { AreWithin edges.now (length marks.old.items) }
+    ensures { IsSweeping edges.now marks.old.items marks.new.items result (length edges.now) }
+{
+    let mut added = 0;
+    for number in 0..edges.len() {
+        let Some(edge) = edges.get(edges.len() - 1 - number) else {
+            unreachable!();
+        };
+        added += mark(*edge, marks);
+    }
+    added
+}
+
+/// Marks all places from which edges lead on to marked ones.
+#[tactic(auto, using(crate::proofs::Marks::all_led))]
+pub fn mark_all_led(edges: &[Edge], marks: &mut Vec<bool>)
+    requires { AreWithin edges.now (length marks.old.items) }
+    ensures { AreAllLed edges.now marks.old.items marks.new.items }
+{
+    loop {
+        if sweep(edges, marks) == 0 {
+            return;
+        }
+    }
+}

@@ -1,0 +1,137 @@
+-- What a walk finds of its users.
+use Rattle.std.specs.Prelude.{ℕ, zero, suc, Bool, true, false, not, ◌≡◌, ◌<◌, ◌⊎◌, ◌==◌, ◌++◌, cond, List, [], ◌∷◌, Option, Some, None, slice_get, unwrap_or}
+use Rattle.std.specs.List.{Contains}
+use Rattle.mcs_types.specs.declared.id.ObjId.{ObjId}
+use Rattle.mcs_types.specs.declared.id.CoreId.{CoreId}
+use Rattle.mcs_types.specs.declared.entry.Answer.{Answer}
+use Rattle.mcs_types.specs.declared.entry.Entry.{Entry}
+use Rattle.mcs_types.specs.declared.entry.Step.{Step}
+use Rattle.mcs_book.specs.History.{Book, Line, log_of}
+use Rattle.mcs_book.specs.Logs.{Log}
+use Rattle.mcs_book.specs.Statuses.{may_enter}
+use Rattle.mcs_book.specs.Picking.{GoesBefore}
+use Rattle.mcs_turns.specs.declared.position.Position.{Position}
+use Rattle.mcs_turns.specs.declared.position.Pick.{Pick}
+use Rattle.mcs_turns.specs.Due.{is_same, with_any_pick, without_user}
+use Rattle.mcs_turns.specs.Turns.{User, Going, CanGive, IsStale, IsTurn, due}
+use Rattle.mcs_kernel.specs.declared.fault.EnterFault.{EnterFault}
+use Rattle.mcs_kernel.specs.declared.fault.EnterFault.TheVariants.{BookFull, OutOfMemory}
+use Rattle.mcs_explore_walk.specs.declared.walk.Offer.{Offer}
+use Rattle.mcs_explore_walk.specs.declared.walk.Turn.{Turn}
+
+-- a thread may enter on some core
+pub record EntersSomewhere (R : Log) (t : ObjId) : Type 0 where
+  pub core : CoreId
+  pub enters : may_enter R core t ≡ true
+
+-- the user in a place can give this entry on the core, and has this thread
+pub record Gives (users : List User) (g : Going) (core : CoreId) (i : ℕ) (k : Pick) (t : ObjId) : Type 0 where
+  pub user : User
+  pub place : Position
+  pub can : CanGive users g core i user place
+  pub number : k ≡ record { user = i; number = due (log_of g.book) user place }
+  pub thread : t ≡ user.thread
+
+-- a thread may enter on this core, and on no other
+abbrev pub IsEntryCore : Log → ObjId → Option CoreId → Type 0
+IsEntryCore R t None = (core : CoreId) → may_enter R core t ≡ true → ⊥
+IsEntryCore R t (Some c) = (may_enter R c t ≡ true) × ((core : CoreId) → may_enter R core t ≡ true → core ≡ c)
+
+-- what the user in a place can give, on one core
+abbrev pub IsOffer : List User → Going → ℕ → Option Offer → Type 0
+IsOffer users g i None = (core : CoreId) (u : User) (p : Position) → CanGive users g core i u p → ⊥
+IsOffer users g i (Some o) = Gives users g o.core i o.pick o.thread
+    × ((core : CoreId) (u : User) (p : Position) → CanGive users g core i u p → core ≡ o.core)
+
+-- the best that those below n can give on a core
+abbrev pub IsBestBelow : List User → Going → CoreId → ℕ → Option Pick → Type 0
+IsBestBelow users g core n None = (i : ℕ) (u : User) (p : Position) → i < n → CanGive users g core i u p → ⊥
+IsBestBelow users g core n (Some k) = (t : ObjId) × Gives users g core k.user k t
+    × ((i : ℕ) (u : User) (p : Position) → i < n → CanGive users g core i u p → GoesBefore (log_of g.book) t u.thread)
+
+-- and on each of all cores
+pub record AreBestBelow (users : List User) (g : Going) (n : ℕ) (picks : List (Option Pick)) : Type 0 where
+  pub each : (core : CoreId) (k : Option Pick) → slice_get picks core.0 ≡ Some k → IsBestBelow users g core n k
+
+-- whether an entry that is turned away for this, if anything, is one of a thread that may enter
+abbrev pub is_let_in : Option EnterFault → Bool
+is_let_in None = true
+is_let_in (Some BookFull) = true
+is_let_in (Some _) = false
+
+-- an entry of a thread that may enter is turned away for this
+abbrev pub IsLimit : EnterFault → Type 0
+IsLimit f = (f ≡ BookFull) ⊎ (f ≡ OutOfMemory)
+
+-- the pick of a core among those of all
+abbrev pub picked_of : List (Option Pick) → ℕ → Option Pick
+picked_of ks i = picked_by (slice_get ks i)
+  where
+    picked_by : Option (Option Pick) → Option Pick
+    picked_by None = None
+    picked_by (Some k) = k
+
+-- the stale picks of the core in a place after a line by a user on the core, where these were the
+-- picks
+abbrev pub left_stale : ℕ → ℕ → List (Option Pick) → ℕ → List Pick → List Pick
+left_stale core user picks i stale = cond (i == core) [] (without_user user (with_any_pick (picked_of picks i) stale))
+
+-- it is what a core picks, or picked before
+abbrev pub IsPicked : Going → List (Option Pick) → CoreId → Pick → Type 0
+IsPicked g picks core k = (slice_get picks core.0 ≡ Some (Some k)) ⊎ IsStale g core k
+
+-- an entry of a user on a core
+abbrev pub step_of : CoreId → User → Entry → Step
+step_of core u e = record { core = core; thread = u.thread; entry = e }
+
+-- the answer to the last entry of a book, if there is one
+abbrev pub last_answer : Book → Option Answer
+last_answer b = answer_of b.lines
+  where
+    answer_of : List Line → Option Answer
+    answer_of [] = None
+    answer_of (l ∷ ls) = Some l.answer
+
+-- the rule has no such turn
+abbrev pub HasNoTurn : List User → Going → CoreId → Pick → Type 0
+HasNoTurn users g core k = (h : Going) → IsTurn users core k g h → ⊥
+
+-- an entry of a user on a core
+abbrev pub turn_of : CoreId → Pick → Turn
+turn_of core k = record { core = core; pick = k }
+
+-- whether it is another pick than one, if there is one
+abbrev pub is_other : Option Pick → Pick → Bool
+is_other None j = true
+is_other (Some k) j = not (is_same k j)
+
+-- the turns of a core that enter what it picked before, but for what it picks now
+abbrev pub stale_turns : CoreId → Option Pick → List Pick → List Turn
+stale_turns core now [] = []
+stale_turns core now (j ∷ js) = cond (is_other now j) (turn_of core j ∷ stale_turns core now js) (stale_turns core now js)
+
+-- the turn of a core that enters what it picks now, if it picks one
+abbrev pub turn_now : CoreId → Option Pick → List Turn
+turn_now core None = []
+turn_now core (Some k) = turn_of core k ∷ []
+
+-- the turns of a core that picks this now and picked those before
+abbrev pub turns_of : CoreId → Option Pick → List Pick → List Turn
+turns_of core now js = turn_now core now ++ stale_turns core now js
+
+-- the turns of a core, where the cores have these picks
+abbrev pub turns_on : Going → List (Option Pick) → ℕ → List Turn
+turns_on g picks i = turns_of (record { 0 = i }) (picked_of picks i) (unwrap_or (slice_get g.stale i) [])
+
+-- those of the first n cores
+abbrev pub turns_below : Going → List (Option Pick) → ℕ → List Turn
+turns_below g picks zero = []
+turns_below g picks (suc n) = turns_below g picks n ++ turns_on g picks n
+
+-- each turn that the rule has is among these
+abbrev pub HasEachTurn : List User → Going → List Turn → Type 0
+HasEachTurn users g ts = (core : CoreId) (k : Pick) (h : Going) → IsTurn users core k g h → Contains ts (turn_of core k)
+
+-- each of these turns enters what its core picks, or picked before
+abbrev pub ArePicked : Going → List (Option Pick) → List Turn → Type 0
+ArePicked g picks ts = (t : Turn) → Contains ts t → IsPicked g picks t.core t.pick

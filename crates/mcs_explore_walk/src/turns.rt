@@ -1,0 +1,117 @@
+//! The turns that can be made: of each core its pick, and what it picked before.
+ghost use Rattle.std.specs.Prelude.{◌≡◌, ◌∷◌, ◌++◌, [], IfOk, OnOk};
+ghost use Rattle.mcs_turns.specs.Turns.{ArePicks};
+ghost use Rattle.mcs_explore_walk.specs.Walks.{ArePicked, HasEachTurn, is_other, stale_turns, turn_now, turns_below, turns_of, turns_on};
+
+use crate::copies::push;
+use crate::walk::{Turn, Walk, picked};
+use mcs_queues::Lines;
+use mcs_turns::Pick;
+use mcs_types::{CoreId, OutOfMemory};
+use mcs_users::Users;
+use std::alloc::Global;
+
+/// Whether this is another pick than one, if there is one.
+fn is_other(one: Option<Pick>, pick: Pick) -> bool
+    ensures { result ≡ is_other one pick }
+{
+    match one {
+        Some(one) => !one.is_same(pick),
+        None => true,
+    }
+}
+
+/// Adds the turn of a core that enters this, unless it is what the core picks now.
+fn push_stale(
+    turns: &mut Vec<Turn>,
+    core: CoreId,
+    now: Option<Pick>,
+    pick: Pick,
+) -> Result<(), OutOfMemory>
+    ensures { OnOk result
+        (turns.new.items ≡ turns.old.items ++ stale_turns core now (pick ∷ [])) }
+{
+    if is_other(now, pick) {
+        push(turns, Turn { core, pick })?;
+    }
+    Ok(())
+}
+
+/// Adds the turn of a core that enters what it picks now, if it picks one.
+fn push_now(turns: &mut Vec<Turn>, core: CoreId, now: Option<Pick>) -> Result<(), OutOfMemory>
+    ensures { OnOk result (turns.new.items ≡ turns.old.items ++ turn_now core now) }
+{
+    match now {
+        Some(pick) => push(turns, Turn { core, pick }),
+        None => Ok(()),
+    }
+}
+
+/// Adds the turns of a core that picks this now and picked those before.
+fn add_turns(
+    turns: &mut Vec<Turn>,
+    core: CoreId,
+    now: Option<Pick>,
+    stale: &[Pick],
+) -> Result<(), OutOfMemory>
+    ensures { OnOk result
+        (turns.new.items ≡ turns.old.items ++ turns_of core now stale.now) }
+{
+    push_now(turns, core, now)?;
+    for pick in stale {
+        push_stale(turns, core, now, *pick)?;
+    }
+    Ok(())
+}
+
+impl<L: Lines> Walk<L> {
+    /// Adds the turns of a core, where the cores have these picks.
+    fn add_core(
+        &self,
+        turns: &mut Vec<Turn>,
+        picks: &[Option<Pick>],
+        core: CoreId,
+    ) -> Result<(), OutOfMemory>
+        ensures { OnOk result
+            (turns.new.items ≡ turns.old.items ++ turns_on self.now picks.now core.0) }
+    {
+        let now = picked(picks, core.0 as usize);
+        match self.stale(core) {
+            Some(stale) => add_turns(turns, core, now, stale.as_slice()),
+            None => add_turns(turns, core, now, &[]),
+        }
+    }
+
+    /// The turns of the first cores, where the cores have these picks.
+    fn turns_below(
+        &self,
+        alloc: Global,
+        picks: &[Option<Pick>],
+        cores: u8,
+    ) -> Result<Vec<Turn>, OutOfMemory>
+        ensures { IfOk result (λ v. v.items ≡ turns_below self.now picks.now cores) }
+    {
+        let mut turns = Vec::new(alloc);
+        for core in 0..cores {
+            self.add_core(&mut turns, picks, CoreId(core))?;
+        }
+        Ok(turns)
+    }
+
+    /// The turns of all cores, where the cores have these picks: each that the rule has, and those
+    /// of threads that may not enter. OutOfMemory where memory was refused.
+    pub fn turns(
+        &self,
+        alloc: Global,
+        users: &Users,
+        picks: &[Option<Pick>],
+    ) -> Result<Vec<Turn>, OutOfMemory>
+        requires { ArePicks users.now self.now picks.now }
+        ensures all { IfOk result (λ v. HasEachTurn users.now self.now v.items) }
+        ensures picked { IfOk result (λ v. ArePicked self.now picks.now v.items) }
+    {
+        users.are_apart();
+        let cores = self.kernel().book().cores();
+        self.turns_below(alloc, picks, cores)
+    }
+}

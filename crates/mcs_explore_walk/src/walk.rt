@@ -1,0 +1,481 @@
+//! A kernel, how far each user is, and what each core may enter.
+ghost use Rattle.std.specs.Prelude.{◌≡◌, ◌≤◌, ◌<◌, ◌+◌, ◌^◌, ℕ, true, false, [], IfOk, IfSome, IfNone, OnOk, OnErr, Some, length, map, replicate, slice_get, option_copied};
+ghost use Rattle.mcs_types.specs.declared.id.ObjId.{ObjId};
+ghost use Rattle.mcs_book.specs.History.{IsLegal, log_of};
+ghost use Rattle.mcs_book.specs.Picking.{GoesBefore};
+ghost use Rattle.mcs_book.specs.Statuses.{is_ready, may_enter, status_of};
+ghost use Rattle.mcs_book.specs.Threads.{prio_of};
+ghost use Rattle.mcs_turns.specs.declared.position.Position.{Position};
+ghost use Rattle.mcs_turns.specs.Due.{begun, none_stale, stale_after};
+ghost use Rattle.mcs_turns.specs.Turns.{IsStale, ArePicks, IsTurn, beginning, behind, entered, put_at};
+ghost use Rattle.mcs_explore_walk.specs.Walks.{AreBestBelow, EntersSomewhere, HasNoTurn, IsBestBelow, IsEntryCore, IsOffer, IsPicked, is_let_in, last_answer, left_stale, picked_of, step_of};
+
+use crate::copies::{copy_all, push};
+use crate::fault::{OrdersFault, limit_of};
+use mcs_kernel::{Boot, EnterFault, Kernel};
+use mcs_queues::Lines;
+use mcs_turns::{Pick, Position};
+use mcs_types::{Answer, CoreId, Entry, ObjId, OutOfMemory, Status, copy_rows};
+use mcs_users::{Picks, UserList, Users};
+use std::alloc::Global;
+use std::marker::Model;
+
+/// An entry of a user on a core.
+#[derive(Clone, Copy, Drop)]
+pub struct Turn {
+    pub core: CoreId,
+    pub pick: Pick,
+}
+
+/// What a user can give now: the one core on which it can, its pick, and its thread.
+#[derive(Clone, Copy, Drop)]
+struct Offer {
+    core: CoreId,
+    pick: Pick,
+    thread: ObjId,
+}
+
+/// A kernel, the positions of its users, and for each core what it picked since its last line and
+/// whose user has not moved. Clauses see how far a run is.
+pub struct Walk<L: Lines> {
+    kernel: Kernel<L>,
+    places: Vec<Position>,
+    stale: Vec<Picks>,
+}
+
+// By hand, so that it is a function of its own: a derived drop would be proved anew wherever a walk
+// is let go.
+impl<L: Lines> Drop for Walk<L> {
+    fn drop(self) {
+        let Walk {
+            kernel: _,
+            places: _,
+            stale: _,
+        } = self;
+    }
+}
+
+impl<L: Lines> Model for Walk<L> {
+    ghost use Rattle.mcs_turns.specs.Turns.{Going};
+
+    ghost Value = { Going };
+
+    ghost view = { λ w. record {
+      book = w.kernel;
+      places = w.places.items;
+      stale = w.stale.items;
+    } };
+}
+
+/// Whether an entry that would be turned away for this is one of a thread that may enter.
+fn is_let_in(fault: Option<EnterFault>) -> bool
+    ensures { result ≡ is_let_in fault }
+{
+    match fault {
+        None | Some(EnterFault::BookFull) => true,
+        Some(_) => false,
+    }
+}
+
+/// Whether a thread may enter on a core.
+fn may_enter<L: Lines>(kernel: &Kernel<L>, core: CoreId, thread: ObjId) -> bool
+    ensures { result ≡ may_enter (log_of kernel.now) core thread }
+{
+    is_let_in(kernel.fault(core, thread))
+}
+
+/// Whether a thread with this status can run.
+fn is_ready(status: Option<Status>) -> bool
+    ensures { result ≡ is_ready status }
+{
+    matches!(status, Some(Status::Running | Status::Restart))
+}
+
+/// The core on which a thread with this status may enter; None where it may enter nowhere.
+#[tactic(auto, using(crate::proofs::Walking::not_ready, crate::proofs::Walking::without_context, crate::proofs::Walking::with_context))]
+fn entry_core<L: Lines>(kernel: &Kernel<L>, thread: ObjId, status: Option<Status>) -> Option<CoreId>
+    requires { status ≡ status_of (log_of kernel.now) thread }
+    ensures { IsEntryCore (log_of kernel.now) thread result }
+{
+    kernel.is_fair();
+    if !is_ready(status) {
+        return None;
+    }
+    match kernel.context(thread) {
+        Some(context) => kernel.core(context),
+        None => None,
+    }
+}
+
+/// The priority of a thread that may enter.
+fn priority_of<L: Lines>(kernel: &Kernel<L>, thread: ObjId) -> u8
+    requires { EntersSomewhere (log_of kernel.now) thread }
+    ensures { result ≡ prio_of (log_of kernel.now) thread }
+{
+    match kernel.priority(thread) {
+        Some(priority) => priority.0,
+        None => 0,
+    }
+}
+
+/// Whether a thread that may enter on a core goes before another one.
+fn goes_before<L: Lines>(kernel: &Kernel<L>, thread: ObjId, other: ObjId) -> bool
+    requires thread { EntersSomewhere (log_of kernel.now) thread }
+    requires other { EntersSomewhere (log_of kernel.now) other }
+    ensures yes { result ≡ true → GoesBefore (log_of kernel.now) thread other }
+    ensures no { result ≡ false → GoesBefore (log_of kernel.now) other thread }
+{
+    let one = priority_of(kernel, thread);
+    let two = priority_of(kernel, other);
+    two < one || (one == two && thread.serial < other.serial)
+}
+
+/// The positions of so many users before the first turn.
+fn first_places(alloc: Global, users: &[UserList]) -> Result<Vec<Position>, OutOfMemory>
+    ensures { IfOk result (λ v. v.items ≡ map (λ u. begun) users.now) }
+{
+    let mut places = Vec::with_capacity(alloc, users.len())?;
+    for user in users {
+        let _ = user;
+        push(&mut places, Position::start())?;
+    }
+    Ok(places)
+}
+
+/// No stale pick of so many cores.
+fn no_stale(alloc: Global, cores: u8) -> Result<Vec<Picks>, OutOfMemory>
+    ensures { IfOk result (λ v. v.items ≡ none_stale cores) }
+{
+    let mut stale = Vec::with_capacity(alloc, cores as usize)?;
+    for core in 0..cores {
+        push(&mut stale, Picks::new(alloc))?;
+    }
+    Ok(stale)
+}
+
+/// The position of a user behind an entry that was let in with this answer.
+fn position_behind(user: &UserList, number: usize, answer: &Answer) -> Position
+    requires { number < length user.now.entries }
+    ensures { result ≡ behind user.now number answer.now }
+{
+    let count = user.entries.len();
+    let mut place = Position::past(number, answer);
+    if let Some(first) = user.again
+        && place.next >= count
+    {
+        place.next = first;
+    }
+    place
+}
+
+/// Puts a position into a place, if there is such a place.
+fn put(places: &mut Vec<Position>, user: usize, place: Position)
+    ensures { places.new.items ≡ put_at user place places.old.items }
+{
+    if user < places.len() {
+        places[user] = place;
+    }
+}
+
+/// The pick of a core among those of all; None where there is no such core.
+pub fn picked(picks: &[Option<Pick>], core: usize) -> Option<Pick>
+    ensures { result ≡ picked_of picks.now core }
+{
+    match picks.get(core) {
+        Some(pick) => *pick,
+        None => None,
+    }
+}
+
+/// No pick of so many cores.
+fn no_picks(alloc: Global, cores: u8) -> Result<Vec<Option<Pick>>, OutOfMemory>
+    ensures { IfOk result (λ v. v.items ≡ replicate cores None) }
+{
+    let mut picks = Vec::with_capacity(alloc, cores as usize)?;
+    for core in 0..cores {
+        push(&mut picks, None)?;
+    }
+    Ok(picks)
+}
+
+/// Whether a core picks this, where the cores have these picks.
+fn is_picked(picks: &[Option<Pick>], turn: Turn) -> bool
+    ensures yes { result ≡ true → slice_get picks.now turn.core.0 ≡ Some (Some turn.pick) }
+    ensures no { result ≡ false → slice_get picks.now turn.core.0 ≡ Some (Some turn.pick) → ⊥ }
+{
+    match picked(picks, turn.core.0 as usize) {
+        Some(pick) => turn.pick.is_same(pick),
+        None => false,
+    }
+}
+
+impl<L: Lines> Walk<L> {
+    /// Before the first turn.
+    pub fn new(alloc: Global, boot: &Boot, users: &Users) -> Result<Walk<L>, OutOfMemory>
+        ensures { IfOk result (λ w. w ≡ beginning users.now boot.now) }
+    {
+        let kernel = Kernel::new(alloc, boot)?;
+        let places = first_places(alloc, users.lists())?;
+        let stale = no_stale(alloc, boot.cores())?;
+        Ok(Walk {
+            kernel,
+            places,
+            stale,
+        })
+    }
+
+    /// The kernel.
+    pub fn kernel(&self) -> &Kernel<L>
+        ensures { result.now ≡ self.now.book }
+    {
+        &self.kernel
+    }
+
+    /// How far the user in a place is.
+    pub fn place(&self, user: usize) -> Option<Position>
+        ensures { result ≡ slice_get self.now.places user }
+    {
+        self.places.get(user).copied()
+    }
+
+    /// What a core picked since its last line and whose user has not moved; none where there is no
+    /// such core.
+    pub fn stale(&self, core: CoreId) -> Option<&Picks>
+        ensures { option_copied result ≡ slice_get self.now.stale core.0 }
+    {
+        self.stale.get(core.0 as usize)
+    }
+
+    /// What a user can give now; None where it has no entry left, or its thread may enter nowhere.
+    fn offer(&self, users: &Users, user: usize) -> Option<Offer>
+        ensures { IsOffer users.now self.now user result }
+    {
+        let list = users.at(user)?;
+        let place = self.place(user)?;
+        let status = self.kernel.status(list.thread);
+        let number = place.due(status);
+        if number >= list.entries.len() {
+            return None;
+        }
+        let core = entry_core(&self.kernel, list.thread, status)?;
+        Some(Offer {
+            core,
+            pick: Pick { user, number },
+            thread: list.thread,
+        })
+    }
+
+    /// The better of what a user can give and of the best that those before it can give on that
+    /// core.
+    #[tactic(auto, using(crate::proofs::Picking::is_first))]
+    fn better(&self, users: &Users, user: usize, offer: Offer, best: Option<Pick>) -> Pick
+        requires offer { IsOffer users.now self.now user (Some offer) }
+        requires best { IsBestBelow users.now self.now offer.core user best }
+        ensures { IsBestBelow users.now self.now offer.core (user + 1) (Some result) }
+    {
+        let Some(before) = best else {
+            return offer.pick;
+        };
+        let Some(list) = users.at(before.user) else {
+            unreachable!();
+        };
+        if goes_before(&self.kernel, offer.thread, list.thread) {
+            offer.pick
+        } else {
+            before
+        }
+    }
+
+    /// Notes what a user can give, where it goes before the best that those before it can give.
+    #[tactic(auto, using(crate::proofs::Picking::all_kept, crate::proofs::Picking::all_noted, crate::proofs::Picking::all_beyond))]
+    fn note(&self, users: &Users, user: usize, picks: &mut Vec<Option<Pick>>)
+        requires { AreBestBelow users.now self.now user picks.old.items }
+        ensures best { AreBestBelow users.now self.now (user + 1) picks.new.items }
+        ensures length { length picks.new.items ≡ length picks.old.items }
+    {
+        let Some(offer) = self.offer(users, user) else {
+            return;
+        };
+        let core = offer.core.0 as usize;
+        if core < picks.len() {
+            let best = picks[core];
+            let better = self.better(users, user, offer, best);
+            picks[core] = Some(better);
+        }
+    }
+
+    /// What each core picks: the due entry of the user who can give one and whose thread goes
+    /// before those of all others who can.
+    #[tactic(auto, using(crate::proofs::Picking::none_best, crate::proofs::Picking::best_picks))]
+    pub fn picks(&self, alloc: Global, users: &Users) -> Result<Vec<Option<Pick>>, OutOfMemory>
+        ensures { IfOk result (λ v. ArePicks users.now self.now v.items) }
+    {
+        let mut picks = no_picks(alloc, self.kernel.book().cores())?;
+        for user in 0..users.lists().len() {
+            self.note(users, user, &mut picks);
+        }
+        Ok(picks)
+    }
+
+    /// The stale picks of the core in a place after a line by a user on a core, where the cores had
+    /// these picks before it.
+    fn left_of(
+        &self,
+        alloc: Global,
+        place: usize,
+        core: CoreId,
+        user: usize,
+        picks: &[Option<Pick>],
+    ) -> Result<Picks, OutOfMemory>
+        ensures { IfOk result (λ p. IfSome (slice_get self.now.stale place) (λ stale.
+            p ≡ left_stale core.0 user picks.now place stale)) }
+    {
+        let Some(stale) = self.stale.get(place) else {
+            return Ok(Picks::new(alloc));
+        };
+        if place == core.0 as usize {
+            Ok(Picks::new(alloc))
+        } else {
+            stale.after(alloc, picked(picks, place), user)
+        }
+    }
+
+    /// The stale picks of all cores after a line by a user on a core, where the cores had these
+    /// picks before it.
+    fn stale_after(
+        &self,
+        alloc: Global,
+        core: CoreId,
+        user: usize,
+        picks: &[Option<Pick>],
+    ) -> Result<Vec<Picks>, OutOfMemory>
+        ensures { IfOk result (λ v.
+            v.items ≡ stale_after core.0 user 0 picks.now self.now.stale) }
+    {
+        let mut after = Vec::with_capacity(alloc, self.stale.len())?;
+        for other in 0..self.stale.len() {
+            let left = self.left_of(alloc, other, core, user, picks)?;
+            push(&mut after, left)?;
+        }
+        Ok(after)
+    }
+
+    /// Whether a core picked this before.
+    fn was_picked(&self, turn: Turn) -> bool
+        ensures yes { result ≡ true → IsStale self.now turn.core turn.pick }
+        ensures no { result ≡ false → IsStale self.now turn.core turn.pick → ⊥ }
+    {
+        match self.stale(turn.core) {
+            Some(stale) => stale.has(turn.pick),
+            None => false,
+        }
+    }
+
+    /// Whether a turn enters what its core picks, where the cores have these picks, or what it
+    /// picked before.
+    fn may_take(&self, picks: &[Option<Pick>], turn: Turn) -> bool
+        ensures yes { result ≡ true → IsPicked self.now picks.now turn.core turn.pick }
+        ensures no { result ≡ false → IsPicked self.now picks.now turn.core turn.pick → ⊥ }
+    {
+        is_picked(picks, turn) || self.was_picked(turn)
+    }
+
+    /// Lets in an entry of a user, which has this number in its list and whose thread may enter on
+    /// the core of a turn, where the cores have these picks, and moves on. After an error nothing
+    /// has changed.
+    fn enter(
+        &mut self,
+        alloc: Global,
+        list: &UserList,
+        entry: Entry,
+        picks: &[Option<Pick>],
+        turn: Turn,
+    ) -> Result<Answer, OrdersFault>
+        requires number { turn.pick.number < length list.now.entries }
+        requires enters { may_enter (log_of self.old.book) turn.core list.now.thread ≡ true }
+        ensures entered { OnOk result (self.new
+            ≡ entered picks.now list.now (step_of turn.core list.now entry) turn.pick self.old) }
+        ensures answer { IfOk result (λ a. last_answer self.new.book ≡ Some a) }
+        ensures err { OnErr result (self.new ≡ self.old) }
+    {
+        let stale = self.stale_after(alloc, turn.core, turn.pick.user, picks)?;
+        match self.kernel.enter(alloc, turn.core, list.thread, entry) {
+            Ok(answer) => {
+                let place = position_behind(list, turn.pick.number, &answer);
+                put(&mut self.places, turn.pick.user, place);
+                self.stale = stale;
+                Ok(answer)
+            }
+            Err(fault) => Err(limit_of(fault)),
+        }
+    }
+
+    /// Makes a turn, where the cores have these picks, and gives what it was answered; None where
+    /// the rule has no such turn. Then, and after an error, nothing has changed. BookFull where the
+    /// book has 1,000,000 lines, OutOfMemory where memory was refused.
+    pub fn turn(
+        &mut self,
+        alloc: Global,
+        users: &Users,
+        picks: &[Option<Pick>],
+        turn: Turn,
+    ) -> Result<Option<Answer>, OrdersFault>
+        requires { ArePicks users.now self.old picks.now }
+        ensures turn { IfOk result (λ o. IfSome o (λ a.
+            IsTurn users.now turn.core turn.pick self.old self.new)) }
+        ensures answer { IfOk result (λ o. IfSome o (λ a. last_answer self.new.book ≡ Some a)) }
+        ensures no_turn { IfOk result (λ o.
+            IfNone o (HasNoTurn users.now self.old turn.core turn.pick)) }
+        ensures none { IfOk result (λ o. IfNone o (self.new ≡ self.old)) }
+        ensures err { OnErr result (self.new ≡ self.old) }
+    {
+        users.are_apart();
+        let Some(list) = users.at(turn.pick.user) else {
+            return Ok(None);
+        };
+        let Some(entry) = list.at(turn.pick.number) else {
+            return Ok(None);
+        };
+        if !self.may_take(picks, turn) {
+            return Ok(None);
+        }
+        if !may_enter(&self.kernel, turn.core, list.thread) {
+            return Ok(None);
+        }
+        let entry = entry.copy(alloc)?;
+        let answer = self.enter(alloc, list, entry, picks, turn)?;
+        Ok(Some(answer))
+    }
+
+    /// The kernel and the positions.
+    fn into_parts(self) -> (Kernel<L>, Vec<Position>) {
+        let Walk {
+            kernel,
+            places,
+            stale: _,
+        } = self;
+        (kernel, places)
+    }
+
+    /// The same walk once more, which goes on by itself, in the memory of a spare one. OutOfMemory
+    /// where memory was refused.
+    pub fn copy(&self, alloc: Global, spare: Option<Walk<L>>) -> Result<Walk<L>, OutOfMemory>
+        ensures { IfOk result (λ w. w ≡ self.now) }
+    {
+        let (kernel, places) = match spare {
+            Some(spare) => {
+                let (kernel, places) = spare.into_parts();
+                (Some(kernel), places)
+            }
+            None => (None, Vec::new(alloc)),
+        };
+        let kernel = self.kernel.copy(alloc, kernel)?;
+        let places = copy_rows(places, self.places.as_slice(), self.places.len())?;
+        let stale = copy_all(alloc, self.stale.as_slice())?;
+        Ok(Walk {
+            kernel,
+            places,
+            stale,
+        })
+    }
+}

@@ -1,5 +1,0 @@
-use Rattle.mcs_keys.specs.Naming.{Keeps}
-use Rattle.mcs_keys.proofs.keys.put_threads.Given as goal
-
-abbrev pub invariant-loop-place : goal.invariant-loop-place
-invariant-loop-place g l = Keeps l.fn.met l.met

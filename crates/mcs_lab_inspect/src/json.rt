@@ -1,0 +1,196 @@
+//! The lines of a book as JSON, an object for each.
+use crate::forms::{Fields, form_of};
+use crate::members::{Member, members_of, put_members, put_value, split_word};
+use crate::page::Page;
+use mcs_lab_check::{Judge, LabFault, Last, Names, TakesLines, Told, bare, object_of, take_lines};
+use mcs_sim::Source;
+use mcs_trace::{Line, spell_answer, spell_record, spell_step};
+use std::alloc::Global;
+use std::io::{Read, Write};
+
+/// The form of a line, or that of no words.
+fn fields_of(sign: Option<u8>, key: &[u8]) -> Fields<'static> {
+    match form_of(sign, key) {
+        Some(fields) => fields,
+        None => Fields::none(),
+    }
+}
+
+/// Puts an object of the words behind a key, and of its kind, where it is told.
+fn put_object<'a>(
+    alloc: Global,
+    page: &mut Page,
+    fields: &mut Fields<'static>,
+    kind: Option<Member<'a>>,
+    text: Option<&'a [u8]>,
+) {
+    match members_of(alloc, kind, fields, text) {
+        Some(members) => put_members(page, members.as_slice()),
+        None => page.cut(),
+    }
+}
+
+/// Puts a line of an answer or a record, with its sign: its word under `kind`, and the others under
+/// the names of its form.
+fn put_line(alloc: Global, page: &mut Page, sign: u8, line: &[u8]) {
+    let (_, Some(behind)) = split_word(line) else {
+        return page.put(b"null");
+    };
+    let (key, text) = split_word(behind);
+    let kind = Member {
+        name: b"kind".as_slice(),
+        value: key,
+        is_list: false,
+    };
+    put_object(
+        alloc,
+        page,
+        &mut fields_of(Some(sign), key),
+        Some(kind),
+        text,
+    );
+}
+
+/// Puts the thread that entered, with its name where it has one.
+fn put_thread(page: &mut Page, names: &Names, thread: &[u8]) {
+    page.put(b",\"thread\":");
+    page.quoted(thread);
+    if let Some(object) = object_of(thread) {
+        page.name_member(names, object);
+    }
+}
+
+/// Puts the words of the line of a step.
+fn put_step(alloc: Global, page: &mut Page, names: &Names, step: &[u8]) {
+    let (core, Some(behind)) = split_word(step) else {
+        return;
+    };
+    let (thread, Some(behind)) = split_word(behind) else {
+        return;
+    };
+    let (key, text) = split_word(behind);
+    page.put(b",\"core\":");
+    put_value(page, core);
+    put_thread(page, names, thread);
+    page.put(b",\"entry\":");
+    page.quoted(key);
+    page.put(b",\"arguments\":");
+    put_object(alloc, page, &mut fields_of(None, key), None, text);
+}
+
+/// A script whose book is told as JSON.
+#[derive(Drop)]
+struct Teller {
+    judge: Judge,
+    names: Names,
+    spelled: Box<Line>,
+    page: Page,
+}
+
+/// Puts the records of a line of a book, before which so many messages were sent.
+fn put_records(
+    alloc: Global,
+    page: &mut Page,
+    spelled: &mut Line,
+    line: mcs_book::Line<'_>,
+    before: u128,
+) {
+    let mut sent = before;
+    for i in 0..line.record_count() {
+        let Some(fact) = line.kept_record(i) else {
+            break;
+        };
+        spell_record(spelled, sent, &fact);
+        if fact.is_sent() {
+            sent = sent.saturating_add(1);
+        }
+        page.between(i == 0);
+        put_line(alloc, page, b'+', bare(spelled.text()));
+    }
+}
+
+impl Teller {
+    /// Of a script of which nothing is read. The judge is made last, so that no fault lets it go.
+    fn new(alloc: Global) -> Result<Teller, LabFault> {
+        let spelled = Box::new(alloc, Line::new())?;
+        let page = Page::new(alloc)?;
+        let names = Names::new(alloc);
+        let judge = Judge::new(alloc)?;
+        Ok(Teller {
+            judge,
+            names,
+            spelled,
+            page,
+        })
+    }
+
+    /// Tells the last step, which was let in.
+    fn tell(&mut self, alloc: Global) {
+        let Some((line, before)) = self.judge.entered() else {
+            return;
+        };
+        let page = &mut self.page;
+        page.put(b"{\"line\":");
+        page.number(self.judge.step().0);
+        spell_step(&mut self.spelled, &line.kept_step());
+        put_step(alloc, page, &self.names, bare(self.spelled.text()));
+        page.put(b",\"answer\":");
+        spell_answer(&mut self.spelled, &line.kept_answer());
+        put_line(alloc, page, b'=', bare(self.spelled.text()));
+        page.put(b",\"records\":[");
+        put_records(alloc, page, &mut self.spelled, line, before);
+        page.put(b"]}\n");
+    }
+
+    /// Takes a line of a script.
+    fn take(&mut self, alloc: Global, line: &[u8]) -> Result<(), LabFault> {
+        match (self.judge.take(alloc, line)?, self.judge.last()) {
+            (Told::Nothing, _) => self.names.hear(alloc, self.judge.line(), line),
+            (Told::Step, Last::LetIn { .. }) => {
+                self.tell(alloc);
+                Ok(())
+            }
+            _ => Ok(()),
+        }
+    }
+}
+
+/// A script whose book is written as JSON.
+#[derive(Drop)]
+struct Writer<W> {
+    teller: Teller,
+    to: W,
+}
+
+impl<W: Write> TakesLines for Writer<W> {
+    fn take_line(&mut self, alloc: Global, line: &[u8]) -> Result<(), LabFault> {
+        self.teller.take(alloc, line)?;
+        self.teller.page.write(&mut self.to)
+    }
+
+    fn taken(&self) -> u64 {
+        self.teller.judge.line()
+    }
+}
+
+/// Writes what is told of a script.
+fn write_all<R: Read, W: Write>(
+    alloc: Global,
+    from: &mut Source<R>,
+    writer: &mut Writer<W>,
+) -> Result<bool, LabFault> {
+    take_lines(alloc, from, writer)?;
+    writer.teller.judge.end(alloc)?;
+    Ok(true)
+}
+
+/// Writes an object for each line of the book of a script, each on a line of its own.
+pub fn write_json<R: Read, W: Write + Drop>(
+    alloc: Global,
+    from: &mut Source<R>,
+    to: W,
+) -> Result<bool, LabFault> {
+    let teller = Teller::new(alloc)?;
+    let mut writer = Writer { teller, to };
+    write_all(alloc, from, &mut writer)
+}

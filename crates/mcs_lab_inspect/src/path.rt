@@ -1,0 +1,118 @@
+//! Where an address leads, in words.
+use crate::page::Page;
+use mcs_kernel::Kernel;
+use mcs_lab_check::Names;
+use mcs_queues::LinkedLines;
+use mcs_types::{Cap, Kind};
+
+/// So many bits of a number, behind which so many others stand.
+fn bits_of(number: u64, count: u32, behind: u32) -> u64 {
+    let shifted = number.checked_shr(behind).unwrap_or(0);
+    match 1u64.checked_shl(count) {
+        None => shifted,
+        Some(limit) => shifted & limit.saturating_sub(1),
+    }
+}
+
+/// A CNode at which lookup has come, and how many bits of the address are left there.
+#[derive(Clone, Copy)]
+struct Level {
+    cap: Cap,
+    left: u32,
+}
+
+/// Puts that the guard of a level is another.
+fn put_guard(page: &mut Page, guard: u32) {
+    page.put(b", whose guard of ");
+    page.number(guard as u64);
+    page.put(b" bits is another");
+}
+
+/// Puts that too few bits are left for the index of a level.
+fn put_radix(page: &mut Page, radix: u32, behind: u32) {
+    page.put(b", whose index has ");
+    page.number(radix as u64);
+    page.put(b" bits, where ");
+    page.number(behind as u64);
+    page.put(b" are left");
+}
+
+/// Puts the slot that lookup takes at a level, and what holds it up there; the level behind it, if
+/// lookup goes on.
+fn put_slot(page: &mut Page, index: u64, held: Option<Cap>, left: u32) -> Option<Level> {
+    page.put(b" ");
+    page.number(index);
+    match held {
+        None => {
+            page.put(b" is empty");
+            None
+        }
+        Some(next) if left > 0 && next.obj.kind == Kind::CNode => Some(Level { cap: next, left }),
+        Some(_) => {
+            if left > 0 {
+                page.put(b" is no CNode, where ");
+                page.number(left as u64);
+                page.put(b" bits are left");
+            }
+            None
+        }
+    }
+}
+
+/// Puts the slot that lookup takes at a level, or why it takes none; the level behind it, if lookup
+/// goes on.
+fn put_level(
+    page: &mut Page,
+    kernel: &Kernel<LinkedLines>,
+    names: &Names,
+    address: u64,
+    level: Level,
+) -> Option<Level> {
+    let Level { cap, left } = level;
+    page.object(names, cap.obj);
+    let guard = cap.guard.bits as u32;
+    let behind = left.saturating_sub(guard);
+    if guard > left || bits_of(address, guard, behind) != cap.guard.value {
+        put_guard(page, guard);
+        return None;
+    }
+    let radix = kernel.radix(cap.obj) as u32;
+    if radix > behind {
+        put_radix(page, radix, behind);
+        return None;
+    }
+    let left = behind.saturating_sub(radix);
+    let index = bits_of(address, radix, left);
+    let held = match u8::try_from(index) {
+        Ok(index) => kernel.capability(cap.obj, index),
+        Err(_) => None,
+    };
+    put_slot(page, index, held, left)
+}
+
+/// Puts the slots that lookup passes from a root on, and where it ends: `(c1 3, c2 1 is empty)`.
+pub fn put_path(
+    page: &mut Page,
+    kernel: &Kernel<LinkedLines>,
+    names: &Names,
+    root: Cap,
+    address: u64,
+    depth: u32,
+) {
+    let mut level = Level {
+        cap: root,
+        left: depth,
+    };
+    page.put(b" (");
+    // each level but the first has fewer bits left
+    for count in 0..=depth {
+        if count > 0 {
+            page.put(b", ");
+        }
+        match put_level(page, kernel, names, address, level) {
+            Some(next) => level = next,
+            None => break,
+        }
+    }
+    page.put(b")");
+}

@@ -1,0 +1,108 @@
+//! Who stands where behind a line of a script.
+use crate::page::Page;
+use crate::stuck::Waits;
+use crate::tables::put_tables;
+use crate::values::put_values;
+use mcs_kernel::Kernel;
+use mcs_lab_check::{Judge, LabFault, Names, TakesLines, Told, take_lines};
+use mcs_queues::LinkedLines;
+use mcs_sim::Source;
+use std::alloc::Global;
+use std::io::{Read, Write};
+
+/// Of a state: behind which line, whether only what is stuck is told, and whether it is written as
+/// JSON.
+#[derive(Clone, Copy)]
+pub struct Wanted {
+    pub at: Option<u64>,
+    pub stuck: bool,
+    pub json: bool,
+}
+
+/// A script that is read up to a line.
+#[derive(Drop)]
+struct Reader {
+    judge: Judge,
+    names: Names,
+    at: Option<u64>,
+}
+
+impl Reader {
+    /// Whether the lines that are wanted were taken.
+    fn is_done(&self) -> bool {
+        match self.at {
+            Some(at) => self.judge.line() >= at,
+            None => false,
+        }
+    }
+}
+
+impl TakesLines for Reader {
+    fn take_line(&mut self, alloc: Global, line: &[u8]) -> Result<(), LabFault> {
+        if self.is_done() {
+            return Ok(());
+        }
+        if let Told::Nothing = self.judge.take(alloc, line)? {
+            self.names.hear(alloc, self.judge.line(), line)?;
+        }
+        Ok(())
+    }
+
+    fn taken(&self) -> u64 {
+        self.judge.line()
+    }
+}
+
+/// Puts what is wanted of a state. False where only what is stuck is wanted, and something is.
+fn put_state(
+    page: &mut Page,
+    kernel: &Kernel<LinkedLines>,
+    names: &Names,
+    waits: &Waits,
+    wanted: Wanted,
+) -> bool {
+    if wanted.json {
+        put_values(page, kernel, names, waits, wanted.stuck);
+        return !wanted.stuck || !waits.has_stuck();
+    }
+    if !wanted.stuck {
+        put_tables(page, kernel, names);
+    }
+    waits.put(page, kernel, names) || !wanted.stuck
+}
+
+/// Reads a script as far as is wanted, and puts what is wanted of its state. False where only what
+/// is stuck is wanted, and something is.
+fn read_state<R: Read>(
+    alloc: Global,
+    from: &mut Source<R>,
+    reader: &mut Reader,
+    page: &mut Page,
+    wanted: Wanted,
+) -> Result<bool, LabFault> {
+    take_lines(alloc, from, reader)?;
+    reader.judge.end(alloc)?;
+    let Some(kernel) = reader.judge.kernel() else {
+        return Ok(true);
+    };
+    let waits = Waits::new(alloc, kernel)?;
+    Ok(put_state(page, kernel, &reader.names, &waits, wanted))
+}
+
+/// Shows who stands where behind a line of a script, or at its end, and what is stuck. False where
+/// only what is stuck is wanted, and something is.
+pub fn show_state<R: Read, W: Write + Drop>(
+    alloc: Global,
+    from: &mut Source<R>,
+    mut to: W,
+    wanted: Wanted,
+) -> Result<bool, LabFault> {
+    let mut page = Page::new(alloc)?;
+    let names = Names::new(alloc);
+    let judge = Judge::new(alloc)?;
+    let at = wanted.at;
+    let mut reader = Reader { judge, names, at };
+    let is_free = read_state(alloc, from, &mut reader, &mut page, wanted)?;
+    page.write(&mut to)?;
+    Ok(is_free)
+}

@@ -1,0 +1,236 @@
+//! Who stands where, as text.
+use crate::page::Page;
+use crate::spaces::object;
+use mcs_kernel::Kernel;
+use mcs_lab_check::Names;
+use mcs_queues::LinkedLines;
+use mcs_text::Token;
+use mcs_types::{Kind, Mail, Message, ObjId, Queue, Status};
+
+/// Puts the tables of a kernel.
+#[derive(Drop)]
+struct Tables<'a> {
+    kernel: &'a Kernel<LinkedLines>,
+    names: &'a Names,
+}
+
+/// Puts the label and the words of a message.
+fn put_message(page: &mut Page, message: &Message) {
+    page.put(b" ");
+    page.number(message.label());
+    for word in message.words() {
+        page.put(b" ");
+        page.number(*word);
+    }
+}
+
+impl<'a> Tables<'a> {
+    /// Puts an object behind some words, where there is one.
+    fn put_some(&self, page: &mut Page, before: &[u8], object: Option<ObjId>) {
+        if let Some(object) = object {
+            page.put(before);
+            page.object(self.names, object);
+        }
+    }
+
+    /// Puts what a thread does.
+    fn put_status(&self, page: &mut Page, status: Option<Status>) {
+        match status {
+            Some(Status::Running) => page.put(b"running"),
+            Some(Status::Restart) => page.put(b"restart"),
+            Some(Status::Inactive) => page.put(b"inactive"),
+            Some(Status::Closed) | None => page.put(b"closed"),
+            Some(Status::Queued(queue)) => {
+                page.put(b"waits in ");
+                page.queue(self.names, queue);
+            }
+            Some(Status::OnReply(reply)) => {
+                page.put(b"waits for the answer that ");
+                page.object(self.names, reply);
+                page.put(b" owes");
+            }
+        }
+    }
+
+    /// Puts what last reached a thread.
+    fn put_mail(&self, page: &mut Page, thread: ObjId) {
+        match self.kernel.mail(thread) {
+            None => {}
+            Some(Mail::Word { word }) => {
+                page.put(b"; heard ");
+                page.number(*word);
+            }
+            Some(Mail::Message { badge, message }) => {
+                page.put(b"; got ");
+                page.number(badge.0);
+                put_message(page, message);
+            }
+        }
+    }
+
+    /// Puts a thread.
+    fn put_thread(&self, page: &mut Page, thread: ObjId) {
+        page.put(b"  ");
+        page.object(self.names, thread);
+        if let Some(priority) = self.kernel.priority(thread) {
+            page.put(b" (priority ");
+            page.number(priority.0 as u64);
+            page.put(b")");
+        }
+        page.put(b": ");
+        self.put_status(page, self.kernel.status(thread));
+        match self.kernel.context(thread) {
+            None => page.put(b"; holds no context"),
+            context => self.put_some(page, b"; holds ", context),
+        }
+        self.put_some(page, b"; bound to ", self.kernel.bound(thread));
+        self.put_mail(page, thread);
+        page.put(b"\n");
+    }
+
+    /// Puts who stands in a queue, with the message that it sent there.
+    fn put_standing(&self, page: &mut Page, thread: ObjId) {
+        page.put(b" ");
+        page.object(self.names, thread);
+        if let Some(letter) = self.kernel.open(thread) {
+            page.put(b" [m");
+            page.number(letter.number as u64);
+            page.put(b": ");
+            page.number(letter.badge.0);
+            put_message(page, &letter.message);
+            page.put(b"]");
+        }
+    }
+
+    /// Puts a queue with its threads and their messages, where some stand there.
+    fn put_queue(&self, page: &mut Page, queue: Queue) {
+        let mut is_first = true;
+        for thread in self.kernel.queue(queue) {
+            if is_first {
+                page.put(b"  ");
+                page.queue(self.names, queue);
+                page.put(b":");
+                is_first = false;
+            }
+            self.put_standing(page, thread);
+        }
+        if !is_first {
+            page.put(b"\n");
+        }
+    }
+
+    /// Puts the chain of a context.
+    fn put_chain(&self, page: &mut Page, context: ObjId) {
+        let mut is_first = true;
+        for reply in self.kernel.chain(context) {
+            if is_first {
+                page.put(b"; chain ");
+            } else {
+                page.put(b" ");
+            }
+            page.object(self.names, reply);
+            is_first = false;
+        }
+    }
+
+    /// Puts a context, where it is there.
+    fn put_context(&self, page: &mut Page, context: ObjId) {
+        let Some(core) = self.kernel.core(context) else {
+            return;
+        };
+        page.put(b"  ");
+        page.object(self.names, context);
+        page.put(b": core ");
+        page.number(core.0 as u64);
+        match self.kernel.holder(context) {
+            None => page.put(b"; held by -"),
+            holder => self.put_some(page, b"; held by ", holder),
+        }
+        self.put_some(page, b"; homed at ", self.kernel.home(context));
+        self.put_chain(page, context);
+        page.put(b"\n");
+    }
+
+    /// Puts what a reply object has with a thread, where there is one.
+    fn put_user(&self, page: &mut Page, reply: ObjId, words: &[u8], thread: Option<ObjId>) {
+        if thread.is_some() {
+            page.put(b"  ");
+            page.object(self.names, reply);
+            self.put_some(page, words, thread);
+            page.put(b"\n");
+        }
+    }
+
+    /// Puts a notification, where something is pending there or a thread is bound to it.
+    fn put_notification(&self, page: &mut Page, notification: ObjId) {
+        let word = self.kernel.word(notification);
+        let tied = self.kernel.tied(notification);
+        if word.is_none() && tied.is_none() {
+            return;
+        }
+        page.put(b"  ");
+        page.object(self.names, notification);
+        page.put(b":");
+        if let Some(word) = word {
+            page.put(b" pending ");
+            page.number(word);
+        }
+        self.put_some(page, b" bound to ", tied);
+        page.put(b"\n");
+    }
+
+    /// Puts the slots of a CNode that are filled.
+    fn put_slots(&self, page: &mut Page, cnode: ObjId) {
+        for index in 0..=u8::MAX {
+            if let Some(cap) = self.kernel.capability(cnode, index) {
+                page.put(b"  ");
+                page.object(self.names, cnode);
+                page.put(b" ");
+                page.number(index as u64);
+                page.put(b": ");
+                page.word(&Token::Cap(cap));
+                page.put(b"\n");
+            }
+        }
+    }
+
+    /// Puts an object of a kind.
+    fn put_object(&self, page: &mut Page, object: ObjId) {
+        match object.kind {
+            Kind::Thread => self.put_thread(page, object),
+            Kind::Endpoint => {
+                self.put_queue(page, Queue::Senders(object));
+                self.put_queue(page, Queue::Receivers(object));
+            }
+            Kind::Context => self.put_context(page, object),
+            Kind::Reply => {
+                self.put_user(page, object, b" owes ", self.kernel.owed(object));
+                self.put_user(page, object, b" with ", self.kernel.receiver(object));
+            }
+            Kind::Notification => self.put_notification(page, object),
+            Kind::CNode => self.put_slots(page, object),
+        }
+    }
+
+    /// Puts all objects of a kind, under a title.
+    fn put_kind(&self, page: &mut Page, title: &[u8], kind: Kind) {
+        page.put(title);
+        for serial in 1..=self.kernel.made(kind) {
+            self.put_object(page, object(kind, serial));
+        }
+    }
+}
+
+/// Puts who stands where.
+pub fn put_tables(page: &mut Page, kernel: &Kernel<LinkedLines>, names: &Names) {
+    let tables = Tables { kernel, names };
+    tables.put_kind(page, b"threads\n", Kind::Thread);
+    tables.put_kind(page, b"queues\n", Kind::Endpoint);
+    for serial in 1..=kernel.made(Kind::Notification) {
+        tables.put_queue(page, Queue::Waiters(object(Kind::Notification, serial)));
+    }
+    tables.put_kind(page, b"contexts\n", Kind::Context);
+    tables.put_kind(page, b"reply objects\n", Kind::Reply);
+    tables.put_kind(page, b"notifications\n", Kind::Notification);
+    tables.put_kind(page, b"slots\n", Kind::CNode);
+}

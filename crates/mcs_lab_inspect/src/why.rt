@@ -1,0 +1,623 @@
+//! Why a step did nothing, in words.
+use crate::forms::{Fields, LooksUp, form_of};
+use crate::hints::put_hints;
+use crate::numbers::address_of;
+use crate::page::Page;
+use crate::path::put_path;
+use crate::stuck::{Waits, taker_of};
+use mcs_kernel::{EnterFault, Kernel};
+use mcs_lab_check::{Judge, LabFault, Last, Names, TakesLines, Told, bare, entrant_of, take_lines};
+use mcs_queues::LinkedLines;
+use mcs_sim::Source;
+use mcs_text::{LineFault, Words};
+use mcs_types::{
+    Answer, CoreId, Ending, Entry, Kind, Mode, ObjId, OutOfMemory, Place, Rec, Refusal, SendMode,
+    Status, Step,
+};
+use std::alloc::Global;
+use std::io::{Read, Write};
+
+/// A line of the book, of which is reported what is easily overlooked.
+#[derive(Drop)]
+struct Entered {
+    step: Step,
+    answer: Answer,
+    records: Vec<Rec>,
+}
+
+/// Who took a call, and whose it is, where nobody can answer it: in a line in which a message is
+/// taken its caller becomes inactive, and no debt to it ends.
+fn unanswerable(records: &[Rec]) -> Option<(ObjId, ObjId)> {
+    let mut taker = None;
+    let mut ended = None;
+    for record in records {
+        match record {
+            Rec::Took { thread, .. } => taker = Some(*thread),
+            Rec::Void { caller, .. } => ended = Some(*caller),
+            Rec::Turns {
+                thread,
+                mode: Mode::Inactive,
+            } if ended != Some(*thread) => return Some((taker?, *thread)),
+            _ => {}
+        }
+    }
+    None
+}
+
+/// Whether lookup refuses so.
+fn refuses<T: Drop>(found: Option<Result<T, Refusal>>, refusal: Refusal) -> bool {
+    match found {
+        Some(Err(why)) => why == refusal,
+        _ => false,
+    }
+}
+
+/// Of a step: who entered, and how lookup refused it.
+#[derive(Clone, Copy)]
+struct Refused {
+    thread: ObjId,
+    refusal: Refusal,
+}
+
+/// Puts that an address is refused so, and where it leads. False where it is not.
+fn put_address(
+    page: &mut Page,
+    names: &Names,
+    kernel: &Kernel<LinkedLines>,
+    step: Refused,
+    address: u64,
+) -> bool {
+    if !refuses(kernel.named(step.thread, address), step.refusal) {
+        return false;
+    }
+    page.put(b"address ");
+    page.number(address);
+    if let Some(root) = kernel.root(step.thread) {
+        put_path(page, kernel, names, root, address, 64);
+    }
+    true
+}
+
+/// Puts that a place is refused so, and where it leads. False where it is not.
+fn put_place(
+    page: &mut Page,
+    names: &Names,
+    kernel: &Kernel<LinkedLines>,
+    step: Refused,
+    place: Place,
+) -> bool {
+    if !refuses(kernel.placed(step.thread, place), step.refusal) {
+        return false;
+    }
+    let Place { index, depth } = place;
+    page.put(b"index ");
+    page.number(index);
+    page.put(b" at depth ");
+    page.number(depth as u64);
+    if depth >= 1
+        && depth <= 64
+        && let Some(root) = kernel.root(step.thread)
+    {
+        put_path(page, kernel, names, root, index, depth as u32);
+    }
+    true
+}
+
+/// The place of an index and the depth that stands behind it.
+fn place_of(index: u64, fields: &mut Fields<'_>, words: &mut Words<'_>) -> Option<Place> {
+    fields.next_field()?;
+    let depth = u8::try_from(address_of(words.next_word()?)?).ok()?;
+    Some(Place { index, depth })
+}
+
+/// Puts which address or place lookup refuses so, of the words of a step behind its key, if one.
+fn put_first_refused(
+    page: &mut Page,
+    names: &Names,
+    kernel: &Kernel<LinkedLines>,
+    step: Refused,
+    fields: &mut Fields<'_>,
+    words: &mut Words<'_>,
+    most: usize,
+) -> bool {
+    for _ in 0..most {
+        let (Some(field), Some(word)) = (fields.next_field(), words.next_word()) else {
+            return false;
+        };
+        let Some(number) = address_of(word) else {
+            continue;
+        };
+        let is_put = match field.looks_up {
+            LooksUp::Nothing => false,
+            LooksUp::Address => put_address(page, names, kernel, step, number),
+            LooksUp::Place => match place_of(number, fields, words) {
+                Some(place) => put_place(page, names, kernel, step, place),
+                None => false,
+            },
+        };
+        if is_put {
+            return true;
+        }
+    }
+    false
+}
+
+/// Puts which address or place of a step lookup refuses so, if one.
+fn put_refused(
+    page: &mut Page,
+    names: &Names,
+    kernel: &Kernel<LinkedLines>,
+    step: &[u8],
+    refusal: Refusal,
+) -> bool {
+    let mut words = Words::new(step);
+    let (Some(_), Some(_), Some(key)) = (words.next_word(), words.next_word(), words.next_word())
+    else {
+        return false;
+    };
+    let (Some((_, thread)), Some(mut fields)) = (entrant_of(step), form_of(None, key)) else {
+        return false;
+    };
+    let refused = Refused { thread, refusal };
+    put_first_refused(
+        page,
+        names,
+        kernel,
+        refused,
+        &mut fields,
+        &mut words,
+        step.len(),
+    )
+}
+
+/// Puts who took the call for which a reply object owes.
+fn put_taker(
+    alloc: Global,
+    page: &mut Page,
+    names: &Names,
+    kernel: &Kernel<LinkedLines>,
+    reply: ObjId,
+) {
+    match taker_of(alloc, kernel.book(), reply) {
+        Err(_) => page.cut(),
+        Ok(None) => {}
+        Ok(Some(taker)) => {
+            page.put(b" (");
+            page.object(names, taker);
+            page.put(b" took its call)");
+        }
+    }
+}
+
+/// Puts why a thread does not run.
+fn put_status(
+    alloc: Global,
+    page: &mut Page,
+    names: &Names,
+    kernel: &Kernel<LinkedLines>,
+    thread: ObjId,
+) {
+    page.object(names, thread);
+    match kernel.status(thread) {
+        Some(Status::Queued(queue)) => {
+            page.put(b" stands in ");
+            page.queue(names, queue);
+        }
+        Some(Status::OnReply(reply)) => {
+            page.put(b" waits for the answer that ");
+            page.object(names, reply);
+            page.put(b" owes");
+            put_taker(alloc, page, names, kernel, reply);
+        }
+        Some(Status::Inactive) => page.put(b" is inactive"),
+        Some(Status::Closed) => page.put(b" is closed"),
+        Some(Status::Running | Status::Restart) | None => page.put(b" does not run"),
+    }
+}
+
+/// Puts of which core the context of a thread is.
+fn put_other_core(page: &mut Page, names: &Names, kernel: &Kernel<LinkedLines>, thread: ObjId) {
+    page.object(names, thread);
+    page.put(b" holds ");
+    let Some(context) = kernel.context(thread) else {
+        return page.put(b"-");
+    };
+    page.object(names, context);
+    if let Some(core) = kernel.core(context) {
+        page.put(b", which is of core ");
+        page.number(core.0 as u64);
+    }
+}
+
+/// Puts why a thread may not enter on a core.
+fn put_reason(
+    alloc: Global,
+    page: &mut Page,
+    names: &Names,
+    kernel: &Kernel<LinkedLines>,
+    core: CoreId,
+    thread: ObjId,
+) {
+    match kernel.fault(core, thread) {
+        Some(EnterFault::NotRunning) => put_status(alloc, page, names, kernel, thread),
+        Some(EnterFault::NoContext) => {
+            page.object(names, thread);
+            page.put(b" holds no scheduling context");
+        }
+        Some(EnterFault::WrongCore) => put_other_core(page, names, kernel, thread),
+        _ => page.put(b"it may not enter"),
+    }
+}
+
+/// Puts that a debt ended without an answer.
+fn put_void(page: &mut Page, names: &Names, reply: ObjId, caller: ObjId, ending: Ending) {
+    page.object(names, reply);
+    page.put(b" owed ");
+    page.object(names, caller);
+    match ending {
+        Ending::Deleted => page.put(b" an answer, which never comes: it was deleted\n"),
+        Ending::Cancelled => page.put(b" an answer, which never comes: the debt was cancelled\n"),
+    }
+}
+
+/// Puts what a record means for who waits for an answer.
+fn put_record(page: &mut Page, names: &Names, record: &Rec) {
+    match record {
+        Rec::Sent {
+            sender,
+            endpoint,
+            mode: SendMode::Mute,
+            ..
+        } => {
+            page.put(b"nobody can answer the call of ");
+            page.object(names, *sender);
+            page.put(b" on ");
+            page.object(names, *endpoint);
+            page.put(b": its capability has neither g nor p\n");
+        }
+        Rec::Void {
+            reply,
+            caller,
+            ending,
+        } => put_void(page, names, *reply, *caller, *ending),
+        Rec::Dropped { message } => {
+            page.put(b"m");
+            page.number(*message as u64);
+            page.put(b" was dropped: nobody receives it\n");
+        }
+        _ => {}
+    }
+}
+
+/// Whether a record is reported.
+fn is_reported(record: &Rec) -> bool {
+    match record {
+        Rec::Sent {
+            mode: SendMode::Mute,
+            ..
+        }
+        | Rec::Void { .. }
+        | Rec::Dropped { .. } => true,
+        Rec::Sent {
+            mode: SendMode::Plain | SendMode::Call | SendMode::Give,
+            ..
+        }
+        | Rec::Made { .. }
+        | Rec::Closed { .. }
+        | Rec::Slot { .. }
+        | Rec::Prio { .. }
+        | Rec::Turns { .. }
+        | Rec::Joins { .. }
+        | Rec::Parts { .. }
+        | Rec::Took { .. }
+        | Rec::Owes { .. }
+        | Rec::Paid { .. }
+        | Rec::Holds { .. }
+        | Rec::Raised { .. }
+        | Rec::Heard { .. }
+        | Rec::Tied { .. }
+        | Rec::Homed { .. } => false,
+    }
+}
+
+/// The address over which an entry sends and then does not wait, where nobody receives or nobody is
+/// owed an answer.
+fn sends_once(entry: &Entry) -> Option<u64> {
+    match entry {
+        Entry::Send { cap, .. }
+        | Entry::NbSend { cap, .. }
+        | Entry::NbSendRecv { cap, .. }
+        | Entry::NbSendWait { cap, .. } => Some(*cap),
+        Entry::ReplyRecv { reply, .. } => Some(*reply),
+        _ => None,
+    }
+}
+
+/// Whether a record sends a message, or pays an answer.
+fn delivers(record: &Rec) -> bool {
+    match record {
+        Rec::Sent { .. } | Rec::Paid { .. } => true,
+        Rec::Made { .. }
+        | Rec::Closed { .. }
+        | Rec::Slot { .. }
+        | Rec::Prio { .. }
+        | Rec::Turns { .. }
+        | Rec::Joins { .. }
+        | Rec::Parts { .. }
+        | Rec::Took { .. }
+        | Rec::Dropped { .. }
+        | Rec::Owes { .. }
+        | Rec::Void { .. }
+        | Rec::Holds { .. }
+        | Rec::Raised { .. }
+        | Rec::Heard { .. }
+        | Rec::Tied { .. }
+        | Rec::Homed { .. } => false,
+    }
+}
+
+/// Whether a message was sent, or an answer given, by some record.
+fn is_delivered(records: &[Rec]) -> bool {
+    for record in records {
+        if delivers(record) {
+            return true;
+        }
+    }
+    false
+}
+
+/// Whether an answer refuses.
+fn is_refused(answer: &Answer) -> bool {
+    match answer {
+        Answer::Refused(_) => true,
+        Answer::Done | Answer::Got { .. } | Answer::Heard { .. } | Answer::Empty | Answer::Waits =>
+            false,
+    }
+}
+
+/// Whether a message goes to an object of this kind.
+fn takes_messages(kind: Kind) -> bool {
+    match kind {
+        Kind::Endpoint | Kind::Reply => true,
+        Kind::CNode | Kind::Thread | Kind::Notification | Kind::Context => false,
+    }
+}
+
+/// The endpoint or reply object over which the message of a line went to nobody, if it did.
+fn dropped_at(kernel: &Kernel<LinkedLines>, entered: &Entered) -> Option<ObjId> {
+    let address = sends_once(&entered.step.entry)?;
+    if is_refused(&entered.answer) || is_delivered(entered.records.as_slice()) {
+        return None;
+    }
+    match kernel.named(entered.step.thread, address) {
+        Some(Ok(cap)) if takes_messages(cap.obj.kind) => Some(cap.obj),
+        _ => None,
+    }
+}
+
+/// A script of which is reported what is easily overlooked.
+#[derive(Drop)]
+struct Teller {
+    judge: Judge,
+    names: Names,
+    page: Page,
+}
+
+impl Teller {
+    /// Of a script of which nothing is read. The judge is made last, so that no fault frees it.
+    fn new(alloc: Global) -> Result<Teller, LabFault> {
+        let page = Page::new(alloc)?;
+        let names = Names::new(alloc);
+        let judge = Judge::new(alloc)?;
+        Ok(Teller { judge, names, page })
+    }
+
+    /// Puts the line of the last step, and a colon.
+    fn put_step(&mut self) {
+        let (number, step) = self.judge.step();
+        self.page.put(b"line ");
+        self.page.number(number);
+        self.page.put(b": ");
+        self.page.put(bare(step));
+        self.page.put(b": ");
+    }
+
+    /// Reports why the last step was turned away.
+    fn tell_away(&mut self, alloc: Global) {
+        self.put_step();
+        self.page.put(b"turned away: ");
+        let (_, step) = self.judge.step();
+        if let (Some(kernel), Some((core, thread))) = (self.judge.kernel(), entrant_of(step)) {
+            put_reason(alloc, &mut self.page, &self.names, kernel, core, thread);
+        }
+        self.page.put(b"\n");
+    }
+
+    /// Reports a fault of the script, and what may have been meant.
+    fn tell_fault(&mut self, alloc: Global, line: &[u8], fault: LabFault) {
+        let LabFault::Script { line: number, why } = fault else {
+            return;
+        };
+        let page = &mut self.page;
+        page.put(b"line ");
+        page.number(number);
+        page.put(b": fault ");
+        page.number(why.number() as u64);
+        page.put(b": ");
+        page.made(why.to_string(alloc));
+        page.put(b": ");
+        page.put(bare(line));
+        page.put(b"\n");
+        if why == LineFault::Form || why == LineFault::Number {
+            put_hints(page, bare(line));
+        }
+    }
+
+    /// Reports why the last step was refused.
+    fn tell_refused(&mut self, alloc: Global, refusal: Refusal) {
+        self.put_step();
+        self.page.put(b"refused ");
+        self.page.number(refusal as u64);
+        self.page.put(b": ");
+        let (_, step) = self.judge.step();
+        if let Some(kernel) = self.judge.kernel()
+            && put_refused(&mut self.page, &self.names, kernel, bare(step), refusal)
+        {
+            self.page.put(b": ");
+        }
+        self.page.made(refusal.to_string(alloc));
+        self.page.put(b"\n");
+    }
+
+    /// The answer and the records of the last step, where it was let in.
+    fn entered(&self, alloc: Global) -> Result<Option<Entered>, OutOfMemory> {
+        let Some((line, _)) = self.judge.entered() else {
+            return Ok(None);
+        };
+        let mut records = Vec::new(alloc);
+        for i in 0..line.record_count() {
+            if let Some(record) = line.record(alloc, i)?
+                && records.push(record).is_err()
+            {
+                return Err(OutOfMemory);
+            }
+        }
+        Ok(Some(Entered {
+            step: line.step(alloc)?,
+            answer: line.answer(alloc)?,
+            records,
+        }))
+    }
+
+    /// Reports who took a call that nobody can answer.
+    fn tell_unanswerable(&mut self, taker: ObjId, caller: ObjId) {
+        self.put_step();
+        self.page.object(&self.names, taker);
+        self.page.put(b" took the call of ");
+        self.page.object(&self.names, caller);
+        self.page.put(b", which nobody can answer: no reply object owes for it\n");
+    }
+
+    /// Reports of records what is easily overlooked.
+    fn tell_records(&mut self, records: &[Rec]) {
+        let mut tells = false;
+        for record in records {
+            if is_reported(record) {
+                self.put_step();
+                put_record(&mut self.page, &self.names, record);
+                tells = true;
+            }
+        }
+        if !tells && let Some((taker, caller)) = unanswerable(records) {
+            self.tell_unanswerable(taker, caller);
+        }
+    }
+
+    /// Reports that the message or the answer of the last step went to nobody, where it did.
+    fn tell_dropped(&mut self, entered: &Entered) {
+        let Some(kernel) = self.judge.kernel() else {
+            return;
+        };
+        let Some(object) = dropped_at(kernel, entered) else {
+            return;
+        };
+        self.put_step();
+        if object.kind.is_same(Kind::Reply) {
+            self.page.put(b"the answer was dropped: ");
+            self.page.object(&self.names, object);
+            self.page.put(b" owes nobody\n");
+        } else {
+            self.page
+                .put(b"the message was dropped: nobody receives on ");
+            self.page.object(&self.names, object);
+            self.page.put(b"\n");
+        }
+    }
+
+    /// Reports of the last step, which was let in, what is easily overlooked.
+    fn tell_entered(&mut self, alloc: Global) {
+        match self.entered(alloc) {
+            Ok(None) => {}
+            Err(OutOfMemory) => self.page.cut(),
+            Ok(Some(entered)) => {
+                if let Answer::Refused(refusal) = &entered.answer {
+                    self.tell_refused(alloc, *refusal);
+                }
+                self.tell_dropped(&entered);
+                self.tell_records(entered.records.as_slice());
+            }
+        }
+    }
+
+    /// Takes a line of the script.
+    fn take(&mut self, alloc: Global, line: &[u8]) -> Result<(), LabFault> {
+        let told = match self.judge.take(alloc, line) {
+            Ok(told) => told,
+            Err(fault) => {
+                self.tell_fault(alloc, line, fault);
+                return Err(fault);
+            }
+        };
+        match (told, self.judge.last()) {
+            (Told::Nothing, _) => return self.names.hear(alloc, self.judge.line(), line),
+            (Told::Step, Last::Away) => self.tell_away(alloc),
+            (Told::Step, Last::LetIn { .. }) => self.tell_entered(alloc),
+            _ => {}
+        }
+        Ok(())
+    }
+
+    /// Reports at the end what is stuck. True where nothing is.
+    fn tell_stuck(&mut self, alloc: Global) -> Result<bool, LabFault> {
+        self.judge.end(alloc)?;
+        let Some(kernel) = self.judge.kernel() else {
+            return Ok(true);
+        };
+        let waits = Waits::new(alloc, kernel)?;
+        Ok(waits.put(&mut self.page, kernel, &self.names))
+    }
+}
+
+/// A script that is explained.
+#[derive(Drop)]
+struct Explainer<W> {
+    teller: Teller,
+    to: W,
+}
+
+impl<W: Write> TakesLines for Explainer<W> {
+    fn take_line(&mut self, alloc: Global, line: &[u8]) -> Result<(), LabFault> {
+        let taken = self.teller.take(alloc, line);
+        self.teller.page.write(&mut self.to)?;
+        taken
+    }
+
+    fn taken(&self) -> u64 {
+        self.teller.judge.line()
+    }
+}
+
+/// Explains a script, and what is stuck at its end. True where nothing is.
+fn explain_all<R: Read, W: Write>(
+    alloc: Global,
+    from: &mut Source<R>,
+    explainer: &mut Explainer<W>,
+) -> Result<bool, LabFault> {
+    take_lines(alloc, from, explainer)?;
+    let is_free = explainer.teller.tell_stuck(alloc)?;
+    explainer.teller.page.write(&mut explainer.to)?;
+    Ok(is_free)
+}
+
+/// Explains a script: each step that was turned away or refused, each call that nobody can answer,
+/// each debt that became void, each message or answer that was dropped, and at the end what is
+/// stuck. True where nothing is stuck.
+pub fn explain<R: Read, W: Write + Drop>(
+    alloc: Global,
+    from: &mut Source<R>,
+    to: W,
+) -> Result<bool, LabFault> {
+    let teller = Teller::new(alloc)?;
+    let mut explainer = Explainer { teller, to };
+    explain_all(alloc, from, &mut explainer)
+}

@@ -1,0 +1,18 @@
+//! The names that a script gives, as a picture asks for them.
+use crate::Names as PaperNames;
+use mcs_lab_check::Names;
+use mcs_types::ObjId;
+use std::str;
+
+/// The names that a script gave by its lines `#@`.
+#[derive(Drop)]
+pub struct ScriptNames<'a>(pub &'a Names);
+
+impl<'a> PaperNames for ScriptNames<'a> {
+    fn name(&self, object: ObjId) -> Option<&str> {
+        match self.0.of(object) {
+            Some(name) => str::from_utf8(name).ok(),
+            None => None,
+        }
+    }
+}

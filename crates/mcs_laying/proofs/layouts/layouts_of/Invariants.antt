@@ -1,7 +1,0 @@
-use Rattle.std.proofs.Common.{◌≡◌, map, take}
-use Rattle.mcs_plans.specs.Saying.{said_space}
-use Rattle.mcs_laying.specs.Layouts.{layout_among}
-use Rattle.mcs_laying.proofs.layouts.layouts_of.Given as goal
-
-abbrev pub invariant-loop-space : goal.invariant-loop-space
-invariant-loop-space l = l.layouts.items ≡ map (layout_among (map said_space l.spaces)) (map said_space (take l.space-index l.spaces))

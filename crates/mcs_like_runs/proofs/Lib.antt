@@ -1,2 +1,0 @@
-pub mod Alikes
-pub mod Outcomes

@@ -1,5 +1,0 @@
-use Rattle.mcs_like_runs.proofs.Alikes.{unnumbered-alike}
-use Rattle.mcs_like_runs.proofs.alike_unnumbered.Goals as goal
-
-pub returns : goal.returns
-returns g c = unnumbered-alike g.at.0 g.at.1 g.at.2 g.at.3 c.requires

@@ -1,5 +1,0 @@
-use Rattle.mcs_like_runs.proofs.Alikes.{over-there}
-use Rattle.mcs_like_runs.proofs.over_alike.Goals as goal
-
-pub returns : goal.returns
-returns g c = over-there g.at.0 g.at.1 g.at.2 g.at.3 g.at.4 c.requires.0.close c.requires.1

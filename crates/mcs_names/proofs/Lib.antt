@@ -1,4 +1,0 @@
-pub mod Comments
-pub mod Cuts
-pub mod Entries
-pub mod Spelled

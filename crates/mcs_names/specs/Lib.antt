@@ -1,4 +1,0 @@
-pub mod Cutting
-pub mod Naming
-pub mod Numbers
-pub mod Telling

@@ -1,0 +1,604 @@
+//! A plan, line by line, to a script.
+ghost use Rattle.std.specs.Prelude.{◌≡◌, ◌≤◌, ◌<◌, ◌+◌, ◌^◌, true, None, Some, Ok, Err, IfOk, IfErr, OnOk, length, drop, string_bytes};
+ghost use Rattle.std.specs.Str.{is_utf8};
+ghost use Rattle.std.specs.Str.Lines.{lines};
+ghost use Rattle.mcs_plan_source.specs.Naming.{texts};
+ghost use Rattle.mcs_plan_source.specs.Refusals.{Refuses, need, no_step, told_by};
+ghost use Rattle.mcs_plan_source.specs.Saying.{said, said_passive, nothing_said};
+ghost use Rattle.mcs_plan_layout.specs.Fitting.{boot_fits};
+ghost use Rattle.mcs_plan_layout.specs.Laid.{laid_said};
+ghost use Rattle.mcs_plan_compile.specs.declared.compiling.Entries.TheVariants.{Nothing};
+ghost use Rattle.mcs_plan_compile.specs.Mixing.{is_steps, goes_on};
+ghost use Rattle.mcs_plan_compile.specs.Opening.{receive_text, receive_head, starter_head, name_or_none, context_in, unbind_text, step_added, both_added, IsOpeningOf, IsOpeningAt};
+ghost use Rattle.mcs_plan_compile.specs.Opening.{opened_at, openings_said, left_said, opened_said, behind_said, are_users};
+ghost use Rattle.mcs_plan_compile.specs.Reading.{RefusesAt, at_line, line_said, lines_said, plan_said};
+ghost use Rattle.mcs_plan_compile.specs.Scripts.{HasBootOfPlan, HasStepsOf, HasPlanOfLines, HasPlanOf};
+ghost use Rattle.mcs_plan_compile.specs.StepLines.{entry_taken, wanted_taken, code_taken, line_taken, lines_taken};
+ghost use Rattle.mcs_plan_compile.specs.Stepping.{count_before, cut_at_colon};
+ghost use Rattle.mcs_plan_compile.specs.Telling.{RefusesLaid, TellsLines, TellsPlan, few_lines, lines_in};
+
+use crate::lines::{add_comment, count_before, is_short, line_of, lines_of, split_colon};
+use crate::script::Script;
+use crate::steps::{Head, object_text, read_head, write_entry};
+use crate::wanting::read_wanted;
+use mcs_plan_layout::Laid;
+use mcs_plan_source::{Names, Passive, Plan, PlanFault, Why, split_comment, split_words};
+use mcs_types::{CoreId, Kind, ObjId};
+use std::alloc::{AllocError, Global};
+
+/// How many lines a plan may have (own): a script's may have 2,000,000.
+const LINES: usize = 900_000;
+
+/// Whether steps or lines of users stood so far.
+#[derive(Clone, Copy)]
+enum Entries {
+    Nothing,
+    Steps,
+    Users,
+}
+
+/// A plan whose boot is read, and the lines behind it so far.
+#[derive(Drop)]
+struct Compiler {
+    laid: Laid,
+    lines: Vec<String>,
+    entries: Entries,
+}
+
+/// A fault, with its line.
+fn at<T: Drop>(line: u64, done: Result<T, Why>) -> Result<T, PlanFault>
+    ensures ok { IfOk result (λ value. done ≡ Ok value) }
+    ensures err { IfErr result (λ fault. (fault.line ≡ line) × (done ≡ Err fault.why)) }
+{
+    match done {
+        Ok(value) => Ok(value),
+        Err(why) => Err(PlanFault { line, why }),
+    }
+}
+
+/// Takes a line before the first step: the comment of one without words goes to the front.
+fn read_before(
+    alloc: Global,
+    plan: &mut Plan,
+    front: &mut Vec<String>,
+    number: u64,
+    line: &str,
+) -> Result<(), Why>
+    ensures said { OnOk result
+        (line_said number line.now (said plan.old) ≡ Ok (said plan.new)) }
+    ensures told { IfErr result (Refuses (line_said number line.now (said plan.old))) }
+{
+    is_short(line)?;
+    let (code, comment) = split_comment(line);
+    let words = split_words(alloc, code)?;
+    if words.is_empty() {
+        add_comment(alloc, front, comment)?;
+    }
+    plan.read(alloc, number, &words)
+}
+
+/// The lines of names: `#@ OBJECT NAME`.
+fn add_names(alloc: Global, names: &Names, to: &mut Vec<String>) -> Result<(), AllocError> {
+    for i in 0..names.len() {
+        if let Some((name, object)) = names.at(i) {
+            let mut line = String::from_str(alloc, "#@ ")?;
+            let text = object_text(alloc, object)?;
+            line.push_str(text.as_str())?;
+            line.push_str(" ")?;
+            line.push_str(name)?;
+            to.push(line)?;
+        }
+    }
+    Ok(())
+}
+
+/// What makes a thread passive: what it does, and then the thread that takes its context away.
+#[derive(Drop)]
+struct Opening {
+    /// The line of the thread.
+    line: u64,
+    head: Head,
+    receive: String,
+    unbind: String,
+}
+
+/// The text by which a passive thread receives.
+fn receive_text(alloc: Global, passive: &Passive) -> Result<String, AllocError>
+    ensures { IfOk result (λ text. string_bytes text
+        ≡ receive_text (said_passive passive.now)) }
+{
+    let mut text = String::from_str(alloc, "recv ")?;
+    text.push_str(passive.endpoint.as_str())?;
+    text.push_str(" ")?;
+    text.push_str(passive.reply.as_str())?;
+    Ok(text)
+}
+
+/// The name of the context that a thread has at the boot.
+fn context_name(plan: &Plan, thread: ObjId) -> &str
+    ensures { result.now ≡ name_or_none (said plan.now) (context_in (said plan.now) thread) }
+{
+    match plan.context_of(thread) {
+        Some(context) => plan.names.name_of(context),
+        None => "",
+    }
+}
+
+/// The text by which the context of a passive thread is taken away.
+fn unbind_text(alloc: Global, plan: &Plan, passive: &Passive) -> Result<String, AllocError>
+    ensures { IfOk result (λ text. string_bytes text
+        ≡ unbind_text (said plan.now) (said_passive passive.now)) }
+{
+    let mut text = String::from_str(alloc, "unbind ")?;
+    text.push_str(context_name(plan, passive.thread))?;
+    Ok(text)
+}
+
+/// What makes a thread passive.
+fn opening_of(alloc: Global, plan: &Plan, passive: &Passive) -> Result<Opening, Why>
+    ensures opening { IfOk result (IsOpeningOf (said plan.now) (said_passive passive.now)) }
+    ensures told { IfErr result (λ w. told_by w ≡ None) }
+{
+    Ok(Opening {
+        line: passive.line,
+        head: Head {
+            thread: passive.thread,
+            core: Some(plan.core_of(passive.thread)),
+        },
+        receive: receive_text(alloc, passive)?,
+        unbind: unbind_text(alloc, plan, passive)?,
+    })
+}
+
+/// What makes the thread passive that is at this place.
+#[tactic(auto, using(crate::proofs::Opened::opening_there))]
+fn opening_at(alloc: Global, plan: &Plan, place: usize) -> Result<Opening, PlanFault>
+    requires { place < length plan.now.passives.items }
+    ensures opening { IfOk result (IsOpeningAt (said plan.now) place) }
+    ensures told { IfErr result (λ fault. told_by fault.why ≡ None) }
+{
+    at(0, opening_of(alloc, plan, &plan.passives[place]))
+}
+
+/// Who takes the contexts of passive threads away: the last thread.
+fn starter_head(plan: &Plan) -> Head
+    ensures { result ≡ starter_head (said plan.now) }
+{
+    Head {
+        thread: ObjId {
+            kind: Kind::Thread,
+            serial: plan.threads.len().min(256) as u32,
+        },
+        core: Some(CoreId(0)),
+    }
+}
+
+impl Compiler {
+    /// A step that the plan does not say.
+    fn add_step(&mut self, alloc: Global, head: Head, text: &str) -> Result<(), Why>
+        ensures added { OnOk result (step_added (laid_said self.old.laid) head text.now ≡ Ok tt) }
+        ensures told { IfErr result (Refuses (step_added (laid_said self.old.laid) head text.now)) }
+        ensures laid { self.new.laid ≡ self.old.laid }
+        ensures entries { self.new.entries ≡ self.old.entries }
+    {
+        let words = split_words(alloc, text)?;
+        let line = write_entry(alloc, &self.laid, head, &words)?;
+        self.lines.push(line)?;
+        Ok(())
+    }
+
+    /// Does what makes a thread passive.
+    fn add_opening(&mut self, alloc: Global, opening: &Opening) -> Result<(), Why>
+        ensures added { OnOk result (both_added (laid_said self.old.laid) opening.now.head
+            (string_bytes opening.now.receive) (string_bytes opening.now.unbind) ≡ Ok tt) }
+        ensures told { IfErr result (Refuses (both_added (laid_said self.old.laid) opening.now.head
+            (string_bytes opening.now.receive) (string_bytes opening.now.unbind))) }
+        ensures laid { self.new.laid ≡ self.old.laid }
+        ensures entries { self.new.entries ≡ self.old.entries }
+    {
+        self.add_step(alloc, opening.head, opening.receive.as_str())?;
+        let starter = starter_head(&self.laid.plan);
+        self.add_step(alloc, starter, opening.unbind.as_str())
+    }
+
+    /// The same, where a fault is told at the line of the thread.
+    fn do_opening(&mut self, alloc: Global, opening: &Opening) -> Result<(), PlanFault>
+        ensures added { OnOk result (at_line opening.now.line
+            (both_added (laid_said self.old.laid) opening.now.head
+            (string_bytes opening.now.receive) (string_bytes opening.now.unbind)) ≡ Ok tt) }
+        ensures told { IfErr result (RefusesAt (at_line opening.now.line
+            (both_added (laid_said self.old.laid) opening.now.head
+            (string_bytes opening.now.receive) (string_bytes opening.now.unbind)))) }
+        ensures laid { self.new.laid ≡ self.old.laid }
+        ensures entries { self.new.entries ≡ self.old.entries }
+    {
+        at(opening.line, self.add_opening(alloc, opening))
+    }
+
+    /// Does what makes the thread passive that is at this place. A fault is told at the line that
+    /// makes it so.
+    fn open(&mut self, alloc: Global, place: usize) -> Result<(), PlanFault>
+        requires { place < length self.old.laid.plan.passives.items }
+        ensures added { OnOk result (opened_at (laid_said self.old.laid) place ≡ Ok tt) }
+        ensures told { IfErr result (RefusesAt (opened_at (laid_said self.old.laid) place)) }
+        ensures laid { self.new.laid ≡ self.old.laid }
+        ensures entries { self.new.entries ≡ self.old.entries }
+    {
+        let opening = opening_at(alloc, &self.laid.plan, place)?;
+        self.do_opening(alloc, &opening)
+    }
+
+    /// Makes each passive thread so.
+    fn open_each(&mut self, alloc: Global) -> Result<(), PlanFault>
+        ensures added { OnOk result
+            (openings_said (laid_said self.old.laid) (said self.old.laid.plan).passives ≡ Ok tt) }
+        ensures told { IfErr result (RefusesAt
+            (openings_said (laid_said self.old.laid) (said self.old.laid.plan).passives)) }
+        ensures laid { self.new.laid ≡ self.old.laid }
+        ensures entries { self.new.entries ≡ self.old.entries }
+    {
+        for place in 0..self.laid.plan.passives.len() {
+            self.open(alloc, place)?;
+        }
+        Ok(())
+    }
+
+    /// The thread that made others passive suspends itself, where one did.
+    fn leave(&mut self, alloc: Global) -> Result<(), PlanFault>
+        ensures added { OnOk result
+            (left_said (laid_said self.old.laid) (said self.old.laid.plan).passives ≡ Ok tt) }
+        ensures told { IfErr result
+            (RefusesAt (left_said (laid_said self.old.laid) (said self.old.laid.plan).passives)) }
+        ensures laid { self.new.laid ≡ self.old.laid }
+        ensures entries { self.new.entries ≡ self.old.entries }
+    {
+        if self.laid.plan.passives.is_empty() {
+            return Ok(());
+        }
+        let starter = starter_head(&self.laid.plan);
+        at(0, self.add_step(alloc, starter, "suspend starter"))
+    }
+
+    /// The steps before the first of the plan: each passive thread receives, and its context is
+    /// taken away; then the thread that did this suspends itself.
+    fn open_all(&mut self, alloc: Global) -> Result<(), PlanFault>
+        ensures added { OnOk result (opened_said (laid_said self.old.laid) ≡ Ok tt) }
+        ensures told { IfErr result (RefusesAt (opened_said (laid_said self.old.laid))) }
+        ensures laid { self.new.laid ≡ self.old.laid }
+        ensures entries { self.new.entries ≡ self.old.entries }
+    {
+        self.open_each(alloc)?;
+        self.leave(alloc)
+    }
+
+    /// Mixed where lines of the other kind stood before, PassiveUser for one of a user where a
+    /// thread is passive.
+    fn goes_with(&mut self, head: Head) -> Result<(), Why>
+        ensures goes { OnOk result
+            (goes_on (laid_said self.old.laid) self.old.entries head.core ≡ Ok self.new.entries) }
+        ensures told { IfErr result
+            (Refuses (goes_on (laid_said self.old.laid) self.old.entries head.core)) }
+        ensures laid { self.new.laid ≡ self.old.laid }
+    {
+        match (self.entries, head.core) {
+            (Entries::Users, Some(_)) | (Entries::Steps, None) => Err(Why::Mixed),
+            (_, Some(_)) => {
+                self.entries = Entries::Steps;
+                Ok(())
+            }
+            (_, None) if !self.laid.plan.passives.is_empty() => Err(Why::PassiveUser),
+            (_, None) => {
+                self.entries = Entries::Users;
+                Ok(())
+            }
+        }
+    }
+
+    /// The line of a step or of a user.
+    fn add_entry(&mut self, alloc: Global, head: &str, text: &str) -> Result<(), Why>
+        ensures taken { OnOk result (entry_taken (laid_said self.old.laid) self.old.entries
+            (Some (head.now, text.now)) ≡ Ok self.new.entries) }
+        ensures told { IfErr result (Refuses (entry_taken (laid_said self.old.laid) self.old.entries
+            (Some (head.now, text.now)))) }
+        ensures laid { self.new.laid ≡ self.old.laid }
+    {
+        let head = read_head(alloc, &self.laid, head)?;
+        let words = split_words(alloc, text)?;
+        let line = write_entry(alloc, &self.laid, head, &words)?;
+        self.goes_with(head)?;
+        self.lines.push(line)?;
+        Ok(())
+    }
+
+    /// NoStep where no step stands before.
+    fn has_step(&self) -> Result<(), Why>
+        ensures ok { OnOk result (need (is_steps self.now.entries) no_step ≡ Ok tt) }
+        ensures told { IfErr result (Refuses (need (is_steps self.now.entries) no_step)) }
+    {
+        match self.entries {
+            Entries::Steps => Ok(()),
+            _ => Err(Why::NoStep),
+        }
+    }
+
+    /// What is wanted of the step before.
+    fn add_wanted(&mut self, alloc: Global, words: &[&str]) -> Result<(), Why>
+        ensures taken { OnOk result (wanted_taken (laid_said self.old.laid) self.old.entries
+            (texts words.now) ≡ Ok self.new.entries) }
+        ensures told { IfErr result
+            (Refuses (wanted_taken (laid_said self.old.laid) self.old.entries (texts words.now))) }
+        ensures laid { self.new.laid ≡ self.old.laid }
+    {
+        self.has_step()?;
+        let wanted = read_wanted(alloc, &self.laid.plan.names, words)?;
+        is_short(wanted.as_str())?;
+        self.lines.push(wanted)?;
+        Ok(())
+    }
+
+    /// A line with `: ` in it. Late where it has none.
+    fn add_headed(&mut self, alloc: Global, code: &str) -> Result<(), Why>
+        ensures taken { OnOk result (entry_taken (laid_said self.old.laid) self.old.entries
+            (cut_at_colon code.now) ≡ Ok self.new.entries) }
+        ensures told { IfErr result (Refuses (entry_taken (laid_said self.old.laid) self.old.entries
+            (cut_at_colon code.now))) }
+        ensures laid { self.new.laid ≡ self.old.laid }
+    {
+        match split_colon(code) {
+            Some((head, text)) => self.add_entry(alloc, head, text),
+            None => Err(Why::Late),
+        }
+    }
+
+    /// What a line behind the boot says beside its comment.
+    fn add_code(&mut self, alloc: Global, code: &str) -> Result<(), Why>
+        ensures taken { OnOk result (code_taken (laid_said self.old.laid) self.old.entries
+            code.now ≡ Ok self.new.entries) }
+        ensures told { IfErr result
+            (Refuses (code_taken (laid_said self.old.laid) self.old.entries code.now)) }
+        ensures laid { self.new.laid ≡ self.old.laid }
+    {
+        let words = split_words(alloc, code)?;
+        let Some((first, rest)) = words.split_first() else {
+            return Ok(());
+        };
+        if *first == "?" {
+            return self.add_wanted(alloc, rest);
+        }
+        self.add_headed(alloc, code)
+    }
+
+    /// A line behind the boot: its comment stands before it.
+    fn add_line(&mut self, alloc: Global, line: &str) -> Result<(), Why>
+        ensures taken { OnOk result (line_taken (laid_said self.old.laid) self.old.entries
+            line.now ≡ Ok self.new.entries) }
+        ensures told { IfErr result
+            (Refuses (line_taken (laid_said self.old.laid) self.old.entries line.now)) }
+        ensures laid { self.new.laid ≡ self.old.laid }
+    {
+        is_short(line)?;
+        let (code, comment) = split_comment(line);
+        add_comment(alloc, &mut self.lines, comment)?;
+        self.add_code(alloc, code)
+    }
+}
+
+/// Takes the line behind so many, before the first step.
+fn read_next(
+    alloc: Global,
+    plan: &mut Plan,
+    front: &mut Vec<String>,
+    count: usize,
+    line: &str,
+) -> Result<(), PlanFault>
+    requires { count + 1 < 2 ^ 64 }
+    ensures said { OnOk result
+        (line_said (count + 1) line.now (said plan.old) ≡ Ok (said plan.new)) }
+    ensures told { IfErr result
+        (RefusesAt (at_line (count + 1) (line_said (count + 1) line.now (said plan.old)))) }
+{
+    let number = count as u64 + 1;
+    at(number, read_before(alloc, plan, front, number, line))
+}
+
+/// The plan that lines say, and the comments among them.
+#[tactic(auto, using(crate::proofs::Said::next_said, crate::proofs::Said::line_refused, crate::proofs::Said::all_said))]
+fn read_plan(alloc: Global, lines: &[&str]) -> Result<(Plan, Vec<String>), PlanFault>
+    ensures said { IfOk result
+        (λ read. lines_said 0 (texts lines.now) nothing_said ≡ Ok (said read.0)) }
+    ensures told { IfErr result (RefusesAt (lines_said 0 (texts lines.now) nothing_said)) }
+{
+    let mut plan = Plan::new(alloc);
+    let mut front = Vec::new(alloc);
+    for count in 0..lines.len() {
+        if let Err(fault) = read_next(alloc, &mut plan, &mut front, count, lines[count]) {
+            return Err(fault);
+        }
+    }
+    Ok((plan, front))
+}
+
+/// The plan that lines say before the first step, how many these are, and the comments among them.
+fn read_front(alloc: Global, lines: &[&str]) -> Result<(Plan, Vec<String>, usize), PlanFault>
+    ensures said { IfOk result (λ read. plan_said (texts lines.now) ≡ Ok (said read.0)) }
+    ensures before { IfOk result (λ read. read.2 ≡ count_before (texts lines.now)) }
+    ensures told { IfErr result (RefusesAt (plan_said (texts lines.now))) }
+{
+    let before = count_before(lines);
+    let (plan, front) = read_plan(alloc, &lines[..before])?;
+    Ok((plan, front, before))
+}
+
+/// Takes the line behind so many, from the first step on.
+fn take_next(
+    alloc: Global,
+    compiler: &mut Compiler,
+    count: usize,
+    line: &str,
+) -> Result<(), PlanFault>
+    requires { count + 1 < 2 ^ 64 }
+    ensures taken { OnOk result (line_taken (laid_said compiler.old.laid) compiler.old.entries
+        line.now ≡ Ok compiler.new.entries) }
+    ensures told { IfErr result (RefusesAt (at_line (count + 1)
+        (line_taken (laid_said compiler.old.laid) compiler.old.entries line.now))) }
+    ensures laid { compiler.new.laid ≡ compiler.old.laid }
+{
+    let number = count as u64 + 1;
+    at(number, compiler.add_line(alloc, line))
+}
+
+/// The lines of a plan from its first step on.
+fn read_steps(
+    alloc: Global,
+    compiler: &mut Compiler,
+    lines: &[&str],
+    before: usize,
+) -> Result<(), PlanFault>
+    ensures taken { OnOk result (lines_taken (laid_said compiler.old.laid) before
+        (drop before (texts lines.now)) compiler.old.entries ≡ Ok compiler.new.entries) }
+    ensures told { IfErr result (RefusesAt (lines_taken (laid_said compiler.old.laid) before
+        (drop before (texts lines.now)) compiler.old.entries)) }
+    ensures laid { compiler.new.laid ≡ compiler.old.laid }
+{
+    for count in before..lines.len() {
+        take_next(alloc, compiler, count, lines[count])?;
+    }
+    Ok(())
+}
+
+/// The script of a plan whose lines were all read.
+fn finish(alloc: Global, compiler: Compiler, comments: Vec<String>) -> Result<Script, Why>
+    ensures boot { IfOk result HasBootOfPlan }
+    ensures laid { IfOk result (λ s. s.laid ≡ compiler.laid) }
+    ensures users { IfOk result (λ s. s.is_users ≡ are_users compiler.entries) }
+    ensures told { IfErr result (Refuses (boot_fits (said compiler.laid.plan))) }
+{
+    let Compiler {
+        laid,
+        lines,
+        entries,
+    } = compiler;
+    let mut front = comments;
+    add_names(alloc, &laid.plan.names, &mut front)?;
+    let boot = laid.boot_lines(alloc)?;
+    Ok(Script {
+        front,
+        cores: laid.cores(),
+        boot,
+        lines,
+        is_users: matches!(entries, Entries::Users),
+        laid,
+    })
+}
+
+/// Takes what makes threads passive, and the lines from the first step on.
+fn read_behind(
+    alloc: Global,
+    compiler: &mut Compiler,
+    lines: &[&str],
+    before: usize,
+) -> Result<(), PlanFault>
+    requires before { before ≡ count_before (texts lines.now) }
+    requires nothing { compiler.old.entries ≡ Nothing }
+    ensures taken { OnOk result
+        (behind_said (laid_said compiler.old.laid) (texts lines.now) ≡ Ok compiler.new.entries) }
+    ensures told { IfErr result
+        (RefusesAt (behind_said (laid_said compiler.old.laid) (texts lines.now))) }
+    ensures laid { compiler.new.laid ≡ compiler.old.laid }
+{
+    compiler.open_all(alloc)?;
+    read_steps(alloc, compiler, lines, before)
+}
+
+/// The script of a plan that is laid out.
+fn compile_laid(
+    alloc: Global,
+    laid: Laid,
+    lines: &[&str],
+    before: usize,
+    front: Vec<String>,
+) -> Result<Script, PlanFault>
+    requires { before ≡ count_before (texts lines.now) }
+    ensures boot { IfOk result HasBootOfPlan }
+    ensures laid { IfOk result (λ s. s.laid ≡ laid) }
+    ensures steps { IfOk result (HasStepsOf (texts lines.now)) }
+    ensures told { IfErr result (RefusesLaid (laid_said laid) (texts lines.now)) }
+{
+    let mut compiler = Compiler {
+        laid,
+        lines: Vec::new(alloc),
+        entries: Entries::Nothing,
+    };
+    read_behind(alloc, &mut compiler, lines, before)?;
+    at(lines.len() as u64, finish(alloc, compiler, front))
+}
+
+/// The script of a plan's lines.
+fn compile_lines(alloc: Global, lines: &[&str]) -> Result<Script, PlanFault>
+    ensures boot { IfOk result HasBootOfPlan }
+    ensures plan { IfOk result (HasPlanOfLines (texts lines.now)) }
+    ensures told { IfErr result (TellsLines (texts lines.now)) }
+{
+    let (plan, front, before) = read_front(alloc, lines)?;
+    let laid = Laid::new(alloc, plan)?;
+    compile_laid(alloc, laid, lines, before, front)
+}
+
+/// The text of bytes. NotText at the line of the first that is none.
+fn text_of(bytes: &[u8]) -> Result<&str, PlanFault>
+    ensures text { IfOk result (λ text. text.now ≡ bytes.now) }
+    ensures utf8 { OnOk result (is_utf8 bytes.now ≡ true) }
+    ensures told { IfErr result (RefusesAt (lines_in bytes.now)) }
+{
+    match std::str::from_utf8(bytes) {
+        Ok(text) => Ok(text),
+        Err(error) => Err(PlanFault {
+            line: line_of(bytes, error.valid_up_to()),
+            why: Why::NotText,
+        }),
+    }
+}
+
+/// The lines of a text. Limit where they are too many.
+fn few_lines(alloc: Global, text: &str) -> Result<Vec<&str>, PlanFault>
+    ensures few { IfOk result (λ found. few_lines (lines text.now) ≡ Ok (texts found.items)) }
+    ensures told { IfErr result (RefusesAt (few_lines (lines text.now))) }
+{
+    let Ok(lines) = lines_of(alloc, text) else {
+        return Err(PlanFault {
+            line: 0,
+            why: Why::OutOfMemory,
+        });
+    };
+    if lines.len() > LINES {
+        return Err(PlanFault {
+            line: LINES as u64 + 1,
+            why: Why::Limit {
+                what: "lines",
+                limit: LINES as u32,
+            },
+        });
+    }
+    Ok(lines)
+}
+
+/// The lines of bytes.
+fn lines_in(alloc: Global, bytes: &[u8]) -> Result<Vec<&str>, PlanFault>
+    ensures lines { IfOk result (λ found. lines_in bytes.now ≡ Ok (texts found.items)) }
+    ensures told { IfErr result (RefusesAt (lines_in bytes.now)) }
+{
+    let text = text_of(bytes)?;
+    few_lines(alloc, text)
+}
+
+/// The script of a plan (own), whose boot is that of the plan. A fault tells the first line that is
+/// refused, and why.
+#[tactic(auto, using(crate::proofs::Said::has_plan_of, crate::proofs::Said::refused_lines))]
+pub fn compile(alloc: Global, bytes: &[u8]) -> Result<Script, PlanFault>
+    ensures boot { IfOk result HasBootOfPlan }
+    ensures plan { IfOk result (HasPlanOf bytes.now) }
+    ensures told { IfErr result (TellsPlan bytes.now) }
+{
+    let lines = lines_in(alloc, bytes)?;
+    compile_lines(alloc, &lines)
+}

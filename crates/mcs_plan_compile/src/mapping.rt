@@ -1,0 +1,98 @@
+//! The names of a plan with their addresses, as a table.
+use crate::script::Script;
+use crate::steps::object_text;
+use mcs_plan_layout::Named;
+use mcs_types::{Kind, ObjId};
+use std::alloc::{AllocError, Global};
+
+/// A cell of so many columns at least, and two more.
+fn add_cell(to: &mut String, text: &str, columns: usize) -> Result<(), AllocError> {
+    to.push_str(text)?;
+    let missing = columns.saturating_add(2).saturating_sub(text.len());
+    for _ in 0..missing {
+        to.push_str(" ")?;
+    }
+    Ok(())
+}
+
+/// The name of the thread at this place.
+fn thread_name(script: &Script, place: usize) -> &str {
+    let thread = ObjId {
+        kind: Kind::Thread,
+        serial: place.min(1_000_000) as u32 + 1,
+    };
+    script.laid.plan.names.name_of(thread)
+}
+
+/// The most columns of a thread's names.
+fn widest(table: &[Named], least: usize) -> usize {
+    let mut most = least;
+    for named in table {
+        most = named.name.len().max(most);
+    }
+    most
+}
+
+/// The columns of the threads, and of their names.
+fn widths(script: &Script) -> (usize, usize) {
+    let mut threads = "thread".len();
+    let mut names = "name".len();
+    for (place, table) in script.laid.tables.iter().enumerate() {
+        if !table.is_empty() {
+            threads = thread_name(script, place).len().max(threads);
+        }
+        names = widest(table, names);
+    }
+    (threads, names)
+}
+
+/// A line of the table.
+fn add_named(
+    alloc: Global,
+    to: &mut String,
+    (threads, names): (usize, usize),
+    thread: &str,
+    named: &Named,
+) -> Result<(), AllocError> {
+    let address = named.address;
+    let digits = format!(in alloc; "{address}")?;
+    add_cell(to, thread, threads)?;
+    add_cell(to, named.name.as_str(), names)?;
+    add_cell(to, digits.as_str(), 8)?;
+    to.push_str(named.written.as_str())?;
+    to.push_str("\n")
+}
+
+/// The names of all objects.
+fn add_objects(alloc: Global, to: &mut String, script: &Script) -> Result<(), AllocError> {
+    to.push_str("\nobject  name\n")?;
+    let names = &script.laid.plan.names;
+    for i in 0..names.len() {
+        if let Some((name, object)) = names.at(i) {
+            let text = object_text(alloc, object)?;
+            add_cell(to, text.as_str(), 6)?;
+            to.push_str(name)?;
+            to.push_str("\n")?;
+        }
+    }
+    Ok(())
+}
+
+/// A line for each name of each thread: the thread, the name, the address, and the capability as
+/// the plan wrote it; then the objects and their names.
+pub fn write_map(alloc: Global, script: &Script) -> Result<String, AllocError> {
+    let (threads, names) = widths(script);
+    let mut to = String::new(alloc);
+    add_cell(&mut to, "thread", threads)?;
+    add_cell(&mut to, "name", names)?;
+    add_cell(&mut to, "address", 8)?;
+    to.push_str("capability\n")?;
+    for (place, table) in script.laid.tables.iter().enumerate() {
+        let thread = thread_name(script, place);
+        for named in table {
+            add_named(alloc, &mut to, (threads, names), thread, named)?;
+        }
+    }
+    add_objects(alloc, &mut to, script)?;
+    Ok(to)
+}

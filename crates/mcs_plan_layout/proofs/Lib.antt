@@ -1,0 +1,9 @@
+pub mod Addresses
+pub mod Limits
+pub mod MoreRows
+pub mod Most
+pub mod Parts
+pub mod Rows
+pub mod SaidSpaces
+pub mod Started
+pub mod Walks

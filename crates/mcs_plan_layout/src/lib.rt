@@ -1,0 +1,33 @@
+//! From what a plan says to a layout for each space (its guard and the address of each slot), the
+//! lines of the boot, and what each thread can name.
+//!
+//! ```text
+//! Plan ── starter ──> Plan with the thread that makes others passive
+//!      ── layouts ──> a layout for each space ── boot ──> the lines of the boot
+//!                                             ── tables ──> for each thread its names, with the
+//!                                                           address and the place of each
+//! ```
+//!
+//! An address of a space:
+//!
+//! ```text
+//! | guard, all 0 | index of the slot: `root` bits, `leaf` bits | `within` |
+//! ```
+//!
+//! A space of up to 256 slots is one CNode; a larger one has a CNode of CNodes (`leaf`). The last
+//! `within` bits are there where the space holds capabilities to CNodes: they name the slots in
+//! these.
+#![tactic(auto)]
+
+mod boot;
+mod fitting;
+mod laid;
+mod layout;
+mod layouts;
+mod spaces;
+mod starter;
+mod tables;
+
+pub use laid::Laid;
+pub use layout::{LEAF, Layout};
+pub use tables::Named;

@@ -1,0 +1,13 @@
+pub mod Comments
+pub mod Cuts
+pub mod Entries
+pub mod Spelled
+pub mod SlotNames
+pub mod Words
+pub mod Places
+pub mod Refusing
+pub mod Turns
+pub mod Keeping
+pub mod KeepingLines
+pub mod Faults
+pub mod Whole

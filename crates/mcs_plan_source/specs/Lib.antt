@@ -1,0 +1,16 @@
+pub mod Cutting
+pub mod Naming
+pub mod Numbers
+pub mod Telling
+pub mod Capabilities
+pub mod Lines
+pub mod Making
+pub mod Objects
+pub mod Order
+pub mod Refusals
+pub mod Saying
+pub mod Slots
+pub mod Telling
+pub mod ThreadLines
+pub mod Threads
+pub mod Words

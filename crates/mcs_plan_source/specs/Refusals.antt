@@ -1,0 +1,93 @@
+-- Why a line of a plan is refused, and readings that end there.
+use Rattle.std.specs.Prelude.{◌≡◌, ℕ, Bool, true, false, List, Option, Some, None, Result, Ok, Err, string_bytes}
+use Rattle.std.specs.Option.{ForSome}
+use Rattle.mcs_types.specs.declared.boot.BootFault.{BootFault}
+use Rattle.mcs_plan_source.specs.declared.fault.Why.{Why}
+use Rattle.mcs_plan_source.specs.declared.fault.Why.TheVariants as why
+
+-- a fault, and the word or the number that it tells
+pub data Refusal : Type 0 where
+  no_text : Refusal
+  unknown : List ℕ → Refusal
+  missing : Refusal
+  too_many : List ℕ → Refusal
+  not_wanted : List ℕ → Refusal
+  twice : List ℕ → Refusal
+  no_name : List ℕ → Refusal
+  no_capability : List ℕ → List ℕ → Refusal
+  limit : ℕ → Refusal
+  late_cores : Refusal
+  bound : List ℕ → Refusal
+  late : Refusal
+  no_step : Refusal
+  mixed : Refusal
+  passive_user : Refusal
+  boot : BootFault → Refusal
+
+-- the fault that is told; that memory was refused tells none
+abbrev pub told_by : Why → Option Refusal
+told_by why.NotText = Some no_text
+told_by (why.Unknown word) = Some (unknown (string_bytes word))
+told_by (why.Missing wanted) = Some missing
+told_by (why.TooMany word) = Some (too_many (string_bytes word))
+told_by (why.Not word wanted) = Some (not_wanted (string_bytes word))
+told_by (why.Twice word) = Some (twice (string_bytes word))
+told_by (why.NoName word wanted there) = Some (no_name (string_bytes word))
+told_by (why.NoCapability holder word there) = Some (no_capability (string_bytes holder) (string_bytes word))
+told_by (why.Limit what most) = Some (limit most)
+told_by why.LateCores = Some late_cores
+told_by (why.Bound word) = Some (bound (string_bytes word))
+told_by why.Late = Some late
+told_by why.NoStep = Some no_step
+told_by why.Mixed = Some mixed
+told_by why.PassiveUser = Some passive_user
+told_by (why.Boot fault) = Some (boot fault)
+told_by why.OutOfMemory = None
+
+-- whether a line before the first step is refused for such a fault
+abbrev pub is_of_line : Refusal → Bool
+is_of_line no_text = false
+is_of_line (unknown word) = true
+is_of_line missing = true
+is_of_line (too_many word) = true
+is_of_line (not_wanted word) = true
+is_of_line (twice word) = true
+is_of_line (no_name word) = true
+is_of_line (no_capability holder word) = false
+is_of_line (limit most) = true
+is_of_line late_cores = true
+is_of_line (bound word) = true
+is_of_line late = false
+is_of_line no_step = false
+is_of_line mixed = false
+is_of_line passive_user = false
+is_of_line (boot fault) = false
+
+-- what is read, or the first fault
+abbrev pub Read : Type 0 → Type 0
+Read X = Result X Refusal
+
+-- a reading, and then one that goes on with what it gave
+infixl 10 ◌>>=◌
+abbrev pub ◌>>=◌ : {A B : Type 0} → Read A → (A → Read B) → Read B
+(Ok x) >>= f = f x
+(Err e) >>= f = Err e
+
+-- a test, and then a reading
+infixl 10 ◌>>◌
+abbrev pub ◌>>◌ : {A B : Type 0} → Read A → Read B → Read B
+(Ok x) >> next = next
+(Err e) >> next = Err e
+
+-- a fault where the test fails
+abbrev pub need : Bool → Refusal → Read (Unit {0})
+need true e = Ok tt
+need false e = Err e
+
+-- a fault that is told is the one that the reading ends in
+abbrev pub Refuses : {X : Type 0} → Read X → Why → Type 0
+Refuses read w = ForSome (told_by w) (λ e. read ≡ Err e)
+
+-- a fault that is told is one of lines before the first step
+abbrev pub TellsOfLine : Why → Type 0
+TellsOfLine w = ForSome (told_by w) (λ e. is_of_line e ≡ true)

@@ -1,0 +1,19 @@
+//! A plan's source: objects by their names, the words of its lines, what it says before its first
+//! step (objects, threads, and what each space holds), and the fault where a word is refused.
+#![tactic(auto)]
+
+mod capabilities;
+mod fault;
+mod names;
+mod plan;
+mod reading;
+mod rights;
+mod telling;
+mod words;
+
+pub use fault::{PlanFault, Why};
+pub use names::{Names, add_word, limit_of, plural, singular};
+pub use plan::{Passive, Plan, STARTER, Slot, Space, Thread, Tie};
+pub use rights::rights_of;
+pub use telling::tell_names;
+pub use words::{Words, is_like_id, is_name, is_white, not, number, split_comment, split_words};

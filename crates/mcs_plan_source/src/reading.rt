@@ -1,0 +1,750 @@
+//! The lines of a plan before its first step.
+ghost use Rattle.std.specs.Prelude.{◌≡◌, ◌++◌, true, false, Ok, IfOk, IfErr, OnOk, OnErr, length, slice_get, string_bytes, option_map};
+ghost use Rattle.mcs_types.specs.declared.id.Kind.TheVariants.{CNode, Context};
+ghost use Rattle.mcs_types.specs.declared.id.Kind.TheVariants as of_kind;
+ghost use Rattle.mcs_types.specs.Limits.{core_limit};
+ghost use Rattle.mcs_plan_source.specs.Naming.{next_of, texts};
+ghost use Rattle.mcs_plan_source.specs.Lines.{object_more, objects_line, held_by, says_as, has_slot, usual_name, given_name, slot_name, slot_added, slot_more, slot_kept, slots_more, has_line, tie_line, cores_line};
+ghost use Rattle.mcs_plan_source.specs.Order.{IsInOrder, IsWhole};
+ghost use Rattle.mcs_plan_source.specs.Refusals.{Refuses, TellsOfLine};
+ghost use Rattle.mcs_plan_source.specs.Saying.{said, with_thread};
+ghost use Rattle.mcs_plan_source.specs.ThreadLines.{core_then, receiving_then, without_then, part_then, next_part, parts_then, plain_form, form_said, form_of, said_receiving, context_more, space_more, own_context, with_own_context, with_own_space, thread_more, with_passive, thread_said, thread_line, on_then, context_line, radix_then, cnode_line, line_begun, says_has, ReadsLine, RefusesLine};
+ghost use Rattle.mcs_plan_source.specs.Threads.{space_named, is_thread_bound, is_notification_bound};
+ghost use Rattle.mcs_plan_source.specs.Words.{number_then};
+
+use crate::capabilities::{cap_of, parts_of, written_as};
+use crate::plan::{Passive, Plan, Slot, Space, Thread, Tie};
+use crate::{Names, Why, Words, is_name, not};
+use mcs_types::{CORES, Cap, CoreId, Kind, ObjId, Prio, RADIX};
+use std::alloc::{AllocError, Global};
+
+/// What the line of a thread says.
+#[derive(Drop)]
+struct ThreadForm {
+    priority: Option<u8>,
+    maximum: u8,
+    core: u8,
+    runs: bool,
+    has_context: bool,
+    space: Option<String>,
+    passive: Option<Receiving>,
+}
+
+/// With which capabilities a passive thread receives.
+#[derive(Drop)]
+struct Receiving {
+    endpoint: String,
+    reply: String,
+}
+
+/// A text of a name with an ending.
+fn with_end(alloc: Global, name: &str, end: &str) -> Result<String, AllocError>
+    ensures { IfOk result (λ whole. string_bytes whole ≡ name.now ++ end.now) }
+{
+    let mut whole = String::from_str(alloc, name)?;
+    whole.push_str(end)?;
+    Ok(whole)
+}
+
+/// A number of 8 bits.
+fn byte(alloc: Global, words: &mut Words<'_>, wanted: &'static str, limit: u8) -> Result<u8, Why>
+    ensures value { IfOk result (λ n. number_then limit words.old ≡ Ok (n, words.new)) }
+    ensures told { IfErr result (Refuses (number_then limit words.old)) }
+{
+    let n = words.number(alloc, wanted, limit as u64)?;
+    Ok(n.min(255) as u8)
+}
+
+/// Whether the next word is `as`.
+fn says_as(words: &Words<'_>) -> bool
+    ensures { result ≡ says_as words.now }
+{
+    match words.peek() {
+        Some(word) => word == "as",
+        None => false,
+    }
+}
+
+/// The name behind `as`.
+fn given_name(alloc: Global, words: &mut Words<'_>) -> Result<String, Why>
+    ensures name { IfOk result (λ n. given_name words.old ≡ Ok (string_bytes n, words.new)) }
+    ensures told { IfErr result (Refuses (given_name words.old)) }
+{
+    words.next();
+    let name = words.need("a name")?;
+    if !is_name(name) {
+        return Err(not(alloc, name, "a name"));
+    }
+    Ok(String::from_str(alloc, name)?)
+}
+
+/// What a slot is to hold: a capability, or nothing.
+fn held_by(alloc: Global, names: &Names, word: &str) -> Result<Option<Cap>, Why>
+    ensures held { IfOk result (λ cap. held_by names.now word.now ≡ Ok cap) }
+    ensures told { IfErr result (Refuses (held_by names.now word.now)) }
+{
+    if word == "-" {
+        return Ok(None);
+    }
+    Ok(Some(cap_of(alloc, names, word)?))
+}
+
+/// The radix of a CNode, where the line says one.
+fn read_radix(alloc: Global, words: &mut Words<'_>) -> Result<Option<u8>, Why>
+    ensures radix { IfOk result (λ r. radix_then words.old ≡ Ok (r, words.new)) }
+    ensures told { IfErr result (Refuses (radix_then words.old)) }
+{
+    if words.peek().is_none() {
+        return Ok(None);
+    }
+    let n = byte(alloc, words, "a radix, 1 to 8", RADIX)?;
+    if n == 0 {
+        return Err(not(alloc, "0", "a radix, 1 to 8"));
+    }
+    Ok(Some(n))
+}
+
+/// Whether a thread has a context, where the line says `without context`: it has none.
+fn read_without(alloc: Global, words: &mut Words<'_>) -> Result<bool, Why>
+    ensures none { IfOk result (λ has. without_then words.old ≡ Ok (has, words.new)) }
+    ensures told { IfErr result (Refuses (without_then words.old)) }
+{
+    words.expect(alloc, "context")?;
+    Ok(false)
+}
+
+/// Whether the next word is `has`.
+fn says_has(words: &Words<'_>) -> bool
+    ensures { result ≡ says_has words.now }
+{
+    match words.peek() {
+        Some(word) => word == "has",
+        None => false,
+    }
+}
+
+impl Plan {
+    /// An object more.
+    fn add_object(&mut self, alloc: Global, kind: Kind, name: &str) -> Result<ObjId, Why>
+        ensures object { IfOk result (λ o. o ≡ next_of kind self.old.names) }
+        ensures added { OnOk result
+            (object_more kind name.now (said self.old) ≡ Ok (said self.new)) }
+        ensures told { IfErr result (Refuses (object_more kind name.now (said self.old))) }
+        ensures unchanged { OnErr result (said self.new ≡ said self.old) }
+    {
+        let object = self.names.add(alloc, kind, name)?;
+        Ok(object)
+    }
+
+    /// Objects of a kind, each with a name.
+    fn read_objects(&mut self, alloc: Global, words: &mut Words<'_>, kind: Kind) -> Result<(), Why>
+        ensures added { OnOk result
+            (objects_line kind words.old (said self.old) ≡ Ok (said self.new)) }
+        ensures told { IfErr result (Refuses (objects_line kind words.old (said self.old))) }
+    {
+        if words.peek().is_none() {
+            return Err(Why::Missing { wanted: "a name" });
+        }
+        for _ in 0..words.len() {
+            if let Some(name) = words.next() {
+                self.add_object(alloc, kind, name)?;
+            }
+        }
+        Ok(())
+    }
+
+    /// The number of a core. Not where there are fewer cores.
+    fn read_core(&self, alloc: Global, words: &mut Words<'_>) -> Result<u8, Why>
+        ensures core { IfOk result (λ n. core_then self.now.cores words.old ≡ Ok (n, words.new)) }
+        ensures told { IfErr result (Refuses (core_then self.now.cores words.old)) }
+    {
+        words.expect(alloc, "core")?;
+        let cores = self.cores.unwrap_or(CORES);
+        byte(
+            alloc,
+            words,
+            "the number of a core",
+            cores.saturating_sub(1),
+        )
+    }
+
+    /// Adds a context.
+    fn add_context(&mut self, alloc: Global, name: &str, core: u8) -> Result<ObjId, Why>
+        ensures context { IfOk result (λ o. o ≡ next_of Context self.old.names) }
+        ensures added { OnOk result
+            (context_more name.now (record { 0 = core }) (said self.old) ≡ Ok (said self.new)) }
+        ensures told { IfErr result
+            (Refuses (context_more name.now (record { 0 = core }) (said self.old))) }
+    {
+        let context = self.names.add(alloc, Kind::Context, name)?;
+        self.contexts.push(CoreId(core))?;
+        self.keeps_limit(Kind::Context)?;
+        Ok(context)
+    }
+
+    /// Adds a space.
+    fn add_space(&mut self, alloc: Global, name: &str, radix: Option<u8>) -> Result<usize, Why>
+        ensures place { IfOk result (λ place. place ≡ length self.old.spaces.items) }
+        ensures added { OnOk result
+            (space_more name.now radix (said self.old) ≡ Ok (said self.new)) }
+        ensures told { IfErr result (Refuses (space_more name.now radix (said self.old))) }
+    {
+        self.names.add(alloc, Kind::CNode, name)?;
+        let place = self.spaces.len();
+        self.spaces.push(Space::new(alloc, radix))?;
+        self.keeps_limit(Kind::CNode)?;
+        Ok(place)
+    }
+
+    /// The core of a context: 0 where the line says none.
+    fn read_on(&self, alloc: Global, words: &mut Words<'_>) -> Result<u8, Why>
+        ensures core { IfOk result (λ n. on_then self.now.cores words.old ≡ Ok (n, words.new)) }
+        ensures told { IfErr result (Refuses (on_then self.now.cores words.old)) }
+    {
+        if words.peek().is_none() {
+            return Ok(0);
+        }
+        words.expect(alloc, "on")?;
+        self.read_core(alloc, words)
+    }
+
+    /// The line of a context: `context NAME` or `context NAME on core N`.
+    fn read_context(&mut self, alloc: Global, words: &mut Words<'_>) -> Result<(), Why>
+        ensures added { OnOk result (context_line words.old (said self.old) ≡ Ok (said self.new)) }
+        ensures told { IfErr result (Refuses (context_line words.old (said self.old))) }
+    {
+        let name = words.need("a name")?;
+        let core = self.read_on(alloc, words)?;
+        words.end(alloc)?;
+        self.add_context(alloc, name, core)?;
+        Ok(())
+    }
+
+    /// The line of a CNode: `cnode NAME` or `cnode NAME RADIX`.
+    fn read_cnode(&mut self, alloc: Global, words: &mut Words<'_>) -> Result<(), Why>
+        ensures added { OnOk result (cnode_line words.old (said self.old) ≡ Ok (said self.new)) }
+        ensures told { IfErr result (Refuses (cnode_line words.old (said self.old))) }
+    {
+        let name = words.need("a name")?;
+        let radix = read_radix(alloc, words)?;
+        words.end(alloc)?;
+        self.add_space(alloc, name, radix)?;
+        Ok(())
+    }
+
+    /// What a passive thread receives with: `on EP with REPLY`.
+    fn read_receiving(alloc: Global, words: &mut Words<'_>) -> Result<Receiving, Why>
+        ensures said { IfOk result (λ r.
+            receiving_then words.old ≡ Ok (said_receiving r, words.new)) }
+        ensures told { IfErr result (Refuses (receiving_then words.old)) }
+    {
+        words.expect(alloc, "on")?;
+        let endpoint = words.need("the name of a capability")?;
+        words.expect(alloc, "with")?;
+        let reply = words.need("the name of a capability")?;
+        Ok(Receiving {
+            endpoint: String::from_str(alloc, endpoint)?,
+            reply: String::from_str(alloc, reply)?,
+        })
+    }
+
+    /// A part of a thread's line.
+    fn read_part(
+        &self,
+        alloc: Global,
+        words: &mut Words<'_>,
+        part: &str,
+        form: ThreadForm,
+    ) -> Result<ThreadForm, Why>
+        ensures said { IfOk result (λ f.
+            part_then self.now.cores part.now words.old (form_of form)
+            ≡ Ok (form_of f, words.new)) }
+        ensures told { IfErr result
+            (Refuses (part_then self.now.cores part.now words.old (form_of form))) }
+    {
+        match part {
+            "prio" => {
+                let priority = byte(alloc, words, "a priority, 0 to 255", 255)?;
+                Ok(ThreadForm {
+                    priority: Some(priority),
+                    ..form
+                })
+            }
+            "max" => {
+                let maximum = byte(alloc, words, "a priority, 0 to 255", 255)?;
+                Ok(ThreadForm { maximum, ..form })
+            }
+            "on" => {
+                let core = self.read_core(alloc, words)?;
+                Ok(ThreadForm { core, ..form })
+            }
+            "stopped" => Ok(ThreadForm {
+                runs: false,
+                ..form
+            }),
+            "without" => {
+                let has_context = read_without(alloc, words)?;
+                Ok(ThreadForm {
+                    has_context,
+                    ..form
+                })
+            }
+            "in" => {
+                let space = words.need("the name of a space")?;
+                let space = Some(String::from_str(alloc, space)?);
+                Ok(ThreadForm { space, ..form })
+            }
+            "passive" => {
+                let passive = Some(Plan::read_receiving(alloc, words)?);
+                Ok(ThreadForm { passive, ..form })
+            }
+            _ => {
+                let wanted = "prio, max, on, stopped, without, in or passive";
+                Err(not(alloc, part, wanted))
+            }
+        }
+    }
+
+    /// The next part of a thread's line, where there is one.
+    fn read_next(
+        &self,
+        alloc: Global,
+        words: &mut Words<'_>,
+        form: ThreadForm,
+    ) -> Result<ThreadForm, Why>
+        ensures said { IfOk result (λ f.
+            next_part self.now.cores words.old (form_of form) ≡ Ok (form_of f, words.new)) }
+        ensures told { IfErr result
+            (Refuses (next_part self.now.cores words.old (form_of form))) }
+    {
+        match words.next() {
+            Some(part) => self.read_part(alloc, words, part, form),
+            None => Ok(form),
+        }
+    }
+
+    /// The parts of a thread's line, as far as it goes.
+    #[tactic(auto, using(crate::proofs::Turns::parts_turn, crate::proofs::Turns::parts_last))]
+    fn read_parts(&self, alloc: Global, words: &mut Words<'_>) -> Result<ThreadForm, Why>
+        ensures said { IfOk result (λ f.
+            parts_then (length words.old) self.now.cores words.old plain_form ≡ Ok (form_of f)) }
+        ensures told { IfErr result
+            (Refuses (parts_then (length words.old) self.now.cores words.old plain_form)) }
+    {
+        let mut form = ThreadForm {
+            priority: None,
+            maximum: 255,
+            core: 0,
+            runs: true,
+            has_context: true,
+            space: None,
+            passive: None,
+        };
+        for _ in 0..words.len() {
+            form = self.read_next(alloc, words, form)?;
+        }
+        Ok(form)
+    }
+
+    /// What a thread's line says behind its name.
+    fn read_form(&self, alloc: Global, words: &mut Words<'_>) -> Result<ThreadForm, Why>
+        ensures said { IfOk result (λ f. form_said self.now.cores words.old ≡ Ok (form_of f)) }
+        ensures told { IfErr result (Refuses (form_said self.now.cores words.old)) }
+    {
+        let form = self.read_parts(alloc, words)?;
+        if form.passive.is_some() && !form.has_context {
+            return Err(not(alloc, "without", "a part of a passive thread"));
+        }
+        Ok(form)
+    }
+
+    /// The space of a thread: one by hand, or its own.
+    fn read_space(&mut self, alloc: Global, name: &str, form: &ThreadForm) -> Result<usize, Why>
+        ensures added { IfOk result (λ place.
+            with_own_space name.now (form_of form.now).space (said self.old)
+            ≡ Ok (place, said self.new)) }
+        ensures told { IfErr result
+            (Refuses (with_own_space name.now (form_of form.now).space (said self.old))) }
+    {
+        match &form.space {
+            None => {
+                let own = with_end(alloc, name, ".space")?;
+                self.add_space(alloc, own.as_str(), None)
+            }
+            Some(space) => {
+                let cnode = self.names.of_kind(alloc, Kind::CNode, space.as_str())?;
+                Ok(cnode.place(Kind::CNode).unwrap_or(0))
+            }
+        }
+    }
+
+    /// The context of a thread, where it has one.
+    fn read_own_context(
+        &mut self,
+        alloc: Global,
+        name: &str,
+        form: &ThreadForm,
+    ) -> Result<Option<ObjId>, Why>
+        ensures context { IfOk result (λ o. o ≡ own_context (form_of form.now) (said self.old)) }
+        ensures added { OnOk result
+            (with_own_context name.now (form_of form.now) (said self.old) ≡ Ok (said self.new)) }
+        ensures told { IfErr result
+            (Refuses (with_own_context name.now (form_of form.now) (said self.old))) }
+    {
+        if !form.has_context {
+            return Ok(None);
+        }
+        let own = with_end(alloc, name, ".context")?;
+        let context = self.add_context(alloc, own.as_str(), form.core)?;
+        Ok(Some(context))
+    }
+
+    /// A thread behind the others.
+    fn push_thread(&mut self, thread: Thread) -> Result<(), AllocError>
+        ensures added { OnOk result (said self.new ≡ with_thread thread (said self.old)) }
+        ensures unchanged { OnErr result (said self.new ≡ said self.old) }
+    {
+        self.threads.push(thread)?;
+        Ok(())
+    }
+
+    /// A thread more, with its context and its space.
+    fn add_thread(
+        &mut self,
+        alloc: Global,
+        name: &str,
+        priority: u8,
+        form: &ThreadForm,
+    ) -> Result<ObjId, Why>
+        ensures thread { IfOk result (λ o. o ≡ next_of of_kind.Thread self.old.names) }
+        ensures added { OnOk result
+            (thread_more name.now priority (form_of form.now) (said self.old) ≡ Ok (said self.new)) }
+        ensures told { IfErr result
+            (Refuses (thread_more name.now priority (form_of form.now) (said self.old))) }
+    {
+        let thread = self.add_object(alloc, Kind::Thread, name)?;
+        let context = self.read_own_context(alloc, name, form)?;
+        let space = self.read_space(alloc, name, form)?;
+        self.push_thread(Thread {
+            priority: Prio(priority),
+            maximum: Prio(form.maximum),
+            space,
+            runs: form.runs,
+            context,
+            core: CoreId(form.core),
+        })?;
+        Ok(thread)
+    }
+
+    /// A passive thread more, where the thread is one.
+    fn add_passive(
+        &mut self,
+        line: u64,
+        thread: ObjId,
+        passive: &Option<Receiving>,
+    ) -> Result<(), AllocError>
+        ensures added { OnOk result (said self.new
+            ≡ with_passive line thread (option_map said_receiving passive.now) (said self.old)) }
+        ensures unchanged { OnErr result (said self.new ≡ said self.old) }
+    {
+        let Some(receiving) = passive else {
+            return Ok(());
+        };
+        self.passives.push(Passive {
+            line,
+            thread,
+            endpoint: receiving.endpoint.clone()?,
+            reply: receiving.reply.clone()?,
+        })?;
+        Ok(())
+    }
+
+    /// A thread as its line says it.
+    fn put_thread(&mut self, alloc: Global, line: u64, words: &mut Words<'_>) -> Result<(), Why>
+        ensures added { OnOk result
+            (thread_said line words.old (said self.old) ≡ Ok (said self.new)) }
+        ensures told { IfErr result (Refuses (thread_said line words.old (said self.old))) }
+    {
+        let name = words.need("a name")?;
+        let form = self.read_form(alloc, words)?;
+        let Some(priority) = form.priority else {
+            return Err(Why::Missing { wanted: "prio" });
+        };
+        let thread = self.add_thread(alloc, name, priority, &form)?;
+        self.add_passive(line, thread, &form.passive)?;
+        Ok(())
+    }
+
+    /// The line of a thread.
+    fn read_thread(&mut self, alloc: Global, line: u64, words: &mut Words<'_>) -> Result<(), Why>
+        ensures added { OnOk result
+            (thread_line line words.old (said self.old) ≡ Ok (said self.new)) }
+        ensures told { IfErr result (Refuses (thread_line line words.old (said self.old))) }
+    {
+        self.put_thread(alloc, line, words)?;
+        self.keeps_limit(Kind::Thread)?;
+        self.keeps_limit(Kind::Context)?;
+        self.keeps_limit(Kind::CNode)
+    }
+
+    /// Whether a thread is bound.
+    fn is_thread_bound(&self, thread: ObjId) -> bool
+        ensures { result ≡ is_thread_bound self.now.ties.items thread }
+    {
+        self.ties.iter().any(|tie| tie.thread.is_same(thread))
+    }
+
+    /// Whether a notification is bound.
+    fn is_notification_bound(&self, notification: ObjId) -> bool
+        ensures { result ≡ is_notification_bound self.now.ties.items notification }
+    {
+        self.ties
+            .iter()
+            .any(|tie| tie.notification.is_same(notification))
+    }
+
+    /// The line of a binding: `tie THREAD NOTIFICATION`. Bound where one of the two is bound
+    /// already.
+    fn read_tie(&mut self, alloc: Global, words: &mut Words<'_>) -> Result<(), Why>
+        ensures added { OnOk result (tie_line words.old (said self.old) ≡ Ok (said self.new)) }
+        ensures told { IfErr result (Refuses (tie_line words.old (said self.old))) }
+        ensures unchanged { OnErr result (said self.new ≡ said self.old) }
+    {
+        let thread_word = words.need("the name of a thread")?;
+        let thread = self.names.of_kind(alloc, Kind::Thread, thread_word)?;
+        let word = words.need("the name of a notification")?;
+        let notification = self.names.of_kind(alloc, Kind::Notification, word)?;
+        words.end(alloc)?;
+        if self.is_thread_bound(thread) {
+            return Err(Why::Bound {
+                word: String::from_str(alloc, thread_word)?,
+            });
+        }
+        if self.is_notification_bound(notification) {
+            return Err(Why::Bound {
+                word: String::from_str(alloc, word)?,
+            });
+        }
+        self.ties.push(Tie {
+            thread,
+            notification,
+        })?;
+        Ok(())
+    }
+
+    /// The line of the number of cores, which comes first. Late where a context was made.
+    fn read_cores(&mut self, alloc: Global, words: &mut Words<'_>) -> Result<(), Why>
+        ensures added { OnOk result (cores_line words.old (said self.old) ≡ Ok (said self.new)) }
+        ensures told { IfErr result (Refuses (cores_line words.old (said self.old))) }
+        ensures unchanged { OnErr result (said self.new ≡ said self.old) }
+    {
+        let cores = byte(alloc, words, "a number of cores, 1 to 16", CORES)?;
+        words.end(alloc)?;
+        if cores == 0 {
+            return Err(not(alloc, "0", "a number of cores, 1 to 16"));
+        }
+        if self.cores.is_some() {
+            return Err(Why::Twice {
+                word: String::from_str(alloc, "cores")?,
+            });
+        }
+        if !self.contexts.is_empty() || !self.threads.is_empty() {
+            return Err(Why::LateCores);
+        }
+        self.cores = Some(cores);
+        Ok(())
+    }
+
+    /// The place of the space that a name stands for: a thread's, or one by hand.
+    fn space_named(&self, alloc: Global, name: &str) -> Result<usize, Why>
+        ensures place { IfOk result (λ place. space_named name.now (said self.now) ≡ Ok place) }
+        ensures told { IfErr result (Refuses (space_named name.now (said self.now))) }
+    {
+        if let Some(object) = self.names.find(name) {
+            if object.kind.is_same(Kind::CNode) {
+                return Ok(object.place(Kind::CNode).unwrap_or(0));
+            }
+        }
+        let thread = self.names.of_kind(alloc, Kind::Thread, name)?;
+        Ok(self.space_of(thread))
+    }
+
+    /// Whether the space at a place has a slot of this name.
+    #[tactic(auto, using(crate::proofs::Places::slot_there, crate::proofs::Places::no_slot_there))]
+    fn has_slot(&self, place: usize, name: &str) -> bool
+        ensures { result ≡ has_slot (slice_get (said self.now).spaces place) name.now }
+    {
+        match self.spaces.get(place) {
+            Some(space) => space.has(name),
+            None => false,
+        }
+    }
+
+    /// The name of a slot that has none of its own: that of its object, or the whole word where
+    /// that is taken. Missing for an empty slot.
+    fn usual_name(&self, alloc: Global, place: usize, word: &str) -> Result<String, Why>
+        ensures name { IfOk result (λ n.
+            usual_name (slice_get (said self.now).spaces place) word.now ≡ Ok (string_bytes n)) }
+        ensures told { IfErr result
+            (Refuses (usual_name (slice_get (said self.now).spaces place) word.now)) }
+    {
+        if word == "-" {
+            return Err(Why::Missing { wanted: "as" });
+        }
+        let (name, _, _) = parts_of(word);
+        if self.has_slot(place, name) {
+            return Ok(String::from_str(alloc, word)?);
+        }
+        Ok(String::from_str(alloc, name)?)
+    }
+
+    /// The name of a slot: the word behind `as`, or the usual one.
+    fn slot_name(
+        &self,
+        alloc: Global,
+        words: &mut Words<'_>,
+        place: usize,
+        word: &str,
+    ) -> Result<String, Why>
+        ensures name { IfOk result (λ n.
+            slot_name (slice_get (said self.now).spaces place) word.now words.old
+            ≡ Ok (string_bytes n, words.new)) }
+        ensures told { IfErr result
+            (Refuses (slot_name (slice_get (said self.now).spaces place) word.now words.old)) }
+    {
+        if !says_as(words) {
+            return self.usual_name(alloc, place, word);
+        }
+        given_name(alloc, words)
+    }
+
+    /// A slot of a space. Twice where its name is there, and Limit where the space is full.
+    fn add_slot(&mut self, alloc: Global, place: usize, name: &str, slot: Slot) -> Result<(), Why>
+        ensures added { OnOk result
+            (slot_added place name.now slot.cap (said self.old) ≡ Ok (said self.new)) }
+        ensures told { IfErr result
+            (Refuses (slot_added place name.now slot.cap (said self.old))) }
+        ensures unchanged { OnErr result (said self.new ≡ said self.old) }
+    {
+        let Some(space) = self.spaces.get_mut(place) else {
+            return Ok(());
+        };
+        space.add(alloc, name, slot)
+    }
+
+    /// A capability of a space, with `as NAME` behind it where it is to have a name of its own; `-`
+    /// is an empty slot.
+    fn put_slot(
+        &mut self,
+        alloc: Global,
+        place: usize,
+        word: &str,
+        words: &mut Words<'_>,
+    ) -> Result<(), Why>
+        ensures added { OnOk result
+            (slot_more place word.now words.old (said self.old) ≡ Ok (said self.new, words.new)) }
+        ensures told { IfErr result
+            (Refuses (slot_more place word.now words.old (said self.old))) }
+        ensures unchanged { OnErr result (said self.new ≡ said self.old) }
+    {
+        let cap = held_by(alloc, &self.names, word)?;
+        let name = self.slot_name(alloc, words, place, word)?;
+        let written = written_as(alloc, word, name.as_str())?;
+        self.add_slot(alloc, place, name.as_str(), Slot { cap, written })
+    }
+
+    /// The same, where the space does not take more CNodes then than there may be.
+    fn read_slot(
+        &mut self,
+        alloc: Global,
+        place: usize,
+        word: &str,
+        words: &mut Words<'_>,
+    ) -> Result<(), Why>
+        ensures added { OnOk result
+            (slot_kept place word.now words.old (said self.old) ≡ Ok (said self.new, words.new)) }
+        ensures told { IfErr result
+            (Refuses (slot_kept place word.now words.old (said self.old))) }
+    {
+        self.put_slot(alloc, place, word, words)?;
+        self.keeps_limit(Kind::CNode)
+    }
+
+    /// Capabilities of a space, as far as the line goes.
+    fn read_slots(&mut self, alloc: Global, place: usize, words: &mut Words<'_>) -> Result<(), Why>
+        ensures added { OnOk result
+            (slots_more (length words.old) place words.old (said self.old) ≡ Ok (said self.new)) }
+        ensures told { IfErr result
+            (Refuses (slots_more (length words.old) place words.old (said self.old))) }
+    {
+        for _ in 0..words.len() {
+            if let Some(word) = words.next() {
+                self.read_slot(alloc, place, word, words)?;
+            }
+        }
+        Ok(())
+    }
+
+    /// The line of what a space has: `NAME has CAPABILITY ..`.
+    fn read_has(&mut self, alloc: Global, name: &str, words: &mut Words<'_>) -> Result<(), Why>
+        ensures added { OnOk result
+            (has_line name.now words.old (said self.old) ≡ Ok (said self.new)) }
+        ensures told { IfErr result (Refuses (has_line name.now words.old (said self.old))) }
+    {
+        let place = self.space_named(alloc, name)?;
+        if words.peek().is_none() {
+            return Err(Why::Missing {
+                wanted: "a capability",
+            });
+        }
+        self.read_slots(alloc, place, words)
+    }
+
+    /// A line that begins with this word. Unknown where it begins none.
+    fn read_line(
+        &mut self,
+        alloc: Global,
+        line: u64,
+        first: &str,
+        words: &mut Words<'_>,
+    ) -> Result<(), Why>
+        ensures added { OnOk result
+            (line_begun line first.now words.old (said self.old) ≡ Ok (said self.new)) }
+        ensures told { IfErr result
+            (Refuses (line_begun line first.now words.old (said self.old))) }
+    {
+        match first {
+            "cores" => self.read_cores(alloc, words),
+            "endpoint" => self.read_objects(alloc, words, Kind::Endpoint),
+            "notification" => self.read_objects(alloc, words, Kind::Notification),
+            "reply" => self.read_objects(alloc, words, Kind::Reply),
+            "context" => self.read_context(alloc, words),
+            "cnode" => self.read_cnode(alloc, words),
+            "thread" => self.read_thread(alloc, line, words),
+            "tie" => self.read_tie(alloc, words),
+            _ => Err(Why::Unknown {
+                word: String::from_str(alloc, first)?,
+            }),
+        }
+    }
+
+    /// A line before the first step. Where it is refused, the first fault is told, and what the
+    /// plan says then is not: the caller lets it go.
+    pub fn read(&mut self, alloc: Global, line: u64, words: &[&str]) -> Result<(), Why>
+        ensures taken { OnOk result (ReadsLine line (texts words.now) self.old (said self.new)) }
+        ensures refused { IfErr result (RefusesLine line (texts words.now) self.old) }
+        ensures fault { IfErr result TellsOfLine }
+        ensures in_order { OnOk result (IsInOrder (said self.old) → IsInOrder (said self.new)) }
+        ensures whole { OnOk result (IsWhole (said self.old) → IsWhole (said self.new)) }
+    {
+        let mut words = Words::new(words);
+        let Some(first) = words.next() else {
+            return Ok(());
+        };
+        if says_has(&words) {
+            words.next();
+            return self.read_has(alloc, first, &mut words);
+        }
+        self.read_line(alloc, line, first, &mut words)
+    }
+}

@@ -1,0 +1,17 @@
+//! What a plan becomes, read back: a script without a fault, with the plan's boot, in which each
+//! name leads to what it stands for.
+//!
+//! ```text
+//! plan ── mcs_plan_compile ──> Script ── text ── reading ──> the book that the text makes
+//!                            │                            │ its boot, alone in a kernel
+//!                            └─ names ────── leading ─────┘ each place and address is looked up
+//! ```
+#![tactic(auto)]
+
+mod compiled;
+mod fault;
+mod leading;
+mod reading;
+
+pub use compiled::{Compiled, compile_text};
+pub use fault::CompileFault;

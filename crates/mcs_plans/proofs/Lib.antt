@@ -1,9 +1,0 @@
-pub mod SlotNames
-pub mod Words
-pub mod Places
-pub mod Refusing
-pub mod Turns
-pub mod Keeping
-pub mod KeepingLines
-pub mod Faults
-pub mod Whole

@@ -1,0 +1,70 @@
+//! The pictures of the gallery.
+use crate::draw_file;
+use mcs_lab_check::LabFault;
+use mcs_lab_render::Format;
+use std::io::Write;
+
+/// The scripts, and for each what is made of it.
+const PICTURES: &[(&str, &str, Format)] = &[
+    (
+        "gallery/passive-server.mcs",
+        "gallery/passive-server.svg",
+        Format::Svg,
+    ),
+    (
+        "gallery/nested-calls.mcs",
+        "gallery/nested-calls.svg",
+        Format::Svg,
+    ),
+    (
+        "gallery/two-badges.mcs",
+        "gallery/two-badges.svg",
+        Format::Svg,
+    ),
+    (
+        "gallery/server-dies.mcs",
+        "gallery/server-dies.svg",
+        Format::Svg,
+    ),
+    (
+        "gallery/own-spaces.mcs",
+        "gallery/own-spaces.svg",
+        Format::Svg,
+    ),
+    ("gallery/revoked.mcs", "gallery/revoked.svg", Format::Svg),
+    (
+        "gallery/inversion.mcs",
+        "gallery/inversion.svg",
+        Format::Svg,
+    ),
+    (
+        "gallery/two-cores.mcs",
+        "gallery/two-cores.svg",
+        Format::Svg,
+    ),
+    ("gallery/deadlock.mcs", "gallery/deadlock.svg", Format::Svg),
+    ("gallery/started.mcs", "gallery/started.svg", Format::Svg),
+    (
+        "gallery/nested-calls.mcs",
+        "gallery/nested-calls.mmd",
+        Format::Mermaid,
+    ),
+    (
+        "gallery/passive-server.mcs",
+        "gallery/passive-server.html",
+        Format::Html,
+    ),
+    (
+        "gallery/server-dies.mcs",
+        "gallery/server-dies.mmd",
+        Format::Mermaid,
+    ),
+];
+
+/// Draws each script of the gallery, and writes what is found of the picture.
+pub fn draw_gallery<W: Write>(rt: &HostRuntime, to: &mut W) -> Result<(), LabFault> {
+    for &(script, picture, format) in PICTURES {
+        draw_file(rt, to, script, picture, format)?;
+    }
+    Ok(())
+}

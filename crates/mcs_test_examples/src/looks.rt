@@ -1,0 +1,54 @@
+//! Pictures that are drawn and looked at.
+use crate::forms::is_sequence;
+use crate::places::is_clear;
+use mcs_lab_render::{Format, Window, draw_script};
+use mcs_sim::Source;
+use std::alloc::{AllocError, Global};
+use std::io::Read;
+use std::str;
+
+/// All lines of a book.
+const WHOLE: Window = Window {
+    first: 1,
+    last: usize::MAX,
+};
+
+/// What is wrong with the parts of a page; None where nothing is.
+fn flaw_of(alloc: Global, page: &[u8], format: Format) -> Result<Option<&'static str>, AllocError> {
+    let Ok(page) = str::from_utf8(page) else {
+        return Ok(Some("NO TEXT"));
+    };
+    if format == Format::Mermaid {
+        return Ok(if is_sequence(page) {
+            None
+        } else {
+            Some("NOT OF MERMAID'S FORMS")
+        });
+    }
+    Ok(if is_clear(alloc, page)? {
+        None
+    } else {
+        Some("A TEXT STANDS ON SOMETHING")
+    })
+}
+
+/// Draws a script, and tells whether the picture is the one that is kept, and whether its texts
+/// stand clear.
+pub fn look_at<R: Read + Drop>(
+    alloc: Global,
+    script: R,
+    kept: &[u8],
+    format: Format,
+) -> &'static str {
+    let mut source = Source::new(script);
+    let mut drawn = Vec::new(alloc);
+    if draw_script(alloc, &mut source, &mut drawn, format, WHOLE).is_err() {
+        return "NOT DRAWN";
+    }
+    match flaw_of(alloc, drawn.as_slice(), format) {
+        Ok(Some(flaw)) => flaw,
+        Ok(None) if drawn.as_slice() == kept => "as kept",
+        Ok(None) => "NOT AS KEPT",
+        Err(_) => "OUT OF MEMORY",
+    }
+}

@@ -1,0 +1,153 @@
+//! The scripts of `examples/` that consist of steps are checked, for each says what its steps
+//! answer, and drawn, as those of its gallery: each picture is compared with the one that is kept
+//! beside its script, and looked at. So are pages, texts and scripts with a flaw. All orders of the
+//! scripts of users are gone through, and plans are compiled. Told is besides what a search finds
+//! of a small system, for which texts patterns stand, what is stuck at the end of some scripts, and
+//! what the scripts of standard input give, which is all that is told where no file is named (so
+//! `tests/each-allocation.sh` has each allocation refused in turn, and wants the same traces). With
+//! a number alone, a byte of each plan is changed so many times, and no more is done.
+#![tactic(auto)]
+
+mod calls;
+mod flaws;
+mod forms;
+mod gallery;
+mod given;
+mod looks;
+mod orders;
+mod patterns;
+mod pen;
+mod places;
+mod plans;
+mod rings;
+mod scripts;
+mod stuck;
+
+use flaws::tell_flaws;
+use gallery::draw_gallery;
+use given::tell_given;
+use looks::look_at;
+use mcs_lab_check::{LabFault, check};
+use mcs_lab_render::Format;
+use mcs_sim::{SimFault, Source, arguments};
+use orders::explore_all;
+use patterns::tell_patterns;
+use plans::{tell_plans, try_changes};
+use rings::tell_rings;
+use std::fs;
+use std::io::{self, BufWriter, Write};
+use std::process::ExitCode;
+use stuck::tell_stuck;
+
+/// Checks the script of a file, and writes its name before the verdicts.
+fn check_file<W: Write + Drop>(rt: &HostRuntime, to: &mut W, path: &str) -> Result<bool, LabFault> {
+    writeln!(to, "# {path}")?;
+    let Ok(file) = fs::open(rt, path) else {
+        return Err(LabFault::Read);
+    };
+    check(rt.alloc(), &mut Source::new(file), to)
+}
+
+/// Draws the script of a file, and writes what is found of the picture.
+fn draw_file<W: Write>(
+    rt: &HostRuntime,
+    to: &mut W,
+    script: &str,
+    picture: &str,
+    format: Format,
+) -> Result<(), LabFault> {
+    let (Ok(script), Ok(kept)) = (fs::open(rt, script), fs::read(rt, picture)) else {
+        return Err(LabFault::Read);
+    };
+    let told = look_at(rt.alloc(), script, kept.as_slice(), format);
+    writeln!(to, "# {picture}: {told}")?;
+    Ok(())
+}
+
+/// Checks and draws the scripts of all files. True where each holds.
+fn check_all<W: Write + Drop>(
+    rt: &HostRuntime,
+    to: &mut W,
+    paths: &[String],
+) -> Result<bool, LabFault> {
+    let mut all_hold = true;
+    for path in paths {
+        let holds = check_file(rt, to, path.as_str())?;
+        let name = path.trim_end_matches(".mcs");
+        let picture = format!(in rt.alloc(); "{name}.svg")?;
+        draw_file(rt, to, path.as_str(), picture.as_str(), Format::Svg)?;
+        all_hold = all_hold && holds;
+    }
+    Ok(all_hold)
+}
+
+/// How many times a byte of each plan is changed, where no number is given.
+const CHANGES: usize = 50;
+
+/// Checks the scripts of all files, draws them and the gallery, explores, compiles, and tells what
+/// is found. True where each script holds.
+fn tell_all(rt: &HostRuntime, paths: &[String]) -> Result<bool, LabFault> {
+    let mut to = BufWriter::new(rt.alloc(), io::writer(rt))?;
+    let all_hold = check_all(rt, &mut to, paths)?;
+    draw_gallery(rt, &mut to)?;
+    tell_flaws(rt.alloc(), &mut to)?;
+    explore_all(rt, &mut to)?;
+    tell_plans(rt, &mut to)?;
+    try_changes(rt, &mut to, CHANGES)?;
+    tell_rings(rt.alloc(), &mut to)?;
+    tell_patterns(&mut to)?;
+    tell_stuck(rt, &mut to)?;
+    to.flush()?;
+    Ok(all_hold)
+}
+
+/// Changes plans so many times, and tells how many went wrong.
+fn tell_changes(rt: &HostRuntime, times: usize) -> Result<bool, LabFault> {
+    let mut to = BufWriter::new(rt.alloc(), io::writer(rt))?;
+    try_changes(rt, &mut to, times)?;
+    to.flush()?;
+    Ok(true)
+}
+
+/// The number that is given in place of files, if one is.
+fn number_of(paths: &[String]) -> Option<usize> {
+    match paths {
+        [word] => word.as_str().parse::<usize>().ok(),
+        _ => None,
+    }
+}
+
+/// Tells what the words behind the program's name ask for. True where all holds.
+fn tell(rt: &HostRuntime, paths: &[String]) -> Result<bool, LabFault> {
+    if let Some(times) = number_of(paths) {
+        return tell_changes(rt, times);
+    }
+    let all_hold = paths.is_empty() || tell_all(rt, paths)?;
+    Ok(tell_given(rt) && all_hold)
+}
+
+/// The words of the command line, asked for once more where memory was refused.
+fn words(rt: &HostRuntime) -> Result<Vec<String>, SimFault> {
+    match arguments(rt) {
+        Ok(words) => Ok(words),
+        Err(_) => arguments(rt),
+    }
+}
+
+fn main(rt: HostRuntime) -> ExitCode {
+    let Ok(words) = words(&rt) else {
+        return ExitCode::FAILURE;
+    };
+    let paths = match words.as_slice() {
+        [_, paths @ ..] => paths,
+        [] => &[],
+    };
+    match tell(&rt, paths) {
+        Ok(true) => ExitCode::SUCCESS,
+        Ok(false) => ExitCode::FAILURE,
+        Err(fault) => {
+            let _ = rt.eprintln(fault);
+            ExitCode::from(fault.status())
+        }
+    }
+}

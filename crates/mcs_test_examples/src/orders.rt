@@ -1,0 +1,330 @@
+//! All orders of the scripts of users in `examples/explore/`: what is told of each, and how the
+//! scripts replay that show it.
+use mcs_explore_questions::ExploreFault;
+use mcs_explore_report::{Explored, Output, Saves, Wanted, explore_script};
+use mcs_lab_check::{LabFault, check};
+use mcs_sim::{ReplayRun, Source};
+use std::alloc::Global;
+use std::fs;
+use std::io::Write;
+
+/// The scripts.
+const SCRIPTS: &[&str] = &[
+    "explore/late-pick.mcs",
+    "explore/suspended-calls.mcs",
+    "explore/lost-signal.mcs",
+    "explore/mutex.mcs",
+    "explore/no-mutex.mcs",
+    "explore/dining.mcs",
+    "explore/dining-mended.mcs",
+    "explore/moves.mcs",
+    "explore/slots.mcs",
+    "explore/prio.mcs",
+    "explore/bound.mcs",
+    "explore/named-message.mcs",
+    "explore/named-object.mcs",
+    "explore/made-objects.mcs",
+    "explore/made.mcs",
+    "explore/part.mcs",
+];
+
+/// Those that are explored once more with exact keys.
+const EXACT: &[&str] = &[
+    "explore/moves.mcs",
+    "explore/slots.mcs",
+    "explore/prio.mcs",
+    "explore/bound.mcs",
+    "explore/made-objects.mcs",
+    "explore/made.mcs",
+];
+
+/// A script of users without questions.
+const ASKED: &str = "explore/asked.mcs";
+
+/// Questions that are asked of it, each alone.
+const QUESTIONS: &str = "explore/questions.txt";
+
+/// A boot, and behind each line `%` random entries of its users: by `tests/random-orders.py
+/// --data`.
+const RANDOM: &str = "explore/random.txt";
+
+/// The scripts that were kept: how many, of how many the kernel accepts each step, in how many each
+/// answer is the one that stands after its step, and how many steps they have in all.
+#[derive(Drop)]
+struct Replayed {
+    count: u64,
+    whole: u64,
+    checked: u64,
+    steps: usize,
+}
+
+/// How many steps a script has: lines that begin with a digit.
+fn count_steps(text: &[u8]) -> usize {
+    let mut count: usize = 0;
+    let mut is_first = true;
+    for byte in text {
+        if is_first && byte.is_ascii_digit() {
+            count = count.saturating_add(1);
+        }
+        is_first = *byte == b'\n';
+    }
+    count
+}
+
+/// Whether a replay of a script lets in each of its steps.
+fn is_whole(alloc: Global, text: &[u8]) -> bool {
+    let Ok(mut run) = ReplayRun::new(alloc) else {
+        return false;
+    };
+    if run.feed(alloc, text).is_err() || run.end(alloc).is_err() {
+        return false;
+    }
+    match run.book() {
+        Some(book) => book.lines() == count_steps(text).saturating_add(1),
+        None => false,
+    }
+}
+
+/// Whether a script holds by the answers that stand in it.
+fn holds(alloc: Global, text: &[u8]) -> Result<bool, LabFault> {
+    let mut told = Vec::new(alloc);
+    let all_hold = check(alloc, &mut Source::new(text), &mut told)?;
+    Ok(all_hold && told.len() > count_steps(text))
+}
+
+impl Saves for Replayed {
+    fn wants(&self) -> bool {
+        true
+    }
+
+    fn save(&mut self, alloc: Global, _name: &str, text: &[u8]) -> Result<(), LabFault> {
+        self.count = self.count.saturating_add(1);
+        self.steps = self.steps.saturating_add(count_steps(text));
+        if is_whole(alloc, text) {
+            self.whole = self.whole.saturating_add(1);
+        }
+        if holds(alloc, text)? {
+            self.checked = self.checked.saturating_add(1);
+        }
+        Ok(())
+    }
+}
+
+/// The word for what came of a search.
+fn word_of(explored: Explored) -> &'static str {
+    match explored {
+        Explored::Holds => "holds",
+        Explored::Fails => "fails",
+        Explored::Stopped => "stopped",
+    }
+}
+
+/// How far a search goes.
+fn wanted(is_exact: bool) -> Wanted {
+    Wanted {
+        states: 10_000,
+        depth: 1_000,
+        is_exact,
+    }
+}
+
+/// How it is told.
+const OUTPUT: Output = Output {
+    with_answers: true,
+    is_json: false,
+};
+
+/// Explores the script of a file.
+fn explore_file<W: Write + Drop>(
+    rt: &HostRuntime,
+    to: &mut W,
+    path: &str,
+    is_exact: bool,
+) -> Result<(), ExploreFault> {
+    let mode = if is_exact { ", exact" } else { "" };
+    writeln!(to, "# {path}{mode}")?;
+    let Ok(file) = fs::open(rt, path) else {
+        return Err(ExploreFault::Lab(LabFault::Read));
+    };
+    let mut replayed = Replayed {
+        count: 0,
+        whole: 0,
+        checked: 0,
+        steps: 0,
+    };
+    let explored = explore_script(
+        rt.alloc(),
+        &mut Source::new(file),
+        &mut *to,
+        wanted(is_exact),
+        OUTPUT,
+        &mut replayed,
+    )?;
+    let word = word_of(explored);
+    let Replayed {
+        count,
+        whole,
+        checked,
+        steps,
+    } = replayed;
+    writeln!(
+        to,
+        "{word}; of {count} scripts of {steps} steps {whole} replayed whole, {checked} checked"
+    )?;
+    Ok(())
+}
+
+/// Keeps no script.
+#[derive(Drop)]
+struct Nowhere;
+
+impl Saves for Nowhere {
+    fn wants(&self) -> bool {
+        false
+    }
+
+    fn save(&mut self, _alloc: Global, _name: &str, _text: &[u8]) -> Result<(), LabFault> {
+        Ok(())
+    }
+}
+
+/// Returns whether a line is of an end, of users that are stuck or of a question.
+fn is_reported(line: &[u8]) -> bool {
+    line.starts_with(b"end") || line.starts_with(b"stuck") || line.starts_with(b"question")
+}
+
+/// Asks a question behind a script, and tells what comes of it: the lines of questions, the verdict
+/// and the exit status.
+fn ask<W: Write>(
+    alloc: Global,
+    to: &mut W,
+    script: &[u8],
+    question: &[u8],
+) -> Result<(), ExploreFault> {
+    let mut text = Vec::from_slice(alloc, script)?;
+    text.extend_from_slice(question)?;
+    let mut told: Vec<u8> = Vec::new(alloc);
+    let explored = explore_script(
+        alloc,
+        &mut Source::new(text.as_slice()),
+        &mut told,
+        wanted(false),
+        OUTPUT,
+        &mut Nowhere,
+    );
+    match explored {
+        Ok(_) => {
+            for line in told.split(|byte| *byte == b'\n') {
+                if is_reported(line) {
+                    to.write_all(line)?;
+                    to.write_all(b"\n")?;
+                }
+            }
+        }
+        Err(fault) => writeln!(to, "{fault}")?,
+    }
+    Ok(())
+}
+
+/// Asks each question of a file of a script.
+fn ask_all<W: Write>(rt: &HostRuntime, to: &mut W) -> Result<(), ExploreFault> {
+    let (Ok(script), Ok(questions)) = (fs::read(rt, ASKED), fs::read(rt, QUESTIONS)) else {
+        return Err(ExploreFault::Lab(LabFault::Read));
+    };
+    for question in questions.split(|byte| *byte == b'%') {
+        to.write_all(b"# asked: ")?;
+        to.write_all(question)?;
+        ask(rt.alloc(), to, script.as_slice(), question)?;
+    }
+    Ok(())
+}
+
+/// Returns the report on a script.
+fn report_on(alloc: Global, script: &[u8], is_exact: bool) -> Result<Vec<u8>, ExploreFault> {
+    let mut report: Vec<u8> = Vec::new(alloc);
+    explore_script(
+        alloc,
+        &mut Source::new(script),
+        &mut report,
+        wanted(is_exact),
+        OUTPUT,
+        &mut Nowhere,
+    )?;
+    Ok(report)
+}
+
+/// Returns what is compared of a line: of an end its kind, and not how often it comes.
+fn compared(line: &[u8]) -> &[u8] {
+    if line.starts_with(b"end ") {
+        match line.iter().position(|byte| *byte == b',') {
+            Some(comma) => line.get(..comma).unwrap_or(line),
+            None => line,
+        }
+    } else {
+        line
+    }
+}
+
+/// Returns whether two reports are the same but for their first lines and how often ends come.
+fn are_alike(one: &[u8], other: &[u8]) -> bool {
+    let mut left = one.split(|byte| *byte == b'\n');
+    let mut right = other.split(|byte| *byte == b'\n');
+    for number in 0..=one.len() {
+        let Some(line) = left.next() else {
+            return right.next().is_none();
+        };
+        let Some(twin) = right.next() else {
+            return false;
+        };
+        if number > 0 && compared(line) != compared(twin) {
+            return false;
+        }
+    }
+    false
+}
+
+/// Explores random scripts, by default and with exact keys, and says how many reports are alike.
+fn explore_random<W: Write>(rt: &HostRuntime, to: &mut W) -> Result<(), ExploreFault> {
+    let Ok(text) = fs::read(rt, RANDOM) else {
+        return Err(ExploreFault::Lab(LabFault::Read));
+    };
+    let mut parts = text.split(|byte| *byte == b'%');
+    let boot = parts.next().unwrap_or(b"");
+    let mut count: u64 = 0;
+    let mut alike: u64 = 0;
+    for users in parts {
+        let mut script = Vec::from_slice(rt.alloc(), boot)?;
+        script.extend_from_slice(users)?;
+        let report = report_on(rt.alloc(), &script, false)?;
+        let exact = report_on(rt.alloc(), &script, true)?;
+        count = count.saturating_add(1);
+        alike = alike.saturating_add(u64::from(are_alike(&report, &exact)));
+    }
+    writeln!(
+        to,
+        "of {count} random scripts {alike} have the same report with exact keys"
+    )?;
+    Ok(())
+}
+
+/// Explores all scripts and random ones, and asks all questions.
+fn try_all<W: Write + Drop>(rt: &HostRuntime, to: &mut W) -> Result<(), ExploreFault> {
+    for &path in SCRIPTS {
+        explore_file(rt, to, path, false)?;
+    }
+    for &path in EXACT {
+        explore_file(rt, to, path, true)?;
+    }
+    ask_all(rt, to)?;
+    explore_random(rt, to)
+}
+
+/// Explores all scripts and random ones, and asks all questions. A fault is written where the rest
+/// would come.
+pub fn explore_all<W: Write + Drop>(rt: &HostRuntime, to: &mut W) -> Result<(), LabFault> {
+    if let Err(fault) = try_all(rt, to) {
+        writeln!(to, "{fault}")?;
+        return Err(LabFault::Read);
+    }
+    Ok(())
+}

@@ -1,7 +1,0 @@
-use Rattle.std.proofs.Common.{ap, ◌∙◌}
-use Rattle.mcs_walks.specs.Walks.{is_let_in}
-use Rattle.mcs_walks.proofs.Walking.{let-in}
-use Rattle.mcs_walks.proofs.walk.may_enter.Goals as goal
-
-pub returns : goal.returns
-returns g c = c.is_let_in.ensures ∙ ap (λ f. is_let_in f) c.fault.ensures ∙ let-in c.args.kernel.now c.args.core c.args.thread

@@ -1,6 +1,0 @@
-use Rattle.std.proofs.Common.{◌≡◌, ◌++◌, drop}
-use Rattle.mcs_ways.specs.Answers.{no_answers}
-use Rattle.mcs_ways.proofs.answers.Answers.new.Given as goal
-
-abbrev pub invariant-loop-user : goal.invariant-loop-user
-invariant-loop-user l = no_answers l.lists ≡ l.tables.items ++ no_answers (drop l.user-index l.lists)

@@ -1,6 +1,0 @@
-use Rattle.std.specs.Prelude.{ℕ, ◌≡◌, ◌<◌, Some, slice_get}
-use Rattle.mcs_ways.specs.declared.answers.Told.{Told}
-use Rattle.mcs_ways.proofs.answers.Table.has.Given as goal
-
-abbrev pub invariant-loop-index : goal.invariant-loop-index
-invariant-loop-index l = (k : ℕ) (x : Told) → k < l.index → slice_get l.self k ≡ Some x → x.answer ≡ l.answer → ⊥

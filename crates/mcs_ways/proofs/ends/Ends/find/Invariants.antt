@@ -1,5 +1,0 @@
-use Rattle.mcs_ways.specs.Ends.{IsNoKind}
-use Rattle.mcs_ways.proofs.ends.Ends.find.Given as goal
-
-abbrev pub invariant-loop-index : goal.invariant-loop-index
-invariant-loop-index l = IsNoKind l.self l.standing l.index

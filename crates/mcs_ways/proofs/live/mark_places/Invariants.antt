@@ -1,7 +1,0 @@
-use Rattle.std.specs.Prelude.{◌≡◌}
-use Rattle.std.proofs.Common.{drop}
-use Rattle.mcs_ways.specs.Stuck.{with_marks}
-use Rattle.mcs_ways.proofs.live.mark_places.Given as goal
-
-abbrev pub invariant-loop-place : goal.invariant-loop-place
-invariant-loop-place l = with_marks (drop l.place-index l.places) l.marks.items ≡ with_marks l.places l.initial.marks.items

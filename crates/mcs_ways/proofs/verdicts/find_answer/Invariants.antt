@@ -1,5 +1,0 @@
-use Rattle.mcs_ways.specs.Verdicts.{IsNotIn}
-use Rattle.mcs_ways.proofs.verdicts.find_answer.Given as goal
-
-abbrev pub invariant-loop-index : goal.invariant-loop-index
-invariant-loop-index l = IsNotIn l.told l.pattern l.wanted l.index
