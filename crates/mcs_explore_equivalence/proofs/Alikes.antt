@@ -83,8 +83,34 @@ module _ (numbered : Bool) (users : List User) (boot : Boot) (g h : Going) (a : 
     each = λ core k at. pick-there core k (ps.each core k at);
   }
 
-  pub over-there : IsOver users g → IsOver users h
-  over-there over = λ core few. pick-there core None (over core (subst (λ n. core.0 < n) (sym cores) few))
+module _ (numbered : Bool) (users : List User) (boot : Boot) (g h : Going) (a : AreAlike numbered users boot g h) (core : CoreId) (k : Pick) (t : Going) (turn : IsTurn users core k g t) where
+  abbrev step : Step
+  step = record { core = core; thread = turn.user.thread; entry = turn.entry }
+
+  -- the same turn in the other run
+  pub turn-there : IsTurn users core k h (entered turn.picks turn.user step k h)
+  turn-there = record {
+    user = turn.user;
+    entry = turn.entry;
+    picks = turn.picks;
+    is_user = turn.is_user;
+    is_entry = turn.is_entry;
+    are_picks = picks-there numbered users boot g h c turn.picks turn.are_picks;
+    picked = go turn.picked;
+    enters = sym (may_enter-same (log_of g.book) (log_of h.book) ((by-likeness numbered).numbers (log_of g.book) (log_of h.book) c.logs) core turn.user.thread) ∙ turn.enters;
+    after = refl;
+  }
+    where
+      c : AreClose numbered users boot g h
+      c = a.close
+
+      go : (slice_get turn.picks core.0 ≡ Some (Some k)) ⊎ IsStale g core k → (slice_get turn.picks core.0 ≡ Some (Some k)) ⊎ IsStale h core k
+      go (inl own) = inl own
+      go (inr old) = in-other (choice-out turn.picks h.stale core.0 k (subst (λ cs. IsOneOf cs core.0 k) (a.choices turn.picks turn.are_picks) (choice-in turn.picks g.stale core.0 k (old.picks, (old.stale, old.among)))))
+        where
+          in-other : (slice_get turn.picks core.0 ≡ Some (Some k)) ⊎ IsOneOf h.stale core.0 k → (slice_get turn.picks core.0 ≡ Some (Some k)) ⊎ IsStale h core k
+          in-other (inl own) = inl own
+          in-other (inr (js, (at, among))) = inr (record { picks = js; stale = at; among = among })
 
 module _ (numbered : Bool) (users : List User) (boot : Boot) (whole : IsFaultless boot) (range : AreInRange users) where
   pub legal : (g : Going) → IsReached users boot g → IsLegal g.book
@@ -94,7 +120,6 @@ module _ (numbered : Bool) (users : List User) (boot : Boot) (whole : IsFaultles
     abbrev step : Step
     step = record { core = core; thread = turn.user.thread; entry = turn.entry }
 
-    -- the same turn in the other run
     abbrev pub then_h : Going
     then_h = entered turn.picks turn.user step k h
 
@@ -102,25 +127,7 @@ module _ (numbered : Bool) (users : List User) (boot : Boot) (whole : IsFaultles
     c = a.close
 
     pub other : IsTurn users core k h then_h
-    other = record {
-      user = turn.user;
-      entry = turn.entry;
-      picks = turn.picks;
-      is_user = turn.is_user;
-      is_entry = turn.is_entry;
-      are_picks = picks-there numbered users boot g h c turn.picks turn.are_picks;
-      picked = go turn.picked;
-      enters = sym (may_enter-same (log_of g.book) (log_of h.book) ((by-likeness numbered).numbers (log_of g.book) (log_of h.book) c.logs) core turn.user.thread) ∙ turn.enters;
-      after = refl;
-    }
-      where
-        go : (slice_get turn.picks core.0 ≡ Some (Some k)) ⊎ IsStale g core k → (slice_get turn.picks core.0 ≡ Some (Some k)) ⊎ IsStale h core k
-        go (inl own) = inl own
-        go (inr old) = in-other (choice-out turn.picks h.stale core.0 k (subst (λ cs. IsOneOf cs core.0 k) (a.choices turn.picks turn.are_picks) (choice-in turn.picks g.stale core.0 k (old.picks, (old.stale, old.among)))))
-          where
-            in-other : (slice_get turn.picks core.0 ≡ Some (Some k)) ⊎ IsOneOf h.stale core.0 k → (slice_get turn.picks core.0 ≡ Some (Some k)) ⊎ IsStale h core k
-            in-other (inl own) = inl own
-            in-other (inr (js, (at, among))) = inr (record { picks = js; stale = at; among = among })
+    other = turn-there numbered users boot g h a core k t turn
 
     pub left : IsReached users boot (entered turn.picks turn.user step k g)
     left = subst (λ x. IsReached users boot x) turn.after (record { turns = suc c.left.turns; run = (g, (c.left.run, record { core = core; pick = k; turn = turn })) })
@@ -184,6 +191,11 @@ alike-back numbered users boot g h a = record { close = back; choices = λ picks
   where
     back : AreClose numbered users boot h g
     back = record { left = a.close.right; right = a.close.left; logs = by-back numbered (log_of g.book) (log_of h.book) a.close.logs; places = sym a.close.places }
+
+-- where one is over, so is the other
+pub over-there : (numbered : Bool) (users : List User) (boot : Boot) (g h : Going) → AreAlike numbered users boot g h → IsOver users g → IsOver users h
+over-there numbered users boot g h a over = λ t f.
+    over _ (record { core = f.core; pick = f.pick; turn = turn-there numbered users boot h g (alike-back numbered users boot g h a) f.core f.pick t f.turn })
 
 -- alike runs, where numbers are not told apart
 pub unnumbered-alike : (users : List User) (boot : Boot) (g h : Going) → AreAlike true users boot g h → AreAlike false users boot g h

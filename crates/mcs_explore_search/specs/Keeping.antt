@@ -29,6 +29,10 @@ Adds {K = K} {L = L} eq E k f F = (IsThere eq E k × (F ≡ E)) ⊎ (((i : ℕ) 
 abbrev pub IsLonger : {K L : Type 0} → Entries K L → Entries K L → Type 0
 IsLonger {K = K} {L = L} E F = (more : Entries K L) × (F ≡ E ++ more)
 
+-- what is new was found from this place
+abbrev pub AreFrom : {K L : Type 0} → ℕ → Entries K L → Entries K L → Type 0
+AreFrom {K = K} {L = L} place E F = (i : ℕ) (k : K) (f : Found L) → At F i k f → length E ≤ i → f.parent ≡ place
+
 -- what was noted of a child: a label leads to its state from that of its parent, which is one step
 -- nearer
 pub record IsChild {A K L : Type 0} (Leads : L → A → A → Type 0) (E : Entries K L) (visits : List (Visit A)) (f : Found L) (s : A) : Type 0 where

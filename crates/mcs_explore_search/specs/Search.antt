@@ -1,5 +1,5 @@
 -- A search through states, by their keys.
-use Rattle.std.specs.Prelude.{◌≡◌, ◌≤◌, ◌<◌, ◌++◌, ◌⊎◌, Bool, true, ℕ, zero, suc, List, [], ◌∷◌, Option, Some, None, length, slice_get}
+use Rattle.std.specs.Prelude.{◌+◌, ◌≡◌, ◌≤◌, ◌<◌, ◌++◌, ◌⊎◌, Bool, true, ℕ, zero, suc, List, [], ◌∷◌, Option, Some, None, length, slice_get}
 use Rattle.mcs_explore_search.specs.declared.search.Edge.{Edge}
 use Rattle.mcs_explore_search.specs.declared.search.Found.{Found}
 use Rattle.mcs_explore_search.specs.Paths.{Run, Path, Steps}
@@ -152,6 +152,14 @@ pub record IsGraph {A K L : Type 0} (Leads : L → A → A → Type 0) (Like : A
 -- what was found reaches a budget of states, or what comes next one of depth
 abbrev pub IsSpent : {K L : Type 0} → ℕ → ℕ → ℕ → Entries K L → Type 0
 IsSpent states depth done E = (states ≤ length E) ⊎ (depth ≤ depth_at E done)
+
+-- each of the first places is nearer than a budget of depth
+abbrev pub AreNear : {K L : Type 0} → ℕ → ℕ → Entries K L → Type 0
+AreNear depth done E = (i : ℕ) → i < done → depth_at E i < depth
+
+-- what is beyond a budget of states, but the start, was found from the last of the first places
+abbrev pub AreFoundLast : {K L : Type 0} → ℕ → ℕ → Entries K L → Type 0
+AreFoundLast {K = K} {L = L} states done E = (i : ℕ) (k : K) (f : Found L) → At E i k f → 0 < i → states ≤ i → f.parent + 1 ≡ done
 
 -- alike states have no two keys
 abbrev pub HaveOneKey : {A K : Type 0} → (K → K → Bool) → (A → A → Type 0) → (A → K → Type 0) → Type 0

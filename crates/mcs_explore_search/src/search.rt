@@ -2,8 +2,8 @@
 ghost use Rattle.std.specs.Prelude.{◌≡◌, ◌+◌, ◌≤◌, ◌<◌, ◌^◌, ◌++◌, ◌∷◌, ◌↔◌, ◌⊎◌, [], List, Some, IsTrue, IfOk, OnOk, length};
 ghost use Rattle.mcs_explore_search.specs.Paths.{Path, Steps};
 ghost use Rattle.mcs_explore_search.specs.Closure.{IsLikeness};
-ghost use Rattle.mcs_explore_search.specs.Search.{AreAllFound, AreApart, AreLeast, AreNexts, AreReached, AreSorted, HaveOneKey, IsClosedBelow, IsGraph, IsSpent, IsWhole, depth_at, label_at, listed, parent_at, path_of, paths_below};
-ghost use Rattle.mcs_explore_search.specs.Keeping.{Adds, Goes, HasPlace, IsLonger, IsSearching};
+ghost use Rattle.mcs_explore_search.specs.Search.{AreAllFound, AreApart, AreFoundLast, AreLeast, AreNear, AreNexts, AreReached, AreSorted, HaveOneKey, IsClosedBelow, IsGraph, IsSpent, IsWhole, depth_at, label_at, listed, parent_at, path_of, paths_below};
+ghost use Rattle.mcs_explore_search.specs.Keeping.{Adds, AreFrom, Goes, HasPlace, IsLonger, IsSearching};
 
 use indexmap::IndexMap;
 use std::alloc::{AllocError, Global};
@@ -222,6 +222,8 @@ impl<K: Eq + Hash + Drop, L: Copy + Drop> Search<K, L> {
     fn goes_on(&self, budget: Budget) -> bool
         ensures more { IsTrue result → self.now.done < length self.now.map.entries }
         ensures room { IsTrue result → self.now.done + 1 < 2 ^ 64 }
+        ensures states { IsTrue result → length self.now.map.entries < budget.states }
+        ensures depth { IsTrue result → depth_at self.now.map.entries self.now.done < budget.depth }
         ensures spent { IsTrue result ⊎ (length self.now.map.entries ≤ self.now.done)
             ⊎ IsSpent budget.states budget.depth self.now.done self.now.map.entries }
     {
@@ -276,6 +278,7 @@ fn add_all<M: System>(
         map.old.entries edges.old.items place depth nexts.items
         map.new.entries edges.new.items) }
     ensures longer { OnOk result (IsLonger map.old.entries map.new.entries) }
+    ensures from { OnOk result (AreFrom place map.old.entries map.new.entries) }
 {
     for (label, key) in nexts {
         let found = found_behind(place, depth, label)?;
@@ -289,6 +292,7 @@ fn add_all<M: System>(
 fn begin<M: System>(alloc: Global, system: &mut M) -> Result<Search<M::Key, M::Label>, M::Fault>
     ensures later { M.Later system.old system.new }
     ensures begun { IfOk result (λ f. f.done ≡ 0) }
+    ensures one { IfOk result (λ f. length f.map.entries ≡ 1) }
     ensures searching { IfOk result (λ f. IsSearching M.Key.eq
         (M.Leads system.new) (M.Like system.new)
         (M.IsKey system.new) (M.start system.new) f.done f.map.entries f.edges.items) }
@@ -345,6 +349,9 @@ fn look_behind<M: System>(
         search.old.done search.old.map.entries search.old.edges.items }
     ensures later { M.Later system.old system.new }
     ensures done { OnOk result (search.new.done ≡ search.old.done + 1) }
+    ensures longer { OnOk result (IsLonger search.old.map.entries search.new.map.entries) }
+    ensures from { OnOk result
+        (AreFrom search.old.done search.old.map.entries search.new.map.entries) }
     ensures searching { OnOk result (IsSearching M.Key.eq (M.Leads system.new) (M.Like system.new)
         (M.IsKey system.new) (M.start system.new)
         search.new.done search.new.map.entries search.new.edges.items) }
@@ -375,6 +382,10 @@ pub fn explore<M: System>(
     // the nearest first, and no key twice
     ensures sorted { IfOk result (λ f. AreSorted f.map.entries) }
     ensures apart { IfOk result (λ f. AreApart M.Key.eq f.map.entries) }
+    // it expands no state beyond a budget: each that it expanded is nearer than the depth, and
+    // before the last there were fewer than the states
+    ensures near { IfOk result (λ f. AreNear budget.depth f.done f.map.entries) }
+    ensures few { IfOk result (λ f. AreFoundLast budget.states f.done f.map.entries) }
     // a step from a state that was expanded leads to one that is like a visited one
     ensures closed { IfOk result (λ f. IsClosedBelow (M.Leads system.old) (M.Like system.old)
         (M.IsKey system.new) (M.start system.old) f.done f.map.entries) }

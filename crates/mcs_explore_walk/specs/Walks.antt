@@ -92,6 +92,13 @@ last_answer b = answer_of b.lines
     answer_of [] = None
     answer_of (l ∷ ls) = Some l.answer
 
+-- the rule has this turn, where the cores have these picks: it enters this entry of this user
+pub record IsEntrant (users : List User) (g : Going) (picks : List (Option Pick)) (t : Turn) (u : User) (e : Entry) : Type 0 where
+  pub is_user : slice_get users t.pick.user ≡ Some u
+  pub is_entry : slice_get u.entries t.pick.number ≡ Some e
+  pub picked : IsPicked g picks t.core t.pick
+  pub enters : may_enter (log_of g.book) t.core u.thread ≡ true
+
 -- the rule has no such turn
 abbrev pub HasNoTurn : List User → Going → CoreId → Pick → Type 0
 HasNoTurn users g core k = (h : Going) → IsTurn users core k g h → ⊥

@@ -7,8 +7,8 @@ ghost use Rattle.mcs_book.specs.Statuses.{is_ready, may_enter, status_of};
 ghost use Rattle.mcs_book.specs.Threads.{prio_of};
 ghost use Rattle.mcs_turns.specs.declared.position.Position.{Position};
 ghost use Rattle.mcs_turns.specs.Due.{begun, none_stale, stale_after};
-ghost use Rattle.mcs_turns.specs.Turns.{IsStale, ArePicks, IsTurn, beginning, behind, entered, put_at};
-ghost use Rattle.mcs_explore_walk.specs.Walks.{AreBestBelow, EntersSomewhere, HasNoTurn, IsBestBelow, IsEntryCore, IsOffer, IsPicked, is_let_in, last_answer, left_stale, picked_of, step_of};
+ghost use Rattle.mcs_turns.specs.Turns.{Going, IsStale, ArePicks, IsOver, IsTurn, Follows, beginning, behind, entered, put_at};
+ghost use Rattle.mcs_explore_walk.specs.Walks.{AreBestBelow, EntersSomewhere, HasEachTurn, HasNoTurn, IsBestBelow, IsEntrant, IsEntryCore, IsOffer, IsPicked, is_let_in, last_answer, left_stale, picked_of, step_of};
 
 use crate::copies::{copy_all, push};
 use crate::fault::{OrdersFault, limit_of};
@@ -410,6 +410,46 @@ impl<L: Lines> Walk<L> {
         }
     }
 
+    /// Returns the user and the entry of a turn, where the cores have these picks; None where the
+    /// rule has no such turn.
+    fn entrant<'u>(
+        &self,
+        users: &'u Users,
+        picks: &[Option<Pick>],
+        turn: Turn,
+    ) -> Option<(&'u UserList, &'u Entry)>
+        requires { ArePicks users.now self.now picks.now }
+        ensures some { IfSome result (λ e.
+            IsEntrant users.now self.now picks.now turn e.0.now e.1.now) }
+        ensures none { IfNone result (HasNoTurn users.now self.now turn.core turn.pick) }
+    {
+        users.are_apart();
+        let list = users.at(turn.pick.user)?;
+        let entry = list.at(turn.pick.number)?;
+        if !self.may_take(picks, turn) {
+            return None;
+        }
+        if !may_enter(&self.kernel, turn.core, list.thread) {
+            return None;
+        }
+        Some((list, entry))
+    }
+
+    /// Returns whether no turn is possible, where the cores have these picks and so these turns.
+    pub fn is_over(&self, users: &Users, picks: &[Option<Pick>], turns: &[Turn]) -> bool
+        requires picks { ArePicks users.now self.now picks.now }
+        requires turns { HasEachTurn users.now self.now turns.now }
+        ensures over { result ≡ true → IsOver users.now self.now }
+        ensures goes_on { result ≡ false → (h : Going) × Follows users.now self.now h }
+    {
+        for index in 0..turns.len() {
+            if self.entrant(users, picks, turns[index]).is_some() {
+                return false;
+            }
+        }
+        true
+    }
+
     /// Makes a turn, where the cores have these picks, and gives what it was answered; None where
     /// the rule has no such turn. Then, and after an error, nothing has changed. BookFull where the
     /// book has 1,000,000 lines, OutOfMemory where memory was refused.
@@ -429,19 +469,9 @@ impl<L: Lines> Walk<L> {
         ensures none { IfOk result (λ o. IfNone o (self.new ≡ self.old)) }
         ensures err { OnErr result (self.new ≡ self.old) }
     {
-        users.are_apart();
-        let Some(list) = users.at(turn.pick.user) else {
+        let Some((list, entry)) = self.entrant(users, picks, turn) else {
             return Ok(None);
         };
-        let Some(entry) = list.at(turn.pick.number) else {
-            return Ok(None);
-        };
-        if !self.may_take(picks, turn) {
-            return Ok(None);
-        }
-        if !may_enter(&self.kernel, turn.core, list.thread) {
-            return Ok(None);
-        }
         let entry = entry.copy(alloc)?;
         let answer = self.enter(alloc, list, entry, picks, turn)?;
         Ok(Some(answer))

@@ -128,9 +128,9 @@ abbrev pub IsRun : List User → Boot → ℕ → Going → Type 0
 IsRun users boot zero g = g ≡ beginning users boot
 IsRun users boot (suc n) h = (g : Going) × (IsRun users boot n g × Follows users g h)
 
--- no core has a pick
+-- no turn is possible
 abbrev pub IsOver : List User → Going → Type 0
-IsOver users g = (core : CoreId) → core.0 < g.book.boot.cores → IsPickOf users g core None
+IsOver users g = (h : Going) → Follows users g h → ⊥
 
 -- the numbers of all entries are in their ranges
 abbrev pub AreInRange : List User → Type 0

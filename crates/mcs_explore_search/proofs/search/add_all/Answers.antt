@@ -5,6 +5,7 @@ use Rattle.mcs_explore_search.specs.Keeping.{IsAmid}
 use Rattle.mcs_explore_search.proofs.Places.{nth-next}
 use Rattle.mcs_explore_search.proofs.Searching.{amid, looked}
 use Rattle.mcs_explore_search.proofs.Seeing.{longer-on, not-longer}
+use Rattle.mcs_explore_search.proofs.Budgets.{from-none, from-on}
 use Rattle.mcs_explore_search.proofs.search.add_all.Goals as goal
 
 nothing-left : {X : Type 0} (l : List X) → length l ≡ 0 → l ≡ []
@@ -26,6 +27,7 @@ loop-label-init g c = record {
     linked = λ i l x below. absurd (omega (arith, below));
   };
   longer = not-longer c.args.map.now.entries;
+  from = from-none c.args.place c.args.map.now.entries;
   count = search rules;
   list = c.into_iter-label-iterator.ensures.into_iter_gives.0;
 }
@@ -42,6 +44,7 @@ loop-label-preserved g c =
           (amid g.M.Key.PartialEq.eq g.met.M.Key.Eq.laws (g.M.System.Leads m) (g.M.System.Like m) (g.M.System.IsKey m) (g.M.System.start m) c.args.place at.map.entries c.add.new.map.entries key f _ v c.args.nexts.items (length at.yielded) l k
           c.args.edges.now.items at.edges.items c.push_edge.new.edges.items c.in_ok-to.to are
           (nth-next at.yielded (l, k) _ _ list) (c.in_ok-found.ensures.depth ∙ ap (λ n. n + 1) deep) c.in_ok-found.ensures.parent c.in_ok-found.ensures.label (at.invariant.goes m visits key f v search edges is there deep are) c.in_ok-to.ensures.adds c.in_ok-to.ensures.place c.in_ok-push_edge.ensures);
+      from = from-on g.M.Key.PartialEq.eq c.args.place c.args.map.now.entries at.map.entries c.add.new.map.entries k _ at.invariant.from at.invariant.longer c.in_ok-found.ensures.parent c.in_ok-to.ensures.adds;
       longer = longer-on g.M.Key.PartialEq.eq c.args.map.now.entries at.map.entries c.add.new.map.entries _ _ at.invariant.longer c.in_ok-to.ensures.adds;
       count = let was = at.invariant.count in let gone = c.in-Some.ensures.steps.1 in let short = ap length steps in omega (arith, was, gone, short);
       list = append_assoc at.yielded ((l, k) ∷ []) _ ∙ list;

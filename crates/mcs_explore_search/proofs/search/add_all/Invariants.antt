@@ -2,7 +2,7 @@ use Rattle.std.specs.Prelude.{◌≡◌, ◌++◌, List, length, slice_get, Some
 use Rattle.mcs_explore_search.specs.declared.search.Found.{Found}
 use Rattle.mcs_explore_search.specs.Closure.{Visit}
 use Rattle.mcs_explore_search.specs.Search.{At, AreEdges, AreNexts}
-use Rattle.mcs_explore_search.specs.Keeping.{IsAmid, IsLonger, IsSearch}
+use Rattle.mcs_explore_search.specs.Keeping.{AreFrom, IsAmid, IsLonger, IsSearch}
 use Rattle.mcs_explore_search.proofs.search.add_all.Given as goal
 
 abbrev pub invariant-loop-label : goal.invariant-loop-label
@@ -13,6 +13,7 @@ invariant-loop-label g l = record {
       → l.fn.depth ≡ f.depth → AreNexts (g.M.System.Leads m) (g.M.System.IsKey m) v.state l.fn.nexts.items
       → IsAmid g.M.Key.PartialEq.eq (g.M.System.Leads m) (g.M.System.Like m) (g.M.System.IsKey m) (g.M.System.start m) l.fn.place l.map.entries k f v l.fn.nexts.items (length l.yielded) l.fn.edges.items l.edges.items;
   longer : IsLonger l.fn.map.entries l.map.entries;
+  from : AreFrom l.fn.place l.fn.map.entries l.map.entries;
   count : l.label-iterator.rest.len ≡ length l.label-iterator.rest.items;
   list : l.yielded ++ l.label-iterator.rest.items ≡ l.fn.nexts.items;
 }

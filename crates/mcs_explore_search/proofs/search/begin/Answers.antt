@@ -1,6 +1,10 @@
 use Rattle.std.proofs.Common.{refl}
 use Rattle.mcs_explore_search.proofs.Searching.{begun}
+use Rattle.mcs_explore_search.proofs.Budgets.{one-first}
 use Rattle.mcs_explore_search.proofs.search.begin.Goals as goal
+
+pub returns-clause-one : goal.returns-clause-one
+returns-clause-one g c = one-first g.M.Key.PartialEq.eq c.new-map.result.entries c.add.new.map.entries c.in_ok-key.key _ c.new-map.ensures.empty c.in_ok-add.ensures.adds
 
 pub returns-clause-searching : goal.returns-clause-searching
 returns-clause-searching g c =

@@ -1,12 +1,27 @@
-use Rattle.std.proofs.Common.{sym}
+use Rattle.std.proofs.Common.{subst, sym}
+use Rattle.mcs_explore_search.specs.Search.{paths_below}
 use Rattle.mcs_explore_search.proofs.Ending.{search-again, reached, closed-below, graph, whole, least, all-found}
+use Rattle.mcs_explore_search.proofs.Budgets.{near-first, few-first, near-on, few-on}
 use Rattle.mcs_explore_search.proofs.search.explore.Goals as goal
+
+pub loop-alloc-init : goal.loop-alloc-init
+loop-alloc-init g c = record {
+  later = c.begin.ensures.later;
+  near = near-first c.args.budget.depth c.in_ok-search.search.done c.in_ok-search.search.map.entries c.in_ok-search.ensures.begun;
+  few = few-first c.args.budget.states c.in_ok-search.search.done c.in_ok-search.search.map.entries c.in_ok-search.ensures.one;
+  seen = λ begun. subst (λ n. g.M.System.HasSeen c.begin.new.system (paths_below c.in_ok-search.search.map.entries n)) (sym c.in_ok-search.ensures.begun) (c.in_ok-search.ensures.seen begun);
+  searching = c.in_ok-search.ensures.searching;
+}
 
 pub loop-alloc-preserved : goal.loop-alloc-preserved
 loop-alloc-preserved g c = record {
   later = g.met.M.System.further c.args.system.now c.loop-alloc.system c.look_behind.new.system c.loop-alloc.invariant.later c.look_behind.ensures.later;
   seen = λ begun. c.in_ok-look_behind.ensures.seen (c.loop-alloc.invariant.seen begun);
   searching = c.in_ok-look_behind.ensures.searching;
+  near = near-on c.args.budget.depth c.loop-alloc.search.done c.look_behind.new.search.done c.loop-alloc.search.map.entries c.look_behind.new.search.map.entries c.in_ok-look_behind.ensures.done
+      (c.goes_on.ensures.more c.loop-alloc-test.true) (c.goes_on.ensures.depth c.loop-alloc-test.true) c.in_ok-look_behind.ensures.longer c.loop-alloc.invariant.near;
+  few = few-on c.args.budget.states c.loop-alloc.search.done c.look_behind.new.search.done c.loop-alloc.search.map.entries c.look_behind.new.search.map.entries c.in_ok-look_behind.ensures.done
+      (c.goes_on.ensures.states c.loop-alloc-test.true) c.in_ok-look_behind.ensures.from;
 }
 
 pub returns-in_err-look_behind-clause-later : goal.returns-in_err-look_behind-clause-later
