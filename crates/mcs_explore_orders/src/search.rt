@@ -5,7 +5,7 @@ ghost use Rattle.mcs_turns.specs.Turns.{Going, AreInRange, beginning};
 ghost use Rattle.mcs_explore_equivalence.specs.Runs.{IsReached};
 ghost use Rattle.mcs_explore_search.specs.Paths.{Path};
 ghost use Rattle.mcs_explore_search.specs.Reaching.{AreWithin};
-ghost use Rattle.mcs_explore_search.specs.Search.{AreSorted, IsSpent, depth_at, path_of, paths_below};
+ghost use Rattle.mcs_explore_search.specs.Search.{AreSorted, IsSpent, depth_at, label_at, path_of, paths_below};
 ghost use Rattle.mcs_explore_orders.specs.Seen.{AreAllSeen, AreFoundRuns, IsGraphOfRuns};
 ghost use Rattle.mcs_explore_orders.specs.Shown.{HasCounted, HasSeenAll, nothing};
 ghost use Rattle.mcs_explore_orders.specs.Trails.{Leads};
@@ -128,6 +128,17 @@ impl<'a, W: Watch> Orders<'a, W> {
             → (place : ℕ) → depth_at self.now.search.map.entries place ≤ result }
     {
         self.depth(self.states().saturating_sub(1))
+    }
+
+    /// Returns the last turn by which the state in a place was found; None where there is no such
+    /// place. That of the start, in place 0, says nothing.
+    pub fn last_turn(&self, place: usize) -> Option<Turn>
+        ensures { result ≡ label_at self.now.search.map.entries place }
+    {
+        match self.search.label(place) {
+            Some(turn) => Some(turn.turn()),
+            None => None,
+        }
     }
 
     /// The turns by which the state in a place was found, the first one first.

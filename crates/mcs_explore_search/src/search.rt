@@ -192,6 +192,13 @@ impl<K: Eq + Hash + Drop, L: Copy + Drop> Search<K, L> {
         }
     }
 
+    /// Returns the label by which the state in a place was found; None where there is no such place.
+    pub fn label(&self, place: usize) -> Option<L>
+        ensures { result ≡ label_at self.now.map.entries place }
+    {
+        self.back(place).0
+    }
+
     /// The label by which the state in a place was found, and the place of its parent.
     fn back(&self, place: usize) -> (Option<L>, usize)
         ensures label { result.0 ≡ label_at self.now.map.entries place }

@@ -6,5 +6,5 @@ pub mod Naming
 pub mod Starting
 pub mod Tables
 pub mod Unnamed
-pub mod Layouts
 pub mod Holding
+pub mod SpaceLayouts

@@ -3,7 +3,7 @@ pub mod Cuts
 pub mod Entries
 pub mod Spelled
 pub mod SlotNames
-pub mod Words
+pub mod PlanWords
 pub mod Places
 pub mod Refusing
 pub mod Turns

@@ -9,8 +9,8 @@ pub mod Objects
 pub mod Order
 pub mod Refusals
 pub mod Saying
+pub mod SlotRefusals
 pub mod Slots
-pub mod Telling
 pub mod ThreadLines
 pub mod Threads
 pub mod Words

@@ -16,7 +16,7 @@ fn is_badged(kind: Kind) -> bool
 }
 
 /// A text in front of the first such mark, and what stands behind it.
-#[tactic(auto, using(crate::proofs::Words::no_rest, crate::proofs::Words::one_rest))]
+#[tactic(auto, using(crate::proofs::PlanWords::no_rest, crate::proofs::PlanWords::one_rest))]
 fn cut<'a>(text: &'a str, mark: char) -> (&'a str, Option<&'a str>)
     requires { mark < 128 }
     ensures front { result.0.now ≡ front_of mark text.now }

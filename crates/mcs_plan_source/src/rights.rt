@@ -18,7 +18,7 @@ fn bit_of(letter: u8) -> u8
 }
 
 /// Rights with those of a letter. None where it is no letter of rights, or was there.
-#[tactic(auto, using(crate::proofs::Words::few_bits))]
+#[tactic(auto, using(crate::proofs::PlanWords::few_bits))]
 fn with_letter(bits: u8, letter: u8) -> Option<u8>
     requires { bits < 16 }
     ensures value { result ≡ with_letter bits letter }
@@ -32,7 +32,7 @@ fn with_letter(bits: u8, letter: u8) -> Option<u8>
 }
 
 /// The rights of letters, each of them once.
-#[tactic(auto, using(crate::proofs::Words::next_letter))]
+#[tactic(auto, using(crate::proofs::PlanWords::next_letter))]
 fn bits_of(letters: &[u8]) -> Option<u8>
     ensures value { result ≡ bits_after 0 letters.now }
     ensures few { IfSome result (λ b. b < 16) }
