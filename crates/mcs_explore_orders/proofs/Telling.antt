@@ -1,15 +1,15 @@
 -- What was reported of states and turns.
-use Rattle.std.specs.Prelude.{ℕ, zero, suc, ◌≡◌, ◌≤◌, ◌<◌, ◌+◌, ◌++◌, ◌⊎◌, ◌↔◌, ◌-◌, ◌^◌, take, min, Bool, true, List, [], ◌∷◌, Option, Some, None, Result, Ok, Err, is_none, length, slice_get}
+use Rattle.std.specs.Prelude.{ℕ, zero, suc, ◌≡◌, ◌≤◌, ◌<◌, ◌+◌, ◌++◌, ◌⊎◌, ◌↔◌, ◌-◌, ◌^◌, take, min, Bool, true, false, List, [], ◌∷◌, Option, Some, None, Result, Ok, Err, length, slice_get}
 use Rattle.std.specs.Result.{OnOk}
 use Rattle.std.specs.Int.{from_bool}
-use Rattle.std.specs.List.{Contains, list_all}
+use Rattle.std.specs.List.{Contains}
 use Rattle.std.proofs.Common.{refl, sym, ap, ◌∙◌, subst, arith, inl, inr, append_assoc, append-nil}
 use Rattle.std.proofs.lemmas.List.Elements.{Contains-append_cases}
 use Rattle.mcs_types.specs.declared.id.CoreId.{CoreId}
 use Rattle.mcs_types.specs.declared.entry.Answer.{Answer}
 use Rattle.mcs_book.specs.Boots.{Boot}
 use Rattle.mcs_turns.specs.declared.position.Pick.{Pick}
-use Rattle.mcs_turns.specs.Turns.{User, Going, AreApart, ArePicks, IsBest, IsOver, beginning}
+use Rattle.mcs_turns.specs.Turns.{User, Going, AreApart, Follows, IsOver, beginning}
 use Rattle.mcs_turns.proofs.OneTurn.{one-turn}
 use Rattle.mcs_explore_search.specs.Paths.{Path}
 use Rattle.mcs_explore_search.proofs.Places.{at-last, at-old, at-split, one-longer, within-at}
@@ -22,43 +22,10 @@ use Rattle.mcs_explore_orders.specs.Shown.{AreShown, AreToldOf, Counting, HasCou
 use Rattle.mcs_explore_orders.proofs.Nexts.{single}
 use Rattle.mcs_explore_orders.proofs.Paths.{path-one, take-on}
 
--- no pick of all cores
-all-none : (ks : List (Option Pick)) → ((i : ℕ) (k : Option Pick) → slice_get ks i ≡ Some k → k ≡ None) → list_all is_none ks ≡ true
-all-none [] none = refl
-all-none (Some k ∷ ks) none = let no = none zero (Some k) refl in absurd cc
-all-none (None ∷ ks) none = all-none ks (λ i k at. none (suc i) k at)
-
-none-of : (ks : List (Option Pick)) → list_all is_none ks ≡ true → (i : ℕ) (k : Option Pick) → slice_get ks i ≡ Some k → k ≡ None
-none-of [] all i k at = absurd cc
-none-of (Some j ∷ ks) all i k at = absurd cc
-none-of (None ∷ ks) all zero k at = cc
-none-of (None ∷ ks) all (suc i) k at = none-of ks all i k at
-
-pub over-is : (users : List User) (g : Going) (picks : List (Option Pick)) → ArePicks users g picks → (list_all is_none picks ≡ true) ↔ IsOver users g
-over-is users g picks are = (forth, back)
-  where
-    forth : list_all is_none picks ≡ true → IsOver users g
-    forth all core lt =
-        let e = within-at picks core.0 (let cores = are.cores in omega (arith, cores, lt)) in
-        are.each core None (e.1 ∙ ap (λ k. Some k) (none-of picks all core.0 e.0 e.1))
-
-    back : IsOver users g → list_all is_none picks ≡ true
-    back over = all-none picks (λ i k at. go i k at)
-      where
-        go : (i : ℕ) (k : Option Pick) → slice_get picks i ≡ Some k → k ≡ None
-        go i None at = refl
-        go i (Some k) at =
-            let core : CoreId = record { 0 = i } in
-            let best : IsBest users g core k = are.each core (Some k) at in
-            absurd (over core (let cores = are.cores in let below = at-below i (Some k) at in omega (arith, cores, below)) k.user best.user best.place best.can)
-          where
-            at-below : (i : ℕ) (k : Option Pick) → slice_get picks i ≡ Some k → i < length picks
-            at-below i k at = within picks i k at
-              where
-                within : (ks : List (Option Pick)) (i : ℕ) (k : Option Pick) → slice_get ks i ≡ Some k → i < length ks
-                within [] i k at = absurd cc
-                within (j ∷ ks) zero k at = omega arith
-                within (j ∷ ks) (suc i) k at = let below = within ks i k at in omega (arith, below)
+-- what is said of a state: it is over, or a turn is possible
+pub over-is : (users : List User) (g : Going) (over : Bool) → (over ≡ true → IsOver users g) → (over ≡ false → (h : Going) × Follows users g h) → (over ≡ true) ↔ IsOver users g
+over-is users g true yes no = (yes, λ over. refl)
+over-is users g false yes no = (yes, λ over. let f = no refl in absurd (over f.0 f.1))
 
 -- places in two lists, one behind the other
 at-both : {A : Type 0} (xs ys : List A) (j : ℕ) (m : A) → slice_get (xs ++ ys) j ≡ Some m → (slice_get xs j ≡ Some m) ⊎ ((k : ℕ) × (slice_get ys k ≡ Some m))
@@ -331,14 +298,10 @@ pub none-counted : {W : Type 0} (Has : W → List User → Shown → Type 0) (w 
 none-counted Has w users has = record { has = has; counted = record { turns = refl; ends = refl } }
 
 -- a state that was reported, and a turn
-pub state-told : {W E : Type 0} (r : Result (Unit {0}) E) (Has : W → List User → Shown → Type 0) (a b : W) (users : List User) (place : ℕ) (g : Going) (picks : List (Option Pick)) (over : Bool)
-    → ArePicks users g picks → over ≡ list_all is_none picks → OnOk r (SeesState Has a b users place g over) → OnOk r (IsToldState Has a b users place g)
-state-told (Ok x) Has a b users place g picks over are is sees = record {
-  is_over = over;
-  over = subst (λ o. (o ≡ true) ↔ IsOver users g) (sym is) (over-is users g picks are);
-  sees = sees;
-}
-state-told (Err e) Has a b users place g picks over are is sees = sees
+pub state-told : {W E : Type 0} (r : Result (Unit {0}) E) (Has : W → List User → Shown → Type 0) (a b : W) (users : List User) (place : ℕ) (g : Going) (over : Bool)
+    → (over ≡ true → IsOver users g) → (over ≡ false → (h : Going) × Follows users g h) → OnOk r (SeesState Has a b users place g over) → OnOk r (IsToldState Has a b users place g)
+state-told (Ok x) Has a b users place g over yes no sees = record { is_over = over; over = over-is users g over yes no; sees = sees }
+state-told (Err e) Has a b users place g over yes no sees = sees
 
 pub turn-told : {W : Type 0} (Has : W → List User → Shown → Type 0) (a b : W) (users : List User) (place : ℕ) (t : Turn) (g h : Going) (answer : Answer)
     → Leads users t g h → last_answer h.book ≡ Some answer → SeesTurn Has a b users place t answer h → IsToldTurn Has a b users place t g

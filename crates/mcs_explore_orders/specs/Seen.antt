@@ -1,7 +1,7 @@
 -- What a search has seen of a run (own).
-use Rattle.std.specs.Prelude.{ℕ, ◌≡◌, ◌≤◌, ◌<◌, Bool, List, Some, length, slice_get}
-use Rattle.mcs_book.specs.Boots.{Boot}
-use Rattle.mcs_turns.specs.Turns.{User, Going, Follows, IsRun, beginning}
+use Rattle.std.specs.Prelude.{ℕ, ◌≡◌, ◌≤◌, ◌<◌, Bool, true, List, Some, length, slice_get}
+use Rattle.mcs_book.specs.Boots.{Boot, IsFaultless}
+use Rattle.mcs_turns.specs.Turns.{User, Going, AreInRange, Follows, IsRun, beginning}
 use Rattle.mcs_explore_search.specs.declared.search.Edge.{Edge}
 use Rattle.mcs_explore_search.specs.Paths.{Path, Run}
 use Rattle.mcs_explore_search.specs.Reaching.{IsLink}
@@ -15,6 +15,14 @@ use Rattle.mcs_explore_orders.specs.Trails.{Leads}
 pub record IsFoundRun {K : Type 0} (users : List User) (boot : Boot) (found : Entries K Turn) (place : ℕ) (g : Going) : Type 0 where
   pub run : IsRun users boot (depth_at found place) g
   pub path : Path (Leads users) (beginning users boot) (path_of found place) g
+
+-- a search that tells states apart by exact keys has expanded all that it found, of users whose
+-- entries are in their ranges after a boot without fault
+pub record IsAllExpanded {K : Type 0} (is_exact : Bool) (users : List User) (boot : Boot) (done : ℕ) (found : Entries K Turn) : Type 0 where
+  pub exact : is_exact ≡ true
+  pub boot : IsFaultless boot
+  pub in_range : AreInRange users
+  pub all : length found ≤ done
 
 -- each state that was found is so
 abbrev pub AreFoundRuns : {K : Type 0} → List User → Boot → Entries K Turn → Type 0

@@ -1,8 +1,8 @@
 //! The turns of users after a boot as a system of points, each of which has a key.
-ghost use Rattle.std.specs.Prelude.{◌≡◌, ◌++◌, ◌∷◌, [], IfOk, OnOk, IfSome, IfNone, List, is_none};
-ghost use Rattle.std.specs.List.{list_all};
+ghost use Rattle.std.specs.Prelude.{◌≡◌, ◌++◌, ◌∷◌, [], IfOk, OnOk, IfSome, IfNone, List};
 ghost use Rattle.mcs_turns.specs.Turns.{User, Going, ArePicks, beginning};
 ghost use Rattle.mcs_explore_walk.specs.declared.walk.Turn.{Turn};
+ghost use Rattle.mcs_explore_walk.specs.Walks.{HasEachTurn};
 ghost use Rattle.mcs_explore_orders.specs.Trails.{Leads};
 ghost use Rattle.mcs_explore_orders.specs.Exploring.{AreNextsOf, IsKeyIn, numbers_of};
 ghost use Rattle.mcs_explore_orders.specs.Shown.{HasCounted, IsToldState, IsToldTurn, SeesState, SeesTurn, Shown, Tells, TellsOn};
@@ -31,7 +31,7 @@ pub trait Watch: Drop {
 
     ghost aim: { Self → Aim };
 
-    /// The state in this place; it is over where no core has a pick.
+    /// The state in this place, and whether it is over: no turn is possible.
     fn see_state(
         &mut self,
         users: &Users,
@@ -164,20 +164,22 @@ impl<'a, W: Watch> Explorer<'a, W> {
         &self.watch
     }
 
-    /// Tells of the state in a place.
-    fn tell(
+    /// Reports the state in a place, where its cores have these picks and so these turns.
+    fn report(
         &mut self,
         place: usize,
         walk: &Walk<PlainLines>,
         picks: &[Option<Pick>],
+        turns: &[Turn],
     ) -> Result<(), OrdersFault>
-        requires { ArePicks self.old.search.users walk.now picks.now }
+        requires picks { ArePicks self.old.search.users walk.now picks.now }
+        requires turns { HasEachTurn self.old.search.users walk.now turns.now }
         ensures search { self.new.search ≡ self.old.search }
         ensures aim { W.aim self.new.watch ≡ W.aim self.old.watch }
         ensures told { OnOk result (IsToldState (HasCounted W.HasSeen)
             (counting self.old) (counting self.new) self.old.search.users place walk.now) }
     {
-        let is_over = is_over(picks);
+        let is_over = walk.is_over(self.users, picks, turns);
         self.ends = self.ends.saturating_add(usize::from(is_over));
         self.watch.see_state(self.users, place, walk, is_over)
     }
@@ -347,13 +349,6 @@ impl<'a, W: Watch> Explorer<'a, W> {
     }
 }
 
-/// Whether no core has a pick, of all of these.
-fn is_over(picks: &[Option<Pick>]) -> bool
-    ensures { result ≡ list_all is_none picks.now }
-{
-    picks.iter().all(|pick| pick.is_none())
-}
-
 /// Adds a turn and a key to the end.
 fn push(nexts: &mut Vec<(PackedTurn, Key)>, next: (PackedTurn, Key)) -> Result<(), OrdersFault>
     ensures { OnOk result (nexts.new.items ≡ nexts.old.items ++ next ∷ []) }
@@ -410,8 +405,8 @@ impl<'a, W: Watch> System for Explorer<'a, W> {
         self.users.are_apart();
         let walk = self.trail.walk_to(alloc, self.users, path, next)?;
         let picks = walk.picks(alloc, self.users)?;
-        self.tell(place, &walk, &picks)?;
         let turns = walk.turns(alloc, self.users, &picks)?;
+        self.report(place, &walk, &picks, &turns)?;
         let nexts = self.nexts_by(alloc, place, &turns, &picks, walk)?;
         Ok(nexts)
     }

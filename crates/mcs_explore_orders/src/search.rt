@@ -1,12 +1,11 @@
 //! The search, the nearest states first.
-ghost use Rattle.std.specs.Prelude.{ℕ, ◌≡◌, ◌≤◌, ◌-◌, ◌⊎◌, ◌↔◌, true, IsTrue, IfOk, OnOk, length};
-ghost use Rattle.mcs_book.specs.Boots.{IsFaultless};
-ghost use Rattle.mcs_turns.specs.Turns.{Going, AreInRange, beginning};
+ghost use Rattle.std.specs.Prelude.{ℕ, ◌≡◌, ◌≤◌, ◌-◌, ◌⊎◌, ◌↔◌, IsTrue, IfOk, OnOk, length};
+ghost use Rattle.mcs_turns.specs.Turns.{Going, beginning};
 ghost use Rattle.mcs_explore_equivalence.specs.Runs.{IsReached};
 ghost use Rattle.mcs_explore_search.specs.Paths.{Path};
 ghost use Rattle.mcs_explore_search.specs.Reaching.{AreWithin};
-ghost use Rattle.mcs_explore_search.specs.Search.{AreSorted, IsSpent, depth_at, label_at, path_of, paths_below};
-ghost use Rattle.mcs_explore_orders.specs.Seen.{AreAllSeen, AreFoundRuns, IsGraphOfRuns};
+ghost use Rattle.mcs_explore_search.specs.Search.{AreFoundLast, AreNear, AreSorted, IsSpent, depth_at, label_at, path_of, paths_below};
+ghost use Rattle.mcs_explore_orders.specs.Seen.{AreAllSeen, AreFoundRuns, IsAllExpanded, IsGraphOfRuns};
 ghost use Rattle.mcs_explore_orders.specs.Shown.{HasCounted, HasSeenAll, nothing};
 ghost use Rattle.mcs_explore_orders.specs.Trails.{Leads};
 ghost use Rattle.mcs_explore_orders.specs.Watching.{counting};
@@ -170,17 +169,22 @@ pub fn explore<'a, W: Watch>(
     // it ends where all were expanded, or by the budget alone
     ensures budget { IfOk result (λ o. (length o.search.map.entries ≤ o.search.done)
         ⊎ IsSpent budget.states budget.depth o.search.done o.search.map.entries) }
+    // it expands no state beyond a budget
+    ensures near { IfOk result (λ o.
+        AreNear budget.depth o.search.done o.search.map.entries) }
+    ensures few { IfOk result (λ o.
+        AreFoundLast budget.states o.search.done o.search.map.entries) }
     // where keys are exact and all states were expanded, each run ends in a state that no later
     // turn tells apart from one that was found, by no more turns: but for the numbers of messages,
     // where these are not told apart
-    ensures whole { IfOk result (λ o. is_exact ≡ true → IsFaultless boot.now → AreInRange users.now
-        → length o.search.map.entries ≤ o.search.done
+    ensures whole { IfOk result (λ o. IsAllExpanded is_exact users.now boot.now
+        o.search.done o.search.map.entries
         → AreAllSeen numbered users.now boot.now o.search.map.entries) }
     // edges lie between states that were found, and then they are the runs of the users
     ensures within { IfOk result (λ o. AreWithin o.search.edges.items
         (length o.search.map.entries)) }
-    ensures graph { IfOk result (λ o. is_exact ≡ true → IsFaultless boot.now → AreInRange users.now
-        → length o.search.map.entries ≤ o.search.done
+    ensures graph { IfOk result (λ o. IsAllExpanded is_exact users.now boot.now
+        o.search.done o.search.map.entries
         → IsGraphOfRuns numbered users.now boot.now o.search.map.entries o.search.edges.items) }
     // each state that was expanded was shown, and each turn from it, and no other, and these were
     // counted

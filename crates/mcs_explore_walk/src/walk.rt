@@ -424,8 +424,12 @@ impl<L: Lines> Walk<L> {
         ensures none { IfNone result (HasNoTurn users.now self.now turn.core turn.pick) }
     {
         users.are_apart();
-        let list = users.at(turn.pick.user)?;
-        let entry = list.at(turn.pick.number)?;
+        let Some(list) = users.at(turn.pick.user) else {
+            return None;
+        };
+        let Some(entry) = list.at(turn.pick.number) else {
+            return None;
+        };
         if !self.may_take(picks, turn) {
             return None;
         }
@@ -433,6 +437,16 @@ impl<L: Lines> Walk<L> {
             return None;
         }
         Some((list, entry))
+    }
+
+    /// Returns whether the rule has a turn, where the cores have these picks.
+    fn has_turn(&self, users: &Users, picks: &[Option<Pick>], turn: Turn) -> bool
+        requires { ArePicks users.now self.now picks.now }
+        ensures yes { result ≡ true → (h : Going)
+            × IsTurn users.now turn.core turn.pick self.now h }
+        ensures no { result ≡ false → HasNoTurn users.now self.now turn.core turn.pick }
+    {
+        self.entrant(users, picks, turn).is_some()
     }
 
     /// Returns whether no turn is possible, where the cores have these picks and so these turns.
@@ -443,7 +457,7 @@ impl<L: Lines> Walk<L> {
         ensures goes_on { result ≡ false → (h : Going) × Follows users.now self.now h }
     {
         for index in 0..turns.len() {
-            if self.entrant(users, picks, turns[index]).is_some() {
+            if self.has_turn(users, picks, turns[index]) {
                 return false;
             }
         }

@@ -3,13 +3,12 @@ use Rattle.std.specs.Int.{from_bool}
 use Rattle.std.proofs.Common.{arith, refl}
 use Rattle.mcs_explore_orders.specs.Shown.{HasCounted}
 use Rattle.mcs_explore_orders.proofs.Telling.{state-counted, state-told}
-use Rattle.mcs_explore_orders.proofs.explorer.Explorer.tell.Goals as goal
+use Rattle.mcs_explore_orders.proofs.explorer.Explorer.report.Goals as goal
 
 pub returns-clause-told : goal.returns-clause-told
 returns-clause-told g c =
-    let are = rw (← c.self.view_is) at c.requires in
     let sum = c.saturating_add-self-inside.ensures in
     let one = c.from.ensures in
     let ends : c.saturating_add-self-inside.result ≡ min (c.self.inside.ends + from_bool c.is_over-is_over.result) (2 ^ 64 - 1) = omega (arith, sum, one) in
-    rw (← c.self.view_is) (state-told c.see_state.result (HasCounted g.W.Watch.HasSeen) _ _ _ _ c.args.walk.now c.args.picks.now c.is_over-is_over.result are c.is_over-is_over.ensures
+    rw (← c.self.view_is) (state-told c.see_state.result (HasCounted g.W.Watch.HasSeen) _ _ _ _ c.args.walk.now c.is_over-is_over.result c.is_over-is_over.ensures.over c.is_over-is_over.ensures.goes_on
     (state-counted c.see_state.result g.W.Watch.HasSeen _ _ _ _ _ c.is_over-is_over.result refl ends c.see_state.ensures.sees))
