@@ -1,5 +1,5 @@
 -- The turns of all cores: each that the rule has is among them, and each is one of a pick.
-use Rattle.std.specs.Prelude.{ℕ, zero, suc, Bool, true, false, not, cond, ◌≡◌, ◌<◌, ◌++◌, ◌||◌, ◌⊎◌, length, List, [], ◌∷◌, Option, Some, None, slice_get, unwrap_or}
+use Rattle.std.specs.Prelude.{ℕ, zero, suc, Bool, true, false, not, cond, ◌≡◌, ◌≤◌, ◌<◌, ◌+◌, ◌++◌, ◌||◌, ◌⊎◌, length, List, [], ◌∷◌, Option, Some, None, slice_get, slice_index_or, unwrap_or}
 use Rattle.std.specs.List.{Contains, list_any}
 use Rattle.std.proofs.Common.{refl, ap, sym, ◌∙◌, subst, arith, inl, inr}
 use Rattle.std.proofs.lemmas.List.Elements.{Contains-append_left, Contains-append_right, Contains-append_cases}
@@ -14,7 +14,7 @@ use Rattle.mcs_book.specs.Statuses.{may_enter}
 use Rattle.mcs_book.proofs.Books.KnownCores.{legal-cores}
 use Rattle.mcs_turns.specs.declared.position.Pick.{Pick}
 use Rattle.mcs_turns.specs.Due.{is_same}
-use Rattle.mcs_turns.specs.Turns.{User, Going, AreApart, ArePicks, IsStale, IsTurn, outcome}
+use Rattle.mcs_turns.specs.Turns.{User, Going, AreApart, ArePicks, Follows, IsOver, IsStale, IsTurn, outcome}
 use Rattle.mcs_turns.proofs.OneTurn.{one-at, one-picks}
 use Rattle.mcs_explore_walk.specs.declared.walk.Turn.{Turn}
 use Rattle.mcs_explore_walk.specs.Walks.{IsPicked, HasEachTurn, ArePicked, HasNoTurn, is_other, picked_of, stale_turns, turn_now, turn_of, turns_below, turns_of, turns_on}
@@ -189,3 +189,39 @@ none-stale g core k none s = let wrong : None ≡ Some s.picks = sym none ∙ s.
 -- an entry that a list has is within it
 pub within-list : (u : User) (k : Pick) (e : Entry) → slice_get u.entries k.number ≡ Some e → k.number < length u.entries
 within-list u k e at = slice_get_within u.entries k.number e at
+
+-- what is in a place that a list has
+pub or-at : {A : Type 0} (xs : List A) (n : ℕ) (d : A) → n < length xs → slice_get xs n ≡ Some (slice_index_or xs n d)
+or-at [] n d lt = absurd (omega (arith, lt))
+or-at (x ∷ xs) zero d lt = refl
+or-at (x ∷ xs) (suc n) d lt = or-at xs n d (omega (arith, lt))
+
+-- the place of a turn that is among these
+index-of : (ts : List Turn) (t : Turn) → Contains ts t → (i : ℕ) × (slice_get ts i ≡ Some t)
+index-of [] t c = absurd (none-in t c)
+index-of (u ∷ us) t c = go (index-of us t) (split-in u us t c)
+  where
+    go : (Contains us t → (i : ℕ) × (slice_get us i ≡ Some t)) → (u ≡ t) ⊎ Contains us t → (i : ℕ) × (slice_get (u ∷ us) i ≡ Some t)
+    go rest (inl e) = (zero, ap (λ (v : Turn). Some v) e)
+    go rest (inr d) = let r = rest d in (suc r.0, r.1)
+
+-- the rule has none of the first n turns
+abbrev pub HasNoneBelow : List User → Going → List Turn → ℕ → Type 0
+HasNoneBelow users g ts n = (i : ℕ) (t : Turn) → i < n → slice_get ts i ≡ Some t → HasNoTurn users g t.core t.pick
+
+pub none-first : (users : List User) (g : Going) (ts : List Turn) → HasNoneBelow users g ts 0
+none-first users g ts i t lt = absurd (omega (arith, lt))
+
+pub none-next : (users : List User) (g : Going) (ts : List Turn) (n : ℕ) (t : Turn) → slice_get ts n ≡ Some t → HasNoTurn users g t.core t.pick → HasNoneBelow users g ts n → HasNoneBelow users g ts (n + 1)
+none-next users g ts n t at none before i u lt h = go (nat_split i n (omega (arith, lt)))
+  where
+    go : (i < n) ⊎ (i ≡ n) → HasNoTurn users g u.core u.pick
+    go (inl below) = before i u below h
+    go (inr e) = let same : t ≡ u = one-at ts n t u at (ap (λ m. slice_get ts m) (sym e) ∙ h) in subst (λ (v : Turn). HasNoTurn users g v.core v.pick) same none
+
+-- where it has none of all, no turn is possible
+pub none-over : (users : List User) (g : Going) (ts : List Turn) (n : ℕ) → HasEachTurn users g ts → length ts ≤ n → HasNoneBelow users g ts n → IsOver users g
+none-over users g ts n each long none = λ h f.
+    let i = index-of ts (turn_of f.core f.pick) (each f.core f.pick h f.turn) in
+    let within = slice_get_within ts i.0 (turn_of f.core f.pick) i.1 in
+    none i.0 (turn_of f.core f.pick) (omega (arith, within, long)) i.1 h f.turn
