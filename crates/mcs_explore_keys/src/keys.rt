@@ -1,15 +1,12 @@
 //! The keys of states: two states with one key have the same future.
 ghost use Rattle.std.specs.Prelude.{◌≡◌, [], true, length, IfOk};
-ghost use Rattle.mcs_explore_keys.specs.Naming.{Keeps};
+ghost use Rattle.mcs_explore_rows.specs.Naming.{Keeps};
 ghost use Rattle.mcs_turns.specs.Turns.{ArePicks};
-ghost use Rattle.mcs_explore_keys.specs.Rows.{IsKey, NameRows};
+ghost use Rattle.mcs_explore_rows.specs.Rows.{IsKey, NameRows};
 
-use crate::coding::{Key, key_of};
-use crate::exact::exact_numbers;
-use crate::met::{Met, Numbers};
 use crate::names::{Counts, Names};
-use crate::numbers::Row;
 use crate::rows::{put_object, put_queue, put_slots, put_stale, put_thread};
+use mcs_explore_rows::{Key, Met, Numbers, Row, exact_numbers, key_of};
 use mcs_explore_walk::{OrdersFault, Users, Walk, picked};
 use mcs_kernel::{Boot, Kernel};
 use mcs_queues::Lines;
@@ -31,7 +28,7 @@ pub struct Keys {
 }
 
 impl Model for Keys {
-    ghost use Rattle.mcs_explore_keys.specs.Naming.{Known};
+    ghost use Rattle.mcs_explore_rows.specs.Naming.{Known};
 
     ghost Value = { Known };
 

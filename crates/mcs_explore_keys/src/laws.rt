@@ -3,8 +3,8 @@ ghost use Rattle.std.specs.Prelude.{ℕ, Bool, List};
 ghost use Rattle.mcs_book.specs.Boots.{Boot, IsFaultless};
 ghost use Rattle.mcs_turns.specs.Turns.{User, Going, AreInRange};
 ghost use Rattle.mcs_explore_equivalence.specs.Runs.{IsReached, AreAlike};
-ghost use Rattle.mcs_explore_keys.specs.Naming.{Keeps};
-ghost use Rattle.mcs_explore_keys.specs.Rows.{HaveSameRows, IsKey};
+ghost use Rattle.mcs_explore_rows.specs.Naming.{Keeps};
+ghost use Rattle.mcs_explore_rows.specs.Rows.{HaveSameRows, IsKey};
 
 /// Two runs (at.3, at.4) of users (at.1) after a boot without fault (at.2) are alike where they
 /// have equal rows, in which the numbers of messages are told apart or not (at.0).

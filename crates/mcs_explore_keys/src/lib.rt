@@ -3,20 +3,16 @@
 //! is tested.
 //!
 //! ```text
-//! a state ── exact ──> all its answers, in rows of numbers ── met ──> its key: their numbers
-//!         ── names, rows ──> what decides its future       ── met ──> its key
+//! a state ── mcs_explore_rows ──> all its answers, in rows ── its exact key
+//!         ── names, rows ──> what decides its future       ── its canonical key
 //! ```
 #![tactic(auto)]
 
-mod coding;
-mod exact;
 mod keys;
 mod laws;
-mod met;
 mod names;
-mod numbers;
 mod rows;
 
-pub use coding::Key;
 pub use keys::Keys;
 pub use laws::{key_decides, key_stays, rows_decide};
+pub use mcs_explore_rows::Key;

@@ -1,7 +1,7 @@
 //! What decides the future of a state, in canonical rows: the numbers of messages are left out, and
 //! objects that were made after the boot have names of their own. That it does is tested.
 use crate::names::Names;
-use crate::numbers::{Row, kind_number, send_number};
+use mcs_explore_rows::{Row, kind_number, send_number};
 use mcs_explore_walk::Walk;
 use mcs_kernel::Kernel;
 use mcs_queues::Lines;

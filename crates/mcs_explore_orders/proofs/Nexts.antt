@@ -10,7 +10,7 @@ use Rattle.mcs_turns.proofs.OneTurn.{one-turn}
 use Rattle.mcs_explore_search.specs.Search.{AreNexts, IsAmong, IsNext}
 use Rattle.mcs_explore_search.proofs.Places.{at-last, at-old, at-split}
 use Rattle.mcs_explore_walk.specs.declared.walk.Turn.{Turn}
-use Rattle.mcs_explore_keys.specs.Rows.{IsKey}
+use Rattle.mcs_explore_rows.specs.Rows.{IsKey}
 use Rattle.mcs_explore_search.specs.Paths.{Path}
 use Rattle.mcs_explore_walk.specs.Walks.{HasEachTurn}
 use Rattle.mcs_explore_orders.specs.Trails.{Leads}

@@ -7,8 +7,8 @@ use Rattle.mcs_turns.specs.Turns.{User, Going, AreInRange}
 use Rattle.mcs_explore_walk.specs.declared.walk.Turn.{Turn}
 use Rattle.mcs_explore_search.specs.Search.{IsAmong, IsNext}
 use Rattle.mcs_explore_equivalence.specs.Runs.{AreAlike}
-use Rattle.mcs_explore_keys.specs.Naming.{Keeps, Known}
-use Rattle.mcs_explore_keys.specs.Rows.{IsKey}
+use Rattle.mcs_explore_rows.specs.Naming.{Keeps, Known}
+use Rattle.mcs_explore_rows.specs.Rows.{IsKey}
 use Rattle.mcs_explore_orders.specs.Trails.{Leads, Points}
 
 -- the users, the boot, the rows that were met, and the points that are kept along a path

@@ -7,9 +7,9 @@ use Rattle.mcs_turns.specs.Turns.{User, Going, AreInRange, IsRun, beginning}
 use Rattle.mcs_explore_search.specs.Paths.{Path}
 use Rattle.mcs_explore_walk.specs.declared.walk.Turn.{Turn}
 use Rattle.mcs_explore_equivalence.specs.Runs.{AreAlike, IsReached}
-use Rattle.mcs_explore_keys.specs.Rows.{IsKey}
-use Rattle.mcs_explore_keys.proofs.Deciding.{rows-alike}
-use Rattle.mcs_explore_keys.proofs.Naming.{key-kept, key-one}
+use Rattle.mcs_explore_rows.specs.Rows.{IsKey}
+use Rattle.mcs_explore_rows.proofs.Deciding.{rows-alike}
+use Rattle.mcs_explore_rows.proofs.Naming.{key-kept, key-one}
 use Rattle.mcs_explore_orders.specs.Trails.{Leads}
 use Rattle.mcs_explore_orders.specs.Exploring.{Exploring, IsKeyIn, IsLater, IsTold, LooksLike}
 use Rattle.mcs_explore_orders.specs.Watching.{GoesOn, Watching}

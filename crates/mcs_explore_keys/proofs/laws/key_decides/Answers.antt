@@ -1,5 +1,5 @@
-use Rattle.mcs_explore_keys.proofs.Deciding.{rows-alike}
-use Rattle.mcs_explore_keys.proofs.Naming.{key-one}
+use Rattle.mcs_explore_rows.proofs.Deciding.{rows-alike}
+use Rattle.mcs_explore_rows.proofs.Naming.{key-one}
 use Rattle.mcs_explore_keys.proofs.laws.key_decides.Goals as goal
 
 pub returns : goal.returns

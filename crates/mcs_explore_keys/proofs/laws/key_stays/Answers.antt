@@ -1,4 +1,4 @@
-use Rattle.mcs_explore_keys.proofs.Naming.{key-kept}
+use Rattle.mcs_explore_rows.proofs.Naming.{key-kept}
 use Rattle.mcs_explore_keys.proofs.laws.key_stays.Goals as goal
 
 pub returns : goal.returns

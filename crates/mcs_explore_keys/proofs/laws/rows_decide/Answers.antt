@@ -1,4 +1,4 @@
-use Rattle.mcs_explore_keys.proofs.Deciding.{rows-alike}
+use Rattle.mcs_explore_rows.proofs.Deciding.{rows-alike}
 use Rattle.mcs_explore_keys.proofs.laws.rows_decide.Goals as goal
 
 pub returns : goal.returns

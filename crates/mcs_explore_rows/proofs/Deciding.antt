@@ -1,0 +1,306 @@
+-- States with equal rows are alike.
+use Rattle.std.specs.Prelude.{ℕ, Bool, true, false, zero, suc, ◌+◌, ◌-◌, ◌≡◌, ◌<◌, ◌≤◌, List, [], ◌∷◌, ◌++◌, Option, Some, None, length, option_map, slice_get}
+use Rattle.std.proofs.Common.{refl, ap, sym, ◌∙◌, subst, arith}
+use Rattle.mcs_types.specs.declared.id.ObjId.{ObjId}
+use Rattle.mcs_types.specs.declared.id.Kind.{Kind}
+use Rattle.mcs_types.specs.declared.id.Kind.TheVariants as kind
+use Rattle.mcs_types.specs.declared.record.Queue.TheVariants.{Senders, Receivers, Waiters}
+use Rattle.mcs_book.specs.Boots.{Boot, IsFaultless}
+use Rattle.mcs_book.specs.Logs.{Log, counted}
+use Rattle.mcs_book.specs.Objects.{is_alive, form_of, makes_kind, was_made}
+use Rattle.mcs_book.specs.Queues.{queued_in}
+use Rattle.mcs_book.specs.Chains.{chain_of}
+use Rattle.mcs_book.specs.Contexts.{holder_of, home_of}
+use Rattle.mcs_book.specs.History.{log_of}
+use Rattle.mcs_book.specs.Lookup.{radix_kept}
+use Rattle.mcs_book.specs.Messages.{next_message, open_of}
+use Rattle.mcs_book.specs.Replies.{owed_by}
+use Rattle.mcs_book.specs.Slots.{slot, count_of}
+use Rattle.mcs_book.specs.Sound.{Sound}
+use Rattle.mcs_book.proofs.Objects.MadeLaws.{made-serial}
+use Rattle.mcs_book.proofs.SoundLogs.SoundBooks.{legal-sound}
+use Rattle.mcs_state.specs.Questions.{word_of}
+use Rattle.mcs_state.specs.Saying.{row_said}
+use Rattle.mcs_state.specs.Tables.{core_said}
+use Rattle.mcs_turns.specs.declared.position.Pick.{Pick}
+use Rattle.mcs_turns.specs.Due.{choices}
+use Rattle.mcs_turns.specs.Turns.{User, Going, ArePicks, AreInRange}
+use Rattle.mcs_turns.proofs.Choices.{length-choices}
+use Rattle.mcs_turns.proofs.RunLaws.{run-legal, run-long}
+use Rattle.mcs_types.specs.declared.record.Letter.{Letter}
+use Rattle.mcs_explore_equivalence.specs.ButNumbers.{unnumbered}
+use Rattle.mcs_explore_equivalence.specs.Answers.{IsMade, AnswerAlike, AnswerButNumbers}
+use Rattle.mcs_explore_equivalence.specs.Likeness.{AlikeBy}
+use Rattle.mcs_explore_equivalence.proofs.Answering.{answers-alike, answers-exact}
+use Rattle.mcs_explore_equivalence.proofs.Asked.{answer-all}
+use Rattle.mcs_explore_equivalence.specs.Runs.{IsReached, AreClose, AreAlike}
+use Rattle.mcs_explore_equivalence.proofs.Alikes.{picks-there}
+use Rattle.mcs_explore_rows.specs.Numbers.{one, option_numbers, list_numbers, below, id_numbers, cap_numbers, row_numbers, letter_numbers}
+use Rattle.mcs_explore_rows.specs.Rows.{sent_kept, object_at, core_numbers, kind_numbers, object_numbers, count_numbers, rows_of_kind, object_rows, position_numbers, pick_numbers, place_numbers, choice_numbers, HaveSameRows, rows_of, slots_numbers}
+use Rattle.mcs_explore_rows.proofs.Telling.{parted, Tells, one-told, flag-told, option-told, list-told, below-told, row-told, id-told, cap-told, thread-told, letter-told}
+
+-- a message as a key has it: without its number, where the numbers of messages are not told apart
+abbrev letter_kept : Bool → Letter → Letter
+letter_kept true s = s
+letter_kept false s = unnumbered s
+
+letters-as : (numbered : Bool) (o : Option Letter) → option_numbers (letter_numbers numbered) o ≡ option_numbers (letter_numbers true) (option_map (letter_kept numbered) o)
+letters-as true None = refl
+letters-as false None = refl
+letters-as true (Some s) = refl
+letters-as false (Some s) = refl
+
+-- whole rows tell what they are of, with nothing behind them
+alone : {A E : Type 0} (f : A → List E) → Tells f → (a b : A) → f a ≡ f b → a ≡ b
+alone f t a b h = (t a b [] [] (ap (λ l. l ++ []) h)).0
+
+-- two that stand one behind the other
+two-told : {A B : Type 0} (f : A → List ℕ) (g : B → List ℕ) → Tells f → Tells g → (a b : A) (c d : B) → f a ++ g c ≡ f b ++ g d → (a ≡ b) × (c ≡ d)
+two-told f g t u a b c d h = let p = t a b (g c) (g d) h in (p.0, alone g u c d p.1)
+
+core-told : Tells core_numbers
+core-told a b x y h = let p = parted _ _ _ _ h in (ap (λ n. record { 0 = n }) p.0, p.1)
+
+position-told : Tells position_numbers
+position-told a b x y h =
+    let nexts = parted _ _ _ _ h in
+    let waits = option-told one one-told a.waited b.waited x y nexts.1 in
+    (ap (λ n. record { next = n; waited = a.waited }) nexts.0 ∙ ap (λ o. record { next = b.next; waited = o }) waits.0, waits.1)
+
+pick-told : Tells pick_numbers
+pick-told a b x y h =
+    let users = parted _ _ _ _ h in
+    let numbers = parted _ _ _ _ users.1 in
+    (ap (λ n. record { user = n; number = a.number }) users.0 ∙ ap (λ n. record { user = b.user; number = n }) numbers.0, numbers.1)
+
+-- lists of one length with equal elements are equal
+same-places : {A : Type 0} (xs ys : List A) → length xs ≡ length ys → ((i : ℕ) → i < length xs → slice_get xs i ≡ slice_get ys i) → xs ≡ ys
+same-places [] [] e h = refl
+same-places [] (y ∷ ys) e h = absurd (omega (arith, e))
+same-places (x ∷ xs) [] e h = absurd (omega (arith, e))
+same-places (x ∷ xs) (y ∷ ys) e h =
+    let first : Some x ≡ Some y = h zero (omega arith) in
+    let is : x ≡ y = cc in
+    let shorter : length xs ≡ length ys = omega (arith, e) in
+    ap (λ z. z ∷ xs) is ∙ ap (λ zs. y ∷ zs) (same-places xs ys shorter (λ i k. h (suc i) (omega (arith, k))))
+
+-- the rows of all objects of a kind tell those of each
+kind-rows : (numbered : Bool) (R S : Log) (k : Kind) → counted (makes_kind k) R ≡ counted (makes_kind k) S → (x y : List (List ℕ)) → rows_of_kind numbered R k ++ x ≡ rows_of_kind numbered S k ++ y
+    → ((i : ℕ) → i < counted (makes_kind k) R → object_numbers numbered R (object_at k i) ≡ object_numbers numbered S (object_at k i)) × (x ≡ y)
+kind-rows numbered R S k e x y h =
+    below-told (λ r. r ∷ []) row-told (λ i. object_numbers numbered R (object_at k i)) (λ i. object_numbers numbered S (object_at k i)) (counted (makes_kind k) R) x y
+    (h ∙ ap (λ n. below (λ i. object_numbers numbered S (object_at k i) ∷ []) n ++ y) (sym e))
+
+-- slots tell each of them
+slots-told : (R S : Log) (c : ObjId) (n : ℕ) → slots_numbers R c n ≡ slots_numbers S c n → (i : ℕ) → i < n → slot R c i ≡ slot S c i
+unfolding slots_numbers
+slots-told R S c n h = (below-told (option_numbers cap_numbers) (option-told cap_numbers cap-told) (slot R c) (slot S c) n [] [] (ap (λ l. l ++ []) h)).0
+
+-- two logs with as many objects, whose rows are equal
+record SameRows (numbered : Bool) (R S : Log) : Type 0 where
+  pub counts : (k : Kind) → counted (makes_kind k) R ≡ counted (makes_kind k) S
+  pub sent : sent_kept numbered R ≡ sent_kept numbered S
+  pub rows : (k : Kind) (i : ℕ) → i < counted (makes_kind k) R → object_numbers numbered R (object_at k i) ≡ object_numbers numbered S (object_at k i)
+
+-- what holds of each kind
+each-kind : (P : Kind → Type 0) → P kind.CNode → P kind.Thread → P kind.Endpoint → P kind.Notification → P kind.Reply → P kind.Context → (k : Kind) → P k
+each-kind P a b c d e f kind.CNode = a
+each-kind P a b c d e f kind.Thread = b
+each-kind P a b c d e f kind.Endpoint = c
+each-kind P a b c d e f kind.Notification = d
+each-kind P a b c d e f kind.Reply = e
+each-kind P a b c d e f kind.Context = f
+
+same-rows : (numbered : Bool) (R S : Log) → count_numbers numbered R ≡ count_numbers numbered S → object_rows numbered R ≡ object_rows numbered S → SameRows numbered R S
+same-rows numbered R S counts rows =
+    let sent = parted _ _ _ _ counts in
+    let cnodes = parted _ _ _ _ sent.1 in
+    let threads = parted _ _ _ _ cnodes.1 in
+    let endpoints = parted _ _ _ _ threads.1 in
+    let notifications = parted _ _ _ _ endpoints.1 in
+    let replies = parted _ _ _ _ notifications.1 in
+    let contexts = parted _ _ _ _ replies.1 in
+    let a = kind-rows numbered R S kind.CNode cnodes.0 _ _ rows in
+    let b = kind-rows numbered R S kind.Thread threads.0 _ _ a.1 in
+    let c = kind-rows numbered R S kind.Endpoint endpoints.0 _ _ b.1 in
+    let d = kind-rows numbered R S kind.Notification notifications.0 _ _ c.1 in
+    let e = kind-rows numbered R S kind.Reply replies.0 _ _ d.1 in
+    let f = kind-rows numbered R S kind.Context contexts.0 [] [] (ap (λ l. l ++ []) e.1) in
+    record {
+      counts = each-kind (λ k. counted (makes_kind k) R ≡ counted (makes_kind k) S) cnodes.0 threads.0 endpoints.0 notifications.0 replies.0 contexts.0;
+      sent = sent.0;
+      rows = each-kind (λ k. (i : ℕ) → i < counted (makes_kind k) R → object_numbers numbered R (object_at k i) ≡ object_numbers numbered S (object_at k i)) a.0 b.0 c.0 d.0 e.0 f.0;
+    }
+
+-- what the row of an object has besides what there is of its kind
+record SameObject (numbered : Bool) (R S : Log) (o : ObjId) : Type 0 where
+  pub there : is_alive R o ≡ is_alive S o
+  pub held : count_of R o ≡ count_of S o
+  pub rest : kind_numbers numbered R o.kind o ≡ kind_numbers numbered S o.kind o
+
+same-object : (numbered : Bool) (R S : Log) → Sound R → SameRows numbered R S → (o : ObjId) → was_made R o ≡ true → SameObject numbered R S o
+same-object numbered R S sound same o made =
+    let at : object_at o.kind (o.serial - 1) ≡ o = ap (λ n. record { kind = o.kind; serial = n }) (back (made-serial R o sound made).0) in
+    let is : object_numbers numbered R o ≡ object_numbers numbered S o = subst (λ x. object_numbers numbered R x ≡ object_numbers numbered S x) at (same.rows o.kind (o.serial - 1) (low (made-serial R o sound made))) in
+    let flags = parted _ _ _ _ is in
+    let counts = parted _ _ _ _ flags.1 in
+    record { there = flag-told (is_alive R o) (is_alive S o) flags.0; held = counts.0; rest = counts.1 }
+  where
+    back : 1 ≤ o.serial → o.serial - 1 + 1 ≡ o.serial
+    back h = omega (arith, h)
+
+    low : (1 ≤ o.serial) × (o.serial ≤ counted (makes_kind o.kind) R) → o.serial - 1 < counted (makes_kind o.kind) R
+    low h = omega (arith, h.0, h.1)
+
+module _ (numbered : Bool) (R S : Log) (sound : Sound R) (same : SameRows numbered R S) where
+  rest : (k : Kind) (o : ObjId) → IsMade R k o → kind_numbers numbered R k o ≡ kind_numbers numbered S k o
+  rest k o is = subst (λ j. kind_numbers numbered R j o ≡ kind_numbers numbered S j o) is.0 (same-object numbered R S sound same o is.1).rest
+
+  thread : (t : ObjId) → IsMade R kind.Thread t → (row_said R t ≡ row_said S t) × (option_map (letter_kept numbered) (open_of R t) ≡ option_map (letter_kept numbered) (open_of S t))
+  thread t is = two-told (option_numbers row_numbers) (option_numbers (letter_numbers true)) (option-told row_numbers thread-told) (option-told (letter_numbers true) letter-told) _ _ _ _
+      (ap (λ l. option_numbers row_numbers (row_said R t) ++ l) (sym (letters-as numbered (open_of R t))) ∙ rest kind.Thread t is ∙ ap (λ l. option_numbers row_numbers (row_said S t) ++ l) (letters-as numbered (open_of S t)))
+
+  endpoint : (e : ObjId) → IsMade R kind.Endpoint e → (queued_in R (Senders e) ≡ queued_in S (Senders e)) × (queued_in R (Receivers e) ≡ queued_in S (Receivers e))
+  endpoint e is = two-told (list_numbers id_numbers) (list_numbers id_numbers) (list-told id_numbers id-told) (list-told id_numbers id-told) _ _ _ _ (rest kind.Endpoint e is)
+
+  notification : (n : ObjId) → IsMade R kind.Notification n → (queued_in R (Waiters n) ≡ queued_in S (Waiters n)) × (word_of R n ≡ word_of S n)
+  notification n is = two-told (list_numbers id_numbers) (option_numbers one) (list-told id_numbers id-told) (option-told one one-told) _ _ _ _ (rest kind.Notification n is)
+
+  -- a context
+  record SameContext (s : ObjId) : Type 0 where
+    pub core : core_said R s ≡ core_said S s
+    pub holder : holder_of R s ≡ holder_of S s
+    pub home : home_of R s ≡ home_of S s
+    pub chain : chain_of R s ≡ chain_of S s
+
+  context : (s : ObjId) → IsMade R kind.Context s → SameContext s
+  context s is =
+      let cores = option-told core_numbers core-told (core_said R s) (core_said S s) _ _ (rest kind.Context s is) in
+      let holders = option-told id_numbers id-told (holder_of R s) (holder_of S s) _ _ cores.1 in
+      let others = two-told (option_numbers id_numbers) (list_numbers id_numbers) (option-told id_numbers id-told) (list-told id_numbers id-told) (home_of R s) (home_of S s) (chain_of R s) (chain_of S s) holders.1 in
+      record { core = cores.0; holder = holders.0; home = others.0; chain = others.1 }
+
+  cnode : (c : ObjId) → IsMade R kind.CNode c → (radix_kept (form_of R c) ≡ radix_kept (form_of S c)) × ((i : ℕ) → i < 256 → slot R c i ≡ slot S c i)
+  cnode c is =
+      let radix = parted _ _ _ _ (rest kind.CNode c is) in
+      (radix.0, slots-told R S c 256 radix.1)
+
+  -- without its number a message is the same
+  numberless : (o : Option Letter) → option_map unnumbered (option_map (letter_kept numbered) o) ≡ option_map unnumbered o
+  numberless None = refl
+  numberless (Some s) = ap (λ z. Some z) (go numbered)
+    where
+      go : (b : Bool) → unnumbered (letter_kept b s) ≡ unnumbered s
+      go true = refl
+      go false = refl
+
+  answer : AnswerButNumbers R S
+  answer = record {
+    counts = same.counts;
+    there = λ o is. (same-object numbered R S sound same o is).there;
+    held = λ o is. (same-object numbered R S sound same o is).held;
+    rows = λ t is. (thread t is).0;
+    letters = λ t is. sym (numberless (open_of R t)) ∙ ap (λ o. option_map unnumbered o) (thread t is).1 ∙ numberless (open_of S t);
+    senders = λ e is. (endpoint e is).0;
+    receivers = λ e is. (endpoint e is).1;
+    waiters = λ n is. (notification n is).0;
+    words = λ n is. (notification n is).1;
+    owed = λ r is. alone (option_numbers id_numbers) (option-told id_numbers id-told) (owed_by R r) (owed_by S r) (rest kind.Reply r is);
+    cores = λ s is. (context s is).core;
+    holders = λ s is. (context s is).holder;
+    homes = λ s is. (context s is).home;
+    chains = λ s is. (context s is).chain;
+    radices = λ c is. (cnode c is).0;
+    slots = λ c i is low. (cnode c is).1 i low;
+  }
+
+-- where numbers are told apart they are the same too
+answer-exact : (R S : Log) → Sound R → SameRows true R S → AnswerAlike R S
+answer-exact R S sound same = record {
+  counts = but.counts;
+  sent = same.sent;
+  there = but.there;
+  held = but.held;
+  rows = but.rows;
+  letters = λ t is. sym (whole (open_of R t)) ∙ (thread true R S sound same t is).1 ∙ whole (open_of S t);
+  senders = but.senders;
+  receivers = but.receivers;
+  waiters = but.waiters;
+  words = but.words;
+  owed = but.owed;
+  cores = but.cores;
+  holders = but.holders;
+  homes = but.homes;
+  chains = but.chains;
+  radices = but.radices;
+  slots = but.slots;
+}
+  where
+    but : AnswerButNumbers R S
+    but = answer true R S sound same
+
+    whole : (o : Option Letter) → option_map (letter_kept true) o ≡ o
+    whole None = refl
+    whole (Some s) = refl
+
+-- logs with equal rows are alike
+logs-by : (numbered : Bool) (R S : Log) → Sound R → Sound S → SameRows numbered R S → AlikeBy numbered R S
+logs-by true R S left right same = answers-exact R S left right (answer-exact R S left same)
+logs-by false R S left right same = answers-alike R S left right (answer-all R S left right (answer false R S left same))
+
+-- lists of one length, of which each place is told, are equal
+same-told : {A : Type 0} (f : A → List ℕ) → Tells f → (xs ys : List A) (n : ℕ) → length xs ≡ n → length ys ≡ n
+    → below (λ i. option_numbers f (slice_get xs i)) n ≡ below (λ i. option_numbers f (slice_get ys i)) n → xs ≡ ys
+same-told f t xs ys n left right is =
+    let each = below-told (option_numbers f) (option-told f t) (slice_get xs) (slice_get ys) n [] [] (ap (λ l. l ++ []) is) in
+    same-places xs ys (left ∙ sym right) (λ i k. each.0 i (subst (λ m. i < m) left k))
+
+-- the parts of equal rows
+record SameParts (numbered : Bool) (users : List User) (g h : Going) (ks js : List (Option Pick)) : Type 0 where
+  pub counts : count_numbers numbered (log_of g.book) ≡ count_numbers numbered (log_of h.book)
+  pub places : place_numbers users g ≡ place_numbers users h
+  pub choices : choice_numbers g ks ≡ choice_numbers h js
+  pub objects : object_rows numbered (log_of g.book) ≡ object_rows numbered (log_of h.book)
+
+same-parts : (numbered : Bool) (users : List User) (g h : Going) (ks js : List (Option Pick)) → rows_of numbered users g ks ≡ rows_of numbered users h js → SameParts numbered users g h ks js
+same-parts numbered users g h ks js rows =
+    let counts = parted _ _ _ _ rows in
+    let places = parted _ _ _ _ counts.1 in
+    let choices = parted _ _ _ _ places.1 in
+    record { counts = counts.0; places = places.0; choices = choices.0; objects = choices.1 }
+
+-- two runs of one boot and users that have equal rows are alike
+module _ (numbered : Bool) (users : List User) (boot : Boot) (whole : IsFaultless boot) (range : AreInRange users) (g h : Going) (left : IsReached users boot g) (right : IsReached users boot h) (rows : HaveSameRows numbered users g h) where
+  parts : (ks js : List (Option Pick)) → ArePicks users g ks → ArePicks users h js → SameParts numbered users g h ks js
+  parts ks js are bre = same-parts numbered users g h ks js ((rows.so ks are).so js bre)
+
+  some : SameParts numbered users g h rows.picks (rows.so rows.picks rows.are).picks
+  some = let other = rows.so rows.picks rows.are in parts rows.picks other.picks rows.are other.are
+
+  close : AreClose numbered users boot g h
+  close =
+      let long = run-long users boot left.turns g left.run in
+      let wide = run-long users boot right.turns h right.run in
+      let one_sound : Sound (log_of g.book) = legal-sound g.book (run-legal users boot whole range left.turns g left.run) in
+      let other_sound : Sound (log_of h.book) = legal-sound h.book (run-legal users boot whole range right.turns h right.run) in
+      let same = same-rows numbered (log_of g.book) (log_of h.book) some.counts some.objects in
+      record {
+        left = left;
+        right = right;
+        logs = logs-by numbered (log_of g.book) (log_of h.book) one_sound other_sound same;
+        places = same-told position_numbers position-told g.places h.places (length users) long.places wide.places some.places;
+      }
+
+  same-choices : (ks : List (Option Pick)) → ArePicks users g ks → choices ks g.stale ≡ choices ks h.stale
+  same-choices ks are =
+      let long = run-long users boot left.turns g left.run in
+      let wide = run-long users boot right.turns h right.run in
+      let both = parts ks ks are (picks-there numbered users boot g h close ks are) in
+      same-told (list_numbers pick_numbers) (list-told pick_numbers pick-told) (choices ks g.stale) (choices ks h.stale) boot.cores (length-choices ks g.stale ∙ long.stale) (length-choices ks h.stale ∙ wide.stale)
+      (ap (λ (b : Boot). below (λ i. option_numbers (list_numbers pick_numbers) (slice_get (choices ks g.stale) i)) b.cores) (sym long.kept) ∙ both.choices ∙ ap (λ (b : Boot). below (λ i. option_numbers (list_numbers pick_numbers) (slice_get (choices ks h.stale) i)) b.cores) wide.kept)
+
+pub rows-alike : (numbered : Bool) (users : List User) (boot : Boot) → IsFaultless boot → AreInRange users → (g h : Going) → IsReached users boot g → IsReached users boot h → HaveSameRows numbered users g h → AreAlike numbered users boot g h
+rows-alike numbered users boot whole range g h left right rows = record {
+  close = close numbered users boot whole range g h left right rows;
+  choices = same-choices numbered users boot whole range g h left right rows;
+}

@@ -1,0 +1,18 @@
+//! A state in rows of numbers, which its exact key is made of (own): states with the same rows are
+//! alike.
+//!
+//! ```text
+//! a state ── exact ──> all its answers, in rows of numbers ── met ──> the numbers of these rows
+//!     ── coding ──> its key, in bytes
+//! ```
+#![tactic(auto)]
+
+mod coding;
+mod exact;
+mod met;
+mod numbers;
+
+pub use coding::{Key, key_of};
+pub use exact::exact_numbers;
+pub use met::{Met, Numbers};
+pub use numbers::{Row, kind_number, send_number};

@@ -1,0 +1,92 @@
+//! The rows that were met, each of which has a number.
+ghost use Rattle.std.specs.Prelude.{◌≡◌, ◌∷◌, [], IfOk, OnOk, Some, length, slice_get};
+ghost use Rattle.mcs_explore_rows.specs.Naming.{Adds, Keeps};
+
+use crate::numbers::Row;
+use indexmap::IndexSet;
+use mcs_types::OutOfMemory;
+use std::alloc::Global;
+use std::marker::Model;
+
+/// The numbers of rows.
+pub type Numbers = Vec<u32>;
+
+/// The rows that were met. Clauses see them in the order of their numbers, from 0.
+#[derive(Drop)]
+pub struct Met {
+    rows: IndexSet<Row>,
+}
+
+impl Model for Met {
+    ghost use Rattle.std.specs.Prelude.{ℕ, List, map};
+
+    ghost Value = { List (List ℕ) };
+
+    ghost view = { λ m. map (λ r. r.items) m.rows.keys };
+}
+
+/// A number of 32 bits. OutOfMemory where it has more.
+fn narrow(number: usize) -> Result<u32, OutOfMemory>
+    ensures { IfOk result (λ n. n ≡ number) }
+{
+    match u32::try_from(number) {
+        Ok(number) => Ok(number),
+        Err(_) => Err(OutOfMemory),
+    }
+}
+
+impl Met {
+    /// None.
+    pub fn new(alloc: Global) -> Met
+        ensures { result ≡ [] }
+    {
+        Met {
+            rows: IndexSet::new(alloc),
+        }
+    }
+
+    /// How many there are.
+    pub fn len(&self) -> usize
+        ensures { result ≡ length self.now }
+    {
+        self.rows.len()
+    }
+
+    /// The number of a row, which is added where it was not met before.
+    fn add(&mut self, row: Row) -> Result<u32, OutOfMemory>
+        ensures number { IfOk result (λ n. slice_get self.new n ≡ Some row.items) }
+        ensures kept { Keeps self.old self.new }
+    {
+        let Ok((number, _)) = self.rows.insert_full(row) else {
+            return Err(OutOfMemory);
+        };
+        let number = narrow(number)?;
+        Ok(number)
+    }
+
+    /// The number of a row, which is met now.
+    fn number(&mut self, row: &Row) -> Result<u32, OutOfMemory>
+        ensures number { IfOk result (λ n. slice_get self.new n ≡ Some row.now.items) }
+        ensures kept { Keeps self.old self.new }
+    {
+        // most rows were met before: a copy is made of a new one alone
+        if let Some(number) = self.rows.get_index_of(row) {
+            return narrow(number);
+        }
+        let row = row.clone()?;
+        self.add(row)
+    }
+
+    /// Adds the number of a row to others.
+    pub fn put(&mut self, numbers: &mut Numbers, row: &Row) -> Result<(), OutOfMemory>
+        ensures named { OnOk result (Adds self.old numbers.old.items self.new numbers.new.items
+            (row.now.items ∷ [])) }
+        ensures kept { Keeps self.old self.new }
+    {
+        let number = self.number(row)?;
+        match numbers.push(number) {
+            Ok(()) => Ok(()),
+            Err(_) => Err(OutOfMemory),
+        }
+    }
+}
