@@ -4,7 +4,7 @@ ghost use Rattle.mcs_types.specs.declared.entry.Entry.{Entry};
 ghost use Rattle.mcs_types.specs.Ranges.{InRange};
 ghost use Rattle.mcs_turns.specs.Turns.{AreInRange};
 ghost use Rattle.mcs_explore_search.specs.Reaching.{AreWithin};
-ghost use Rattle.mcs_explore_search.specs.Search.{AreSorted, IsSpent};
+ghost use Rattle.mcs_explore_search.specs.Search.{AreFoundLast, AreNear, AreSorted, IsSpent};
 ghost use Rattle.mcs_explore_orders.specs.Seen.{AreAllSeen, AreFoundRuns};
 ghost use Rattle.mcs_explore_report.specs.Found.{AreAnswersFound, AreAnswersInRuns, AreCountedFound, AreEndsFound, AreEndsInRuns, AreFirstFound, AreHeldInRuns, AreJudgedFound, AreShortest, IsMailFound};
 ghost use Rattle.mcs_explore_report.specs.Modes.{IsWholeSearch};
@@ -72,6 +72,11 @@ pub fn watched<'a, P: Progress>(
     // it ends where all were expanded, or by the budget alone
     ensures budget { IfOk result (λ o. (length o.search.map.entries ≤ o.search.done)
         ⊎ IsSpent wanted.states wanted.depth o.search.done o.search.map.entries) }
+    // and it expands no state beyond the budget
+    ensures near { IfOk result (λ o.
+        AreNear wanted.depth o.search.done o.search.map.entries) }
+    ensures few { IfOk result (λ o.
+        AreFoundLast wanted.states o.search.done o.search.map.entries) }
     // each end that is kept is that of such a state, and the end of each state that was expanded
     // and is over is kept
     ensures ends { IfOk result (λ o. AreEndsFound users.now boot.now
