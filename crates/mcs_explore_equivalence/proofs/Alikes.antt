@@ -84,11 +84,8 @@ module _ (numbered : Bool) (users : List User) (boot : Boot) (g h : Going) (a : 
   }
 
 module _ (numbered : Bool) (users : List User) (boot : Boot) (g h : Going) (a : AreAlike numbered users boot g h) (core : CoreId) (k : Pick) (t : Going) (turn : IsTurn users core k g t) where
-  abbrev step : Step
-  step = record { core = core; thread = turn.user.thread; entry = turn.entry }
-
   -- the same turn in the other run
-  pub turn-there : IsTurn users core k h (entered turn.picks turn.user step k h)
+  pub turn-there : IsTurn users core k h (entered turn.picks turn.user (record { core = core; thread = turn.user.thread; entry = turn.entry }) k h)
   turn-there = record {
     user = turn.user;
     entry = turn.entry;
