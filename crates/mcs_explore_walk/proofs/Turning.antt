@@ -1,5 +1,6 @@
 -- The turns of all cores: each that the rule has is among them, and each is one of a pick.
-use Rattle.std.specs.Prelude.{ℕ, zero, suc, Bool, true, false, not, cond, ◌≡◌, ◌≤◌, ◌<◌, ◌+◌, ◌++◌, ◌||◌, ◌⊎◌, length, List, [], ◌∷◌, Option, Some, None, slice_get, slice_index_or, unwrap_or}
+use Rattle.std.specs.Prelude.{ℕ, zero, suc, Bool, true, false, not, cond, ◌≡◌, ◌≤◌, ◌<◌, ◌+◌, ◌++◌, ◌||◌, ◌⊎◌, length, List, [], ◌∷◌, Option, Some, None, is_some, slice_get, slice_index_or, unwrap_or}
+use Rattle.std.specs.Option.{IfNone, IfSome}
 use Rattle.std.specs.List.{Contains, list_any}
 use Rattle.std.proofs.Common.{refl, ap, sym, ◌∙◌, subst, arith, inl, inr}
 use Rattle.std.proofs.lemmas.List.Elements.{Contains-append_left, Contains-append_right, Contains-append_cases}
@@ -14,10 +15,10 @@ use Rattle.mcs_book.specs.Statuses.{may_enter}
 use Rattle.mcs_book.proofs.Books.KnownCores.{legal-cores}
 use Rattle.mcs_turns.specs.declared.position.Pick.{Pick}
 use Rattle.mcs_turns.specs.Due.{is_same}
-use Rattle.mcs_turns.specs.Turns.{User, Going, AreApart, ArePicks, Follows, IsOver, IsStale, IsTurn, outcome}
+use Rattle.mcs_turns.specs.Turns.{User, Going, AreApart, ArePicks, Follows, IsOver, IsStale, IsTurn, entered, outcome}
 use Rattle.mcs_turns.proofs.OneTurn.{one-at, one-picks}
 use Rattle.mcs_explore_walk.specs.declared.walk.Turn.{Turn}
-use Rattle.mcs_explore_walk.specs.Walks.{IsPicked, HasEachTurn, ArePicked, HasNoTurn, is_other, picked_of, stale_turns, turn_now, turn_of, turns_below, turns_of, turns_on}
+use Rattle.mcs_explore_walk.specs.Walks.{IsEntrant, IsPicked, HasEachTurn, ArePicked, HasNoTurn, is_other, picked_of, stale_turns, step_of, turn_now, turn_of, turns_below, turns_of, turns_on}
 use Rattle.mcs_turns.proofs.Among.{none-in, first-in, later-in, one-in, split-in}
 use Rattle.mcs_turns.proofs.Choices.{same-pick}
 use Rattle.mcs_explore_walk.proofs.Picking.{nat_split, pick-there, same-itself, there-picked}
@@ -225,3 +226,24 @@ none-over users g ts n each long none = λ h f.
     let i = index-of ts (turn_of f.core f.pick) (each f.core f.pick h f.turn) in
     let within = slice_get_within ts i.0 (turn_of f.core f.pick) i.1 in
     none i.0 (turn_of f.core f.pick) (omega (arith, within, long)) i.1 h f.turn
+
+-- an entry that the rule lets in is a turn
+pub some-turn : {X : Type 0} (users : List User) (g : Going) (picks : List (Option Pick)) (t : Turn) (user : X → User) (entry : X → Entry) (o : Option X) → ArePicks users g picks
+    → IfSome o (λ x. IsEntrant users g picks t (user x) (entry x)) → is_some o ≡ true → (h : Going) × IsTurn users t.core t.pick g h
+some-turn users g picks t user entry (Some x) are is there = (entered picks (user x) (step_of t.core (user x) (entry x)) t.pick g, record {
+  user = user x;
+  entry = entry x;
+  picks = picks;
+  is_user = is.is_user;
+  is_entry = is.is_entry;
+  are_picks = are;
+  picked = is.picked;
+  enters = is.enters;
+  after = refl;
+})
+some-turn users g picks t user entry None are is there = absurd cc
+
+-- and without one there is no turn
+pub none-turn : {X : Type 0} (users : List User) (g : Going) (t : Turn) (o : Option X) → IfNone o (HasNoTurn users g t.core t.pick) → is_some o ≡ false → HasNoTurn users g t.core t.pick
+none-turn users g t None none empty = none
+none-turn users g t (Some x) none empty = absurd cc
