@@ -10,20 +10,13 @@ use crate::judging::answered;
 use crate::mail::{Reached, mailed_to};
 use mcs_explore_orders::{Orders, OrdersFault, Turn, UserList, Users, Walk, Watch};
 use mcs_explore_search::mark_all_led;
+use mcs_explore_source::Live;
 use mcs_lab_check::LabFault;
 use mcs_queues::PlainLines;
 use mcs_turns::Pick;
 use mcs_types::Answer;
 use std::alloc::Global;
 use std::marker::Model;
-
-/// A user, and one of its entries, counted from 0: whether it can be answered yet. Without an
-/// entry, whether any of them can.
-#[derive(Clone, Copy, Drop)]
-pub struct Live {
-    pub user: usize,
-    pub entry: Option<usize>,
-}
 
 /// What a search notes of a question: whether it was settled in each state, and from which places a
 /// turn answered it.

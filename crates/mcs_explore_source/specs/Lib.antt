@@ -1,0 +1,4 @@
+pub mod Texts
+pub mod Questions
+pub mod UserLists
+pub mod Scripts

@@ -1,0 +1,18 @@
+-- What a script of users says (own).
+use Rattle.std.specs.Prelude.{ℕ, ◌≡◌, map, List, [], Option}
+use Rattle.mcs_text.specs.declared.steps.UserEntry.{UserEntry}
+use Rattle.mcs_text.specs.Reading.{lines_of}
+use Rattle.mcs_explore_source.specs.declared.questions.AskedLine.{AskedLine}
+use Rattle.mcs_explore_source.specs.declared.script.UserScript.{UserScript}
+use Rattle.mcs_explore_source.specs.Questions.{numbers_from}
+use Rattle.mcs_explore_source.specs.Texts.{IsText}
+use Rattle.mcs_explore_source.specs.UserLists.{all_again, with_entries}
+
+-- all of an input was read, and this is what it says: its boot, its users, and a question for each
+-- of its lines that ask something
+pub record IsScript (left left' : Option (List ℕ)) (s : UserScript) : Type 0 where
+  pub text : List ℕ
+  pub entries : List UserEntry
+  pub is : IsText left left' text s.boot entries
+  pub users : s.users ≡ all_again (with_entries [] entries) s.asked.items
+  pub asked : map (λ (q : AskedLine). q.line) s.asked.items ≡ numbers_from 1 (lines_of text)

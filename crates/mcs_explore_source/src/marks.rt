@@ -1,0 +1,65 @@
+//! The names of a script, and the texts of its entries.
+use mcs_lab_check::{LabFault, Names};
+use mcs_text::{Lines, UserEntry, Words, find_boot_key};
+use mcs_types::ObjId;
+use std::alloc::Global;
+
+/// The text of an entry, as the script has it.
+#[derive(Drop)]
+pub struct EntryText {
+    pub thread: ObjId,
+    pub text: Vec<u8>,
+}
+
+/// Returns the names that the lines of a text give. Fault Form where a line `#@` has not its form.
+pub fn read_names(alloc: Global, text: &[u8]) -> Result<Names, LabFault> {
+    let mut names = Names::new(alloc);
+    for (before, line) in text.split(|byte| *byte == b'\n').enumerate() {
+        names.hear(alloc, (before as u64).saturating_add(1), line)?;
+    }
+    Ok(names)
+}
+
+/// Returns whether a line is that of an entry: it is not skipped, nor one of the boot.
+fn is_entry(line: &[u8]) -> bool {
+    if matches!(line, [] | [b'#' | b'=' | b'+', ..]) {
+        return false;
+    }
+    let mut words = Words::new(line);
+    match words.next_word() {
+        Some(word) => find_boot_key(word).is_none(),
+        None => false,
+    }
+}
+
+/// Returns what follows the first two words of a line.
+fn after_two(line: &[u8]) -> &[u8] {
+    let mut rest = line;
+    for _ in 0..2 {
+        let Some(space) = rest.iter().position(|byte| *byte == b' ') else {
+            return &[];
+        };
+        match rest.get(space.saturating_add(1)..) {
+            Some(after) => rest = after,
+            None => return &[],
+        }
+    }
+    rest
+}
+
+/// Returns the texts of the entries that a text says.
+pub fn entry_texts(
+    alloc: Global,
+    text: &[u8],
+    entries: &[UserEntry],
+) -> Result<Vec<EntryText>, LabFault> {
+    let mut texts = Vec::new(alloc);
+    let lines = text.split(|byte| *byte == b'\n').filter(|line| is_entry(line));
+    for (line, said) in lines.zip(entries.iter()) {
+        texts.push(EntryText {
+            thread: said.thread,
+            text: Vec::from_slice(alloc, after_two(line))?,
+        })?;
+    }
+    Ok(texts)
+}

@@ -1,0 +1,70 @@
+//! What a script of users says.
+ghost use Rattle.std.specs.Prelude.{IfOk};
+ghost use Rattle.mcs_explore_source.specs.Scripts.{IsScript};
+
+use crate::lives::{Live, lives_of};
+use crate::marks::{EntryText, entry_texts, read_names};
+use crate::questions::{AskedLine, read_questions};
+use crate::text::{UsersText, read_text};
+use crate::users::{come_once, repeat, users_of};
+use mcs_explore_questions::{ExploreFault, There};
+use mcs_kernel::Boot;
+use mcs_lab_check::{LabFault, Names};
+use mcs_sim::Source;
+use mcs_users::Users;
+use std::alloc::Global;
+use std::io::Read;
+
+/// What a script of users says.
+#[derive(Drop)]
+pub struct UserScript {
+    pub boot: Boot,
+    pub users: Users,
+    pub texts: Vec<EntryText>,
+    pub asked: Vec<AskedLine>,
+    /// What is asked of users that may get stuck: by the lines `live`, in their order, and then of
+    /// each user of which no line `idle` or `live` says anything.
+    pub lives: Vec<Live>,
+    pub names: Names,
+}
+
+/// Reads a source to its end. The faults are first those of `mcssim run`, in the order of lines,
+/// then of names, and then of questions.
+pub fn read_script<R: Read>(
+    alloc: Global,
+    from: &mut Source<R>,
+) -> Result<UserScript, ExploreFault>
+    ensures { IfOk result (λ s. IsScript (R.remaining from.old.reader)
+        (R.remaining from.new.reader) s) }
+{
+    let UsersText {
+        text,
+        boot,
+        entries,
+    } = match read_text(alloc, from) {
+        Ok(said) => said,
+        Err(fault) => return Err(ExploreFault::Lab(LabFault::from(fault))),
+    };
+    let names = read_names(alloc, &text)?;
+    let texts = entry_texts(alloc, &text, &entries)?;
+    let Ok(mut users) = users_of(alloc, entries) else {
+        return Err(ExploreFault::Lab(LabFault::OutOfMemory));
+    };
+    let there = There {
+        boot: boot.lines(),
+        users: &users,
+        names: &names,
+    };
+    let asked = read_questions(alloc, there, &text)?;
+    repeat(alloc, &mut users, &asked)?;
+    come_once(alloc, &users, &asked)?;
+    let lives = lives_of(alloc, &users, &asked)?;
+    Ok(UserScript {
+        boot,
+        users,
+        texts,
+        asked,
+        lives,
+        names,
+    })
+}
