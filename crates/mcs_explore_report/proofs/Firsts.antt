@@ -10,7 +10,7 @@ use Rattle.mcs_explore_orders.specs.Shown.{Made, Shown, Sight, with_state, with_
 use Rattle.mcs_explore_report.specs.declared.answers.Told.{Told}
 use Rattle.mcs_explore_questions.specs.declared.asking.Asked.{Asked}
 use Rattle.mcs_explore_report.specs.declared.mail.Reached.{Reached}
-use Rattle.mcs_explore_source.specs.declared.questions.AskedLine.{AskedLine}
+use Rattle.mcs_explore_script.specs.declared.questions.AskedLine.{AskedLine}
 use Rattle.mcs_explore_report.specs.declared.judging.Sighting.{Sighting}
 use Rattle.mcs_explore_report.specs.Answers.{AreAnswersOf, AreMailOf, AreNotedMail, IsAmong, IsMailed, IsNoted, IsNotedFor, IsNotedMail, IsNotedOf, IsNotedTurn, IsOwnAnswer, Tables, mailed_to, table_of}
 use Rattle.mcs_explore_report.specs.Ends.{AreEndsOf, IsKindAt, IsNoted as IsEndNoted, IsNotedIf, Kind}

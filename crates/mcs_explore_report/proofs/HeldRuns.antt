@@ -31,7 +31,7 @@ use Rattle.mcs_explore_questions.specs.declared.asking.Asked.{Asked}
 use Rattle.mcs_explore_questions.specs.declared.asking.Asked.TheVariants as asked
 use Rattle.mcs_explore_questions.specs.declared.asking.Event.{Event}
 use Rattle.mcs_explore_questions.specs.declared.asking.Span.{Span}
-use Rattle.mcs_explore_source.specs.declared.questions.AskedLine.{AskedLine}
+use Rattle.mcs_explore_script.specs.declared.questions.AskedLine.{AskedLine}
 use Rattle.mcs_explore_report.specs.declared.judging.Sighting.{Sighting}
 use Rattle.mcs_explore_report.specs.Judging.{IsDecided, NameNone, answered_by, fails, gives, has_given, is_in, is_line, is_within, lines_told, place_of, record_lines, told_last}
 use Rattle.mcs_explore_report.proofs.Blinds.{lines-blind}

@@ -16,7 +16,7 @@ use Rattle.mcs_explore_orders.proofs.Paths.{path-one}
 use Rattle.mcs_explore_report.specs.declared.answers.Told.{Told}
 use Rattle.mcs_explore_questions.specs.declared.asking.Asked.{Asked}
 use Rattle.mcs_explore_questions.specs.declared.asking.Asked.TheVariants as asked
-use Rattle.mcs_explore_source.specs.declared.questions.AskedLine.{AskedLine}
+use Rattle.mcs_explore_script.specs.declared.questions.AskedLine.{AskedLine}
 use Rattle.mcs_explore_report.specs.declared.judging.Sighting.{Sighting}
 use Rattle.mcs_explore_report.specs.declared.mail.Reached.{Reached}
 use Rattle.mcs_explore_report.specs.Judging.{fails}

@@ -7,9 +7,9 @@ use Rattle.mcs_turns.specs.Turns.{User, Going}
 use Rattle.mcs_explore_walk.specs.declared.walk.Turn.{Turn}
 use Rattle.mcs_explore_orders.specs.Shown.{Shown, nothing, with_state, with_turn}
 use Rattle.mcs_explore_report.specs.declared.judging.Sighting.{Sighting}
-use Rattle.mcs_explore_source.specs.declared.lives.Live.{Live}
+use Rattle.mcs_explore_script.specs.declared.lives.Live.{Live}
 use Rattle.mcs_explore_report.specs.declared.mail.Reached.{Reached}
-use Rattle.mcs_explore_source.specs.declared.questions.AskedLine.{AskedLine}
+use Rattle.mcs_explore_script.specs.declared.questions.AskedLine.{AskedLine}
 use Rattle.mcs_explore_report.specs.Answers.{AreNotedMail, IsNotedTurn, Tables, no_answers}
 use Rattle.mcs_explore_report.specs.Ends.{IsNotedIf, Kind}
 use Rattle.mcs_explore_report.specs.Judged.{AreJudgedBy}

@@ -24,7 +24,7 @@ use Rattle.mcs_explore_orders.specs.Seen.{AreAllSeen, IsAlongEdges, IsGraphOfRun
 use Rattle.mcs_explore_orders.specs.Shown.{AreShown, Made, Shown, Sight, nothing, with_state, with_turn}
 use Rattle.mcs_explore_orders.specs.Trails.{Leads}
 use Rattle.mcs_explore_orders.proofs.Paths.{path-one}
-use Rattle.mcs_explore_source.specs.declared.lives.Live.{Live}
+use Rattle.mcs_explore_script.specs.declared.lives.Live.{Live}
 use Rattle.mcs_explore_report.specs.declared.mail.Reached.{Reached}
 use Rattle.mcs_explore_report.specs.Found.{IsAt}
 use Rattle.mcs_explore_report.specs.Stuck.{AreDecided, AreNotedBy, AreNotedOn, IsFirstUnled, IsLive, IsNear, IsNotedBy, IsStuckFirst, Noted, answers, answers_last, first_marks, is_about, is_mailed, is_settled, is_waits, settled_by, with_made, with_mark, with_marks, with_sight}

@@ -13,7 +13,7 @@ use Rattle.mcs_explore_questions.specs.declared.asking.Asked.{Asked}
 use Rattle.mcs_explore_questions.specs.declared.asking.Asked.TheVariants as asked
 use Rattle.mcs_explore_report.specs.declared.modes.Mode.{Mode}
 use Rattle.mcs_explore_report.specs.declared.modes.Mode.TheVariants.{Proved, Canonical}
-use Rattle.mcs_explore_source.specs.declared.questions.AskedLine.{AskedLine}
+use Rattle.mcs_explore_script.specs.declared.questions.AskedLine.{AskedLine}
 use Rattle.mcs_explore_report.specs.Judging.{IsDecided, NameNone}
 use Rattle.mcs_explore_report.specs.Naming.{is_message, names_message}
 use Rattle.mcs_explore_report.specs.Modes.{any_later, any_message, are_numbered, is_proved, makes_objects, mode_by, mode_of}

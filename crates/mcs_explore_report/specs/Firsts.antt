@@ -6,7 +6,7 @@ use Rattle.mcs_turns.specs.Turns.{User}
 use Rattle.mcs_explore_walk.specs.declared.walk.Turn.{Turn}
 use Rattle.mcs_explore_orders.specs.Shown.{Made, Shown, Sight}
 use Rattle.mcs_explore_report.specs.declared.answers.Told.{Told}
-use Rattle.mcs_explore_source.specs.declared.questions.AskedLine.{AskedLine}
+use Rattle.mcs_explore_script.specs.declared.questions.AskedLine.{AskedLine}
 use Rattle.mcs_explore_report.specs.declared.judging.Sighting.{Sighting}
 use Rattle.mcs_explore_report.specs.Answers.{IsMailed, IsOwnAnswer, Tables, table_of}
 use Rattle.mcs_explore_report.specs.Ends.{Kind}

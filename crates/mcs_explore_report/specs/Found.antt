@@ -12,7 +12,7 @@ use Rattle.mcs_explore_orders.specs.Shown.{AreCounted, AreShown, Shown}
 use Rattle.mcs_explore_orders.specs.Trails.{Leads}
 use Rattle.mcs_explore_report.specs.declared.answers.Told.{Told}
 use Rattle.mcs_explore_questions.specs.declared.asking.Asked.{Asked}
-use Rattle.mcs_explore_source.specs.declared.questions.AskedLine.{AskedLine}
+use Rattle.mcs_explore_script.specs.declared.questions.AskedLine.{AskedLine}
 use Rattle.mcs_explore_report.specs.declared.judging.Sighting.{Sighting}
 use Rattle.mcs_explore_report.specs.Standings.{standings}
 use Rattle.mcs_explore_report.specs.Ends.{IsKindAt, Kind}

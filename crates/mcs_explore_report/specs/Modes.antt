@@ -8,7 +8,7 @@ use Rattle.mcs_explore_search.specs.Search.{Entries}
 use Rattle.mcs_explore_walk.specs.declared.walk.Turn.{Turn}
 use Rattle.mcs_explore_report.specs.declared.modes.Mode.{Mode}
 use Rattle.mcs_explore_report.specs.declared.modes.Mode.TheVariants.{Proved, Canonical}
-use Rattle.mcs_explore_source.specs.declared.questions.AskedLine.{AskedLine}
+use Rattle.mcs_explore_script.specs.declared.questions.AskedLine.{AskedLine}
 use Rattle.mcs_explore_report.specs.Naming.{names_later, names_message}
 
 -- whether states that are not told apart are proved to have one future, and whether the numbers of

@@ -14,7 +14,7 @@ use Rattle.mcs_explore_walk.specs.declared.walk.Turn.{Turn}
 use Rattle.mcs_explore_walk.specs.Walks.{last_answer}
 use Rattle.mcs_explore_orders.specs.Shown.{Made, Shown, Sight}
 use Rattle.mcs_explore_orders.specs.Trails.{Leads}
-use Rattle.mcs_explore_source.specs.declared.lives.Live.{Live}
+use Rattle.mcs_explore_script.specs.declared.lives.Live.{Live}
 use Rattle.mcs_explore_report.specs.declared.mail.Reached.{Reached}
 use Rattle.mcs_explore_report.specs.Answers.{mailed_to}
 use Rattle.mcs_explore_report.specs.Found.{IsAt}

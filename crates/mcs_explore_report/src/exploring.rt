@@ -10,9 +10,9 @@ ghost use Rattle.mcs_explore_report.specs.Found.{AreAnswersFound, AreAnswersInRu
 ghost use Rattle.mcs_explore_report.specs.Modes.{IsWholeSearch};
 ghost use Rattle.mcs_explore_report.specs.Stuck.{AreDecided};
 
-use mcs_explore_source::Live;
+use mcs_explore_script::Live;
 use crate::modes::mode_of;
-use mcs_explore_source::AskedLine;
+use mcs_explore_script::AskedLine;
 use crate::scripts::fault_of;
 use crate::watching::{Progress, Watched};
 use mcs_explore_orders::{Budget, Orders, Users, explore};

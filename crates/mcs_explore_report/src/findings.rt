@@ -6,7 +6,7 @@ use crate::answers::Told;
 use crate::ends::{End, Standing, is_same_kind};
 use crate::frontier::{deep_ends, is_given};
 use crate::judging::Sighting;
-use mcs_explore_source::{AskedLine, UserScript};
+use mcs_explore_script::{AskedLine, UserScript};
 use crate::saying::text_of;
 use crate::stuck_users::{StuckUsers, first_stuck, stuck_of, stuck_users};
 use crate::verdicts::{Verdict, find_end, verdict_on};

@@ -1,7 +1,7 @@
 //! What was found, and not expanded: ends by the depth of a search, and entries that were
 //! given.
 use crate::ends::{End, Ends};
-use mcs_explore_source::UserScript;
+use mcs_explore_script::UserScript;
 use crate::scripts::fault_of;
 use mcs_explore_orders::{Orders, OrdersFault, Turn, Walk, Watch, retrace};
 use mcs_lab_check::LabFault;

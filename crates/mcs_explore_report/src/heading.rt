@@ -1,7 +1,7 @@
 //! How the report says in which way states were told apart.
 use crate::modes::{Mode, make_objects, mode_of};
 use crate::naming::{names_later, names_message};
-use mcs_explore_source::UserScript;
+use mcs_explore_script::UserScript;
 use mcs_lab_check::LabFault;
 use std::io::Write;
 

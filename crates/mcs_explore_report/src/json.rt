@@ -3,7 +3,7 @@ use crate::ends::{End, Standing};
 use crate::findings::{Answered, Findings, Outcome, entry_of, is_question, is_waiting};
 use crate::frontier::count_of;
 use crate::judging::Sighting;
-use mcs_explore_source::AskedLine;
+use mcs_explore_script::AskedLine;
 use crate::report::{
     Explored, Judged, Report, Saves, answer_name, end_name, question_name, stuck_name,
 };

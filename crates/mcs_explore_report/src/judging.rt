@@ -8,7 +8,7 @@ ghost use Rattle.mcs_explore_report.specs.Judging.{answered, answered_by, bare, 
 ghost use Rattle.mcs_explore_report.specs.Judged.{AreJudgedBy, judged};
 
 use crate::mail::newest;
-use mcs_explore_source::AskedLine;
+use mcs_explore_script::AskedLine;
 use mcs_book::Line as BookLine;
 use mcs_explore_orders::{Turn, Users, Walk};
 use mcs_explore_questions::{Asked, Event, Span, Until, is_match};

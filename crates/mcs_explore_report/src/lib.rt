@@ -31,7 +31,7 @@ pub use exploring::{Wanted, watched};
 pub use live::{Lives, Notes, stuck_at};
 pub use modes::{Mode, make_objects, mode_of};
 pub use naming::{names_later, names_message};
-pub use mcs_explore_source::AskedLine;
+pub use mcs_explore_script::AskedLine;
 pub use report::{Explored, Output, Saves, explore_and_tell, explore_script};
 pub use stuck_users::first_stuck;
 pub use verdicts::{Verdict, verdict_on};

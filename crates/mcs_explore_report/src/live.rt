@@ -10,7 +10,7 @@ use crate::judging::answered;
 use crate::mail::{Reached, mailed_to};
 use mcs_explore_orders::{Orders, OrdersFault, Turn, UserList, Users, Walk, Watch};
 use mcs_explore_search::mark_all_led;
-use mcs_explore_source::Live;
+use mcs_explore_script::Live;
 use mcs_lab_check::LabFault;
 use mcs_queues::PlainLines;
 use mcs_turns::Pick;

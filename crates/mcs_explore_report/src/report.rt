@@ -6,7 +6,7 @@ use crate::frontier::count_of;
 use crate::heading::put_mode;
 use crate::json::put_json;
 use crate::judging::Sighting;
-use mcs_explore_source::{AskedLine, UserScript, read_script};
+use mcs_explore_script::{AskedLine, UserScript, read_script};
 use crate::scripts::{script_by, turns_of};
 use crate::stuck_users::{StuckUsers, seen_at};
 use crate::watching::{Progress, Quiet};

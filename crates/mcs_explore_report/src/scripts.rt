@@ -3,7 +3,7 @@ ghost use Rattle.std.specs.Prelude.{◌≡◌, ◌++◌, IfOk, OnOk};
 ghost use Rattle.mcs_explore_search.specs.Search.{listed, path_of};
 
 use crate::judging::Sighting;
-use mcs_explore_source::UserScript;
+use mcs_explore_script::UserScript;
 use mcs_book::Book;
 use mcs_explore_orders::{Orders, OrdersFault, Turn, Walk, Watch, retrace};
 use mcs_lab_check::{LabFault, Names};

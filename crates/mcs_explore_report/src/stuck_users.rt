@@ -4,8 +4,8 @@ ghost use Rattle.mcs_explore_search.specs.Reaching.{AreWithin};
 ghost use Rattle.mcs_explore_report.specs.Stuck.{IsFirstUnled, Noted, first_marks};
 
 use crate::judging::Sighting;
-use crate::live::{stuck_at};
-use mcs_explore_source::AskedLine;
+use crate::live::stuck_at;
+use mcs_explore_script::AskedLine;
 use crate::watching::{Progress, Watched};
 use mcs_explore_orders::Orders;
 use mcs_explore_questions::Asked;

@@ -5,7 +5,7 @@ ghost use Rattle.mcs_explore_report.specs.Verdicts.{IsAlways, IsEndSearched, IsS
 use crate::answers::{Answers, Told};
 use crate::ends::{End, Standing};
 use crate::judging::Sighting;
-use mcs_explore_source::AskedLine;
+use mcs_explore_script::AskedLine;
 use crate::saying::text_of;
 use crate::watching::{Progress, Watched};
 use mcs_explore_orders::Users;

@@ -1,8 +1,8 @@
 use Rattle.std.specs.Prelude.{Bool, List}
 use Rattle.std.proofs.Common.{ap, subst, ◌∙◌}
 use Rattle.mcs_explore_orders.specs.Seen.{AreAllSeen, IsGraphOfRuns}
-use Rattle.mcs_explore_source.specs.declared.questions.AskedLine.{AskedLine}
-use Rattle.mcs_explore_source.specs.declared.lives.Live.{Live}
+use Rattle.mcs_explore_script.specs.declared.questions.AskedLine.{AskedLine}
+use Rattle.mcs_explore_script.specs.declared.lives.Live.{Live}
 use Rattle.mcs_explore_report.specs.Found.{AreFirstFound, AreJudgedFound}
 use Rattle.mcs_explore_report.specs.Kept.{Aims}
 use Rattle.mcs_explore_report.specs.Stuck.{AreDecided}

@@ -1,5 +1,5 @@
 use Rattle.std.specs.Prelude.{ℕ, ◌≡◌, ◌<◌, ◌≤◌, Option, Some, length, slice_get}
-use Rattle.mcs_explore_source.specs.declared.questions.AskedLine.{AskedLine}
+use Rattle.mcs_explore_script.specs.declared.questions.AskedLine.{AskedLine}
 use Rattle.mcs_explore_report.specs.declared.judging.Sighting.{Sighting}
 use Rattle.mcs_explore_report.specs.Judged.{judged}
 use Rattle.mcs_explore_report.proofs.judging.judge.Given as goal

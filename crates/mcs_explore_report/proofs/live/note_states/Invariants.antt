@@ -1,5 +1,5 @@
 use Rattle.std.specs.Prelude.{ℕ, ◌≡◌, ◌<◌, ◌≤◌, Some, length, slice_get}
-use Rattle.mcs_explore_source.specs.declared.lives.Live.{Live}
+use Rattle.mcs_explore_script.specs.declared.lives.Live.{Live}
 use Rattle.mcs_explore_report.specs.Stuck.{Noted, with_sight}
 use Rattle.mcs_explore_report.proofs.live.note_states.Given as goal
 

@@ -2,3 +2,4 @@ pub mod Texts
 pub mod Questions
 pub mod UserLists
 pub mod Scripts
+pub mod Steps

@@ -1,6 +1,6 @@
 //! The bytes of a script, and what they say.
 ghost use Rattle.std.specs.Prelude.{◌≡◌, ◌++◌, Err, IfErr, IfOk, None, OnErr, OnOk};
-ghost use Rattle.mcs_explore_source.specs.Texts.{IsText};
+ghost use Rattle.mcs_explore_script.specs.Texts.{IsText};
 ghost use Rattle.mcs_sim.specs.Running.{EndsUsers};
 
 use mcs_kernel::Boot;

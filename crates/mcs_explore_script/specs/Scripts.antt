@@ -2,11 +2,11 @@
 use Rattle.std.specs.Prelude.{ℕ, ◌≡◌, map, List, [], Option}
 use Rattle.mcs_text.specs.declared.steps.UserEntry.{UserEntry}
 use Rattle.mcs_text.specs.Reading.{lines_of}
-use Rattle.mcs_explore_source.specs.declared.questions.AskedLine.{AskedLine}
-use Rattle.mcs_explore_source.specs.declared.script.UserScript.{UserScript}
-use Rattle.mcs_explore_source.specs.Questions.{numbers_from}
-use Rattle.mcs_explore_source.specs.Texts.{IsText}
-use Rattle.mcs_explore_source.specs.UserLists.{all_again, with_entries}
+use Rattle.mcs_explore_script.specs.declared.questions.AskedLine.{AskedLine}
+use Rattle.mcs_explore_script.specs.declared.script.UserScript.{UserScript}
+use Rattle.mcs_explore_script.specs.Questions.{numbers_from}
+use Rattle.mcs_explore_script.specs.Texts.{IsText}
+use Rattle.mcs_explore_script.specs.UserLists.{all_again, with_entries}
 
 -- all of an input was read, and this is what it says: its boot, its users, and a question for each
 -- of its lines that ask something

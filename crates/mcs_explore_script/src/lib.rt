@@ -1,11 +1,12 @@
-//! The text of a script of users: its boot, the entries of its users, the names of its objects, and
-//! what it asks of all orders.
+//! Scripts of exploring. A script of users: its boot, the entries of its users, the names of its objects, and
+//! what it asks of all orders; and the steps of a book, as a script.
 //!
 //! ```text
 //! source ── text ──> its bytes, the boot and the entries, as `mcssim run` reads them
 //!     ── marks ──> the names (`#@`), and the text of each entry
 //!     ── questions ──> what the lines `#!` ask
 //!     ── users ──> a list of entries for each thread, and the entry with which it goes on again
+//! a book ── steps ──> its boot and its steps, each with its answer
 //! ```
 #![tactic(auto)]
 
@@ -13,6 +14,7 @@ mod lives;
 mod marks;
 mod questions;
 mod script;
+mod steps;
 mod text;
 mod users;
 
@@ -20,3 +22,4 @@ pub use lives::Live;
 pub use marks::EntryText;
 pub use questions::AskedLine;
 pub use script::{UserScript, read_script};
+pub use steps::write_steps;

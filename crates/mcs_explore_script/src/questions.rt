@@ -1,7 +1,7 @@
 //! The questions of a script.
 ghost use Rattle.std.specs.Prelude.{◌≡◌, ◌++◌, ◌∷◌, [], cond, map, IfOk, OnOk};
 ghost use Rattle.mcs_text.specs.Reading.{lines_of};
-ghost use Rattle.mcs_explore_source.specs.Questions.{is_question, numbers_from};
+ghost use Rattle.mcs_explore_script.specs.Questions.{is_question, numbers_from};
 
 use mcs_explore_questions::{Asked, ExploreFault, QuestionFault, There, asked_of, question_of};
 use mcs_text::Lines;

@@ -1,6 +1,6 @@
 //! What a script of users says.
 ghost use Rattle.std.specs.Prelude.{IfOk};
-ghost use Rattle.mcs_explore_source.specs.Scripts.{IsScript};
+ghost use Rattle.mcs_explore_script.specs.Scripts.{IsScript};
 
 use crate::lives::{Live, lives_of};
 use crate::marks::{EntryText, entry_texts, read_names};

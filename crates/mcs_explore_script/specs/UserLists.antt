@@ -5,7 +5,7 @@ use Rattle.mcs_turns.specs.Turns.{User}
 use Rattle.mcs_users.specs.Users.{with_again, with_entry}
 use Rattle.mcs_explore_questions.specs.declared.asking.Asked.{Asked}
 use Rattle.mcs_explore_questions.specs.declared.asking.Asked.TheVariants as asked
-use Rattle.mcs_explore_source.specs.declared.questions.AskedLine.{AskedLine}
+use Rattle.mcs_explore_script.specs.declared.questions.AskedLine.{AskedLine}
 
 -- users with these entries more, each at the end of its thread's list
 abbrev pub with_entries : List User → List UserEntry → List User

@@ -1,6 +1,6 @@
 //! The users of a script.
 ghost use Rattle.std.specs.Prelude.{◌≡◌, [], IfOk, OnOk};
-ghost use Rattle.mcs_explore_source.specs.UserLists.{all_again, asked_again, with_entries};
+ghost use Rattle.mcs_explore_script.specs.UserLists.{all_again, asked_again, with_entries};
 
 use crate::questions::AskedLine;
 use mcs_explore_questions::{Asked, ExploreFault, comes_once, goes_on_once};
