@@ -14,7 +14,7 @@ pub struct Member<'a> {
     pub is_list: bool,
 }
 
-/// Whether a name stands before another.
+/// Whether a name is before another.
 fn is_before(name: &[u8], other: &[u8]) -> bool {
     for i in 0..name.len().min(other.len()) {
         if name[i] != other[i] {
@@ -24,7 +24,7 @@ fn is_before(name: &[u8], other: &[u8]) -> bool {
     name.len() < other.len()
 }
 
-/// The member whose name comes next behind a name.
+/// The member whose name comes next after a name.
 fn next_behind<'a>(members: &[Member<'a>], name: &[u8]) -> Option<Member<'a>> {
     let mut next: Option<Member<'a>> = None;
     for member in members {
@@ -64,7 +64,7 @@ fn put_list(page: &mut Page, text: &[u8]) {
     page.put(b"]");
 }
 
-/// Puts a member, behind others or as the first.
+/// Puts a member, after others or as the first.
 fn put_member(page: &mut Page, member: Member<'_>, is_first: bool) {
     page.between(is_first);
     page.quoted(member.name);
@@ -90,8 +90,8 @@ pub fn put_members(page: &mut Page, members: &[Member<'_>]) {
     page.put(b"}");
 }
 
-/// The words of a text as members under the names of a form, and those that have none under `more`.
-/// None where memory is refused.
+/// Returns the words of a text as members under the names of a form, and those that have none under
+/// `more`. None where memory is refused.
 pub fn members_of<'a>(
     alloc: Global,
     kind: Option<Member<'a>>,
@@ -122,7 +122,7 @@ pub fn members_of<'a>(
     Some(members)
 }
 
-/// The word with which a text begins, and what stands behind the space behind it.
+/// The word with which a text begins, and what follows the space after it.
 pub fn split_word(text: &[u8]) -> (&[u8], Option<&[u8]>) {
     for (i, byte) in text.iter().enumerate() {
         if *byte == b' '
@@ -134,7 +134,7 @@ pub fn split_word(text: &[u8]) -> (&[u8], Option<&[u8]>) {
     (text, None)
 }
 
-/// The member with which a text begins, and what stands behind it.
+/// Returns the member with which a text begins, and what follows it.
 fn member_of<'a>(fields: &mut Fields<'static>, text: &'a [u8]) -> (Member<'a>, Option<&'a [u8]>) {
     let Some(field) = fields.next_field() else {
         let more = Member {

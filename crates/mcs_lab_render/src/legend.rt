@@ -1,5 +1,4 @@
-//! What stands below the lanes: what every thread does at the end, and what the colours and lines
-//! mean.
+//! What is below the lanes: what every thread does at the end, and what the colours and lines mean.
 use crate::bars::{put_coloured, put_state};
 use crate::naming::{Names, put_full_name};
 use crate::paper::{Area, put_area, put_text};
@@ -48,7 +47,7 @@ pub fn put_end<N: Names>(
     Ok(y)
 }
 
-/// Where the next sample of the legend stands.
+/// Where the next sample of the legend is.
 #[derive(Drop)]
 struct Legend {
     x: u64,
@@ -57,8 +56,8 @@ struct Legend {
 }
 
 impl Legend {
-    /// The place of a sample with a text of so many columns; where the page ends a line, it begins
-    /// the next.
+    /// Returns the place of a sample with a text of so many columns. At the end of a line of the
+    /// page it begins the next line.
     fn next(&mut self, sample: u64, text: &str) -> Area {
         let needed = columns(text)
             .saturating_mul(COLUMN)

@@ -18,7 +18,7 @@ use mcs_types::{
 use std::alloc::Global;
 use std::marker::Model;
 
-/// What a line behind the boot of a script says.
+/// What a line after the boot of a script says.
 pub trait Item: Sized + Drop {
     ghost use Rattle.std.specs.Prelude.{IsSome};
     ghost use Rattle.mcs_text.specs.declared.fault.LineFault.{LineFault};
@@ -26,9 +26,9 @@ pub trait Item: Sized + Drop {
     /// The item that a line spells, where so many cores and threads are there.
     ghost item: { ℕ → ℕ → List ℕ → Result Self LineFault };
 
-    /// The item that a line spells, where so many cores and threads are there. Fault Form where it
-    /// spells none; Number where a number is out of its range; NoObject where the thread is not
-    /// there.
+    /// Reads the item that a line spells, where so many cores and threads are there. Fault Form
+    /// where it spells none; Number where a number is out of its range; NoObject where the thread
+    /// is not there.
     fn read(
         alloc: Global,
         cores: u8,
@@ -264,7 +264,7 @@ fn asked_cores(asked: Option<u8>, cores: u8) -> Result<u8, LineFault>
     }
 }
 
-/// The boot that the first line begins, by the key of its first word and the words behind it.
+/// Begins the boot of the first line, by the key of its first word and the words after it.
 #[tactic(auto, unfolding(crate::specs::Script::first_boot))]
 fn first_boot(
     alloc: Global,
@@ -297,7 +297,7 @@ fn add_line(boot: &mut Boot, line: BootLine) -> Result<(), ScriptFault>
     Ok(())
 }
 
-/// Adds the line that the words behind a key spell to the boot.
+/// Adds the line that the words after a key spell to the boot.
 #[tactic(auto, unfolding(crate::specs::Script::next_boot))]
 fn read_next_boot(boot: &mut Boot, key: Key, words: &mut Words<'_>) -> Result<(), ScriptFault>
     ensures reads { Reads (λ u. boot.new) result (next_boot boot.old key words.old) }

@@ -13,7 +13,7 @@ fn add_lines(to: &mut Vec<u8>, lines: &[String]) -> Result<(), AllocError> {
     Ok(())
 }
 
-/// The lines of the boot.
+/// Adds the lines of the boot.
 fn add_boot(to: &mut Vec<u8>, text: &mut Text, script: &Script) -> Result<(), AllocError> {
     text.clear();
     text.numbered(Key::Cores, script.cores as u64);
@@ -35,7 +35,7 @@ pub fn write_boot(alloc: Global, script: &Script) -> Result<Vec<u8>, AllocError>
     Ok(to)
 }
 
-/// The text of the lines behind a script's boot.
+/// The text of the lines after a script's boot.
 pub fn write_lines(alloc: Global, script: &Script) -> Result<Vec<u8>, AllocError> {
     let mut to = Vec::new(alloc);
     add_lines(&mut to, &script.lines)?;

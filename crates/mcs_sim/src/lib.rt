@@ -35,4 +35,4 @@ pub use replaying::{TracedRun, simulate};
 pub use running::run_text;
 pub use startup::{answer_status, arguments};
 pub use users::UserLines;
-pub use writing::trace;
+pub use writing::{put_boot, trace};
