@@ -84,7 +84,7 @@ fn sort_of(line: &[u8]) -> Sort {
     }
 }
 
-/// What stands behind the first two words of a line.
+/// Returns what follows the first two words of a line.
 fn behind_two(line: &[u8]) -> &[u8] {
     let mut rest = line;
     for _ in 0..2 {
@@ -275,22 +275,6 @@ fn come_once(alloc: Global, users: &Users, asked: &[AskedLine]) -> Result<(), Ex
     Ok(())
 }
 
-/// Returns whether a line is about the waits of a thread: they are excused, or it may not get
-/// stuck.
-fn is_of_waits(asked: &Asked, thread: ObjId) -> bool {
-    match asked {
-        Asked::Idle { thread: idle, .. } => idle.is_same(thread),
-        Asked::Live { thread: live, .. } => live.is_same(thread),
-        Asked::Answer { .. }
-        | Asked::AnswerIf { .. }
-        | Asked::Some { .. }
-        | Asked::Never { .. }
-        | Asked::Apart { .. }
-        | Asked::Before { .. }
-        | Asked::Again { .. } => false,
-    }
-}
-
 /// Returns the entry that can be answered in some order as long as a user is not stuck: the last
 /// one, which is answered after all others; none in particular where the user never ends.
 fn last_entry(list: &UserList) -> Option<usize> {
@@ -326,10 +310,7 @@ fn asked_lives(
 fn lives_of(alloc: Global, users: &Users, asked: &[AskedLine]) -> Result<Vec<Live>, ExploreFault> {
     let mut lives = asked_lives(alloc, users, asked)?;
     for (user, list) in users.lists().iter().enumerate() {
-        if !asked
-            .iter()
-            .any(|line| is_of_waits(&line.asked, list.thread))
-        {
+        if !asked.iter().any(|line| line.asked.is_of_waits(list.thread)) {
             let entry = last_entry(list);
             lives.push(Live { user, entry })?;
         }
