@@ -1,4 +1,4 @@
-//! Scripts of steps, which show what is told.
+//! Scripts of steps, which show what is reported.
 ghost use Rattle.std.specs.Prelude.{◌≡◌, ◌++◌, IfOk, OnOk};
 ghost use Rattle.mcs_explore_search.specs.Search.{listed, path_of};
 
@@ -13,7 +13,7 @@ use mcs_trace::{Sink, put_boot_line, put_cores, put_kept_answer, put_kept_step};
 use std::alloc::Global;
 use std::io::Write;
 
-/// The fault of the program where a search ended so.
+/// Returns the fault of the program where a search ended so.
 pub fn fault_of(fault: OrdersFault) -> LabFault {
     match fault {
         OrdersFault::BookFull => LabFault::BookFull,
@@ -21,7 +21,8 @@ pub fn fault_of(fault: OrdersFault) -> LabFault {
     }
 }
 
-/// The turns that lead to a state, and the one from it that shows something, where it is one.
+/// Returns the turns that lead to a state, and the one from it that shows something, where it is
+/// one.
 pub fn turns_of<W: Watch>(orders: &Orders<'_, W>, seen: Sighting) -> Result<Vec<Turn>, LabFault>
     ensures { IfOk result (λ turns.
         turns.items ≡ path_of orders.now.search.map.entries seen.place ++ listed seen.turn) }
@@ -44,7 +45,7 @@ fn push(turns: &mut Vec<Turn>, turn: Option<Turn>) -> Result<(), LabFault>
     Ok(())
 }
 
-/// Puts the boot and the steps of a book, each with its answer.
+/// Puts the boot and the steps of a book into a sink, each step with its answer.
 fn put_script<W: Write>(sink: &mut Sink<W>, book: &Book) {
     put_cores(sink, book.cores());
     for line in book.boot() {
@@ -85,17 +86,28 @@ fn put_names<W: Write>(to: &mut W, names: &Names) -> Result<(), LabFault> {
     Ok(())
 }
 
-/// The script of these turns, which are made anew from the boot, behind a comment and the names.
+/// Makes turns again from the boot of a script on, and returns where they lead. BookFull where the
+/// book has 1,000,000 lines, OutOfMemory where memory was refused.
+pub fn walk_by(
+    alloc: Global,
+    script: &UserScript,
+    turns: &[Turn],
+) -> Result<Walk<PlainLines>, LabFault> {
+    match retrace(alloc, &script.boot, &script.users, turns) {
+        Ok(walk) => Ok(walk),
+        Err(fault) => Err(fault_of(fault)),
+    }
+}
+
+/// Returns the script of these turns, which are made again from the boot, behind a comment and the
+/// names.
 pub fn script_by(
     alloc: Global,
     script: &UserScript,
     comment: &[u8],
     turns: &[Turn],
 ) -> Result<Vec<u8>, LabFault> {
-    let walk: Walk<PlainLines> = match retrace(alloc, &script.boot, &script.users, turns) {
-        Ok(walk) => walk,
-        Err(fault) => return Err(fault_of(fault)),
-    };
+    let walk = walk_by(alloc, script, turns)?;
     let mut text = Vec::from_slice(alloc, comment)?;
     put_names(&mut text, &script.names)?;
     write_script(alloc, &mut text, walk.kernel().book())?;
