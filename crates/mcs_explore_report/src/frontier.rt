@@ -56,8 +56,8 @@ pub fn count_of(kinds: &[End]) -> usize {
     count
 }
 
-/// Whether an entry was given on the way to a state that was found, by the number of its user and
-/// its own, from 0.
+/// Returns whether an entry was given on the way to a state that was found, by the number of its
+/// user and its own, from 0.
 pub fn is_given<W: Watch>(
     orders: &Orders<'_, W>,
     user: usize,
