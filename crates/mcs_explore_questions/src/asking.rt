@@ -81,3 +81,71 @@ pub enum Asked {
         event: Event,
     },
 }
+
+impl Entries {
+    /// Returns whether an entry is one of these, by its number from 1 on.
+    pub fn contain(self, number: usize) -> bool {
+        self.first <= number && number <= self.last
+    }
+}
+
+impl Asked {
+    /// Returns whether it asks something that holds or does not.
+    pub fn is_question(&self) -> bool {
+        match self {
+            Asked::Idle { .. } | Asked::Again { .. } => false,
+            Asked::Live { .. }
+            | Asked::Answer { .. }
+            | Asked::AnswerIf { .. }
+            | Asked::Some { .. }
+            | Asked::Never { .. }
+            | Asked::Apart { .. }
+            | Asked::Before { .. } => true,
+        }
+    }
+
+    /// Returns whether it asks that a user never gets stuck.
+    pub fn is_live(&self) -> bool {
+        match self {
+            Asked::Live { .. } => true,
+            Asked::Idle { .. }
+            | Asked::Answer { .. }
+            | Asked::AnswerIf { .. }
+            | Asked::Some { .. }
+            | Asked::Never { .. }
+            | Asked::Apart { .. }
+            | Asked::Before { .. }
+            | Asked::Again { .. } => false,
+        }
+    }
+
+    /// Returns whether it lets a user wait for ever in an entry, by its number from 1 on.
+    pub fn excuses(&self, user: ObjId, number: usize) -> bool {
+        match self {
+            Asked::Idle { thread, entries } => thread.is_same(user) && entries.contain(number),
+            Asked::Live { .. }
+            | Asked::Answer { .. }
+            | Asked::AnswerIf { .. }
+            | Asked::Some { .. }
+            | Asked::Never { .. }
+            | Asked::Apart { .. }
+            | Asked::Before { .. }
+            | Asked::Again { .. } => false,
+        }
+    }
+
+    /// Returns whether it is about the waits of a user: it excuses some, or asks that the user
+    /// never gets stuck.
+    pub fn is_of_waits(&self, user: ObjId) -> bool {
+        match self {
+            Asked::Idle { thread, .. } | Asked::Live { thread, .. } => thread.is_same(user),
+            Asked::Answer { .. }
+            | Asked::AnswerIf { .. }
+            | Asked::Some { .. }
+            | Asked::Never { .. }
+            | Asked::Apart { .. }
+            | Asked::Before { .. }
+            | Asked::Again { .. } => false,
+        }
+    }
+}

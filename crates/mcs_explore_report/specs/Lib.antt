@@ -12,3 +12,4 @@ pub mod Judged
 pub mod Saying
 pub mod Verdicts
 pub mod Stuck
+pub mod Scripts

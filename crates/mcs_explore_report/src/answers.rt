@@ -72,7 +72,7 @@ impl Table {
         }
     }
 
-    /// Whether an answer is there.
+    /// Returns whether an answer is there.
     fn has(&self, answer: &Answer) -> bool
         ensures { IsTrue result ↔ IsAmong self.now answer.now }
     {
@@ -220,7 +220,7 @@ impl Answers {
     }
 }
 
-/// Whether an entry is Send, whose thread goes on once its message is taken.
+/// Returns whether an entry is Send, whose thread goes on once its message is taken.
 pub fn is_send(entry: &Entry) -> bool
     ensures { result ≡ is_send entry.now }
 {

@@ -4,24 +4,25 @@ ghost use Rattle.mcs_explore_report.specs.Standings.{is_blocked, listed, standin
 ghost use Rattle.mcs_explore_report.specs.Ends.{Kind, IsKindAt, IsNoKind, IsNoted, IsNotedIf, with_one_more};
 
 use crate::judging::answered_by;
+use crate::naming::object_in;
 use mcs_explore_orders::{OrdersFault, Users, Walk};
 use mcs_queues::PlainLines;
 use mcs_types::{ObjId, Status};
 use std::alloc::Global;
 use std::marker::Model;
 
-/// A user that has not done all, or whose last entry waits.
+/// A user that has entries left, or whose last entry waits.
 #[derive(Clone, Copy, Debug)]
 pub struct Standing {
     pub thread: ObjId,
     pub status: Option<Status>,
     pub has_entries: bool,
-    /// How many of its entries were answered for good: it waits in the next, or has that left.
+    /// How many of its entries were answered for good: it waits in the next one, or has it left.
     pub answered: usize,
 }
 
-/// Runs that end with the same users standing in the same places: how many states, and the first of
-/// them.
+/// A kind of end, by the users that are not done and their states: in how many places it comes, and
+/// the first of them.
 #[derive(Drop)]
 pub struct End {
     pub standing: Vec<Standing>,
@@ -62,14 +63,14 @@ impl Model for Ends {
     ghost view = { λ e. e.kinds.items };
 }
 
-/// Whether a status is the same as another one.
+/// Returns whether a status is the same as another one.
 fn is_same_status(status: Status, other: Status) -> bool
     ensures { IsTrue result ↔ (status ≡ other) }
 {
     status == other
 }
 
-/// The same where there may be none.
+/// Returns the same where there may be none.
 #[tactic(auto, using(crate::proofs::SameStanding::some_status, crate::proofs::SameStanding::none_left, crate::proofs::SameStanding::none_right))]
 fn is_same_or_none(status: Option<Status>, other: Option<Status>) -> bool
     ensures { IsTrue result ↔ (status ≡ other) }
@@ -82,7 +83,7 @@ fn is_same_or_none(status: Option<Status>, other: Option<Status>) -> bool
 }
 
 impl Standing {
-    /// Whether the other user is this one, and stands in the same place.
+    /// Returns whether the other user is this one, in the same state.
     #[tactic(auto, using(crate::proofs::SameStanding::other_thread, crate::proofs::SameStanding::other_entries, crate::proofs::SameStanding::other_answered, crate::proofs::SameStanding::same_rest))]
     fn is_same(&self, other: &Standing) -> bool
         ensures { IsTrue result ↔ (self.now ≡ other.now) }
@@ -98,16 +99,37 @@ impl Standing {
         }
         is_same_or_none(self.status, other.status)
     }
+
+    /// Returns the number of the entry in which it waits, or which it has left, from 1 on.
+    pub fn entry(&self) -> usize {
+        self.answered.saturating_add(1)
+    }
+
+    /// Returns what it waits for: the object of a queue, or the reply object that owes it an
+    /// answer; None where it waits for nobody.
+    pub fn object(&self) -> Option<ObjId> {
+        match self.status {
+            Some(Status::Queued(queue)) => Some(object_in(queue)),
+            Some(Status::OnReply(reply)) => Some(reply),
+            Some(Status::Running | Status::Restart | Status::Inactive | Status::Closed) | None =>
+                None,
+        }
+    }
+
+    /// Returns whether it waits for another: it is in a queue, or is owed an answer.
+    pub fn is_waiting(&self) -> bool {
+        self.object().is_some()
+    }
 }
 
-/// Whether a thread neither runs nor restarts.
+/// Returns whether a thread with this status neither runs nor restarts.
 fn is_blocked(status: Option<Status>) -> bool
     ensures { result ≡ is_blocked status }
 {
     !matches!(status, Some(Status::Running | Status::Restart))
 }
 
-/// How the user in a place stands; None where it has done all and waits for nothing.
+/// Returns the state of the user in a place; None where it is done and waits for nothing.
 fn standing_of(users: &Users, walk: &Walk<PlainLines>, user: usize) -> Option<Standing>
     ensures { result ≡ standing_of users.now walk.now user }
 {
@@ -128,7 +150,7 @@ fn standing_of(users: &Users, walk: &Walk<PlainLines>, user: usize) -> Option<St
     }
 }
 
-/// Adds what stands, if it does.
+/// Adds a user, if there is one.
 fn push(standing: &mut Vec<Standing>, stands: Option<Standing>) -> Result<(), OrdersFault>
     ensures { OnOk result (standing.new.items ≡ standing.old.items ++ listed stands) }
 {
@@ -138,7 +160,7 @@ fn push(standing: &mut Vec<Standing>, stands: Option<Standing>) -> Result<(), Or
     Ok(())
 }
 
-/// How all users stand.
+/// Returns the users that are not done, with their states.
 fn standings(
     alloc: Global,
     users: &Users,
@@ -153,7 +175,7 @@ fn standings(
     Ok(standing)
 }
 
-/// Whether the same users stand in the same places.
+/// Returns whether the same users are in the same states.
 pub fn is_same_kind(standing: &[Standing], other: &[Standing]) -> bool
     ensures { IsTrue result ↔ (standing.now ≡ other.now) }
 {
@@ -169,7 +191,7 @@ pub fn is_same_kind(standing: &[Standing], other: &[Standing]) -> bool
 }
 
 impl Ends {
-    /// No end.
+    /// Returns no end.
     pub fn new(alloc: Global) -> Ends
         ensures { result ≡ [] }
     {
@@ -179,14 +201,14 @@ impl Ends {
         }
     }
 
-    /// The kinds, in the order in which they were found.
+    /// Returns the kinds, in the order in which they were found.
     pub fn kinds(&self) -> &[End]
         ensures { result.now ≡ self.now }
     {
         self.kinds.as_slice()
     }
 
-    /// The kind in which the users stand so.
+    /// Returns the number of the kind with these users; None where there is none.
     fn find(&self, standing: &[Standing]) -> Option<usize>
         ensures within { IfSome result (λ i. i < length self.now) }
         ensures some { IfSome result (λ i. IsKindAt self.now standing.now i) }

@@ -10,12 +10,11 @@ ghost use Rattle.mcs_explore_report.specs.Found.{AreAnswersFound, AreAnswersInRu
 ghost use Rattle.mcs_explore_report.specs.Modes.{IsWholeSearch};
 ghost use Rattle.mcs_explore_report.specs.Stuck.{AreDecided};
 
-use mcs_explore_script::Live;
 use crate::modes::mode_of;
-use mcs_explore_script::AskedLine;
 use crate::scripts::fault_of;
 use crate::watching::{Progress, Watched};
 use mcs_explore_orders::{Budget, Orders, Users, explore};
+use mcs_explore_script::{AskedLine, Live};
 use mcs_kernel::Boot;
 use mcs_lab_check::LabFault;
 use mcs_types::Entry;

@@ -1,9 +1,9 @@
 //! What was found, and not expanded: ends by the depth of a search, and entries that were
 //! given.
 use crate::ends::{End, Ends};
-use mcs_explore_script::UserScript;
 use crate::scripts::fault_of;
 use mcs_explore_orders::{Orders, OrdersFault, Turn, Walk, Watch, retrace};
+use mcs_explore_script::UserScript;
 use mcs_lab_check::LabFault;
 use mcs_queues::PlainLines;
 use std::alloc::Global;
@@ -19,7 +19,8 @@ fn note_end(
     let users = &script.users;
     let walk: Walk<PlainLines> = retrace(alloc, &script.boot, users, turns)?;
     let picks = walk.picks(alloc, users)?;
-    let is_over = picks.iter().all(|pick| pick.is_none());
+    let next = walk.turns(alloc, users, &picks)?;
+    let is_over = walk.is_over(users, &picks, &next);
     ends.note_state(users, place, &walk, is_over)
 }
 
@@ -56,8 +57,8 @@ pub fn count_of(kinds: &[End]) -> usize {
     count
 }
 
-/// Whether an entry was given on the way to a state that was found, by the number of its user and
-/// its own, from 0.
+/// Returns whether an entry was given on the way to a state that was found, by the number of its
+/// user and its own, from 0.
 pub fn is_given<W: Watch>(
     orders: &Orders<'_, W>,
     user: usize,

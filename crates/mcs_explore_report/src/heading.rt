@@ -1,11 +1,13 @@
-//! How the report says in which way states were told apart.
+//! The first line of a report, which says how states were told apart.
+use crate::frontier::count_of;
 use crate::modes::{Mode, make_objects, mode_of};
 use crate::naming::{names_later, names_message};
+use crate::report::Report;
+use crate::watching::Progress;
 use mcs_explore_script::UserScript;
-use mcs_lab_check::LabFault;
-use std::io::Write;
+use mcs_lab_inspect::Page;
 
-/// The number of the first line that names a message.
+/// Returns the number of the first line that names a message.
 fn line_of_message(script: &UserScript) -> u64 {
     for line in script.asked.iter() {
         if names_message(&line.asked) {
@@ -15,7 +17,7 @@ fn line_of_message(script: &UserScript) -> u64 {
     0
 }
 
-/// The number of the first line that names an object which the boot did not make.
+/// Returns the number of the first line that names an object which the boot did not make.
 fn line_of_later(script: &UserScript) -> u64 {
     for line in script.asked.iter() {
         if names_later(&script.boot, &line.asked) {
@@ -25,32 +27,50 @@ fn line_of_later(script: &UserScript) -> u64 {
     0
 }
 
-/// Writes how states were told apart, where that is not by all but the numbers of messages.
-pub fn put_mode<W: Write>(to: &mut W, script: &UserScript, is_exact: bool) -> Result<(), LabFault> {
+/// Puts that something is told apart, since a line names one.
+fn put_apart(page: &mut Page, what: &str, line: u64) {
+    page.put(b"; ");
+    page.put(what.as_bytes());
+    page.put(b" are told apart: line ");
+    page.number(line);
+    page.put(b" names one");
+}
+
+/// Puts how states were told apart, where that is not by all but the numbers of messages.
+fn put_mode(page: &mut Page, script: &UserScript, is_exact: bool) {
     if is_exact {
-        to.write_all(b"; exact")?;
-        return Ok(());
+        return page.put(b"; exact");
     }
     match mode_of(&script.boot, &script.users, &script.asked, is_exact) {
-        Mode::Canonical => {
-            to.write_all(b"; users make objects: merged by slots, tested only")?;
-        }
+        Mode::Canonical => page.put(b"; users make objects: merged by slots, tested only"),
         Mode::Proved { numbered: true } => {
-            let line = line_of_message(script);
-            write!(
-                to,
-                "; numbers of messages are told apart: line {line} names one"
-            )?;
+            put_apart(page, "numbers of messages", line_of_message(script))
         }
         Mode::Proved { numbered: false } => {
             if make_objects(&script.users) {
-                let line = line_of_later(script);
-                write!(
-                    to,
-                    "; objects of users are told apart: line {line} names one"
-                )?;
+                put_apart(page, "objects of users", line_of_later(script));
             }
         }
     }
-    Ok(())
+}
+
+/// Puts the first line: how much was found, and whether that is the whole.
+pub fn put_head<P: Progress>(page: &mut Page, report: &Report<'_, P>) {
+    let orders = report.findings.orders;
+    if !orders.is_whole() {
+        page.put(b"stopped at ");
+    }
+    page.count(orders.states());
+    page.put(b" states, ");
+    page.count(orders.turns());
+    page.put(b" turns, depth ");
+    page.count(orders.deepest());
+    page.put(b", ");
+    page.count(count_of(report.findings.ends.as_slice()));
+    page.put(b" ends");
+    if orders.is_whole() {
+        page.put(b", whole");
+    }
+    put_mode(page, report.findings.script, report.is_exact);
+    page.put(b"\n");
 }

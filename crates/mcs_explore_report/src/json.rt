@@ -1,57 +1,29 @@
 //! The report of a search as one document of JSON.
-use crate::ends::{End, Standing};
-use crate::findings::{Answered, Findings, Outcome, entry_of, is_question, is_waiting};
+use crate::ends::Standing;
+use crate::findings::{AnsweredEntry, Findings, KindOfEnd};
 use crate::frontier::count_of;
 use crate::judging::Sighting;
-use mcs_explore_script::AskedLine;
-use crate::report::{
-    Explored, Judged, Report, Saves, answer_name, end_name, question_name, stuck_name,
-};
+use crate::report::{Judged, Report};
+use crate::saving::ScriptName;
+use crate::slots::Origin;
 use crate::stuck_users::{StuckUsers, seen_at};
+use crate::text::put_verdict;
 use crate::watching::Progress;
-use mcs_lab_check::LabFault;
-use mcs_text::letter;
+use mcs_lab_check::{LabFault, Names};
+use mcs_lab_inspect::Page;
+use mcs_text::Token;
 use mcs_types::{ObjId, Status};
+use std::alloc::Global;
 use std::io::Write;
 
-/// Writes a text between quotes. A byte that is not printable is that of the character of its
-/// number.
-fn put_text<W: Write>(to: &mut W, text: &[u8]) -> Result<(), LabFault> {
-    to.write_all(b"\"")?;
-    for byte in text {
-        match *byte {
-            b'"' | b'\\' => to.write_all(&[b'\\', *byte])?,
-            b' '..=b'~' => to.write_all(&[*byte])?,
-            other => write!(to, "\\u{other:04x}")?,
-        }
-    }
-    to.write_all(b"\"")?;
-    Ok(())
+/// Puts the beginning of an object: a thread, and its name where it has one.
+fn put_thread(page: &mut Page, names: &Names, thread: ObjId) {
+    page.put(b"{\"thread\":");
+    page.quoted_word(&Token::Name(thread));
+    page.name_member(names, thread);
 }
 
-/// Writes a member of an object behind another, whose value is a text.
-fn put_member<W: Write>(to: &mut W, name: &str, text: &[u8]) -> Result<(), LabFault> {
-    write!(to, ",\"{name}\":")?;
-    put_text(to, text)
-}
-
-/// Writes an object, and its name where it has one, as members behind others.
-fn put_object<P: Progress, W: Write>(
-    to: &mut W,
-    findings: &Findings<'_, P>,
-    member: &str,
-    object: ObjId,
-) -> Result<(), LabFault> {
-    let kind = char::from(letter(object.kind));
-    let serial = object.serial;
-    write!(to, "\"{member}\":\"{kind}{serial}\"")?;
-    match findings.script.names.of(object) {
-        Some(name) => put_member(to, "name", name),
-        None => Ok(()),
-    }
-}
-
-/// How a user stands, in a word.
+/// Returns the word for the status of a user in an end.
 fn status_text(status: Option<Status>) -> &'static str {
     match status {
         Some(Status::Queued(_) | Status::OnReply(_)) => "waits",
@@ -62,305 +34,287 @@ fn status_text(status: Option<Status>) -> &'static str {
     }
 }
 
-/// Writes a user that stands in an end.
-fn put_standing<P: Progress, W: Write>(
-    to: &mut W,
+/// Puts what a user waits in or for as a member, if it waits.
+fn put_waits(page: &mut Page, names: &Names, status: Option<Status>) {
+    match status {
+        Some(Status::Queued(queue)) => {
+            page.key("in");
+            page.put(b"\"");
+            page.queue(names, queue);
+            page.put(b"\"");
+        }
+        Some(Status::OnReply(reply)) => {
+            page.key("in");
+            page.put(b"\"");
+            page.object(names, reply);
+            page.put(b"\"");
+        }
+        Some(Status::Running | Status::Restart | Status::Inactive | Status::Closed) | None => {}
+    }
+}
+
+/// Puts the slot that names an object as a member, where a user made it.
+fn put_origin(page: &mut Page, origin: Origin) {
+    match origin {
+        Origin::Boot | Origin::NoSlot => {}
+        Origin::Slot(slot) => {
+            page.key("slot");
+            page.put(b"{\"cnode\":");
+            page.quoted_word(&Token::Name(slot.cnode));
+            page.count_member("index", slot.index as usize);
+            page.put(b"}");
+        }
+    }
+}
+
+/// Puts a user of an end.
+fn put_standing<P: Progress>(
+    page: &mut Page,
     findings: &Findings<'_, P>,
     standing: &Standing,
-) -> Result<(), LabFault> {
-    to.write_all(b"{")?;
-    put_object(to, findings, "thread", standing.thread)?;
-    put_member(to, "status", status_text(standing.status).as_bytes())?;
-    let number = entry_of(standing);
-    write!(to, ",\"entry\":{number}")?;
-    put_member(to, "text", findings.entry_text(standing.thread, number))?;
-    let left = standing.has_entries;
-    let idle = findings.is_idle(standing);
-    write!(to, ",\"left\":{left},\"idle\":{idle}")?;
-    if is_waiting(standing.status) {
-        to.write_all(b",\"in\":\"")?;
-        match standing.status {
-            Some(Status::Queued(queue)) => findings.script.names.put_queue(to, queue)?,
-            Some(Status::OnReply(reply)) => findings.script.names.put(to, reply)?,
-            _ => {}
-        }
-        to.write_all(b"\"")?;
-    }
-    to.write_all(b"}")?;
-    Ok(())
+    origin: Origin,
+) {
+    let names = &findings.script.names;
+    let number = standing.entry();
+    put_thread(page, names, standing.thread);
+    page.text_member("status", status_text(standing.status).as_bytes());
+    page.count_member("entry", number);
+    page.text_member("text", findings.entry_text(standing.thread, number));
+    page.flag_member("left", standing.has_entries);
+    page.flag_member("idle", findings.is_idle(standing));
+    put_waits(page, names, standing.status);
+    put_origin(page, origin);
+    page.put(b"}");
 }
 
-/// Writes the comma before an element that so many stand before.
-fn put_comma<W: Write>(to: &mut W, before: usize) -> Result<(), LabFault> {
-    if before > 0 {
-        to.write_all(b",")?;
-    }
-    Ok(())
+/// Puts the name of a script as a member.
+fn put_script(page: &mut Page, alloc: Global, name: ScriptName) {
+    page.key("script");
+    page.put(b"\"");
+    page.made(name.file_name(alloc));
+    page.put(b"\"");
 }
 
-/// Writes the lines of steps of a script as a list.
-fn put_steps<W: Write>(to: &mut W, script: &[u8]) -> Result<(), LabFault> {
-    to.write_all(b"[")?;
-    let mut count: usize = 0;
+/// Puts the lines of steps of a script as a list.
+fn put_lines(page: &mut Page, script: &[u8]) {
+    let mut is_first = true;
+    page.put(b"[");
     for line in script.split(|byte| *byte == b'\n') {
         if line.first().is_some_and(|byte| byte.is_ascii_digit()) {
-            put_comma(to, count)?;
-            put_text(to, line)?;
-            count = count.saturating_add(1);
+            page.between(is_first);
+            page.quoted(line);
+            is_first = false;
         }
     }
-    to.write_all(b"]")?;
+    page.put(b"]");
+}
+
+/// Puts the script of what is seen and its steps as the last members of an object.
+fn put_steps<P: Progress>(
+    page: &mut Page,
+    report: &Report<'_, P>,
+    name: ScriptName,
+    seen: Sighting,
+) -> Result<(), LabFault> {
+    let script = report.script_of(b"", seen)?;
+    put_script(page, report.findings.alloc, name);
+    page.key("steps");
+    put_lines(page, &script);
+    page.put(b"}");
     Ok(())
 }
 
-/// Writes a kind of end.
-fn put_end<P: Progress, W: Write, S: Saves>(
-    to: &mut W,
-    report: &Report<'_, P, S>,
-    number: usize,
-    end: &End,
+/// Puts a kind of end.
+fn put_end<P: Progress>(
+    page: &mut Page,
+    report: &Report<'_, P>,
+    kind: &KindOfEnd<'_>,
 ) -> Result<(), LabFault> {
     let findings = &report.findings;
-    let seen = Sighting {
-        place: end.place,
-        turn: None,
-    };
-    let count = end.count;
-    write!(to, "{{\"number\":{number}")?;
-    put_member(to, "kind", findings.ending(end).text().as_bytes())?;
-    write!(to, ",\"count\":{count},\"users\":[")?;
-    for (before, standing) in end.standing.iter().enumerate() {
-        put_comma(to, before)?;
-        put_standing(to, findings, standing)?;
+    let end = kind.end;
+    page.put(b"{\"number\":");
+    page.count(kind.number);
+    page.text_member("kind", findings.ending(end).text().as_bytes());
+    page.count_member("count", end.count);
+    page.key("users");
+    page.put(b"[");
+    for (place, standing) in end.standing.iter().enumerate() {
+        page.between(place == 0);
+        put_standing(page, findings, standing, kind.origin(place));
     }
-    let name = end_name(findings.alloc, number)?;
-    to.write_all(b"]")?;
-    put_member(to, "script", name.as_bytes())?;
-    to.write_all(b",\"steps\":")?;
-    put_steps(to, report.script_of(b"", seen)?.as_slice())?;
-    to.write_all(b"}")?;
-    Ok(())
+    page.put(b"]");
+    put_steps(
+        page,
+        report,
+        ScriptName::End(kind.number),
+        seen_at(end.place),
+    )
 }
 
-/// Writes all kinds of ends.
-fn put_ends<P: Progress, W: Write, S: Saves>(
+/// Puts all kinds of ends as a member, and writes each of them.
+fn put_ends<P: Progress, W: Write>(
     to: &mut W,
-    report: &Report<'_, P, S>,
+    page: &mut Page,
+    report: &Report<'_, P>,
 ) -> Result<(), LabFault> {
-    to.write_all(b",\"kinds\":[")?;
-    let mut number: usize = 0;
-    for end in report.findings.ends.iter() {
-        if number > 0 {
-            to.write_all(b",")?;
-        }
-        number = number.saturating_add(1);
-        put_end(to, report, number, end)?;
+    page.key("kinds");
+    page.put(b"[");
+    for index in 0..report.findings.ends.len() {
+        let Some(kind) = report.findings.kind(index) else {
+            break;
+        };
+        page.between(index == 0);
+        put_end(page, report, &kind)?;
+        page.write(to)?;
     }
-    to.write_all(b"]")?;
+    page.put(b"]");
     Ok(())
 }
 
-/// Writes users that are stuck from one state on.
-fn put_stuck<P: Progress, W: Write, S: Saves>(
-    to: &mut W,
-    report: &Report<'_, P, S>,
+/// Puts users that are stuck from one state on.
+fn put_stuck<P: Progress>(
+    page: &mut Page,
+    report: &Report<'_, P>,
     number: usize,
     stuck: &StuckUsers,
 ) -> Result<(), LabFault> {
-    let findings = &report.findings;
-    write!(to, "{{\"number\":{number},\"users\":[")?;
-    for (before, user) in stuck.users.iter().enumerate() {
-        if let Some(list) = findings.script.users.at(*user) {
-            put_comma(to, before)?;
-            to.write_all(b"{")?;
-            put_object(to, findings, "thread", list.thread)?;
-            to.write_all(b"}")?;
+    let script = report.findings.script;
+    let mut is_first = true;
+    page.put(b"{\"number\":");
+    page.count(number);
+    page.key("users");
+    page.put(b"[");
+    for user in stuck.users.iter() {
+        if let Some(list) = script.users.at(*user) {
+            page.between(is_first);
+            put_thread(page, &script.names, list.thread);
+            page.put(b"}");
+            is_first = false;
         }
     }
-    let seen = seen_at(stuck.place);
-    to.write_all(b"]")?;
-    let name = stuck_name(findings.alloc, number)?;
-    put_member(to, "script", name.as_bytes())?;
-    to.write_all(b",\"steps\":")?;
-    put_steps(to, report.script_of(b"", seen)?.as_slice())?;
-    to.write_all(b"}")?;
-    Ok(())
+    page.put(b"]");
+    put_steps(
+        page,
+        report,
+        ScriptName::Stuck(number),
+        seen_at(stuck.place),
+    )
 }
 
-/// Writes all users that are stuck.
-fn put_all_stuck<P: Progress, W: Write, S: Saves>(
-    to: &mut W,
-    report: &Report<'_, P, S>,
-) -> Result<(), LabFault> {
-    to.write_all(b",\"stuck\":[")?;
-    for (before, stuck) in report.findings.stuck.iter().enumerate() {
-        put_comma(to, before)?;
-        put_stuck(to, report, before.saturating_add(1), stuck)?;
+/// Puts all users that are stuck as a member.
+fn put_all_stuck<P: Progress>(page: &mut Page, report: &Report<'_, P>) -> Result<(), LabFault> {
+    page.key("stuck");
+    page.put(b"[");
+    for (index, stuck) in report.findings.stuck.iter().enumerate() {
+        page.between(index == 0);
+        put_stuck(page, report, index.saturating_add(1), stuck)?;
     }
-    to.write_all(b"]")?;
+    page.put(b"]");
     Ok(())
 }
 
-/// Writes the answers of an entry.
-fn put_answered<P: Progress, W: Write>(
-    to: &mut W,
-    findings: &Findings<'_, P>,
-    thread: ObjId,
-    entry: usize,
-    answers: &[Answered],
-) -> Result<(), LabFault> {
-    to.write_all(b",\"answers\":[")?;
-    let mut number: usize = 0;
-    for answer in answers {
-        if number > 0 {
-            to.write_all(b",")?;
-        }
-        number = number.saturating_add(1);
-        to.write_all(b"{\"answer\":")?;
-        put_text(to, answer.text.as_slice())?;
-        let steps = findings.steps(answer.seen);
-        write!(to, ",\"steps\":{steps}")?;
-        let name = answer_name(findings.alloc, thread, entry, number)?;
-        put_member(to, "script", name.as_bytes())?;
-        to.write_all(b"}")?;
-    }
-    to.write_all(b"]")?;
-    Ok(())
-}
-
-/// Writes an entry, by its number from 1 on.
-fn put_entry<P: Progress, W: Write>(
-    to: &mut W,
-    findings: &mut Findings<'_, P>,
-    user: usize,
-    thread: ObjId,
-    number: usize,
-) -> Result<(), LabFault> {
-    let answers = findings.answers(user, number.saturating_sub(1))?;
-    to.write_all(b"{")?;
-    put_object(to, findings, "thread", thread)?;
-    write!(to, ",\"entry\":{number}")?;
-    put_member(to, "text", findings.entry_text(thread, number))?;
-    if answers.is_empty() {
-        put_member(
-            to,
-            "unanswered",
-            findings.unanswered(thread, number)?.as_bytes(),
-        )?;
-    }
-    put_answered(to, findings, thread, number, answers.as_slice())?;
-    to.write_all(b"}")?;
-    Ok(())
-}
-
-/// Writes all entries.
-fn put_entries<P: Progress, W: Write>(
-    to: &mut W,
-    findings: &mut Findings<'_, P>,
-) -> Result<(), LabFault> {
-    to.write_all(b",\"entries\":[")?;
-    let script = findings.script;
-    let mut between = "";
-    for user in 0..script.users.lists().len() {
-        let Some(list) = script.users.at(user) else {
-            break;
+/// Puts the answers of an entry as a member.
+fn put_answers<P: Progress>(page: &mut Page, findings: &Findings<'_, P>, entry: &AnsweredEntry) {
+    page.key("answers");
+    page.put(b"[");
+    for (index, answer) in entry.answers.iter().enumerate() {
+        let name = ScriptName::Answer {
+            event: entry.event,
+            number: index.saturating_add(1),
         };
-        for before in 0..list.entries.len() {
-            write!(to, "{between}")?;
-            put_entry(to, findings, user, list.thread, before.saturating_add(1))?;
-            between = ",";
-        }
+        page.between(index == 0);
+        page.put(b"{\"answer\":");
+        page.quoted(answer.text.as_slice());
+        page.count_member("steps", findings.steps(answer.seen));
+        put_script(page, findings.alloc, name);
+        page.put(b"}");
     }
-    to.write_all(b"]")?;
-    Ok(())
+    page.put(b"]");
 }
 
-/// What came of a question, in words.
-fn outcome_text(outcome: Outcome) -> &'static str {
-    match outcome {
-        Outcome::Holds | Outcome::HoldsSince(_) => "holds",
-        Outcome::Fails => "fails",
-        Outcome::NotSeen => "not seen",
+/// Puts an entry.
+fn put_entry<P: Progress>(page: &mut Page, findings: &Findings<'_, P>, entry: &AnsweredEntry) {
+    let event = entry.event;
+    put_thread(page, &findings.script.names, event.thread);
+    page.count_member("entry", event.number);
+    page.text_member("text", findings.entry_text(event.thread, event.number));
+    if let Some(why) = entry.unanswered {
+        page.text_member("unanswered", why.text().as_bytes());
     }
+    put_answers(page, findings, entry);
+    page.put(b"}");
 }
 
-/// Writes a question.
-fn put_question<P: Progress, W: Write>(
-    to: &mut W,
-    findings: &Findings<'_, P>,
-    line: &AskedLine,
-    judged: Judged,
-) -> Result<(), LabFault> {
-    let number = line.line;
-    write!(to, "{{\"line\":{number}")?;
-    put_member(to, "text", line.text.as_slice())?;
-    put_member(to, "verdict", outcome_text(judged.outcome).as_bytes())?;
-    if let Outcome::HoldsSince(why) = judged.outcome {
-        put_member(to, "since", why.as_bytes())?;
+/// Puts all entries as a member.
+fn put_entries<P: Progress>(page: &mut Page, report: &Report<'_, P>) {
+    page.key("entries");
+    page.put(b"[");
+    for (index, entry) in report.entries.iter().enumerate() {
+        page.between(index == 0);
+        put_entry(page, &report.findings, entry);
+    }
+    page.put(b"]");
+}
+
+/// Puts a question.
+fn put_question<P: Progress>(page: &mut Page, findings: &Findings<'_, P>, judged: &Judged<'_>) {
+    page.put(b"{\"line\":");
+    page.number(judged.line.line);
+    page.text_member("text", judged.line.text.as_slice());
+    page.text_member("verdict", judged.outcome.text().as_bytes());
+    if let Some(why) = judged.outcome.since() {
+        page.text_member("since", why.text().as_bytes());
     }
     if let Some(seen) = judged.seen {
-        let steps = findings.steps(seen);
-        write!(to, ",\"steps\":{steps}")?;
-        let name = question_name(findings.alloc, number)?;
-        put_member(to, "script", name.as_bytes())?;
+        page.count_member("steps", findings.steps(seen));
+        put_script(page, findings.alloc, ScriptName::Question(judged.line.line));
     }
-    to.write_all(b"}")?;
+    page.put(b"}");
+}
+
+/// Puts all questions as a member.
+fn put_questions<P: Progress>(page: &mut Page, report: &Report<'_, P>) {
+    page.key("questions");
+    page.put(b"[");
+    for (index, judged) in report.judged.iter().enumerate() {
+        page.between(index == 0);
+        put_question(page, &report.findings, judged);
+    }
+    page.put(b"]");
+}
+
+/// Puts how much was found as the first members.
+fn put_counts<P: Progress>(page: &mut Page, findings: &Findings<'_, P>) {
+    let orders = findings.orders;
+    page.put(b"{\"states\":");
+    page.count(orders.states());
+    page.count_member("turns", orders.turns());
+    page.count_member("depth", orders.deepest());
+    page.count_member("ends", count_of(findings.ends.as_slice()));
+    page.flag_member("whole", orders.is_whole());
+}
+
+/// Puts the verdict as the last members, in a word and as the text has it.
+fn put_verdicts<P: Progress>(page: &mut Page, report: &Report<'_, P>) -> Result<(), LabFault> {
+    let mut verdict = Page::new(report.findings.alloc)?;
+    put_verdict(&mut verdict, report);
+    page.text_member("verdict", report.explored().text().as_bytes());
+    page.text_member("told", verdict.text()?);
+    page.put(b"}\n");
     Ok(())
 }
 
-/// Writes all questions.
-fn put_questions<P: Progress, W: Write, S: Saves>(
+/// Writes the report as one document of JSON.
+pub fn write_json<P: Progress, W: Write>(
     to: &mut W,
-    report: &Report<'_, P, S>,
+    report: &Report<'_, P>,
 ) -> Result<(), LabFault> {
-    to.write_all(b",\"questions\":[")?;
-    let mut between = "";
-    for (index, line) in report.findings.script.asked.iter().enumerate() {
-        let Some(judged) = report.judged.get(index) else {
-            break;
-        };
-        if is_question(&line.asked) {
-            write!(to, "{between}")?;
-            put_question(to, &report.findings, line, *judged)?;
-            between = ",";
-        }
-    }
-    to.write_all(b"]")?;
-    Ok(())
-}
-
-/// What came of a search, in a word.
-fn explored_text(explored: Explored) -> &'static str {
-    match explored {
-        Explored::Holds => "holds",
-        Explored::Fails => "fails",
-        Explored::Stopped => "stopped",
-    }
-}
-
-/// Writes all that is told.
-pub fn put_json<P: Progress, W: Write, S: Saves>(
-    to: &mut W,
-    report: &mut Report<'_, P, S>,
-) -> Result<(), LabFault> {
-    let orders = report.findings.orders;
-    let states = orders.states();
-    let turns = orders.turns();
-    let depth = orders.deepest();
-    let ends = count_of(report.findings.ends.as_slice());
-    let whole = orders.is_whole();
-    write!(
-        to,
-        "{{\"states\":{states},\"turns\":{turns},\"depth\":{depth},\"ends\":{ends},\"whole\":{whole}"
-    )?;
-    put_ends(to, report)?;
-    put_all_stuck(to, report)?;
-    put_entries(to, &mut report.findings)?;
-    put_questions(to, report)?;
-    put_member(to, "verdict", explored_text(report.explored()).as_bytes())?;
-    let mut text = Vec::new(report.findings.alloc);
-    report.put_verdict(&mut text)?;
-    put_member(to, "told", text.as_slice())?;
-    to.write_all(b"}\n")?;
-    Ok(())
+    let mut page = Page::new(report.findings.alloc)?;
+    put_counts(&mut page, &report.findings);
+    put_ends(to, &mut page, report)?;
+    put_all_stuck(&mut page, report)?;
+    put_entries(&mut page, report);
+    put_questions(&mut page, report);
+    put_verdicts(&mut page, report)?;
+    page.write(to)
 }

@@ -8,10 +8,10 @@ ghost use Rattle.mcs_explore_report.specs.Judging.{answered, answered_by, bare, 
 ghost use Rattle.mcs_explore_report.specs.Judged.{AreJudgedBy, judged};
 
 use crate::mail::newest;
-use mcs_explore_script::AskedLine;
 use mcs_book::Line as BookLine;
 use mcs_explore_orders::{Turn, Users, Walk};
 use mcs_explore_questions::{Asked, Event, Span, Until, is_match};
+use mcs_explore_script::AskedLine;
 use mcs_kernel::Kernel;
 use mcs_packing::KeptRecord;
 use mcs_queues::PlainLines;
@@ -49,8 +49,8 @@ pub fn answered(users: &Users, walk: &Walk<PlainLines>, user: usize) -> usize
     }
 }
 
-/// Whether a user at a position gave fewer entries than this, by the status of its thread: one that
-/// waits has given its last.
+/// Returns whether a user at a position gave fewer entries than this, by the status of its thread:
+/// one that waits has given its last.
 fn gave_fewer(status: Option<Status>, place: Position, number: usize) -> bool
     ensures { result ≡ nat_lt (given_by status place) number }
 {
@@ -60,7 +60,8 @@ fn gave_fewer(status: Option<Status>, place: Position, number: usize) -> bool
     }
 }
 
-/// Whether a user at a position, by the status of its thread, has not come to the end of a span.
+/// Returns whether a user at a position, by the status of its thread, has not come to the end of a
+/// span.
 fn is_before_end(span: Span, status: Option<Status>, place: Position) -> bool
     ensures { result ≡ nat_lt (ended_by span.until status place) span.to }
 {
@@ -70,14 +71,14 @@ fn is_before_end(span: Span, status: Option<Status>, place: Position) -> bool
     }
 }
 
-/// Whether a user at a position is in a span, by the status of its thread.
+/// Returns whether a user at a position is in a span, by the status of its thread.
 fn is_within(span: Span, status: Option<Status>, place: Position) -> bool
     ensures { result ≡ is_within span status place }
 {
     span.from <= answered_by(status, place) && is_before_end(span, status, place)
 }
 
-/// Whether the user in a place is in a span.
+/// Returns whether the user in a place is in a span.
 fn is_at(users: &Users, walk: &Walk<PlainLines>, span: Span, user: usize) -> bool
     ensures { result ≡ is_at users.now walk.now span user }
 {
@@ -90,7 +91,7 @@ fn is_at(users: &Users, walk: &Walk<PlainLines>, span: Span, user: usize) -> boo
     }
 }
 
-/// Whether the user of a span is in it.
+/// Returns whether the user of a span is in it.
 fn is_in(users: &Users, walk: &Walk<PlainLines>, span: Span) -> bool
     ensures { result ≡ is_in users.now walk.now span }
 {
@@ -100,14 +101,14 @@ fn is_in(users: &Users, walk: &Walk<PlainLines>, span: Span) -> bool
     }
 }
 
-/// Whether a number is the next one.
+/// Returns whether a number is the next one.
 fn is_next(number: usize, next: usize) -> bool
     ensures { result ≡ (next == number + 1) }
 {
     number < next && next - 1 == number
 }
 
-/// Whether a turn gives an entry.
+/// Returns whether a turn gives an entry.
 fn gives(users: &Users, turn: Turn, event: Event) -> bool
     ensures { result ≡ gives users.now turn event }
 {
@@ -117,7 +118,7 @@ fn gives(users: &Users, turn: Turn, event: Event) -> bool
     }
 }
 
-/// Whether a user has given an entry.
+/// Returns whether a user has given an entry.
 fn has_given(users: &Users, walk: &Walk<PlainLines>, event: Event) -> bool
     ensures { result ≡ has_given users.now walk.now event }
 {
@@ -170,15 +171,15 @@ fn bare(line: &[u8]) -> &[u8]
     }
 }
 
-/// Whether a pattern stands for a line.
+/// Returns whether a pattern matches a line.
 fn is_line(pattern: &[u8], line: &[u8]) -> bool
     ensures { result ≡ is_line pattern.now line.now }
 {
     is_match(pattern, bare(line))
 }
 
-/// Whether a pattern stands for the line of a record of a line of the book, before which so many
-/// messages were sent.
+/// Returns whether a pattern matches the line of a record of a line of the book, before which so
+/// many messages were sent.
 fn has_record(text: &mut Line, line: &BookLine<'_>, before: u128, pattern: &[u8]) -> bool
     requires { before + 2 ^ 64 < 2 ^ 128 }
     ensures { result ≡ list_any (is_line pattern.now) (record_lines before line.now.records) }
@@ -197,8 +198,8 @@ fn has_record(text: &mut Line, line: &BookLine<'_>, before: u128, pattern: &[u8]
     false
 }
 
-/// Whether a pattern stands for one of the lines of a trace for a line of the book, before which so
-/// many messages were sent.
+/// Returns whether a pattern matches one of the lines of a trace for a line of the book, before
+/// which so many messages were sent.
 fn has_match(text: &mut Line, line: &BookLine<'_>, before: u128, pattern: &[u8]) -> bool
     requires { before + 2 ^ 64 < 2 ^ 128 }
     ensures { result ≡ list_any (is_line pattern.now) (lines_told before line.now) }
@@ -207,7 +208,7 @@ fn has_match(text: &mut Line, line: &BookLine<'_>, before: u128, pattern: &[u8])
     is_line(pattern, text.text()) || has_record(text, line, before, pattern)
 }
 
-/// Whether a pattern stands for one of the lines of a trace for the newest line.
+/// Returns whether a pattern matches one of the lines of a trace for the newest line.
 fn tells(text: &mut Line, kernel: &Kernel<PlainLines>, pattern: &[u8]) -> bool
     ensures { result ≡ list_any (is_line pattern.now) (told_last kernel.now) }
 {
@@ -217,14 +218,14 @@ fn tells(text: &mut Line, kernel: &Kernel<PlainLines>, pattern: &[u8]) -> bool
     has_match(text, &line, sent_before(kernel, &line), pattern)
 }
 
-/// Whether the users of all these spans are in them.
+/// Returns whether the users of all these spans are in them.
 fn are_in(users: &Users, walk: &Walk<PlainLines>, spans: &[Span]) -> bool
     ensures { result ≡ list_all (is_in users.now walk.now) spans.now }
 {
     spans.iter().all(|span| is_in(users, walk, *span))
 }
 
-/// Whether a question fails in a state.
+/// Returns whether a question fails in a state.
 fn fails_in(users: &Users, asked: &Asked, walk: &Walk<PlainLines>) -> bool
     ensures { result ≡ fails_in users.now asked.now walk.now }
 {
@@ -234,7 +235,7 @@ fn fails_in(users: &Users, asked: &Asked, walk: &Walk<PlainLines>) -> bool
     }
 }
 
-/// Whether a question fails by a turn that led to a state.
+/// Returns whether a question fails by a turn that led to a state.
 fn fails_by(
     text: &mut Line,
     users: &Users,
@@ -253,7 +254,7 @@ fn fails_by(
     }
 }
 
-/// Whether a question fails in a state, or by the turn that led there.
+/// Returns whether a question fails in a state, or by the turn that led there.
 fn fails(
     text: &mut Line,
     users: &Users,

@@ -1,14 +1,16 @@
-//! What is told of all orders of a script of users: its ends, the answers of its entries, and what
-//! is asked of them.
+//! The report on all orders of a script of users: its ends, the answers of its entries, and what is
+//! asked of them.
 //!
 //! ```text
-//! source ── reading ──> the boot, the users, the texts of their entries, the questions (`#!`)
-//!     ── mcs_explore_orders ──> each state and each turn, reported to `watching`: ends, answers, failures
-//!     ── report ──> text, and scripts of steps
+//! source ── mcs_explore_script ──> the boot, the users, their entries, the questions (`#!`)
+//!     ── mcs_explore_orders ──> each state and each turn, reported to `watching`
+//!     ── watching ──> ends, answers, failures
+//!     ── report ──> `text` or `json`, and scripts of steps (`saving`)
 //! ```
 #![tactic(auto)]
 
 mod answers;
+mod bounds;
 mod ends;
 mod exploring;
 mod findings;
@@ -21,9 +23,12 @@ mod mail;
 mod modes;
 mod naming;
 mod report;
+mod saving;
 mod saying;
 mod scripts;
+mod slots;
 mod stuck_users;
+mod text;
 mod verdicts;
 mod watching;
 
@@ -31,8 +36,8 @@ pub use exploring::{Wanted, watched};
 pub use live::{Lives, Notes, stuck_at};
 pub use modes::{Mode, make_objects, mode_of};
 pub use naming::{names_later, names_message};
-pub use mcs_explore_script::AskedLine;
-pub use report::{Explored, Output, Saves, explore_and_tell, explore_script};
+pub use report::{Explored, Output, explore_and_tell, explore_script};
+pub use saving::Saves;
 pub use stuck_users::first_stuck;
 pub use verdicts::{Verdict, verdict_on};
 pub use watching::{Progress, Quiet, Watched};

@@ -119,7 +119,7 @@ pub fn newest(kernel: &Kernel<PlainLines>) -> Option<Line<'_>>
     book.line(book.lines().saturating_sub(1))
 }
 
-/// Whether the entry of a user with this number is Send.
+/// Returns whether the entry of a user with this number is Send.
 fn gave_send(users: &Users, user: usize, number: usize) -> bool
     ensures { result ≡ gave_send users.now user number }
 {
@@ -132,7 +132,7 @@ fn gave_send(users: &Users, user: usize, number: usize) -> bool
     }
 }
 
-/// Whether an entry that waited comes to this: that a thread goes on says so of Send alone.
+/// Returns whether an entry that waited comes to this: that a thread goes on says so of Send alone.
 fn comes_to(users: &Users, user: usize, number: usize, answer: &Answer) -> bool
     ensures { result ≡ comes_to users.now user number answer.now }
 {

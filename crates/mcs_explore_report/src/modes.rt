@@ -5,8 +5,8 @@ ghost use Rattle.mcs_types.specs.Changes.{makes_object};
 ghost use Rattle.mcs_explore_report.specs.Modes.{any_later, any_message, are_numbered, is_proved, makes_objects, mode_of};
 
 use crate::naming::{names_later, names_message};
-use mcs_explore_script::AskedLine;
 use mcs_explore_orders::Users;
+use mcs_explore_script::AskedLine;
 use mcs_kernel::Boot;
 use mcs_types::Entry;
 
@@ -22,7 +22,7 @@ pub enum Mode {
 }
 
 impl Mode {
-    /// Whether states that it does not tell apart are proved to have one future.
+    /// Returns whether states that it does not tell apart are proved to have one future.
     pub fn is_proved(self) -> bool
         ensures { result ≡ is_proved self }
     {
@@ -32,7 +32,7 @@ impl Mode {
         }
     }
 
-    /// Whether it tells the numbers of messages apart.
+    /// Returns whether it tells the numbers of messages apart.
     pub fn are_numbered(self) -> bool
         ensures { result ≡ are_numbered self }
     {
@@ -43,28 +43,28 @@ impl Mode {
     }
 }
 
-/// Whether one of these entries makes an object.
+/// Returns whether one of these entries makes an object.
 fn makes_object(entries: &[Entry]) -> bool
     ensures { result ≡ list_any makes_object entries.now }
 {
     entries.iter().any(|entry| entry.makes_object())
 }
 
-/// Whether an entry of a user makes an object.
+/// Returns whether an entry of a user makes an object.
 pub fn make_objects(users: &Users) -> bool
     ensures { result ≡ makes_objects users.now }
 {
     users.lists().iter().any(|list| makes_object(&list.entries))
 }
 
-/// Whether a question names a message.
+/// Returns whether a question names a message.
 fn any_message(asked: &[AskedLine]) -> bool
     ensures { result ≡ any_message asked.now }
 {
     asked.iter().any(|line| names_message(&line.asked))
 }
 
-/// Whether a question names an object that the boot did not make.
+/// Returns whether a question names an object that the boot did not make.
 fn any_later(boot: &Boot, asked: &[AskedLine]) -> bool
     ensures { result ≡ any_later boot.now asked.now }
 {

@@ -12,21 +12,21 @@ use mcs_lab_check::{object_of, queue_of};
 use mcs_text::Words;
 use mcs_types::{ObjId, Queue};
 
-/// Whether a byte is a digit.
+/// Returns whether a byte is a digit.
 fn is_digit(byte: u8) -> bool
     ensures { result ≡ is_digit byte }
 {
     byte.is_ascii_digit()
 }
 
-/// Whether bytes are digits alone.
+/// Returns whether bytes are digits alone.
 fn are_digits(bytes: &[u8]) -> bool
     ensures { result ≡ list_all is_digit bytes.now }
 {
     bytes.iter().all(|byte| is_digit(*byte))
 }
 
-/// Whether a word is the name of a message: an `m` and digits.
+/// Returns whether a word is the name of a message: an `m` and digits.
 fn is_message(word: &[u8]) -> bool
     ensures { result ≡ is_message word.now }
 {
@@ -36,7 +36,7 @@ fn is_message(word: &[u8]) -> bool
     }
 }
 
-/// Whether a word of a pattern is the name of a message.
+/// Returns whether a word of a pattern is the name of a message.
 fn has_message(pattern: &[u8]) -> bool
     ensures { result ≡ list_any is_message (words_of pattern.now) }
 {
@@ -49,8 +49,8 @@ fn has_message(pattern: &[u8]) -> bool
     false
 }
 
-/// Whether a question names a message. Only lines of a trace name one, which patterns of `never`
-/// stand for: answers do not.
+/// Returns whether a question names a message. Only lines of a trace name one, which patterns of
+/// `never` match: answers name none.
 pub fn names_message(asked: &Asked) -> bool
     ensures names { result ≡ names_message asked.now }
     // where it names none, states that differ in the numbers of messages alone decide it
@@ -69,8 +69,8 @@ pub fn names_message(asked: &Asked) -> bool
     }
 }
 
-/// The object of a queue.
-fn object_in(queue: Queue) -> ObjId
+/// Returns the object of a queue.
+pub fn object_in(queue: Queue) -> ObjId
     ensures { result ≡ queue_name queue }
 {
     match queue {
@@ -78,7 +78,7 @@ fn object_in(queue: Queue) -> ObjId
     }
 }
 
-/// The object that a word names, by itself or as one of its queues.
+/// Returns the object that a word names, by itself or as one of its queues.
 fn named(word: &[u8]) -> Option<ObjId>
     ensures { result ≡ named word.now }
 {
@@ -88,7 +88,7 @@ fn named(word: &[u8]) -> Option<ObjId>
     }
 }
 
-/// Whether a word names an object that a boot did not make.
+/// Returns whether a word names an object that a boot did not make.
 fn is_later(boot: &Boot, word: &[u8]) -> bool
     ensures { result ≡ is_later boot.now word.now }
 {
@@ -98,7 +98,7 @@ fn is_later(boot: &Boot, word: &[u8]) -> bool
     }
 }
 
-/// Whether a word of a pattern names an object that a boot did not make.
+/// Returns whether a word of a pattern names an object that a boot did not make.
 fn has_later(boot: &Boot, pattern: &[u8]) -> bool
     ensures { result ≡ list_any (is_later boot.now) (words_of pattern.now) }
 {
@@ -111,7 +111,7 @@ fn has_later(boot: &Boot, pattern: &[u8]) -> bool
     false
 }
 
-/// Whether a question names an object that a boot did not make. Answers name no object.
+/// Returns whether a question names an object that a boot did not make. Answers name no object.
 pub fn names_later(boot: &Boot, asked: &Asked) -> bool
     ensures { result ≡ names_later boot.now asked.now }
 {

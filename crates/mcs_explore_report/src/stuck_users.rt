@@ -5,10 +5,9 @@ ghost use Rattle.mcs_explore_report.specs.Stuck.{IsFirstUnled, Noted, first_mark
 
 use crate::judging::Sighting;
 use crate::live::stuck_at;
-use mcs_explore_script::AskedLine;
 use crate::watching::{Progress, Watched};
 use mcs_explore_orders::Orders;
-use mcs_explore_questions::Asked;
+use mcs_explore_script::AskedLine;
 use mcs_lab_check::LabFault;
 use std::alloc::{AllocError, Global};
 
@@ -19,7 +18,7 @@ pub struct StuckUsers {
     pub users: Vec<usize>,
 }
 
-/// Returns the state in a place as something that is seen.
+/// Returns a state, by its place, as what is seen.
 pub fn seen_at(place: usize) -> Sighting {
     Sighting { place, turn: None }
 }
@@ -43,32 +42,17 @@ pub fn first_stuck<P: Progress>(
     }
 }
 
-/// Returns whether a line asks that a user never gets stuck.
-fn is_live(asked: &Asked) -> bool {
-    match asked {
-        Asked::Live { .. } => true,
-        Asked::Idle { .. }
-        | Asked::Answer { .. }
-        | Asked::AnswerIf { .. }
-        | Asked::Some { .. }
-        | Asked::Never { .. }
-        | Asked::Apart { .. }
-        | Asked::Before { .. }
-        | Asked::Again { .. } => false,
-    }
-}
-
 /// Returns how many of the first lines ask that a user never gets stuck.
 fn count_lives(asked: &[AskedLine], lines: usize) -> usize {
     let mut count: usize = 0;
     for line in asked.iter().take(lines) {
-        count = count.saturating_add(usize::from(is_live(&line.asked)));
+        count = count.saturating_add(usize::from(line.asked.is_live()));
     }
     count
 }
 
-/// Returns where the user is stuck first of which a line asks, by the number of that line from 0 on
-/// and what comes of all.
+/// Returns where the user is stuck first of which a line asks, by the number of that line from 0
+/// on and the first places of all.
 pub fn stuck_of(asked: &[AskedLine], places: &[Option<usize>], number: usize) -> Option<Sighting> {
     match places.get(count_lives(asked, number)) {
         Some(Some(place)) => Some(seen_at(*place)),

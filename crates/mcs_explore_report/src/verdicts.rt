@@ -1,27 +1,27 @@
-//! What is told of questions: whether they hold, and where that is to be seen.
+//! Verdicts on questions: whether they hold, and where that is seen.
 ghost use Rattle.std.specs.Prelude.{◌≡◌, ◌↔◌, IsTrue, IfOk, is_none, is_some};
 ghost use Rattle.mcs_explore_report.specs.Verdicts.{IsAlways, IsEndSearched, IsSearched, IsVerdict, answers_of, failed_at, is_said, lacks, lacks_one};
 
 use crate::answers::{Answers, Told};
 use crate::ends::{End, Standing};
 use crate::judging::Sighting;
-use mcs_explore_script::AskedLine;
 use crate::saying::text_of;
 use crate::watching::{Progress, Watched};
 use mcs_explore_orders::Users;
 use mcs_explore_questions::{Asked, Event, is_match};
+use mcs_explore_script::AskedLine;
 use mcs_lab_check::LabFault;
 use mcs_trace::Line;
 use std::alloc::Global;
 
-/// Whether a question holds, and where that is to be seen, if somewhere.
+/// Whether a question holds, and where that is seen, if somewhere.
 #[derive(Clone, Copy, Drop)]
 pub struct Verdict {
     pub holds: bool,
     pub seen: Option<Sighting>,
 }
 
-/// Whether a pattern stands for an answer, or does not, as is wanted.
+/// Returns whether a pattern matches an answer, or does not, as is wanted.
 fn is_wanted(
     alloc: Global,
     line: &mut Line,
@@ -35,7 +35,7 @@ fn is_wanted(
     Ok(is_match(pattern, &text) == wanted)
 }
 
-/// The first answer for which a pattern stands, or does not, as is wanted.
+/// Returns where the first answer comes that a pattern matches, or does not, as is wanted.
 fn find_answer(
     alloc: Global,
     line: &mut Line,
@@ -57,14 +57,14 @@ fn find_answer(
     Ok(None)
 }
 
-/// Whether a user that stands so in an end has not been answered an entry.
+/// Returns whether a user in this state at an end has not been answered an entry.
 fn lacks_one(standing: &Standing, event: Event) -> bool
     ensures { result ≡ lacks_one event standing.now }
 {
     standing.thread.is_same(event.thread) && standing.answered < event.number
 }
 
-/// Whether an end in which the users stand so comes without an answer of an entry.
+/// Returns whether an end with the users in these states comes without an answer of an entry.
 fn lacks(standing: &[Standing], event: Event) -> bool
     ensures { result ≡ lacks event standing.now }
 {
@@ -107,7 +107,8 @@ fn failed_at(failed: &[Option<Sighting>], number: usize) -> Option<Sighting>
     }
 }
 
-/// What is told of a question where all answers of an entry are to be of a pattern.
+/// Returns the verdict where all answers of an entry are to be of a pattern, by the first that is
+/// not.
 fn all_are(found: Option<Sighting>) -> Verdict
     ensures holds { result.holds ≡ is_none result.seen }
     ensures seen { result.seen ≡ found }
@@ -118,7 +119,7 @@ fn all_are(found: Option<Sighting>) -> Verdict
     }
 }
 
-/// What is told where some answer is to be.
+/// Returns the verdict where some answer is to be of a pattern, by the first that is.
 fn some_is(found: Option<Sighting>) -> Verdict
     ensures holds { result.holds ≡ is_some result.seen }
     ensures seen { result.seen ≡ found }
@@ -129,8 +130,8 @@ fn some_is(found: Option<Sighting>) -> Verdict
     }
 }
 
-/// Where an answer is seen for which a pattern does not stand, or else the first end that comes
-/// without one of the entry.
+/// Returns where an answer is seen that a pattern does not match, or else the first end without an
+/// answer of the entry.
 #[tactic(auto, using(crate::proofs::Always::answer_always, crate::proofs::Always::ends_always))]
 fn find_failure(
     alloc: Global,

@@ -1,5 +1,5 @@
-//! Scripts of exploring. A script of users: its boot, the entries of its users, the names of its objects, and
-//! what it asks of all orders; and the steps of a book, as a script.
+//! Scripts of exploring. Of a script of users: its boot, the entries of its users, the names of its
+//! objects, and what it asks of all orders. Of a book: its steps, as a script.
 //!
 //! ```text
 //! source ── text ──> its bytes, the boot and the entries, as `mcssim run` reads them

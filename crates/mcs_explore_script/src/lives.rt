@@ -1,7 +1,6 @@
 //! Users that may not get stuck.
 use crate::questions::AskedLine;
 use mcs_explore_questions::{Asked, ExploreFault};
-use mcs_types::ObjId;
 use mcs_users::{UserList, Users};
 use std::alloc::Global;
 
@@ -11,22 +10,6 @@ use std::alloc::Global;
 pub struct Live {
     pub user: usize,
     pub entry: Option<usize>,
-}
-
-/// Returns whether a line is about the waits of a thread: they are excused, or it may not get
-/// stuck.
-fn is_of_waits(asked: &Asked, thread: ObjId) -> bool {
-    match asked {
-        Asked::Idle { thread: idle, .. } => idle.is_same(thread),
-        Asked::Live { thread: live, .. } => live.is_same(thread),
-        Asked::Answer { .. }
-        | Asked::AnswerIf { .. }
-        | Asked::Some { .. }
-        | Asked::Never { .. }
-        | Asked::Apart { .. }
-        | Asked::Before { .. }
-        | Asked::Again { .. } => false,
-    }
 }
 
 /// Returns the entry that can be answered in some order as long as a user is not stuck: the last
@@ -61,13 +44,14 @@ fn asked_lives(
 }
 
 /// Returns what is asked of users that may get stuck.
-pub fn lives_of(alloc: Global, users: &Users, asked: &[AskedLine]) -> Result<Vec<Live>, ExploreFault> {
+pub fn lives_of(
+    alloc: Global,
+    users: &Users,
+    asked: &[AskedLine],
+) -> Result<Vec<Live>, ExploreFault> {
     let mut lives = asked_lives(alloc, users, asked)?;
     for (user, list) in users.lists().iter().enumerate() {
-        if !asked
-            .iter()
-            .any(|line| is_of_waits(&line.asked, list.thread))
-        {
+        if !asked.iter().any(|line| line.asked.is_of_waits(list.thread)) {
             let entry = last_entry(list);
             lives.push(Live { user, entry })?;
         }

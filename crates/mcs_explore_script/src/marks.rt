@@ -54,7 +54,9 @@ pub fn entry_texts(
     entries: &[UserEntry],
 ) -> Result<Vec<EntryText>, LabFault> {
     let mut texts = Vec::new(alloc);
-    let lines = text.split(|byte| *byte == b'\n').filter(|line| is_entry(line));
+    let lines = text
+        .split(|byte| *byte == b'\n')
+        .filter(|line| is_entry(line));
     for (line, said) in lines.zip(entries.iter()) {
         texts.push(EntryText {
             thread: said.thread,

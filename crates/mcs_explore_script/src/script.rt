@@ -30,10 +30,7 @@ pub struct UserScript {
 
 /// Reads a source to its end. The faults are first those of `mcssim run`, in the order of lines,
 /// then of names, and then of questions.
-pub fn read_script<R: Read>(
-    alloc: Global,
-    from: &mut Source<R>,
-) -> Result<UserScript, ExploreFault>
+pub fn read_script<R: Read>(alloc: Global, from: &mut Source<R>) -> Result<UserScript, ExploreFault>
     ensures { IfOk result (λ s. IsScript (R.remaining from.old.reader)
         (R.remaining from.new.reader) s) }
 {

@@ -38,11 +38,7 @@ fn repeat_one(users: &mut Users, asked: &Asked)
 }
 
 /// Lets lists of users go on again, where that is asked. AgainTwice where one does already.
-pub fn repeat(
-    alloc: Global,
-    users: &mut Users,
-    asked: &[AskedLine],
-) -> Result<(), ExploreFault>
+pub fn repeat(alloc: Global, users: &mut Users, asked: &[AskedLine]) -> Result<(), ExploreFault>
     ensures { OnOk result (users.new ≡ all_again users.old asked.now) }
 {
     for line in asked {

@@ -20,5 +20,6 @@ mod why;
 pub use forms::{FORMS, Field, Fields, Forms, form_of};
 pub use json::write_json;
 pub use numbers::address_of as number_of;
+pub use page::Page;
 pub use state::{Wanted, show_state};
 pub use why::explain;

@@ -1,4 +1,4 @@
-//! A text that is told, put together in memory.
+//! A text that is put together in memory.
 use mcs_lab_check::{LabFault, Names};
 use mcs_text::Token;
 use mcs_trace::{Line, spell};
@@ -6,8 +6,8 @@ use mcs_types::{ObjId, Queue};
 use std::alloc::{AllocError, Global};
 use std::io::Write;
 
-/// What was told and is not written yet. Where memory is refused the rest is left out and nothing
-/// is written any more, so who puts the text together need not ask.
+/// A text that is not written yet. Where memory is refused the rest is left out and nothing is
+/// written any more, so who puts the text together need not ask.
 #[derive(Drop)]
 pub struct Page {
     text: Vec<u8>,
@@ -15,8 +15,13 @@ pub struct Page {
     is_cut: bool,
 }
 
+/// Returns whether a byte stands for itself in a text of JSON.
+fn is_plain(byte: u8) -> bool {
+    byte >= b' ' && byte <= b'~' && byte != b'"' && byte != b'\\'
+}
+
 impl Page {
-    /// Nothing is reported.
+    /// Returns an empty text. AllocError where memory was refused.
     pub fn new(alloc: Global) -> Result<Page, AllocError> {
         Ok(Page {
             text: Vec::new(alloc),
@@ -58,6 +63,43 @@ impl Page {
         }
     }
 
+    /// Puts a count.
+    pub fn count(&mut self, count: usize) {
+        self.number(count as u64);
+    }
+
+    /// Puts how many there are of something: `1 step`, `2 steps`.
+    pub fn counted(&mut self, count: usize, noun: &str) {
+        self.count(count);
+        self.put(b" ");
+        self.put(noun.as_bytes());
+        if count != 1 {
+            self.put(b"s");
+        }
+    }
+
+    /// Puts the number of a byte that is no printable character, as JSON has it.
+    fn put_code(&mut self, byte: u8) {
+        if write!(&mut self.text, "\\u{byte:04x}").is_err() {
+            self.is_cut = true;
+        }
+    }
+
+    /// Puts a text as JSON has it between quotes: a quote and a backslash behind a backslash, and
+    /// what is no printable character by its number.
+    pub fn escaped(&mut self, text: &[u8]) {
+        if text.iter().all(|byte| is_plain(*byte)) {
+            return self.put(text);
+        }
+        for byte in text {
+            match *byte {
+                b'"' | b'\\' => self.put(&[b'\\', *byte]),
+                b' '..=b'~' => self.put(&[*byte]),
+                other => self.put_code(other),
+            }
+        }
+    }
+
     /// Puts the name of an object between parentheses, where it has one.
     fn name(&mut self, names: &Names, object: ObjId) {
         if let Some(name) = names.of(object) {
@@ -83,7 +125,15 @@ impl Page {
         }
     }
 
-    /// Writes what was told, and begins anew.
+    /// Returns what was put and is not written yet. OutOfMemory where memory was refused.
+    pub fn text(&self) -> Result<&[u8], LabFault> {
+        if self.is_cut {
+            return Err(LabFault::OutOfMemory);
+        }
+        Ok(self.text.as_slice())
+    }
+
+    /// Writes what was put, and begins anew.
     pub fn write<W: Write>(&mut self, to: &mut W) -> Result<(), LabFault> {
         if self.is_cut {
             return Err(LabFault::OutOfMemory);
@@ -94,12 +144,12 @@ impl Page {
     }
 }
 
-/// What JSON is made of. Its texts are words of traces and names, whose bytes stand for themselves.
+/// What JSON is made of.
 impl Page {
     /// Puts a text between quotes.
     pub fn quoted(&mut self, text: &[u8]) {
         self.put(b"\"");
-        self.put(text);
+        self.escaped(text);
         self.put(b"\"");
     }
 
@@ -125,11 +175,36 @@ impl Page {
         }
     }
 
+    /// Puts the name of a member that is not the first, up to its value.
+    pub fn key(&mut self, name: &str) {
+        self.put(b",\"");
+        self.put(name.as_bytes());
+        self.put(b"\":");
+    }
+
+    /// Puts a member that is not the first, whose value is a text.
+    pub fn text_member(&mut self, name: &str, text: &[u8]) {
+        self.key(name);
+        self.quoted(text);
+    }
+
+    /// Puts a member that is not the first, whose value is a count.
+    pub fn count_member(&mut self, name: &str, count: usize) {
+        self.key(name);
+        self.count(count);
+    }
+
+    /// Puts a member that is not the first, whose value is true or false.
+    pub fn flag_member(&mut self, name: &str, flag: bool) {
+        let word = if flag { "true" } else { "false" };
+        self.key(name);
+        self.put(word.as_bytes());
+    }
+
     /// Puts the name of an object as a member that is not the first, where it has one.
     pub fn name_member(&mut self, names: &Names, object: ObjId) {
         if let Some(name) = names.of(object) {
-            self.put(b",\"name\":");
-            self.quoted(name);
+            self.text_member("name", name);
         }
     }
 }

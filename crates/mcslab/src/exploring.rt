@@ -13,20 +13,14 @@ use std::time::Instant;
 /// How many states are found at most, where nothing else is said.
 const STATES: u64 = 1_000_000;
 
-/// At how many states the clock is read once, since that costs.
+/// At how many states the clock is read once, since reading it takes time.
 const LOOKS: usize = 16;
 
-/// The exit status where a budget ended the search.
-const STOPPED: u8 = 3;
-
-/// The exit status where something that is asked does not hold, or an order ends in a deadlock.
-const FAILS: u8 = 1;
-
-/// How far a search goes, and where its scripts are kept.
+/// How far a search goes, the form of its report, and where its scripts are kept.
 #[derive(Clone, Copy)]
 pub struct Sought<'a> {
     pub wanted: Wanted,
-    pub telling: Output,
+    pub output: Output,
     pub scripts: Option<&'a str>,
 }
 
@@ -50,7 +44,7 @@ In a pattern `*` stands for a word and `**` for the rest. A name of a line `#@` 
 Exit status: 0; 1 a question does not hold, an order ends with users that have not done all, or a user is stuck; 2 a fault of
 the script; 3 a budget ended the search, or a read fault; 4 a write fault; 5 the book is full; 6 out of memory; 64 the command line.";
 
-/// An option with a number.
+/// Returns an option with a number.
 fn number<'a>(alloc: Global, name: &'a str, help: &'a str) -> Arg<'a> {
     Arg::new(alloc, name)
         .long(name)
@@ -59,7 +53,7 @@ fn number<'a>(alloc: Global, name: &'a str, help: &'a str) -> Arg<'a> {
         .value_parser(value_parser!(u64))
 }
 
-/// The option for the most states.
+/// Returns the option for the most states.
 fn states<'a>(alloc: Global) -> Arg<'a> {
     number(
         alloc,
@@ -68,7 +62,7 @@ fn states<'a>(alloc: Global) -> Arg<'a> {
     )
 }
 
-/// The option for the depth.
+/// Returns the option for the depth.
 fn depth<'a>(alloc: Global) -> Arg<'a> {
     number(
         alloc,
@@ -77,15 +71,15 @@ fn depth<'a>(alloc: Global) -> Arg<'a> {
     )
 }
 
-/// The option for the folder of scripts.
+/// Returns the option for the folder of scripts.
 fn scripts<'a>(alloc: Global) -> Arg<'a> {
     Arg::new(alloc, "scripts")
         .long("scripts")
         .value_name("DIR")
-        .help("Writes the scripts of steps that show what is told into this folder")
+        .help("Writes the scripts of steps that show what is reported into this folder")
 }
 
-/// The option for a script of each answer.
+/// Returns the option for a script of each answer.
 fn answers<'a>(alloc: Global) -> Arg<'a> {
     Arg::new(alloc, "answers")
         .long("answers")
@@ -93,15 +87,15 @@ fn answers<'a>(alloc: Global) -> Arg<'a> {
         .action(ArgAction::SetTrue)
 }
 
-/// The option for JSON.
+/// Returns the option for JSON.
 fn json<'a>(alloc: Global) -> Arg<'a> {
     Arg::new(alloc, "json")
         .long("json")
-        .help("Tells all as one document of JSON")
+        .help("Writes the report as one document of JSON")
         .action(ArgAction::SetTrue)
 }
 
-/// The option for exact keys.
+/// Returns the option for exact keys.
 fn exact<'a>(alloc: Global) -> Arg<'a> {
     Arg::new(alloc, "exact")
         .long("exact")
@@ -109,14 +103,14 @@ fn exact<'a>(alloc: Global) -> Arg<'a> {
         .action(ArgAction::SetTrue)
 }
 
-/// The command with no option.
+/// Returns the command without options.
 fn words<'a>(alloc: Global) -> Words<'a> {
     Words::new(alloc, "explore")
         .about("Goes through all orders of the users of a script")
         .after_help(QUESTIONS)
 }
 
-/// The command.
+/// Returns the command.
 pub fn command<'a>(alloc: Global, file: Arg<'a>) -> Result<Words<'a>, Error> {
     let words = with(Ok(words(alloc)), states(alloc));
     let words = with(words, depth(alloc));
@@ -127,7 +121,7 @@ pub fn command<'a>(alloc: Global, file: Arg<'a>) -> Result<Words<'a>, Error> {
     with(words, file)
 }
 
-/// What is asked.
+/// Returns what the words of the command line ask for.
 pub fn asked<'a>(found: &ArgMatches<'a>) -> Sought<'a> {
     let states: Option<u64> = found.get_one("states");
     let depth: Option<u64> = found.get_one("depth");
@@ -137,7 +131,7 @@ pub fn asked<'a>(found: &ArgMatches<'a>) -> Sought<'a> {
             depth: depth.unwrap_or(u64::MAX) as usize,
             is_exact: found.get_flag("exact"),
         },
-        telling: Output {
+        output: Output {
             with_answers: found.get_flag("answers"),
             is_json: found.get_flag("json"),
         },
@@ -145,12 +139,12 @@ pub fn asked<'a>(found: &ArgMatches<'a>) -> Sought<'a> {
     }
 }
 
-/// The exit status of a search.
+/// Returns the exit status of a search; `QUESTIONS` says the same in words, with those of faults.
 fn status_of(explored: Explored) -> u8 {
     match explored {
         Explored::Holds => 0,
-        Explored::Fails => FAILS,
-        Explored::Stopped => STOPPED,
+        Explored::Fails => 1,
+        Explored::Stopped => 3,
     }
 }
 
@@ -177,7 +171,7 @@ impl Saves for Folder<'_> {
 }
 
 /// Makes the folder of scripts where it is not there, and tests that files can be written into it.
-/// The error is told.
+/// The error is that of the folder or of the file.
 pub fn make_folder(rt: &HostRuntime, path: &str) -> Result<(), io::Error> {
     if path.is_empty() {
         return Err(io::Error::from(io::ErrorKind::NotFound));
@@ -190,7 +184,7 @@ pub fn make_folder(rt: &HostRuntime, path: &str) -> Result<(), io::Error> {
     fs::remove_file(rt, probe.as_str())
 }
 
-/// Tells once a second how far a search is.
+/// Reports once a second how far a search is.
 #[derive(Drop)]
 struct Meter<'a> {
     rt: &'a HostRuntime,
@@ -199,7 +193,7 @@ struct Meter<'a> {
     seconds: u64,
 }
 
-/// A number with a comma before each three digits.
+/// Returns a number with a comma before each three digits.
 fn grouped(alloc: Global, number: usize) -> Result<String, AllocError> {
     let digits = format!(in alloc; "{number}")?;
     let mut text = String::new(alloc);
@@ -215,7 +209,7 @@ fn grouped(alloc: Global, number: usize) -> Result<String, AllocError> {
 }
 
 impl<'a> Meter<'a> {
-    /// From now on, if the standard error is a terminal.
+    /// Returns one that reports from now on, if the standard error is a terminal.
     fn new(rt: &'a HostRuntime) -> Meter<'a> {
         let start = if rt.stderr().is_terminal() {
             Instant::now(rt).ok()
@@ -229,7 +223,7 @@ impl<'a> Meter<'a> {
         }
     }
 
-    /// The seconds since the start, where one more has passed since it was told last.
+    /// Returns the seconds since the start, where one more has passed since the last report.
     fn second(&mut self) -> Option<u64> {
         let passed = self.start?.elapsed(self.rt).ok()?.as_secs();
         if passed <= self.seconds {
@@ -239,8 +233,8 @@ impl<'a> Meter<'a> {
         Some(passed)
     }
 
-    /// Tells how far the search is. That it cannot be told ends nothing.
-    fn tell(&self, before: usize, depth: usize, seconds: u64) {
+    /// Reports how far the search is. A failed write ends nothing.
+    fn report(&self, before: usize, depth: usize, seconds: u64) {
         if let Ok(count) = grouped(self.rt.alloc(), before) {
             let _ = eprintln!(self.rt; "{count} states expanded, depth {depth}, {seconds} s");
         }
@@ -253,12 +247,12 @@ impl Progress for Meter<'_> {
             return;
         }
         if let Some(seconds) = self.second() {
-            self.tell(before, depth, seconds);
+            self.report(before, depth, seconds);
         }
     }
 }
 
-/// Goes through all orders of a script, and gives the exit status.
+/// Goes through all orders of a script, and returns the exit status.
 pub fn explore<R: Read, W: Write + Drop>(
     rt: &HostRuntime,
     from: &mut Source<R>,
@@ -274,7 +268,7 @@ pub fn explore<R: Read, W: Write + Drop>(
         from,
         to,
         sought.wanted,
-        sought.telling,
+        sought.output,
         &mut folder,
         Meter::new(rt),
     )?;

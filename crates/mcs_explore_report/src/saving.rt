@@ -1,0 +1,147 @@
+//! Scripts that are kept: of each kind of end, of stuck users, of questions and of answers.
+use crate::judging::Sighting;
+use crate::report::Report;
+use crate::stuck_users::seen_at;
+use crate::text::{put_answer, put_end, put_question, put_stuck};
+use crate::watching::Progress;
+use mcs_explore_questions::Event;
+use mcs_lab_check::LabFault;
+use mcs_lab_inspect::Page;
+use std::alloc::{AllocError, Global};
+
+/// Where scripts are kept.
+pub trait Saves {
+    /// Returns whether scripts are kept at all.
+    fn wants(&self) -> bool;
+
+    /// Keeps a script under a name.
+    fn save(&mut self, alloc: Global, name: &str, text: &[u8]) -> Result<(), LabFault>;
+}
+
+/// What a script shows, by which it is named.
+#[derive(Clone, Copy)]
+pub enum ScriptName {
+    /// A kind of end, by its number from 1 on.
+    End(usize),
+    /// Users that are stuck, by their number from 1 on.
+    Stuck(usize),
+    /// A question, by its line.
+    Question(u64),
+    /// An answer of an entry, by its number from 1 on.
+    Answer { event: Event, number: usize },
+}
+
+impl ScriptName {
+    /// Returns the name of the file. AllocError where memory was refused.
+    pub fn file_name(self, alloc: Global) -> Result<String, AllocError> {
+        match self {
+            ScriptName::End(number) => format!(in alloc; "end{number}.mcs"),
+            ScriptName::Stuck(number) => format!(in alloc; "stuck{number}.mcs"),
+            ScriptName::Question(line) => format!(in alloc; "question{line}.mcs"),
+            ScriptName::Answer { event, number } => {
+                let serial = event.thread.serial;
+                let entry = event.number;
+                format!(in alloc; "answer-t{serial}-{entry}-{number}.mcs")
+            }
+        }
+    }
+}
+
+/// Keeps the script of what is seen, behind a comment.
+fn save<P: Progress, S: Saves>(
+    report: &Report<'_, P>,
+    saves: &mut S,
+    name: ScriptName,
+    comment: &Page,
+    seen: Sighting,
+) -> Result<(), LabFault> {
+    let alloc = report.findings.alloc;
+    let text = report.script_of(comment.text()?, seen)?;
+    let name = name.file_name(alloc)?;
+    saves.save(alloc, name.as_str(), &text)
+}
+
+/// Keeps the scripts of all kinds of ends.
+fn save_ends<P: Progress, S: Saves>(report: &Report<'_, P>, saves: &mut S) -> Result<(), LabFault> {
+    let findings = &report.findings;
+    for index in 0..findings.ends.len() {
+        let Some(kind) = findings.kind(index) else {
+            break;
+        };
+        let mut comment = Page::new(findings.alloc)?;
+        put_end(&mut comment, findings, "# ", &kind);
+        let name = ScriptName::End(kind.number);
+        save(report, saves, name, &comment, seen_at(kind.end.place))?;
+    }
+    Ok(())
+}
+
+/// Keeps the scripts of users that are stuck.
+fn save_stuck<P: Progress, S: Saves>(
+    report: &Report<'_, P>,
+    saves: &mut S,
+) -> Result<(), LabFault> {
+    let findings = &report.findings;
+    for (index, stuck) in findings.stuck.iter().enumerate() {
+        let number = index.saturating_add(1);
+        let mut comment = Page::new(findings.alloc)?;
+        put_stuck(&mut comment, findings, "# ", number, stuck);
+        let name = ScriptName::Stuck(number);
+        save(report, saves, name, &comment, seen_at(stuck.place))?;
+    }
+    Ok(())
+}
+
+/// Keeps the scripts of all questions of which something is seen.
+fn save_questions<P: Progress, S: Saves>(
+    report: &Report<'_, P>,
+    saves: &mut S,
+) -> Result<(), LabFault> {
+    let findings = &report.findings;
+    for judged in report.judged.iter() {
+        if let Some(seen) = judged.seen {
+            let mut comment = Page::new(findings.alloc)?;
+            put_question(&mut comment, findings, "# ", judged);
+            let name = ScriptName::Question(judged.line.line);
+            save(report, saves, name, &comment, seen)?;
+        }
+    }
+    Ok(())
+}
+
+/// Keeps the scripts of all answers of all entries.
+fn save_answers<P: Progress, S: Saves>(
+    report: &Report<'_, P>,
+    saves: &mut S,
+) -> Result<(), LabFault> {
+    let findings = &report.findings;
+    for entry in report.entries.iter() {
+        let event = entry.event;
+        for (index, answer) in entry.answers.iter().enumerate() {
+            let number = index.saturating_add(1);
+            let mut comment = Page::new(findings.alloc)?;
+            put_answer(&mut comment, &findings.script.names, event, answer);
+            let name = ScriptName::Answer { event, number };
+            save(report, saves, name, &comment, answer.seen)?;
+        }
+    }
+    Ok(())
+}
+
+/// Keeps all scripts, those of answers only where they are wanted.
+pub fn save_all<P: Progress, S: Saves>(
+    report: &Report<'_, P>,
+    saves: &mut S,
+    with_answers: bool,
+) -> Result<(), LabFault> {
+    if !saves.wants() {
+        return Ok(());
+    }
+    save_ends(report, saves)?;
+    save_stuck(report, saves)?;
+    save_questions(report, saves)?;
+    if with_answers {
+        save_answers(report, saves)?;
+    }
+    Ok(())
+}
