@@ -2,7 +2,7 @@
 //! It is kept with ids in place of names.
 use crate::fault::{Listed, QuestionFault, Word};
 use crate::there::{There, id_text};
-use mcs_lab_inspect::{FORMS, Field, Fields, Forms, form_of, number_of};
+use mcs_lab_forms::{FORMS, Field, Fields, Forms, form_of, number_of};
 use mcs_types::{Kind, LABEL_BITS, MESSAGE_WORDS, ObjId};
 use std::alloc::Global;
 

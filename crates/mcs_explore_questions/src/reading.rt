@@ -4,7 +4,7 @@ use crate::fault::{QuestionFault, Word};
 use crate::forms::{Lines, pattern_of};
 use crate::there::{There, entry_of, id_text, no_entry};
 use mcs_explore_walk::{UserList, Users};
-use mcs_lab_inspect::number_of;
+use mcs_lab_forms::number_of;
 use mcs_text::Words;
 use mcs_types::ObjId;
 use std::alloc::Global;

@@ -3,7 +3,7 @@ use crate::asking::Event;
 use crate::fault::{Listed, QuestionFault, Word};
 use mcs_explore_walk::{UserList, Users};
 use mcs_lab_check::{Named, Names, object_of, queue_of};
-use mcs_lab_inspect::number_of;
+use mcs_lab_forms::number_of;
 use mcs_text::letter;
 use mcs_types::{BootLine, Kind, ObjId};
 use std::alloc::{AllocError, Global};

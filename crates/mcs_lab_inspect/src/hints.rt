@@ -1,8 +1,7 @@
 //! What may have been meant by a line that has no form.
-use crate::forms::{Field, Fields, form_of, meant_by};
-use crate::numbers::address_of;
 use crate::page::Page;
 use mcs_lab_check::object_of;
+use mcs_lab_forms::{Field, Fields, form_of, meant_by, number_of};
 use mcs_text::Words;
 
 /// What is in the place of a word.
@@ -29,7 +28,7 @@ fn wanted(name: &[u8], is_address: bool) -> Wants {
 /// Whether a word may be where this is wanted.
 fn fits(word: &[u8], wants: Wants) -> bool {
     match wants {
-        Wants::Number => address_of(word).is_some(),
+        Wants::Number => number_of(word).is_some(),
         Wants::Name => word == b"-".as_slice() || object_of(word).is_some(),
         Wants::Word => !word.is_empty(),
     }
@@ -40,7 +39,7 @@ fn fault_of(word: &[u8]) -> Option<&'static [u8]> {
     match word {
         [] => Some(b" is empty: one space stands between two words\n".as_slice()),
         [b'#', ..] => Some(b": a remark has a line of its own\n".as_slice()),
-        [b'0'..=b'9', ..] if address_of(word).is_none() => {
+        [b'0'..=b'9', ..] if number_of(word).is_none() => {
             Some(b": numbers are decimal, of 64 bits, and do not begin with 0\n".as_slice())
         }
         _ => None,

@@ -1,8 +1,8 @@
 //! The lines of a book as JSON, an object for each.
-use crate::forms::{Fields, form_of};
 use crate::members::{Member, members_of, put_members, put_value, split_word};
 use crate::page::Page;
 use mcs_lab_check::{Judge, LabFault, Last, Names, TakesLines, Told, bare, object_of, take_lines};
+use mcs_lab_forms::{Fields, form_of};
 use mcs_sim::Source;
 use mcs_trace::{Line, spell_answer, spell_record, spell_step};
 use std::alloc::Global;

@@ -2,12 +2,10 @@
 //! and its book as JSON. It only writes.
 #![tactic(auto)]
 
-mod forms;
 mod hints;
 mod json;
 mod members;
 mod needs;
-mod numbers;
 mod page;
 mod path;
 mod spaces;
@@ -17,9 +15,7 @@ mod tables;
 mod values;
 mod why;
 
-pub use forms::{FORMS, Field, Fields, Forms, form_of};
 pub use json::write_json;
-pub use numbers::address_of as number_of;
 pub use page::Page;
 pub use state::{Wanted, show_state};
 pub use why::explain;

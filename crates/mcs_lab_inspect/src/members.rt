@@ -1,7 +1,6 @@
 //! The words of a line as the members of an object of JSON, in the order of their names.
-use crate::forms::Fields;
-use crate::numbers::address_of;
 use crate::page::Page;
+use mcs_lab_forms::{Fields, number_of};
 use mcs_text::Words;
 use std::alloc::Global;
 
@@ -43,7 +42,7 @@ fn next_behind<'a>(members: &[Member<'a>], name: &[u8]) -> Option<Member<'a>> {
 pub fn put_value(page: &mut Page, text: &[u8]) {
     if text == b"-".as_slice() {
         page.put(b"null");
-    } else if address_of(text).is_some() {
+    } else if number_of(text).is_some() {
         page.put(text);
     } else {
         page.quoted(text);

@@ -1,12 +1,11 @@
 //! Why a step did nothing, in words.
-use crate::forms::{Fields, LooksUp, form_of};
 use crate::hints::put_hints;
-use crate::numbers::address_of;
 use crate::page::Page;
 use crate::path::put_path;
 use crate::stuck::{Waits, taker_of};
 use mcs_kernel::{EnterFault, Kernel};
 use mcs_lab_check::{Judge, LabFault, Last, Names, TakesLines, Told, bare, entrant_of, take_lines};
+use mcs_lab_forms::{Fields, LooksUp, form_of, number_of};
 use mcs_queues::LinkedLines;
 use mcs_sim::Source;
 use mcs_text::{LineFault, Words};
@@ -106,7 +105,7 @@ fn put_place(
 /// Reads the place of an index and the depth that follows it.
 fn place_of(index: u64, fields: &mut Fields<'_>, words: &mut Words<'_>) -> Option<Place> {
     fields.next_field()?;
-    let depth = u8::try_from(address_of(words.next_word()?)?).ok()?;
+    let depth = u8::try_from(number_of(words.next_word()?)?).ok()?;
     Some(Place { index, depth })
 }
 
@@ -124,7 +123,7 @@ fn put_first_refused(
         let (Some(field), Some(word)) = (fields.next_field(), words.next_word()) else {
             return false;
         };
-        let Some(number) = address_of(word) else {
+        let Some(number) = number_of(word) else {
             continue;
         };
         let is_put = match field.looks_up {

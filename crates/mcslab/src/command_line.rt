@@ -3,7 +3,8 @@ use crate::compiling::{self, Made};
 use crate::drawing::{self, Drawn};
 use crate::exploring::{self, Sought};
 use clap::{Arg, ArgAction, ArgMatches, Command as Words, Error, value_parser};
-use mcs_lab_inspect::{FORMS, Wanted};
+use mcs_lab_forms::FORMS;
+use mcs_lab_inspect::Wanted;
 use std::alloc::Global;
 
 /// The version of the program (own).

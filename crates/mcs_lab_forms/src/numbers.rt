@@ -1,7 +1,7 @@
 //! Numbers in the words of a step.
 
-/// The number of 64 bits that a word writes: `0`, or digits that do not begin with 0.
-pub fn address_of(word: &[u8]) -> Option<u64> {
+/// Returns the number of 64 bits that a word writes: `0`, or digits that do not begin with 0.
+pub fn number_of(word: &[u8]) -> Option<u64> {
     if word.is_empty() || (word.len() > 1 && word[0] == b'0') {
         return None;
     }

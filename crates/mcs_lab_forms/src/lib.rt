@@ -1,0 +1,8 @@
+//! The forms of lines as they are shown, and the numbers in their words.
+#![tactic(auto)]
+
+mod forms;
+mod numbers;
+
+pub use forms::{FORMS, Field, Fields, Forms, LooksUp, form_of, meant_by};
+pub use numbers::number_of;
