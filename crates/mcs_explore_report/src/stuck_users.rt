@@ -7,7 +7,7 @@ use crate::judging::Sighting;
 use crate::live::stuck_at;
 use crate::watching::{Progress, Watched};
 use mcs_explore_orders::Orders;
-use mcs_explore_script::AskedLine;
+use mcs_explore_script::{AskedLine, Live};
 use mcs_lab_check::LabFault;
 use std::alloc::{AllocError, Global};
 

@@ -8,7 +8,7 @@ use crate::judging::{Sighting, judge};
 use crate::live::Lives;
 use crate::mail::{brought, note_mail};
 use mcs_explore_orders::{OrdersFault, Turn, Users, Walk, Watch};
-use mcs_explore_script::AskedLine;
+use mcs_explore_script::{AskedLine, Live};
 use mcs_lab_check::LabFault;
 use mcs_queues::PlainLines;
 use mcs_trace::Line;
