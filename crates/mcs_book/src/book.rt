@@ -361,7 +361,7 @@ fn copy_boot(alloc: Global, boot: &[BootLine], room: usize) -> Result<Vec<BootLi
     Ok(copy)
 }
 
-/// The first packed records alone are left.
+/// Keeps the first packed records alone.
 fn keep_first(packed: &mut Vec<Packed>, count: usize)
     ensures items { packed.new.items ≡ take count packed.old.items }
     ensures capacity { vec_capacity packed.new ≡ vec_capacity packed.old }

@@ -109,7 +109,7 @@ impl Boot {
         Some(self.state.radix(cnode))
     }
 
-    /// Nothing is wrong with the boot.
+    /// Proves that nothing is wrong with the boot.
     pub fn is_faultless(&self)
         ensures { IsFaultless self.now }
     {

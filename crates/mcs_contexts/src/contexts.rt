@@ -207,8 +207,8 @@ impl Contexts {
         Some(*context)
     }
 
-    /// Holding is one to one: two contexts with one holder are one context. What is held was made,
-    /// and the holder is a thread of a serial from 1 to 256 (own).
+    /// Proves that holding is one to one: two contexts with one holder are one context. What is
+    /// held was made, and the holder is a thread of a serial from 1 to 256 (own).
     pub fn is_one_to_one(&self)
         ensures pairs { IsOneToOne self.now }
         ensures one_context { HoldersDiffer self.now }

@@ -4,10 +4,10 @@ use mcs_types::{CoreId, ObjId};
 /// What is told of a run as it goes, so that a test may hold a core. Both calls come without any
 /// lock.
 pub trait Gate: Sync {
-    /// A core picked a thread, whose entry it has not entered yet.
+    /// Tells that a core picked a thread, whose entry it has not entered yet.
     fn between(&self, core: CoreId, thread: ObjId);
 
-    /// An entry of a core was let in as the line of this number.
+    /// Tells that an entry of a core was let in as the line of this number.
     fn answered(&self, core: CoreId, line: u64);
 }
 

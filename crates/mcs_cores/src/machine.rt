@@ -62,8 +62,8 @@ impl<G: Ledger, L: Lines> LockedKernel<G, L> {
         seat.enter(alloc, &mut self.kernel, &mut self.book, thread, prepared)
     }
 
-    /// A seat for each of so many cores, where none was given yet: as many as the boot has. No
-    /// invariant says outside of the lock what is true under it, so both are tested again.
+    /// Gives out a seat for each of so many cores, where none was given yet and the boot has as
+    /// many. No invariant says outside of the lock what is true under it, so both are tested again.
     fn seats(&mut self, alloc: Global, cores: u8) -> Result<Vec<CoreSeat<G>>, OutOfMemory>
         ensures unchanged { self.new ≡ self.old }
         ensures seats { IfOk result (λ v. AreNew v.items) }
@@ -125,7 +125,7 @@ fn compare<G: Ledger, L: Lines>(
     settle_seats(alloc, kernel, boot, seats)
 }
 
-/// As many seats, each with a part of the ledger.
+/// Makes so many seats, each with a part of the ledger.
 fn new_seats<G: Ledger>(
     alloc: Global,
     rest: &mut Share<G>,
@@ -193,7 +193,7 @@ impl<G: Ledger, L: Lines> Machine<G, L> {
         }
     }
 
-    /// A seat for each core of the boot in order, once.
+    /// Gives out a seat for each core of the boot in order, once.
     pub fn seats<R: Wait>(&mut self, rt: &R, alloc: Global) -> Result<Vec<CoreSeat<G>>, SeatsFault>
         ensures seats { IfOk result (λ v. AreNew v.items) }
         ensures count { IfOk result (λ v. length v.items ≡ self.old.cores) }

@@ -45,7 +45,7 @@ type Done<G> = (CoreSeat<G>, Result<(), RunFault>);
 /// The threads of the cores.
 type Running<G> = Vec<thread::JoinHandle<Done<G>>>;
 
-/// Whether a run ends because an entry was turned away. What the kernel turned away for its
+/// Decides whether a run ends because an entry was turned away. What the kernel turned away for its
 /// thread's sake is picked anew.
 fn ends_run(turned: Turned) -> Result<(), RunFault> {
     match turned {
@@ -86,8 +86,8 @@ impl<G: Ledger, L: Lines, T: Gate> RunContext<'_, G, L, T> {
         told
     }
 
-    /// What the core does next, by what it sees now, with the cores that have to be woken for that.
-    /// Where no core can pick anything, the run is over.
+    /// Decides what the core does next by what it sees now, and which cores have to be woken for
+    /// that. Where no core can pick anything, the run is over.
     fn look<R: Wait>(
         &self,
         rt: &R,
@@ -168,7 +168,7 @@ impl<G: Ledger, L: Lines, T: Gate> RunContext<'_, G, L, T> {
         Ok(next)
     }
 
-    /// The turns of a core, until the run is over.
+    /// Gives a core its turns until the run is over.
     fn work<R: Wait>(&self, rt: &R, seat: &mut CoreSeat<G>) -> Result<(), RunFault> {
         let core = seat.core();
         let mut next = self.begin(rt, core);

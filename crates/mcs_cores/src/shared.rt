@@ -108,7 +108,7 @@ impl SharedPositions {
         positions.asleep
     }
 
-    /// The same, by who does not have the lock.
+    /// Does the same for a caller that does not have the lock.
     pub(crate) fn close<R: Wait>(&self, rt: &R) {
         let told = self.end(rt, &mut self.positions.lock(rt));
         self.wake(told);

@@ -34,8 +34,8 @@ fn context_to_lend<W: Waiting>(state: &State<W>, caller: ObjId, receiver: ObjId)
     }
 }
 
-/// A reply object owes a caller an answer, which the receiver is to give. A receiver that holds no
-/// context is lent the caller's (own).
+/// Makes a reply object owe a caller an answer, which the receiver is to give. A receiver that
+/// holds no context is lent the caller's (own).
 fn owe<W: Waiting>(state: &mut State<W>, reply: ObjId, caller: ObjId, receiver: ObjId)
     requires calling { IsCalling (so_far state.old) reply caller receiver }
     requires room { HasRoomFor (owed_by reply caller receiver) state.old }
@@ -50,7 +50,7 @@ fn owe<W: Waiting>(state: &mut State<W>, reply: ObjId, caller: ObjId, receiver: 
     }
 }
 
-/// The context of a sender passes to the receiver, where that holds none (own).
+/// Passes the context of a sender to the receiver, where that holds none (own).
 fn give<W: Waiting>(state: &mut State<W>, sender: ObjId, receiver: ObjId)
     requires receiver { IsThere (so_far state.old) Kind.Thread receiver }
     requires room { HasRoomFor (given_by sender receiver) state.old }

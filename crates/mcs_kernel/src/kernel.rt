@@ -55,7 +55,7 @@ impl<L: Lines> Model for Kernel<L> {
 
 // An answer is Done before its entry, so that an entry which is done writes none.
 
-/// Answers an entry that is done or refused.
+/// Writes the answer of an entry that is done or refused.
 #[inline(always)]
 fn answer_plain(answer: &mut Answer, ended: Result<(), Refusal>)
     requires { answer.old ≡ Done }
@@ -67,7 +67,7 @@ fn answer_plain(answer: &mut Answer, ended: Result<(), Refusal>)
     }
 }
 
-/// Answers a send: whether its thread waits, or the refusal.
+/// Writes the answer of a send: whether its thread waits, or the refusal.
 #[inline(always)]
 fn answer_send(answer: &mut Answer, waits: Result<bool, Refusal>)
     requires { answer.old ≡ Done }
@@ -83,7 +83,7 @@ fn answer_send(answer: &mut Answer, waits: Result<bool, Refusal>)
 // Who sends a message is a function of its own, so that what is lent with it is cleared where it is
 // lent alone.
 
-/// Send and NBSend, with the copies of their message that take memory.
+/// Performs Send and NBSend, with the copies of their message that take memory.
 #[inline(always)]
 fn do_send<W: Waiting>(
     state: &mut State<W>,
@@ -108,7 +108,7 @@ fn do_send<W: Waiting>(
     answer_send(answer, send(state, core, thread, cap, copies, blocks))
 }
 
-/// Call, likewise.
+/// Performs Call, likewise.
 #[inline(always)]
 fn do_call<W: Waiting>(
     state: &mut State<W>,
@@ -131,7 +131,7 @@ fn do_call<W: Waiting>(
     answer_send(answer, call(state, core, thread, cap, copies))
 }
 
-/// ReplyRecv, likewise.
+/// Performs ReplyRecv, likewise.
 #[inline]
 fn do_reply_receive<W: Waiting>(
     state: &mut State<W>,
@@ -154,7 +154,7 @@ fn do_reply_receive<W: Waiting>(
     reply_receive(state, core, thread, cap, reply, copies, answer)
 }
 
-/// NBSendRecv where a reply object is named, and NBSendWait where not, likewise.
+/// Performs NBSendRecv where a reply object is named, and NBSendWait where not, likewise.
 fn do_exchange<W: Waiting>(
     state: &mut State<W>,
     core: CoreId,
@@ -378,7 +378,7 @@ impl<L: Lines> Kernel<L> {
         self.state.book()
     }
 
-    /// The book is legal and fair, and has at most 1,000,000 lines.
+    /// Proves that the book is legal and fair, and has at most 1,000,000 lines.
     pub fn is_fair(&self)
         ensures legal { IsLegal self.now }
         ensures few { length self.now.lines < BOOK_LINES }

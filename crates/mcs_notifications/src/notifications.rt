@@ -166,8 +166,8 @@ impl Notifications {
         self.rows.get(notification)?.word
     }
 
-    /// The pending word of a notification that is there gains the bits of a badge; where none was
-    /// pending, it is the badge, also where that is 0 (manual: Notifications).
+    /// Adds the bits of a badge to the pending word of a notification that is there. Where no word
+    /// was pending, the badge is the word, even if it is 0 (manual: Notifications).
     pub fn raise(&mut self, notification: ObjId, badge: Badge)
         requires { is_there self.old notification ≡ true }
         ensures counts { counts self.new ≡ counts self.old }
@@ -227,7 +227,7 @@ impl Notifications {
         self.rows.get(notification)?.homed
     }
 
-    /// This context is homed at a notification that is there, or none is (own).
+    /// Sets the context that is homed at a notification that is there, or clears it (own).
     pub fn set_homed(&mut self, notification: ObjId, homed: Option<ObjId>)
         requires { is_there self.old notification ≡ true }
         ensures counts { counts self.new ≡ counts self.old }

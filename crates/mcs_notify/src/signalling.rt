@@ -68,7 +68,7 @@ fn reached<W: Waiting>(state: &State<W>, notification: ObjId) -> Option<Hearer>
     }
 }
 
-/// A hearer leaves its queue.
+/// Takes a hearer out of its queue.
 fn leave<W: Waiting>(state: &mut State<W>, hearer: &Hearer)
     requires stands { queue_of (so_far state.old) hearer.now.thread ≡ Some hearer.now.queue }
     requires room { HasRoomFor (left_by hearer.now) state.old }
@@ -90,7 +90,7 @@ fn spare_context<W: Waiting>(state: &State<W>, notification: ObjId) -> Option<Ob
     }
 }
 
-/// A hearer takes the word, leaves its queue, and runs.
+/// Gives a hearer the word, takes it out of its queue, and lets it run.
 fn go_on<W: Waiting>(state: &mut State<W>, notification: ObjId, word: u64, hearer: &Hearer)
     requires stands { queue_of (so_far state.old) hearer.now.thread ≡ Some hearer.now.queue }
     requires pending { pending (so_far state.old) notification ≡ Some word }
@@ -104,9 +104,9 @@ fn go_on<W: Waiting>(state: &mut State<W>, notification: ObjId, word: u64, heare
     state.turns(hearer.thread, Mode::Running);
 }
 
-/// A hearer takes the word, leaves its queue, and runs. The context that is homed at the
-/// notification wakes with it, where nobody holds that and it came along no call that has not
-/// ended, and where the hearer holds none (own).
+/// Gives a hearer the word, takes it out of its queue, and lets it run. The context that is homed
+/// at the notification wakes with it, where nobody holds that and it came along no call that has
+/// not ended, and where the hearer holds none (own).
 fn hear<W: Waiting>(state: &mut State<W>, notification: ObjId, word: u64, hearer: &Hearer)
     requires stands { queue_of (so_far state.old) hearer.now.thread ≡ Some hearer.now.queue }
     requires pending { pending (so_far state.old) notification ≡ Some word }
@@ -147,9 +147,9 @@ fn cap_to_signal<W: Waiting>(state: &State<W>, thread: ObjId, address: u64) -> R
     with_write(of_kind(state.capability(thread, address), Kind::Notification))
 }
 
-/// Signal: the notification is signalled with the badge of the capability. The refusals are 1 to 3
-/// of the lookup, 4 for a capability of another kind, and 5 where Write is missing; they change
-/// nothing (manual: Notifications).
+/// Performs Signal: the notification is signalled with the badge of the capability. The refusals
+/// are 1 to 3 of the lookup, 4 for a capability of another kind, and 5 where Write is missing; they
+/// change nothing (manual: Notifications).
 pub fn signal_at<W: Waiting>(
     state: &mut State<W>,
     core: CoreId,

@@ -171,16 +171,16 @@ impl<T: Drop> Store<T> {
         })
     }
 
-    /// The store is a map: its serials rise and were given, and its places are below its room and
-    /// different.
+    /// Proves that the store is a map: its serials rise and were given, and its places differ and
+    /// are below its room.
     fn is_map(&self)
         ensures { IsMap self.now }
     {
         let _ = &self.values;
     }
 
-    /// Two objects that are there have different places, below the store's room, so a place tells
-    /// its object. What is there was given (own).
+    /// Proves that two objects that are there have different places below the store's room, so a
+    /// place identifies its object. What is there was given (own).
     pub fn are_apart(&self)
         ensures { HasPlaces self.now }
     {
@@ -264,7 +264,7 @@ impl<T: Drop> Store<T> {
         self.values.get(row.place as usize)
     }
 
-    /// The value of an object for writing, or None where it is not there (own).
+    /// Returns the value of an object for writing; None where it is not there (own).
     pub fn get_mut(&mut self, id: ObjId) -> Option<&mut T>
         ensures* writes_back { sem 𝓛 (lends_value T.row self.entry id result) }
         ensures value { option_copied_mut result ≡ value_at self.old id }
@@ -281,7 +281,7 @@ impl<T: Drop> Store<T> {
         self.values.get(place as usize)
     }
 
-    /// The value for writing of an object that has this place (own).
+    /// Returns for writing the value of an object that has this place (own).
     pub fn get_mut_at(&mut self, id: ObjId, place: u16) -> Option<&mut T>
         requires { place_at self.old id ≡ Some place }
         ensures* writes_back { sem 𝓛 (lends_value T.row self.entry id result) }

@@ -62,7 +62,7 @@ enum Outcome {
 }
 
 impl Outcome {
-    /// The same at the line of this number.
+    /// Does the same for the line of this number.
     #[inline(always)]
     fn at(self, number: u64) -> Result<(), SimFault>
         ensures { result ≡ answer_at number self }

@@ -26,9 +26,9 @@ pub trait Item: Sized + Drop {
     /// The item that a line spells, where so many cores and threads are there.
     ghost item: { ℕ → ℕ → List ℕ → Result Self LineFault };
 
-    /// The item that a line spells, where so many cores and threads are there. Fault Form where it
-    /// spells none; Number where a number is out of its range; NoObject where the thread is not
-    /// there.
+    /// Reads the item that a line spells, where so many cores and threads are there. Fault Form
+    /// where it spells none; Number where a number is out of its range; NoObject where the thread
+    /// is not there.
     fn read(
         alloc: Global,
         cores: u8,
@@ -264,7 +264,7 @@ fn asked_cores(asked: Option<u8>, cores: u8) -> Result<u8, LineFault>
     }
 }
 
-/// The boot that the first line begins, by the key of its first word and the words behind it.
+/// Begins the boot of the first line, by the key of its first word and the words after it.
 #[tactic(auto, unfolding(crate::specs::Script::first_boot))]
 fn first_boot(
     alloc: Global,

@@ -48,8 +48,8 @@ impl Model for LinkedLines {
         × Pointed s.fingers s.slots };
 }
 
-/// Where a walk to a priority begins: ahead of a finger of a lower one, or at the line's end. It
-/// answers the thread that is to be visited next, and the one behind it.
+/// Finds where a traversal to a priority begins: ahead of a finger of a lower one, or at the line's
+/// end. Returns the thread to visit next, and the one after it.
 fn begin<G: Ledger>(
     slots: &LinkSlots,
     fingers: &Fingers,
@@ -73,8 +73,8 @@ fn begin<G: Ledger>(
     }
 }
 
-/// Between which threads of a line a priority belongs, by a walk from a finger or from the line's
-/// end.
+/// Finds the two threads of a line between which a priority belongs. The traversal starts at a
+/// finger or at the line's end.
 fn seek<G: Ledger>(
     slots: &LinkSlots,
     fingers: &Fingers,
@@ -266,8 +266,8 @@ impl LinkedLines {
         (slots, fingers)
     }
 
-    /// `join`, which counts its visits: at most one more than threads of a lower priority stand in
-    /// the line (own).
+    /// Does what `join` does, and counts its visits: at most one more than the line has threads of
+    /// a lower priority (own).
     pub fn join_counted<G: Ledger>(
         &mut self,
         t: ThreadNo,
@@ -290,8 +290,8 @@ impl LinkedLines {
         may
     }
 
-    /// `shift`, which counts its visits: none where the thread stands in no line, and else at most
-    /// one more than other threads of a lower priority stand in its line (own).
+    /// Does what `shift` does, and counts its visits: none where the thread is in no line, else at
+    /// most one more than its line has other threads of a lower priority (own).
     pub fn shift_counted<G: Ledger>(&mut self, t: ThreadNo, p: Prio, steps: &mut Steps<G>) -> bool
         ensures answer { result ≡ is_some (stands_at self.old t.0) }
         ensures line { ShiftsLine (spelled self.old) (spelled self.new) (stands_at self.old)
@@ -314,7 +314,7 @@ impl LinkedLines {
     }
 }
 
-/// `join` with visits of its own.
+/// Does what `join` does, with a count of visits of its own.
 fn join_alone<G: Ledger>(
     lines: &mut LinkedLines,
     t: ThreadNo,
@@ -336,7 +336,7 @@ fn join_alone<G: Ledger>(
     lines.join_counted(t, q, p, &mut steps)
 }
 
-/// `shift` with visits of its own.
+/// Does what `shift` does, with a count of visits of its own.
 fn shift_alone<G: Ledger>(lines: &mut LinkedLines, t: ThreadNo, p: Prio, blank: Blank) -> bool
     requires name { blank.name ≡ G.name }
     requires parts { blank.parts ≡ G.parts }
@@ -399,7 +399,7 @@ impl Lines for LinkedLines {
         next_in(&self.slots, t)
     }
 
-    /// As the trait's. At most four links differ after it, and at most one finger, which then
+    /// Does what the trait says. It changes at most four links, and at most one finger, which then
     /// points nowhere (own).
     fn part(&mut self, t: ThreadNo) -> Option<LineNo>
         ensures answer { line_number result ≡ stands_at self.old t.0 }

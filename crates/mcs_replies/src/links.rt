@@ -78,7 +78,7 @@ fn take(links: &mut Vec<Option<Link>>, place: PlaceNo)
     }
 }
 
-/// What stands above a place, if it is in a chain.
+/// Sets the link above a place, if the place is in a chain.
 fn set_above(links: &mut Vec<Option<Link>>, at: Option<PlaceNo>, above: Option<PlaceNo>)
     ensures items { links.new.items ≡ with_above_at at above links.old.items }
     ensures above { SetsAbove links.old.items links.new.items at above }
@@ -93,7 +93,7 @@ fn set_above(links: &mut Vec<Option<Link>>, at: Option<PlaceNo>, above: Option<P
     put(links, place, Some(Link { above, ..link }));
 }
 
-/// What stands below a place, if it is in a chain.
+/// Sets the link below a place, if the place is in a chain.
 fn set_below(links: &mut Vec<Option<Link>>, at: Option<PlaceNo>, below: Option<PlaceNo>)
     ensures below { SetsBelow links.old.items links.new.items at below }
     ensures places { length links.new.items ≡ length links.old.items }
@@ -171,7 +171,7 @@ fn pop(links: &mut Vec<Option<Link>>, tops: &mut Tops, place: PlaceNo, link: Lin
     tops.move_to(link.context, link.below);
 }
 
-/// No top any more, where nothing stands above.
+/// Takes the top from the chain of a context, where nothing is above this link.
 fn cut_top(tops: &mut Tops, link: Link)
     ensures { tops.new ≡ left_by link tops.old }
 {

@@ -235,7 +235,7 @@ impl Replies {
         row.caller.or(row.receiver)
     }
 
-    /// What stands in a chain is there and owes, stands in no other chain, and once in its own
+    /// Proves that what is in a chain is there and owes, is in no other chain, and once in its own
     /// (own).
     pub fn are_chained(&self)
         ensures { IsChained self.now }
@@ -264,8 +264,8 @@ impl Replies {
         links::lay(&mut self.links, &mut self.tops, place, reply, context);
     }
 
-    /// A reply object owes a caller from now on, and lies on top of the chain of the context that
-    /// the caller brought. False where it owes already or is not there: then nothing changes
+    /// Makes a reply object owe a caller, and puts it on top of the chain of the context that the
+    /// caller brought. Returns false where it owes already or is not there: then nothing changes
     /// (manual: Message Passing; chains are own).
     pub fn owe(&mut self, reply: ObjId, caller: ObjId, brought: Option<ObjId>) -> bool
         ensures answer { result ≡ may_owe self.old reply }
@@ -286,9 +286,9 @@ impl Replies {
         true
     }
 
-    /// The debt of a reply object is paid. On top of a chain it is taken off; else it and all below
-    /// leave their chain, and those below owe still. None, and nothing changes, where it owes
-    /// nobody (manual: Message Passing; chains are own). On top of a chain at most three links
+    /// Pays the debt of a reply object. On top of a chain it is taken off; else it and all below
+    /// leave their chain, and those below still owe. Returns None, and changes nothing, where it
+    /// owes nobody (manual: Message Passing; chains are own). On top of a chain at most three links
     /// change, however long the chain is (own).
     pub fn pay(&mut self, reply: ObjId) -> Option<Ended>
         ensures caller { option_map (λ e. e.caller) result ≡ owed_in self.old reply }

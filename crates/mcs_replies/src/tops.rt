@@ -53,7 +53,7 @@ fn top_among(others: &[Top], context: ObjId) -> Option<PlaceNo>
     Some(others[at].top)
 }
 
-/// A row more. There is room for one.
+/// Adds a row. There is room for one.
 fn push_row(others: &mut Vec<Top>, context: ObjId, top: PlaceNo)
     requires { vec_len others.old < vec_capacity others.old }
     ensures items { others.new.items ≡ others.old.items ++ row_of context top.0 }
@@ -65,7 +65,7 @@ fn push_row(others: &mut Vec<Top>, context: ObjId, top: PlaceNo)
     }
 }
 
-/// Another top in the row of a context. There is room for one more, unless it has one.
+/// Sets the top in the row of a context. There is room for one row more, unless it has one.
 fn enter_among(others: &mut Vec<Top>, context: ObjId, top: PlaceNo)
     requires { top_among others.old.items context ≡ None
         → vec_len others.old < vec_capacity others.old }
@@ -78,7 +78,7 @@ fn enter_among(others: &mut Vec<Top>, context: ObjId, top: PlaceNo)
     }
 }
 
-/// The row of a context goes, if it has one.
+/// Removes the row of a context, if it has one.
 fn leave_among(others: &mut Vec<Top>, context: ObjId)
     ensures items { others.new.items ≡ left_among context others.old.items }
     ensures capacity { vec_capacity others.old ≤ vec_capacity others.new }
@@ -144,7 +144,7 @@ impl Tops {
         }
     }
 
-    /// Another top of the chain of a context.
+    /// Sets the top of the chain of a context.
     fn enter(&mut self, context: ObjId, top: PlaceNo)
         requires { top_at self.old context ≡ None → length self.old.others < object_limit }
         ensures { self.new ≡ entered context top.0 self.old }
@@ -156,7 +156,7 @@ impl Tops {
         }
     }
 
-    /// The chain of a context has no top any more.
+    /// Clears the top of the chain of a context.
     fn leave(&mut self, context: ObjId)
         ensures { self.new ≡ left context self.old }
     {

@@ -97,7 +97,8 @@ impl Pages {
         Ok(())
     }
 
-    /// There are 64 CNodes at most, each with a radix from 1 to 8 and with 2 to the radix slots.
+    /// Proves that there are at most 64 CNodes, each with a radix from 1 to 8 and with 2 to the
+    /// radix slots.
     pub(crate) fn are_pages(&self)
         ensures few { length self.now ≤ 64 }
         ensures pages { ArePages self.now }

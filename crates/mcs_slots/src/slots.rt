@@ -119,7 +119,8 @@ impl Slots {
         Ok(())
     }
 
-    /// There are 64 CNodes at most, each with a radix from 1 to 8 and with 2 to the radix slots.
+    /// Proves that there are at most 64 CNodes, each with a radix from 1 to 8 and with 2 to the
+    /// radix slots.
     pub fn are_pages(&self)
         ensures few { length self.now ≤ 64 }
         ensures pages { ArePages self.now }

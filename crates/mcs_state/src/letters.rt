@@ -111,7 +111,7 @@ fn copied_places(
     Ok(copies)
 }
 
-/// So many places or more are there: those that were not have no open message.
+/// Makes at least so many places. The new ones have no open message.
 fn make_places(places: &mut Vec<Option<OpenLetter>>, count: usize)
     requires count { count ≤ ROOM }
     requires few { vec_len places.old ≤ ROOM }
@@ -166,7 +166,7 @@ impl Letters {
         }
     }
 
-    /// A message of a thread, whose serial is 256 at most, is open.
+    /// Opens a message of a thread whose serial is at most 256.
     pub fn open(&mut self, sender: ObjId, letter: OpenLetter)
         requires { IsThread sender }
         ensures { KeepsAt Kind.Thread self.old self.new sender (Some letter) }
@@ -175,8 +175,8 @@ impl Letters {
         keep(Kind::Thread, &mut self.places, sender, Some(letter));
     }
 
-    /// The open message of a thread, which is open no more; None, and nothing changes, where it has
-    /// none.
+    /// Closes the open message of a thread, and returns it; returns None, and changes nothing,
+    /// where the thread has none.
     pub fn close(&mut self, sender: ObjId) -> Option<OpenLetter>
         ensures value { result ≡ kept_at Kind.Thread self.old sender }
         ensures kept { KeepsAt Kind.Thread self.old self.new sender None }

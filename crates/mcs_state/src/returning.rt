@@ -62,7 +62,7 @@ fn context_at_home<W: Waiting>(
     }
 }
 
-/// A thread gives up the context that it holds, where that is homed at the notification by which
+/// Takes from a thread the context that it holds, where that is homed at the notification by which
 /// the thread may wake, and came along no call that has not ended.
 fn go_home<W: Waiting>(state: &mut State<W>, thread: ObjId, notification: Option<ObjId>)
     requires room { HasRoomFor (gone_home thread notification) state.old }

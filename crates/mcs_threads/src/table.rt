@@ -112,7 +112,7 @@ impl Threads {
         self.rows.len() as u16
     }
 
-    /// Who is there is a thread of a serial from 1 to 256 (own).
+    /// Proves that each thread that is there has a serial from 1 to 256 (own).
     pub fn are_few(&self)
         ensures { (t : ObjId) → IsSome (row_of self.now t) → IsThread t }
     {
@@ -210,7 +210,7 @@ impl Threads {
         Some(())
     }
 
-    /// Nothing blocks a thread any more; None like `set_mode` (manual: Message Passing).
+    /// Unblocks a thread; None like `set_mode` (manual: Message Passing).
     pub fn unblock(&mut self, id: ObjId) -> Option<()>
         ensures found { IsSome result ↔ IsSome (row_of self.old id) }
         ensures changed { ChangesRow (λ r. record r { block = None }) self.old self.new id }
@@ -234,7 +234,7 @@ impl Threads {
         Some(())
     }
 
-    /// No notification is bound to a thread any more; None like `set_mode` (manual: Notifications).
+    /// Unbinds the notification of a thread; None like `set_mode` (manual: Notifications).
     pub fn untie(&mut self, id: ObjId) -> Option<()>
         ensures found { IsSome result ↔ IsSome (row_of self.old id) }
         ensures changed { ChangesRow (with_notification None) self.old self.new id }

@@ -44,7 +44,7 @@ impl Users {
         self.lists.as_slice()
     }
 
-    /// No two users have one thread.
+    /// Proves that no two users have one thread.
     pub fn are_apart(&self)
         ensures { AreApart self.now }
     {

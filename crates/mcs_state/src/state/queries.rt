@@ -182,8 +182,8 @@ impl<W: Waiting> State<W> {
         self.letters.of(thread)
     }
 
-    /// Each record was allowed when it was made, few threads were made, and the hand has at most as
-    /// many records as a line.
+    /// Proves that each record was allowed when it was made, that few threads were made, and that
+    /// the hand has at most as many records as a line.
     pub fn is_sound(&self)
         ensures few { length self.now.hand ≤ HAND }
         ensures threads { counted (makes_kind Kind.Thread) (so_far self.now) ≤ ROOM }
