@@ -210,8 +210,8 @@ impl ReplayRun {
         self.keep(rest)
     }
 
-    /// The input has ended: a last line may lack its newline, and where no step came the boot ends
-    /// here. Fault Script with NoCores (1) where no line said the number of cores.
+    /// Ends the input: a last line may lack its newline, and where no step came the boot ends here.
+    /// Fault Script with NoCores (1) where no line said the number of cores.
     pub fn end(&mut self, alloc: Global) -> Result<(), SimFault>
         ensures takes { TakesEnd self.old self.new }
         ensures told { result ≡ answer_of self.new.course.fault }

@@ -142,7 +142,7 @@ impl TracedRun {
         taken
     }
 
-    /// The book is legal and fair, if there is one.
+    /// Proves that the book is legal and fair, if there is one.
     fn is_fair(&self)
         ensures { IsFairBook self.now.course.stands.book }
     {

@@ -23,8 +23,8 @@ use std::sync::Wait;
 use std::sync::ledger::{Blank, Ledger};
 use std::thread::Threads;
 
-/// The boot and the entries of users that a source says, to its end or to a fault, which is told
-/// with the piece in which it stands.
+/// Reads the boot and the entries of users from a source, to its end or to a fault. The fault is
+/// reported with the piece in which it is found.
 fn read_users<R: Read>(
     alloc: Global,
     from: &mut Source<R>,
