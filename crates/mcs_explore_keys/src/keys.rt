@@ -99,7 +99,7 @@ impl Keys {
         self.met.len()
     }
 
-    /// The objects of one kind, and those that were made later.
+    /// Puts the objects of one kind, and those that were made later.
     fn put_kind<L: Lines>(
         &self,
         row: &mut Row,
@@ -118,7 +118,7 @@ impl Keys {
         Ok(())
     }
 
-    /// All objects but threads and CNodes.
+    /// Puts all objects but threads and CNodes.
     fn put_objects<L: Lines>(
         &self,
         row: &mut Row,
@@ -135,7 +135,7 @@ impl Keys {
         Ok(())
     }
 
-    /// All slots.
+    /// Puts all slots.
     fn put_all_slots<L: Lines>(
         &self,
         row: &mut Row,
@@ -169,7 +169,7 @@ impl Keys {
         Ok(())
     }
 
-    /// What each core may enter besides its pick.
+    /// Puts what each core may enter besides its pick.
     fn put_all_stale<L: Lines>(
         &self,
         row: &mut Row,
@@ -184,7 +184,7 @@ impl Keys {
         Ok(())
     }
 
-    /// The numbers of the canonical rows of a state, in which the cores have these picks.
+    /// Returns the numbers of the canonical rows of a state, in which the cores have these picks.
     fn canonical_numbers<L: Lines>(
         &mut self,
         users: &Users,
@@ -217,7 +217,7 @@ impl Keys {
         Ok(numbers)
     }
 
-    /// The numbers of the rows of a state, in which the cores have these picks.
+    /// Returns the numbers of the rows of a state, in which the cores have these picks.
     fn numbers<L: Lines>(
         &mut self,
         users: &Users,
@@ -245,8 +245,8 @@ impl Keys {
         self.canonical_numbers(users, walk, picks)
     }
 
-    /// The key of a state, in which the cores have these picks. Where keys are exact, it names the
-    /// state's rows among those that were met. OutOfMemory where memory was refused.
+    /// Returns the key of a state, in which the cores have these picks. Where keys are exact, it
+    /// names the state's rows among those that were met. OutOfMemory where memory was refused.
     pub fn key<L: Lines>(
         &mut self,
         users: &Users,

@@ -17,7 +17,7 @@ fn more(number: Option<usize>) -> u64 {
     }
 }
 
-/// The position of a user.
+/// Puts the position of a user.
 fn put_place(row: &mut Row, place: Option<Position>) -> Result<(), AllocError> {
     match place {
         Some(place) => {
@@ -53,7 +53,7 @@ fn status_parts(names: &Names, status: Option<Status>) -> (u64, u64) {
     }
 }
 
-/// A message that nobody has received, without its number.
+/// Puts a message that nobody has received, without its number.
 fn put_letter(row: &mut Row, names: &Names, letter: Option<&Letter>) -> Result<(), AllocError> {
     let Some(letter) = letter else {
         return Ok(());
@@ -75,7 +75,7 @@ fn priority_number(priority: Option<Prio>) -> u64 {
     }
 }
 
-/// What a thread does and has, and how far its user is.
+/// Puts what a thread does and has, and how far its user is.
 pub fn put_thread<L: Lines>(
     row: &mut Row,
     kernel: &Kernel<L>,
@@ -95,8 +95,8 @@ pub fn put_thread<L: Lines>(
     put_letter(row, names, kernel.open(thread))
 }
 
-/// The queue in which a thread stands first, where another stands behind it: so each such queue is
-/// there once. Who stands alone is told by what it does.
+/// Puts the queue of which a thread is the first of several, so that each such queue is put once.
+/// That a thread is alone in a queue follows from what it does.
 pub fn put_queue<L: Lines>(
     row: &mut Row,
     kernel: &Kernel<L>,
@@ -125,7 +125,7 @@ pub fn put_queue<L: Lines>(
     Ok(())
 }
 
-/// The pending word of a notification, where there is one.
+/// Puts the pending word of a notification, where there is one.
 fn put_word<L: Lines>(
     row: &mut Row,
     kernel: &Kernel<L>,
@@ -140,7 +140,8 @@ fn put_word<L: Lines>(
     Ok(())
 }
 
-/// Who receives with a reply object. Whom it owes is told by what that thread does.
+/// Puts the thread that receives with a reply object. The caller that it owes follows from what
+/// that thread does.
 fn put_reply<L: Lines>(
     row: &mut Row,
     kernel: &Kernel<L>,
@@ -155,7 +156,7 @@ fn put_reply<L: Lines>(
     Ok(())
 }
 
-/// The home of a context and its chain.
+/// Puts the home of a context and its chain.
 fn put_standing<L: Lines>(
     row: &mut Row,
     kernel: &Kernel<L>,
@@ -179,8 +180,8 @@ fn put_standing<L: Lines>(
     Ok(())
 }
 
-/// A context: where it is gone, or its home and its chain, where there are, and its core where it
-/// was made after the boot. That of one that the boot made stays.
+/// Puts a context: where it is gone, or its home and its chain, where there are, and its core where
+/// it was made after the boot. The core of one that the boot made never changes.
 fn put_context<L: Lines>(
     row: &mut Row,
     kernel: &Kernel<L>,
@@ -202,7 +203,7 @@ fn put_context<L: Lines>(
     put_standing(row, kernel, names, context)
 }
 
-/// What there is of an object besides what threads and slots have of it.
+/// Puts what there is of an object besides what threads and slots have of it.
 pub fn put_object<L: Lines>(
     row: &mut Row,
     kernel: &Kernel<L>,
@@ -217,7 +218,7 @@ pub fn put_object<L: Lines>(
     }
 }
 
-/// A slot and its capability.
+/// Puts a slot and its capability.
 fn put_cap(row: &mut Row, names: &Names, index: u8, cap: &Cap) -> Result<(), AllocError> {
     row.push(index as u64)?;
     row.push(kind_number(cap.obj.kind))?;
@@ -229,7 +230,7 @@ fn put_cap(row: &mut Row, names: &Names, index: u8, cap: &Cap) -> Result<(), All
     Ok(())
 }
 
-/// The slots of a CNode that hold something.
+/// Puts the slots of a CNode that hold something.
 pub fn put_slots<L: Lines>(
     row: &mut Row,
     kernel: &Kernel<L>,
@@ -245,7 +246,7 @@ pub fn put_slots<L: Lines>(
     Ok(())
 }
 
-/// What a core may enter besides its pick.
+/// Puts what a core may enter besides its pick.
 pub fn put_stale<L: Lines>(
     row: &mut Row,
     walk: &Walk<L>,

@@ -31,7 +31,7 @@ pub trait Watch: Drop {
 
     ghost aim: { Self → Aim };
 
-    /// The state in this place, and whether it is over: no turn is possible.
+    /// Shows the state in this place, and whether it is over: no turn is possible.
     fn see_state(
         &mut self,
         users: &Users,
@@ -43,7 +43,7 @@ pub trait Watch: Drop {
         ensures sees { OnOk result (SeesState HasSeen self.old self.new
             users.now place walk.now is_over) };
 
-    /// A turn from the state in this place: its answer, and what is behind it.
+    /// Shows a turn from the state in this place: its answer, and the state after it.
     fn see_turn(
         &mut self,
         users: &Users,
@@ -184,8 +184,8 @@ impl<'a, W: Watch> Explorer<'a, W> {
         self.watch.see_state(self.users, place, walk, is_over)
     }
 
-    /// The key of what is behind a turn from the state in a place, where its cores have these
-    /// picks; None where the rule has no such turn. The turn is made on the walk.
+    /// Returns the key of the state after a turn from the state in a place, where its cores have
+    /// these picks; None where the rule has no such turn. The turn is made on the walk.
     fn behind(
         &mut self,
         alloc: Global,
@@ -250,7 +250,7 @@ impl<'a, W: Watch> Explorer<'a, W> {
         Ok(())
     }
 
-    /// A walk once more, in the memory of a spare one.
+    /// Copies a walk, in the memory of a spare one.
     fn copy_of(
         &mut self,
         alloc: Global,
@@ -319,8 +319,8 @@ impl<'a, W: Watch> Explorer<'a, W> {
         Ok(())
     }
 
-    /// What is behind some turns from the state in a place: the last is made on the walk itself, so
-    /// that a copy less is made.
+    /// Returns the states after some turns from the state in a place. The last turn is made on the
+    /// walk itself, which saves a copy.
     fn nexts_by(
         &mut self,
         alloc: Global,

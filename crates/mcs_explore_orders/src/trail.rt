@@ -191,7 +191,7 @@ impl Trail {
         }
     }
 
-    /// A walk once more, in the memory of a spare one.
+    /// Copies a walk, in the memory of a spare one.
     pub fn copy_of(
         &mut self,
         alloc: Global,
@@ -204,7 +204,7 @@ impl Trail {
         copy_of(alloc, walk, spare)
     }
 
-    /// The last point once more.
+    /// Copies the last point.
     fn branch(&mut self, alloc: Global) -> Result<Box<Walk<PlainLines>>, OutOfMemory>
         ensures copy { IfOk result (λ walk. walk.value
             ≡ last_point self.old.start self.old.points) }
@@ -214,8 +214,8 @@ impl Trail {
         copy_of(alloc, self.last(), spare)
     }
 
-    /// The last point itself, which is no longer along the path then; once more where there is no
-    /// stage.
+    /// Takes the last point itself, which is then no longer along the path. Returns a copy where
+    /// there is no stage.
     fn leave(&mut self, alloc: Global) -> Result<Box<Walk<PlainLines>>, OutOfMemory>
         ensures walk { IfOk result (λ walk. walk.value
             ≡ last_point self.old.start self.old.points) }
@@ -229,8 +229,8 @@ impl Trail {
         }
     }
 
-    /// A walk at the last point: a copy, so that the point stays, where the next path goes along
-    /// it, else the point itself.
+    /// Returns a walk at the last point: a copy, so that the point remains, where the next path
+    /// leads over it, else the point itself.
     fn depart(&mut self, alloc: Global, stays: bool) -> Result<Box<Walk<PlainLines>>, OutOfMemory>
         ensures walk { IfOk result (λ walk. walk.value
             ≡ last_point self.old.start self.old.points) }
@@ -289,8 +289,8 @@ impl Trail {
         Ok(at)
     }
 
-    /// A walk at the end of a path that leads somewhere. Points are kept along it as far as the
-    /// path that comes next, which is a hint, goes along with it.
+    /// Returns the walk at the end of a path that leads somewhere. Caches states along the prefix
+    /// that the path shares with the next one, which is a hint.
     pub fn walk_to(
         &mut self,
         alloc: Global,

@@ -442,7 +442,7 @@ fn fitted_by_any(
     Err(QuestionFault::NoLine { count: words.len() })
 }
 
-/// BehindRest where a word stands behind the one for the rest.
+/// Fails with BehindRest where a word follows the one for the rest.
 fn rest_is_last(alloc: Global, words: &[&[u8]]) -> Result<(), QuestionFault> {
     let Some(place) = words.iter().position(|word| is_rest(*word)) else {
         return Ok(());

@@ -55,7 +55,7 @@ fn words_of<'a>(alloc: Global, text: &'a [u8]) -> Result<Vec<&'a [u8]>, Question
 }
 
 impl<'a> Reader<'a> {
-    /// The next word. Missing where none is left.
+    /// Takes the next word. Missing where none is left.
     fn need(&mut self, wanted: &'static str) -> Result<&'a [u8], QuestionFault> {
         let Some(word) = self.words.get(self.taken).copied() else {
             return Err(QuestionFault::Missing { wanted });
@@ -81,7 +81,7 @@ impl<'a> Reader<'a> {
         })
     }
 
-    /// TooMany where a word is left.
+    /// Fails with TooMany where a word is left.
     fn end(&self) -> Result<(), QuestionFault> {
         match self.peek() {
             None => Ok(()),
@@ -91,13 +91,13 @@ impl<'a> Reader<'a> {
         }
     }
 
-    /// The user that the next word names.
+    /// Reads the user that the next word names.
     fn user(&mut self) -> Result<&'a UserList, QuestionFault> {
         let word = self.need("a thread")?;
         self.there.user(self.alloc, word)
     }
 
-    /// The entry that the next two words name.
+    /// Reads the entry that the next two words name.
     fn event(&mut self) -> Result<Event, QuestionFault> {
         let list = self.user()?;
         let word = self.need("the number of an entry")?;
@@ -115,8 +115,8 @@ impl<'a> Reader<'a> {
         }
     }
 
-    /// Empty where the first of two numbers is behind the last, which a word writes; NoEntry where
-    /// a user has no last.
+    /// Checks a range of entries: Empty where the first number, as a word writes it, is above the
+    /// last; NoEntry where the user has no last.
     fn expect_entries(
         &self,
         list: &UserList,
@@ -135,7 +135,7 @@ impl<'a> Reader<'a> {
         Ok(())
     }
 
-    /// The span that the next three words name: `t2 in 1..2`.
+    /// Reads the span that the next three words name: `t2 in 1..2`.
     fn span(&mut self) -> Result<Span, QuestionFault> {
         let list = self.user()?;
         self.expect("in")?;
@@ -151,7 +151,7 @@ impl<'a> Reader<'a> {
         })
     }
 
-    /// The spans that all words name, with `and` between them.
+    /// Reads the spans that all words name, with `and` between them.
     fn spans(&mut self) -> Result<Vec<Span>, QuestionFault> {
         let mut spans = Vec::new(self.alloc);
         for _ in 0..=self.words.len() {
@@ -164,13 +164,13 @@ impl<'a> Reader<'a> {
         Ok(spans)
     }
 
-    /// The pattern that all words are which are left.
+    /// Reads all words that are left as a pattern.
     fn pattern(&mut self, lines: Lines) -> Result<Vec<u8>, QuestionFault> {
         let words = self.words.get(self.taken..).unwrap_or(&[]);
         pattern_of(self.alloc, self.there, lines, words)
     }
 
-    /// The pattern of the answers of an entry, which all words are that are left. Waits where it is
+    /// Reads all words that are left as the pattern of the answers of an entry. Waits where it is
     /// the answer of one that waits.
     fn answer(&mut self) -> Result<Vec<u8>, QuestionFault> {
         if let Some(word) = self.peek()
@@ -183,7 +183,7 @@ impl<'a> Reader<'a> {
         self.pattern(Lines::Answers)
     }
 
-    /// What is never to be: a line of a pattern, or users in spans at once.
+    /// Reads what is never to be: a line of a pattern, or users in spans at once.
     fn never(&mut self) -> Result<Asked, QuestionFault> {
         let lines = match self.peek() {
             Some(b"=") => Lines::Answers,
@@ -200,7 +200,7 @@ impl<'a> Reader<'a> {
         Ok(Asked::Never { pattern })
     }
 
-    /// The question whose first word was taken.
+    /// Reads the question whose first word was taken.
     fn asked(&mut self, first: &[u8]) -> Result<Asked, QuestionFault> {
         match first {
             b"idle" => self.idle(),
@@ -227,7 +227,7 @@ impl<'a> Reader<'a> {
         }
     }
 
-    /// The entries that the next word names, as `2` or `1..=2`, or all where none is left.
+    /// Reads the entries that the next word names, as `2` or `1..=2`, or all where none is left.
     fn entries(&mut self, list: &UserList) -> Result<Entries, QuestionFault> {
         let Some(word) = self.peek() else {
             let last = list.entries.len();
@@ -253,7 +253,7 @@ impl<'a> Reader<'a> {
         Ok(Entries { first: from, last })
     }
 
-    /// A thread that may wait for ever.
+    /// Reads the thread that may wait for ever.
     fn idle(&mut self) -> Result<Asked, QuestionFault> {
         let list = self.user()?;
         let entries = self.entries(list)?;
@@ -264,7 +264,8 @@ impl<'a> Reader<'a> {
         })
     }
 
-    /// A user that is never stuck, and the entry that this is asked of, if the line names one.
+    /// Reads the user that is never to be stuck, and the entry that this is asked of, if the line
+    /// names one.
     fn live(&mut self) -> Result<Asked, QuestionFault> {
         let list = self.user()?;
         let number = match self.peek() {
@@ -279,7 +280,7 @@ impl<'a> Reader<'a> {
         })
     }
 
-    /// An entry that is given before another.
+    /// Reads an entry that is given before another.
     fn before(&mut self) -> Result<Asked, QuestionFault> {
         let first = self.event()?;
         let second = self.event()?;
@@ -287,7 +288,7 @@ impl<'a> Reader<'a> {
         Ok(Asked::Before { first, second })
     }
 
-    /// The entry with which a list goes on behind its last.
+    /// Reads the entry with which a list goes on after its last.
     fn again(&mut self) -> Result<Asked, QuestionFault> {
         let event = self.event()?;
         self.end()?;
@@ -360,7 +361,7 @@ fn again_of(users: &Users, thread: ObjId) -> Option<usize> {
     users.at(users.find(thread)?)?.again
 }
 
-/// AgainTwice where a question lets a list go on again that does already.
+/// Fails with AgainTwice where a question lets a list go on again that does already.
 pub fn goes_on_once(alloc: Global, users: &Users, asked: &Asked) -> Result<(), QuestionFault> {
     match asked {
         Asked::Again { event } if again_of(users, event.thread).is_some() => {
@@ -372,8 +373,8 @@ pub fn goes_on_once(alloc: Global, users: &Users, asked: &Asked) -> Result<(), Q
     }
 }
 
-/// ComesAgain where a question is about the first time that an entry is given or answered, and that
-/// comes again.
+/// Fails with ComesAgain where a question is about the first time that an entry is given or
+/// answered, and that comes again.
 pub fn comes_once(alloc: Global, users: &Users, asked: &Asked) -> Result<(), QuestionFault> {
     let (event, instead) = match asked {
         Asked::Before { first, .. } => (*first, "never"),

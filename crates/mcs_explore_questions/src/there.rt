@@ -102,7 +102,7 @@ impl<'a> There<'a> {
             || (is_made_later(object.kind) && self.makes_objects())
     }
 
-    /// NoObject where the object that a word names can't be there.
+    /// Fails with NoObject where the object that a word names can't be there.
     pub fn expect(&self, alloc: Global, word: &[u8], object: ObjId) -> Result<(), QuestionFault> {
         if self.can_be(object) {
             return Ok(());

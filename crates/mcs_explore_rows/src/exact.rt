@@ -378,8 +378,8 @@ fn put_objects<L: Lines>(
     Ok(())
 }
 
-/// The numbers of the rows of a state, in which the cores have these picks, among those that were
-/// met. The numbers of messages are told apart or not.
+/// Returns the numbers of the rows of a state, in which the cores have these picks, among those
+/// that were met. The numbers of messages are told apart or not.
 pub fn exact_numbers<L: Lines>(
     alloc: Global,
     met: &mut Met,

@@ -52,7 +52,7 @@ impl Met {
         self.rows.len()
     }
 
-    /// The number of a row, which is added where it was not met before.
+    /// Adds a row that was not met before. Returns its number.
     fn add(&mut self, row: Row) -> Result<u32, OutOfMemory>
         ensures number { IfOk result (λ n. slice_get self.new n ≡ Some row.items) }
         ensures kept { Keeps self.old self.new }
@@ -64,7 +64,7 @@ impl Met {
         Ok(number)
     }
 
-    /// The number of a row, which is met now.
+    /// Returns the number of a row, which is added where it was not met before.
     fn number(&mut self, row: &Row) -> Result<u32, OutOfMemory>
         ensures number { IfOk result (λ n. slice_get self.new n ≡ Some row.now.items) }
         ensures kept { Keeps self.old self.new }

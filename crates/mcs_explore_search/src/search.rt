@@ -38,16 +38,16 @@ pub trait System {
     // the same system, which has noted more
     ghost Later: { Self → Self → Type 0 };
 
-    /// The key of the start. A fault ends the search.
+    /// Returns the key of the start. A fault ends the search.
     fn first(&mut self, alloc: Global) -> Result<Self::Key, Self::Fault>
         ensures later { Later self.old self.new }
         ensures key { IfOk result (λ k. IsKey self.new (start self.new) k) }
         ensures seen { OnOk result (HasSeen self.old [] → HasSeen self.new []) };
 
-    /// The steps from the state to which a path of labels leads from the start: of each its label
-    /// and the key of where it leads. The state is the one in this place of all that were found. A
-    /// fault ends the search. The path of the state that comes next is a hint: the system may keep
-    /// what both paths have.
+    /// Returns the steps from the state to which a path of labels leads from the start: of each its
+    /// label and the key of where it leads. The state is the one in this place of all that were
+    /// found. A fault ends the search. The path of the state that comes next is a hint: the system
+    /// may keep what both paths have.
     fn nexts(
         &mut self,
         alloc: Global,
@@ -295,7 +295,7 @@ fn add_all<M: System>(
     Ok(())
 }
 
-/// A search that has found its start alone.
+/// Begins a search that has found its start alone.
 fn begin<M: System>(alloc: Global, system: &mut M) -> Result<Search<M::Key, M::Label>, M::Fault>
     ensures later { M.Later system.old system.new }
     ensures begun { IfOk result (λ f. f.done ≡ 0) }
@@ -320,7 +320,7 @@ fn begin<M: System>(alloc: Global, system: &mut M) -> Result<Search<M::Key, M::L
     })
 }
 
-/// The steps from the state in a place.
+/// Returns the steps from the state in a place.
 fn nexts_of<M: System>(
     alloc: Global,
     system: &mut M,

@@ -74,7 +74,7 @@ fn reason_of(word: &[u8]) -> Option<EnterFault>
     None
 }
 
-/// Whether a step was turned away, by the words behind `away`.
+/// Reads the question whether a step was turned away, from the words after `away`.
 fn away_asked(words: &mut Words<'_>) -> Option<Asked>
     ensures { result ≡ away_asked words.old }
 {
@@ -99,7 +99,7 @@ fn is_status(word: &[u8]) -> bool
         || is(word, b"closed")
 }
 
-/// Who owes a thread an answer, which is asked with a word between or without.
+/// Reads the question what owes a thread an answer, with `by` in between or without.
 fn owed_question(thread: ObjId, words: &mut Words<'_>) -> Option<Question>
     ensures { result ≡ owed_question thread words.old }
 {
@@ -108,7 +108,7 @@ fn owed_question(thread: ObjId, words: &mut Words<'_>) -> Option<Question>
     Some(Question::Status { thread, by })
 }
 
-/// What a word asks of a thread, and those behind it.
+/// Reads what a word and those after it ask of a thread.
 fn thread_question(thread: ObjId, word: &[u8], words: &mut Words<'_>) -> Option<Question>
     ensures { result ≡ thread_question thread word.now words.old }
 {
@@ -165,7 +165,7 @@ fn reply_question(reply: ObjId, word: &[u8]) -> Option<Question>
     None
 }
 
-/// What is asked of a slot, by its index and the words behind that.
+/// Reads what is asked of a slot, by its index and the words after that.
 fn slot_asked(cnode: ObjId, index: Option<u32>, words: &mut Words<'_>) -> Option<Question>
     ensures { result ≡ slot_asked cnode index words.old }
 {
@@ -180,7 +180,7 @@ fn slot_asked(cnode: ObjId, index: Option<u32>, words: &mut Words<'_>) -> Option
     })
 }
 
-/// What is asked of an object, by the word behind it and the others.
+/// Reads what a word and those after it ask of an object.
 fn object_question(object: ObjId, word: &[u8], words: &mut Words<'_>) -> Option<Question>
     ensures { result ≡ object_question object.kind object word.now words.old }
 {
@@ -196,7 +196,7 @@ fn object_question(object: ObjId, word: &[u8], words: &mut Words<'_>) -> Option<
     }
 }
 
-/// What is asked of what a word names, by the words behind it.
+/// Reads what is asked of what a word names, by the words after it.
 fn named_question(first: &[u8], words: &mut Words<'_>) -> Option<Question>
     ensures { result ≡ named_question (queue_of first.now) (object_of first.now) words.old }
 {
@@ -208,7 +208,7 @@ fn named_question(first: &[u8], words: &mut Words<'_>) -> Option<Question>
     object_question(object, word, words)
 }
 
-/// What words ask.
+/// Reads what words ask.
 fn asked_by(words: &mut Words<'_>) -> Option<Asked>
     ensures { result ≡ asked_by words.old }
 {

@@ -52,7 +52,7 @@ fn newest(run: &ReplayRun) -> Option<Line<'_>>
     book.line(book.lines() - 1)
 }
 
-/// Whether the answer of a line is written so.
+/// Compares the answer of a line with a text: true where it is written so.
 fn is_answer(seen: &mut Text, line: Option<Line<'_>>, text: &[u8]) -> bool
     ensures holds { result ≡ is_answer line.entry text.now }
     ensures same { seen.new ≡ seen.old }
@@ -71,7 +71,8 @@ fn with_sent(sent: u128, fact: &KeptRecord<'_>) -> u128
     if fact.is_sent() { sent + 1 } else { sent }
 }
 
-/// The place behind the first record that is written so, and how many messages were sent before it.
+/// Finds the first record that is written so: returns the place after it, and how many messages
+/// were sent before that place.
 fn found_from(
     seen: &mut Text,
     line: &Line<'_>,
@@ -113,7 +114,7 @@ pub fn entrant_of(step: &[u8]) -> Option<(CoreId, ObjId)>
     Some((CoreId(core as u8), thread))
 }
 
-/// What is said of a step that was turned away.
+/// Puts what is said of a step that was turned away.
 fn put_away(to: &mut Text, reason: Option<EnterFault>) -> Result<(), LabFault>
     ensures { OnOk result (to.new ≡ to.old ++ away_text reason) }
 {
@@ -214,7 +215,7 @@ impl Judge {
         }
     }
 
-    /// The replay takes a line.
+    /// Feeds a line to the replay.
     #[tactic(auto, using(crate::proofs::Feeding::fed_whole))]
     fn feed(&mut self, alloc: Global, text: &[u8]) -> Result<(), LabFault>
         ensures { OnOk result (self.new ≡ fed_line self.old text.now) }
@@ -226,7 +227,7 @@ impl Judge {
         }
     }
 
-    /// The input has ended, and with it the boot, where no step came.
+    /// Ends the input, and with it the boot, where no step came.
     pub fn end(&mut self, alloc: Global) -> Result<(), LabFault> {
         match self.run.end(alloc) {
             Ok(()) => Ok(()),
@@ -234,7 +235,7 @@ impl Judge {
         }
     }
 
-    /// Whether the answer of the last step is written so.
+    /// Compares the answer of the last step with a text: true where it is written so.
     fn answers_so(&mut self, text: &[u8]) -> bool
         ensures holds { result ≡ answers_so self.old.last (newest (book_of self.old)) text.now }
         ensures same { self.new ≡ self.old }
@@ -245,7 +246,8 @@ impl Judge {
         }
     }
 
-    /// Where a record of the last step is written so, of those that were not passed.
+    /// Finds the first record of the last step that is written so, among those not passed yet.
+    /// Returns the place after it, and how many messages were sent before that place.
     fn found(&mut self, text: &[u8]) -> Option<(usize, u128)>
         ensures found { result ≡ found self.old.last (newest (book_of self.old)) text.now }
         ensures few { IfSome result (λ at. at.1 ≤ 2 ^ 32 + at.0) }
@@ -279,8 +281,8 @@ impl Judge {
         kernel.fault(core, thread)
     }
 
-    /// Whether the last step was turned away, and for the reason that a text gives, if it gives
-    /// one.
+    /// Returns whether the last step was turned away, and for the reason that a text gives, if it
+    /// gives one.
     fn was_away(&mut self, why: Option<EnterFault>, text: &[u8]) -> Result<bool, LabFault>
         ensures holds { IfOk result (λ holds. holds
             ≡ was_away self.old.last (reason (book_of self.old) self.old.step) why text.now) }
@@ -295,7 +297,7 @@ impl Judge {
         Ok(why.is_none() || self.seen.text() == text)
     }
 
-    /// Whether the state answers a question so.
+    /// Returns whether the state answers a question so.
     fn says_so(&mut self, question: &Question, text: &[u8]) -> Result<bool, LabFault>
         ensures holds { IfOk result
             (λ holds. holds ≡ says_so (book_of self.old) question.now text.now) }
@@ -309,7 +311,7 @@ impl Judge {
         Ok(self.seen.text() == text)
     }
 
-    /// Answers what is asked on a line.
+    /// Judges what is asked on a line.
     fn answer(&mut self, text: &[u8]) -> Result<Told, LabFault>
         ensures told { IfOk result
             (λ told. told ≡ answered self.old text.now (asked_of text.now)) }

@@ -15,7 +15,7 @@ use mcs_queues::LinkedLines;
 use mcs_text::{Key, Token};
 use mcs_types::{Mail, Message, ObjId, Prio, Queue, Status};
 
-/// A name and a word.
+/// Puts a name and a word.
 fn begin(to: &mut Text, object: ObjId, word: &[u8]) -> Result<(), LabFault>
     ensures { OnOk result (to.new ≡ to.old ++ begin object word.now) }
 {
@@ -24,7 +24,7 @@ fn begin(to: &mut Text, object: ObjId, word: &[u8]) -> Result<(), LabFault>
     to.put(word)
 }
 
-/// A name, a word, and a name or a dash.
+/// Puts a name, a word, and a name or a dash.
 fn put_relation(
     to: &mut Text,
     object: ObjId,
@@ -38,7 +38,7 @@ fn put_relation(
     to.spaced(&Token::Maybe(other))
 }
 
-/// A number, or a dash.
+/// Puts a number, or a dash.
 fn put_number_or_dash(to: &mut Text, number: Option<u64>) -> Result<(), LabFault>
     ensures { OnOk result (to.new ≡ to.old ++ number_or_dash number) }
 {
@@ -56,7 +56,7 @@ fn level(priority: Option<Prio>) -> Option<u64>
     Some(priority.0 as u64)
 }
 
-/// The word before who owes a thread an answer.
+/// Puts the words that come before the reply object that owes a thread an answer.
 fn put_owed(to: &mut Text, by: bool) -> Result<(), LabFault>
     ensures { OnOk result (to.new ≡ to.old ++ owed_text by) }
 {
@@ -66,7 +66,7 @@ fn put_owed(to: &mut Text, by: bool) -> Result<(), LabFault>
     to.put(b" owed")
 }
 
-/// What a thread does.
+/// Puts what a thread does.
 fn put_status(to: &mut Text, status: Option<Status>, by: bool) -> Result<(), LabFault>
     ensures { OnOk result (to.new ≡ to.old ++ status_text by status) }
 {
@@ -87,7 +87,7 @@ fn put_status(to: &mut Text, status: Option<Status>, by: bool) -> Result<(), Lab
     }
 }
 
-/// The label and the words of a message.
+/// Puts the label and the words of a message.
 fn put_content(to: &mut Text, message: &Message) -> Result<(), LabFault>
     ensures { OnOk result (to.new ≡ to.old ++ content_text message.now) }
 {
@@ -99,7 +99,7 @@ fn put_content(to: &mut Text, message: &Message) -> Result<(), LabFault>
     Ok(())
 }
 
-/// What last reached a thread.
+/// Puts what last reached a thread.
 fn put_mail(to: &mut Text, mail: Option<&Mail>) -> Result<(), LabFault>
     ensures { OnOk result (to.new ≡ to.old ++ mail_text (option_copied mail.entry)) }
 {
@@ -117,7 +117,7 @@ fn put_mail(to: &mut Text, mail: Option<&Mail>) -> Result<(), LabFault>
     }
 }
 
-/// The same, where the message of an answer has no badge.
+/// Puts the same, where the message of an answer has no badge.
 fn put_answered(to: &mut Text, mail: Option<&Mail>) -> Result<(), LabFault>
     ensures { OnOk result (to.new ≡ to.old ++ answered_text (option_copied mail.entry)) }
 {
@@ -130,7 +130,7 @@ fn put_answered(to: &mut Text, mail: Option<&Mail>) -> Result<(), LabFault>
     }
 }
 
-/// The reply objects in a context's chain, or a dash.
+/// Puts the reply objects in a context's chain, or a dash.
 fn put_chain(to: &mut Text, kernel: &Kernel<LinkedLines>, context: ObjId) -> Result<(), LabFault>
     ensures { OnOk result
         (to.new ≡ to.old ++ names_or_dash (chain_of (log_of kernel.now) context)) }
@@ -146,7 +146,7 @@ fn put_chain(to: &mut Text, kernel: &Kernel<LinkedLines>, context: ObjId) -> Res
     Ok(())
 }
 
-/// The threads in a queue, or a dash.
+/// Puts the threads in a queue, or a dash.
 fn put_queue(to: &mut Text, kernel: &Kernel<LinkedLines>, queue: Queue) -> Result<(), LabFault>
     ensures { OnOk result (to.new ≡ to.old ++ names_or_dash (queued_in (log_of kernel.now) queue)) }
 {

@@ -50,7 +50,7 @@ impl Text {
         self.bytes.clear();
     }
 
-    /// Bytes more.
+    /// Appends bytes.
     pub fn put(&mut self, bytes: &[u8]) -> Result<(), LabFault>
         ensures { OnOk result (self.new ≡ self.old ++ bytes.now) }
     {
@@ -58,7 +58,7 @@ impl Text {
         Ok(())
     }
 
-    /// A word more.
+    /// Appends a word.
     pub fn word(&mut self, token: &Token) -> Result<(), LabFault>
         ensures { OnOk result (self.new ≡ self.old ++ token_text token.now) }
     {
@@ -67,7 +67,7 @@ impl Text {
         Ok(())
     }
 
-    /// A space, and a word more.
+    /// Appends a space and a word.
     pub fn spaced(&mut self, token: &Token) -> Result<(), LabFault>
         ensures { OnOk result (self.new ≡ self.old ++ then_text (token_text token.now)) }
     {
@@ -75,7 +75,7 @@ impl Text {
         self.word(token)
     }
 
-    /// Whether the line of an answer is this one.
+    /// Returns whether the line of an answer is this one.
     pub fn is_answer(&mut self, answer: &KeptAnswer<'_>, line: &[u8]) -> bool
         ensures holds { result ≡ bytes_eq (answer_text answer.now) line.now }
         ensures same { self.new ≡ self.old }
@@ -84,7 +84,7 @@ impl Text {
         self.word.text() == line
     }
 
-    /// Whether the line of a record, before which so many messages were sent, is this one.
+    /// Returns whether the line of a record, before which so many messages were sent, is this one.
     pub fn is_record(&mut self, sent: u128, fact: &KeptRecord<'_>, line: &[u8]) -> bool
         ensures holds { result ≡ bytes_eq (record_text sent fact.now) line.now }
         ensures same { self.new ≡ self.old }

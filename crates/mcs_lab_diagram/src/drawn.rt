@@ -244,8 +244,8 @@ impl Drawing {
         }
     }
 
-    /// The arrows join the threads that the questions about the book name, and each message was
-    /// sent from where its sender stands.
+    /// Proves that the arrows join the threads that the questions about the book name, and that
+    /// each message begins at its sender.
     #[tactic(auto, using(crate::proofs::EndLaws::drawn_ends, crate::proofs::EndLaws::drawn_sender))]
     pub fn joins_as_asked(&self)
         requires drawn { AreDrawn self.now.strokes self.now.looks.items self.now.picks.items
@@ -258,8 +258,8 @@ impl Drawing {
         let _ = &self.strokes;
     }
 
-    /// Each message that was taken has a sender, so that nobody stands in for one in what
-    /// `joins_as_asked` says.
+    /// Proves that each message that was taken has a sender, so that `joins_as_asked` never uses
+    /// its default.
     #[tactic(auto, using(crate::proofs::SenderLaws::senders_there))]
     pub fn senders_known(&self)
         ensures { EachRecord HasSender self.now.kernel }

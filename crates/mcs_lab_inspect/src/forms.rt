@@ -111,7 +111,7 @@ impl<'a> Fields<'a> {
         Fields { words }
     }
 
-    /// The next, if there is one.
+    /// Returns the next, if there is one.
     pub fn next_field(&mut self) -> Option<Field<'a>> {
         let word = self.words.next_word()?;
         let (looks_up, word) = match word {
@@ -145,7 +145,7 @@ impl Forms {
         }
     }
 
-    /// The next, if there is one.
+    /// Returns the next, if there is one.
     fn next_form(&mut self) -> Option<&'static [u8]> {
         for _ in 0..FORMS.len() {
             if let [b' ', b' ', form @ ..] = self.lines.next_line()? {
@@ -155,7 +155,7 @@ impl Forms {
         None
     }
 
-    /// The first word of the next form with a sign, if there is one.
+    /// Returns the first word of the next form with a sign, if there is one.
     pub fn next_key(&mut self, sign: u8) -> Option<&'static [u8]> {
         for _ in 0..FORMS.len() {
             let mut words = Words::new(self.next_form()?);

@@ -90,8 +90,8 @@ pub fn put_members(page: &mut Page, members: &[Member<'_>]) {
     page.put(b"}");
 }
 
-/// The words of a text as members under the names of a form, and those that have none under `more`.
-/// None where memory is refused.
+/// Returns the words of a text as members under the names of a form, and those that have none under
+/// `more`. None where memory is refused.
 pub fn members_of<'a>(
     alloc: Global,
     kind: Option<Member<'a>>,
@@ -134,7 +134,7 @@ pub fn split_word(text: &[u8]) -> (&[u8], Option<&[u8]>) {
     (text, None)
 }
 
-/// The member with which a text begins, and what stands behind it.
+/// Returns the member with which a text begins, and what follows it.
 fn member_of<'a>(fields: &mut Fields<'static>, text: &'a [u8]) -> (Member<'a>, Option<&'a [u8]>) {
     let Some(field) = fields.next_field() else {
         let more = Member {

@@ -103,7 +103,7 @@ fn put_place(
     true
 }
 
-/// The place of an index and the depth that stands behind it.
+/// Reads the place of an index and the depth that follows it.
 fn place_of(index: u64, fields: &mut Fields<'_>, words: &mut Words<'_>) -> Option<Place> {
     fields.next_field()?;
     let depth = u8::try_from(address_of(words.next_word()?)?).ok()?;

@@ -57,8 +57,8 @@ struct Legend {
 }
 
 impl Legend {
-    /// The place of a sample with a text of so many columns; where the page ends a line, it begins
-    /// the next.
+    /// Returns the place of a sample with a text of so many columns. At the end of a line of the
+    /// page it begins the next line.
     fn next(&mut self, sample: u64, text: &str) -> Area {
         let needed = columns(text)
             .saturating_mul(COLUMN)

@@ -89,7 +89,7 @@ fn put_messages(
     Ok(strokes.len())
 }
 
-/// The same of what is written beside lanes.
+/// Puts the same of what is written beside lanes.
 fn put_notes(
     to: &mut String,
     drawing: &Drawing,

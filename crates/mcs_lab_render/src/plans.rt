@@ -332,7 +332,7 @@ impl<'a, N: Names> Planner<'a, N> {
         Ok(())
     }
 
-    /// The row of a line, with its step and its answer.
+    /// Lays out the row of a line, with its step and its answer.
     fn row_of(&mut self, line: &BookLine<'_>, here: Point) -> Result<Row, AllocError> {
         let kept = line.kept_step();
         let mut row = self.new_row(RowKind::Line, here.row, Some(here.thread));

@@ -77,7 +77,7 @@ fn read_before(
     plan.read(alloc, number, &words)
 }
 
-/// The lines of names: `#@ OBJECT NAME`.
+/// Adds the lines of names: `#@ OBJECT NAME`.
 fn add_names(alloc: Global, names: &Names, to: &mut Vec<String>) -> Result<(), AllocError> {
     for i in 0..names.len() {
         if let Some((name, object)) = names.at(i) {
@@ -174,7 +174,7 @@ fn starter_head(plan: &Plan) -> Head
 }
 
 impl Compiler {
-    /// A step that the plan does not say.
+    /// Adds a step that the plan does not say.
     fn add_step(&mut self, alloc: Global, head: Head, text: &str) -> Result<(), Why>
         ensures added { OnOk result (step_added (laid_said self.old.laid) head text.now ≡ Ok tt) }
         ensures told { IfErr result (Refuses (step_added (laid_said self.old.laid) head text.now)) }
@@ -201,7 +201,7 @@ impl Compiler {
         self.add_step(alloc, starter, opening.unbind.as_str())
     }
 
-    /// The same, where a fault is told at the line of the thread.
+    /// Does the same, and reports a fault at the line of the thread.
     fn do_opening(&mut self, alloc: Global, opening: &Opening) -> Result<(), PlanFault>
         ensures added { OnOk result (at_line opening.now.line
             (both_added (laid_said self.old.laid) opening.now.head
@@ -243,7 +243,8 @@ impl Compiler {
         Ok(())
     }
 
-    /// The thread that made others passive suspends itself, where one did.
+    /// Adds the step by which the thread that made others passive suspends itself, where there is
+    /// one.
     fn leave(&mut self, alloc: Global) -> Result<(), PlanFault>
         ensures added { OnOk result
             (left_said (laid_said self.old.laid) (said self.old.laid.plan).passives ≡ Ok tt) }
@@ -259,8 +260,8 @@ impl Compiler {
         at(0, self.add_step(alloc, starter, "suspend starter"))
     }
 
-    /// The steps before the first of the plan: each passive thread receives, and its context is
-    /// taken away; then the thread that did this suspends itself.
+    /// Adds the steps before the first of the plan: each passive thread receives, and its context
+    /// is taken away; then the thread that did this suspends itself.
     fn open_all(&mut self, alloc: Global) -> Result<(), PlanFault>
         ensures added { OnOk result (opened_said (laid_said self.old.laid) ≡ Ok tt) }
         ensures told { IfErr result (RefusesAt (opened_said (laid_said self.old.laid))) }
@@ -271,8 +272,8 @@ impl Compiler {
         self.leave(alloc)
     }
 
-    /// Mixed where lines of the other kind stood before, PassiveUser for one of a user where a
-    /// thread is passive.
+    /// Checks the kind of a line: Mixed where lines of the other kind came before, PassiveUser for
+    /// one of a user where a thread is passive.
     fn goes_with(&mut self, head: Head) -> Result<(), Why>
         ensures goes { OnOk result
             (goes_on (laid_said self.old.laid) self.old.entries head.core ≡ Ok self.new.entries) }
@@ -294,7 +295,7 @@ impl Compiler {
         }
     }
 
-    /// The line of a step or of a user.
+    /// Adds the line of a step or of a user.
     fn add_entry(&mut self, alloc: Global, head: &str, text: &str) -> Result<(), Why>
         ensures taken { OnOk result (entry_taken (laid_said self.old.laid) self.old.entries
             (Some (head.now, text.now)) ≡ Ok self.new.entries) }
@@ -310,7 +311,7 @@ impl Compiler {
         Ok(())
     }
 
-    /// NoStep where no step stands before.
+    /// Fails with NoStep where no step came before.
     fn has_step(&self) -> Result<(), Why>
         ensures ok { OnOk result (need (is_steps self.now.entries) no_step ≡ Ok tt) }
         ensures told { IfErr result (Refuses (need (is_steps self.now.entries) no_step)) }
@@ -321,7 +322,7 @@ impl Compiler {
         }
     }
 
-    /// What is wanted of the step before.
+    /// Adds what is wanted of the step before.
     fn add_wanted(&mut self, alloc: Global, words: &[&str]) -> Result<(), Why>
         ensures taken { OnOk result (wanted_taken (laid_said self.old.laid) self.old.entries
             (texts words.now) ≡ Ok self.new.entries) }
@@ -336,7 +337,7 @@ impl Compiler {
         Ok(())
     }
 
-    /// A line with `: ` in it. Late where it has none.
+    /// Adds a line with `: ` in it. Late where it has none.
     fn add_headed(&mut self, alloc: Global, code: &str) -> Result<(), Why>
         ensures taken { OnOk result (entry_taken (laid_said self.old.laid) self.old.entries
             (cut_at_colon code.now) ≡ Ok self.new.entries) }
@@ -350,7 +351,7 @@ impl Compiler {
         }
     }
 
-    /// What a line behind the boot says beside its comment.
+    /// Adds what a line after the boot says beside its comment.
     fn add_code(&mut self, alloc: Global, code: &str) -> Result<(), Why>
         ensures taken { OnOk result (code_taken (laid_said self.old.laid) self.old.entries
             code.now ≡ Ok self.new.entries) }
@@ -368,7 +369,7 @@ impl Compiler {
         self.add_headed(alloc, code)
     }
 
-    /// A line behind the boot: its comment stands before it.
+    /// Adds a line after the boot, with its comment before it.
     fn add_line(&mut self, alloc: Global, line: &str) -> Result<(), Why>
         ensures taken { OnOk result (line_taken (laid_said self.old.laid) self.old.entries
             line.now ≡ Ok self.new.entries) }
@@ -447,7 +448,7 @@ fn take_next(
     at(number, compiler.add_line(alloc, line))
 }
 
-/// The lines of a plan from its first step on.
+/// Reads the lines of a plan from its first step on.
 fn read_steps(
     alloc: Global,
     compiler: &mut Compiler,

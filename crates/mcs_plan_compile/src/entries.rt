@@ -23,7 +23,7 @@ pub struct Speaker<'a> {
     pub thread: ObjId,
 }
 
-/// A number behind what stands.
+/// Adds a number, after a space where it is not the first word.
 pub fn add_number(alloc: Global, to: &mut String, n: u64) -> Result<(), AllocError>
     ensures { OnOk result (string_bytes to.new ≡ with_word (string_bytes to.old) (decimal n)) }
 {
@@ -52,7 +52,7 @@ fn rights_text(alloc: Global, rights: u8) -> Result<String, AllocError>
     Ok(text)
 }
 
-/// Rights.
+/// Reads rights.
 fn read_rights(alloc: Global, to: &mut String, words: &mut Words<'_>) -> Result<(), Why>
     ensures put { OnOk result
         (rights_more words.old (string_bytes to.old) ≡ Ok (string_bytes to.new, words.new)) }
@@ -74,7 +74,7 @@ fn is_made(word: &str) -> bool
     matches!(word, "endpoint" | "notification" | "reply" | "context")
 }
 
-/// The kind of what is made.
+/// Reads the kind of what is made.
 fn read_kind(alloc: Global, to: &mut String, words: &mut Words<'_>) -> Result<(), Why>
     ensures put { OnOk result
         (kind_more words.old (string_bytes to.old) ≡ Ok (string_bytes to.new, words.new)) }
@@ -88,7 +88,7 @@ fn read_kind(alloc: Global, to: &mut String, words: &mut Words<'_>) -> Result<()
     Ok(add_word(to, word)?)
 }
 
-/// A number up to a limit.
+/// Reads a number up to a limit.
 fn read_number(
     alloc: Global,
     to: &mut String,
@@ -104,7 +104,7 @@ fn read_number(
     Ok(add_number(alloc, to, n)?)
 }
 
-/// Words of a message, as far as the line goes.
+/// Reads words of a message, as far as the line goes.
 #[tactic(auto, using(crate::proofs::Fielded::numbers_turn, crate::proofs::Fielded::numbers_refused, crate::proofs::Fielded::number_left, crate::proofs::Fielded::no_numbers))]
 pub fn read_words(
     alloc: Global,
@@ -123,7 +123,7 @@ pub fn read_words(
     Ok(())
 }
 
-/// A label and words, as far as the line goes.
+/// Reads a label and words, as far as the line goes.
 fn read_message(alloc: Global, to: &mut String, words: &mut Words<'_>) -> Result<(), Why>
     ensures put { OnOk result
         (message_more words.old (string_bytes to.old) ≡ Ok (string_bytes to.new, words.new)) }
@@ -139,7 +139,7 @@ fn read_message(alloc: Global, to: &mut String, words: &mut Words<'_>) -> Result
     read_words(alloc, to, words, "a word of 64 bits")
 }
 
-/// A depth.
+/// Reads a depth.
 fn read_depth(alloc: Global, words: &mut Words<'_>) -> Result<u8, Why>
     ensures depth { IfOk result (λ d. number_then 255 words.old ≡ Ok (d, words.new)) }
     ensures told { IfErr result (Refuses (number_then 255 words.old)) }
@@ -148,7 +148,7 @@ fn read_depth(alloc: Global, words: &mut Words<'_>) -> Result<u8, Why>
     Ok(depth.min(255) as u8)
 }
 
-/// A place with this index, and the depth that stands behind it.
+/// Reads a place with this index, and the depth that follows it.
 fn index_place(alloc: Global, index: u64, words: &mut Words<'_>) -> Result<Place, Why>
     ensures place { IfOk result (λ p. place_with index words.old ≡ Ok (p, words.new)) }
     ensures told { IfErr result (Refuses (place_with index words.old)) }
@@ -183,7 +183,7 @@ impl<'a> Speaker<'a> {
         Ok(named.place)
     }
 
-    /// A place: a name, or an index and a depth.
+    /// Reads a place: a name, or an index and a depth.
     fn place(&self, alloc: Global, words: &mut Words<'_>) -> Result<Place, Why>
         ensures stands { IfOk result (λ p. place_read (laid_said self.now.laid.now)
             self.now.thread words.old ≡ Ok (p, words.new)) }
@@ -197,7 +197,7 @@ impl<'a> Speaker<'a> {
         }
     }
 
-    /// An address, as a number.
+    /// Reads an address, and adds it as a number.
     fn read_address(&self, alloc: Global, to: &mut String, words: &mut Words<'_>) -> Result<(), Why>
         ensures put { OnOk result (address_more (laid_said self.now.laid.now) self.now.thread
             words.old (string_bytes to.old) ≡ Ok (string_bytes to.new, words.new)) }
@@ -209,7 +209,7 @@ impl<'a> Speaker<'a> {
         Ok(add_number(alloc, to, address)?)
     }
 
-    /// A place, as two numbers.
+    /// Reads a place, and adds it as two numbers.
     fn read_place(&self, alloc: Global, to: &mut String, words: &mut Words<'_>) -> Result<(), Why>
         ensures put { OnOk result (place_more (laid_said self.now.laid.now) self.now.thread
             words.old (string_bytes to.old) ≡ Ok (string_bytes to.new, words.new)) }
@@ -221,7 +221,7 @@ impl<'a> Speaker<'a> {
         Ok(add_number(alloc, to, place.depth as u64)?)
     }
 
-    /// A field.
+    /// Reads a field.
     fn read_field(
         &self,
         alloc: Global,
@@ -246,7 +246,7 @@ impl<'a> Speaker<'a> {
         }
     }
 
-    /// Fields, in order.
+    /// Reads fields, in order.
     #[tactic(auto, using(crate::proofs::Fielded::field_turn, crate::proofs::Fielded::field_refused, crate::proofs::Fielded::no_fields))]
     fn read_fields(
         &self,

@@ -43,7 +43,7 @@ pub fn line_of(bytes: &[u8], place: usize) -> u64
     count_newlines(&bytes[..place]) as u64 + 1
 }
 
-/// Limit for a line that is too long.
+/// Fails with Limit for a line that is too long.
 pub fn is_short(line: &str) -> Result<(), Why>
     ensures ok { OnOk result (short line.now ≡ Ok tt) }
     ensures told { IfErr result (Refuses (short line.now)) }
@@ -70,7 +70,7 @@ fn comment_of(alloc: Global, comment: &str) -> Result<String, AllocError> {
     Ok(text)
 }
 
-/// The comment of a line, where it has one.
+/// Adds the comment of a line, where it has one.
 pub fn add_comment(
     alloc: Global,
     to: &mut Vec<String>,

@@ -5,7 +5,7 @@ use mcs_plan_layout::Named;
 use mcs_types::{Kind, ObjId};
 use std::alloc::{AllocError, Global};
 
-/// A cell of so many columns at least, and two more.
+/// Adds a cell of at least so many columns, and two more.
 fn add_cell(to: &mut String, text: &str, columns: usize) -> Result<(), AllocError> {
     to.push_str(text)?;
     let missing = columns.saturating_add(2).saturating_sub(text.len());
@@ -46,7 +46,7 @@ fn widths(script: &Script) -> (usize, usize) {
     (threads, names)
 }
 
-/// A line of the table.
+/// Adds a line of the table.
 fn add_named(
     alloc: Global,
     to: &mut String,
@@ -63,7 +63,7 @@ fn add_named(
     to.push_str("\n")
 }
 
-/// The names of all objects.
+/// Adds the names of all objects.
 fn add_objects(alloc: Global, to: &mut String, script: &Script) -> Result<(), AllocError> {
     to.push_str("\nobject  name\n")?;
     let names = &script.laid.plan.names;

@@ -43,7 +43,7 @@ fn last_core(laid: &Laid) -> u8
     laid.cores().saturating_sub(1)
 }
 
-/// The number of a core.
+/// Reads the number of a core.
 fn core_number(alloc: Global, words: &mut Words<'_>, last: u8) -> Result<u8, Why>
     ensures core { IfOk result (λ n. number_then last words.old ≡ Ok (n, words.new)) }
     ensures told { IfErr result (Refuses (number_then last words.old)) }
@@ -52,7 +52,7 @@ fn core_number(alloc: Global, words: &mut Words<'_>, last: u8) -> Result<u8, Why
     Ok(core.min(255) as u8)
 }
 
-/// `on core N`.
+/// Reads `on core N`.
 fn core_said(alloc: Global, laid: &Laid, words: &mut Words<'_>) -> Result<CoreId, Why>
     ensures core { IfOk result (λ c. core_said (laid_said laid.now) words.old ≡ Ok (c, words.new)) }
     ensures told { IfErr result (Refuses (core_said (laid_said laid.now) words.old)) }
@@ -63,7 +63,7 @@ fn core_said(alloc: Global, laid: &Laid, words: &mut Words<'_>) -> Result<CoreId
     Ok(CoreId(core))
 }
 
-/// The core of a step: that which the line says, or the thread's.
+/// Reads the core of a step: that which the line says, or the thread's.
 fn read_core(
     alloc: Global,
     laid: &Laid,
@@ -89,7 +89,7 @@ fn thread_named(alloc: Global, laid: &Laid, name: &str) -> Result<ObjId, Why>
     laid.plan.names.of_kind(alloc, Kind::Thread, name)
 }
 
-/// `NAME` or `NAME on core N`.
+/// Reads `NAME` or `NAME on core N`.
 fn step_head(alloc: Global, laid: &Laid, name: &str, words: &mut Words<'_>) -> Result<Head, Why>
     ensures head { IfOk result (λ h. step_head (laid_said laid.now) name.now words.old ≡ Ok h) }
     ensures told { IfErr result (Refuses (step_head (laid_said laid.now) name.now words.old)) }
@@ -103,7 +103,7 @@ fn step_head(alloc: Global, laid: &Laid, name: &str, words: &mut Words<'_>) -> R
     })
 }
 
-/// `NAME`, behind `user`.
+/// Reads `NAME`, which follows `user`.
 fn user_head(alloc: Global, laid: &Laid, words: &mut Words<'_>) -> Result<Head, Why>
     ensures head { IfOk result (λ h. user_head (laid_said laid.now) words.old ≡ Ok h) }
     ensures told { IfErr result (Refuses (user_head (laid_said laid.now) words.old)) }

@@ -113,7 +113,7 @@ fn subject_of(alloc: Global, names: &Names, word: &str) -> Result<Option<String>
     }
 }
 
-/// What a question asks of. NoName where the word names nothing.
+/// Adds what a question asks of. NoName where the word names nothing.
 fn add_subject(alloc: Global, names: &Names, to: &mut String, word: &str) -> Result<(), Why>
     ensures put { OnOk result
         (subject_more names.now word.now (string_bytes to.old) ≡ Ok (string_bytes to.new)) }
@@ -126,7 +126,7 @@ fn add_subject(alloc: Global, names: &Names, to: &mut String, word: &str) -> Res
     }
 }
 
-/// A word behind a question: a name, a number, `-` or `nothing`. NoName for any other.
+/// Adds a word after a question: a name, a number, `-` or `nothing`. NoName for any other.
 fn add_answer(alloc: Global, names: &Names, to: &mut String, word: &str) -> Result<(), Why>
     ensures put { OnOk result
         (answer_more names.now word.now (string_bytes to.old) ≡ Ok (string_bytes to.new)) }
@@ -141,7 +141,7 @@ fn add_answer(alloc: Global, names: &Names, to: &mut String, word: &str) -> Resu
     add_subject(alloc, names, to, word)
 }
 
-/// The words behind a question, as far as the line goes.
+/// Adds the words after a question, as far as the line goes.
 #[tactic(auto, using(crate::proofs::Answered::answer_turn, crate::proofs::Answered::answer_refused, crate::proofs::Answered::no_answers))]
 fn add_answers(
     alloc: Global,
@@ -162,7 +162,7 @@ fn add_answers(
     Ok(())
 }
 
-/// An answer: its words are numbers.
+/// Reads an answer: its words are numbers.
 fn read_answer(alloc: Global, first: &str, words: &mut Words<'_>) -> Result<String, Why>
     ensures text { IfOk result (λ t. answer_read first.now words.old ≡ Ok (string_bytes t)) }
     ensures told { IfErr result (Refuses (answer_read first.now words.old)) }
@@ -173,7 +173,7 @@ fn read_answer(alloc: Global, first: &str, words: &mut Words<'_>) -> Result<Stri
     Ok(text)
 }
 
-/// The word of a question, and those behind it.
+/// Adds the word of a question, and those after it.
 fn add_asked(
     alloc: Global,
     names: &Names,
@@ -192,7 +192,8 @@ fn add_asked(
     add_answers(alloc, names, to, words)
 }
 
-/// A question: what it asks of, then `waits` or another word of questions, then names and numbers.
+/// Reads a question: what it asks of, then `waits` or another word of questions, then names and
+/// numbers.
 fn read_question(
     alloc: Global,
     names: &Names,
@@ -220,7 +221,7 @@ fn is_reason(word: &str) -> bool
     matches!(word, "NotRunning" | "NoContext" | "WrongCore")
 }
 
-/// That the step is turned away, and why.
+/// Reads that the step is turned away, and why.
 fn read_away(alloc: Global, words: &mut Words<'_>) -> Result<String, Why>
     ensures text { IfOk result (λ t. away_read words.old ≡ Ok (string_bytes t)) }
     ensures told { IfErr result (Refuses (away_read words.old)) }

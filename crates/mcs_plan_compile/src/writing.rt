@@ -13,7 +13,7 @@ fn add_lines(to: &mut Vec<u8>, lines: &[String]) -> Result<(), AllocError> {
     Ok(())
 }
 
-/// The lines of the boot.
+/// Adds the lines of the boot.
 fn add_boot(to: &mut Vec<u8>, text: &mut Text, script: &Script) -> Result<(), AllocError> {
     text.clear();
     text.numbered(Key::Cores, script.cores as u64);

@@ -32,7 +32,7 @@ pub fn bare(obj: ObjId, guard: Guard) -> Option<Cap>
     })
 }
 
-/// A slot that holds a capability to this object under its name.
+/// Adds a slot that holds a capability to this object under its name.
 #[tactic(auto, using(crate::proofs::Started::put_held))]
 fn add_slot(alloc: Global, space: &mut Space, obj: ObjId, name: &str) -> Result<(), AllocError>
     ensures { OnOk result (said_space space.new ≡ with_held name.now obj (said_space space.old)) }
@@ -45,7 +45,7 @@ fn add_slot(alloc: Global, space: &mut Space, obj: ObjId, name: &str) -> Result<
     Ok(())
 }
 
-/// The slot of the context of a thread, where it has one.
+/// Adds the slot of the context of a thread, where it has one.
 fn add_context(
     alloc: Global,
     space: &mut Space,

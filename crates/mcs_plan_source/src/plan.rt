@@ -247,7 +247,7 @@ impl Plan {
             .saturating_add(self.of_spaces(kind))
     }
 
-    /// Limit where the script would make more objects of a kind than there may be.
+    /// Fails with Limit where the script would make more objects of a kind than there may be.
     pub fn keeps_limit(&self, kind: Kind) -> Result<(), Why>
         ensures within { OnOk result (made_of (said self.now) kind ≤ limit_of kind) }
         ensures ok { OnOk result (keeps_limit kind (said self.now) ≡ Ok tt) }

@@ -94,7 +94,7 @@ impl<'a> Words<'a> {
         }
     }
 
-    /// TooMany where a word is left.
+    /// Fails with TooMany where a word is left.
     pub fn end(&mut self, alloc: Global) -> Result<(), Why>
         ensures ok { OnOk result (self.old ≡ []) }
         ensures told { IfErr result (TellsTooMany self.old) }

@@ -32,7 +32,7 @@ fn has_boot(book: &Book, script: &Script) -> bool
     book.cores() == script.cores && are_same_lines(book.boot(), &script.boot)
 }
 
-/// OtherBoot where a book has not the boot that a script says.
+/// Fails with OtherBoot where the boot of a book is not the one that a script says.
 fn keeps_boot(book: &Book, script: &Script) -> Result<(), CompileFault>
     ensures { OnOk result (IsBootOf script.now book.now.book.boot) }
 {

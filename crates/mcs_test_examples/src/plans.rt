@@ -91,7 +91,7 @@ fn are_done(alloc: Global, trace: &[u8]) -> Result<bool, LabFault> {
     Ok(done == 2 && !text.contains("= refused"))
 }
 
-/// A plan of 300 slots in one space: its first and its last name answer.
+/// Compiles a plan of 300 slots in one space, and runs steps over its first and its last name.
 fn try_large<W: Write>(rt: &HostRuntime, to: &mut W) -> Result<(), LabFault> {
     let script = told_of(rt.alloc(), &plan_of(rt, "plans/large")?)?;
     let told = match trace_of(rt.alloc(), script.as_bytes())? {
@@ -124,7 +124,7 @@ const NAMED: &str = "\
 # t3
 ";
 
-/// The map of a plan, and a trace with its names.
+/// Writes the map of a plan, and a trace with its names.
 fn try_names<W: Write>(rt: &HostRuntime, to: &mut W) -> Result<(), LabFault> {
     let kept = read_text(rt, "gallery/own-spaces.map")?;
     let Ok(compiled) = compile_text(rt.alloc(), &plan_of(rt, "gallery/own-spaces")?) else {
@@ -167,7 +167,7 @@ fn is_right(alloc: Global, plan: &[u8]) -> Result<bool, LabFault> {
     }
 }
 
-/// A plan with one byte changed.
+/// Returns a plan with one byte changed.
 fn changed(plan: &[u8], alloc: Global, random: &mut Pcg32) -> Result<Vec<u8>, LabFault> {
     let mut changed = plan.to_vec(alloc)?;
     let at = random.next_word() as usize % changed.len().max(1);
