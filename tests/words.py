@@ -24,9 +24,15 @@ Others Pages Rights Slots Spaces Status Texts This Those Threads Thus Unless Use
 
 # Words in backquotes that the sources need not have, each with its reason.
 EXCEPTIONS = {
-    "rt": "the kit's command, with its subcommands",
+    "antt": "the suffix of specifications and proofs",
+    "end1": "a script that `mcslab explore` writes, as the next two",
+    "question14": "",
+    "stuck1": "",
+    "m5000000": "the name of a message that no small script sends",
 }
-COMMANDS = {"rt", "git", "sh", "python3", "install", "valgrind", "grep", "cat", "wc", "cd"}
+
+# After these a span has the words of another program; of them only paths are looked for.
+COMMANDS = {"rt", "rattle-kit-13f", "git", "sh", "python3", "install", "valgrind", "grep", "head", "cat", "wc", "cd"}
 
 
 def tracked():
@@ -92,7 +98,7 @@ def changes(head):
 
 
 def doc_above(lines, at):
-    while at >= 0 and lines[at].strip().startswith("#["):
+    while at >= 0 and re.match(r"\s*(#\[|//(?!/))", lines[at]):
         at -= 1
     doc = []
     while at >= 0 and lines[at].strip().startswith("///"):
@@ -129,7 +135,7 @@ def unknown(paths):
     names = [str(path) for path in paths]
     sources = [path for path in paths if path.suffix in (".rt", ".antt", ".sh", ".py", ".mjs", ".mcs", ".plan")]
     text = "\n".join("\n".join(lines_of(path)) for path in sources + [Path("crates.txt")] if path.name != "words.py")
-    known = set(re.findall(r"[A-Za-z_][A-Za-z0-9_]*", text)) | set(EXCEPTIONS)
+    known = set(re.findall(r"[A-Za-z_][A-Za-z0-9_]*", text)) | {path.stem for path in paths} | set(EXCEPTIONS)
     pages = [path for path in paths if str(path) in ("README.md", "CONTRIBUTING.md") or re.fullmatch(r"docs/[^/]+\.md", str(path))]
     for page in pages:
         whole = re.sub(r"^```.*?^```", lambda block: "\n" * block.group().count("\n"), "\n".join(lines_of(page)), flags=re.M | re.S)
@@ -143,8 +149,9 @@ def unknown(paths):
                 if "/" in path or re.search(r"\.(rt|antt|md|txt|sh|py|mcs|plan|svg|edit)$", path):
                     if is_named(path, names) or is_named(path + ".antt", names):
                         continue
+                # a word of capitals alone stands for another, as NAME
                 for part in re.findall(r"[A-Za-z_][A-Za-z0-9_]*", word):
-                    if part not in known:
+                    if part not in known and not re.fullmatch("[A-Z]+", part):
                         yield f"{page}:{number}: `{span.group(1)}`: {part}"
 
 

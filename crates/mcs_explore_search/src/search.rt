@@ -192,7 +192,7 @@ impl<K: Eq + Hash + Drop, L: Copy + Drop> Search<K, L> {
         }
     }
 
-    /// Returns the label by which the state in a place was found; None where there is no such place.
+    /// Returns the label by which the state in a place was found; None where no state has it.
     pub fn label(&self, place: usize) -> Option<L>
         ensures { result ≡ label_at self.now.map.entries place }
     {

@@ -154,8 +154,8 @@ fn page_of(
 }
 
 /// Draws a script of steps, or a trace: the lines of the book in a window. Its faults are those of
-/// `mcs_lab_check`: a line that is refused, a name without its form, a read, a write, a full book, or
-/// memory that is refused.
+/// `mcs_lab_check`: a line that is refused, a name without its form, a read, a write, a full book,
+/// or memory that is refused.
 pub fn draw_script<R: Read, W: Write>(
     alloc: Global,
     from: &mut Source<R>,

@@ -2,8 +2,8 @@
 //!
 //! ```text
 //! bytes ── lines ──> lines
-//! lines before the first step ── mcs_plan_source ──> Plan ── mcs_plan_layout ──> Laid: the boot, and what
-//!     each thread names
+//! lines before the first step ── mcs_plan_source ──> Plan ── mcs_plan_layout ──> Laid: the boot,
+//!     and what each thread names
 //! lines of steps and of users ── steps, entries ──> the same lines, with addresses for names
 //! lines that begin with `?`   ── wanting ──> what `mcslab check` reads
 //! all of these are a Script   ── writing ──> the text; mapping ──> the table of names
