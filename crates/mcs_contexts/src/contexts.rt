@@ -218,7 +218,7 @@ impl Contexts {
         let _ = &self.held;
     }
 
-    /// A context that was made is held by this thread from now on, which holds none, or by nobody
+    /// Gives a context that was made to this thread, which holds none, or takes it from its holder
     /// (manual: Threads and Execution).
     // a part of its callers, which know whether a thread is named
     #[inline(always)]

@@ -60,9 +60,9 @@ fn give<W: Waiting>(state: &mut State<W>, sender: ObjId, receiver: ObjId)
     give_back(state, own, receiver);
 }
 
-/// What becomes of the sender of a message that is taken: a caller is owed an answer, or is
-/// inactive where nobody can answer it; after a plain send a sender that stood in a queue runs
-/// again; a sender that gives its context parts with it (manual: Message Passing; own).
+/// Completes a send whose message is taken. A caller is owed an answer, or becomes inactive where
+/// nobody can answer it. After a plain send a sender that was queued runs again. A sender that
+/// gives its context parts with it (manual: Message Passing; own).
 // a part of its callers, which know whether the sender stood in a queue
 #[inline(always)]
 pub fn settle<W: Waiting>(

@@ -306,9 +306,9 @@ impl Replies {
         self.void(reply, Ending::Deleted)
     }
 
-    /// The debt of a reply object becomes void. Deleted, a reply object leaves its chain as if it
-    /// had paid; cancelled, it and all below leave it, also from the top. None, and nothing
-    /// changes, where it owes nobody (manual: Message Passing; chains are own).
+    /// Voids the debt of a reply object. Deleted, a reply object leaves its chain as if it had
+    /// paid; cancelled, it and all below leave it, also from the top. Returns None, and changes
+    /// nothing, where it owes nobody (manual: Message Passing; chains are own).
     // a part of its callers, which know how the debt ends
     #[inline(always)]
     pub fn void(&mut self, reply: ObjId, how: Ending) -> Option<Ended>

@@ -167,7 +167,8 @@ impl Tops {
         }
     }
 
-    /// Another top of the chain of a context, or none. There is room for one, unless it has one.
+    /// Sets the top of the chain of a context, or clears it. There is room for one, unless it has
+    /// one.
     // a part of its callers, which know whether there is one
     #[inline(always)]
     pub(crate) fn move_to(&mut self, context: ObjId, top: Option<PlaceNo>)

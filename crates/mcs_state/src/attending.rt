@@ -16,7 +16,7 @@ pub fn attended(queue: Queue, reply: Option<ObjId>) -> Option<ObjId>
     }
 }
 
-/// The receiver of a reply object that is there, if one is named, is this one now.
+/// Sets the receiver of a reply object that is there, if one is named.
 // a part of its callers, which know whether a reply object is named
 #[inline(always)]
 pub fn attend(replies: &mut Replies, reply: Option<ObjId>, receiver: Option<ObjId>)

@@ -185,8 +185,7 @@ impl Letters {
     }
 }
 
-/// A letter becomes the mail of its receiver, a thread that is there. The answer is an equal
-/// message.
+/// Delivers a letter to the mail of its receiver, a thread that is there. Returns an equal message.
 // a part of its caller, so that the letter is moved once less
 #[inline(always)]
 pub fn deliver(threads: &mut Threads, receiver: ObjId, letter: OpenLetter) -> Message

@@ -295,7 +295,7 @@ impl<W: Waiting> State<W> {
         self.threads.set_mode(thread, mode).unwrap();
     }
 
-    /// A thread joins a queue; a receiver names its reply object.
+    /// Puts a thread into a queue; a receiver names its reply object.
     // a part of its callers, which know the kind of the queue, as that of `parts`
     #[inline(always)]
     pub fn joins(&mut self, thread: ObjId, queue: Queue, reply: Option<ObjId>)

@@ -129,7 +129,7 @@ impl Line {
         self.byte(b'\n');
     }
 
-    /// The words of an entry that copies a capability: where from, where to, and rights.
+    /// Appends the words of an entry that copies a capability: where from, where to, and rights.
     // a part of its callers, as a place of its own is: so the places need not go through memory
     #[inline(always)]
     fn copied(&mut self, from: Entrant, key: Key, places: (Place, Place), rights: Rights)

@@ -78,7 +78,7 @@ impl Line {
         self.end = end + 1;
     }
 
-    /// So many bytes of a text from a position on, stored behind the first so many of a buffer.
+    /// Stores so many bytes of a text, from a position on, after the first so many of a buffer.
     // of the buffer alone: so the end is stored once, and not with each part
     #[inline(always)]
     fn part<const N: usize>(buffer: &mut [u8], front: usize, text: &[u8], at: usize)
@@ -105,8 +105,8 @@ impl Line {
         self.end = front + bytes.len();
     }
 
-    /// Bytes. They are moved 4, 8 or 16 at a time, and the last so many whichever of them stand
-    /// there already.
+    /// Appends bytes. They are moved 4, 8 or 16 at a time; the last such part may overlap the one
+    /// before.
     // a copy of a length that is not known would go byte by byte
     #[inline(always)]
     pub fn bytes(&mut self, bytes: &[u8])

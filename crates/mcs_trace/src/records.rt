@@ -29,7 +29,7 @@ pub fn words_at(words: &[u64], at: u32, len: u8) -> &[u64]
     &words[start..start + len as usize]
 }
 
-/// The line of a slot.
+/// Writes the line of a slot.
 // a part of its callers, which know of a capability which fields are 0
 #[inline(always)]
 fn write_slot(line: &mut Line, cnode: u32, index: u8, cap: Option<Cap>)
@@ -332,7 +332,8 @@ fn write_message(line: &mut Line, sent: u128, packed: &Packed, words: &[u64], wi
     write_message_of(line, sent, packed, words, wide, None)
 }
 
-/// What was sent and paid, whose text is copied where it is that of this step, which was read.
+/// Writes the record of what was sent or paid. Its text is copied where it is that of this step,
+/// which was read.
 // the parts of the step each for itself: so who writes other records puts nothing together for it
 #[inline(always)]
 fn write_read_message(

@@ -31,7 +31,7 @@ impl Line {
         self.name(o);
     }
 
-    /// A fixed word.
+    /// Appends a fixed word.
     // the table of all keys does not count in what takes in this one, so that the records which
     // most lines have are inlined
     #[inline]
@@ -87,7 +87,7 @@ impl Line {
         self.spaced(place.depth as u64);
     }
 
-    /// A word. Where the caller says the kind of word, only that kind is left of this.
+    /// Appends a word. Where the caller says the kind of word, only that kind is left of this.
     // long words are calls: a function that grows too large is not inlined, whatever is asked for
     #[inline(always)]
     pub fn word(&mut self, token: &Token)

@@ -43,8 +43,8 @@ fn rebind(notifications: &mut Notifications, thread: ObjId, from: Option<ObjId>,
     }
 }
 
-/// A context that is there and homed nowhere is homed at a notification now; or, where none is
-/// named, one that is homed nowhere.
+/// Homes a context that is there and homed nowhere at a notification. Where none is named, it
+/// unhomes a context that is homed.
 // a part of its caller, so that no name goes through memory
 #[inline(always)]
 fn home(contexts: &mut Contexts, context: ObjId, notification: Option<ObjId>)
