@@ -17,7 +17,7 @@ use mcs_object_queues::Waiting;
 use mcs_state::{State, give_back};
 use mcs_types::{Ending, Kind, Mode, ObjId, Queue};
 
-/// Cancels each thread of a queue, first to last: it restarts. Nobody stands there then.
+/// Cancels each thread of a queue, first to last: it restarts. Nobody is there then.
 fn restart_all<W: Waiting>(state: &mut State<W>, queue: Queue)
     requires room { HasRoomFor (restarts_all (so_far state.old) queue) state.old }
     ensures made { Makes (restarts_all (so_far state.old) queue) state.old state.new }

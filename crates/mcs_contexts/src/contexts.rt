@@ -31,7 +31,7 @@ pub struct Contexts {
 }
 
 // By hand, so that it is a function of its own: a derived drop would be proved anew wherever it is
-// let go.
+// dropped.
 impl Drop for Contexts {
     fn drop(self) {
         let Contexts { rows: _, held: _ } = self;
@@ -48,7 +48,7 @@ impl Model for Contexts {
     ghost invariant = { λ s. IsHolding (record { rows = s.rows; held = s.held.items }) };
 }
 
-/// Keeps another holder of a context that is there, and answers the one before.
+/// Keeps another holder of a context that is there, and returns the one before.
 #[inline(always)]
 fn replace_holder(
     rows: &mut Store<ContextRow>,
@@ -159,7 +159,7 @@ impl Contexts {
     }
 
     /// Forgets a context that is there, as `core` tells, and that nobody holds, as `holder` tells:
-    /// its serial is never given again (manual: Kernel Services and Objects).
+    /// its serial is never reused (manual: Kernel Services and Objects).
     pub fn close(&mut self, context: ObjId)
         requires there { IsSome (core_in self.old context) }
         requires free { holder_in self.old context ≡ None }

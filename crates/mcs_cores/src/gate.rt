@@ -1,8 +1,8 @@
 //! What a test sees of a run (own).
 use mcs_types::{CoreId, ObjId};
 
-/// What is told of a run as it goes, so that a test may hold a core. Both calls come without any
-/// lock.
+/// What is reported of a run as it goes, so that a test may hold a core. Both calls come without
+/// any lock.
 pub trait Gate: Sync {
     /// Tells that a core picked a thread, whose entry it has not entered yet.
     fn between(&self, core: CoreId, thread: ObjId);

@@ -45,7 +45,7 @@ type Done<G> = (CoreSeat<G>, Result<(), RunFault>);
 /// The threads of the cores.
 type Running<G> = Vec<thread::JoinHandle<Done<G>>>;
 
-/// Decides whether a run ends because an entry was turned away. What the kernel turned away for its
+/// Decides whether a run ends because an entry was skipped. What the kernel skipped for its
 /// thread's sake is picked anew.
 fn ends_run(turned: Turned) -> Result<(), RunFault> {
     match turned {
@@ -311,10 +311,10 @@ impl<G: Ledger + Send + Sync, L: Lines + Send + Sync> Machine<G, L> {
     /// picks its thread of greatest priority, then of lowest serial, among those with entries left;
     /// it gives the thread's next entry, or its last one again where that was answered Waits and
     /// the thread was restarted. Where the user gave another entry meanwhile, nothing is entered,
-    /// and after that, as after an entry that was turned away, the core picks anew. The gate is
-    /// called between the pick and the entry, and after an entry that was let in. There has to be a
-    /// seat for each core of the machine: for a core without one, which has entries left, the
-    /// others wait.
+    /// and after that, as after an entry that was skipped, the core picks anew. The gate is called
+    /// between the pick and the entry, and after an entry that was let in. There has to be a seat
+    /// for each core of the machine: for a core without one, which has entries left, the others
+    /// wait.
     ///
     /// All seats come back but those whose thread could not be started. BookFull (1) where the book
     /// has no room for an entry, OutOfMemory (2) where a growth was refused, NoThread (3) where a

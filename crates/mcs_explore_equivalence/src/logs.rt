@@ -134,7 +134,7 @@ pub fn answers_but_numbers()
     ensures { AlikeButNumbers at.0 at.1 }
 {}
 
-/// Two logs that are alike but for numbers (at.2, at.3) are so after records that match behind them
+/// Two logs that are alike but for numbers (at.2, at.3) are so after records that match after them
 /// (at.0, at.1), where what these leave is sound (own).
 pub fn onto_but_numbers()
     ghost at: { List Rec × List Rec × Log × Log }

@@ -42,14 +42,14 @@ impl Counts {
 }
 
 /// The objects that were made after the boot and are there, in the order of the lowest slots that
-/// name them. Each stands in a slot as long as it is there.
+/// name them. Each is in a slot as long as it is there.
 #[derive(Drop)]
 pub struct Names {
     counts: Counts,
     later: Vec<ObjId>,
 }
 
-/// A name that no object of the boot has, and no object that stands in a slot: 2^32 and more.
+/// A name that no object of the boot has, and no object that is in a slot: 2^32 and more.
 const APART: u64 = 1 << 32;
 
 impl Names {
@@ -94,7 +94,7 @@ impl Names {
         Ok(())
     }
 
-    /// Where an object stands among those made after the boot.
+    /// Where an object is among those made after the boot.
     fn place(&self, object: ObjId) -> Option<usize> {
         self.later.iter().position(|other| other.is_same(object))
     }
@@ -110,7 +110,7 @@ impl Names {
     }
 
     /// The name of an object, from 1 on, by which it is told from all others of its kind. One that
-    /// stands in no slot has its serial behind all names.
+    /// is in no slot has its serial after all names.
     pub fn name(&self, object: ObjId) -> u64 {
         let serial = object.serial as u64;
         let count = self.counts.of(object.kind) as u64;

@@ -220,7 +220,7 @@ impl<'a, W: Watch> Explorer<'a, W> {
         Ok(Some(key))
     }
 
-    /// Notes what is behind a turn from the state in a place, where the rule has it. The turn is
+    /// Notes the state after a turn from the state in a place, where the rule has it. The turn is
     /// made on the walk.
     fn add_next(
         &mut self,
@@ -269,7 +269,7 @@ impl<'a, W: Watch> Explorer<'a, W> {
         self.trail.let_go(walk);
     }
 
-    /// Notes what is behind a turn from the state in a place, made on a copy of the walk.
+    /// Notes the state after a turn from the state in a place, made on a copy of the walk.
     fn add_copy(
         &mut self,
         alloc: Global,
@@ -293,7 +293,7 @@ impl<'a, W: Watch> Explorer<'a, W> {
         self.add_next(alloc, place, turn, picks, copy, nexts)
     }
 
-    /// Notes what is behind some turns from the state in a place, each on a copy of the walk.
+    /// Notes the states after some turns from the state in a place, each on a copy of the walk.
     fn add_nexts(
         &mut self,
         alloc: Global,

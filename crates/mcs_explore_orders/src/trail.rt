@@ -12,11 +12,11 @@ use mcs_types::OutOfMemory;
 use std::alloc::Global;
 use std::marker::Model;
 
-/// How many turns a stage has. A point is kept behind each stage alone, since a few turns that are
+/// How many turns a stage has. A point is kept after each stage alone, since a few turns that are
 /// made again cost less than a copy.
 const STRIDE: usize = 4;
 
-/// Some turns, and the point behind them.
+/// Some turns, and the point after them.
 #[derive(Drop)]
 pub struct Stage {
     turns: Vec<Turn>,

@@ -76,7 +76,7 @@ pub enum Asked {
         first: Event,
         second: Event,
     },
-    /// The list of a user goes on with this entry behind its last.
+    /// The list of a user goes on with this entry after its last.
     Again {
         event: Event,
     },

@@ -44,7 +44,7 @@ impl Listed {
         }
     }
 
-    /// Adds one, or two dots in place of all behind the eighth.
+    /// Adds one, or two dots in place of all after the eighth.
     pub fn add(&mut self, what: &[u8]) -> Result<(), AllocError> {
         let count = self.count;
         self.count = count.saturating_add(1);

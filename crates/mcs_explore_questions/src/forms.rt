@@ -159,7 +159,7 @@ fn are_rights(word: &[u8]) -> bool {
     word == b"-".as_slice() || (!word.is_empty() && rest.is_empty())
 }
 
-/// A pattern that is read by a form: its words behind the first, and the text that comes of it.
+/// A pattern that is read by a form: its words after the first, and the text that comes of it.
 #[derive(Drop)]
 struct Fitting<'a> {
     alloc: Global,
@@ -175,7 +175,7 @@ impl<'a> Fitting<'a> {
         self.words.get(self.taken).copied()
     }
 
-    /// Puts what a word becomes behind the text.
+    /// Puts what a word becomes after the text.
     fn put(&mut self, word: &[u8]) -> Result<(), QuestionFault> {
         self.taken = self.taken.saturating_add(1);
         self.text.extend_from_slice(b" ")?;
@@ -215,7 +215,7 @@ impl<'a> Fitting<'a> {
         Ok(())
     }
 
-    /// Puts a word that is one of a sort as it stands.
+    /// Puts a word that is one of a sort as it is.
     fn put_if(&mut self, word: &[u8], sort: Sort, is_so: bool) -> Result<(), QuestionFault> {
         if is_so {
             self.put(word)
@@ -371,7 +371,7 @@ impl<'a> Fitting<'a> {
     }
 }
 
-/// A pattern by the form of lines with this first word, which may stand in it as a word for any.
+/// A pattern by the form of lines with this first word, which may be in it as a word for any.
 fn fitted(
     alloc: Global,
     there: There<'_>,

@@ -18,7 +18,7 @@ fn is_word(wanted: &[u8], word: &[u8]) -> bool
     wanted == b"*".as_slice() || wanted == word
 }
 
-/// Whether a text is one of those for which a pattern stands (own), both cut into words at single
+/// Whether a text is one of those that a pattern matches (own), both cut into words at single
 /// spaces.
 pub fn is_match(pattern: &[u8], text: &[u8]) -> bool
     ensures { result ≡ is_match pattern.now text.now }

@@ -296,8 +296,8 @@ impl<'a> Reader<'a> {
     }
 }
 
-/// The range of a word: two numbers of at most 9 digits, and two dots between them, behind which
-/// `=` may stand.
+/// The range of a word: two numbers of at most 9 digits, and two dots between them, after which `=`
+/// may be.
 fn range_in(word: &[u8]) -> Option<Range> {
     let dots = word.iter().position(|byte| *byte == b'.')?;
     let from = small_number(word.get(..dots)?)?;
@@ -321,8 +321,8 @@ fn small_number(word: &[u8]) -> Option<usize> {
     Some(number_of(word)? as usize)
 }
 
-/// The text of the question of a line `#!`, without its newline: what stands behind the blank,
-/// without blanks at its end. NoBlank where no blank stands there, Nothing where no text does.
+/// The text of the question of a line `#!`, without its newline: what follows the blank, without
+/// blanks at its end. NoBlank where no blank is there, Nothing where no text does.
 pub fn question_of(alloc: Global, line: &[u8]) -> Result<&[u8], QuestionFault> {
     let [_, _, behind @ ..] = line else {
         return Err(QuestionFault::Nothing { there: FIRSTS });

@@ -12,7 +12,7 @@ use std::hash::Hash;
 /// A system: its states, steps between them with labels, and keys of states. It may note of its
 /// states what it needs to give keys, and tell someone what it sees.
 pub trait System {
-    // the start has the default one, which stands in no path
+    // the start has the default one, which is in no path
     type Label: Copy + Default + Drop;
 
     type Key: Eq + Hash + Drop;
@@ -250,7 +250,7 @@ fn narrow(number: usize) -> Result<u32, AllocError>
     }
 }
 
-/// How a state is found by a label behind the one in a place, which has this depth. An AllocError
+/// How a state is found by a label after the one in a place, which has this depth. An AllocError
 /// where a number has more than 32 bits.
 fn found_behind<L: Copy + Drop>(
     place: usize,

@@ -32,7 +32,7 @@ impl<T: Drop> From<AllocFailed<T>> for OrdersFault {
     }
 }
 
-/// Why an entry was turned away whose thread may enter.
+/// Why an entry was skipped whose thread may enter.
 pub(crate) fn limit_of(fault: EnterFault) -> OrdersFault
     requires { IsLimit fault }
 {

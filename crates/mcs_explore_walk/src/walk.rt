@@ -44,7 +44,7 @@ pub struct Walk<L: Lines> {
 }
 
 // By hand, so that it is a function of its own: a derived drop would be proved anew wherever a walk
-// is let go.
+// is dropped.
 impl<L: Lines> Drop for Walk<L> {
     fn drop(self) {
         let Walk {
@@ -67,7 +67,7 @@ impl<L: Lines> Model for Walk<L> {
     } };
 }
 
-/// Whether an entry that would be turned away for this is one of a thread that may enter.
+/// Whether an entry that would be skipped for this is one of a thread that may enter.
 fn is_let_in(fault: Option<EnterFault>) -> bool
     ensures { result ≡ is_let_in fault }
 {
@@ -153,7 +153,7 @@ fn no_stale(alloc: Global, cores: u8) -> Result<Vec<Picks>, OutOfMemory>
     Ok(stale)
 }
 
-/// The position of a user behind an entry that was let in with this answer.
+/// The position of a user after an entry that was let in with this answer.
 fn position_behind(user: &UserList, number: usize, answer: &Answer) -> Position
     requires { number < length user.now.entries }
     ensures { result ≡ behind user.now number answer.now }

@@ -15,7 +15,7 @@ use mcs_object_queues::Waiting;
 use mcs_state::{Change, State, change_awake, find_object, wake};
 use mcs_types::{CoreId, Kind, ObjId, Refusal};
 
-/// Whether nobody holds a context, it is homed nowhere, and no reply object stands in its chain.
+/// Whether nobody holds a context, it is homed nowhere, and no reply object is in its chain.
 fn is_loose<W: Waiting>(state: &State<W>, context: ObjId) -> bool
     ensures { result ≡ is_loose (so_far state.now) context }
 {

@@ -63,7 +63,7 @@ fn give<W: Waiting>(state: &mut State<W>, sender: ObjId, receiver: ObjId)
 /// Completes a send whose message is taken. A caller is owed an answer, or becomes inactive where
 /// nobody can answer it. After a plain send a sender that was queued runs again. A sender that
 /// gives its context parts with it (manual: Message Passing; own).
-// a part of its callers, which know whether the sender stood in a queue
+// a part of its callers, which know whether the sender was in a queue
 #[inline(always)]
 pub fn settle<W: Waiting>(
     state: &mut State<W>,

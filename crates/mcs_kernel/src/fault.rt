@@ -1,7 +1,7 @@
-//! Why an entry is turned away, and why a replay ends.
+//! Why an entry is skipped, and why a replay ends.
 use thiserror::Error;
 
-/// Why an entry was turned away: the numbers 1 to 5, tested in this order. The kernel is as it was.
+/// Why an entry was skipped: the numbers 1 to 5, tested in this order. The kernel is as it was.
 #[derive(Clone, Copy, PartialEq, Eq, Debug, Error)]
 pub enum EnterFault {
     /// The thread is unknown, closed, or neither running nor in restart.

@@ -345,7 +345,7 @@ impl<L: Lines> Kernel<L> {
         Ok(Kernel { state })
     }
 
-    /// The same where the boot ends: its tables are let go before those of the kernel are made, so
+    /// The same where the boot ends: its tables are dropped before those of the kernel are made, so
     /// that the memory of one kernel is enough.
     pub(crate) fn after(alloc: Global, boot: Boot) -> Result<Kernel<L>, OutOfMemory>
         ensures { IfOk result (λ k. k ≡ record { boot = boot; lines = [] }) }
@@ -387,7 +387,7 @@ impl<L: Lines> Kernel<L> {
         let _ = &self.state;
     }
 
-    /// Why an entry of a thread on a core would be turned away now, memory aside.
+    /// Why an entry of a thread on a core would be skipped now, memory aside.
     #[inline(always)]
     #[tactic(auto, unfolding(crate::specs::Faults::fault_of))]
     pub fn fault(&self, core: CoreId, thread: ObjId) -> Option<EnterFault>

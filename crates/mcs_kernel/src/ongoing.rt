@@ -39,7 +39,7 @@ impl<L: Lines> Replay<L> {
         Ok(Replay { kernel, taken: 0 })
     }
 
-    /// Takes the next step and gives its answer, or None where it is turned away, and then the book
+    /// Takes the next step and gives its answer, or None where it is skipped, and then the book
     /// stays as it is. Either way the step is counted, up to usize::MAX. BookFull comes exactly at
     /// a step that would be let in and for which the book is full, and OutOfMemory where the room
     /// for its line is refused, each with the number of the step, from 1. After a fault nothing has

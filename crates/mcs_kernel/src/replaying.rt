@@ -13,8 +13,8 @@ use mcs_queues::Lines;
 use mcs_types::{OutOfMemory, Step};
 use std::alloc::Global;
 
-/// Takes the steps one after another on a kernel with this boot: steps that are turned away leave
-/// no line. BookFull comes exactly at the first step that would be let in and for which the book is
+/// Takes the steps one after another on a kernel with this boot: steps that are skipped leave no
+/// line. BookFull comes exactly at the first step that would be let in and for which the book is
 /// full, unless memory was refused before.
 pub fn replay<L: Lines>(alloc: Global, boot: Boot, steps: &[Step]) -> Result<Kernel<L>, ReplayFault>
     ensures book { IfOk result (λ k. k ≡ book_of boot steps.now) }

@@ -36,7 +36,7 @@ pub enum Question {
     With { reply: ObjId },
     /// `n1 pending 5`, or `-`.
     Pending { notification: ObjId },
-    /// `e1.recv t2 t4`: who stands there, first to last, or `-`.
+    /// `e1.recv t2 t4`: who is there, first to last, or `-`.
     Queue { queue: Queue },
     /// `c1 3 holds e1 rw 9`, or `-`.
     Slot { cnode: ObjId, index: u8 },
@@ -45,9 +45,9 @@ pub enum Question {
 /// What a line asks.
 #[derive(Clone, Copy)]
 pub enum Asked {
-    /// `away`, or `away NoContext`: whether the step before was turned away, and for what reason.
+    /// `away`, or `away NoContext`: whether the step before was skipped, and for what reason.
     Away { why: Option<EnterFault> },
-    /// What stands behind the step.
+    /// What follows the step.
     State { question: Question },
 }
 
@@ -74,7 +74,7 @@ fn reason_of(word: &[u8]) -> Option<EnterFault>
     None
 }
 
-/// Reads the question whether a step was turned away, from the words after `away`.
+/// Reads the question whether a step was skipped, from the words after `away`.
 fn away_asked(words: &mut Words<'_>) -> Option<Asked>
     ensures { result ≡ away_asked words.old }
 {
@@ -220,7 +220,7 @@ fn asked_by(words: &mut Words<'_>) -> Option<Asked>
     Some(Asked::State { question })
 }
 
-/// What a text behind `#? ` asks; None where it has no form.
+/// What a text after `#? ` asks; None where it has no form.
 pub fn asked_of(text: &[u8]) -> Option<Asked>
     ensures { result ≡ asked_of text.now }
 {

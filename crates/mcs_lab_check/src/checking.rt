@@ -1,4 +1,4 @@
-//! Whether what stands behind each step of a script holds, told as TAP.
+//! Whether what follows each step of a script holds, told as TAP.
 use crate::fault::LabFault;
 use crate::judging::Judge;
 use crate::last::{Last, Told};
@@ -32,7 +32,7 @@ enum About {
     State,
 }
 
-/// What stands on a line of a question behind its sign.
+/// What is on a line of a question after its sign.
 fn asked(line: &[u8]) -> &[u8] {
     match line {
         [b'#', b'?', b' ', rest @ ..] => rest,
@@ -132,7 +132,7 @@ impl<W: Write + Drop> Checker<W> {
         }
     }
 
-    /// Writes behind which step that was.
+    /// Writes after which step that was.
     fn put_step(&mut self) -> io::Result<()> {
         let (line, step) = self.judge.step();
         if line == 0 {
@@ -142,7 +142,7 @@ impl<W: Write + Drop> Checker<W> {
         put_quoted(&mut self.to, &self.names, bare(step))
     }
 
-    /// Tells a verdict, and of what does not hold what was wanted, what was seen, and behind which
+    /// Tells a verdict, and of what does not hold what was wanted, what was seen, and after which
     /// step.
     fn tell(&mut self, holds: bool, about: About, said: &[u8]) -> Result<(), LabFault> {
         self.put_verdict(holds, said)?;

@@ -24,7 +24,7 @@ use mcs_types::{CoreId, ObjId};
 use std::alloc::Global;
 use std::marker::Model;
 
-/// How many lines a book has behind its boot.
+/// How many lines a book has after its boot.
 fn count_lines(run: &ReplayRun) -> usize
     ensures { result ≡ line_count run.now.course.stands.book }
 {
@@ -114,7 +114,7 @@ pub fn entrant_of(step: &[u8]) -> Option<(CoreId, ObjId)>
     Some((CoreId(core as u8), thread))
 }
 
-/// Puts what is said of a step that was turned away.
+/// Puts what is said of a step that was skipped.
 fn put_away(to: &mut Text, reason: Option<EnterFault>) -> Result<(), LabFault>
     ensures { OnOk result (to.new ≡ to.old ++ away_text reason) }
 {
@@ -126,7 +126,7 @@ fn put_away(to: &mut Text, reason: Option<EnterFault>) -> Result<(), LabFault>
     }
 }
 
-/// What stands behind `#? ` on a line, without the newline.
+/// What follows `#? ` on a line, without the newline.
 fn question_text(text: &[u8]) -> Option<&[u8]>
     ensures { option_map (λ t. t.now) result ≡ question_text text.now }
 {
@@ -201,7 +201,7 @@ impl Judge {
         self.seen.text()
     }
 
-    /// The kernel behind the last line; None while the boot goes on.
+    /// The kernel after the last line; None while the boot goes on.
     pub fn kernel(&self) -> Option<&Kernel<LinkedLines>> {
         self.run.kernel()
     }
@@ -272,7 +272,7 @@ impl Judge {
         Told::Record { holds: true }
     }
 
-    /// Why the last step is turned away: nothing has changed since.
+    /// Why the last step is skipped: nothing has changed since.
     fn reason(&self) -> Option<EnterFault>
         ensures { result ≡ reason (book_of self.now) self.now.step }
     {
@@ -281,8 +281,8 @@ impl Judge {
         kernel.fault(core, thread)
     }
 
-    /// Returns whether the last step was turned away, and for the reason that a text gives, if it
-    /// gives one.
+    /// Returns whether the last step was skipped, and for the reason that a text gives, if it gives
+    /// one.
     fn was_away(&mut self, why: Option<EnterFault>, text: &[u8]) -> Result<bool, LabFault>
         ensures holds { IfOk result (λ holds. holds
             ≡ was_away self.old.last (reason (book_of self.old) self.old.step) why text.now) }

@@ -1,11 +1,11 @@
 //! The last step of a script, and what comes of a line.
 
-/// The last step of a script, as far as the lines behind it speak of it.
+/// The last step of a script, as far as the lines after it speak of it.
 #[derive(Clone, Copy)]
 pub enum Last {
     /// There was none.
     NoStep,
-    /// It was turned away.
+    /// It was skipped.
     Away,
     /// It was let in. Its records are compared from this one on, before which so many messages were
     /// sent.
@@ -23,7 +23,7 @@ pub enum Told {
     Answer { holds: bool },
     /// The last step is wanted to have this record.
     Record { holds: bool },
-    /// Something is asked of what stands behind the last step.
+    /// Something is asked of what follows the last step.
     Asked { holds: bool },
     /// It begins as a question, and is none.
     NoQuestion,

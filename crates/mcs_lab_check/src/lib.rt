@@ -1,5 +1,4 @@
-//! Scripts that test themselves: whether what stands behind each step holds, by questions to the
-//! kernel.
+//! Scripts that test themselves: whether what follows each step holds, by questions to the kernel.
 #![tactic(auto)]
 
 mod asking;

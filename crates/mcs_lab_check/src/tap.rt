@@ -1,4 +1,4 @@
-//! Verdicts as lines of TAP, with what was seen as YAML behind those that do not hold.
+//! Verdicts as lines of TAP, with what was seen as YAML after those that do not hold.
 use crate::names::Names;
 use mcs_text::Words;
 use std::io::{self, Write};
@@ -11,8 +11,8 @@ pub fn bare(line: &[u8]) -> &[u8] {
     }
 }
 
-/// Writes the bytes of a word: of two kinds each stands behind another byte, and what is not
-/// printable is a `?`.
+/// Writes the bytes of a word: of two kinds each follows another byte, and what is not printable is
+/// a `?`.
 fn put_word<W: Write>(to: &mut W, word: &[u8], before: u8, kinds: [u8; 2]) -> io::Result<()> {
     for byte in word {
         if *byte == kinds[0] || *byte == kinds[1] {
@@ -31,7 +31,7 @@ pub fn is_plain(text: &[u8]) -> bool {
     text.iter().all(|byte| { *byte >= b' ' && *byte <= b'~' && *byte != b'#' && *byte != b'\\' })
 }
 
-/// Writes a description of TAP, in which `#` and `\` stand behind a `\`.
+/// Writes a description of TAP, in which `#` and `\` follow a `\`.
 pub fn put_description<W: Write>(to: &mut W, text: &[u8]) -> io::Result<()> {
     put_word(to, text, b'\\', [b'#', b'\\'])
 }

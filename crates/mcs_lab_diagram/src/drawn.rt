@@ -20,7 +20,7 @@ use mcs_queues::LinkedLines;
 use mcs_types::{CoreId, Kind, ObjId, Step, ThreadSet};
 use std::alloc::{AllocError, Global};
 
-/// A step that was turned away.
+/// A step that was skipped.
 #[derive(Drop)]
 pub struct Away {
     /// How many lines the book had.
@@ -55,7 +55,7 @@ pub struct Window {
 }
 
 /// What is drawn of a run so far: the strokes, the looks of all threads in each row, which thread
-/// each core picks in each row, and the steps that were turned away.
+/// each core picks in each row, and the steps that were skipped.
 #[derive(Drop)]
 pub struct Drawing {
     pub kernel: Kernel<LinkedLines>,
@@ -136,8 +136,7 @@ impl Drawing {
         })
     }
 
-    /// Draws the last line of the book, in which this thread enters; what stands before it is
-    /// drawn.
+    /// Draws the last line of the book, in which this thread enters; what is before it is drawn.
     #[tactic(auto, using(crate::proofs::DrawnLaws::drawn_row))]
     fn add_row(&mut self, alloc: Global, thread: ObjId) -> Result<(), AllocError>
         requires before { AreDrawnBefore self.old.strokes self.old.looks.items self.old.picks.items
@@ -152,7 +151,7 @@ impl Drawing {
         add_picks(&mut self.picks, &self.kernel)
     }
 
-    /// Notes a step that was turned away.
+    /// Notes a step that was skipped.
     #[tactic(auto, using(crate::proofs::TurnedLaws::away_more))]
     fn turn_away(
         &mut self,
@@ -294,7 +293,7 @@ impl Drawing {
         }
     }
 
-    /// Whether a core picks a thread behind a line.
+    /// Whether a core picks a thread after a line.
     pub fn is_picked(&self, row: usize, thread: ObjId) -> bool {
         let cores = self.kernel.book().cores() as usize;
         for core in 0..cores {

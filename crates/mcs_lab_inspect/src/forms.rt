@@ -2,8 +2,8 @@
 use mcs_text::{Lines, Words};
 
 /// The forms of the lines of scripts and traces. Of a step it marks what names a capability of the
-/// thread's space: `@` an address, `%` an index that stands before its depth. Words that end in
-/// `..` stand for all that follow.
+/// thread's space: `@` an address, `%` an index that is before its depth. Words that end in `..`
+/// stand for all that follow.
 pub const FORMS: &str = "\
 The boot:
   cores count
@@ -131,7 +131,7 @@ impl<'a> Fields<'a> {
     }
 }
 
-/// The lines of the forms, behind the two spaces with which each begins.
+/// The lines of the forms, after the two spaces with which each begins.
 #[derive(Drop)]
 pub struct Forms {
     lines: Lines<'static>,
@@ -185,7 +185,7 @@ pub fn form_of(sign: Option<u8>, key: &[u8]) -> Option<Fields<'static>> {
     None
 }
 
-/// What two texts have behind the bytes that are common at their front.
+/// What two texts have after the bytes that are common at their front.
 fn behind_common<'a>(first: &'a [u8], second: &'a [u8]) -> (&'a [u8], &'a [u8]) {
     let mut a = first;
     let mut b = second;

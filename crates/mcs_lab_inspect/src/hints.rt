@@ -5,7 +5,7 @@ use crate::page::Page;
 use mcs_lab_check::object_of;
 use mcs_text::Words;
 
-/// What stands in the place of a word.
+/// What is in the place of a word.
 #[derive(Clone, Copy, PartialEq, Eq)]
 enum Wants {
     Number,
@@ -14,7 +14,7 @@ enum Wants {
     Word,
 }
 
-/// What stands in the place that a form calls so.
+/// What is in the place that a form calls so.
 fn wanted(name: &[u8], is_address: bool) -> Wants {
     if is_address {
         return Wants::Number;
@@ -26,7 +26,7 @@ fn wanted(name: &[u8], is_address: bool) -> Wants {
     }
 }
 
-/// Whether a word may stand where this is wanted.
+/// Whether a word may be where this is wanted.
 fn fits(word: &[u8], wants: Wants) -> bool {
     match wants {
         Wants::Number => address_of(word).is_some(),
@@ -80,7 +80,7 @@ fn put_meant(page: &mut Page, number: u64, word: &[u8]) {
     }
 }
 
-/// Puts that a word is missing or does not fit, and what stands there.
+/// Puts that a word is missing or does not fit, and what is there.
 fn put_unlike(page: &mut Page, number: u64, fault: &[u8], name: &[u8]) {
     put_number(page, number);
     page.put(fault);
@@ -89,7 +89,7 @@ fn put_unlike(page: &mut Page, number: u64, fault: &[u8], name: &[u8]) {
 }
 
 /// Puts what is wrong with the word of this number, where it is one of the form's. True where no
-/// word behind it is to be looked at.
+/// word after it is to be looked at.
 fn put_pair(page: &mut Page, number: u64, field: Field<'_>, word: Option<&[u8]>) -> bool {
     let Some(word) = word else {
         if !field.is_last {
@@ -136,7 +136,7 @@ fn put_misfit(
     }
 }
 
-/// Puts what may be wrong with the words behind a key, the word of this number.
+/// Puts what may be wrong with the words after a key, the word of this number.
 fn put_key_hints(page: &mut Page, words: &mut Words<'_>, key: &[u8], number: u64, most: usize) {
     if put_word_hint(page, number, key) {
         return;
@@ -147,7 +147,7 @@ fn put_key_hints(page: &mut Page, words: &mut Words<'_>, key: &[u8], number: u64
     }
 }
 
-/// Puts what may be wrong with a step, behind its core.
+/// Puts what may be wrong with a step, after its core.
 fn put_step_hints(page: &mut Page, words: &mut Words<'_>, most: usize) {
     let Some(thread) = words.next_word() else {
         return page.put(b"  word 2 is missing: the thread that enters\n");

@@ -16,7 +16,7 @@ fn fields_of(sign: Option<u8>, key: &[u8]) -> Fields<'static> {
     }
 }
 
-/// Puts an object of the words behind a key, and of its kind, where it is told.
+/// Puts an object of the words after a key, and of its kind, where it is reported.
 fn put_object<'a>(
     alloc: Global,
     page: &mut Page,
@@ -173,7 +173,7 @@ impl<W: Write> TakesLines for Writer<W> {
     }
 }
 
-/// Writes what is told of a script.
+/// Writes what is reported of a script.
 fn write_all<R: Read, W: Write>(
     alloc: Global,
     from: &mut Source<R>,

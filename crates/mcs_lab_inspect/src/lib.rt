@@ -1,4 +1,4 @@
-//! What is told of a script: why a step did nothing, what is stuck, who stands where, and its book
+//! What is reported of a script: why a step did nothing, what is stuck, the state of each thread, and its book
 //! as JSON. It only writes.
 #![tactic(auto)]
 

@@ -14,7 +14,7 @@ pub struct Member<'a> {
     pub is_list: bool,
 }
 
-/// Whether a name stands before another.
+/// Whether a name is before another.
 fn is_before(name: &[u8], other: &[u8]) -> bool {
     for i in 0..name.len().min(other.len()) {
         if name[i] != other[i] {
@@ -24,7 +24,7 @@ fn is_before(name: &[u8], other: &[u8]) -> bool {
     name.len() < other.len()
 }
 
-/// The member whose name comes next behind a name.
+/// The member whose name comes next after a name.
 fn next_behind<'a>(members: &[Member<'a>], name: &[u8]) -> Option<Member<'a>> {
     let mut next: Option<Member<'a>> = None;
     for member in members {
@@ -64,7 +64,7 @@ fn put_list(page: &mut Page, text: &[u8]) {
     page.put(b"]");
 }
 
-/// Puts a member, behind others or as the first.
+/// Puts a member, after others or as the first.
 fn put_member(page: &mut Page, member: Member<'_>, is_first: bool) {
     page.between(is_first);
     page.quoted(member.name);
@@ -122,7 +122,7 @@ pub fn members_of<'a>(
     Some(members)
 }
 
-/// The word with which a text begins, and what stands behind the space behind it.
+/// The word with which a text begins, and what follows the space after it.
 pub fn split_word(text: &[u8]) -> (&[u8], Option<&[u8]>) {
     for (i, byte) in text.iter().enumerate() {
         if *byte == b' '

@@ -36,8 +36,8 @@ fn sent_over(alloc: Global, book: &Book, thread: ObjId) -> Result<Option<u64>, O
     Ok(None)
 }
 
-/// Whether the entry of a thread that stands among the senders of an endpoint would be sent there
-/// again.
+/// Whether the entry of a thread that is queued among the senders of an endpoint would be sent
+/// there again.
 fn sends_again(
     alloc: Global,
     kernel: &Kernel<LinkedLines>,

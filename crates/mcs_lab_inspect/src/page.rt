@@ -16,7 +16,7 @@ pub struct Page {
 }
 
 impl Page {
-    /// Nothing is told.
+    /// Nothing is reported.
     pub fn new(alloc: Global) -> Result<Page, AllocError> {
         Ok(Page {
             text: Vec::new(alloc),
@@ -118,7 +118,7 @@ impl Page {
         }
     }
 
-    /// Puts what stands before an item that is not the first.
+    /// Puts what is before an item that is not the first.
     pub fn between(&mut self, is_first: bool) {
         if !is_first {
             self.put(b",");

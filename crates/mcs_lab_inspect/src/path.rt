@@ -5,7 +5,7 @@ use mcs_lab_check::Names;
 use mcs_queues::LinkedLines;
 use mcs_types::{Cap, Kind};
 
-/// So many bits of a number, behind which so many others stand.
+/// So many bits of a number, after which so many others are.
 fn bits_of(number: u64, count: u32, behind: u32) -> u64 {
     let shifted = number.checked_shr(behind).unwrap_or(0);
     match 1u64.checked_shl(count) {
@@ -37,7 +37,7 @@ fn put_radix(page: &mut Page, radix: u32, behind: u32) {
     page.put(b" are left");
 }
 
-/// Puts the slot that lookup takes at a level, and what holds it up there; the level behind it, if
+/// Puts the slot that lookup takes at a level, and what holds it up there; the level after it, if
 /// lookup goes on.
 fn put_slot(page: &mut Page, index: u64, held: Option<Cap>, left: u32) -> Option<Level> {
     page.put(b" ");
@@ -59,7 +59,7 @@ fn put_slot(page: &mut Page, index: u64, held: Option<Cap>, left: u32) -> Option
     }
 }
 
-/// Puts the slot that lookup takes at a level, or why it takes none; the level behind it, if lookup
+/// Puts the slot that lookup takes at a level, or why it takes none; the level after it, if lookup
 /// goes on.
 fn put_level(
     page: &mut Page,

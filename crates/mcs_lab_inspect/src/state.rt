@@ -1,4 +1,4 @@
-//! Who stands where behind a line of a script.
+//! The state of each thread after a line of a script.
 use crate::page::Page;
 use crate::stuck::Waits;
 use crate::tables::put_tables;
@@ -10,7 +10,7 @@ use mcs_sim::Source;
 use std::alloc::Global;
 use std::io::{Read, Write};
 
-/// Of a state: behind which line, whether only what is stuck is told, and whether it is written as
+/// Of a state: after which line, whether only what is stuck is told, and whether it is written as
 /// JSON.
 #[derive(Clone, Copy)]
 pub struct Wanted {
@@ -89,8 +89,8 @@ fn read_state<R: Read>(
     Ok(put_state(page, kernel, &reader.names, &waits, wanted))
 }
 
-/// Shows who stands where behind a line of a script, or at its end, and what is stuck. False where
-/// only what is stuck is wanted, and something is.
+/// Shows the state of each thread after a line of a script, or at its end, and what is stuck. False where only
+/// what is stuck is wanted, and something is.
 pub fn show_state<R: Read, W: Write + Drop>(
     alloc: Global,
     from: &mut Source<R>,

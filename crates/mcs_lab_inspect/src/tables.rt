@@ -1,4 +1,4 @@
-//! Who stands where, as text.
+//! The state of each thread, as text.
 use crate::page::Page;
 use crate::spaces::object;
 use mcs_kernel::Kernel;
@@ -25,7 +25,7 @@ fn put_message(page: &mut Page, message: &Message) {
 }
 
 impl<'a> Tables<'a> {
-    /// Puts an object behind some words, where there is one.
+    /// Puts an object after some words, where there is one.
     fn put_some(&self, page: &mut Page, before: &[u8], object: Option<ObjId>) {
         if let Some(object) = object {
             page.put(before);
@@ -88,7 +88,7 @@ impl<'a> Tables<'a> {
         page.put(b"\n");
     }
 
-    /// Puts who stands in a queue, with the message that it sent there.
+    /// Puts the threads in a queue, with the message that it sent there.
     fn put_standing(&self, page: &mut Page, thread: ObjId) {
         page.put(b" ");
         page.object(self.names, thread);
@@ -102,7 +102,7 @@ impl<'a> Tables<'a> {
         }
     }
 
-    /// Puts a queue with its threads and their messages, where some stand there.
+    /// Puts a queue with its threads and their messages, where some are there.
     fn put_queue(&self, page: &mut Page, queue: Queue) {
         let mut is_first = true;
         for thread in self.kernel.queue(queue) {
@@ -221,7 +221,7 @@ impl<'a> Tables<'a> {
     }
 }
 
-/// Puts who stands where.
+/// Puts the state of each thread.
 pub fn put_tables(page: &mut Page, kernel: &Kernel<LinkedLines>, names: &Names) {
     let tables = Tables { kernel, names };
     tables.put_kind(page, b"threads\n", Kind::Thread);

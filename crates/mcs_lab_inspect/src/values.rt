@@ -1,4 +1,4 @@
-//! Who stands where, as JSON. The members of an object stand in the order of their names.
+//! The state of each thread, as JSON. The members of an object are in the order of their names.
 use crate::page::Page;
 use crate::spaces::object;
 use crate::stuck::Waits;
@@ -90,7 +90,7 @@ impl<'a> Values<'a> {
         page.put(b"}");
     }
 
-    /// Puts who stands in a queue, with the message that it sent there.
+    /// Puts the threads in a queue, with the message that it sent there.
     fn put_letter(&self, page: &mut Page, thread: ObjId, letter: &Letter) {
         page.put(b"{\"badge\":");
         page.number(letter.badge.0);
@@ -106,7 +106,7 @@ impl<'a> Values<'a> {
         page.put(b"}");
     }
 
-    /// Puts who stands in a queue.
+    /// Puts the threads in a queue.
     fn put_standing(&self, page: &mut Page, thread: ObjId) {
         match self.kernel.open(thread) {
             Some(letter) => self.put_letter(page, thread, letter),
@@ -119,7 +119,7 @@ impl<'a> Values<'a> {
         }
     }
 
-    /// Puts a queue, where some stand there, behind others or as the first. False where none stand
+    /// Puts a queue, where some are there, after others or as the first. False where none are
     /// there.
     fn put_queue(&self, page: &mut Page, queue: Queue, is_first: bool) -> bool {
         let mut is_empty = true;
@@ -141,7 +141,7 @@ impl<'a> Values<'a> {
         !is_empty
     }
 
-    /// Puts all queues in which some stand.
+    /// Puts all queues in which some are.
     fn put_queues(&self, page: &mut Page) {
         let mut is_first = true;
         for serial in 1..=self.kernel.made(Kind::Endpoint) {
@@ -251,7 +251,7 @@ impl<'a> Values<'a> {
         }
     }
 
-    /// Puts all objects of a kind, behind the name of the list.
+    /// Puts all objects of a kind, after the name of the list.
     fn put_all(&self, page: &mut Page, name: &[u8], kind: Kind) {
         page.put(name);
         for serial in 1..=self.kernel.made(kind) {
@@ -299,7 +299,7 @@ impl<'a> Values<'a> {
     }
 }
 
-/// Puts who stands where as one object, or only what is stuck.
+/// Puts the state of each thread as one object, or only what is stuck.
 pub fn put_values(
     page: &mut Page,
     kernel: &Kernel<LinkedLines>,

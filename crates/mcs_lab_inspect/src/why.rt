@@ -110,7 +110,7 @@ fn place_of(index: u64, fields: &mut Fields<'_>, words: &mut Words<'_>) -> Optio
     Some(Place { index, depth })
 }
 
-/// Puts which address or place lookup refuses so, of the words of a step behind its key, if one.
+/// Puts which address or place lookup refuses so, of the words of a step after its key, if one.
 fn put_first_refused(
     page: &mut Page,
     names: &Names,
@@ -422,7 +422,7 @@ impl Teller {
         self.page.put(b": ");
     }
 
-    /// Reports why the last step was turned away.
+    /// Reports why the last step was skipped.
     fn tell_away(&mut self, alloc: Global) {
         self.put_step();
         self.page.put(b"turned away: ");
@@ -609,9 +609,9 @@ fn explain_all<R: Read, W: Write>(
     Ok(is_free)
 }
 
-/// Explains a script: each step that was turned away or refused, each call that nobody can answer,
-/// each debt that became void, each message or answer that was dropped, and at the end what is
-/// stuck. True where nothing is stuck.
+/// Explains a script: each step that was skipped or refused, each call that nobody can answer, each
+/// debt that became void, each message or answer that was dropped, and at the end what is stuck.
+/// True where nothing is stuck.
 pub fn explain<R: Read, W: Write + Drop>(
     alloc: Global,
     from: &mut Source<R>,

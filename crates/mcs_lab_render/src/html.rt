@@ -5,7 +5,7 @@ use mcs_lab_diagram::{Drawing, Window};
 use std::alloc::{AllocError, Global};
 use std::fmt::Write;
 
-/// What stands before the picture.
+/// What is before the picture.
 const BEFORE: &str = "<!DOCTYPE html>
 <html lang=\"en\">
 <head>
@@ -27,13 +27,13 @@ g.bar.past,path.arrow.past{opacity:.25}
 <main>
 ";
 
-/// What stands behind the picture, before the numbers of the first line and the last.
+/// What follows the picture, before the numbers of the first line and the last.
 const BETWEEN: &str = "</main>
 <aside id=\"side\" hidden>
 <p><label for=\"slider\">Behind line <output id=\"number\"></output></label> (keys: arrows, Home, End)</p>
 <input id=\"slider\" type=\"range\" ";
 
-/// What stands behind those numbers.
+/// What follows those numbers.
 const BEHIND: &str = ">
 <p id=\"step\"></p>
 <ul id=\"states\"></ul>

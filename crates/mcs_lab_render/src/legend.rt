@@ -1,5 +1,4 @@
-//! What stands below the lanes: what every thread does at the end, and what the colours and lines
-//! mean.
+//! What is below the lanes: what every thread does at the end, and what the colours and lines mean.
 use crate::bars::{put_coloured, put_state};
 use crate::naming::{Names, put_full_name};
 use crate::paper::{Area, put_area, put_text};
@@ -48,7 +47,7 @@ pub fn put_end<N: Names>(
     Ok(y)
 }
 
-/// Where the next sample of the legend stands.
+/// Where the next sample of the legend is.
 #[derive(Drop)]
 struct Legend {
     x: u64,

@@ -49,7 +49,7 @@ fn put_message(to: &mut String, stroke: &Stroke) -> Result<(), AllocError> {
     put_plain(to, stroke.label.as_str())
 }
 
-/// Adds what is written beside a lane; what an arrow says stands at the arrow.
+/// Adds what is written beside a lane; what an arrow says is at the arrow.
 fn put_note(to: &mut String, drawing: &Drawing, note: &Note) -> Result<(), AllocError> {
     if note.kind == NoteKind::Label {
         return Ok(());
@@ -60,7 +60,7 @@ fn put_note(to: &mut String, drawing: &Drawing, note: &Note) -> Result<(), Alloc
     put_plain(to, note.text.as_str())
 }
 
-/// Adds a step that did nothing, at its thread: it was turned away, or refused.
+/// Adds a step that did nothing, at its thread: it was skipped, or refused.
 fn put_idle_step(to: &mut String, row: &Row) -> Result<(), AllocError> {
     let (Some(thread), RowKind::Away | RowKind::Refused) = (row.thread, row.kind) else {
         return Ok(());

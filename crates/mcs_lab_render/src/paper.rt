@@ -12,7 +12,7 @@ pub struct Area {
     pub height: u64,
 }
 
-/// Adds a text whose baseline begins, stands in the middle or ends at a place, as its class says.
+/// Adds a text whose baseline begins, is in the middle or ends at a place, as its class says.
 pub fn put_text(
     to: &mut String,
     class: &str,

@@ -1,7 +1,7 @@
-//! Where everything stands on the page. Each row has as many slots as its texts need: arrows have
-//! one each, with its label above it, and below them what is written beside a lane stands in the
-//! gap to its right. An arrow that waited runs down beside its lane, nearer than any text stands,
-//! and crosses over within its slot. So no text stands on another, on a lane, or on an arrow.
+//! Where everything is on the page. Each row has as many slots as its texts need: arrows have one
+//! each, with its label above it, and below them what is written beside a lane is in the gap to its
+//! right. An arrow that waited runs down beside its lane, nearer than any text is, and crosses over
+//! within its slot. So no text is on another, on a lane, or on an arrow.
 use crate::naming::{Names, put_name};
 use crate::notes::{has_note, marked, put_label, put_look, put_mark};
 use crate::texts::{columns, cut};
@@ -46,13 +46,13 @@ pub const TEXT_AT: u64 = 11;
 /// What a row shows.
 #[derive(Clone, Copy, PartialEq, Eq, Debug)]
 pub enum RowKind {
-    /// What stands before the first line that is shown.
+    /// What is before the first line that is shown.
     Start,
     /// A line of the book.
     Line,
     /// A line of the book whose answer is a refusal.
     Refused,
-    /// A step that was turned away.
+    /// A step that was skipped.
     Away,
 }
 
@@ -60,7 +60,7 @@ pub enum RowKind {
 #[derive(Drop)]
 pub struct Row {
     pub kind: RowKind,
-    /// The line of the book, behind which a step was turned away.
+    /// The line of the book, after which a step was skipped.
     pub number: usize,
     pub thread: Option<ObjId>,
     pub step: String,
@@ -107,7 +107,7 @@ pub struct Plan {
     pub rows: Vec<Row>,
     pub notes: Vec<Note>,
     pub strokes: Vec<Stroke>,
-    /// The places of the lanes, and what stands in their heads.
+    /// The places of the lanes, and what is in their heads.
     pub lanes: Vec<u64>,
     pub heads: Vec<String>,
     /// The priorities of the threads before the first line that is shown.
@@ -152,7 +152,7 @@ fn spelled(line: &Line) -> &str {
     }
 }
 
-/// What stands behind the core and the thread of a step.
+/// What follows the core and the thread of a step.
 fn entry_part(step: &str) -> &str {
     match step.splitn(3, ' ').nth(2) {
         Some(rest) => rest,
@@ -208,7 +208,7 @@ impl<'a, N: Names> Planner<'a, N> {
         Ok(())
     }
 
-    /// Adds what the threads do behind the line before the first.
+    /// Adds what the threads do after the line before the first.
     fn add_start(&mut self) -> Result<(), AllocError> {
         let at = self.first.saturating_sub(1);
         let mut row = self.new_row(RowKind::Start, at, None);
@@ -287,7 +287,7 @@ impl<'a, N: Names> Planner<'a, N> {
         Ok(())
     }
 
-    /// Adds the labels of the arrows of a row that do not stand above them, at the lanes where they
+    /// Adds the labels of the arrows of a row that are not above them, at the lanes where they
     /// end.
     fn add_labels(
         &mut self,
@@ -406,7 +406,7 @@ impl<'a, N: Names> Planner<'a, N> {
         Ok(())
     }
 
-    /// Adds the row of a step that was turned away.
+    /// Adds the row of a step that was skipped.
     fn add_away(&mut self, away: &Away) -> Result<(), AllocError> {
         let mut row = self.new_row(RowKind::Away, away.behind, Some(away.thread));
         row.step = self.step_text(away.core, away.thread, entry_part(away.text.as_str()))?;
@@ -420,8 +420,8 @@ impl<'a, N: Names> Planner<'a, N> {
         Ok(())
     }
 
-    /// Adds the rows of the steps that were turned away behind a line; those behind lines before it
-    /// are passed.
+    /// Adds the rows of the steps that were skipped after a line; those after lines before it are
+    /// passed.
     fn add_turned_away(&mut self, number: usize) -> Result<(), AllocError> {
         let drawing = self.drawing;
         for at in self.next_away..drawing.away.len() {
@@ -471,7 +471,7 @@ impl<'a, N: Names> Planner<'a, N> {
         self.plan.end = top.saturating_add(8);
     }
 
-    /// Writes what stands in the heads of the lanes.
+    /// Writes what is in the heads of the lanes.
     fn add_heads(&mut self) -> Result<(), AllocError> {
         for lane in 0..self.drawing.threads() {
             let mut head = String::new(self.alloc);
@@ -574,7 +574,7 @@ pub const NUMBERS_AT: u64 = 56;
 
 pub const STEPS_AT: u64 = 66;
 
-/// The gap in which the label of a straight arrow stands: beside the lane where it ends.
+/// The gap in which the label of a straight arrow is: beside the lane where it ends.
 pub fn gap_of(arrow: &Arrow) -> usize {
     let to = lane_of(arrow.to.thread);
     if lane_of(arrow.from.thread) < to {

@@ -12,8 +12,8 @@ use mcs_lab_diagram::{Drawing, Shown, Window};
 use std::alloc::{AllocError, Global};
 use std::fmt::Write;
 
-/// How far from a lane an arrow begins, how far from it its tip stands, and where one to its own
-/// lane turns back.
+/// How far from a lane an arrow begins, how far from it its tip is, and where one to its own lane
+/// turns back.
 const EDGE: u64 = 6;
 
 const TIP: u64 = 7;

@@ -1,4 +1,4 @@
-//! Texts as they stand on a page: how wide they are, cut where they are too wide, and with what a
+//! Texts as they are on a page: how wide they are, cut where they are too wide, and with what a
 //! page's marks would hide.
 use std::alloc::{AllocError, Global};
 use unicode_width::{UnicodeWidthChar, UnicodeWidthStr};

@@ -30,7 +30,7 @@ pub struct Notifications {
 }
 
 // By hand, so that it is a function of its own: a derived drop would be proved anew wherever it is
-// let go.
+// dropped.
 impl Drop for Notifications {
     fn drop(self) {
         let Notifications { rows: _ } = self;
@@ -118,7 +118,7 @@ impl Notifications {
     }
 
     /// Forgets a notification that is bound to no thread, and its word, if one is pending: its
-    /// serial is never given again (manual: Kernel Services and Objects).
+    /// serial is never reused (manual: Kernel Services and Objects).
     pub fn close(&mut self, notification: ObjId)
         requires there { is_there self.old notification ≡ true }
         requires unbound { thread_in self.old notification ≡ None }

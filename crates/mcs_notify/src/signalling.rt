@@ -18,14 +18,15 @@ use mcs_object_queues::Waiting;
 use mcs_state::{State, give_back, of_kind, wake, with_write};
 use mcs_types::{Badge, Cap, CoreId, Kind, Mode, ObjId, Queue, Refusal};
 
-/// A thread that a word reaches, and the queue in which it stands.
+/// A thread that a word reaches, and the queue in which it is.
 #[derive(Clone, Copy)]
 pub struct Hearer {
     pub thread: ObjId,
     pub queue: Queue,
 }
 
-/// The thread to which a notification is bound, where it stands among the receivers of an endpoint.
+/// The thread to which a notification is bound, where it is queued among the receivers of an
+/// endpoint.
 fn bound_receiver<W: Waiting>(state: &State<W>, notification: ObjId) -> Option<Hearer>
     ensures { result ≡ bound_receiver (so_far state.now) notification }
 {

@@ -52,13 +52,13 @@ impl<T> Model for Store<T> {
     ghost invariant = { λ s. IsSound s.room s.given s.rows.items (vec_capacity s.rows) s.values };
 }
 
-/// Where the row of a serial stands, among rows whose serials rise; their number where none has it.
+/// Where the row of a serial is, among rows whose serials rise; their number where none has it.
 #[inline(always)]
 fn position_of(rows: &[Row], serial: u32) -> usize
     requires { Rises 0 rows.now }
     ensures { result ≡ position_or_len (is_of serial) rows.now }
 {
-    // it stands where its serial says, until an object that was made before it ends
+    // it is where its serial says, until an object that was made before it ends
     let first = serial.wrapping_sub(1) as usize;
     if first < rows.len() && rows[first].serial == serial {
         return first;

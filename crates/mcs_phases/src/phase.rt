@@ -1,4 +1,4 @@
-//! How far a replay of a script has come: the boot so far, or the run of the steps behind it.
+//! How far a replay of a script has come: the boot so far, or the run of the steps after it.
 ghost use Rattle.std.specs.Prelude.{ℕ, ◌≡◌, ◌≤◌, ◌∷◌, IfOk, OnOk, OnErr, IsSome, [], Err, None, option_copied, option_to_list};
 ghost use Rattle.mcs_text.specs.Reading.{Gives};
 ghost use Rattle.mcs_phases.specs.Script.{threads_of, read_line, of_steps};
@@ -14,7 +14,7 @@ use mcs_types::{Kind, OutOfMemory, Room, SCRIPT_LINES, Step};
 use std::alloc::Global;
 use std::marker::Model;
 
-/// The run of the steps behind a boot, which has so many cores and threads, room for the words of
+/// The run of the steps after a boot, which has so many cores and threads, room for the words of
 /// the next step where it was made and not used yet, and a step, into which the next is read.
 pub struct StepRun {
     cores: u8,
@@ -25,7 +25,7 @@ pub struct StepRun {
 }
 
 // By hand, so that it is a function of its own: a derived drop would be proved anew wherever a run
-// is let go.
+// is dropped.
 impl Drop for StepRun {
     fn drop(self) {
         let StepRun {
@@ -157,8 +157,8 @@ impl StepRun {
     }
 }
 
-/// Reads the step that a line of this number says behind a boot with so many cores and threads, if
-/// it is not skipped. Answers whether it says one. The room is used up by a message of more than
+/// Reads the step that a line of this number says after a boot with so many cores and threads, if
+/// it is not skipped. Returns whether it says one. The room is used up by a message of more than
 /// four words.
 #[tactic(auto, unfolding(crate::specs::Going::step_line))]
 fn read_step_line(
@@ -185,7 +185,7 @@ fn read_step_line(
     Ok(true)
 }
 
-/// Reads a line of this number while the boot goes on, and answers the step that it says, with
+/// Reads a line of this number while the boot goes on, and returns the step that it says, with
 /// which the boot ends.
 fn read_opening(
     opening: &mut Script<Step>,
@@ -207,7 +207,7 @@ fn read_opening(
     }
 }
 
-/// Ends the boot with a step, and answers the run behind it, where there is a boot.
+/// Ends the boot with a step, and returns the run after it, where there is a boot.
 fn end_opening(
     opening: &mut Script<Step>,
     alloc: Global,
@@ -224,7 +224,7 @@ fn end_opening(
     Ok(Some(run))
 }
 
-/// Reads a line of this number while the boot goes on, and answers the run of the step that it
+/// Reads a line of this number while the boot goes on, and returns the run of the step that it
 /// says, if it says one.
 fn open(
     opening: &mut Script<Step>,

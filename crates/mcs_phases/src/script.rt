@@ -18,7 +18,7 @@ use mcs_types::{
 use std::alloc::Global;
 use std::marker::Model;
 
-/// What a line behind the boot of a script says.
+/// What a line after the boot of a script says.
 pub trait Item: Sized + Drop {
     ghost use Rattle.std.specs.Prelude.{IsSome};
     ghost use Rattle.mcs_text.specs.declared.fault.LineFault.{LineFault};
@@ -297,7 +297,7 @@ fn add_line(boot: &mut Boot, line: BootLine) -> Result<(), ScriptFault>
     Ok(())
 }
 
-/// Adds the line that the words behind a key spell to the boot.
+/// Adds the line that the words after a key spell to the boot.
 #[tactic(auto, unfolding(crate::specs::Script::next_boot))]
 fn read_next_boot(boot: &mut Boot, key: Key, words: &mut Words<'_>) -> Result<(), ScriptFault>
     ensures reads { Reads (λ u. boot.new) result (next_boot boot.old key words.old) }

@@ -29,7 +29,7 @@ use std::alloc::{AllocError, Global};
 /// How many lines a plan may have (own): a script's may have 2,000,000.
 const LINES: usize = 900_000;
 
-/// Whether steps or lines of users stood so far.
+/// Whether steps or lines of users came so far.
 #[derive(Clone, Copy)]
 enum Entries {
     Nothing,
@@ -37,7 +37,7 @@ enum Entries {
     Users,
 }
 
-/// A plan whose boot is read, and the lines behind it so far.
+/// A plan whose boot is read, and the lines after it so far.
 #[derive(Drop)]
 struct Compiler {
     laid: Laid,
@@ -215,8 +215,8 @@ impl Compiler {
         at(opening.line, self.add_opening(alloc, opening))
     }
 
-    /// Does what makes the thread passive that is at this place. A fault is told at the line that
-    /// makes it so.
+    /// Does what makes the thread passive that is at this place. A fault is reported at the line
+    /// that makes it so.
     fn open(&mut self, alloc: Global, place: usize) -> Result<(), PlanFault>
         requires { place < length self.old.laid.plan.passives.items }
         ensures added { OnOk result (opened_at (laid_said self.old.laid) place ≡ Ok tt) }
@@ -384,7 +384,7 @@ impl Compiler {
     }
 }
 
-/// Takes the line behind so many, before the first step.
+/// Takes the line after so many, before the first step.
 fn read_next(
     alloc: Global,
     plan: &mut Plan,
@@ -430,7 +430,7 @@ fn read_front(alloc: Global, lines: &[&str]) -> Result<(Plan, Vec<String>, usize
     Ok((plan, front, before))
 }
 
-/// Takes the line behind so many, from the first step on.
+/// Takes the line after so many, from the first step on.
 fn take_next(
     alloc: Global,
     compiler: &mut Compiler,
@@ -592,8 +592,8 @@ fn lines_in(alloc: Global, bytes: &[u8]) -> Result<Vec<&str>, PlanFault>
     few_lines(alloc, text)
 }
 
-/// The script of a plan (own), whose boot is that of the plan. A fault tells the first line that is
-/// refused, and why.
+/// The script of a plan (own), whose boot is that of the plan. A fault reports the first line that
+/// is refused, and why.
 #[tactic(auto, using(crate::proofs::Said::has_plan_of, crate::proofs::Said::refused_lines))]
 pub fn compile(alloc: Global, bytes: &[u8]) -> Result<Script, PlanFault>
     ensures boot { IfOk result HasBootOfPlan }

@@ -269,7 +269,7 @@ impl<'a> Speaker<'a> {
         Ok(())
     }
 
-    /// Writes the entry that words spell, behind which no word may be left.
+    /// Writes the entry that words spell, after which no word may be left.
     pub fn read(&self, alloc: Global, to: &mut String, words: &mut Words<'_>) -> Result<(), Why>
         ensures put { OnOk result (entry_more (laid_said self.now.laid.now) self.now.thread
             words.old (string_bytes to.old) ≡ Ok (string_bytes to.new)) }

@@ -1,4 +1,4 @@
-//! What stands behind the word of an entry.
+//! What follows the word of an entry.
 ghost use Rattle.std.specs.Prelude.{◌≡◌};
 ghost use Rattle.mcs_plan_compile.specs.Fields.{address_if, addresses, sends, address_count, send_count, placing, fields_of};
 
@@ -58,8 +58,8 @@ fn sends(count: u8) -> Fields
     ]
 }
 
-/// How many addresses stand behind the word of an entry that has nothing else; None where it is
-/// none of these.
+/// How many addresses follow the word of an entry that has nothing else; None where it is none of
+/// these.
 fn address_count(key: &str) -> Option<u8>
     ensures { result ≡ address_count key.now }
 {
@@ -71,7 +71,7 @@ fn address_count(key: &str) -> Option<u8>
     }
 }
 
-/// How many stand behind the word of one that sends a message; None where it is none of these.
+/// How many follow the word of one that sends a message; None where it is none of these.
 fn send_count(key: &str) -> Option<u8>
     ensures { result ≡ send_count key.now }
 {
@@ -83,8 +83,8 @@ fn send_count(key: &str) -> Option<u8>
     }
 }
 
-/// What stands behind the word of one that names places, or sets a priority; None where it is none
-/// of these.
+/// What follows the word of one that names places, or sets a priority; None where it is none of
+/// these.
 fn placing(key: &str) -> Option<Fields>
     ensures { result ≡ placing key.now }
 {
@@ -99,7 +99,7 @@ fn placing(key: &str) -> Option<Fields>
     }
 }
 
-/// What stands behind the word of an entry; None where the word is none.
+/// What follows the word of an entry; None where the word is none.
 pub fn fields_of(key: &str) -> Option<Fields>
     ensures { result ≡ fields_of key.now }
 {

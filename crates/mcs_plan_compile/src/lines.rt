@@ -35,7 +35,7 @@ fn count_newlines(bytes: &[u8]) -> usize
     count
 }
 
-/// The number of the line in which a byte stands.
+/// The number of the line in which a byte is.
 pub fn line_of(bytes: &[u8], place: usize) -> u64
     requires { place < length bytes.now }
     ensures { result ≡ line_of bytes.now place }
@@ -57,8 +57,8 @@ pub fn is_short(line: &str) -> Result<(), Why>
     })
 }
 
-/// A comment of a script; one that begins with `!` is a question to all orders, which stands there
-/// as it is.
+/// A comment of a script; one that begins with `!` is a question to all orders, which is there as
+/// it is.
 fn comment_of(alloc: Global, comment: &str) -> Result<String, AllocError> {
     let comment = comment.trim();
     if comment.is_empty() {
@@ -82,14 +82,14 @@ pub fn add_comment(
     Ok(())
 }
 
-/// What stands before the first colon that a space follows, and what behind the two.
+/// What is before the first colon that a space follows, and what after the two.
 pub fn split_colon(text: &str) -> Option<(&str, &str)>
     ensures { option_map (λ p. (p.0.now, p.1.now)) result ≡ cut_at_colon text.now }
 {
     text.split_once(": ")
 }
 
-/// Whether the first byte behind white space is `?`.
+/// Whether the first byte after white space is `?`.
 fn asks(text: &[u8]) -> bool
     ensures { result ≡ asks text.now }
 {
@@ -109,7 +109,7 @@ fn begins_steps(line: &str) -> bool
     split_colon(code).is_some() || asks(code.as_bytes())
 }
 
-/// How many lines stand before the first step.
+/// How many lines are before the first step.
 pub fn count_before(lines: &[&str]) -> usize
     ensures value { result ≡ count_before (texts lines.now) }
     ensures bound { result ≤ length lines.now }

@@ -8,11 +8,11 @@ pub struct Script {
     /// The lines in front: comments and names.
     pub front: Vec<String>,
     pub cores: u8,
-    /// The lines of the boot, behind that of its cores.
+    /// The lines of the boot, after that of its cores.
     pub boot: Vec<BootLine>,
-    /// The lines behind the boot: steps or entries of users, comments, and what is wanted.
+    /// The lines after the boot: steps or entries of users, comments, and what is wanted.
     pub lines: Vec<String>,
-    /// Whether the lines behind the boot are those of users.
+    /// Whether the lines after the boot are those of users.
     pub is_users: bool,
     /// What each thread names.
     pub laid: Laid,

@@ -114,14 +114,14 @@ fn user_head(alloc: Global, laid: &Laid, words: &mut Words<'_>) -> Result<Head, 
     Ok(Head { thread, core: None })
 }
 
-/// Whether a line is that of a user: a name stands behind `user`.
+/// Whether a line is that of a user: a name follows `user`.
 fn is_user(first: &str, words: &Words<'_>) -> bool
     ensures { result ≡ is_user first.now words.now }
 {
     first == "user" && words.peek().is_some()
 }
 
-/// What stands before the colon: `NAME`, `NAME on core N`, or `user NAME`.
+/// What is before the colon: `NAME`, `NAME on core N`, or `user NAME`.
 pub fn read_head(alloc: Global, laid: &Laid, text: &str) -> Result<Head, Why>
     ensures head { IfOk result (λ h. head_read (laid_said laid.now) (words_of text.now) ≡ Ok h) }
     ensures told { IfErr result (Refuses (head_read (laid_said laid.now) (words_of text.now))) }

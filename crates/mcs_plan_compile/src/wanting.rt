@@ -22,7 +22,7 @@ fn begins_answer(word: &str) -> bool
     )
 }
 
-/// Whether a word asks where a thread stands, or what it has.
+/// Whether a word asks where a thread is, or what it has.
 fn asks_state(word: &str) -> bool
     ensures { result ≡ asks_state word.now }
 {
@@ -49,7 +49,7 @@ fn asks_debt(word: &str) -> bool
     matches!(word, "owes" | "with" | "pending")
 }
 
-/// Whether a word of a question stands behind what that asks of.
+/// Whether a word of a question follows what that asks of.
 fn is_asked(word: &str) -> bool
     ensures { result ≡ is_asked word.now }
 {
@@ -67,7 +67,7 @@ fn has_queue(object: ObjId, end: &str) -> bool
     }
 }
 
-/// What stands in front of the last dot of a word, and behind it.
+/// What is in front of the last dot of a word, and after it.
 fn cut_at_dot(word: &str) -> Option<(&str, &str)>
     ensures { option_map (λ p. (p.0.now, p.1.now)) result ≡ cut_at_dot word.now }
 {
@@ -214,14 +214,14 @@ fn read_question(
     Ok(text)
 }
 
-/// Whether a word is why a step is turned away.
+/// Whether a word is why a step is skipped.
 fn is_reason(word: &str) -> bool
     ensures { result ≡ is_reason word.now }
 {
     matches!(word, "NotRunning" | "NoContext" | "WrongCore")
 }
 
-/// Reads that the step is turned away, and why.
+/// Reads that the step is skipped, and why.
 fn read_away(alloc: Global, words: &mut Words<'_>) -> Result<String, Why>
     ensures text { IfOk result (λ t. away_read words.old ≡ Ok (string_bytes t)) }
     ensures told { IfErr result (Refuses (away_read words.old)) }
@@ -238,7 +238,7 @@ fn read_away(alloc: Global, words: &mut Words<'_>) -> Result<String, Why>
     Ok(text)
 }
 
-/// What stands behind `?`: an answer, as `got 1 2 17`, or a question, as `fs waits fs.ep.recv`, or
+/// What follows `?`: an answer, as `got 1 2 17`, or a question, as `fs waits fs.ep.recv`, or
 /// `away`, with its reason.
 pub fn read_wanted(alloc: Global, names: &Names, words: &[&str]) -> Result<String, Why>
     ensures text { IfOk result

@@ -35,7 +35,7 @@ pub fn write_boot(alloc: Global, script: &Script) -> Result<Vec<u8>, AllocError>
     Ok(to)
 }
 
-/// The text of the lines behind a script's boot.
+/// The text of the lines after a script's boot.
 pub fn write_lines(alloc: Global, script: &Script) -> Result<Vec<u8>, AllocError> {
     let mut to = Vec::new(alloc);
     add_lines(&mut to, &script.lines)?;

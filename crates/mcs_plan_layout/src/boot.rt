@@ -21,7 +21,7 @@ use mcs_plan_source::{Space, Thread, Why};
 use mcs_types::{BootLine, Cap, Guard, Kind, ObjId};
 use std::alloc::{AllocError, Global};
 
-/// Where the slots of a space stand: in its root, the CNode at a place, or in so many others, the
+/// Where the slots of a space are: in its root, the CNode at a place, or in so many others, the
 /// first of them at another place.
 #[derive(Clone, Copy)]
 pub struct Site {
@@ -42,7 +42,7 @@ fn cnode(place: usize) -> ObjId
 }
 
 impl Site {
-    /// The CNode that a slot stands in.
+    /// The CNode that a slot is in.
     fn cnode(self, index: u32) -> ObjId
         requires within { IsWithin self }
         requires index { 0 < self.leaves → index / 256 < self.leaves }
@@ -271,7 +271,7 @@ impl Laid {
         Ok(())
     }
 
-    /// The lines of a boot that a machine may have, behind that of its cores.
+    /// The lines of a boot that a machine may have, after that of its cores.
     fn lines(&self, alloc: Global) -> Result<Vec<BootLine>, AllocError>
         requires { Fits self.now.plan }
         ensures { IfOk result (λ ls. ls.items ≡ boot_of self.now.plan self.now.layouts.items) }
@@ -290,7 +290,7 @@ impl Laid {
         Ok(lines)
     }
 
-    /// The lines of the boot, behind that of its cores. Limit where it makes more of a kind than a
+    /// The lines of the boot, after that of its cores. Limit where it makes more of a kind than a
     /// machine may have.
     pub fn boot_lines(&self, alloc: Global) -> Result<Vec<BootLine>, Why>
         ensures made { IfOk result (λ ls. ls.items ≡ boot_of self.now.plan self.now.layouts.items) }

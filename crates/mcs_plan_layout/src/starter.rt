@@ -98,7 +98,7 @@ fn add_names(alloc: Global, names: &mut Names) -> Result<(ObjId, ObjId), Why>
     Ok((thread, context))
 }
 
-/// Puts it behind the other threads, with its context and its space.
+/// Puts it after the other threads, with its context and its space.
 fn put(plan: &mut Plan, space: Space, context: ObjId) -> Result<(), AllocError>
     ensures { OnOk result (said plan.new ≡ with_thread (starter_with context (said plan.old))
         (with_parts (said_space space) (said plan.old))) }

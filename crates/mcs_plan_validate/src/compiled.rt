@@ -42,7 +42,7 @@ fn keeps_boot(book: &Book, script: &Script) -> Result<(), CompileFault>
     Err(CompileFault::OtherBoot)
 }
 
-/// Reads a text as a script, compares its boot with the plan's, and tries each name behind it.
+/// Reads a text as a script, compares its boot with the plan's, and tries each name after it.
 fn vouch(alloc: Global, text: &[u8], script: &Script) -> Result<(), CompileFault>
     requires { HasBootOfPlan script.now }
     ensures { OnOk result (IsVouched text.now script.now.laid) }
@@ -63,7 +63,7 @@ fn vouch(alloc: Global, text: &[u8], script: &Script) -> Result<(), CompileFault
     }
 }
 
-/// Whether a line behind the boot is skipped, or one of a user.
+/// Whether a line after the boot is skipped, or one of a user.
 fn is_user(alloc: Global, threads: u32, line: &[u8]) -> Result<bool, OutOfMemory> {
     if matches!(line, [] | [b'#', ..]) {
         return Ok(true);
@@ -72,7 +72,7 @@ fn is_user(alloc: Global, threads: u32, line: &[u8]) -> Result<bool, OutOfMemory
     Ok(read_user(alloc, threads, line, &mut room).is_ok())
 }
 
-/// Reads the lines behind a boot as those of users.
+/// Reads the lines after a boot as those of users.
 fn vouch_users(alloc: Global, threads: u32, lines: &[String]) -> Result<(), CompileFault> {
     for line in lines {
         if !is_user(alloc, threads, line.as_bytes())? {
@@ -101,8 +101,8 @@ fn read_back(alloc: Global, script: Script) -> Result<Compiled, CompileFault>
 }
 
 /// The script of a plan (own), which was read back: what was read of its text is a script of steps
-/// without a fault, whose boot is that of the plan, and behind this each name of each thread leads
-/// to what its slot holds. Of a plan of users that is the boot, and each line behind it was read as
+/// without a fault, whose boot is that of the plan, and after this each name of each thread leads
+/// to what its slot holds. Of a plan of users that is the boot, and each line after it was read as
 /// that of a user. Fault Plan tells the first line of the plan that is refused; Script, Boot,
 /// OtherBoot, Astray and User come only where this program is wrong.
 pub fn compile_text(alloc: Global, plan: &[u8]) -> Result<Compiled, CompileFault>

@@ -33,7 +33,7 @@ fn boot_again(alloc: Global, book: &Book) -> Result<Boot, BootFault>
     Ok(boot)
 }
 
-/// A kernel with the boot of a book, and no line behind it.
+/// A kernel with the boot of a book, and no line after it.
 pub fn booted(alloc: Global, book: &Book) -> Result<Kernel<LinkedLines>, BootFault>
     ensures { IfOk result (λ k. k ≡ record { boot = book.now.book.boot; lines = [] }) }
 {

@@ -15,7 +15,7 @@ use std::alloc::Global;
 use std::marker::{Brand, Model};
 use std::sync::ledger::{Blank, Ledger};
 
-/// Lines as links: each thread's slot names the threads before and behind it, and each line's slot
+/// Lines as links: each thread's slot names the threads before and after it, and each line's slot
 /// its first and its last. To leave a line or to ask for a neighbour reads no other thread's slot;
 /// to join one walks past threads of a lower priority, from the finger of the nearest lower one
 /// that has a finger, or from the line's end (own). `new` takes all memory.
@@ -25,7 +25,7 @@ pub struct LinkedLines {
 }
 
 // By hand, so that it is a function of its own: a derived drop would be proved anew wherever it is
-// let go.
+// dropped.
 impl Drop for LinkedLines {
     fn drop(self) {
         let LinkedLines {
@@ -157,8 +157,8 @@ fn leave(slots: &mut LinkSlots, fingers: &mut Fingers, t: ThreadNo) -> Option<Li
     Some(q)
 }
 
-/// Makes a thread the finger of its priority, if that has none. Answers whether. A thread that
-/// stands alone needs none, so a line that never has two takes no memory for fingers.
+/// Makes a thread the finger of its priority, if that has none. Returns whether. A thread that is
+/// alone needs none, so a line that never has two takes no memory for fingers.
 fn offer(
     fingers: &mut Fingers,
     q: LineNo,
@@ -177,7 +177,7 @@ fn offer(
     fingers.claim(q, p, t)
 }
 
-/// Puts a thread that stands in no line behind all of its priority.
+/// Puts a thread that is in no line after all of its priority.
 fn enter<G: Ledger>(
     slots: &mut LinkSlots,
     fingers: &mut Fingers,
@@ -223,7 +223,7 @@ fn first_in(slots: &LinkSlots, q: LineNo) -> Option<ThreadNo>
     slots.ends(q).first
 }
 
-/// The thread behind another in its line.
+/// The thread after another in its line.
 fn next_in(slots: &LinkSlots, t: ThreadNo) -> Option<ThreadNo>
     requires { Linked slots.now (spelled slots.now) }
     ensures { thread_number result ≡ behind_in (stands_at slots.now t.0) (spelled slots.now) t.0 }

@@ -8,7 +8,7 @@ use std::alloc::Global;
 use std::marker::Model;
 use std::sync::ledger::{Blank, Book, Ledger, Share};
 
-/// Where a thread stands, and its neighbours there.
+/// Where a thread is, and its neighbours there.
 #[derive(Clone, Copy)]
 pub struct ThreadSlot {
     pub line: Option<LineNo>,

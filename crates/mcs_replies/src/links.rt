@@ -10,8 +10,8 @@ use crate::places::PlaceNo;
 use crate::tops::Tops;
 use mcs_types::{Ending, OBJECTS, ObjId};
 
-/// Where a reply object stands in a chain: its context, and the places of the reply objects above
-/// and below it (own).
+/// Where a reply object is in a chain: its context, and the places of the reply objects above and
+/// below it (own).
 #[derive(Clone, Copy)]
 pub struct Link {
     context: ObjId,
@@ -180,7 +180,7 @@ fn cut_top(tops: &mut Tops, link: Link)
     }
 }
 
-/// Takes a reply object and all below it from their chain: what stands above stays.
+/// Takes a reply object and all below it from their chain: what is above stays.
 fn cut(links: &mut Vec<Option<Link>>, tops: &mut Tops, place: PlaceNo, link: Link)
     requires sound { Sound links.old.items tops.old }
     requires at { link_at links.old.items place.0 ≡ Some link }

@@ -21,8 +21,8 @@ use mcs_types::{Ending, Kind, OBJECTS, ObjId, OutOfMemory, copy_rows};
 use std::alloc::Global;
 use std::marker::Model;
 
-/// A reply object: the receiver that stands with it, and the caller that it owes an answer (manual:
-/// Message Passing).
+/// A reply object: the receiver that is queued with it, and the caller that it owes an answer
+/// (manual: Message Passing).
 #[derive(Clone, Copy)]
 pub struct ReplyRow {
     receiver: Option<ObjId>,
@@ -37,10 +37,10 @@ pub struct Ended {
     pub topped: Option<ObjId>,
 }
 
-/// Up to 256 reply objects, which come and go under serials that count from 1: the receiver that
-/// stands with each, the caller that it owes, and the chain of each context (manual: Message
-/// Passing; chains are own). What stands in a chain owes, and stands in no other. All memory is
-/// taken when they are made (own).
+/// Up to 256 reply objects, which come and go under serials that count from 1: the receiver that is
+/// queued with each, the caller that it owes, and the chain of each context (manual: Message
+/// Passing; chains are own). What is in a chain owes, and is in no other. All memory is taken when
+/// they are made (own).
 pub struct Replies {
     rows: Store<ReplyRow>,
     links: Vec<Option<Link>>,
@@ -48,7 +48,7 @@ pub struct Replies {
 }
 
 // By hand, so that it is a function of its own: a derived drop would be proved anew wherever it is
-// let go.
+// dropped.
 impl Drop for Replies {
     fn drop(self) {
         let Replies {
@@ -171,7 +171,7 @@ impl Replies {
     }
 
     /// Adds a reply object where there is room: its serial is the next, it owes nobody, and no
-    /// receiver stands with it (own).
+    /// receiver is queued with it (own).
     pub fn add(&mut self) -> ObjId
         requires { no_room self.old ≡ false }
         ensures id { result ≡ next_reply self.old }
@@ -198,7 +198,7 @@ impl Replies {
         self.rows.get(reply).is_some()
     }
 
-    /// The receiver that stands with a reply object, or None where none does (manual: Message
+    /// The receiver that is queued with a reply object, or None where none is (manual: Message
     /// Passing).
     pub fn receiver(&self, reply: ObjId) -> Option<ObjId>
         ensures { result ≡ receiver_in self.now reply }
@@ -206,8 +206,7 @@ impl Replies {
         self.rows.get(reply)?.receiver
     }
 
-    /// Has this receiver stand with a reply object that is there, or none (manual: Message
-    /// Passing).
+    /// Sets the receiver that is queued with a reply object that is there, or none (manual: Message Passing).
     pub fn set_receiver(&mut self, reply: ObjId, receiver: Option<ObjId>)
         requires { is_there self.old reply ≡ true }
         ensures counts { counts self.new ≡ counts self.old }
@@ -226,8 +225,8 @@ impl Replies {
         self.rows.get(reply)?.caller
     }
 
-    /// Who uses a reply object: the caller that it owes, or else the receiver that stands with it;
-    /// None where nobody does (manual: Message Passing).
+    /// Who uses a reply object: the caller that it owes, or else the receiver that is queued with
+    /// it; None where nobody does (manual: Message Passing).
     pub fn user(&self, reply: ObjId) -> Option<ObjId>
         ensures { result ≡ option_or (owed_in self.now reply) (receiver_in self.now reply) }
     {
@@ -350,7 +349,7 @@ impl Replies {
         self.chain_of(context).next()
     }
 
-    /// Empties the chain of a context: what stood in it owes still (own).
+    /// Empties the chain of a context: what was in it owes still (own).
     pub fn drop_chain(&mut self, context: ObjId)
         ensures chains { ChangesAt (chain_in self.old) (chain_in self.new) context [] }
         ensures owed { (r : ObjId) → owed_in self.new r ≡ owed_in self.old r }
@@ -361,8 +360,8 @@ impl Replies {
         links::drop_links(&mut self.links, &mut self.tops, context);
     }
 
-    /// Forgets a reply object that owes nobody and with which no receiver stands: its serial is
-    /// never given again (manual: Kernel Services and Objects).
+    /// Forgets a reply object that owes nobody and with which no receiver is: its serial is never
+    /// reused (manual: Kernel Services and Objects).
     pub fn close(&mut self, reply: ObjId)
         requires there { is_there self.old reply ≡ true }
         requires alone { receiver_in self.old reply ≡ None }

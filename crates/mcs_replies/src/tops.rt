@@ -1,4 +1,4 @@
-//! The top of each context's chain, which stands where the serial of the context says.
+//! The top of each context's chain, which is where the serial of the context says.
 ghost use Rattle.std.specs.Prelude.{◌≡◌, ◌≤◌, ◌<◌, ◌++◌, ◌%◌, position, length, replicate, vec_len, vec_capacity, [], Some, None, IsSome, IfOk};
 ghost use Rattle.mcs_types.specs.Limits.{object_limit};
 ghost use Rattle.mcs_replies.specs.Places.{place_number};
@@ -16,8 +16,8 @@ pub struct Top {
     top: PlaceNo,
 }
 
-/// The top of each chain that is not empty (own). The row of a context stands at its home, which
-/// its serial tells, or among the others, where the row of another context was at home as it came:
+/// The top of each chain that is not empty (own). The row of a context is at its home, which its
+/// serial tells, or among the others, where the row of another context was at home as it came:
 /// their serials then differ by a multiple of 256, which is rare.
 #[derive(Drop)]
 pub struct Tops {
@@ -38,7 +38,7 @@ impl Model for Tops {
         × (object_limit ≤ vec_capacity t.others) };
 }
 
-/// Where the row of a context stands among those that are not at home.
+/// Where the row of a context is among those that are not at home.
 fn place_among(others: &[Top], context: ObjId) -> Option<usize>
     ensures { result ≡ position (is_for context) others.now }
 {
@@ -134,7 +134,7 @@ impl Tops {
         }
     }
 
-    /// Whether the row of a context is to stand at home.
+    /// Whether the row of a context is to be at home.
     fn takes_home(&self, context: ObjId) -> bool
         ensures { result ≡ takes_home self.now context }
     {

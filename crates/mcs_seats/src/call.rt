@@ -15,7 +15,7 @@ pub struct Answered {
 pub enum Outcome {
     /// It was let in.
     Told(Answered),
-    /// It was turned away when the book had so many lines, the boot's among them.
+    /// It was skipped when the book had so many lines, the boot's among them.
     Away { lines: usize, fault: EnterFault },
 }
 
@@ -30,7 +30,7 @@ pub struct Call {
 /// Why an entry has no line.
 #[derive(Clone, Copy, PartialEq, Eq, Debug)]
 pub enum Turned {
-    /// It was turned away (1 to 4 of EnterFault) when the book had so many lines, the boot's among
+    /// It was skipped (1 to 4 of EnterFault) when the book had so many lines, the boot's among
     /// them.
     Away { lines: usize, fault: EnterFault },
     /// A growth was refused: that of the seat, which comes first, or that of the kernel.

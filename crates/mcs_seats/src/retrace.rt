@@ -70,7 +70,7 @@ impl<'a, L: Lines> Retrace<'a, L> {
         })
     }
 
-    /// Why an entry would be turned away before the next line.
+    /// Why an entry would be skipped before the next line.
     fn fault(&self, core: CoreId, thread: ObjId) -> Option<EnterFault>
         ensures found { result ≡ fault_of (cut self.now.book (self.now.at - 1)) core thread }
         ensures within { self.now.at ≤ length self.now.book.lines + 1 }
@@ -97,7 +97,7 @@ impl<'a, L: Lines> Retrace<'a, L> {
 /// How far the calls of a seat are right.
 #[derive(Clone, Copy)]
 pub(crate) enum Progress {
-    /// So many are; of the others none was turned away before the next line.
+    /// So many are; of the others none was skipped before the next line.
     Right(usize),
     /// The call of this number, counted from 1, is the first that is not; one more than there are,
     /// where the core was told more.
@@ -163,8 +163,7 @@ impl<'a> Follower<'a> {
         }
     }
 
-    /// How far the calls are right, when those are followed that were turned away before the next
-    /// line.
+    /// How far the calls are right, when those are followed that were skipped before the next line.
     fn follow_away<L: Lines>(&self, retrace: &Retrace<'_, L>) -> Progress
         requires { IsBeside retrace.now self.now }
         ensures { IsReady self.now result }
@@ -193,7 +192,7 @@ impl<'a> Follower<'a> {
         Progress::Right(self.calls.len())
     }
 
-    /// How far the calls are right behind the next line, which is the core's: the next call has to
+    /// How far the calls are right after the next line, which is the core's: the next call has to
     /// be told it.
     fn follow_own(&self, count: usize, line: &LineCopy) -> Progress
         requires right { AreRightTo self.now count }
@@ -217,7 +216,7 @@ impl<'a> Follower<'a> {
         }
     }
 
-    /// How far the calls are right behind the next line.
+    /// How far the calls are right after the next line.
     fn follow_line(&self, count: usize, line: &LineCopy) -> Progress
         requires right { AreRightTo self.now count }
         requires later { IsLater self.now.at (drop count self.now.calls) }
@@ -243,8 +242,7 @@ impl<'a> Follower<'a> {
         self.at += 1;
     }
 
-    /// The number of the first call that does not agree with the book, behind whose last line it
-    /// stands.
+    /// The number of the first call that does not agree with the book, after whose last line it is.
     fn torn_call<L: Lines>(&self, retrace: &Retrace<'_, L>) -> Option<usize>
         requires beside { IsBeside retrace.now self.now }
         requires end { retrace.now.at ≡ length retrace.now.book.lines + 1 }
@@ -311,8 +309,8 @@ fn pass_next<L: Lines>(
     retrace.make_line(alloc, &line)
 }
 
-/// The core of the first follower whose calls do not agree with the book, behind whose last line
-/// all stand, and the number of the first such call.
+/// The core of the first follower whose calls do not agree with the book, after whose last line all
+/// are, and the number of the first such call.
 fn torn_follower<L: Lines>(
     followers: &Vec<Follower<'_>>,
     retrace: &Retrace<'_, L>,
@@ -331,7 +329,7 @@ fn torn_follower<L: Lines>(
 }
 
 /// The first seat whose calls do not agree with a book, by its core and the number of the first
-/// such call. The book is made once: before each line the calls are compared that were turned away
+/// such call. The book is made once: before each line the calls are compared that were skipped
 /// there, and then the line with the next call of its core.
 pub(crate) fn first_torn<G: Ledger, L: Lines>(
     alloc: Global,

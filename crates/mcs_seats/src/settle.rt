@@ -138,7 +138,7 @@ impl<L: Lines> Settled<L> {
 
 /// Settles a kernel with these seats: its book is legal and fair, it begins with the boot given,
 /// and each seat was told its core's lines and no other, in order, with their numbers and answers,
-/// and was turned away rightly. MissingSeat (1) where a core of the book has no seat, OtherBoot (2)
+/// and was skipped rightly. MissingSeat (1) where a core of the book has no seat, OtherBoot (2)
 /// where the book begins otherwise, Torn (3) with the first call of a core that does not agree,
 /// tested in this order; OutOfMemory (4) where a growth was refused. On a fault nothing is handed
 /// back.

@@ -191,10 +191,10 @@ impl ReplayRun {
         Ok(())
     }
 
-    /// Takes a piece of the input, whose end may stand anywhere in a line. Fault Script comes at
-    /// the latest with the newline of its line, its 4,097th byte, or the first byte of line
-    /// 2,000,001. After a fault the book is that of the steps before it, and each later call
-    /// answers the same fault.
+    /// Takes a piece of the input, whose end may be anywhere in a line. Fault Script comes at the
+    /// latest with the newline of its line, its 4,097th byte, or the first byte of line 2,000,001.
+    /// After a fault the book is that of the steps before it, and each later call answers the same
+    /// fault.
     pub fn feed(&mut self, alloc: Global, piece: &[u8]) -> Result<(), SimFault>
         ensures takes { Takes self.old piece.now self.new }
         ensures told { result ≡ answer_of self.new.course.fault }

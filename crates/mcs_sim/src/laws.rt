@@ -17,8 +17,8 @@ pub fn replayed_legal()
     ensures { IsLegal (book_of run.0 run.1) }
 {}
 
-/// What a text says that is too long for a script stands whatever bytes follow it: the same boot,
-/// steps and fault, and so with the entries of users.
+/// What a text says that is too long for a script is the same whatever bytes follow it: the same
+/// boot, steps and fault, and so with the entries of users.
 pub fn too_long_stands()
     ghost at: { List ℕ × List ℕ }
     requires { IsTooLong at.0 }

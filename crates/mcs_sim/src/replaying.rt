@@ -97,7 +97,7 @@ impl TracedRun {
         taken
     }
 
-    /// Takes a piece of a script, and puts what each of its lines adds to the trace behind it: the
+    /// Takes a piece of a script, and puts what each of its lines adds to the trace after it: the
     /// text of a step is its line then.
     fn feed<W: Write>(
         &mut self,
@@ -182,12 +182,12 @@ impl TracedRun {
 /// Replays a script as it comes, and writes its trace: the boot once that has ended, and each line
 /// of the book once it is there. Before each read the trace of all lines that were read is written.
 /// After Ok the whole trace is written, of a book that is legal and fair. Where a line is faulty
-/// the trace of the steps before it is written, of such a book, and nothing where the fault stands
-/// in the boot. After a read fault the trace of the lines read is written; after any other fault a
+/// the trace of the steps before it is written, of such a book, and nothing where the fault is in
+/// the boot. After a read fault the trace of the lines read is written; after any other fault a
 /// beginning of the trace of the steps; BookFull comes only where the book is full at a step.
-/// Nothing is read behind the piece of at most 4,096 bytes in which a fault stands. A read or a
-/// write that is interrupted is tried again, at most 1,000 times in a row; a write that takes no
-/// byte is a fault.
+/// Nothing is read after the piece of at most 4,096 bytes in which a fault is. A read or a write
+/// that is interrupted is tried again, at most 1,000 times in a row; a write that takes no byte is
+/// a fault.
 pub fn simulate<R: Read, W: Write>(
     alloc: Global,
     from: &mut Source<R>,

@@ -61,7 +61,7 @@ fn users_of(alloc: Global, entries: Vec<UserEntry>) -> Result<Users, OutOfMemory
     Ok(users)
 }
 
-/// How the program tells why a run ended early.
+/// How the program says why a run ended early.
 fn run_fault(fault: RunFault) -> SimFault
     ensures { result ≡ run_fault fault }
 {
@@ -72,7 +72,7 @@ fn run_fault(fault: RunFault) -> SimFault
     }
 }
 
-/// How the program tells why a machine did not settle.
+/// How the program says why a machine did not settle.
 fn finish_fault(fault: FinishFault) -> SimFault
     ensures { result ≡ finish_fault fault }
 {
@@ -136,12 +136,12 @@ fn run_users<X: Threads + Wait + Sync, T: Gate>(
 /// that says another is refused with fault Number at the line that says it. After Ok the whole
 /// trace is written, of a book that is legal and fair and begins with the boot that was read. After
 /// Write a beginning of such a trace is written, and after any other fault nothing: Script where a
-/// line is faulty, OutOfMemory where memory was refused while users were read or behind that,
+/// line is faulty, OutOfMemory where memory was refused while users were read or after that,
 /// BookFull where the book had no room for an entry, Failed where a host thread was not started or
-/// the book does not agree with what the cores were told. Nothing is read behind the piece of at
-/// most 4,096 bytes in which a fault stands: that of a line comes with its newline, its 4,097th
-/// byte, or the first byte of line 2,000,001. The gate is called as `Machine::run` says. Reads and
-/// writes are tried again as `simulate` does.
+/// the book does not agree with what the cores were told. Nothing is read after the piece of at
+/// most 4,096 bytes in which a fault is: that of a line comes with its newline, its 4,097th byte,
+/// or the first byte of line 2,000,001. The gate is called as `Machine::run` says. Reads and writes
+/// are tried again as `simulate` does.
 pub fn run_text<R: Read, W: Write, X: AllocGlobal + Threads + Wait + Sync, T: Gate>(
     rt: &X,
     from: &mut Source<R>,

@@ -136,9 +136,8 @@ impl UserLines {
         self.take_kept(alloc)
     }
 
-    /// Takes a piece of the input, whose end may stand anywhere in a line. Fault Script comes at
-    /// the latest with the newline of its line, its 4,097th byte, or the first byte of line
-    /// 2,000,001.
+    /// Takes a piece of the input, whose end may be anywhere in a line. Fault Script comes at the
+    /// latest with the newline of its line, its 4,097th byte, or the first byte of line 2,000,001.
     pub fn feed(&mut self, alloc: Global, piece: &[u8]) -> Result<(), SimFault>
         ensures ok { OnOk result (TakesUsers piece.now self.old self.new) }
         ensures err { IfErr result (IsFaultIn piece.now self.old) }

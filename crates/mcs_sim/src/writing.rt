@@ -32,7 +32,7 @@ fn count_sent(sent: u128, fact: &KeptRecord<'_>) -> u128
     if fact.is_sent() { sent + 1 } else { sent }
 }
 
-/// Writes the records of a line before which so many messages were sent, and answers how many were
+/// Writes the records of a line before which so many messages were sent, and returns how many were
 /// sent with them. The text of a message is copied where its step was read.
 #[inline(always)]
 fn put_records<W: Write>(
@@ -59,7 +59,7 @@ fn put_records<W: Write>(
     count
 }
 
-/// Writes a line before which so many messages were sent, and answers how many were sent with it.
+/// Writes a line before which so many messages were sent, and returns how many were sent with it.
 #[inline(always)]
 fn put_book_line<W: Write>(sink: &mut Sink<W>, sent: u128, line: &Line<'_>) -> u128
     requires { sent + 2 ^ 64 < 2 ^ 128 }
@@ -109,7 +109,7 @@ impl Told {
     }
 }
 
-/// Puts the lines behind those that were told, and answers how many messages were sent with all of
+/// Puts the lines after those that were told, and returns how many messages were sent with all of
 /// them.
 // a part of its caller, as what it calls is: the parts of a line that is kept stay in registers
 #[inline(always)]
@@ -143,7 +143,7 @@ fn put_untold_boot<W: Write>(sink: &mut Sink<W>, told: Told, book: &Book)
     put_boot(sink, book.boot());
 }
 
-/// Puts what of a book's trace was not told, so that all of it is told then.
+/// Puts what of a book's trace was not told, so that all of it is reported then.
 #[tactic(auto, unfolding(crate::specs::Trace::untold))]
 pub fn put_untold<W: Write>(sink: &mut Sink<W>, told: &mut Told, book: &Book)
     requires told { IsToldOf told.old book.now.book }

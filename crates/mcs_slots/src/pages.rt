@@ -25,7 +25,7 @@ impl Model for Pages {
     ghost invariant = { λ s. (length s.pages.items ≤ 64) × ArePages s.pages.items };
 }
 
-/// Where the page of a CNode stands, if it can be one.
+/// Where the page of a CNode is, if it can be one.
 fn page_number(cnode: ObjId) -> Option<usize>
     ensures { result ≡ number_of cnode }
 {

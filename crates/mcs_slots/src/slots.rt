@@ -42,7 +42,7 @@ pub struct Slots {
 }
 
 // By hand, so that it is a function of its own: a derived drop would be proved anew wherever it is
-// let go.
+// dropped.
 impl Drop for Slots {
     fn drop(self) {
         let Slots {

@@ -87,7 +87,7 @@ impl Model for Letters {
 }
 
 // By hand, so that it is a function of its own: a derived drop would be proved anew wherever a
-// state is let go.
+// state is dropped.
 impl Drop for Letters {
     fn drop(self) {
         let Letters { places: _ } = self;

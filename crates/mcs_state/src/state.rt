@@ -49,7 +49,7 @@ pub struct State<W: Waiting> {
 }
 
 // By hand, so that it is a function of its own: a derived drop would be proved anew wherever a
-// state, a boot or a kernel is let go.
+// state, a boot or a kernel is dropped.
 impl<W: Waiting> Drop for State<W> {
     fn drop(self) {
         let State {
@@ -66,7 +66,7 @@ impl<W: Waiting> Drop for State<W> {
     }
 }
 
-/// The tables of a state that is let go, each if it is there.
+/// The tables of a state that is dropped, each if it is there.
 #[derive(Drop)]
 struct Spare<W: Waiting> {
     book: Option<Book>,
@@ -198,7 +198,7 @@ impl<W: Waiting> State<W> {
         &self.book
     }
 
-    /// The book, with which the state ends: the tables are let go.
+    /// The book, with which the state ends: the tables are dropped.
     pub fn into_book(self) -> Book
         ensures { result.book ≡ self.book }
     {

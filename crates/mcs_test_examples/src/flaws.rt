@@ -8,7 +8,7 @@ use mcs_sim::Source;
 use std::alloc::Global;
 use std::io::Write;
 
-/// Heights of a text and of another below it, and where the tip of an arrow stands above them.
+/// Heights of a text and of another below it, and where the tip of an arrow is above them.
 const PAGES: &[(u64, u64, u64)] = &[
     (43, 55, 106),
     (43, 54, 106),

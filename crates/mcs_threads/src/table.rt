@@ -31,7 +31,7 @@ impl Model for Threads {
 }
 
 // By hand, so that it is a function of its own: a derived drop would be proved anew wherever it is
-// let go.
+// dropped.
 impl Drop for Threads {
     fn drop(self) {
         let Threads { rows: _, mails: _ } = self;
@@ -260,8 +260,8 @@ impl Threads {
         Some(())
     }
 
-    /// Forgets a thread and its mail: its serial is never given again. None like `set_mode`
-    /// (manual: Kernel Services and Objects).
+    /// Forgets a thread and its mail: its serial is never reused. None like `set_mode` (manual:
+    /// Kernel Services and Objects).
     pub fn close(&mut self, id: ObjId) -> Option<()>
         ensures found { IsSome result ↔ IsSome (row_of self.old id) }
         ensures rows { SetsRow self.old self.new id None }

@@ -53,8 +53,8 @@ fn digit_count(n: u64) -> usize
     }
 }
 
-/// The last so many of the two digits of each of two numbers below 100 in front, and anything
-/// behind them.
+/// The last so many of the two digits of each of two numbers below 100 in front, and anything after
+/// them.
 #[inline(always)]
 fn last_digits(high: u64, low: u64, count: usize) -> [u8; 4]
     requires high { high < 100 }

@@ -18,7 +18,7 @@ use mcs_packing::{
 use mcs_text::Key;
 use mcs_types::{Cap, CoreId, Kind, MESSAGE_WORDS, ObjId, Rec};
 
-/// The words of a message that stands at a place.
+/// The words of a message that is at a place.
 #[inline(always)]
 pub fn words_at(words: &[u64], at: u32, len: u8) -> &[u64]
     requires { IsMessageAt words.now at len }

@@ -117,7 +117,7 @@ impl Lists {
             .position(|list| list.thread.is_same(thread))
     }
 
-    /// The place of a thread's list, or of the first one behind it.
+    /// The place of a thread's list, or of the first one after it.
     fn place_for(&self, thread: ObjId) -> Option<usize>
         ensures { result ≡ position (λ u. is_place_for thread u) self.now }
     {

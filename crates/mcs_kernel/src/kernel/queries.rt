@@ -9,9 +9,8 @@ use mcs_queues::Lines;
 use mcs_types::{CoreId, Mail, ObjId, Status, ThreadSet};
 
 impl<L: Lines> Kernel<L> {
-    /// What a thread does: the queue in which it stands, the reply object that owes it an answer,
-    /// or else its mode; None for what is no thread or was never made (manual: Threads and
-    /// Execution).
+    /// What a thread does: the queue in which it is, the reply object that owes it an answer, or
+    /// else its mode; None for what is no thread or was never made (manual: Threads and Execution).
     pub fn status(&self, id: ObjId) -> Option<Status>
         ensures { result ≡ status_of (log_of self.now) id }
     {
