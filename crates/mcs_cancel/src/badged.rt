@@ -26,7 +26,8 @@ fn has_badge(letter: Option<&Letter>, badge: Badge) -> bool
     }
 }
 
-/// Cancels a sender where its open message has this badge: it restarts. Returns the thread after it.
+/// Cancels a sender where its open message has this badge: it restarts. Returns the thread after
+/// it.
 fn restart_one<W: Waiting>(state: &mut State<W>, sender: ObjId, badge: Badge) -> Option<ObjId>
     requires there { IsThere (so_far state.old) Kind.Thread sender }
     requires room { HasRoomFor (restarts_one badge.0 sender) state.old }

@@ -89,8 +89,8 @@ fn read_state<R: Read>(
     Ok(put_state(page, kernel, &reader.names, &waits, wanted))
 }
 
-/// Shows the state of each thread after a line of a script, or at its end, and what is stuck. False where only
-/// what is stuck is wanted, and something is.
+/// Shows the state of each thread after a line of a script, or at its end, and what is stuck. False
+/// where only what is stuck is wanted, and something is.
 pub fn show_state<R: Read, W: Write + Drop>(
     alloc: Global,
     from: &mut Source<R>,

@@ -8,9 +8,9 @@ use mcs_types::{Badge, INLINE_WORDS, Message, OutOfMemory, Rec, copy_rows, empti
 use std::alloc::Global;
 
 /// The words that packed records, entries and answers name by their places, and the records that
-/// fit no packed form. A message is kept as its label and its words, and a badge after them where one is
-/// kept with it; a large address is alone. Both lists only grow. `spare` is how many words the long
-/// messages of records may still take beyond six each.
+/// fit no packed form. A message is kept as its label and its words, and a badge after them where
+/// one is kept with it; a large address is alone. Both lists only grow. `spare` is how many words
+/// the long messages of records may still take beyond six each.
 #[derive(Drop)]
 pub struct Arena {
     pub words: Vec<u64>,

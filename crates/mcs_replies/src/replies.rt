@@ -206,7 +206,8 @@ impl Replies {
         self.rows.get(reply)?.receiver
     }
 
-    /// Sets the receiver that is queued with a reply object that is there, or none (manual: Message Passing).
+    /// Sets the receiver that is queued with a reply object that is there, or none (manual: Message
+    /// Passing).
     pub fn set_receiver(&mut self, reply: ObjId, receiver: Option<ObjId>)
         requires { is_there self.old reply ≡ true }
         ensures counts { counts self.new ≡ counts self.old }
