@@ -19,7 +19,7 @@ COLUMNS = 100
 VERBLESS = 20
 
 # They end in s, and are no verbs at the head of a comment.
-NOUNS = set("""Address Addresses Always Answers As Bits Bytes Capabilities Contexts Fields Is Its Likeness Messages Objects
+NOUNS = set("""Address Addresses Always As Bits Bytes Capabilities Contexts Fields Is Its Likeness Messages Objects
 Others Pages Rights Slots Spaces Status Texts This Those Threads Thus Unless Users Was Whose Words""".split())
 
 # Words in backquotes that the sources need not have, each with its reason.

@@ -7,8 +7,9 @@ use mcs_object_queues::Waiting;
 use mcs_state::{State, give_back};
 use mcs_types::{Copies, Mode, ObjId};
 
-/// Pays the caller that a reply object owes, if it owes one: the caller runs again. A reply object
-/// that tops a chain of calls returns the context of that chain (manual: Message Passing; own).
+/// Answers the caller that a reply object owes, if it owes one: the caller runs again. A reply
+/// object that tops a chain of calls returns the context of that chain (manual: Message Passing;
+/// own).
 pub fn pay<W: Waiting>(state: &mut State<W>, reply: ObjId, message: Copies<'_>)
     requires { HasRoomFor (paid reply message) state.old }
     ensures { Makes (paid reply message.entry) state.old state.new }
