@@ -489,8 +489,8 @@ impl Book {
         (heads, packed, arena, sent)
     }
 
-    /// An equal book, with as much room, so that it takes memory for a line only where this one
-    /// would, in the memory of a spare one. OutOfMemory where memory is refused.
+    /// Clones the book in the memory of a spare one, with as much room, so that the clone takes
+    /// memory for a line only where this one would. OutOfMemory where memory is refused.
     pub fn copy(&self, alloc: Global, spare: Option<Book>) -> Result<Book, OutOfMemory>
         ensures { IfOk result (λ b. b ≡ self.now) }
     {

@@ -113,8 +113,7 @@ impl Contexts {
         (rows, held)
     }
 
-    /// A table like this one, in the memory of a spare one (own). OutOfMemory where memory is
-    /// refused.
+    /// Clones the table in the memory of a spare one (own). OutOfMemory where memory is refused.
     pub fn copy(&self, alloc: Global, spare: Option<Contexts>) -> Result<Contexts, OutOfMemory>
         ensures { IfOk result (λ t. t ≡ self.now) }
     {

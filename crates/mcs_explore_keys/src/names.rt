@@ -53,7 +53,8 @@ pub struct Names {
 const APART: u64 = 1 << 32;
 
 impl Names {
-    /// Those of a kernel; of the boot alone where no entry of a user changes slots.
+    /// Names the objects of a kernel; only those of the boot where no entry of a user changes
+    /// slots.
     pub fn new<L: Lines>(
         alloc: Global,
         kernel: &Kernel<L>,

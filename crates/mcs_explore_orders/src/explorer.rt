@@ -250,7 +250,7 @@ impl<'a, W: Watch> Explorer<'a, W> {
         Ok(())
     }
 
-    /// Copies a walk, in the memory of a spare one.
+    /// Clones a walk in the memory of a spare one.
     fn copy_of(
         &mut self,
         alloc: Global,

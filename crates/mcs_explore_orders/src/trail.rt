@@ -115,7 +115,7 @@ fn inside(walk: &Box<Walk<PlainLines>>) -> &Walk<PlainLines>
     &**walk
 }
 
-/// A walk once more, in the memory of a spare one.
+/// Clones a walk in the memory of a spare one.
 fn copy_of(
     alloc: Global,
     walk: &Walk<PlainLines>,
@@ -191,7 +191,7 @@ impl Trail {
         }
     }
 
-    /// Copies a walk, in the memory of a spare one.
+    /// Clones a walk in the memory of a spare one.
     pub fn copy_of(
         &mut self,
         alloc: Global,

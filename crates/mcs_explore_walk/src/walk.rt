@@ -187,7 +187,7 @@ pub fn picked(picks: &[Option<Pick>], core: usize) -> Option<Pick>
     }
 }
 
-/// No pick of so many cores.
+/// None for each of so many cores.
 fn no_picks(alloc: Global, cores: u8) -> Result<Vec<Option<Pick>>, OutOfMemory>
     ensures { IfOk result (λ v. v.items ≡ replicate cores None) }
 {
@@ -501,8 +501,8 @@ impl<L: Lines> Walk<L> {
         (kernel, places)
     }
 
-    /// The same walk once more, which goes on by itself, in the memory of a spare one. OutOfMemory
-    /// where memory was refused.
+    /// Clones the walk, to be continued on its own, in the memory of a spare one. OutOfMemory where
+    /// memory was refused.
     pub fn copy(&self, alloc: Global, spare: Option<Walk<L>>) -> Result<Walk<L>, OutOfMemory>
         ensures { IfOk result (λ w. w ≡ self.now) }
     {

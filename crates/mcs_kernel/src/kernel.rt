@@ -355,7 +355,7 @@ impl<L: Lines> Kernel<L> {
         Ok(Kernel { state })
     }
 
-    /// A kernel like this one, in the memory of a spare one. OutOfMemory where memory is refused.
+    /// Clones the kernel in the memory of a spare one. OutOfMemory where memory is refused.
     pub fn copy(&self, alloc: Global, spare: Option<Kernel<L>>) -> Result<Kernel<L>, OutOfMemory>
         ensures { IfOk result (λ k. k ≡ self.now) }
     {

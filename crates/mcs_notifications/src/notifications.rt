@@ -77,8 +77,7 @@ impl Notifications {
         rows
     }
 
-    /// A table like this one, in the memory of a spare one (own). OutOfMemory where memory is
-    /// refused.
+    /// Clones the table in the memory of a spare one (own). OutOfMemory where memory is refused.
     pub fn copy(
         &self,
         alloc: Global,

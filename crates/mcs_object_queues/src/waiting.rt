@@ -59,7 +59,7 @@ pub trait Waiting: Sized + Drop {
     fn is_there(&self, of: Queue) -> bool
         ensures { result ≡ has self.now of };
 
-    /// Queues like these, in the memory of spare ones. OutOfMemory where memory is refused.
+    /// Clones the queues in the memory of spare ones. OutOfMemory where memory is refused.
     fn copy(&self, alloc: Global, spare: Option<Self>) -> Result<Self, OutOfMemory>
         ensures line { IfOk result (λ s. (q : Queue) → line s q ≡ line self.now q) }
         ensures queue { IfOk result (λ s. (t : ObjId) → queue s t ≡ queue self.now t) }

@@ -126,8 +126,8 @@ impl<T: Clone> Store<T> {
         rows
     }
 
-    /// A store like this one, in the memory of a spare one, where a clone of a value equals the
-    /// value (own). OutOfMemory where memory is refused.
+    /// Clones the store in the memory of a spare one, where a clone of a value equals the value
+    /// (own). OutOfMemory where memory is refused.
     pub fn copy(&self, alloc: Global, spare: Option<Store<T>>) -> Result<Store<T>, OutOfMemory>
         requires clones { (x y : T) → T.is_clone x y → y ≡ x }
         ensures { IfOk result (λ t. t ≡ self.now) }

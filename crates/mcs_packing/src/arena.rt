@@ -18,7 +18,7 @@ pub struct Arena {
     pub spare: usize,
 }
 
-/// The same records, with room for that many, in the memory of spare ones.
+/// Clones the records, with room for so many, in the memory of spare ones.
 fn copy_records(
     alloc: Global,
     spare: Vec<Rec>,
@@ -178,7 +178,7 @@ fn keep_two(words: &mut Vec<u64>, word: u64, serial: u32) -> u32
 }
 
 impl Arena {
-    /// The same words and records, with as much room, in the memory of a spare one. OutOfMemory
+    /// Clones the words and records, with as much room, in the memory of a spare one. OutOfMemory
     /// where memory is refused.
     pub fn copy(&self, alloc: Global, spare: Option<Arena>) -> Result<Arena, OutOfMemory>
         ensures words { IfOk result (λ a. a.words.items ≡ self.now.words.items) }

@@ -79,7 +79,7 @@ impl Fingers {
         Ok(Fingers { rows, places })
     }
 
-    /// The same fingers, in the memory of spare ones. OutOfMemory where memory is refused.
+    /// Clones the fingers in the memory of spare ones. OutOfMemory where memory is refused.
     pub fn copy(&self, alloc: Global, spare: Option<Fingers>) -> Result<Fingers, OutOfMemory>
         ensures { IfOk result (λ f. f ≡ self.now) }
     {

@@ -38,7 +38,7 @@ pub trait Lines: Sized + Drop {
         ensures nowhere { IfOk result (λ s. (u : ℕ) → place s u ≡ None) }
         ensures rooms { IfOk result (λ s. rooms s ≡ record { threads = threads; lines = lines }) };
 
-    /// Lines like these, in the memory of spare ones. OutOfMemory where memory is refused.
+    /// Clones the lines in the memory of spare ones. OutOfMemory where memory is refused.
     fn copy(&self, alloc: Global, spare: Option<Self>) -> Result<Self, OutOfMemory>
         ensures line { IfOk result (λ s. (k : ℕ) → line s k ≡ line self.now k) }
         ensures place { IfOk result (λ s. (u : ℕ) → place s u ≡ place self.now u) }

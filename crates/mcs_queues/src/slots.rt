@@ -98,7 +98,7 @@ impl LinkSlots {
         })
     }
 
-    /// The same slots, in the memory of spare ones. OutOfMemory where memory is refused.
+    /// Clones the slots in the memory of spare ones. OutOfMemory where memory is refused.
     pub fn copy(&self, alloc: Global, spare: Option<LinkSlots>) -> Result<LinkSlots, OutOfMemory>
         ensures { IfOk result (λ s. s ≡ self.now) }
     {

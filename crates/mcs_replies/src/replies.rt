@@ -143,8 +143,7 @@ impl Replies {
         (rows, links, tops)
     }
 
-    /// A table like this one, in the memory of a spare one (own). OutOfMemory where memory is
-    /// refused.
+    /// Clones the table in the memory of a spare one (own). OutOfMemory where memory is refused.
     pub fn copy(&self, alloc: Global, spare: Option<Replies>) -> Result<Replies, OutOfMemory>
         ensures { IfOk result (λ t. t ≡ self.now) }
     {

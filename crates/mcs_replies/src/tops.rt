@@ -110,7 +110,7 @@ impl Tops {
         })
     }
 
-    /// The same tops, in the memory of spare ones. OutOfMemory where memory is refused.
+    /// Clones the tops in the memory of spare ones. OutOfMemory where memory is refused.
     pub(crate) fn copy(&self, alloc: Global, spare: Option<Tops>) -> Result<Tops, OutOfMemory>
         ensures { IfOk result (λ t. t ≡ self.now) }
     {

@@ -59,7 +59,7 @@ fn put_records<W: Write>(
     count
 }
 
-/// Writes a line before which so many messages were sent, and returns how many were sent with it.
+/// Writes a line. `sent` counts the messages sent before it; returns the count after it.
 #[inline(always)]
 fn put_book_line<W: Write>(sink: &mut Sink<W>, sent: u128, line: &Line<'_>) -> u128
     requires { sent + 2 ^ 64 < 2 ^ 128 }

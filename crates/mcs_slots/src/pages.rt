@@ -38,7 +38,7 @@ fn page_number(cnode: ObjId) -> Option<usize>
     Some((cnode.serial - 1) as usize)
 }
 
-/// Pages like these, in the memory of spare ones.
+/// Clones the pages in the memory of spare ones.
 fn copied_pages(alloc: Global, spare: Vec<Page>, pages: &[Page]) -> Result<Vec<Page>, OutOfMemory>
     ensures { IfOk result (λ v. v.items ≡ pages.now) }
 {
@@ -68,7 +68,7 @@ impl Pages {
         Ok(Pages { pages })
     }
 
-    /// Pages like these, in the memory of spare ones. OutOfMemory where memory is refused.
+    /// Clones the pages in the memory of spare ones. OutOfMemory where memory is refused.
     pub(crate) fn copy(&self, alloc: Global, spare: Option<Pages>) -> Result<Pages, OutOfMemory>
         ensures { IfOk result (λ s. s ≡ self.now) }
     {

@@ -88,7 +88,7 @@ impl Slots {
         (pages, tallies)
     }
 
-    /// Slots like these, in the memory of spare ones. OutOfMemory where memory is refused.
+    /// Clones the slots in the memory of spare ones. OutOfMemory where memory is refused.
     pub fn copy_all(&self, alloc: Global, spare: Option<Slots>) -> Result<Slots, OutOfMemory>
         ensures { IfOk result (λ s. s ≡ self.now) }
     {

@@ -142,8 +142,8 @@ impl Tallies {
         })
     }
 
-    /// The tallies of the first buckets, in the memory of spare ones. OutOfMemory where memory is
-    /// refused.
+    /// Clones the tallies of the first buckets in the memory of spare ones. OutOfMemory where
+    /// memory is refused.
     pub(crate) fn copy(&self, alloc: Global, spare: Option<Tallies>) -> Result<Tallies, OutOfMemory>
         ensures { IfOk result (λ t. AreFrom t self.now) }
     {

@@ -94,7 +94,7 @@ impl Drop for Letters {
     }
 }
 
-/// Open messages like these, at most 256, with the room for so many, in the memory of spare ones.
+/// Clones open messages, at most 256, with the room for so many, in the memory of spare ones.
 fn copied_places(
     alloc: Global,
     spare: Vec<Option<OpenLetter>>,
@@ -143,7 +143,7 @@ impl Letters {
         places
     }
 
-    /// Open messages like these, in the memory of spare ones. OutOfMemory where memory is refused.
+    /// Clones the open messages in the memory of spare ones. OutOfMemory where memory is refused.
     pub fn copy(&self, alloc: Global, spare: Option<Letters>) -> Result<Letters, OutOfMemory>
         ensures { IfOk result (λ l. l ≡ self.now) }
     {

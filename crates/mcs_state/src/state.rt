@@ -168,7 +168,7 @@ impl<W: Waiting> State<W> {
         }
     }
 
-    /// A state like this one, in the memory of a spare one. OutOfMemory where memory is refused.
+    /// Clones the state in the memory of a spare one. OutOfMemory where memory is refused.
     pub fn copy(&self, alloc: Global, spare: Option<State<W>>) -> Result<State<W>, OutOfMemory>
         ensures book { IfOk result (λ s. s.book ≡ self.now.book) }
         ensures hand { IfOk result (λ s. s.hand ≡ self.now.hand) }

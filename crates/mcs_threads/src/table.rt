@@ -52,7 +52,7 @@ fn copied_mail(alloc: Global, mail: &Option<Mail>) -> Result<Option<Mail>, OutOf
     })
 }
 
-/// These mails, at most 256, with the room for so many, in the memory of spare ones.
+/// Clones mails, at most 256, with the room for so many, in the memory of spare ones.
 fn copied_mails(
     alloc: Global,
     spare: Vec<Option<Mail>>,
@@ -90,7 +90,7 @@ impl Threads {
         (rows, mails)
     }
 
-    /// A table like this one, in the memory of a spare one. OutOfMemory where memory is refused.
+    /// Clones the table in the memory of a spare one. OutOfMemory where memory is refused.
     pub fn copy(&self, alloc: Global, spare: Option<Threads>) -> Result<Threads, OutOfMemory>
         ensures { IfOk result (λ t. t ≡ self.now) }
     {

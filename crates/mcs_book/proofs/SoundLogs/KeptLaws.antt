@@ -85,7 +85,7 @@ line-next R r (Senders e) h f = there-next R r kind.Endpoint e h (f e)
 line-next R r (Receivers e) h f = there-next R r kind.Endpoint e h (f e)
 line-next R r (Waiters n) h f = there-next R r kind.Notification n h (f n)
 
--- the object of a queue in which somebody is is there
+-- the object of a queue is there where somebody is in the queue
 pub line-there : (R : Log) (x : ObjId) (q : Queue) → Sound R → queue_of R x ≡ Some q → IsLineThere R q
 line-there [] x q sound h = absurd cc
 line-there (rec.Joins u k reply ∷ R) x q sound h = line-next R (rec.Joins u k reply) q (elim (set-split x u (Some k) (queue_of R x) (Some q) h) [ inl (who, is) ↦ (let it : k ≡ q = cc in subst (λ (z : Queue). IsLineThere R z) it sound.0.3) | inr (other, is) ↦ line-there R x q sound.1 is ]) (λ o. refl)
