@@ -43,7 +43,7 @@ impl<'a> Model for Line<'a> {
 }
 
 impl<'a> Line<'a> {
-    /// Who entered on which core, and the entry, where the book keeps them.
+    /// The thread that entered, its core and the entry, where the book keeps them.
     pub fn kept_step(&self) -> KeptStep<'_>
         ensures { result ≡ self.now.step }
     {
@@ -56,7 +56,7 @@ impl<'a> Line<'a> {
         }
     }
 
-    /// Who entered on which core, and the entry. A message of four words takes no memory.
+    /// The thread that entered, its core and the entry. A message of four words takes no memory.
     pub fn step(&self, alloc: Global) -> Result<Step, OutOfMemory>
         ensures { IfOk result (λ s. s ≡ self.now.step) }
     {

@@ -6,7 +6,7 @@ ghost use Rattle.mcs_book.specs.History.{IsLegal};
 ghost use Rattle.mcs_book.specs.SmallBooks.{answered, taken_in_turn, second_take, wrong_badge, not_the_first, out_of_order, after_the_end, nothing_sent, paid_twice, kept_context, both_wait};
 
 /// Each law of fair books refuses a small book. In these, one after another, a message is taken
-/// twice; is taken with another badge than it was sent with; is taken from a sender who is not the
+/// twice; is taken with another badge than it was sent with; is taken from a sender that is not the
 /// first in the queue; the later of two messages of one sender is taken first; a message is taken
 /// once its endpoint was closed; a sender is in its queue with no open message; a call is answered
 /// twice; the context that a call brought does not return with its answer; and a sender waits

@@ -107,7 +107,7 @@ impl Contexts {
         })
     }
 
-    /// The rows, and who holds them.
+    /// The rows, and the holders of contexts.
     fn into_parts(self) -> (Store<ContextRow>, Vec<Option<ObjId>>) {
         let Contexts { rows, held } = self;
         (rows, held)

@@ -20,7 +20,7 @@ use mcs_types::{Answer, OutOfMemory};
 use std::alloc::Global;
 use std::marker::Model;
 
-/// To whom a search reports what it sees. A state is named by its place in the order in which it
+/// What a search reports its findings to. A state is named by its place in the order in which it
 /// was found.
 pub trait Watch: Drop {
     // what it was shown of runs of these users
@@ -57,7 +57,7 @@ pub trait Watch: Drop {
             users.now place turn answer.now walk.now) };
 }
 
-/// The points of runs of users after a boot, their keys, and to whom they are reported.
+/// The points of runs of users after a boot, their keys, and what they are reported to.
 pub struct Explorer<'a, W: Watch> {
     boot: &'a Boot,
     users: &'a Users,
@@ -157,7 +157,7 @@ impl<'a, W: Watch> Explorer<'a, W> {
         self.ends
     }
 
-    /// To whom they were reported.
+    /// What they were reported to.
     pub fn watch(&self) -> &W
         ensures { result.now ≡ self.now.watch }
     {
@@ -262,7 +262,7 @@ impl<'a, W: Watch> Explorer<'a, W> {
         self.trail.copy_of(alloc, walk)
     }
 
-    /// Lets a walk go, whose memory is used again.
+    /// Drops a walk, whose memory is reused.
     fn let_go(&mut self, walk: Box<Walk<PlainLines>>)
         ensures { self.new ≡ self.old }
     {

@@ -172,7 +172,7 @@ impl Trail {
         (self.stages.len(), at)
     }
 
-    /// Lets a walk go, whose memory is used again.
+    /// Drops a walk, whose memory is reused.
     pub fn let_go(&mut self, walk: Box<Walk<PlainLines>>)
         ensures { self.new ≡ self.old }
     {

@@ -304,8 +304,8 @@ impl<L: Lines> Walk<L> {
         }
     }
 
-    /// What each core picks: the due entry of the user who can give one and whose thread goes
-    /// before those of all others who can.
+    /// What each core picks: the due entry of the user that can give one and whose thread goes
+    /// before those of all others that can.
     #[tactic(auto, using(crate::proofs::Picking::none_best, crate::proofs::Picking::best_picks))]
     pub fn picks(&self, alloc: Global, users: &Users) -> Result<Vec<Option<Pick>>, OutOfMemory>
         ensures { IfOk result (λ v. ArePicks users.now self.now v.items) }

@@ -20,8 +20,8 @@ use mcs_object_queues::Waiting;
 use mcs_state::{State, wake};
 use mcs_types::{Answer, Copies, CoreId, Mode, ObjId, Queue};
 
-/// Cancels whoever uses a reply object, the caller that it owes or the receiver that is queued with
-/// it: it becomes inactive (own).
+/// Cancels the thread that uses a reply object, the caller that it owes or the receiver that is
+/// queued with it: it becomes inactive (own).
 fn free<W: Waiting>(state: &mut State<W>, reply: ObjId)
     requires there { IsThere (so_far state.old) Kind.Reply reply }
     requires room { HasRoomFor (freed reply) state.old }

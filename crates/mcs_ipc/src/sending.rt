@@ -118,7 +118,7 @@ fn send_over<W: Waiting>(
     }
 }
 
-/// Pays a reply object: whom it owes is answered, if it owes anybody.
+/// Pays a reply object: the caller that it owes is answered, if it owes one.
 fn send_reply<W: Waiting>(state: &mut State<W>, reply: ObjId, message: Copies<'_>) -> bool
     requires { FitsAct (pay_act reply message) state.old }
     ensures { Acts (pay_act reply message.entry) state.old (said result)

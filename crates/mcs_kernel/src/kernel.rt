@@ -80,8 +80,8 @@ fn answer_send(answer: &mut Answer, waits: Result<bool, Refusal>)
     }
 }
 
-// Who sends a message is a function of its own, so that what is lent with it is cleared where it is
-// lent alone.
+// An entry that sends a message is a function of its own, so that what is lent with it is cleared
+// where it is lent alone.
 
 /// Performs Send and NBSend, with the copies of their message that take memory.
 #[inline(always)]

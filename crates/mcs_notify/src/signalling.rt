@@ -1,4 +1,4 @@
-//! Signals, and who hears them.
+//! Signals, and the threads that hear them.
 ghost use Rattle.std.specs.Prelude.{◌≡◌, Some};
 ghost use Rattle.mcs_types.specs.declared.entry.Entry.{Entry};
 ghost use Rattle.mcs_types.specs.declared.id.Kind.{Kind};
@@ -47,8 +47,8 @@ fn first_waiter<W: Waiting>(state: &State<W>, notification: ObjId) -> Option<Hea
     Some(Hearer { thread, queue })
 }
 
-/// Who hears the next word of a notification: the bound thread where it receives, else the first
-/// waiter.
+/// The thread that hears the next word of a notification: the bound thread where it receives, else
+/// the first waiter.
 fn next_hearer<W: Waiting>(state: &State<W>, notification: ObjId) -> Option<Hearer>
     ensures { result ≡ next_hearer (so_far state.now) notification }
 {
@@ -58,7 +58,7 @@ fn next_hearer<W: Waiting>(state: &State<W>, notification: ObjId) -> Option<Hear
     }
 }
 
-/// Whom a signal reaches: nobody where a word is pending.
+/// The thread that a signal reaches: none where a word is pending.
 fn reached<W: Waiting>(state: &State<W>, notification: ObjId) -> Option<Hearer>
     requires { IsThere (so_far state.now) Kind.Notification notification }
     ensures { result ≡ reached (so_far state.now) notification }

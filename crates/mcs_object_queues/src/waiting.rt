@@ -13,8 +13,8 @@ use std::alloc::Global;
 
 /// The endpoints and the notifications, 256 of each at most, with the threads that wait in their
 /// queues (manual: Message Passing; Notifications). An endpoint has two queues and a notification
-/// one; the greatest priority is first, and within one priority who came first. The threads are
-/// those of the serials 1 to 256, and each is in at most one queue (own).
+/// one; the greatest priority is first, and within one priority the thread that came first. The
+/// threads are those of the serials 1 to 256, and each is in at most one queue (own).
 ///
 /// All is seen by ids. `new` takes the memory for all calls.
 pub trait Waiting: Sized + Drop {
@@ -34,8 +34,8 @@ pub trait Waiting: Sized + Drop {
     /// How many objects of a kind are there.
     ghost there: { Self → Kind → ℕ };
 
-    /// No object, and nobody who waits. OutOfMemory where memory is refused: no later call takes
-    /// any (own).
+    /// No object, and no thread that waits. OutOfMemory where memory is refused: no later call
+    /// takes any (own).
     fn new(alloc: Global) -> Result<Self, OutOfMemory>
         ensures line { IfOk result (λ s. (q : Queue) → line s q ≡ []) }
         ensures queue { IfOk result (λ s. (t : ObjId) → queue s t ≡ None) }

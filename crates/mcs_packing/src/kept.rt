@@ -49,7 +49,7 @@ impl<'a> KeptRecord<'a> {
     }
 }
 
-/// Who entered on which core, and the entry, where it is kept. Clauses see the step.
+/// The thread that entered, its core and the entry, where it is kept. Clauses see the step.
 #[derive(Drop)]
 pub struct KeptStep<'a> {
     pub core: CoreId,

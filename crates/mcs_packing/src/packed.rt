@@ -340,7 +340,7 @@ fn pack_debt(fact: &Rec) -> Option<Packed>
     })
 }
 
-/// Packs who holds a context.
+/// Packs the holder of a context.
 #[inline(always)]
 fn pack_holds(context: &ObjId, thread: &Option<ObjId>) -> Option<Packed>
     ensures { IsPlain result (Rec.Holds context.now thread.now) }
@@ -397,7 +397,7 @@ fn pack_raised(notification: &ObjId, badge: Badge) -> Option<Packed>
     })
 }
 
-/// Packs who holds a context, is bound to a notification, and what was signalled.
+/// Packs the holder of a context, is bound to a notification, and what was signalled.
 #[inline(always)]
 fn pack_bond(fact: &Rec) -> Option<Packed>
     ensures { IsPlain result fact.now }

@@ -1,4 +1,4 @@
-//! Where a walk along a line may begin.
+//! Where the traversal of a line may begin.
 ghost use Rattle.std.specs.Prelude.{◌≡◌, ◌≢◌, ◌<◌, length, slice_index_or, IfOk, IfSome, Some, None, is_none, cond, not, ◌==◌};
 ghost use Rattle.mcs_queues.specs.Fingers.{Points, IsReleased, IsLower, SameFingers, finger, row_of, no_fingers, blank_rows};
 

@@ -14,9 +14,9 @@ pub struct ThreadNo(pub u16);
 #[derive(Clone, Copy, PartialEq, Eq, Debug)]
 pub struct LineNo(pub u16);
 
-/// Lines in which threads wait. The greatest priority is first, and within one priority who came
-/// first (seL4 Reference Manual, chapter Message Passing: the queue of an endpoint goes by
-/// priority). A thread is in at most one line (own).
+/// Lines in which threads wait. The greatest priority is first, and within one priority the thread
+/// that came first (seL4 Reference Manual, chapter Message Passing: the queue of an endpoint goes
+/// by priority). A thread is in at most one line (own).
 ///
 /// Lines are seen as the list of each line's threads, first to last, and the line of each thread.
 /// Numbers of threads and of lines are in range where they are below those that `new` was given. No

@@ -17,8 +17,8 @@ use std::sync::ledger::{Blank, Ledger};
 
 /// Lines as links: each thread's slot names the threads before and after it, and each line's slot
 /// its first and its last. To leave a line or to ask for a neighbour reads no other thread's slot;
-/// to join one walks past threads of a lower priority, from the finger of the nearest lower one
-/// that has a finger, or from the line's end (own). `new` takes all memory.
+/// to join one visits threads of a lower priority, from the finger of the nearest lower one that
+/// has a finger, or from the line's end (own). `new` takes all memory.
 pub struct LinkedLines {
     slots: LinkSlots,
     fingers: Fingers,

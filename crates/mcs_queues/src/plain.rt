@@ -21,7 +21,7 @@ const _: () = prove!(size_of::<Row>() == 8);
 
 /// All lines in one list of rows: a row for each thread that is in a line, and the rows of a line
 /// in that line's order. One list, so that nothing in it can disagree and its text is short enough
-/// to read; each call walks it for that. `new` takes room for a row of every thread.
+/// to read; each call traverses it for that. `new` takes room for a row of every thread.
 pub struct PlainLines {
     rows: Vec<Row>,
     threads: u16,

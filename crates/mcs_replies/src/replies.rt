@@ -225,8 +225,8 @@ impl Replies {
         self.rows.get(reply)?.caller
     }
 
-    /// Who uses a reply object: the caller that it owes, or else the receiver that is queued with
-    /// it; None where nobody does (manual: Message Passing).
+    /// The user of a reply object: the caller that it owes, or else the receiver that is queued
+    /// with it; None where nobody does (manual: Message Passing).
     pub fn user(&self, reply: ObjId) -> Option<ObjId>
         ensures { result ≡ option_or (owed_in self.now reply) (receiver_in self.now reply) }
     {

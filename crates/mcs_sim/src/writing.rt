@@ -92,7 +92,7 @@ fn put_read_line<W: Write>(sink: &mut Sink<W>, sent: u128, line: &Line<'_>, text
     put_records(sink, sent, line, Some(&read))
 }
 
-/// How much of a book's trace was told: so many of its lines, with that of the boot, and so many
+/// How much of a book's trace was written: so many of its lines, with that of the boot, and so many
 /// messages sent with them.
 #[derive(Clone, Copy)]
 pub struct Told {
@@ -109,8 +109,8 @@ impl Told {
     }
 }
 
-/// Puts the lines after those that were told, and returns how many messages were sent with all of
-/// them.
+/// Puts the lines after those that were written, and returns how many messages were sent with all
+/// of them.
 // a part of its caller, as what it calls is: the parts of a line that is kept stay in registers
 #[inline(always)]
 fn put_lines<W: Write>(sink: &mut Sink<W>, told: Told, book: &Book) -> u128
@@ -132,7 +132,7 @@ fn put_lines<W: Write>(sink: &mut Sink<W>, told: Told, book: &Book) -> u128
     sent
 }
 
-/// Puts the lines of the boot, where nothing was told.
+/// Puts the lines of the boot, where nothing was written.
 fn put_untold_boot<W: Write>(sink: &mut Sink<W>, told: Told, book: &Book)
     ensures { Puts W.contents sink.old sink.new (untold_boot told book.now.book) }
 {
@@ -143,7 +143,7 @@ fn put_untold_boot<W: Write>(sink: &mut Sink<W>, told: Told, book: &Book)
     put_boot(sink, book.boot());
 }
 
-/// Puts what of a book's trace was not told, so that all of it is reported then.
+/// Puts what of a book's trace was not written yet, so that all of it is.
 #[tactic(auto, unfolding(crate::specs::Trace::untold))]
 pub fn put_untold<W: Write>(sink: &mut Sink<W>, told: &mut Told, book: &Book)
     requires told { IsToldOf told.old book.now.book }
@@ -156,8 +156,8 @@ pub fn put_untold<W: Write>(sink: &mut Sink<W>, told: &mut Told, book: &Book)
     told.lines = book.lines();
 }
 
-/// Puts what of a book's trace was not told, as `put_untold` does. The step of a single line that
-/// the book has more was read of this text, which is its line, so it is not spelled again.
+/// Puts what of a book's trace was not written yet, as `put_untold` does. The step of a single line
+/// that the book has more was read of this text, which is its line, so it is not spelled again.
 #[tactic(auto, unfolding(crate::specs::Trace::untold))]
 pub fn put_read<W: Write>(sink: &mut Sink<W>, told: &mut Told, book: &Book, text: &[u8])
     requires told { IsToldOf told.old book.now.book }

@@ -14,7 +14,7 @@ use mcs_types::{Kind, Letter, Mail, Message, OBJECTS, ObjId, OutOfMemory, emptie
 use std::alloc::Global;
 use std::marker::Model;
 
-/// An open message, with a spare one for the answer to who receives it. Clauses see the letter.
+/// An open message, with a spare one for the receiver's answer. Clauses see the letter.
 #[derive(Drop)]
 pub struct OpenLetter {
     pub letter: Letter,

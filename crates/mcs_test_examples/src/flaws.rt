@@ -73,7 +73,7 @@ fn tell_fault<W: Write>(to: &mut W, verb: &str, fault: Option<LabFault>) -> Resu
     Ok(())
 }
 
-/// Tells of each script with names what is wrong with it, for who draws it and for who checks it.
+/// Tells of each script with names what is wrong with it, for drawing and for checking.
 fn tell_names<W: Write>(alloc: Global, to: &mut W) -> Result<(), LabFault> {
     for &script in NAMES {
         let mut source = Source::new(script.as_bytes());

@@ -22,8 +22,8 @@ fn key_length(key: Key) -> usize
     key.text().len()
 }
 
-/// How many bytes are before the message of an entry: who enters, the word of the entry, and an
-/// address.
+/// How many bytes are before the message of an entry: the entering thread, the word of the entry,
+/// and an address.
 #[inline(always)]
 fn front_length(from: Entrant, key: Key, address: u64) -> usize
     ensures value { result ≡ length (front_text from key address) }

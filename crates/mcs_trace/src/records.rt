@@ -154,7 +154,8 @@ fn write_debt(line: &mut Line, sent: u128, packed: &Packed, words: &[u64], wide:
     }
 }
 
-/// Writes the record of who holds a context, is bound to a notification, or of what was signalled.
+/// Writes the record of which thread holds a context, is bound to a notification, or of what was
+/// signalled.
 fn write_bond(line: &mut Line, sent: u128, packed: &Packed, words: &[u64], wide: &[Rec])
     requires of { IsOfBond packed.now }
     requires room { HasRoom line.old LINE }
@@ -334,7 +335,7 @@ fn write_message(line: &mut Line, sent: u128, packed: &Packed, words: &[u64], wi
 
 /// Writes the record of what was sent or paid. Its text is copied where it is that of this step,
 /// which was read.
-// the parts of the step each for itself: so who writes other records puts nothing together for it
+// the parts of the step each for itself: so other records put nothing together for it
 #[inline(always)]
 fn write_read_message(
     line: &mut Line,

@@ -123,8 +123,8 @@ impl<W: Write> Sink<W> {
         self.line.clear();
     }
 
-    /// Writes what is kept back. It is out of line, so that who makes room only tests whether there
-    /// is some.
+    /// Writes what is kept back. It is out of line, so that the caller only tests whether there is
+    /// some.
     #[cold]
     #[inline(never)]
     pub fn flush(&mut self)

@@ -1,4 +1,4 @@
-//! Signals, who hears them, and the threads that notifications are bound to.
+//! Signals, the threads that hear them, and the threads that notifications are bound to.
 ghost use Rattle.std.specs.Prelude.{◌≡◌, ◌<◌, true, IfSome, IsSome, is_some, is_none, length, ◌+◌};
 ghost use Rattle.mcs_types.specs.declared.id.Kind.{Kind};
 ghost use Rattle.mcs_types.specs.declared.record.Rec.{Rec};

@@ -268,7 +268,7 @@ impl<W: Waiting> State<W> {
         self.replies.owed(reply)
     }
 
-    /// Who uses a reply object: the caller that it owes, or the receiver that is queued with it;
+    /// The user of a reply object: the caller that it owes, or the receiver that is queued with it;
     /// None where nobody does (manual: Message Passing).
     pub fn user_of(&self, reply: ObjId) -> Option<ObjId>
         ensures { result ≡ user_of (so_far self.now) reply }
