@@ -464,9 +464,9 @@ impl<L: Lines> Walk<L> {
         true
     }
 
-    /// Makes a turn, where the cores have these picks, and gives what it was answered; None where
-    /// the rule has no such turn. Then, and after an error, nothing has changed. BookFull where the
-    /// book has 1,000,000 lines, OutOfMemory where memory was refused.
+    /// Makes a turn, where the cores have these picks, and returns its answer; None where the rule
+    /// has no such turn. Then, and after an error, nothing has changed. BookFull where the book has
+    /// 1,000,000 lines, OutOfMemory where memory was refused.
     pub fn turn(
         &mut self,
         alloc: Global,

@@ -92,7 +92,7 @@ pub fn settle<W: Waiting>(
 }
 
 /// Takes the open message of the first sender for a thread that receives with a reply object, or
-/// without one. The answer is an equal message.
+/// without one. Returns an equal message.
 // a part of its caller, so that the message is moved once less
 #[inline(always)]
 pub fn take<W: Waiting>(

@@ -52,7 +52,7 @@ impl Model for StepRun {
 }
 
 /// The outcome of a line whose number is not known.
-// two values, so that it is answered in registers, as a fault with a number is not
+// two values, so that it is returned in registers, as a fault with a number is not
 #[derive(Clone, Copy)]
 enum Outcome {
     Taken,

@@ -62,8 +62,8 @@ pub trait Lines: Sized + Drop {
     fn next(&self, t: ThreadNo) -> Option<ThreadNo>
         ensures { thread_number result ≡ behind_in (place self.now t.0) (line self.now) t.0 };
 
-    /// Takes thread `t` out of its line, which is answered. None, and nothing changes, where it is
-    /// in no line.
+    /// Takes thread `t` out of its line, and returns the line. None, and nothing changes, where it
+    /// is in no line.
     fn part(&mut self, t: ThreadNo) -> Option<LineNo>
         ensures answer { line_number result ≡ place self.old t.0 }
         ensures line { (k : ℕ) → line self.new k ≡ without t.0 (line self.old k) }

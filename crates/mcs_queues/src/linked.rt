@@ -118,7 +118,7 @@ fn relink(
     slots.set(t, slot);
 }
 
-/// Takes a thread out of its line, which is answered.
+/// Takes a thread out of its line, and returns the line.
 fn leave(slots: &mut LinkSlots, fingers: &mut Fingers, t: ThreadNo) -> Option<LineNo>
     requires linked { Linked slots.old (spelled slots.old) }
     requires pointed { Pointed fingers.old slots.old }
@@ -157,8 +157,8 @@ fn leave(slots: &mut LinkSlots, fingers: &mut Fingers, t: ThreadNo) -> Option<Li
     Some(q)
 }
 
-/// Makes a thread the finger of its priority, if that has none. Returns whether. A thread that is
-/// alone needs none, so a line that never has two takes no memory for fingers.
+/// Makes a thread the finger of its priority, if that has none. Returns whether it had none. A
+/// thread that is alone needs none, so a line that never has two takes no memory for fingers.
 fn offer(
     fingers: &mut Fingers,
     q: LineNo,
