@@ -162,7 +162,7 @@ impl Fingers {
         };
     }
 
-    /// Makes a thread the finger of its priority, if that has none. Returns whether it had none.
+    /// Makes a thread the finger of its priority, if that has none. Returns whether it became that.
     pub fn claim(&mut self, q: LineNo, p: Prio, t: ThreadNo) -> bool
         requires { q.0 < length self.old.places }
         ensures answer { result ≡ is_none (finger self.old q.0 p.0) }

@@ -157,7 +157,7 @@ fn leave(slots: &mut LinkSlots, fingers: &mut Fingers, t: ThreadNo) -> Option<Li
     Some(q)
 }
 
-/// Makes a thread the finger of its priority, if that has none. Returns whether it had none. A
+/// Makes a thread the finger of its priority, if that has none. Returns whether it became that. A
 /// thread that is alone needs none, so a line that never has two takes no memory for fingers.
 fn offer(
     fingers: &mut Fingers,
