@@ -171,7 +171,7 @@ fn pop(links: &mut Vec<Option<Link>>, tops: &mut Tops, place: PlaceNo, link: Lin
     tops.move_to(link.context, link.below);
 }
 
-/// Takes the top from the chain of a context, where nothing is above this link.
+/// Clears the top of the chain of a link's context, where nothing is above the link.
 fn cut_top(tops: &mut Tops, link: Link)
     ensures { tops.new ≡ left_by link tops.old }
 {

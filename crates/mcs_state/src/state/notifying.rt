@@ -60,7 +60,7 @@ fn home(contexts: &mut Contexts, context: ObjId, notification: Option<ObjId>)
 }
 
 /// Makes a notification that is there the home of a context. Where none is named, the former home
-/// has none any more.
+/// has no context any more.
 fn rehome(notifications: &mut Notifications, context: ObjId, from: Option<ObjId>, to: Option<ObjId>)
     requires from { IfSome from (λ n. is_there notifications.old n ≡ true) }
     requires to { IfSome to (λ n. is_there notifications.old n ≡ true) }
