@@ -1,5 +1,6 @@
 //! The names that a script gives to objects.
 use crate::fault::LabFault;
+use crate::tap::bare;
 use crate::words::{object_of, queue_of};
 use mcs_plan_source::is_like_id;
 use mcs_text::{Words, letter};
@@ -51,11 +52,11 @@ impl Names {
         }
     }
 
-    /// Takes a line of a script. Where it begins with `#@ ` it gives a name: an object, and one
-    /// word of letters, digits, `-`, `_` and `.`, which has not the shape of an object's id. Fault
-    /// Form where it has not this form.
+    /// Takes a line of a script, with its newline or without. Where it begins with `#@ ` it gives a
+    /// name: an object, and one word of letters, digits, `-`, `_` and `.`, which has not the shape
+    /// of an object's id. Fault Form where it has not this form.
     pub fn hear(&mut self, alloc: Global, number: u64, line: &[u8]) -> Result<(), LabFault> {
-        let [b'#', b'@', b' ', text @ .., b'\n'] = line else {
+        let [b'#', b'@', b' ', text @ ..] = bare(line) else {
             return Ok(());
         };
         let mut words = Words::new(text);

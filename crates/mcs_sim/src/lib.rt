@@ -34,4 +34,5 @@ pub use mcs_trace::Sink;
 pub use replaying::{TracedRun, simulate};
 pub use running::run_text;
 pub use startup::{answer_status, arguments};
-pub use writing::trace;
+pub use users::UserLines;
+pub use writing::{put_boot, trace};

@@ -1,5 +1,5 @@
 -- Users in order are of different threads, and stay in order with an entry more.
-use Rattle.std.specs.Prelude.{ℕ, zero, suc, Bool, true, false, nat_lt, ◌≡◌, ◌<◌, ◌≤◌, List, [], ◌∷◌, Option, Some, length, set, position, slice_get, if◌then◌else◌}
+use Rattle.std.specs.Prelude.{ℕ, zero, suc, Bool, true, false, nat_lt, cond, ◌≡◌, ◌<◌, ◌≤◌, List, [], ◌∷◌, Option, Some, None, length, set, position, slice_get, if◌then◌else◌}
 use Rattle.std.specs.Prelude.{Result, Ok, Err}
 use Rattle.std.specs.Result.{OnOk, OnErr}
 use Rattle.std.specs.List.{AllByRecursion, position_or_len}
@@ -12,7 +12,7 @@ use Rattle.mcs_types.specs.declared.entry.Entry.{Entry}
 use Rattle.mcs_types.specs.Ids.{same}
 use Rattle.mcs_types.proofs.Ids.{same-equal, same-self}
 use Rattle.mcs_turns.specs.Turns.{User, AreApart}
-use Rattle.mcs_users.specs.Users.{StandsBehind, AreInOrder, begun_with, with_more, with_entry}
+use Rattle.mcs_users.specs.Users.{again_at, StandsBehind, AreInOrder, begun_with, with_more, with_entry}
 
 -- what holds of all holds with an entry more
 all-with : (P : User → Type 0) (us : List User) (t : ObjId) (e : Entry) → ((u : User) → P u → P (with_more u e)) → P (begun_with t e) → AllByRecursion P us → AllByRecursion P (with_entry us t e)
@@ -119,9 +119,12 @@ either (Ok a) P Q S f g ok err = f ok
 either (Err e) P Q S f g ok err = g err
 
 -- the list in a place that was found goes on with an entry, or nothing changed
-pub order-repeat : (p : User → Bool) (old new : List User) (i number : ℕ) (b : Bool) → AreInOrder old → position p old ≡ Some i
-    → (b ≡ true → (u : User) → slice_get old i ≡ Some u → new ≡ set old i (record u { again = Some number })) → (b ≡ false → new ≡ old) → AreInOrder new
-order-repeat p old new i number true h found repeated kept =
-    let at = found-user p old i found in
-    subst (λ us. AreInOrder us) (sym (repeated refl at.0 at.1)) (order-again old i at.0 (Some number) at.1 h)
-order-repeat p old new i number false h found repeated kept = subst (λ us. AreInOrder us) (sym (kept refl)) h
+pub order-repeat : (p : User → Bool) (us : List User) (i number : ℕ) → AreInOrder us → position p us ≡ Some i → AreInOrder (again_at us i number)
+order-repeat p us i number h found = by (found-user p us i found).0 (found-user p us i found).1
+  where
+    either-way : (u : User) (b : Bool) → slice_get us i ≡ Some u → AreInOrder (cond b (set us i (record u { again = Some number })) us)
+    either-way u true at = order-again us i u (Some number) at h
+    either-way u false at = h
+
+    by : (u : User) → slice_get us i ≡ Some u → AreInOrder (again_at us i number)
+    by u at = subst (λ o. AreInOrder (elim o [ None ↦ us | Some v ↦ cond (nat_lt number (length v.entries)) (set us i (record v { again = Some number })) us ])) (sym at) (either-way u (nat_lt number (length u.entries)) at)

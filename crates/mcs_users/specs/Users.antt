@@ -1,5 +1,5 @@
 -- Users.
-use Rattle.std.specs.Prelude.{◌≡◌, ◌≤◌, ◌||◌, Bool, false, nat_lt, List, [], ◌∷◌, ◌++◌, None, if◌then◌else◌}
+use Rattle.std.specs.Prelude.{ℕ, ◌≡◌, ◌≤◌, ◌||◌, Bool, false, nat_lt, cond, List, [], ◌∷◌, ◌++◌, Some, None, if◌then◌else◌, length, position, set, slice_get}
 use Rattle.std.specs.List.{AllByRecursion, list_any}
 use Rattle.mcs_types.specs.declared.id.ObjId.{ObjId}
 use Rattle.mcs_types.specs.declared.entry.Entry.{Entry}
@@ -22,6 +22,17 @@ with_entry [] t e = begun_with t e ∷ []
 with_entry (u ∷ us) t e =
     if same u.thread t then with_more u e ∷ us
     else (if nat_lt t.serial u.thread.serial then begun_with t e ∷ u ∷ us else u ∷ with_entry us t e)
+
+-- users of which the one in a place goes on with its entry of this number, if it has one
+abbrev pub again_at : List User → ℕ → ℕ → List User
+again_at us i n = elim (slice_get us i) [
+  | None ↦ us
+  | Some u ↦ cond (nat_lt n (length u.entries)) (set us i (record u { again = Some n })) us
+]
+
+-- users of which that of a thread does
+abbrev pub with_again : List User → ObjId → ℕ → List User
+with_again us t n = elim (position (λ (u : User). same u.thread t) us) [ None ↦ us | Some i ↦ again_at us i n ]
 
 -- whether it is the user of a thread, or one of a later thread
 abbrev pub is_place_for : ObjId → User → Bool

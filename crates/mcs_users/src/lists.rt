@@ -2,7 +2,7 @@
 ghost use Rattle.std.specs.Prelude.{ℕ, ◌≡◌, ◌<◌, ◌≤◌, ◌∷◌, ◌++◌, [], true, false, IfOk, OnOk, OnErr, option_copied, position, slice_get, take, drop, set, length, Some};
 ghost use Rattle.mcs_types.specs.Ids.{same};
 ghost use Rattle.mcs_turns.specs.Turns.{User};
-ghost use Rattle.mcs_users.specs.Users.{begun_with, is_place_for, user_changes_slots, with_entry, with_more};
+ghost use Rattle.mcs_users.specs.Users.{again_at, begun_with, is_place_for, user_changes_slots, with_entry, with_more};
 
 use mcs_types::{Entry, ObjId, OutOfMemory};
 use std::alloc::Global;
@@ -177,19 +177,16 @@ impl Lists {
         }
     }
 
-    /// Lets the list in a place go on with an entry of it, by its number from 0. False where it has
-    /// no such entry; then nothing changed.
-    pub(crate) fn repeat_at(&mut self, place: usize, number: usize) -> bool
+    /// Lets the list in a place go on with an entry of it, by its number from 0. Nothing changes
+    /// where it has no such entry.
+    pub(crate) fn repeat_at(&mut self, place: usize, number: usize)
         requires { place < length self.old }
-        ensures yes { result ≡ true → (u : User) → slice_get self.old place ≡ Some u
-            → self.new ≡ set self.old place (record u { again = Some number }) }
-        ensures no { result ≡ false → self.new ≡ self.old }
+        ensures { self.new ≡ again_at self.old place number }
     {
         if number >= self.lists[place].entries.len() {
-            return false;
+            return;
         }
         let list = &mut self.lists[place];
         list.again = Some(number);
-        true
     }
 }

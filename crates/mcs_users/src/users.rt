@@ -1,8 +1,8 @@
 //! Users: the entries of each of some threads.
-ghost use Rattle.std.specs.Prelude.{ℕ, ◌≡◌, [], true, false, OnOk, OnErr, option_copied, position, slice_get, set, Some};
+ghost use Rattle.std.specs.Prelude.{◌≡◌, [], OnOk, OnErr, option_copied, position, slice_get};
 ghost use Rattle.mcs_types.specs.Ids.{same};
 ghost use Rattle.mcs_turns.specs.Turns.{User, AreApart};
-ghost use Rattle.mcs_users.specs.Users.{change_slots, with_entry};
+ghost use Rattle.mcs_users.specs.Users.{change_slots, with_again, with_entry};
 
 use crate::lists::{Lists, UserList};
 use mcs_types::{Entry, ObjId, OutOfMemory};
@@ -81,17 +81,13 @@ impl Users {
         self.lists.add(thread, entry)
     }
 
-    /// Lets the list of a thread go on with an entry of it, by its number from 0. False where it
-    /// has no such entry; then nothing changed.
-    pub fn repeat(&mut self, thread: ObjId, number: usize) -> bool
-        ensures yes { result ≡ true → (i : ℕ) (u : User)
-            → position (λ v. same v.thread thread) self.old ≡ Some i → slice_get self.old i ≡ Some u
-            → self.new ≡ set self.old i (record u { again = Some number }) }
-        ensures no { result ≡ false → self.new ≡ self.old }
+    /// Lets the list of a thread go on with an entry of it, by its number from 0. Nothing changes
+    /// where it has no such entry.
+    pub fn repeat(&mut self, thread: ObjId, number: usize)
+        ensures { self.new ≡ with_again self.old thread number }
     {
-        match self.lists.find(thread) {
-            Some(place) => self.lists.repeat_at(place, number),
-            None => false,
+        if let Some(place) = self.lists.find(thread) {
+            self.lists.repeat_at(place, number);
         }
     }
 }
