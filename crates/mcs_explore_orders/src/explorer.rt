@@ -31,7 +31,7 @@ pub trait Watch: Drop {
 
     ghost aim: { Self → Aim };
 
-    /// Shows the state in this place, and whether it is over: no turn is possible.
+    /// Sees the state in this place, and whether it is over: no turn is possible.
     fn see_state(
         &mut self,
         users: &Users,
@@ -43,7 +43,7 @@ pub trait Watch: Drop {
         ensures sees { OnOk result (SeesState HasSeen self.old self.new
             users.now place walk.now is_over) };
 
-    /// Shows a turn from the state in this place: its answer, and the state after it.
+    /// Sees a turn from the state in this place: its answer, and the state after it.
     fn see_turn(
         &mut self,
         users: &Users,
@@ -250,7 +250,7 @@ impl<'a, W: Watch> Explorer<'a, W> {
         Ok(())
     }
 
-    /// Copies a walk, in the memory of a spare one.
+    /// Clones a walk in the memory of a spare one.
     fn copy_of(
         &mut self,
         alloc: Global,

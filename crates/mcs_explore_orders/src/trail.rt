@@ -191,7 +191,7 @@ impl Trail {
         }
     }
 
-    /// Copies a walk, in the memory of a spare one.
+    /// Clones a walk in the memory of a spare one.
     pub fn copy_of(
         &mut self,
         alloc: Global,

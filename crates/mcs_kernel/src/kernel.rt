@@ -67,7 +67,7 @@ fn answer_plain(answer: &mut Answer, ended: Result<(), Refusal>)
     }
 }
 
-/// Writes the answer of a send: whether its thread waits, or the refusal.
+/// Answers a send: whether its thread waits, or the refusal.
 #[inline(always)]
 fn answer_send(answer: &mut Answer, waits: Result<bool, Refusal>)
     requires { answer.old ≡ Done }

@@ -36,7 +36,7 @@ pub enum Question {
     With { reply: ObjId },
     /// `n1 pending 5`, or `-`.
     Pending { notification: ObjId },
-    /// `e1.recv t2 t4`: who is there, first to last, or `-`.
+    /// `e1.recv t2 t4`: the threads there, first to last, or `-`.
     Queue { queue: Queue },
     /// `c1 3 holds e1 rw 9`, or `-`.
     Slot { cnode: ObjId, index: u8 },
