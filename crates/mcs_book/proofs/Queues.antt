@@ -1,4 +1,4 @@
--- Queues of endpoints and notifications, and who stands in them.
+-- Queues of endpoints and notifications, and who is in them.
 pub mod Sorted
 pub mod Waiting
 pub mod QueueLaws

@@ -240,7 +240,7 @@ module _ (f : Rec → Bool) (others : (r : Rec) → is_of_slots r ≡ false → 
   act-say : (r : Rec) → is_of_slots r ≡ false → OnPassed SparesAct (Ok (answers Done (say r)))
   act-say r e = act-piece Done (say r) (spares-say r e)
 
-  -- a message is sent, and its sender stands in its queue
+  -- a message is sent, and its sender is in its queue
   spares-queues : (t : ObjId) (held : Cap) (mode : SendMode) (message : Content) → SparesAct (queues (letter_over t held mode message))
   unfolding queues
   spares-queues t held mode message = record { at = λ S. (spares-then (sent (letter_over t held mode message S)) (say (rec.Joins t (Senders held.obj) None)) (spares-say _ refl) (spares-say _ refl)).at S }

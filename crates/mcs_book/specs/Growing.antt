@@ -19,7 +19,7 @@ pub record Waiter : Type 0 where
   pub thread : ObjId
   pub priority : ℕ
 
--- behind all of its priority or a greater one
+-- after all of its priority or a greater one
 abbrev pub insert_behind : Waiter → List Waiter → List Waiter
 insert_behind w [] = w ∷ []
 insert_behind w (v ∷ vs) = cond (nat_lt v.priority w.priority) (w ∷ v ∷ vs) (v ∷ insert_behind w vs)

@@ -36,7 +36,7 @@ if_at_home R _ _ = None
 unfoldable pub go_home : ObjId → Option ObjId → Piece
 go_home t n R = let_go (if_at_home R n (context_of R t)) R
 
--- t stands in the queue q with the reply object r; n is the notification by which it may wake
+-- t is in the queue q with the reply object r; n is the notification by which it may wake
 unfoldable pub stand : ObjId → Queue → Option ObjId → Option ObjId → Piece
 stand t q r n = say (rec.Joins t q r) then go_home t n
 

@@ -43,7 +43,7 @@ sends_to s answer alone None = alone
 unfoldable pub sends : (Log → Letter) → Answer → Act → Act
 sends letter answer alone R = sends_to (letter R) answer alone (first_in R (Receivers ((letter R).endpoint))) R
 
--- a message is sent, and its sender stands in its queue
+-- a message is sent, and its sender is in its queue
 unfoldable pub queues : (Log → Letter) → Act
 queues letter R = answers Waits (sent (letter R) then say (Joins ((letter R).sender) (Senders ((letter R).endpoint)) None)) R
 

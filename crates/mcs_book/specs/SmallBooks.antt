@@ -1,5 +1,5 @@
 -- Small books on one boot: two that are legal, and for each law of fair books one that breaks it.
--- Records stand in the order in which they were made, lines the newest first.
+-- Records are in the order in which they were made, lines the newest first.
 use Rattle.std.specs.Prelude.{ℕ, None, Some, List, [], ◌∷◌}
 use Rattle.mcs_types.specs.Views.{Content}
 use Rattle.mcs_types.specs.declared.id.Badge.{Badge}
@@ -36,11 +36,11 @@ line i entry answer records = record { step = by i entry; answer = answer; recor
 abbrev pub on_five_threads : List Line → Book
 on_five_threads lines = record { boot = five_threads; lines = lines }
 
--- thread i, whose capability has the badge 9, stands in its queue with a message of label i
+-- thread i, whose capability has the badge 9, is in its queue with a message of label i
 abbrev pub waits_to_send : ℕ → Line
 waits_to_send i = line i (do_.Send 1 (text i)) Waits (rec.Sent (t i) (e 1) how.Plain (badge 9) (text i) ∷ rec.Joins (t i) (Senders (e 1)) None ∷ [])
 
--- thread i stands in its queue to receive
+-- thread i is in its queue to receive
 abbrev pub waits_to_receive : ℕ → Line
 waits_to_receive i = line i (do_.Recv 2 8) Waits (rec.Joins (t i) (Receivers (e 1)) (Some (r 1)) ∷ [])
 
@@ -48,8 +48,8 @@ waits_to_receive i = line i (do_.Recv 2 8) Waits (rec.Joins (t i) (Receivers (e 
 abbrev pub takes_with : Badge → ℕ → ℕ → ℕ → Line
 takes_with b i m j = line i (do_.Recv 2 8) (Got b (text j)) (rec.Took m (t i) ∷ rec.Parts (t j) (Senders (e 1)) ∷ rec.Turns (t j) Running ∷ [])
 
--- the first thread, whose context is its own, calls the second, which stands in its queue without
--- one and gets it
+-- the first thread, whose context is its own, calls the second, which is in its queue without one
+-- and gets it
 abbrev pub calls : Line
 calls = line 1 (do_.Call 2 (text 3)) Waits (rec.Sent (t 1) (e 1) how.Call (badge 0) (text 3) ∷ rec.Took 0 (t 2) ∷ rec.Parts (t 2) (Receivers (e 1)) ∷ rec.Owes (r 1) (t 1) (Some (s 1)) ∷ rec.Holds (s 1) (Some (t 2)) ∷ rec.Turns (t 2) Running ∷ [])
 
@@ -89,7 +89,7 @@ out_of_order = on_five_threads (takes_with (badge 9) 5 0 1 ∷ takes_with (badge
 abbrev pub after_the_end : Book
 after_the_end = on_five_threads (takes_with (badge 9) 2 0 1 ∷ line 5 (do_.DeleteCap (record { index = 2; depth = 64 })) Done (rec.Closed (e 1) ∷ []) ∷ waits_to_send 1 ∷ [])
 
--- a sender stands in its queue, and no message of it is open
+-- a sender is in its queue, and no message of it is open
 abbrev pub nothing_sent : Book
 nothing_sent = on_five_threads (line 1 (do_.Send 1 (text 1)) Waits (rec.Joins (t 1) (Senders (e 1)) None ∷ []) ∷ [])
 
@@ -101,6 +101,6 @@ paid_twice = on_five_threads (answers_with [] ∷ answers_with (rec.Holds (s 1) 
 abbrev pub kept_context : Book
 kept_context = on_five_threads (answers_with (rec.Joins (t 2) (Receivers (e 1)) (Some (r 1)) ∷ []) ∷ called)
 
--- a sender stands in its queue where a receiver does
+-- a sender is in its queue where a receiver is
 abbrev pub both_wait : Book
 both_wait = on_five_threads (waits_to_send 1 ∷ waits_to_receive 2 ∷ [])

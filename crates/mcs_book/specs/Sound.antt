@@ -45,7 +45,7 @@ IsLineThere R (Senders e) = IsThere R kind.Endpoint e
 IsLineThere R (Receivers e) = IsThere R kind.Endpoint e
 IsLineThere R (Waiters n) = IsThere R kind.Notification n
 
--- nobody stands in a queue
+-- nobody is in a queue
 abbrev pub IsEmptyLine : Log → Queue → Type 0
 IsEmptyLine R q = (x : ObjId) → queue_of R x ≢ Some q
 
@@ -90,7 +90,7 @@ IsReleased R kind.Reply o = IsFreeReply R o
 IsReleased R kind.Context o = (holder_of R o ≡ None) × (home_of R o ≡ None)
 IsReleased R kind.Thread o = IsIdle R o × HoldsNone R o × (bound_of R o ≡ None)
 
--- what must hold before a record is made; R stands before it
+-- what must hold before a record is made; R is before it
 abbrev pub Allowed : Log → Rec → Type 0
 Allowed R (Made o form) = (o ≡ next_id R o.kind) × IsFormOf o.kind form
 Allowed R (Closed o) = IsTrue (is_alive R o) × IsReleased R o.kind o × ((c : ObjId) (i : ℕ) → is_cap_to o (slot R c i) ≡ false)

@@ -59,7 +59,7 @@ may_enter R core t = is_ready (status_of R t) && is_on_core core (option_and_the
 abbrev pub letter_mail : Letter → Mail
 letter_mail s = Message s.badge s.message
 
--- what a record brings to t; R stands before it
+-- what a record brings to t; R is before it
 abbrev pub mail_brought : ObjId → Log → Rec → Option (Option Mail)
 mail_brought t R (Took m p) = given (same t p) (option_map letter_mail (letter R m))
 mail_brought t R (Paid r x message) = given (same t x) (Some (Message (record { 0 = 0 }) message))

@@ -48,7 +48,7 @@ settle how.Call x p None goes_on = say (Turns x Inactive)
 settle how.Mute x p r goes_on = say (Turns x Inactive)
 settle how.Give x p r goes_on = give x p
 
--- a message that was just sent is taken by p, who stands in its queue for it
+-- a message that was just sent is taken by p, who is in its queue for it
 unfoldable pub handed : Letter → ObjId → Piece
 handed s p R =
     (say (Took s.number p)
@@ -56,7 +56,7 @@ handed s p R =
     then settle s.mode s.sender p (reply_with R p) nothing
     then say (Turns p Running)) R
 
--- a message of a sender who stands in its queue is taken by p, who receives with r
+-- a message of a sender who is in its queue is taken by p, who receives with r
 unfoldable pub taken : Letter → ObjId → Option ObjId → Piece
 taken s p r =
     say (Took s.number p)

@@ -43,7 +43,7 @@ impl<'a> Model for Line<'a> {
 }
 
 impl<'a> Line<'a> {
-    /// Who entered on which core, and the entry, where the book keeps them.
+    /// The thread that entered, its core and the entry, where the book keeps them.
     pub fn kept_step(&self) -> KeptStep<'_>
         ensures { result ≡ self.now.step }
     {
@@ -56,7 +56,7 @@ impl<'a> Line<'a> {
         }
     }
 
-    /// Who entered on which core, and the entry. A message of four words takes no memory.
+    /// The thread that entered, its core and the entry. A message of four words takes no memory.
     pub fn step(&self, alloc: Global) -> Result<Step, OutOfMemory>
         ensures { IfOk result (λ s. s ≡ self.now.step) }
     {
@@ -132,8 +132,8 @@ fn record_at<'a>(
 /// the records of all lines side by side, and the words that they name. `sent` has the place of the
 /// words of each message. The packed records from `start` on are those of the open line, and `room`
 /// is 0 or how many more it may have, and one more. Beside these the lists have room for `ahead`
-/// records, heads and all. Two hints for the open line's head: the words of the line stand from
-/// `first` on, and those of its answer may stand at `place`.
+/// records, heads and all. Two hints for the open line's head: the words of the line are from
+/// `first` on, and those of its answer may be at `place`.
 pub struct Book {
     cores: u8,
     boot: Vec<BootLine>,
@@ -149,7 +149,7 @@ pub struct Book {
 }
 
 // By hand, so that it is a function of its own: a derived drop would be proved anew wherever a book
-// is let go.
+// is dropped.
 impl Drop for Book {
     fn drop(self) {
         let Book {
@@ -249,9 +249,9 @@ fn line_at<'a>(
 // What packs a record, makes room for it or closes its line is inlined where it is made: the kind
 // of the record is known there.
 
-/// Notes where the words of a message that was sent stand, and where those of the line's answer
-/// may: those of what was taken or heard. A place is a hint: what stands there is compared before
-/// it is shared.
+/// Notes where the words of a message that was sent are, and where those of the line's answer may:
+/// those of what was taken or heard. A place is a hint: what is there is compared before it is
+/// shared.
 #[inline(always)]
 fn note_place(sent: &mut Vec<u32>, place: &mut u32, packed: &Packed) {
     match packed {
@@ -268,7 +268,7 @@ fn note_place(sent: &mut Vec<u32>, place: &mut u32, packed: &Packed) {
     }
 }
 
-/// Packs a record, for which there is room, behind the others.
+/// Packs a record, for which there is room, after the others.
 #[inline(always)]
 fn push_packed(
     arena: &mut Arena,
@@ -361,7 +361,7 @@ fn copy_boot(alloc: Global, boot: &[BootLine], room: usize) -> Result<Vec<BootLi
     Ok(copy)
 }
 
-/// The first packed records alone are left.
+/// Keeps the first packed records alone.
 fn keep_first(packed: &mut Vec<Packed>, count: usize)
     ensures items { packed.new.items ≡ take count packed.old.items }
     ensures capacity { vec_capacity packed.new ≡ vec_capacity packed.old }
@@ -392,7 +392,7 @@ fn line_head(step: &Step, entry: PackedEntry, answer: PackedAnswer, end: u32) ->
     }
 }
 
-/// An entry that stands until it is packed.
+/// A placeholder for an entry that is not packed yet.
 const BLANK: PackedEntry = PackedEntry::Address(OverAddress::Wait, PackedAddress(0));
 
 /// The most words that one record keeps, but for long messages.
@@ -414,7 +414,7 @@ const HEAD_RECORDS: usize = (SPARE_WORDS + 2 * ENTRY_ROOM) / MOST_WORDS + 1;
 /// The most records of one line, for which there may be room.
 const MOST_RECORDS: usize = 1_000_000;
 
-/// For how many lines with as many records room is made ahead: long lists grow where they stand, so
+/// For how many lines with as many records room is made ahead: long lists grow where they are, so
 /// early room saves copies.
 const LINES_AHEAD: usize = 16;
 
@@ -489,8 +489,8 @@ impl Book {
         (heads, packed, arena, sent)
     }
 
-    /// An equal book, with as much room, so that it takes memory for a line only where this one
-    /// would, in the memory of a spare one. OutOfMemory where memory is refused.
+    /// Clones the book in the memory of a spare one, with as much room, so that the clone takes
+    /// memory for a line only where this one would. OutOfMemory where memory is refused.
     pub fn copy(&self, alloc: Global, spare: Option<Book>) -> Result<Book, OutOfMemory>
         ensures { IfOk result (λ b. b ≡ self.now) }
     {
@@ -529,7 +529,7 @@ impl Book {
         Ok(())
     }
 
-    /// Lets go of the records of the open line. Their words stay.
+    /// Drops the records of the open line. Their words stay.
     fn drop_open(&mut self)
         ensures book { self.new.book ≡ self.old.book }
         ensures hand { self.new.hand ≡ [] }
@@ -541,8 +541,7 @@ impl Book {
         self.place = 0;
     }
 
-    /// Adds a line to the boot, for which there is room, and lets go of the records of the open
-    /// line.
+    /// Adds a line to the boot, for which there is room, and drops the records of the open line.
     pub fn add_boot_line(&mut self, line: BootLine)
         requires { 0 < self.old.boot_room }
         ensures line { self.new.book ≡ with_boot_line self.old.book line }
@@ -701,8 +700,7 @@ impl Book {
         self.room -= 1;
     }
 
-    /// Notes records in order, for which there is room. What stands in their places then means
-    /// nothing.
+    /// Notes records in order, for which there is room. What is in their places then means nothing.
     fn note_all(&mut self, records: &mut [Rec])
         requires { length records.old < self.old.room }
         ensures hand { self.new.hand ≡ reverse records.old ++ self.old.hand }
@@ -737,8 +735,7 @@ impl Book {
         self.place = 0;
     }
 
-    /// Adds a line, and empties the records, whose room stays. Lets go of the records of the open
-    /// line.
+    /// Adds a line, and empties the records, whose room stays. Drops the records of the open line.
     pub fn append(&mut self, step: &Step, answer: &Answer, records: &mut Vec<Rec>)
         requires { vec_len records.old < self.old.room }
         ensures line { self.new.book

@@ -6,11 +6,11 @@ ghost use Rattle.mcs_book.specs.History.{IsLegal};
 ghost use Rattle.mcs_book.specs.SmallBooks.{answered, taken_in_turn, second_take, wrong_badge, not_the_first, out_of_order, after_the_end, nothing_sent, paid_twice, kept_context, both_wait};
 
 /// Each law of fair books refuses a small book. In these, one after another, a message is taken
-/// twice; is taken with another badge than it was sent with; is taken from a sender who is not the
+/// twice; is taken with another badge than it was sent with; is taken from a sender that is not the
 /// first in the queue; the later of two messages of one sender is taken first; a message is taken
-/// once its endpoint was closed; a sender stands in its queue with no open message; a call is
-/// answered twice; the context that a call brought does not return with its answer; and a sender
-/// waits beside a receiver.
+/// once its endpoint was closed; a sender is in its queue with no open message; a call is answered
+/// twice; the context that a call brought does not return with its answer; and a sender waits
+/// beside a receiver.
 pub fn each_law_refuses()
     ensures second_take { EachRecord EndsOpen second_take → ⊥ }
     ensures wrong_badge { EachLine IsWholeLine wrong_badge → ⊥ }
@@ -29,7 +29,7 @@ pub fn answered_is_fair()
     ensures fair { IsFair answered }
 {}
 
-/// A book in which two senders stand in their queues and are taken by priority is legal, and fair.
+/// A book in which two senders are in their queues and are taken by priority is legal, and fair.
 pub fn taken_in_turn_is_fair()
     ensures legal { IsLegal taken_in_turn }
     ensures fair { IsFair taken_in_turn }

@@ -31,8 +31,8 @@ pub fn none_beside()
     ensures { AfterEachLine NoneWaitBeside book }
 {}
 
-/// After each line of a legal book a thread stands among the senders of an endpoint exactly where a
-/// message of it is open there, and no thread has two.
+/// After each line of a legal book a thread is queued among the senders of an endpoint exactly
+/// where a message of it is open there, and no thread has two.
 pub fn not_cancelled()
     ghost book: { Book }
     requires { IsLegal book }

@@ -62,7 +62,7 @@ unfolding boot_log
 boot-unowed [] r = refl
 boot-unowed (line ∷ lines) r = line-owes (boot_log lines) line r (boot-unowed lines r)
 
--- as many objects of a kind stand in its list as were made
+-- as many objects of a kind are in its list as were made
 pub length-made : (R : Log) (k : Kind) → length (made_of R k) ≡ counted (makes_kind k) R
 length-made [] k = refl
 length-made (rec.Made o form ∷ R) k = go (same_kind o.kind k) (length-made R k)
@@ -81,7 +81,7 @@ counted-all p (x ∷ xs) h = go (p x) (h x (inl refl)) (counted-all p xs (λ y i
     go true e later = omega (arith, later)
     go false e later = absurd cc
 
--- what stands in the list of a kind was made
+-- what is in the list of a kind was made
 listed-made : (R : Log) (k : Kind) (o : ObjId) → In o (made_of R k) → was_made R o ≡ true
 listed-made [] k o i = absurd i
 listed-made (rec.Made u form ∷ R) k o i = go (same_kind u.kind k) i (listed-made R k o)
@@ -141,7 +141,7 @@ holder-made (_ ∷ R) s t sound h = holder-made R s t sound.1 h
 pub next-holds-none : (R : Log) → Sound R → HoldsNone R (next_id R kind.Thread)
 next-holds-none R sound s h = next-unmade R kind.Thread sound (holder-made R s (next_id R kind.Thread) sound h)
 
--- the next thread stands in no queue
+-- the next thread is in no queue
 pub next-stands-none : (R : Log) → Sound R → queue_of R (next_id R kind.Thread) ≡ None
 next-stands-none R sound = go (queue_of R (next_id R kind.Thread)) refl
   where

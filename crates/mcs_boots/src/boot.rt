@@ -109,7 +109,7 @@ impl Boot {
         Some(self.state.radix(cnode))
     }
 
-    /// Nothing is wrong with the boot.
+    /// Proves that nothing is wrong with the boot.
     pub fn is_faultless(&self)
         ensures { IsFaultless self.now }
     {
@@ -125,7 +125,7 @@ impl Boot {
         self.state.book()
     }
 
-    /// The same, with which the boot ends: its tables are let go.
+    /// The same, with which the boot ends: its tables are dropped.
     pub fn into_book(self) -> Book
         ensures boot { result.book.boot ≡ self }
         ensures faultless { IsFaultless self }

@@ -47,7 +47,7 @@ line-cancelled R x q p mode at =
     let h : growing_queue (onto (leave R x (queue_of R x) R) R) p ≡ without x (growing_queue R p) = subst (λ o. growing_queue (onto (leave R x o R) R) p ≡ without x (growing_queue R p)) (sym at) (line-left R x q p) in
     then-next (λ S. growing_queue S p ≡ without x (growing_queue R p)) (leave R x (queue_of R x)) (say (rec.Turns x mode)) R h
 
--- between two turns: once those who stand in the queue restart, all do that were to
+-- between two turns: once those who are in the queue restart, all do that were to
 pub record IsEmptying (q : Queue) (old now : Now) : Type 0 where
   pub sound : Sound (so_far now)
   pub room : HasRoomFor (restarts_all (so_far now) q) now
@@ -77,7 +77,7 @@ first-head : (R : Log) (q : Queue) → first_in R q ≡ head_of (queued_in R q)
 unfolding first_in
 first-head R q = refl
 
--- the first of a list in which each stands once is removed
+-- the first of a list in which each is once is removed
 first-removed : (x : ObjId) (xs : List ObjId) → Distinct (x ∷ xs) → removed x (x ∷ xs) ≡ xs
 first-removed x xs d = rw (same-self x) (removed-none x xs d.0)
 
@@ -135,7 +135,7 @@ pub nobody : (o : Option ObjId) → ((x : ObjId) → o ≡ Some x → ⊥) → o
 nobody None h = refl
 nobody (Some x) h = absurd (h x refl)
 
--- at the end nobody stands there
+-- at the end nobody is there
 pub emptied : (R : Log) (q : Queue) → Sound R → first_in R q ≡ None → IsEmptyLine R q
 emptied R q sound none y at = subst (λ xs. In y xs) (headless (queued_in R q) (sym (first-head R q) ∙ none)) (line-in R q y sound at)
 

@@ -1,4 +1,4 @@
--- Who follows a thread in a list in which each stands once, and in that list without the thread.
+-- Who follows a thread in a list in which each is once, and in that list without the thread.
 use Rattle.std.specs.Prelude.{◌≡◌, ◌≢◌, Bool, true, false, cond, List, [], ◌∷◌, Option, Some, None}
 use Rattle.std.specs.Option.{IfSome}
 use Rattle.std.proofs.Common.{refl, ap, sym, ◌∙◌, inl, inr, subst}

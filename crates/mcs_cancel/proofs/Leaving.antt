@@ -69,7 +69,7 @@ status-there R x there =
     let thread : (same_kind x.kind kind.Thread && was_made R x) ≡ true = both _ _ (ap (λ k. same_kind k kind.Thread) there.0) made.0 in
     ap (λ b. cond b (Some (cond (was_closed R x) status.Closed S)) None) thread ∙ ap (λ b. Some (cond b status.Closed S)) (unless (was_closed R x) made.1)
 
--- the reply object on which a thread waits that stands in no queue is the one that owes it
+-- the reply object on which a thread waits that is in no queue is the one that owes it
 pub owing-awaited : (R : Log) (x : ObjId) (s : Option Status) (o : Option ObjId) → IsThere R kind.Thread x → queue_of R x ≡ None → s ≡ status_of R x → o ≡ reply_awaited s → owing R x ≡ o
 owing-awaited R x s o there none is awaited =
     sym (awaited ∙ ap reply_awaited (is ∙ status-there R x there ∙ ap (λ q. Some (status_by q (owing R x) (mode_of R x))) none) ∙ go (owing R x) (mode_of R x))

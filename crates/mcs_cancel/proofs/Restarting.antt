@@ -45,8 +45,8 @@ badged R badge xs = filter (λ x. has_badge badge (open_of R x)) xs
 abbrev pub restarts_from : Log → ObjId → ℕ → Option ObjId → Piece
 restarts_from R e badge at = cancel_all (badged R badge (senders_from R e at)) Restart
 
--- between two turns: the next one stands in the queue, and once those from it on restart, all do
--- that were to
+-- between two turns: the next one is in the queue, and once those from it on restart, all do that
+-- were to
 pub record IsUnderWay (e : ObjId) (badge : ℕ) (at : Option ObjId) (old now : Now) : Type 0 where
   pub sound : Sound (so_far now)
   pub stands : IfSome at (λ x. queue_of (so_far now) x ≡ Some (Senders e))
@@ -76,7 +76,7 @@ sender-cancelled R x e mode sound at =
     let h : IsWithout x e R (onto (leave R x (queue_of R x) R) R) = subst (λ q. IsWithout x e R (onto (leave R x q R) R)) (sym at) (sender-left R x e sound) in
     then-next (IsWithout x e R) (leave R x (queue_of R x)) (say (rec.Turns x mode)) R (record { line = h.line; letters = h.letters; queues = h.queues })
 
--- each stands once in a queue
+-- each is once in a queue
 pub line-distinct : (R : Log) (q : Queue) → Sound R → Distinct (queued_in R q)
 line-distinct R q sound = subst (λ xs. Distinct xs) (sym (queued_in-growing R q sound)) (go (threads_in (growing_queue R q)) (line-sorted R q sound))
   where
@@ -96,7 +96,7 @@ badged-same R S badge (x ∷ xs) h =
     ap (λ o. cond (has_badge badge o) (x ∷ badged S badge xs) (badged S badge xs)) (h x (inl refl))
     ∙ ap (λ ys. cond (has_badge badge (open_of R x)) (x ∷ ys) ys) (badged-same R S badge xs (λ y i. h y (inr i)))
 
--- the next of a thread that stands in a queue
+-- the next of a thread that is in a queue
 next-among : (R : Log) (x : ObjId) (q : Queue) → queue_of R x ≡ Some q → next_of R x ≡ next_among x (queued_in R q)
 unfolding next_of
 next-among R x q at = ap (λ o. next_in R o x) at

@@ -7,7 +7,7 @@ use Rattle.mcs_book.specs.Cancelling.{cancel_all}
 use Rattle.mcs_book.specs.Pieces.{Piece}
 use Rattle.mcs_book.specs.Queues.{queued_in}
 
--- those who stand in a queue in the log S restart
+-- those who are in a queue in the log S restart
 abbrev pub restarts_all : Log → Queue → Piece
 restarts_all S q = cancel_all (queued_in S q) Restart
 

@@ -26,7 +26,7 @@ fn has_badge(letter: Option<&Letter>, badge: Badge) -> bool
     }
 }
 
-/// Cancels a sender where its open message has this badge: it restarts. Answers who stood behind
+/// Cancels a sender where its open message has this badge: it restarts. Returns the thread after
 /// it.
 fn restart_one<W: Waiting>(state: &mut State<W>, sender: ObjId, badge: Badge) -> Option<ObjId>
     requires there { IsThere (so_far state.old) Kind.Thread sender }
@@ -83,10 +83,10 @@ fn badged_endpoint<W: Waiting>(
     Ok(cap)
 }
 
-/// CancelBadged: each queued sender whose message has the badge of the capability restarts, and its
-/// message is dropped; badge 0 cancels nobody. The refusals are 1 to 3 of the lookup, 4 for a
-/// capability of another kind, and 5 where one of the four rights is missing; they change nothing
-/// (manual: Capability Spaces; Message Passing).
+/// Performs CancelBadged: each queued sender whose message has the badge of the capability
+/// restarts, and its message is dropped; badge 0 cancels nobody. The refusals are 1 to 3 of the
+/// lookup, 4 for a capability of another kind, and 5 where one of the four rights is missing; they
+/// change nothing (manual: Capability Spaces; Message Passing).
 pub fn cancel_badged<W: Waiting>(
     state: &mut State<W>,
     core: CoreId,

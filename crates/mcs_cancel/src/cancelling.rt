@@ -12,8 +12,8 @@ use mcs_object_queues::Waiting;
 use mcs_state::State;
 use mcs_types::{Ending, Mode, ObjId, Queue, Status};
 
-/// The open message of a thread that leaves this queue is dropped, where it sends there: nobody
-/// receives it (own).
+/// Drops the open message of a thread that leaves this queue, where it sends there: nobody receives
+/// it (own).
 fn drop_letter<W: Waiting>(state: &mut State<W>, thread: ObjId, queue: Queue)
     requires room { HasRoomFor (drops_from thread queue) state.old }
     ensures { Makes (drops_from thread queue) state.old state.new }
@@ -30,7 +30,7 @@ fn drop_letter<W: Waiting>(state: &mut State<W>, thread: ObjId, queue: Queue)
     }
 }
 
-/// A thread leaves its queue; the message of a sender is dropped first.
+/// Takes a thread out of its queue. The message of a sender is dropped first.
 fn leave_queue<W: Waiting>(state: &mut State<W>, thread: ObjId, queue: Queue)
     requires stands { queue_of (so_far state.old) thread ≡ Some queue }
     requires room { HasRoomFor (leaves_queue thread queue) state.old }
@@ -50,7 +50,7 @@ fn reply_awaited(status: Option<Status>) -> Option<ObjId>
     }
 }
 
-/// The reply object that owes a thread an answer owes it nothing any more.
+/// Voids what a reply object owes a thread, if one does.
 fn leave_reply<W: Waiting>(state: &mut State<W>, thread: ObjId)
     requires there { IsThere (so_far state.old) Kind.Thread thread }
     requires stands { queue_of (so_far state.old) thread ≡ None }
@@ -66,7 +66,7 @@ fn leave_reply<W: Waiting>(state: &mut State<W>, thread: ObjId)
     }
 }
 
-/// A thread leaves what it is blocked on.
+/// Takes a thread off what it is blocked on.
 fn leave<W: Waiting>(state: &mut State<W>, thread: ObjId)
     requires there { IsThere (so_far state.old) Kind.Thread thread }
     requires room { HasRoomFor (leaves thread) state.old }

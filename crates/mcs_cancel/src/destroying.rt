@@ -17,7 +17,7 @@ use mcs_object_queues::Waiting;
 use mcs_state::{State, give_back};
 use mcs_types::{Ending, Kind, Mode, ObjId, Queue};
 
-/// Cancels each thread of a queue, first to last: it restarts. Nobody stands there then.
+/// Cancels each thread of a queue, first to last: it restarts. Nobody is there then.
 fn restart_all<W: Waiting>(state: &mut State<W>, queue: Queue)
     requires room { HasRoomFor (restarts_all (so_far state.old) queue) state.old }
     ensures made { Makes (restarts_all (so_far state.old) queue) state.old state.new }
@@ -31,7 +31,7 @@ fn restart_all<W: Waiting>(state: &mut State<W>, queue: Queue)
     }
 }
 
-/// Nobody is left with an endpoint: its senders restart, and then its receivers.
+/// Restarts the senders of an endpoint, and then its receivers.
 fn release_endpoint<W: Waiting>(state: &mut State<W>, endpoint: ObjId)
     requires room { HasRoomFor (releases endpoint Kind.Endpoint) state.old }
     ensures made { Makes (releases endpoint Kind.Endpoint) state.old state.new }
@@ -42,7 +42,7 @@ fn release_endpoint<W: Waiting>(state: &mut State<W>, endpoint: ObjId)
     state.is_sound();
 }
 
-/// No thread is bound to a notification any more.
+/// Unbinds the thread of a notification, if one is bound.
 fn free<W: Waiting>(state: &mut State<W>, notification: ObjId)
     requires room { HasRoomFor (frees notification) state.old }
     ensures made { Makes (frees notification) state.old state.new }
@@ -55,7 +55,7 @@ fn free<W: Waiting>(state: &mut State<W>, notification: ObjId)
     }
 }
 
-/// No context is homed at a notification any more.
+/// Unhomes the context of a notification, if one is homed there.
 fn clear<W: Waiting>(state: &mut State<W>, notification: ObjId)
     requires room { HasRoomFor (clears notification) state.old }
     ensures made { Makes (clears notification) state.old state.new }
@@ -68,8 +68,7 @@ fn clear<W: Waiting>(state: &mut State<W>, notification: ObjId)
     }
 }
 
-/// Nobody is left with a notification: its waiters restart, no thread is bound to it, and no
-/// context is homed at it.
+/// Restarts the waiters of a notification, unbinds its thread, and unhomes its context.
 fn release_notification<W: Waiting>(state: &mut State<W>, notification: ObjId)
     requires room { HasRoomFor (releases notification Kind.Notification) state.old }
     ensures made { Makes (releases notification Kind.Notification) state.old state.new }
@@ -80,7 +79,7 @@ fn release_notification<W: Waiting>(state: &mut State<W>, notification: ObjId)
     clear(state, notification);
 }
 
-/// A thread is bound to no notification any more.
+/// Unbinds the notification of a thread, if it has one.
 fn untie<W: Waiting>(state: &mut State<W>, thread: ObjId)
     requires room { HasRoomFor (unties thread) state.old }
     ensures made { Makes (unties thread) state.old state.new }
@@ -92,7 +91,7 @@ fn untie<W: Waiting>(state: &mut State<W>, thread: ObjId)
     }
 }
 
-/// A thread holds no context any more.
+/// Takes the context from a thread, if it holds one.
 fn let_go<W: Waiting>(state: &mut State<W>, thread: ObjId)
     requires room { HasRoomFor (lets_go thread) state.old }
     ensures made { Makes (lets_go thread) state.old state.new }
@@ -105,7 +104,7 @@ fn let_go<W: Waiting>(state: &mut State<W>, thread: ObjId)
     }
 }
 
-/// Nobody is left with a thread: it is Inactive, bound to no notification, and holds no context.
+/// Makes a thread Inactive, unbinds its notification, and takes its context.
 fn release_thread<W: Waiting>(state: &mut State<W>, thread: ObjId)
     requires there { IsThere (so_far state.old) Kind.Thread thread }
     requires room { HasRoomFor (releases thread Kind.Thread) state.old }
@@ -118,7 +117,8 @@ fn release_thread<W: Waiting>(state: &mut State<W>, thread: ObjId)
     let_go(state, thread);
 }
 
-/// The thread that receives with a reply object, if one does, leaves its queue and is Inactive.
+/// Takes the thread that receives with a reply object, if one does, out of its queue, and makes it
+/// Inactive.
 fn dismiss<W: Waiting>(state: &mut State<W>, reply: ObjId)
     requires room { HasRoomFor (dismisses reply) state.old }
     ensures made { Makes (dismisses reply) state.old state.new }
@@ -131,8 +131,8 @@ fn dismiss<W: Waiting>(state: &mut State<W>, reply: ObjId)
     }
 }
 
-/// A reply object owes nobody any more: the caller that it owed is Inactive, and the context whose
-/// chain it topped returns to it.
+/// Voids what a reply object owes, if it owes: the caller becomes Inactive, and the context whose
+/// chain the reply object topped returns to it.
 fn void_deleted<W: Waiting>(state: &mut State<W>, reply: ObjId)
     requires room { HasRoomFor (voided reply) state.old }
     ensures { Makes (voided reply) state.old state.new }
@@ -148,7 +148,7 @@ fn void_deleted<W: Waiting>(state: &mut State<W>, reply: ObjId)
     }
 }
 
-/// Nobody is left with a reply object: nobody receives with it, and it owes nobody.
+/// Dismisses the thread that receives with a reply object, and voids what it owes.
 fn release_reply<W: Waiting>(state: &mut State<W>, reply: ObjId)
     requires room { HasRoomFor (releases reply Kind.Reply) state.old }
     ensures made { Makes (releases reply Kind.Reply) state.old state.new }
@@ -158,7 +158,7 @@ fn release_reply<W: Waiting>(state: &mut State<W>, reply: ObjId)
     void_deleted(state, reply);
 }
 
-/// A context is homed nowhere any more.
+/// Homes a context nowhere.
 fn unhome<W: Waiting>(state: &mut State<W>, context: ObjId)
     requires room { HasRoomFor (unhomes context) state.old }
     ensures made { Makes (unhomes context) state.old state.new }
@@ -170,7 +170,7 @@ fn unhome<W: Waiting>(state: &mut State<W>, context: ObjId)
     }
 }
 
-/// A context is held by nobody any more.
+/// Takes a context from its holder, if one holds it.
 fn unhold<W: Waiting>(state: &mut State<W>, context: ObjId)
     requires room { HasRoomFor (unholds context) state.old }
     ensures made { Makes (unholds context) state.old state.new }
@@ -182,7 +182,7 @@ fn unhold<W: Waiting>(state: &mut State<W>, context: ObjId)
     }
 }
 
-/// A context is homed nowhere any more, and its holder gives it up (own).
+/// Homes a context nowhere, and takes it from its holder (own).
 pub fn unbind<W: Waiting>(state: &mut State<W>, context: ObjId)
     requires room { HasRoomFor (unbound context) state.old }
     ensures made { Makes (unbound context) state.old state.new }
@@ -192,7 +192,7 @@ pub fn unbind<W: Waiting>(state: &mut State<W>, context: ObjId)
     unhold(state, context);
 }
 
-/// Nobody is left with a context: it is homed nowhere, and its holder gives it up.
+/// Homes a context nowhere, and takes it from its holder.
 fn release_context<W: Waiting>(state: &mut State<W>, context: ObjId)
     requires room { HasRoomFor (releases context Kind.Context) state.old }
     ensures made { Makes (releases context Kind.Context) state.old state.new }
@@ -201,7 +201,7 @@ fn release_context<W: Waiting>(state: &mut State<W>, context: ObjId)
     unbind(state, context);
 }
 
-/// Nobody is left with an object that is there.
+/// Frees an object that is there of all that use it.
 fn release_object<W: Waiting>(state: &mut State<W>, object: ObjId)
     requires there { IsTrue (is_alive (so_far state.old) object) }
     requires kind { IsNoCNode object }

@@ -50,9 +50,9 @@ fn mode_resumed(status: Option<Status>) -> Option<Mode>
     }
 }
 
-/// Suspend: the thread leaves what it is blocked on, and is Inactive from now on; it may be the one
-/// that enters. The refusals are 1 to 3 of the lookup, and 4 for a capability of another kind; they
-/// change nothing (manual: Threads and Execution).
+/// Performs Suspend: the thread leaves what it is blocked on, and becomes Inactive; it may be the
+/// one that enters. The refusals are 1 to 3 of the lookup, and 4 for a capability of another kind;
+/// they change nothing (manual: Threads and Execution).
 pub fn suspend<W: Waiting>(
     state: &mut State<W>,
     core: CoreId,
@@ -68,9 +68,9 @@ pub fn suspend<W: Waiting>(
     Ok(())
 }
 
-/// Resume: a thread that cannot run leaves what it is blocked on, and is in Restart from now on;
-/// one that is Running or in Restart stays as it is. The refusals are those of Suspend (manual:
-/// Threads and Execution).
+/// Performs Resume: a thread that cannot run leaves what it is blocked on, and is in Restart from
+/// now on; one that is Running or in Restart stays as it is. The refusals are those of Suspend
+/// (manual: Threads and Execution).
 pub fn resume<W: Waiting>(
     state: &mut State<W>,
     core: CoreId,

@@ -10,10 +10,10 @@ use mcs_object_queues::Waiting;
 use mcs_state::{Change, State, change_awake};
 use mcs_types::{CoreId, ObjId, Prio, Refusal};
 
-/// SetPriority: the thread has this priority from now on; where it stands in a queue, it queues
-/// anew (own). The refusals are 1 to 3 of the lookups, the thread's first, 4 for a capability of
-/// another kind, and 6 where the priority is above the maximum controlled priority of the
-/// authority; they change nothing (manual: Threads and Execution).
+/// Performs SetPriority: the thread gets this priority; a thread in a queue is queued anew (own).
+/// The refusals are 1 to 3 of the lookups, the thread's first, 4 for a capability of another kind,
+/// and 6 where the priority is above the maximum controlled priority of the authority; they change
+/// nothing (manual: Threads and Execution).
 pub fn set_priority<W: Waiting>(
     state: &mut State<W>,
     core: CoreId,

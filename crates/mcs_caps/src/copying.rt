@@ -43,10 +43,10 @@ fn shift<W: Waiting>(state: &mut State<W>, thread: ObjId, at: &Placing)
     state.fills(at.source, None);
 }
 
-/// CopyCap: the slot at the destination gets the capability at the source, with those of its rights
-/// that are asked for. The refusals are 6, 2 and 3 of the source's and then of the destination's
-/// lookup, 8 where the source is empty, and 7 where the destination is full; they change nothing
-/// (manual: Capability Spaces).
+/// Performs CopyCap: the slot at the destination gets the capability at the source, with those of
+/// its rights that are asked for. The refusals are 6, 2 and 3 of the source's and then of the
+/// destination's lookup, 8 where the source is empty, and 7 where the destination is full; they
+/// change nothing (manual: Capability Spaces).
 pub fn copy_cap<W: Waiting>(
     state: &mut State<W>,
     core: CoreId,
@@ -65,9 +65,9 @@ pub fn copy_cap<W: Waiting>(
     Ok(())
 }
 
-/// MintCap: as CopyCap, and the capability gets a badge. Refused like CopyCap, and then with 4
-/// where the source is to no endpoint or notification and with 12 where it is badged, whatever
-/// badge is asked for (manual: Capability Spaces).
+/// Performs MintCap: as CopyCap, and the capability gets a badge. It is refused like CopyCap, and
+/// then with 4 where the source is to no endpoint or notification and with 12 where it is badged,
+/// whatever badge is asked for (manual: Capability Spaces).
 pub fn mint_cap<W: Waiting>(
     state: &mut State<W>,
     core: CoreId,
@@ -87,8 +87,8 @@ pub fn mint_cap<W: Waiting>(
     Ok(())
 }
 
-/// MoveCap: the slot at the destination gets the capability at the source as it is, and the source
-/// is emptied. Refused like CopyCap (manual: Capability Spaces).
+/// Performs MoveCap: the slot at the destination gets the capability at the source as it is, and
+/// the source is emptied. It is refused like CopyCap (manual: Capability Spaces).
 pub fn move_cap<W: Waiting>(
     state: &mut State<W>,
     core: CoreId,

@@ -88,9 +88,10 @@ fn delete<W: Waiting>(state: &mut State<W>, thread: ObjId, at: SlotId)
     }
 }
 
-/// DeleteCap: the slot is emptied, and where it held the last capability to an object, the object
-/// is destroyed; an empty slot stays empty. The refusals are 6, 2 and 3 of the slot's lookup, and
-/// 13 for the last capability to a CNode; they change nothing (manual: Capability Spaces).
+/// Performs DeleteCap: the slot is emptied, and where it held the last capability to an object, the
+/// object is destroyed; an empty slot stays empty. The refusals are 6, 2 and 3 of the slot's
+/// lookup, and 13 for the last capability to a CNode; they change nothing (manual: Capability
+/// Spaces).
 pub fn delete_cap<W: Waiting>(
     state: &mut State<W>,
     core: CoreId,

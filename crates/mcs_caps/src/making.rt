@@ -106,11 +106,11 @@ fn make_awake<W: Waiting>(state: &mut State<W>, core: CoreId, thread: ObjId, kin
     make_at(state, core, kind, at);
 }
 
-/// MakeEndpoint, MakeNotification, MakeReply and MakeContext: an object of a kind is made, and the
-/// slot gets a capability to it, with all rights to an endpoint or a notification, and with none to
-/// another. A context is of the core on which the thread enters, one of the 16 that there may be.
-/// The refusals are 6, 2 and 3 of the slot's lookup, 7 where it is full, and 11 where 256 objects
-/// of the kind are there; they change nothing (own; manual: Capability Spaces).
+/// Performs MakeEndpoint, MakeNotification, MakeReply and MakeContext: an object of a kind is made,
+/// and the slot gets a capability to it, with all rights to an endpoint or a notification, and with
+/// none to another. A context is of the core on which the thread enters, one of the 16 that there
+/// may be. The refusals are 6, 2 and 3 of the slot's lookup, 7 where it is full, and 11 where 256
+/// objects of the kind are there; they change nothing (own; manual: Capability Spaces).
 pub fn make<W: Waiting>(
     state: &mut State<W>,
     core: CoreId,

@@ -31,7 +31,7 @@ pub struct Contexts {
 }
 
 // By hand, so that it is a function of its own: a derived drop would be proved anew wherever it is
-// let go.
+// dropped.
 impl Drop for Contexts {
     fn drop(self) {
         let Contexts { rows: _, held: _ } = self;
@@ -48,7 +48,7 @@ impl Model for Contexts {
     ghost invariant = { λ s. IsHolding (record { rows = s.rows; held = s.held.items }) };
 }
 
-/// Keeps another holder of a context that is there, and answers the one before.
+/// Keeps another holder of a context that is there, and returns the one before.
 #[inline(always)]
 fn replace_holder(
     rows: &mut Store<ContextRow>,
@@ -107,14 +107,13 @@ impl Contexts {
         })
     }
 
-    /// The rows, and who holds them.
+    /// The rows, and the holders of contexts.
     fn into_parts(self) -> (Store<ContextRow>, Vec<Option<ObjId>>) {
         let Contexts { rows, held } = self;
         (rows, held)
     }
 
-    /// A table like this one, in the memory of a spare one (own). OutOfMemory where memory is
-    /// refused.
+    /// Clones the table in the memory of a spare one (own). OutOfMemory where memory is refused.
     pub fn copy(&self, alloc: Global, spare: Option<Contexts>) -> Result<Contexts, OutOfMemory>
         ensures { IfOk result (λ t. t ≡ self.now) }
     {
@@ -159,7 +158,7 @@ impl Contexts {
     }
 
     /// Forgets a context that is there, as `core` tells, and that nobody holds, as `holder` tells:
-    /// its serial is never given again (manual: Kernel Services and Objects).
+    /// its serial is never reused (manual: Kernel Services and Objects).
     pub fn close(&mut self, context: ObjId)
         requires there { IsSome (core_in self.old context) }
         requires free { holder_in self.old context ≡ None }
@@ -207,8 +206,8 @@ impl Contexts {
         Some(*context)
     }
 
-    /// Holding is one to one: two contexts with one holder are one context. What is held was made,
-    /// and the holder is a thread of a serial from 1 to 256 (own).
+    /// Proves that holding is one to one: two contexts with one holder are one context. What is
+    /// held was made, and the holder is a thread of a serial from 1 to 256 (own).
     pub fn is_one_to_one(&self)
         ensures pairs { IsOneToOne self.now }
         ensures one_context { HoldersDiffer self.now }
@@ -218,7 +217,7 @@ impl Contexts {
         let _ = &self.held;
     }
 
-    /// A context that was made is held by this thread from now on, which holds none, or by nobody
+    /// Gives a context that was made to this thread, which holds none, or takes it from its holder
     /// (manual: Threads and Execution).
     // a part of its callers, which know whether a thread is named
     #[inline(always)]

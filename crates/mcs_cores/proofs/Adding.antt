@@ -53,7 +53,7 @@ added-within us t e i u v found at is =
     ∙ ap (λ y. set us (place us t) y) is
     ∙ within us t e u (ltb-true (place us t) (length us) it.0) here
 
--- where it has none, there is a list of the entry alone behind all others
+-- where it has none, there is a list of the entry alone after all others
 pub added-behind : (us : List User) (t : ObjId) (e : Entry) → position (λ (x : User). same x.thread t) us ≡ None
     → us ++ record { thread = t; entries = e ∷ [] } ∷ [] ≡ with_entry us t e
 added-behind us t e none = behind us t e (grind (arith, nat_tests, none))

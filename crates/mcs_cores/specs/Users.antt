@@ -9,7 +9,7 @@ pub record User : Type 0 where
   pub thread : ObjId
   pub entries : List Entry
 
--- users with an entry more: at the end of its thread's list, or in a list of its own behind all
+-- users with an entry more: at the end of its thread's list, or in a list of its own after all
 -- others
 abbrev pub with_entry : List User → ObjId → Entry → List User
 with_entry [] t e = record { thread = t; entries = e ∷ [] } ∷ []

@@ -16,9 +16,9 @@ use std::marker::Model;
 use std::sync::ledger::{Blank, Book, Ledger, Share};
 use std::sync::{Mutex, MutexGuard, Wait};
 
-/// What lies under the lock: the kernel, and the ledger of the lines that seats were told. Clauses
-/// see the kernel's book. The ledger's total is the number of lines after the boot, and a part of
-/// it is each core's.
+/// What lies under the lock: the kernel, and the ledger of the lines that were reported to seats.
+/// Clauses see the kernel's book. The ledger's total is the number of lines after the boot, and a
+/// part of it is each core's.
 #[derive(Drop)]
 pub struct LockedKernel<G: Ledger, L: Lines> {
     kernel: Kernel<L>,
@@ -78,8 +78,7 @@ impl<G: Ledger, L: Lines> LockedKernel<G, L> {
         Ok(seats)
     }
 
-    /// Compares what the seats were told with the book, and audits the ledger with the shares of
-    /// all.
+    /// Compares the calls of the seats with the book, and audits the ledger with the shares of all.
     fn settle(
         self,
         alloc: Global,
@@ -107,7 +106,7 @@ impl<G: Ledger, L: Lines> LockedKernel<G, L> {
     }
 }
 
-/// Compares what seats were told with the book of a kernel.
+/// Compares the calls of seats with the book of a kernel.
 fn compare<G: Ledger, L: Lines>(
     alloc: Global,
     kernel: Kernel<L>,
@@ -249,10 +248,10 @@ impl<G: Ledger, L: Lines> Machine<G, L> {
         self.kernel.lock(rt).enter(alloc, seat, thread, prepared)
     }
 
-    /// Compares what the seats were told with the book, as settle_seats does, and hands the kernel
+    /// Compares the calls of the seats with the book, as settle_seats does, and hands the kernel
     /// back where all agree. No clause can name the book that lay under the lock where it is not
     /// handed back: a fault is right for some legal book. By the ledger either book has as many
-    /// lines after the boot as the seats were told, where no core lacks one.
+    /// lines after the boot as the seats have, where no core lacks one.
     pub fn finish(
         self,
         alloc: Global,

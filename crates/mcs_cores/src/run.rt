@@ -307,11 +307,11 @@ fn run_all<G: Ledger + Send + Sync, L: Lines + Send + Sync, T: Gate, R: Threads 
 
 impl<G: Ledger + Send + Sync, L: Lines + Send + Sync> Machine<G, L> {
     /// Works off the users' lists, each core by a host thread of its own, until no thread that may
-    /// run has entries left; an entry that is to be given again counts among them (own). A core
-    /// picks its thread of greatest priority, then of lowest serial, among those with entries left;
-    /// it gives the thread's next entry, or its last one again where that was answered Waits and
-    /// the thread was restarted. Where the user gave another entry meanwhile, nothing is entered,
-    /// and after that, as after an entry that was skipped, the core picks anew. The gate is called
+    /// run has entries left; an entry that is to be retried counts among them (own). A core picks
+    /// its thread of greatest priority, then of lowest serial, among those with entries left; it
+    /// gives the thread's next entry, or its last one again where that was answered Waits and the
+    /// thread was restarted. Where the user gave another entry meanwhile, nothing is entered, and
+    /// after that, as after an entry that was skipped, the core picks anew. The gate is called
     /// between the pick and the entry, and after an entry that was let in. There has to be a seat
     /// for each core of the machine: for a core without one, which has entries left, the others
     /// wait.

@@ -1,4 +1,5 @@
-//! What the threads of a run share: how far the users are, and what cores that wait are told (own).
+//! What the threads of a run share: how far the users are, and the messages to cores that wait
+//! (own).
 use crate::core_set::CoreSet;
 use crate::positions::Positions;
 use crate::sight::Turn;
@@ -12,13 +13,13 @@ use std::sync::{Condvar, Mutex, Wait};
 pub(crate) enum Next {
     /// It enters what it picked.
     Enters(Turn),
-    /// It waits until it is told something.
+    /// It waits for a message.
     Waits,
     /// It stops, for the run is over.
     Stops,
 }
 
-/// What a core is told, and where it waits for that.
+/// The message to a core, and where it waits for that.
 #[derive(Drop)]
 struct News {
     told: Mutex<Next>,
@@ -42,7 +43,7 @@ impl News {
         }
     }
 
-    /// Waits until the core is told something, and forgets it.
+    /// Waits for a message to the core, and takes it.
     fn hear<R: Wait>(&self, rt: &R) -> Next {
         let mut told = self
             .changed
@@ -66,15 +67,15 @@ impl SharedPositions {
         })
     }
 
-    /// Tells a core something. Who does so wakes it when the locks are given up, for which it would
-    /// have to wait.
+    /// Sends a message to a core. The sender wakes it when the locks are given up, for which it
+    /// would have to wait.
     pub(crate) fn tell<R: Wait>(&self, rt: &R, core: CoreId, next: Next) {
         if let Some(news) = self.news.get(core.0 as usize) {
             *news.told.lock(rt) = next;
         }
     }
 
-    /// Waits until a core is told something. A core without news of its own stops.
+    /// Waits for a message to a core. A core without news of its own stops.
     pub(crate) fn hear<R: Wait>(&self, rt: &R, core: CoreId) -> Next {
         match self.news.get(core.0 as usize) {
             Some(news) => news.hear(rt),
@@ -82,7 +83,7 @@ impl SharedPositions {
         }
     }
 
-    /// Wakes cores that were told something.
+    /// Wakes cores that have a message.
     pub(crate) fn wake(&self, told: CoreSet) {
         if told.is_empty() {
             return;
@@ -96,7 +97,7 @@ impl SharedPositions {
         }
     }
 
-    /// Ends the run for all cores: they stop at their next turn. Those that wait are told so, and
+    /// Ends the run for all cores: they stop at their next turn. Those that wait get a message, and
     /// have to be woken.
     pub(crate) fn end<R: Wait>(&self, rt: &R, positions: &mut Positions) -> CoreSet {
         positions.over = true;

@@ -5,7 +5,7 @@ use Rattle.mcs_types.specs.declared.entry.Refusal.TheVariants.{DepthMismatch, Gu
 use Rattle.mcs_book.specs.Checks.{Checked}
 use Rattle.mcs_cspace.specs.declared.levels.Step.{Step}
 
--- how many bits are left behind a guard, where n bits of a are left: the first of these are the
+-- how many bits are left after a guard, where n bits of a are left: the first of these are the
 -- guard's low bits
 unfoldable pub past_guard : Guard → ℕ → ℕ → Checked ℕ
 past_guard guard n a =

@@ -28,7 +28,7 @@ IsThereWithCNode P at = HasSlot P at ↔ IsSome (radix_of P at.cnode)
 abbrev pub radix_on : Option Page → ℕ
 radix_on p = unwrap_or (page_radix p) 0
 
--- the CNode at which lookup goes on behind a level: bits are left, and the slot holds a capability
+-- the CNode at which lookup goes on after a level: bits are left, and the slot holds a capability
 -- to it
 abbrev pub next_on : Option Page → Step → Option Cap
 next_on p s = cond (s.left == 0) None (cnode_cap (page_slot p s.index))

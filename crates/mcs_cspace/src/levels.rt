@@ -47,7 +47,7 @@ fn index_at(word: u64, below: u32, width: u32) -> u8
     (word >> below & mask) as u8
 }
 
-/// How many bits are left behind a guard, where the next of `left` bits of the address are the
+/// How many bits are left after a guard, where the next of `left` bits of the address are the
 /// guard's. Most guards have none.
 #[tactic(auto, unfolding(crate::specs::Levels::past_guard))]
 fn past_guard(guard: Guard, left: u32, address: u64) -> Result<u32, Refusal>

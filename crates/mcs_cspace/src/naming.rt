@@ -65,11 +65,11 @@ fn place_from(slots: &Slots, root: &Cap, place: Place) -> Result<SlotId, Refusal
     }
 }
 
-/// The capability that an address of 64 bits names from a root (manual: Capability Spaces). It
-/// stands in the slot at the end of the complete path; refused with Missing where that slot is
-/// empty, and else as the longest path says: GuardMismatch, or DepthMismatch. Any root may be
-/// given: of a guard's value the low bits count, as many as the guard has, and a CNode that is not
-/// there has a radix of 0 and empty slots (own).
+/// The capability that an address of 64 bits names from a root (manual: Capability Spaces). It is
+/// in the slot at the end of the complete path; refused with Missing where that slot is empty, and
+/// else as the longest path says: GuardMismatch, or DepthMismatch. Any root may be given: of a
+/// guard's value the low bits count, as many as the guard has, and a CNode that is not there has a
+/// radix of 0 and empty slots (own).
 // a part of its caller, so that the answer of 48 bytes is not put together and read again
 #[inline(always)]
 pub fn lookup(slots: &Slots, root: &Cap, address: u64) -> Result<Cap, Refusal>

@@ -19,7 +19,7 @@ Agree R S p q = Sound (onto (p R) R) → Sound (onto (q S) S) → MatchAll R S (
 pub record Respects (p : Piece) : Type 0 where
   pub on : (R S : Log) → AlikeButNumbers R S → Agree R S p p
 
--- two outcomes match behind two logs
+-- two outcomes match after two logs
 pub record MatchOut (R S : Log) (o p : Outcome) : Type 0 where
   pub answer : o.answer ≡ p.answer
   pub records : MatchAll R S o.records p.records

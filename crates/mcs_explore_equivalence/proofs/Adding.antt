@@ -46,7 +46,7 @@ there-or-new (rec.Closed u) R o sound ok h = go (same o u) (was_made R o) h
     go false m h = inl h
 there-or-new _ R o sound ok h = inl h
 
--- no badge was raised of what was never made (as it stands beside the laws of notifications)
+-- no badge was raised of what was never made (as it is beside the laws of notifications)
 unraised : (R : Log) (n : ObjId) → Sound R → was_made R n ≡ false → growing_word R n ≡ None
 unraised [] n sound h = refl
 unraised (rec.Made o f ∷ R) n sound h = go (same n o) h (unraised R n sound.1)

@@ -85,11 +85,11 @@ said-bound R t r h = go (is_alive R t) (form_of R t) h
     go true (Some (form.Slots radix)) k = absurd cc
     go true (Some (form.OnCore core)) k = absurd cc
 
--- the queue in which a row says that its thread stands
+-- the queue in which a row says that its thread is
 queue-said : (R : Log) (t : ObjId) (r : ThreadRow) (q : Queue) → Some r ≡ row_said R t → queue_of R t ≡ Some q → r.block ≡ Some (Queued q (reply_with R t))
 queue-said R t r q h e = (said R t r h).block ∙ ap (λ o. block_said o (reply_with R t) (owing R t)) e
 
--- a row that says that its thread stands in a queue
+-- a row that says that its thread is in a queue
 stands-said : (R : Log) (t : ObjId) (r : ThreadRow) (q : Queue) (x : Option ObjId) → Some r ≡ row_said R t → r.block ≡ Some (Queued q x) → queue_of R t ≡ Some q
 stands-said R t r q x h e = go (queue_of R t) (owing R t) (sym (said R t r h).block ∙ e)
   where
@@ -174,7 +174,7 @@ module _ (R S : Log) (left : Sound R) (right : Sound S) (looks : AnswerAll R S) 
           at kind.Reply e form.Plain (form.OnCore c) x y h i = absurd y
           at kind.Reply e form.Plain (form.Runner m r) x y h i = absurd y
 
-  -- who stands in a queue of one stands in it in the other
+  -- who is in a queue of one is in it in the other
   stands : (t : ObjId) (q : Queue) → queue_of R t ≡ Some q → queue_of S t ≡ Some q
   stands t q e = let r = row-there t (standing-thread R t q left e) in stands-said S t r.0 q (reply_with R t) r.1.1 (queue-said R t r.0 q r.1.0 e)
 

@@ -107,7 +107,7 @@ numberless-made R x s sound h = go (open_of R x) refl h
     go None e k = absurd cc
     go (Some l) e k = open-made R x l sound e
 
--- who stands first in a line stands in a queue whose object is there
+-- who is first in a line is in a queue whose object is there
 line-made : (R : Log) (q : Queue) (t : ObjId) (ts : List ObjId) → Sound R → queued_in R q ≡ t ∷ ts → IsLineThere R q
 line-made R q t ts sound h = go (growing_queue R q) refl (sym (queued_in-growing R q sound) ∙ h)
   where

@@ -96,7 +96,7 @@ pub exact-onto : (made : List Rec) (R S : Log) → Alike R S → Sound (onto mad
 exact-onto [] R S a h k = a
 exact-onto (r ∷ made) R S a h k = exact-onto made (r ∷ R) (r ∷ S) (exact-after r R S a (sound-before made (r ∷ R) h).0 (sound-before made (r ∷ S) k).0) h k
 
--- records that match behind alike logs are the same
+-- records that match after alike logs are the same
 record-same : (r s : Rec) (R S : Log) → Alike R S → Matches R S r s → r ≡ s
 record-same (rec.Took m p) s R S a h = ap (λ n. rec.Took n p) (number-same h.0 m h.1.1.0 h.1.1.1.0 h.1.1.1.1) ∙ h.1.0
   where

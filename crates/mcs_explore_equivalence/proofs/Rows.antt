@@ -93,7 +93,7 @@ hands-agree s n p r R S a of =
     settles : Piece
     settles = settle s.mode s.sender p r nothing
 
--- the receiver stood in the queue
+-- the receiver was in the queue
 stood : (s : Letter) (p : ObjId) (r : Option ObjId) (R : Log) → Sound (onto (hands s p r R) R) → queue_of R p ≡ Some (Receivers s.endpoint)
 unfolding ◌then◌
 stood s p r R h = (sound-before (settle s.mode s.sender p r nothing (rec.Parts p (Receivers s.endpoint) ∷ rec.Took s.number p ∷ R) ++ rec.Turns p Running ∷ []) (rec.Parts p (Receivers s.endpoint) ∷ rec.Took s.number p ∷ R) h).0
@@ -183,7 +183,7 @@ go_home-respects : (t : ObjId) (n : Option ObjId) → Respects (go_home t n)
 unfolding go_home
 go_home-respects t n = asking-respects (λ R. if_at_home R n (context_of R t)) let_go (λ R S a. at-home-same R S a n t) (λ s. with_any-respects s _ (λ c. say-respects _ refl))
 
--- t stands in a queue
+-- t is in a queue
 pub stand-respects : (t : ObjId) (q : Queue) (r n : Option ObjId) → Respects (stand t q r n)
 unfolding stand
 stand-respects t q r n = then-respects _ _ (say-respects _ refl) (go_home-respects t n)

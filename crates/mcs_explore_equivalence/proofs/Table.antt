@@ -56,7 +56,7 @@ bind-same m m' f g e h = go m refl ∙ ap (λ n. n >>= g) e
     go (Err why) i = refl
     go (Ok x) i = h x i
 
--- an act behind checks
+-- an act after checks
 pub bind-as : {A : Type 0} (P : Act → Type 0) (m : Checked A) (f : A → Checked Act) → ((x : A) → m ≡ Ok x → GoodAs P (f x)) → GoodAs P (m >>= f)
 unfolding ◌>>=◌
 bind-as P (Err why) f h = tt

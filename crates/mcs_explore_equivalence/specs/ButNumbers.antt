@@ -65,7 +65,7 @@ open_number R x = option_map (λ (s : Letter). s.number) (growing_open R x)
 abbrev pub AreOf : Log → Log → ℕ → ℕ → Type 0
 AreOf R S m n = (x : ObjId) × ((open_number R x ≡ Some m) × (open_number S x ≡ Some n))
 
--- two records behind two logs are the same, but that the message which they take or drop has its
+-- two records after two logs are the same, but that the message which they take or drop has its
 -- number in each log
 abbrev pub Matches : Log → Log → Rec → Rec → Type 0
 Matches R S (Took m p) s = (n : ℕ) × ((Took n p ≡ s) × AreOf R S m n)

@@ -38,7 +38,7 @@ SameNewest b c = AreSame b.lines c.lines
     AreSame ls ms = ⊥
 
 -- a core makes the same turn in another run as one that led to t: it is answered the same, with the
--- same records but for the numbers of messages, and what is behind it is alike
+-- same records but for the numbers of messages, and what is after it is alike
 pub record IsSameTurn (numbered : Bool) (users : List User) (boot : Boot) (core : CoreId) (k : Pick) (t h : Going) : Type 0 where
   pub going : Going
   pub turn : IsTurn users core k h going

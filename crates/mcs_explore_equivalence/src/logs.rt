@@ -62,7 +62,7 @@ pub fn same_entry()
     ensures { does at.0 at.2 at.3 at.4 ≡ does at.1 at.2 at.3 at.4 }
 {}
 
-/// It leaves alike logs (own).
+/// Alike logs remain alike after the entry (own).
 pub fn alike_entry()
     ghost at: { Log × Log × CoreId × ObjId × Entry }
     requires alike { Alike at.0 at.1 }
@@ -98,7 +98,7 @@ pub fn same_line()
     ensures { IsLegal (with_one at.2 at.1) }
 {}
 
-/// It leaves alike logs (own).
+/// Alike books remain alike after the line (own).
 pub fn alike_line()
     ghost at: { Book × Book × Line }
     requires left { IsLegal (with_one at.2 at.0) }
@@ -134,7 +134,7 @@ pub fn answers_but_numbers()
     ensures { AlikeButNumbers at.0 at.1 }
 {}
 
-/// Two logs that are alike but for numbers (at.2, at.3) are so after records that match behind them
+/// Two logs that are alike but for numbers (at.2, at.3) are so after records that match after them
 /// (at.0, at.1), where what these leave is sound (own).
 pub fn onto_but_numbers()
     ghost at: { List Rec × List Rec × Log × Log }

@@ -53,7 +53,8 @@ pub struct Names {
 const APART: u64 = 1 << 32;
 
 impl Names {
-    /// Those of a kernel; of the boot alone where no entry of a user changes slots.
+    /// Names the objects of a kernel; only those of the boot where no entry of a user changes
+    /// slots.
     pub fn new<L: Lines>(
         alloc: Global,
         kernel: &Kernel<L>,
@@ -109,8 +110,8 @@ impl Names {
         self.later.as_slice()
     }
 
-    /// The name of an object, from 1 on, by which it is told from all others of its kind. One that
-    /// is in no slot has its serial after all names.
+    /// The name of an object, from 1 on, which distinguishes it from all others of its kind. One
+    /// that is in no slot has its serial after all names.
     pub fn name(&self, object: ObjId) -> u64 {
         let serial = object.serial as u64;
         let count = self.counts.of(object.kind) as u64;

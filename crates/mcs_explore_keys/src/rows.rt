@@ -28,7 +28,7 @@ fn put_place(row: &mut Row, place: Option<Position>) -> Result<(), AllocError> {
     Ok(())
 }
 
-/// The number of a queue's sort, and its object.
+/// The queue's kind as a number, and its object.
 fn queue_parts(queue: Queue) -> (u64, ObjId) {
     match queue {
         Queue::Senders(object) => (1, object),

@@ -27,7 +27,7 @@ pub over-is : (users : List User) (g : Going) (over : Bool) → (over ≡ true �
 over-is users g true yes no = (yes, λ over. refl)
 over-is users g false yes no = (yes, λ over. let f = no refl in absurd (over f.0 f.1))
 
--- places in two lists, one behind the other
+-- places in two lists, one after the other
 at-both : {A : Type 0} (xs ys : List A) (j : ℕ) (m : A) → slice_get (xs ++ ys) j ≡ Some m → (slice_get xs j ≡ Some m) ⊎ ((k : ℕ) × (slice_get ys k ≡ Some m))
 at-both [] ys j m at = inr (j, at)
 at-both (x ∷ xs) ys zero m at = inl at
@@ -42,7 +42,7 @@ below-at [] i x at = absurd cc
 below-at (y ∷ xs) zero x at = omega arith
 below-at (y ∷ xs) (suc i) x at = let below = below-at xs i x at in omega (arith, below)
 
--- turns from states in places up to this one, and behind them those from the state in this place
+-- turns from states in places up to this one, and after them those from the state in this place
 sorted-both : (xs ys : List Made) (p : ℕ) → ((j k : ℕ) (m n : Made) → j ≤ k → slice_get xs j ≡ Some m → slice_get xs k ≡ Some n → m.place ≤ n.place) → ((j : ℕ) (m : Made) → slice_get xs j ≡ Some m → m.place ≤ p)
     → ((k : ℕ) (n : Made) → slice_get ys k ≡ Some n → n.place ≡ p) → (j k : ℕ) (m n : Made) → j ≤ k → slice_get (xs ++ ys) j ≡ Some m → slice_get (xs ++ ys) k ≡ Some n → m.place ≤ n.place
 sorted-both [] ys p sorted low same j k m n le a b = let x = same j m a in let y = same k n b in omega (arith, x, y)

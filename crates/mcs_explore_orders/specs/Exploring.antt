@@ -40,7 +40,7 @@ pub record IsLater (e f : Exploring) : Type 0 where
   pub numbered : f.keys.numbered ≡ e.keys.numbered
   pub met : Keeps e.keys.met f.keys.met
 
--- what is noted of these turns from a point: of each that the rule has, a key of what is behind it,
+-- what is noted of these turns from a point: of each that the rule has, a key of what is after it,
 -- and nothing else
 pub record AreNextsOf (e : Exploring) (g : Going) (ts : List Turn) (nexts : List (Turn × List ℕ)) : Type 0 where
   pub each : (i : ℕ) (l : Turn) (k : List ℕ) → slice_get nexts i ≡ Some (l, k) → IsNext (Leads e.users) (IsKeyIn e) g l k

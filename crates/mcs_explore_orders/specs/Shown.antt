@@ -15,7 +15,7 @@ pub record Sight : Type 0 where
   pub going : Going
   pub is_over : Bool
 
--- a turn from the state in a place, what it was answered, and what is behind it
+-- a turn from the state in a place, what it was answered, and what is after it
 pub record Made : Type 0 where
   pub place : ℕ
   pub turn : Turn

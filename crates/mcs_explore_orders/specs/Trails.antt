@@ -8,7 +8,7 @@ use Rattle.mcs_explore_walk.specs.declared.walk.Turn.{Turn}
 abbrev pub Leads : List User → Turn → Going → Going → Type 0
 Leads users t g h = IsTurn users t.core t.pick g h
 
--- some turns, and the point behind them
+-- some turns, and the point after them
 pub record Point : Type 0 where
   pub turns : List Turn
   pub going : Going

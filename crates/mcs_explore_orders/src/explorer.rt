@@ -20,7 +20,7 @@ use mcs_types::{Answer, OutOfMemory};
 use std::alloc::Global;
 use std::marker::Model;
 
-/// To whom a search reports what it sees. A state is named by its place in the order in which it
+/// What a search reports its findings to. A state is named by its place in the order in which it
 /// was found.
 pub trait Watch: Drop {
     // what it was shown of runs of these users
@@ -31,7 +31,7 @@ pub trait Watch: Drop {
 
     ghost aim: { Self → Aim };
 
-    /// Shows the state in this place, and whether it is over: no turn is possible.
+    /// Sees the state in this place, and whether it is over: no turn is possible.
     fn see_state(
         &mut self,
         users: &Users,
@@ -43,7 +43,7 @@ pub trait Watch: Drop {
         ensures sees { OnOk result (SeesState HasSeen self.old self.new
             users.now place walk.now is_over) };
 
-    /// Shows a turn from the state in this place: its answer, and the state after it.
+    /// Sees a turn from the state in this place: its answer, and the state after it.
     fn see_turn(
         &mut self,
         users: &Users,
@@ -57,7 +57,7 @@ pub trait Watch: Drop {
             users.now place turn answer.now walk.now) };
 }
 
-/// The points of runs of users after a boot, their keys, and to whom they are reported.
+/// The points of runs of users after a boot, their keys, and what they are reported to.
 pub struct Explorer<'a, W: Watch> {
     boot: &'a Boot,
     users: &'a Users,
@@ -157,7 +157,7 @@ impl<'a, W: Watch> Explorer<'a, W> {
         self.ends
     }
 
-    /// To whom they were reported.
+    /// What they were reported to.
     pub fn watch(&self) -> &W
         ensures { result.now ≡ self.now.watch }
     {
@@ -250,7 +250,7 @@ impl<'a, W: Watch> Explorer<'a, W> {
         Ok(())
     }
 
-    /// Copies a walk, in the memory of a spare one.
+    /// Clones a walk in the memory of a spare one.
     fn copy_of(
         &mut self,
         alloc: Global,
@@ -262,7 +262,7 @@ impl<'a, W: Watch> Explorer<'a, W> {
         self.trail.copy_of(alloc, walk)
     }
 
-    /// Lets a walk go, whose memory is used again.
+    /// Drops a walk, whose memory is reused.
     fn let_go(&mut self, walk: Box<Walk<PlainLines>>)
         ensures { self.new ≡ self.old }
     {

@@ -12,7 +12,7 @@ use mcs_queues::Lines;
 use mcs_types::Answer;
 use std::alloc::Global;
 
-/// Makes a turn, if the rule has it, and gives what it was answered; else nothing has changed.
+/// Makes a turn, if the rule has it, and returns its answer; else nothing has changed.
 fn step<L: Lines>(
     alloc: Global,
     users: &Users,

@@ -20,7 +20,7 @@ use mcs_kernel::Boot;
 use mcs_queues::Lines;
 use std::alloc::Global;
 
-/// The states that were found, and to whom they were reported.
+/// The states that were found, and what they were reported to.
 pub struct Orders<'a, W: Watch> {
     alloc: Global,
     search: Search<Key, PackedTurn>,
@@ -105,7 +105,7 @@ impl<'a, W: Watch> Orders<'a, W> {
         self.explorer.ends()
     }
 
-    /// To whom they were reported.
+    /// What they were reported to.
     pub fn watch(&self) -> &W
         ensures { result.now ≡ self.now.explorer.watch }
     {

@@ -115,7 +115,7 @@ fn inside(walk: &Box<Walk<PlainLines>>) -> &Walk<PlainLines>
     &**walk
 }
 
-/// A walk once more, in the memory of a spare one.
+/// Clones a walk in the memory of a spare one.
 fn copy_of(
     alloc: Global,
     walk: &Walk<PlainLines>,
@@ -172,7 +172,7 @@ impl Trail {
         (self.stages.len(), at)
     }
 
-    /// Lets a walk go, whose memory is used again.
+    /// Drops a walk, whose memory is reused.
     pub fn let_go(&mut self, walk: Box<Walk<PlainLines>>)
         ensures { self.new ≡ self.old }
     {
@@ -191,7 +191,7 @@ impl Trail {
         }
     }
 
-    /// Copies a walk, in the memory of a spare one.
+    /// Clones a walk in the memory of a spare one.
     pub fn copy_of(
         &mut self,
         alloc: Global,

@@ -1,4 +1,4 @@
--- The texts for which a pattern stands (own).
+-- The texts that a pattern matches (own).
 use Rattle.std.specs.Prelude.{ℕ, ◌||◌, ◌&&◌, Bool, true, false, List, [], ◌∷◌, codes, bytes_eq}
 use Rattle.mcs_text.specs.Reading.{words_of}
 

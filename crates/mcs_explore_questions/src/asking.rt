@@ -37,7 +37,7 @@ pub struct Span {
 /// A question.
 #[derive(Drop)]
 pub enum Asked {
-    /// A thread may wait for ever in these of its entries: that is not told as a deadlock.
+    /// A thread may wait for ever in these of its entries: that is not reported as a deadlock.
     Idle {
         thread: ObjId,
         entries: Entries,

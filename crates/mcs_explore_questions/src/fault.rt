@@ -25,10 +25,10 @@ impl fmt::Display for Word {
     }
 }
 
-/// How many of what there is are told at most.
+/// How many of what there is are listed at most.
 const TOLD: usize = 8;
 
-/// What there is, as it is told: eight of them at most.
+/// What there is, as it is listed: eight of them at most.
 #[derive(Debug, Drop)]
 pub struct Listed {
     bytes: Vec<u8>,
@@ -68,7 +68,7 @@ impl fmt::Display for Listed {
     }
 }
 
-/// Why a question is refused. What is told names the word, and what there is.
+/// Why a question is refused. The report names the word, and what there is.
 #[derive(Debug, Drop, Error)]
 pub enum QuestionFault {
     #[error("a blank is missing behind #!, before {word}")]

@@ -326,7 +326,7 @@ impl<'a> Fitting<'a> {
         Ok(())
     }
 
-    /// Takes the reply object of who joins a queue: a receiver has one, or a dash, and nobody else.
+    /// Takes the reply object of a thread that joins a queue: only a receiver has one, or a dash.
     fn take_reply(&mut self) -> Result<(), QuestionFault> {
         let queue = self.words.get(self.taken.saturating_sub(1)).copied();
         let may_end = match queue {

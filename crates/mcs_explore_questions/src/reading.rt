@@ -116,7 +116,7 @@ impl<'a> Reader<'a> {
     }
 
     /// Checks a range of entries: Empty where the first number, as a word writes it, is above the
-    /// last; NoEntry where the user has no last.
+    /// last; NoEntry where the user has no such last entry.
     fn expect_entries(
         &self,
         list: &UserList,

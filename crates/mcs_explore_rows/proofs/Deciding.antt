@@ -50,11 +50,11 @@ letters-as false None = refl
 letters-as true (Some s) = refl
 letters-as false (Some s) = refl
 
--- whole rows tell what they are of, with nothing behind them
+-- whole rows tell what they are of, with nothing after them
 alone : {A E : Type 0} (f : A → List E) → Tells f → (a b : A) → f a ≡ f b → a ≡ b
 alone f t a b h = (t a b [] [] (ap (λ l. l ++ []) h)).0
 
--- two that stand one behind the other
+-- two that are one after the other
 two-told : {A B : Type 0} (f : A → List ℕ) (g : B → List ℕ) → Tells f → Tells g → (a b : A) (c d : B) → f a ++ g c ≡ f b ++ g d → (a ≡ b) × (c ≡ d)
 two-told f g t u a b c d h = let p = t a b (g c) (g d) h in (p.0, alone g u c d p.1)
 

@@ -17,7 +17,7 @@ use Rattle.mcs_explore_rows.specs.Rows.{HaveSameRows, IsKey, rows_of, slots_numb
 use Rattle.mcs_explore_rows.specs.Naming.{Adds, Keeps, Names}
 use Rattle.mcs_explore_rows.proofs.Bytes.{coded-one}
 
--- what stands in a list stands in a longer one
+-- what is in a list is in a longer one
 pub get-longer : {A : Type 0} (xs ys : List A) (n : ℕ) (x : A) → slice_get xs n ≡ Some x → slice_get (xs ++ ys) n ≡ Some x
 get-longer [] ys n x h = absurd cc
 get-longer (z ∷ zs) ys zero x h = h
@@ -42,7 +42,7 @@ names-more old new ns n r k at rows h =
     map-append (slice_get new) ns (n ∷ []) ∙ ap (λ os. os ++ (slice_get new n ∷ [])) (names-kept old new ns rows k h)
     ∙ ap (λ o. map (λ (x : List ℕ). Some x) rows ++ (o ∷ [])) at ∙ sym (map-append (λ (x : List ℕ). Some x) rows (r ∷ []))
 
--- rows that are added behind others
+-- rows that are added after others
 pub adds-then : (old middle new : List (List ℕ)) (a b c : List ℕ) (xs ys : List (List ℕ)) → Adds old a middle b xs → Adds middle b new c ys → Adds old a new c (xs ++ ys)
 adds-then old middle new a b c xs ys h k = λ rows named. subst (λ rs. Names new c rs) (append_assoc rows xs ys) (k (rows ++ xs) (h rows named))
 
@@ -123,7 +123,7 @@ below-next f n = ap (below f) (up n)
     up : (m : ℕ) → m + 1 ≡ suc m
     up m = omega arith
 
--- one row more, behind those of all numbers below n
+-- one row more, after those of all numbers below n
 pub rows-next : (old middle new : List (List ℕ)) (a b c : List ℕ) (f : ℕ → List ℕ) (n : ℕ) (row : List ℕ) → row ≡ f n
     → Adds old a middle b (below (λ i. f i ∷ []) n) → Adds middle b new c (row ∷ []) → Adds old a new c (below (λ i. f i ∷ []) (n + 1))
 rows-next old middle new a b c f n row is h k =
@@ -138,13 +138,13 @@ keeps-then old middle new h k = λ n r at. k n r (h n r at)
 pub adds-none : (met : List (List ℕ)) (a : List ℕ) → Adds met a met a []
 adds-none met a = λ rows named. named ∙ ap (map (λ (r : List ℕ). Some r)) (sym (append-nil rows))
 
--- three rows and others behind them, from no number on
+-- three rows and others after them, from no number on
 pub named-from : (m0 m1 m2 m3 m4 : List (List ℕ)) (k0 k1 k2 k3 k4 : List ℕ) (x y z : List ℕ) (rest : List (List ℕ)) → k0 ≡ []
     → Adds m0 k0 m1 k1 (x ∷ []) → Adds m1 k1 m2 k2 (y ∷ []) → Adds m2 k2 m3 k3 (z ∷ []) → Adds m3 k3 m4 k4 rest → Names m4 k4 (x ∷ y ∷ z ∷ rest)
 named-from m0 m1 m2 m3 m4 k0 k1 k2 k3 k4 x y z rest none a b c d =
     d (x ∷ y ∷ z ∷ []) (c (x ∷ y ∷ []) (b (x ∷ []) (a [] (ap (map (slice_get m0)) none))))
 
--- numbers of one more, behind those of all below n
+-- numbers of one more, after those of all below n
 pub numbers-next : (row after : List ℕ) (f : ℕ → List ℕ) (n : ℕ) → after ≡ row ++ f n → row ≡ below f n → after ≡ below f (n + 1)
 numbers-next row after f n e h = e ∙ ap (λ l. l ++ f n) h ∙ sym (below-next f n)
 
@@ -173,7 +173,7 @@ slots-more R c n = below-next (λ i. option_numbers cap_numbers (slot R c i)) n
 pub slots-first : (row : List ℕ) (R : Log) (c : ObjId) → row ≡ row ++ slots_numbers R c 0
 slots-first row R c = sym (append-nil row) ∙ ap (λ l. row ++ l) (sym (slots-none R c))
 
--- a row behind one slot more
+-- a row after one slot more
 pub slots-next : (before row after : List ℕ) (R : Log) (c : ObjId) (n : ℕ) → after ≡ row ++ option_numbers cap_numbers (slot R c n)
     → row ≡ before ++ slots_numbers R c n → after ≡ before ++ slots_numbers R c (n + 1)
 slots-next before row after R c n e h =

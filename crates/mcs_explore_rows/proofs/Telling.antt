@@ -1,4 +1,4 @@
--- The numbers of a value tell it from all others, whatever numbers stand behind them.
+-- The numbers of a value tell it from all others, whatever numbers follow them.
 use Rattle.std.specs.Prelude.{ℕ, zero, suc, ◌≡◌, ◌<◌, ◌⊎◌, nat_lt, Bool, true, false, List, [], ◌∷◌, ◌++◌, Some, None}
 use Rattle.std.proofs.Common.{refl, ap, sym, ◌∙◌, arith, inl, inr}
 use Rattle.std.proofs.lemmas.Bool.{eq-eqb}
@@ -16,7 +16,7 @@ use Rattle.mcs_threads.specs.declared.row.Block.TheVariants.{Queued, OnReply}
 use Rattle.mcs_threads.specs.declared.row.ThreadRow.{ThreadRow}
 use Rattle.mcs_explore_rows.specs.Numbers.{one, flag_number, option_numbers, each_numbers, list_numbers, below, id_numbers, cap_numbers, mode_number, send_number, queue_numbers, block_numbers, row_numbers, letter_numbers}
 
--- what stands behind equal elements is equal, and so are they
+-- what follows equal elements is equal, and so are they
 pub parted : {E : Type 0} (m n : E) (x y : List E) → m ∷ x ≡ n ∷ y → (m ≡ n) × (x ≡ y)
 parted m n x y h = (cc, cc)
 

@@ -9,7 +9,7 @@ Keeps old new = (n : ℕ) (r : List ℕ) → slice_get old n ≡ Some r → slic
 abbrev pub Names : List (List ℕ) → List ℕ → List (List ℕ) → Type 0
 Names met numbers rows = map (slice_get met) numbers ≡ map (λ (r : List ℕ). Some r) rows
 
--- numbers that named rows name more rows behind them, when more were met
+-- numbers that named rows name more rows after them, when more were met
 abbrev pub Adds : List (List ℕ) → List ℕ → List (List ℕ) → List ℕ → List (List ℕ) → Type 0
 Adds old before new after more = (rows : List (List ℕ)) → Names old before rows → Names new after (rows ++ more)
 

@@ -32,7 +32,7 @@ abbrev pub each_numbers : {A : Type 0} → (A → List ℕ) → List A → List 
 each_numbers f [] = []
 each_numbers f (x ∷ xs) = (1 ∷ f x) ++ each_numbers f xs
 
--- a list, with a 0 behind it
+-- a list, with a 0 after it
 abbrev pub list_numbers : {A : Type 0} → (A → List ℕ) → List A → List ℕ
 list_numbers f xs = each_numbers f xs ++ (0 ∷ [])
 

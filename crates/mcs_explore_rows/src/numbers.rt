@@ -1,4 +1,4 @@
-//! Values as numbers, by which each is told from all others of its type.
+//! Values as numbers, which distinguish each from all others of its type.
 ghost use Rattle.std.specs.Prelude.{◌≡◌, ◌++◌, OnOk};
 ghost use Rattle.mcs_types.specs.Ids.{kind_number};
 ghost use Rattle.mcs_explore_rows.specs.Numbers.{block_numbers, cap_numbers, flag_number, id_numbers, letter_numbers, mode_number, number_kept, one, list_numbers, option_numbers, queue_numbers, row_numbers, send_number};

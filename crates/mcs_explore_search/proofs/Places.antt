@@ -85,7 +85,7 @@ at-or-below (suc i) (suc n) lt = go (at-or-below i n (omega (arith, lt)))
     go (inl e) = inl (ap (λ m. suc m) e)
     go (inr b) = inr (omega (arith, b))
 
--- what stands behind a list is in the place of its length
+-- what follows a list is in the place of its length
 pub nth-next : {A : Type 0} (ys : List A) (x : A) (rest keys : List A) → ys ++ x ∷ rest ≡ keys → slice_get keys (length ys) ≡ Some x
 nth-next ys x rest keys h = ap (λ l. slice_get l (length ys)) (sym h) ∙ mid ys
   where

@@ -14,7 +14,7 @@ module _ {A : Type 0} (Step Like : A → A → Type 0) (likes : IsLikeness Step 
       let g : IsVisited Like visited step.0 (f.visit.depth + 1) = closed.closed f.place f.visit f.at step.0 step.1.0 in
       record { place = g.place; visit = g.visit; at = g.at; like = likes.trans t step.0 g.visit.state step.1.1 g.like; near = let a = f.near in let b = g.near in omega (arith, a, b) }
 
--- and so does every run that is no longer than what is behind the first d visits is deep
+-- and so does every run that is no longer than what is after the first d visits is deep
 module _ {A : Type 0} (Step Like : A → A → Type 0) (likes : IsLikeness Step Like) (s : A) (d : ℕ) (visited : List (Visit A)) (closed : IsClosedTo Step Like s d visited) where
   pub near-run : (n : ℕ) (t : A) → AreFar n d visited → Run Step s n t → IsVisited Like visited t n
   near-run zero t far run = subst (λ x. IsVisited Like visited x 0) run closed.start

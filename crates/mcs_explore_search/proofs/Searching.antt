@@ -82,7 +82,7 @@ module _ {A K L : Type 0} (eq : K → K → Bool) (fair : IsEquivalence eq) (Lea
           by (inr c) = subst (λ (s : A). Leading E i (suc n) s) (ap (λ (x : Visit A). x.state) same)
               (child-leads E vs n i k f g.visit.state at c (below f.parent c.key c.found c.at (let d = c.deep in omega (arith, d, deep)) c.visit c.there))
 
-  -- a new key that is one step behind the place d
+  -- a new key that is one step after the place d
   one-more : (d : ℕ) (E : Entries K L) (vs : List (Visit A)) (k c : K) (r q : Found L) (v : Visit A) (l : L) (t : A) → IsSearch eq Leads Like IsKey start d E vs → At E d k r → slice_get vs d ≡ Some v
       → Leads l v.state t → IsKey t c → ((i : ℕ) (m : K) (p : Found L) → At E i m p → Same eq c m → ⊥) → q.depth ≡ r.depth + 1 → q.parent ≡ d → q.label ≡ l
       → IsSearch eq Leads Like IsKey start d (E ++ (c, q) ∷ []) (vs ++ record { state = t; depth = q.depth } ∷ [])
@@ -312,7 +312,7 @@ module _ {A K L : Type 0} (eq : K → K → Bool) (fair : IsEquivalence eq) (Lea
               let same : v ≡ x = same-place a.visits d i v x (sym e) a.there h in
               subst (λ (y : Visit A). IsVisited Like a.visits t (y.depth + 1)) same (behind t (subst (λ (y : Visit A). Steps Leads y.state t) (sym same) step))
 
-      -- where an edge of these leads: a state that is like the one behind the step
+      -- where an edge of these leads: a state that is like the one after the step
       linked-like : (i : ℕ) (l : L) (c : K) (t : A) → Leads l v.state t → IsKey t c → (b : IsLinked eq E d a.more i c) → (g : IsGrown Leads IsKey start E a.visits b.edge.to b.to.other b.to.found) → Like t g.visit.state
       linked-like i l c t step key b g =
           alike (path_back E d r.depth ++ l ∷ []) (path_back E b.edge.to b.to.found.depth) t g.visit.state b.to.other

@@ -85,11 +85,11 @@ pub record IsReached {A K L : Type 0} (Leads : L → A → A → Type 0) (IsKey 
 abbrev pub AreReached : {A K L : Type 0} → (L → A → A → Type 0) → (A → K → Type 0) → A → Entries K L → Type 0
 AreReached {A = A} {K = K} {L = L} Leads IsKey start E = (i : ℕ) (k : K) (f : Found L) → At E i k f → (s : A) × IsReached Leads IsKey start E i k f s
 
--- an entry behind another is no nearer
+-- an entry after another is no nearer
 abbrev pub AreSorted : {K L : Type 0} → Entries K L → Type 0
 AreSorted {K = K} {L = L} E = (i j : ℕ) (k l : K) (f g : Found L) → i ≤ j → At E i k f → At E j l g → f.depth ≤ g.depth
 
--- no key stands twice
+-- no key is there twice
 abbrev pub AreApart : {K L : Type 0} → (K → K → Bool) → Entries K L → Type 0
 AreApart {K = K} {L = L} eq E = (i j : ℕ) (k c : K) (f g : Found L) → At E i k f → At E j c g → Same eq k c → i ≡ j
 

@@ -15,8 +15,8 @@ pub trait Likeness {
         ensures { IsLikeness Step Like };
 }
 
-/// Where steps from what was visited lead to states that are like visited ones, every run ends in a
-/// state that is like one that was visited, in no more steps.
+/// Proves that, where steps from what was visited lead to states that are like visited ones, every
+/// run ends in a state that is like one that was visited, in no more steps.
 pub fn every_run<L: Likeness>()
     ghost at: { L.State × List (Visit L.State) }
     requires { IsClosed L.Step L.Like at.0 at.1 }
@@ -25,8 +25,8 @@ pub fn every_run<L: Likeness>()
     L::is_likeness();
 }
 
-/// The same where steps lead so from the first at.1 visited ones alone: every run ends so that is
-/// no longer than each of the other visits is deep.
+/// Proves the same where steps lead so from the first at.1 visited ones alone: every run ends so
+/// that is no longer than each of the other visits is deep.
 pub fn near_run<L: Likeness>()
     ghost at: { L.State × ℕ × List (Visit L.State) }
     requires { IsClosedTo L.Step L.Like at.0 at.1 at.2 }

@@ -12,7 +12,7 @@ use std::hash::Hash;
 /// A system: its states, steps between them with labels, and keys of states. It may note of its
 /// states what it needs to give keys, and tell someone what it sees.
 pub trait System {
-    // the start has the default one, which stands in no path
+    // the start has the default one, which is in no path
     type Label: Copy + Default + Drop;
 
     type Key: Eq + Hash + Drop;
@@ -38,16 +38,16 @@ pub trait System {
     // the same system, which has noted more
     ghost Later: { Self → Self → Type 0 };
 
-    /// The key of the start. A fault ends the search.
+    /// Returns the key of the start. A fault ends the search.
     fn first(&mut self, alloc: Global) -> Result<Self::Key, Self::Fault>
         ensures later { Later self.old self.new }
         ensures key { IfOk result (λ k. IsKey self.new (start self.new) k) }
         ensures seen { OnOk result (HasSeen self.old [] → HasSeen self.new []) };
 
-    /// The steps from the state to which a path of labels leads from the start: of each its label
-    /// and the key of where it leads. The state is the one in this place of all that were found. A
-    /// fault ends the search. The path of the state that comes next is a hint: the system may keep
-    /// what both paths have.
+    /// Returns the steps from the state to which a path of labels leads from the start: of each its
+    /// label and the key of where it leads. The state is the one in this place of all that were
+    /// found. A fault ends the search. The path of the state that comes next is a hint: the system
+    /// may keep what both paths have.
     fn nexts(
         &mut self,
         alloc: Global,
@@ -192,7 +192,7 @@ impl<K: Eq + Hash + Drop, L: Copy + Drop> Search<K, L> {
         }
     }
 
-    /// Returns the label by which the state in a place was found; None where there is no such place.
+    /// Returns the label by which the state in a place was found; None where no state has it.
     pub fn label(&self, place: usize) -> Option<L>
         ensures { result ≡ label_at self.now.map.entries place }
     {
@@ -250,7 +250,7 @@ fn narrow(number: usize) -> Result<u32, AllocError>
     }
 }
 
-/// How a state is found by a label behind the one in a place, which has this depth. An AllocError
+/// How a state is found by a label after the one in a place, which has this depth. An AllocError
 /// where a number has more than 32 bits.
 fn found_behind<L: Copy + Drop>(
     place: usize,
@@ -295,7 +295,7 @@ fn add_all<M: System>(
     Ok(())
 }
 
-/// A search that has found its start alone.
+/// Begins a search that has found its start alone.
 fn begin<M: System>(alloc: Global, system: &mut M) -> Result<Search<M::Key, M::Label>, M::Fault>
     ensures later { M.Later system.old system.new }
     ensures begun { IfOk result (λ f. f.done ≡ 0) }
@@ -320,7 +320,7 @@ fn begin<M: System>(alloc: Global, system: &mut M) -> Result<Search<M::Key, M::L
     })
 }
 
-/// The steps from the state in a place.
+/// Returns the steps from the state in a place.
 fn nexts_of<M: System>(
     alloc: Global,
     system: &mut M,

@@ -99,7 +99,7 @@ one-user users i u v e f = some-same (sym e ∙ f)
     some-same : Some u ≡ Some v → u ≡ v
     some-same h = search rules
 
--- the best below the next number, where the user there is known to go behind it
+-- the best below the next number, where the user there is known to go after it
 best-next : (users : List User) (g : Going) (core : CoreId) (n : ℕ) (t : ObjId)
     → ((i : ℕ) (u : User) (p : Position) → i < n → CanGive users g core i u p → GoesBefore (log_of g.book) t u.thread)
     → ((u : User) (p : Position) → CanGive users g core n u p → GoesBefore (log_of g.book) t u.thread)

@@ -108,7 +108,7 @@ with_context b t s status legal is ready holds = go (option_and_then core_kept (
         some-core : {x y : CoreId} → Some x ≡ Some y → x ≡ y
         some-core h = cc
 
--- an entry of a thread that may enter is turned away for a limit alone
+-- an entry of a thread that may enter is skipped for a limit alone
 pub limit : (b : Book) (core : CoreId) (t : ObjId) (r : Result Answer EnterFault) (f : EnterFault) → may_enter (log_of b) core t ≡ true
     → IfSome (fault_of b core t) (λ g. r ≡ Err g) → IfNone (fault_of b core t) (FailsForMemory r) → r ≡ Err f → IsLimit f
 limit b core t r f enters turned memory is = go (fault_of b core t) (let-in b core t ∙ enters) turned memory

@@ -53,13 +53,13 @@ IsBestBelow users g core n (Some k) = (t : ObjId) × Gives users g core k.user k
 pub record AreBestBelow (users : List User) (g : Going) (n : ℕ) (picks : List (Option Pick)) : Type 0 where
   pub each : (core : CoreId) (k : Option Pick) → slice_get picks core.0 ≡ Some k → IsBestBelow users g core n k
 
--- whether an entry that is turned away for this, if anything, is one of a thread that may enter
+-- whether an entry that is skipped for this, if anything, is one of a thread that may enter
 abbrev pub is_let_in : Option EnterFault → Bool
 is_let_in None = true
 is_let_in (Some BookFull) = true
 is_let_in (Some _) = false
 
--- an entry of a thread that may enter is turned away for this
+-- an entry of a thread that may enter is skipped for this
 abbrev pub IsLimit : EnterFault → Type 0
 IsLimit f = (f ≡ BookFull) ⊎ (f ≡ OutOfMemory)
 

@@ -187,7 +187,7 @@ pub fn picked(picks: &[Option<Pick>], core: usize) -> Option<Pick>
     }
 }
 
-/// No pick of so many cores.
+/// None for each of so many cores.
 fn no_picks(alloc: Global, cores: u8) -> Result<Vec<Option<Pick>>, OutOfMemory>
     ensures { IfOk result (λ v. v.items ≡ replicate cores None) }
 {
@@ -304,8 +304,8 @@ impl<L: Lines> Walk<L> {
         }
     }
 
-    /// What each core picks: the due entry of the user who can give one and whose thread goes
-    /// before those of all others who can.
+    /// What each core picks: the due entry of the user that can give one and whose thread goes
+    /// before those of all others that can.
     #[tactic(auto, using(crate::proofs::Picking::none_best, crate::proofs::Picking::best_picks))]
     pub fn picks(&self, alloc: Global, users: &Users) -> Result<Vec<Option<Pick>>, OutOfMemory>
         ensures { IfOk result (λ v. ArePicks users.now self.now v.items) }
@@ -464,9 +464,9 @@ impl<L: Lines> Walk<L> {
         true
     }
 
-    /// Makes a turn, where the cores have these picks, and gives what it was answered; None where
-    /// the rule has no such turn. Then, and after an error, nothing has changed. BookFull where the
-    /// book has 1,000,000 lines, OutOfMemory where memory was refused.
+    /// Makes a turn, where the cores have these picks, and returns its answer; None where the rule
+    /// has no such turn. Then, and after an error, nothing has changed. BookFull where the book has
+    /// 1,000,000 lines, OutOfMemory where memory was refused.
     pub fn turn(
         &mut self,
         alloc: Global,
@@ -501,8 +501,8 @@ impl<L: Lines> Walk<L> {
         (kernel, places)
     }
 
-    /// The same walk once more, which goes on by itself, in the memory of a spare one. OutOfMemory
-    /// where memory was refused.
+    /// Clones the walk, to be continued on its own, in the memory of a spare one. OutOfMemory where
+    /// memory was refused.
     pub fn copy(&self, alloc: Global, spare: Option<Walk<L>>) -> Result<Walk<L>, OutOfMemory>
         ensures { IfOk result (λ w. w ≡ self.now) }
     {

@@ -82,17 +82,17 @@ may-give R r x p s context c sound is some =
 pub settles-call : (R : Log) (x p r : ObjId) → IsSettling R x p (Some r) → IsCalling R r x p
 settles-call R x p r s = record { caller = s.sender; idle = s.idle; receiver = s.receiver; reply = s.reply.0; free = s.reply.1 }
 
--- who has sent is not who stands in a queue
+-- who has sent is not who is in a queue
 other : (R : Log) (x p e : ObjId) → IsIdle R x → queue_of R p ≡ Some (Receivers e) → x ≢ p
 other R x p e idle at is = let no : None ≡ Some (Receivers e) = sym idle.0 ∙ ap (λ z. queue_of R z) is ∙ at in absurd cc
 
--- a receiver that stands in a queue takes a message
+-- a receiver that is in a queue takes a message
 module _ (R : Log) (number : ℕ) (x p e : ObjId) (sound : Sound R) (there : IsThere R kind.Thread x) (idle : IsIdle R x) (at : queue_of R p ≡ Some (Receivers e)) where
   -- the log, once it has left its queue
   abbrev left : Log
   left = rec.Parts p (Receivers e) ∷ rec.Took number p ∷ R
 
-  -- the reply object with which it stood is free then
+  -- the reply object with which it was is free then
   free : (r : Option ObjId) → r ≡ reply_with R p → IfSome r (λ d. IsThere left kind.Reply d × IsFreeReply left d)
   free None is = tt
   free (Some d) is =

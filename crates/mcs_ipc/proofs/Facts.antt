@@ -42,11 +42,11 @@ use Rattle.mcs_ipc.specs.declared.checks.Target.{Target}
 use Rattle.mcs_ipc.specs.declared.checks.Target.TheVariants as target
 use Rattle.mcs_ipc.specs.Rows.{target_by, target_of, sendable, callable, alone_act, send_act}
 
--- who stands in no queue has no open message
+-- who is in no queue has no open message
 pub none-open : (R : Log) (t : ObjId) → OpenStand R → queue_of R t ≡ None → HasNoneOpen R t
 none-open R t stand none e m still = let no : None ≡ Some (Senders e) = sym none ∙ stand t e m still in absurd cc
 
--- who is first in a queue is a thread that is there, and stands in that queue
+-- who is first in a queue is a thread that is there, and is in that queue
 pub first-there : (R : Log) (q : Queue) (x : ObjId) → Sound R → first_in R q ≡ Some x → IsThere R kind.Thread x × (queue_of R x ≡ Some q)
 first-there R q x sound first = let stands : queue_of R x ≡ Some q = first-stands R q x first in (standing-thread R x q sound stands, stands)
 
@@ -67,7 +67,7 @@ send-alone : (R : Log) (b : Bool) (mode : SendMode) (t e : ObjId) (badge : Badge
 unfolding send_act sends sends_to
 send-alone R b mode t e badge message none = rw none refl
 
--- it waits, and stands in its queue
+-- it waits, and is in its queue
 alone-waits : (R : Log) (mode : SendMode) (t e : ObjId) (badge : Badge) (message : Content)
     → alone_act true mode t e badge message R ≡ record { answer = Waits; records = rec.Sent t e mode badge message ∷ rec.Joins t (Senders e) None ∷ [] }
 unfolding queues ◌then◌
@@ -136,7 +136,7 @@ woken-sends R t a x sound enters stand e = go x (target-there R t a x sound e)
 pub woken-calls : (R : Log) (t : ObjId) (a : ℕ) (c : Cap) → Sound R → IsEntering R t → OpenStand R → callable R t a ≡ Ok c → IsSending (onto (wakes (mode_of R t) t R) R) t c.obj
 woken-calls R t a c sound enters stand e = woken-over R t c.obj enters stand (callable-there R t a c sound e)
 
--- it is accepted, and its sender stands in its queue
+-- it is accepted, and its sender is in its queue
 pub alone-is : (R : Log) (mode : SendMode) (t e : ObjId) (badge : Badge) (message : Content) → first_in R (Receivers e) ≡ None
     → send_act true mode t e badge message R ≡ record { answer = Waits; records = rec.Sent t e mode badge message ∷ rec.Joins t (Senders e) None ∷ [] }
 alone-is R mode t e badge message none = send-alone R true mode t e badge message none ∙ alone-waits R mode t e badge message

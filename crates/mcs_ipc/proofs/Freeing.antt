@@ -73,7 +73,7 @@ pub free-is : (R : Log) (r : ObjId) (o : Option ObjId) → user_of R r ≡ o →
 unfolding free
 free-is R r o is = ap (λ o. with_any o (λ x. cancel x Inactive) R) is
 
--- who stands in no queue is not the receiver that is cancelled
+-- who is in no queue is not the receiver that is cancelled
 other : (R : Log) (t x e : ObjId) → queue_of R t ≡ None → queue_of R x ≡ Some (Receivers e) → t ≢ x
 other R t x e none stands is = let no : None ≡ Some (Receivers e) = sym none ∙ ap (λ u. queue_of R u) is ∙ stands in absurd cc
 

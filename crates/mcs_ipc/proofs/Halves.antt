@@ -94,7 +94,7 @@ waits-send t n = record {
   took = λ R m p h. record { acting = (acts-send t).took R m p h.acting; there = h.there; alone = h.alone };
 }
 
--- ---- who has an open message stands in its queue still
+-- ---- who has an open message is in its queue still
 
 -- a context passes to somebody
 back-stand : (s : Option ObjId) (x : ObjId) (R : Log) → OpenStand R → OpenStand (onto (give_back s x R) R)

@@ -144,13 +144,12 @@ lent_of None own = own
 abbrev pub lent : Log → ObjId → ObjId → Option ObjId
 lent R x p = lent_of (context_of R p) (context_of R x)
 
--- a sender who stood in a queue runs again after a plain send; one who did not stand there runs
--- still
+-- a sender who was in a queue runs again after a plain send; one that was in none runs still
 abbrev pub resumes : Bool → ObjId → Piece
 resumes true x = say (Turns x Running)
 resumes false x = nothing
 
--- the message of a sender who stands in its queue is taken by t, who receives with r
+-- the message of a sender who is in its queue is taken by t, who receives with r
 unfoldable pub taken_by : Delivery → ObjId → Option ObjId → Piece
 taken_by d t r =
     say (Took d.number t)

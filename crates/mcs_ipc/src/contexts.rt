@@ -15,7 +15,7 @@ use mcs_object_queues::Waiting;
 use mcs_state::{Change, State, change_awake, find_object, wake};
 use mcs_types::{CoreId, Kind, ObjId, Refusal};
 
-/// Whether nobody holds a context, it is homed nowhere, and no reply object stands in its chain.
+/// Whether nobody holds a context, it is homed nowhere, and no reply object is in its chain.
 fn is_loose<W: Waiting>(state: &State<W>, context: ObjId) -> bool
     ensures { result ≡ is_loose (so_far state.now) context }
 {
@@ -64,11 +64,11 @@ fn find_change<W: Waiting>(
     give(state, context, cap.obj)
 }
 
-/// BindCtx: a thread holds the context from now on, or it is homed at a notification (own). The
+/// Performs BindCtx: a thread gets the context, or it is homed at a notification (own). The
 /// refusals are 1 to 3 of the lookups, the context's first, and 4 for a capability of another kind;
-/// then 9 where the context is held, homed, or a reply object stands in its chain (own), and where
-/// the thread holds one or another context is homed at the notification. They change nothing
-/// (manual: Threads and Execution).
+/// then 9 where the context is held, homed, or a reply object is in its chain (own), and where the
+/// thread holds one or another context is homed at the notification. They change nothing (manual:
+/// Threads and Execution).
 pub fn bind_context<W: Waiting>(
     state: &mut State<W>,
     core: CoreId,
@@ -110,9 +110,9 @@ fn unbind_awake<W: Waiting>(state: &mut State<W>, thread: ObjId, context: ObjId)
     unbind(state, context);
 }
 
-/// UnbindCtx: nobody holds the context, and it is homed nowhere any more. The refusals are 1 to 3
-/// of the lookup, 4 for a capability of another kind, and 10 where nobody holds it and it is homed
-/// nowhere; they change nothing (manual: Threads and Execution; own).
+/// Performs UnbindCtx: the context is taken from its holder, and homed nowhere. The refusals are 1
+/// to 3 of the lookup, 4 for a capability of another kind, and 10 where nobody holds it and it is
+/// homed nowhere; they change nothing (manual: Threads and Execution; own).
 pub fn unbind_context<W: Waiting>(
     state: &mut State<W>,
     core: CoreId,

@@ -33,11 +33,11 @@ fn send_and_receive<W: Waiting>(
     receive_from(state, thread, at.source, true, answer)
 }
 
-/// NBSendRecv where a reply object is named, and NBSendWait where not: the thread sends as by
-/// NBSend, and then receives as by Recv or Wait over a second capability, which is what is
-/// answered. Where a receiver that holds no context takes the message, the thread's context goes
-/// along, and nobody owes anything for it. All tests come first, those of the send before those of
-/// the receive: the refusals are those of NBSend and of Recv, and change nothing (own).
+/// Performs NBSendRecv where a reply object is named, and NBSendWait where not. The thread sends as
+/// by NBSend; then it receives as by Recv or Wait over a second capability, which gives the answer.
+/// Where a receiver that holds no context takes the message, the thread's context goes along, and
+/// nobody owes anything for it. All tests come first, those of the send before those of the
+/// receive: the refusals are those of NBSend and of Recv, and change nothing (own).
 pub fn exchange<W: Waiting>(
     state: &mut State<W>,
     core: CoreId,

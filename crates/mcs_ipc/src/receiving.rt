@@ -20,8 +20,8 @@ use mcs_object_queues::Waiting;
 use mcs_state::{State, wake};
 use mcs_types::{Answer, Copies, CoreId, Mode, ObjId, Queue};
 
-/// Cancels whoever uses a reply object, the caller that it owes or the receiver that stands with
-/// it: it becomes inactive (own).
+/// Cancels the thread that uses a reply object, the caller that it owes or the receiver that is
+/// queued with it: it becomes inactive (own).
 fn free<W: Waiting>(state: &mut State<W>, reply: ObjId)
     requires there { IsThere (so_far state.old) Kind.Reply reply }
     requires room { HasRoomFor (freed reply) state.old }
@@ -34,7 +34,7 @@ fn free<W: Waiting>(state: &mut State<W>, reply: ObjId)
     }
 }
 
-/// The same, where there is a reply object.
+/// Does the same where there is a reply object, else nothing.
 fn free_any<W: Waiting>(state: &mut State<W>, reply: Option<ObjId>)
     requires there { IfSome reply (λ r. IsThere (so_far state.old) Kind.Reply r) }
     requires room { HasRoomFor (with_any reply freed) state.old }
@@ -174,15 +174,15 @@ pub fn receive_from<W: Waiting>(
     }
 }
 
-/// Recv and Wait where it blocks, and NBRecv and NBWait where not; Recv and NBRecv name a reply
-/// object. Over an endpoint the reply object's present user is cancelled; then the pending word of
-/// the thread's notification is heard, or else the message of the first sender is taken. Where
-/// there is neither, the thread waits among the receivers, with the reply object, if it blocks, and
-/// otherwise the answer is Empty; the reply object's user is cancelled all the same (own). Over a
-/// notification its pending word is heard, or else the thread waits on it, or is answered Empty;
-/// the reply object is not looked up. The refusals are 1 to 3 of the lookups, 4 for a capability of
-/// another kind, 5 where Read is missing, and 9 where the notification is bound to another thread;
-/// they change nothing (manual: Message Passing; Notifications).
+/// Performs Recv and Wait where it blocks, and NBRecv and NBWait where not; Recv and NBRecv name a
+/// reply object. Over an endpoint the reply object's present user is cancelled; then the pending
+/// word of the thread's notification is heard, or else the message of the first sender is taken.
+/// Where there is neither, the thread waits among the receivers, with the reply object, if it
+/// blocks, and otherwise the answer is Empty; the reply object's user is cancelled all the same
+/// (own). Over a notification its pending word is heard, or else the thread waits on it, or is
+/// answered Empty; the reply object is not looked up. The refusals are 1 to 3 of the lookups, 4 for
+/// a capability of another kind, 5 where Read is missing, and 9 where the notification is bound to
+/// another thread; they change nothing (manual: Message Passing; Notifications).
 pub fn receive<W: Waiting>(
     state: &mut State<W>,
     core: CoreId,
@@ -207,9 +207,10 @@ pub fn receive<W: Waiting>(
     }
 }
 
-/// ReplyRecv: the reply object is paid, and then the thread receives with it, as by Recv, or waits
-/// on a notification. All tests come first, that of the reply object also over a notification: the
-/// refusals are those of Recv, and change nothing (manual: Message Passing; Notifications).
+/// Performs ReplyRecv: the reply object is paid, and then the thread receives with it, as by Recv,
+/// or waits on a notification. All tests come first, that of the reply object also over a
+/// notification: the refusals are those of Recv, and change nothing (manual: Message Passing;
+/// Notifications).
 pub fn reply_receive<W: Waiting>(
     state: &mut State<W>,
     core: CoreId,

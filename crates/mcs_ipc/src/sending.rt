@@ -118,7 +118,7 @@ fn send_over<W: Waiting>(
     }
 }
 
-/// Pays a reply object: whom it owes is answered, if it owes anybody.
+/// Pays a reply object: the caller that it owes is answered, if it owes one.
 fn send_reply<W: Waiting>(state: &mut State<W>, reply: ObjId, message: Copies<'_>) -> bool
     requires { FitsAct (pay_act reply message) state.old }
     ensures { Acts (pay_act reply message.entry) state.old (said result)
@@ -166,11 +166,11 @@ pub fn send_target<W: Waiting>(
     }
 }
 
-/// Send where it blocks, and NBSend where not. Over an endpoint the first receiver takes the
-/// message; where nobody receives, the thread waits among the senders if it blocks, and otherwise
-/// the message is dropped, with no record and the same answer. Over a notification the message is
-/// left out, and the notification is signalled with the badge of the capability; over a reply
-/// object the caller that it owes is answered, if it owes one. The refusals are 1 to 3 of the
+/// Performs Send where it blocks, and NBSend where not. Over an endpoint the first receiver takes
+/// the message; where nobody receives, the thread waits among the senders if it blocks, and
+/// otherwise the message is dropped, with no record and the same answer. Over a notification the
+/// message is left out, and the notification is signalled with the badge of the capability; over a
+/// reply object the caller that it owes is answered, if it owes one. The refusals are 1 to 3 of the
 /// lookup, 4 for a capability of another kind, and 5 where one to an endpoint or a notification
 /// lacks Write; they change nothing (manual: Message Passing; Notifications).
 pub fn send<W: Waiting>(
@@ -195,12 +195,12 @@ pub fn send<W: Waiting>(
     Ok(send_target(state, thread, target, SendMode::Plain, message, blocks))
 }
 
-/// Call: over an endpoint the first receiver takes the message, and its reply object owes the
-/// thread an answer, or else the thread waits among the senders. A call that cannot be answered,
-/// since Grant and GrantReply are missing or the receiver names no reply object, leaves the thread
-/// inactive once it is taken. A receiver that holds no context is lent the thread's (own). The
-/// refusals are 1 to 3 of the lookup, 4 for a capability of another kind, and 5 where Write is
-/// missing; they change nothing (manual: Message Passing).
+/// Performs Call: over an endpoint the first receiver takes the message, and its reply object owes
+/// the thread an answer, or else the thread waits among the senders. A call that cannot be
+/// answered, since Grant and GrantReply are missing or the receiver names no reply object, leaves
+/// the thread inactive once it is taken. A receiver that holds no context is lent the thread's
+/// (own). The refusals are 1 to 3 of the lookup, 4 for a capability of another kind, and 5 where
+/// Write is missing; they change nothing (manual: Message Passing).
 pub fn call<W: Waiting>(
     state: &mut State<W>,
     core: CoreId,

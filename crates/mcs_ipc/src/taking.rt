@@ -34,8 +34,8 @@ fn context_to_lend<W: Waiting>(state: &State<W>, caller: ObjId, receiver: ObjId)
     }
 }
 
-/// A reply object owes a caller an answer, which the receiver is to give. A receiver that holds no
-/// context is lent the caller's (own).
+/// Makes a reply object owe a caller an answer, which the receiver is to give. A receiver that
+/// holds no context is lent the caller's (own).
 fn owe<W: Waiting>(state: &mut State<W>, reply: ObjId, caller: ObjId, receiver: ObjId)
     requires calling { IsCalling (so_far state.old) reply caller receiver }
     requires room { HasRoomFor (owed_by reply caller receiver) state.old }
@@ -50,7 +50,7 @@ fn owe<W: Waiting>(state: &mut State<W>, reply: ObjId, caller: ObjId, receiver: 
     }
 }
 
-/// The context of a sender passes to the receiver, where that holds none (own).
+/// Passes the context of a sender to the receiver, where that holds none (own).
 fn give<W: Waiting>(state: &mut State<W>, sender: ObjId, receiver: ObjId)
     requires receiver { IsThere (so_far state.old) Kind.Thread receiver }
     requires room { HasRoomFor (given_by sender receiver) state.old }
@@ -60,10 +60,10 @@ fn give<W: Waiting>(state: &mut State<W>, sender: ObjId, receiver: ObjId)
     give_back(state, own, receiver);
 }
 
-/// What becomes of the sender of a message that is taken: a caller is owed an answer, or is
-/// inactive where nobody can answer it; after a plain send a sender that stood in a queue runs
-/// again; a sender that gives its context parts with it (manual: Message Passing; own).
-// a part of its callers, which know whether the sender stood in a queue
+/// Completes a send whose message is taken. A caller is owed an answer, or becomes inactive where
+/// nobody can answer it. After a plain send a sender that was queued runs again. A sender that
+/// gives its context parts with it (manual: Message Passing; own).
+// a part of its callers, which know whether the sender was in a queue
 #[inline(always)]
 pub fn settle<W: Waiting>(
     state: &mut State<W>,
@@ -92,7 +92,7 @@ pub fn settle<W: Waiting>(
 }
 
 /// Takes the open message of the first sender for a thread that receives with a reply object, or
-/// without one. The answer is an equal message.
+/// without one. Returns an equal message.
 // a part of its caller, so that the message is moved once less
 #[inline(always)]
 pub fn take<W: Waiting>(

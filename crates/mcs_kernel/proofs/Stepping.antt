@@ -1,4 +1,4 @@
--- What a step that is taken or turned away does to the book, and a run of steps cut at one of them.
+-- What a step that is taken or skipped does to the book, and a run of steps cut at one of them.
 use Rattle.std.specs.Prelude.{ℕ, ◌≡◌, ◌≢◌, ◌<◌, ◌+◌, ◌^◌, ◌&&◌, Bool, true, false, cond, List, [], ◌∷◌, fold, Option, Some, None, Result, Err, option_and_then}
 use Rattle.std.specs.Option.{IfSome, IfNone}
 use Rattle.std.specs.Result.{IfErr}
@@ -21,7 +21,7 @@ use Rattle.mcs_kernel.specs.declared.fault.ReplayFault.TheVariants as ended
 use Rattle.mcs_kernel.specs.Runs.{Run, after_step, next_count, answer_to, is_book_full, full_after, EndsAt, StepEnds}
 use Rattle.mcs_kernel.proofs.Serving.{fault-none}
 
--- who is turned away for another reason than a full book may not enter
+-- who is skipped for another reason than a full book may not enter
 pub turned-away : (b : Book) (core : CoreId) (t : ObjId) (f : EnterFault) → fault_of b core t ≡ Some f → is_book_full (Some f) ≡ false → may_enter (log_of b) core t ≡ false
 unfolding fault_of may_enter
 turned-away b core t f h other = go (is_ready (status_of (log_of b) t)) (context_of (log_of b) t) h
@@ -58,7 +58,7 @@ step-taken b s none = ap (λ v. stepped b s v) ((fault-none b s.core s.thread no
 pub answer-taken : (b : Book) (s : Step) → fault_of b s.core s.thread ≡ None → answer_to b s ≡ Some ((does (log_of b) s.core s.thread s.entry).answer)
 answer-taken b s none = ap (λ v. answered b s v) ((fault-none b s.core s.thread none).0)
 
--- one that is turned away with this fault
+-- one that is skipped with this fault
 module _ (b : Book) (s : Step) (r : Result Answer EnterFault) (f : EnterFault) (is : r ≡ Err f) (some : IfSome (fault_of b s.core s.thread) (λ g. r ≡ Err g))
     (none : IfNone (fault_of b s.core s.thread) (IfErr r (λ g. g ≡ OutOfMemory))) (other : f ≢ OutOfMemory) (not_full : is_book_full (Some f) ≡ false) where
   not-in : may_enter (log_of b) s.core s.thread ≡ false

@@ -1,4 +1,4 @@
--- Why an entry is turned away, memory aside.
+-- Why an entry is skipped, memory aside.
 use Rattle.std.specs.Prelude.{◌≡◌, ◌+◌, Result, Bool, cond, nat_lt, Option, Some, None, length, ◌∷◌}
 use Rattle.mcs_types.specs.declared.id.ObjId.{ObjId}
 use Rattle.mcs_types.specs.declared.id.CoreId.{CoreId}
@@ -25,8 +25,8 @@ abbrev pub context_fault : Book → CoreId → Option ObjId → Option EnterFaul
 context_fault b core None = Some NoContext
 context_fault b core (Some s) = cond (is_on_core core (form_of (log_of b) s)) (cond (has_room b) None (Some BookFull)) (Some WrongCore)
 
--- why an entry of t on this core is turned away: it is not ready, holds no context, or one of
--- another core, or the book is full
+-- why an entry of t on this core is skipped: it is not ready, holds no context, or one of another
+-- core, or the book is full
 unfoldable pub fault_of : Book → CoreId → ObjId → Option EnterFault
 fault_of b core t = cond (is_ready (status_of (log_of b) t)) (context_fault b core (context_of (log_of b) t)) (Some NotRunning)
 

@@ -31,7 +31,7 @@ abbrev pub after_step : Run → Step → Run
 after_step r s = record { book = with_step r.book s; taken = next_count r.taken }
 
 -- what a step is answered: what the table says where its thread may enter, and nothing where it is
--- turned away
+-- skipped
 abbrev pub answer_to : Book → Step → Option Answer
 answer_to b s = elim (may_enter (log_of b) s.core s.thread) [ true ↦ Some ((does (log_of b) s.core s.thread s.entry).answer) | false ↦ None ]
 

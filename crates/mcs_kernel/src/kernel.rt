@@ -67,7 +67,7 @@ fn answer_plain(answer: &mut Answer, ended: Result<(), Refusal>)
     }
 }
 
-/// Writes the answer of a send: whether its thread waits, or the refusal.
+/// Answers a send: whether its thread waits, or the refusal.
 #[inline(always)]
 fn answer_send(answer: &mut Answer, waits: Result<bool, Refusal>)
     requires { answer.old ≡ Done }
@@ -80,8 +80,8 @@ fn answer_send(answer: &mut Answer, waits: Result<bool, Refusal>)
     }
 }
 
-// Who sends a message is a function of its own, so that what is lent with it is cleared where it is
-// lent alone.
+// An entry that sends a message is a function of its own, so that what is lent with it is cleared
+// where it is lent alone.
 
 /// Performs Send and NBSend, with the copies of their message that take memory.
 #[inline(always)]
@@ -355,7 +355,7 @@ impl<L: Lines> Kernel<L> {
         Ok(Kernel { state })
     }
 
-    /// A kernel like this one, in the memory of a spare one. OutOfMemory where memory is refused.
+    /// Clones the kernel in the memory of a spare one. OutOfMemory where memory is refused.
     pub fn copy(&self, alloc: Global, spare: Option<Kernel<L>>) -> Result<Kernel<L>, OutOfMemory>
         ensures { IfOk result (λ k. k ≡ self.now) }
     {

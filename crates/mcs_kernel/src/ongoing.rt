@@ -43,7 +43,7 @@ impl<L: Lines> Replay<L> {
     /// stays as it is. Either way the step is counted, up to usize::MAX. BookFull comes exactly at
     /// a step that would be let in and for which the book is full, and OutOfMemory where the room
     /// for its line is refused, each with the number of the step, from 1. After a fault nothing has
-    /// changed, and the same step may be given again.
+    /// changed, and the same step may be retried.
     pub fn advance(&mut self, alloc: Global, step: &Step) -> Result<Option<Answer>, ReplayFault>
         ensures room { OnOk result
             (is_book_full (fault_of self.old.book step.now.core step.now.thread) ≡ false) }

@@ -13,7 +13,7 @@ pub sends-one : (n : ℕ) (r : Rec) → sent_with n r ≤ n + 1
 sends-one n (Sent x e mode badge message) = omega arith
 sends-one n r = omega arith
 
--- what stands from a place on, begins with what stands there
+-- what is from a place on, begins with what is there
 pub from-there : (i : ℕ) (rs : List Rec) (r : Rec) → slice_get rs i ≡ Some r → drop i rs ≡ r ∷ drop (i + 1) rs
 from-there i [] r at = absurd cc
 from-there zero (q ∷ rs) r at = let it : q ≡ r = cc in ap (λ x. x ∷ rs) it

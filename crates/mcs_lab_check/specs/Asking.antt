@@ -19,12 +19,12 @@ reason_of w = cond (bytes_eq (codes "NotRunning") w) (Some fault.NotRunning)
     (cond (bytes_eq (codes "NoContext") w) (Some fault.NoContext)
     (cond (bytes_eq (codes "WrongCore") w) (Some fault.WrongCore) None))
 
--- whether a step was turned away for the reason that a word names
+-- whether a step was skipped for the reason that a word names
 abbrev pub away_for : Option EnterFault → Option Asked
 away_for None = None
 away_for (Some why) = Some (asked.Away (Some why))
 
--- whether a step was turned away, by the words behind that
+-- whether a step was skipped, by the words after that
 abbrev pub away_asked : List (List ℕ) → Option Asked
 away_asked [] = Some (asked.Away None)
 away_asked (w ∷ []) = away_for (reason_of w)
@@ -60,13 +60,13 @@ context_question s w = cond (bytes_eq (codes "held") w) (Some (ask.Held s))
 abbrev pub reply_question : ObjId → List ℕ → Option Question
 reply_question r w = cond (bytes_eq (codes "owes") w) (Some (ask.Owes r)) (cond (bytes_eq (codes "with") w) (Some (ask.With r)) None)
 
--- what is asked of a slot, by its index and the word behind that
+-- what is asked of a slot, by its index and the word after that
 abbrev pub slot_asked : ObjId → Option ℕ → List (List ℕ) → Option Question
 slot_asked c (Some i) (w ∷ ws) = cond (nat_lt i 256 && bytes_eq (codes "holds") w) (Some (ask.Slot c i)) None
 slot_asked c (Some i) [] = None
 slot_asked c None ws = None
 
--- what is asked of an object, by the word behind it and the others
+-- what is asked of an object, by the word after it and the others
 abbrev pub object_question : Kind → ObjId → List ℕ → List (List ℕ) → Option Question
 object_question Thread o w ws = thread_question o w ws
 object_question Context o w ws = context_question o w
@@ -75,7 +75,7 @@ object_question CNode o w ws = slot_asked o (number_of w) ws
 object_question Notification o w ws = cond (bytes_eq (codes "pending") w) (Some (ask.Pending o)) None
 object_question Endpoint o w ws = None
 
--- what is asked of what a word names, if it names something, by the words behind it
+-- what is asked of what a word names, if it names something, by the words after it
 abbrev pub named_question : Option Queue → Option ObjId → List (List ℕ) → Option Question
 named_question (Some q) o ws = Some (ask.Queue q)
 named_question None None ws = None

@@ -36,7 +36,7 @@ abbrev pub stepped : Option Book → Option Book → Checked → List ℕ → To
 stepped before None c text = (told.Nothing, c)
 stepped before (Some b) c text = (told.Step, record c { last = last_of before (Some b); step = text })
 
--- what comes of a line of a record: what stands before the one that is found is passed
+-- what comes of a line of a record: what is before the one that is found is passed
 abbrev pub with_found : Option (ℕ × ℕ) → Checked → Told × Checked
 with_found None c = (told.Record false, c)
 with_found (Some at) c = (told.Record true, record c { last = LetIn at.0 at.1 })
@@ -51,7 +51,7 @@ abbrev pub answered : Checked → List ℕ → Option Asked → Told
 answered c text None = told.NoQuestion
 answered c text (Some a) = told.Asked (is_so c text a)
 
--- what stands behind `#? ` on a line, without the newline
+-- what follows `#? ` on a line, without the newline
 abbrev pub question_text : List ℕ → Option (List ℕ)
 question_text (a ∷ b ∷ c ∷ text) = cond (a == 35 && b == 63 && c == 32) (Some (take (length text - 1) text)) None
 question_text (a ∷ b ∷ []) = None
@@ -77,7 +77,7 @@ judged_by before c b text =
 abbrev pub fed_line : Checked → List ℕ → Checked
 fed_line c text = record c { run = fed c.run text }
 
--- what comes of a line, which ends in a newline: the verdict, and the script behind it
+-- what comes of a line, which ends in a newline: the verdict, and the script after it
 abbrev pub judged : Checked → List ℕ → Told × Checked
 judged c [] = (told.Nothing, fed_line c [])
 judged c (b ∷ bs) = judged_by (book_of c) (fed_line c (b ∷ bs)) b (b ∷ bs)

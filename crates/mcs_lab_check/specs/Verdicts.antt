@@ -1,4 +1,4 @@
--- Whether what stands behind a step holds: of its answer, its records, and the state behind it.
+-- Whether what follows a step holds: of its answer, its records, and the state after it.
 use Rattle.std.specs.Prelude.{ℕ, ◌+◌, Bool, true, false, cond, List, [], ◌∷◌, Option, Some, None, codes, bytes_eq, nat_lt, drop, length}
 use Rattle.mcs_types.specs.declared.id.CoreId.{CoreId}
 use Rattle.mcs_types.specs.declared.id.ObjId.{ObjId}
@@ -17,7 +17,7 @@ use Rattle.mcs_lab_check.specs.declared.asking.Question.{Question}
 use Rattle.mcs_lab_check.specs.declared.last.Last.{Last}
 use Rattle.mcs_lab_check.specs.declared.last.Last.TheVariants.{NoStep, Away, LetIn}
 
--- how many lines a book has behind its boot, if there is one
+-- how many lines a book has after its boot, if there is one
 abbrev pub line_count : Option Book → ℕ
 line_count None = 0
 line_count (Some b) = length b.lines
@@ -43,7 +43,7 @@ answers_so NoStep l text = false
 answers_so Away l text = false
 answers_so (LetIn next sent) l text = is_answer l text
 
--- the place behind the first record that is written so, of those from a number on, before which so
+-- the place after the first record that is written so, of those from a number on, before which so
 -- many messages were sent, and how many were sent before that place
 abbrev pub found_from : ℕ → ℕ → List Rec → List ℕ → Option (ℕ × ℕ)
 found_from next sent [] text = None
@@ -71,7 +71,7 @@ entrant_in (core ∷ t ∷ ws) = entrant (number_of core) (object_of t)
 entrant_in (core ∷ []) = None
 entrant_in [] = None
 
--- why the step on a line is turned away
+-- why the step on a line is skipped
 abbrev pub reason_for : Book → Option (CoreId × ObjId) → Option EnterFault
 reason_for b None = None
 reason_for b (Some e) = fault_of b e.0 e.1
@@ -80,7 +80,7 @@ abbrev pub reason : Option Book → List ℕ → Option EnterFault
 reason None step = None
 reason (Some b) step = reason_for b (entrant_in (words_of step))
 
--- what is said of a step that was turned away
+-- what is said of a step that was skipped
 abbrev pub away_text : Option EnterFault → List ℕ
 away_text (Some fault.NotRunning) = codes "away NotRunning"
 away_text (Some fault.NoContext) = codes "away NoContext"
@@ -89,7 +89,7 @@ away_text (Some fault.BookFull) = codes "away"
 away_text (Some fault.OutOfMemory) = codes "away"
 away_text None = codes "away"
 
--- whether a step was turned away, and for the reason that a text gives, if it gives one
+-- whether a step was skipped, and for the reason that a text gives, if it gives one
 abbrev pub was_away : Last → Option EnterFault → Option EnterFault → List ℕ → Bool
 was_away NoStep seen why text = false
 was_away (LetIn next sent) seen why text = false

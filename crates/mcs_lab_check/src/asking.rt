@@ -32,11 +32,11 @@ pub enum Question {
     Homed { context: ObjId },
     /// `r1 owes t1`, or `-`.
     Owes { reply: ObjId },
-    /// `r1 with t2`: who receives with it, or `-`.
+    /// `r1 with t2`: the thread that receives with it, or `-`.
     With { reply: ObjId },
     /// `n1 pending 5`, or `-`.
     Pending { notification: ObjId },
-    /// `e1.recv t2 t4`: who is there, first to last, or `-`.
+    /// `e1.recv t2 t4`: the threads there, first to last, or `-`.
     Queue { queue: Queue },
     /// `c1 3 holds e1 rw 9`, or `-`.
     Slot { cnode: ObjId, index: u8 },

@@ -1,4 +1,4 @@
-//! Whether what follows each step of a script holds, told as TAP.
+//! Whether what follows each step of a script holds, written as TAP.
 use crate::fault::LabFault;
 use crate::judging::Judge;
 use crate::last::{Last, Told};

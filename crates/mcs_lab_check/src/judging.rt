@@ -99,7 +99,7 @@ fn found_from(
     None
 }
 
-/// Who enters, and on which core, on the line of a step.
+/// The thread that enters and its core, on the line of a step.
 pub fn entrant_of(step: &[u8]) -> Option<(CoreId, ObjId)>
     ensures { result ≡ entrant_in (words_of step.now) }
 {

@@ -30,7 +30,7 @@ pub struct Names {
     all: Vec<Given>,
 }
 
-/// Whether a name may have this byte: what is told stays one word, and needs no quotes.
+/// Whether a name may have this byte: what is written is one word, and needs no quotes.
 fn is_of_name(byte: u8) -> bool {
     byte.is_ascii_alphanumeric() || byte == b'-' || byte == b'_' || byte == b'.'
 }

@@ -35,7 +35,7 @@ senders-count [] = refl
 senders-count (rec.Sent x e mode badge message ∷ R) = length-more (senders R) x ∙ ap (λ n. n + 1) (senders-count R)
 senders-count (_ ∷ R) = senders-count R
 
--- the element behind a list, and those within
+-- the element after a list, and those within
 at-end : {X : Type 0} (xs : List X) (x : X) → slice_get (xs ++ x ∷ []) (length xs) ≡ Some x
 at-end [] x = refl
 at-end (y ∷ ys) x = at-end ys x

@@ -10,7 +10,7 @@ use Rattle.mcs_book.specs.History.{Book, Line, line_of_number}
 use Rattle.mcs_lab_diagram.specs.Arrows.{Strokes, with_record, with_records, strokes_of}
 use Rattle.mcs_lab_diagram.specs.Drawn.{IsDrawnBefore}
 
--- what stands within a list is there
+-- what is within a list is there
 pub none-past : {X : Type 0} (xs : List X) (i : ℕ) → None ≡ slice_get xs i → i < length xs → ⊥
 none-past xs i none lt =
     elim (slice_get_cases xs i).1 [

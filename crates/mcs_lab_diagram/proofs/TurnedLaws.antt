@@ -1,4 +1,4 @@
--- A step more that was turned away.
+-- A step more that was skipped.
 use Rattle.std.proofs.Common.{◌≡◌, ℕ, Some, List, [], ◌∷◌, ◌++◌, length, map, ap, ◌∙◌}
 use Rattle.std.proofs.lemmas.List.{map-append}
 use Rattle.mcs_types.specs.declared.entry.Step.{Step}

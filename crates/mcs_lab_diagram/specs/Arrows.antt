@@ -49,7 +49,7 @@ with_records here s (rec ∷ recs) = with_records here (with_record here s rec) 
 abbrev pub row_of : ℕ → Line → Point
 row_of number l = record { row = number; thread = l.step.thread }
 
--- the strokes of lines, the newest of which stands first
+-- the strokes of lines, the newest of which is first
 abbrev pub strokes_of : List Line → Strokes
 strokes_of [] = no_strokes
 strokes_of (l ∷ ls) = with_records (row_of (length ls + 1) l) (strokes_of ls) l.records

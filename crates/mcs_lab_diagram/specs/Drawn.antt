@@ -14,8 +14,8 @@ pub record AreDrawn (s : Strokes) (looked : List Look) (picked : List (Option Ob
   pub looks : looked ≡ looks_of (boot_log b.boot.lines) b.lines
   pub picks : ArePicks b.boot.cores (boot_log b.boot.lines) b.lines picked
 
--- these strokes are those of the lines behind the first, which stands first here and is the newest;
--- in it this thread enters
+-- these strokes are those of the lines after the first, which is first here and is the newest; in
+-- it this thread enters
 abbrev pub IsDrawnBefore : Strokes → ObjId → List Line → Type 0
 IsDrawnBefore s t [] = ⊥
 IsDrawnBefore s t (l ∷ ls) = (s ≡ strokes_of ls) × (t ≡ l.step.thread)

@@ -25,8 +25,8 @@ ends_of a = record { shown = a.shown; from = a.from.thread; to = a.to.thread }
 abbrev pub sender_of : Log → ℕ → Option ObjId
 sender_of R m = option_map (λ (s : Letter). s.sender) (letter R m)
 
--- what a record draws in a line of t, where R stands before it: a message that is taken leads from
--- its sender to its taker (each was sent, in a fair book), an answer and a word from t to whom they
+-- what a record draws in a line of t, where R is before it: a message that is taken leads from its
+-- sender to its taker (each was sent, in a fair book), an answer and a word from t to whom they
 -- reach, and nothing else is drawn
 abbrev pub ends_made : ObjId → Log → Rec → List Ends
 ends_made t R (Took m p) = (record { shown = Message m; from = unwrap_or (sender_of R m) t; to = p }) ∷ []
@@ -39,7 +39,7 @@ abbrev pub ends_of_records : ObjId → Log → List Rec → List Ends
 ends_of_records t R [] = []
 ends_of_records t R (rec ∷ recs) = ends_made t R rec ++ ends_of_records t (rec ∷ R) recs
 
--- what lines draw, the newest of which stands first
+-- what lines draw, the newest of which is first
 abbrev pub ends_in : Log → List Line → List Ends
 ends_in B [] = []
 ends_in B (l ∷ ls) = ends_in B ls ++ ends_of_records l.step.thread (past B ls) l.records

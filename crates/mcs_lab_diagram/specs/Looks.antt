@@ -26,12 +26,12 @@ looks_to R (suc n) = looks_to R n ++ look_of R (thread_of (suc n)) ∷ []
 abbrev pub looks_in : Log → List Look
 looks_in R = looks_to R (counted (makes_kind Thread) R)
 
--- the rows behind the boot and behind each of these lines, the newest of which stands first
+-- the rows after the boot and after each of these lines, the newest of which is first
 abbrev pub looks_of : Log → List Line → List Look
 looks_of B [] = looks_in B
 looks_of B (l ∷ ls) = looks_of B ls ++ looks_in (past B (l ∷ ls))
 
--- the rows behind all but the last of these lines
+-- the rows after all but the last of these lines
 abbrev pub looks_before : Log → List Line → List Look
 looks_before B [] = []
 looks_before B (l ∷ ls) = looks_of B ls

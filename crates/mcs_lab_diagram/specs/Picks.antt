@@ -17,13 +17,13 @@ pub record AddsPicks (R : Log) (n : ℕ) (old new : List (Option ObjId)) : Type 
   pub count : length row ≡ n
   pub picks : ArePicksFrom R 0 row
 
--- the rows behind the boot and behind each of these lines, the newest of which stands first, of so
--- many cores
+-- the rows after the boot and after each of these lines, the newest of which is first, of so many
+-- cores
 abbrev pub ArePicks : ℕ → Log → List Line → List (Option ObjId) → Type 0
 ArePicks cores B [] ps = AddsPicks B cores [] ps
 ArePicks cores B (l ∷ ls) ps = (old : List (Option ObjId)) × ArePicks cores B ls old × AddsPicks (past B (l ∷ ls)) cores old ps
 
--- the rows behind all but the last of these lines
+-- the rows after all but the last of these lines
 abbrev pub ArePicksBefore : ℕ → Log → List Line → List (Option ObjId) → Type 0
 ArePicksBefore cores B [] ps = ⊥
 ArePicksBefore cores B (l ∷ ls) ps = ArePicks cores B ls ps

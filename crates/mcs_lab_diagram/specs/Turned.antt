@@ -1,4 +1,4 @@
--- The steps that were turned away.
+-- The steps that were skipped.
 use Rattle.std.specs.Prelude.{ℕ, List, [], ◌∷◌, ◌++◌, Option, Some, None, length}
 use Rattle.std.specs.String.{string_bytes}
 use Rattle.mcs_types.specs.declared.id.ObjId.{ObjId}
@@ -8,8 +8,8 @@ use Rattle.mcs_book.specs.History.{Book}
 use Rattle.mcs_kernel.specs.declared.fault.EnterFault.{EnterFault}
 use Rattle.mcs_lab_diagram.specs.declared.drawn.Away.{Away}
 
--- a step that was turned away: how many lines stood before it, who would have entered and where,
--- its text, and why
+-- a step that was skipped: how many lines were before it, who would have entered and where, its
+-- text, and why
 pub record Noted : Type 0 where
   pub behind : ℕ
   pub core : CoreId
@@ -21,7 +21,7 @@ pub record Noted : Type 0 where
 abbrev pub noted : Away → Noted
 noted a = record { behind = a.behind; core = a.core; thread = a.thread; text = string_bytes a.text; why = a.why }
 
--- with a step of this text more, if it has a fault: it came behind the last line of the book
+-- with a step of this text more, if it has a fault: it came after the last line of the book
 abbrev pub with_away : List Noted → Book → Step → List ℕ → Option EnterFault → List Noted
 with_away old b s text None = old
 with_away old b s text (Some why) = old ++ (record { behind = length b.lines; core = s.core; thread = s.thread; text = text; why = why }) ∷ []

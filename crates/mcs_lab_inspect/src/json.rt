@@ -78,7 +78,7 @@ fn put_step(alloc: Global, page: &mut Page, names: &Names, step: &[u8]) {
     put_object(alloc, page, &mut fields_of(None, key), None, text);
 }
 
-/// A script whose book is told as JSON.
+/// A script whose book is written as JSON.
 #[derive(Drop)]
 struct Teller {
     judge: Judge,

@@ -1,4 +1,4 @@
-//! A text that is put together in memory.
+//! A text to be written, put together in memory.
 use mcs_lab_check::{LabFault, Names};
 use mcs_text::Token;
 use mcs_trace::{Line, spell};
@@ -6,8 +6,8 @@ use mcs_types::{ObjId, Queue};
 use std::alloc::{AllocError, Global};
 use std::io::Write;
 
-/// A text that is not written yet. Where memory is refused the rest is left out and nothing is
-/// written any more, so who puts the text together need not ask.
+/// What was put and is not written yet. Where memory is refused the rest is left out and nothing is
+/// written any more, so the code that puts the text together need not ask.
 #[derive(Drop)]
 pub struct Page {
     text: Vec<u8>,

@@ -10,7 +10,7 @@ use mcs_sim::Source;
 use std::alloc::Global;
 use std::io::{Read, Write};
 
-/// Of a state: after which line, whether only what is stuck is told, and whether it is written as
+/// Of a state: after which line, whether only what is stuck is shown, and whether it is written as
 /// JSON.
 #[derive(Clone, Copy)]
 pub struct Wanted {

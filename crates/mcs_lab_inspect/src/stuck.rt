@@ -1,5 +1,4 @@
-//! Who waits for whom, and which threads nobody can let go on: by the book and by questions to the
-//! kernel.
+//! Which threads wait for which, and which are stuck: by the book and by questions to the kernel.
 use crate::needs::{Need, Needs};
 use crate::page::Page;
 use crate::spaces::{Spaces, object};
@@ -33,7 +32,7 @@ pub fn taker_of(alloc: Global, book: &Book, reply: ObjId) -> Result<Option<ObjId
     Ok(None)
 }
 
-/// Who begins to receive on an endpoint by a record.
+/// The thread that begins to receive on an endpoint by a record.
 fn receiver_of(record: Option<Rec>, endpoint: ObjId) -> Option<ObjId> {
     match record {
         Some(
@@ -70,8 +69,8 @@ fn add_receivers(
     Ok(())
 }
 
-/// The threads that are likely to let a thread go on: who took its call, or who received on the
-/// endpoint before.
+/// The threads that are likely to let a thread continue: the one that took its call, or those that
+/// received on the endpoint before.
 fn likely(
     alloc: Global,
     kernel: &Kernel<LinkedLines>,
@@ -101,7 +100,7 @@ fn is_waiting(kernel: &Kernel<LinkedLines>, thread: ObjId) -> bool {
     }
 }
 
-/// What joins why a thread waits to those for whom.
+/// What joins the reason why a thread waits to those that it waits for.
 fn so(status: Option<Status>) -> &'static str {
     match status {
         Some(Status::OnReply(_)) => ", and so for ",
@@ -122,7 +121,7 @@ fn nobody(status: Option<Status>) -> &'static str {
     }
 }
 
-/// The threads that wait, and for whom each.
+/// The threads that wait, and what each waits for.
 #[derive(Drop)]
 pub struct Waits {
     count: u32,
@@ -157,8 +156,8 @@ fn preferred(count: u32, some: &ThreadSet, others: ThreadSet) -> ThreadSet {
 }
 
 impl Waits {
-    /// Who waits for whom now, and who is stuck: it waits, and no thread that is not stuck itself
-    /// can ever let it go on.
+    /// Which threads wait for which now, and which are stuck: it waits, and no thread that is not
+    /// stuck itself can ever let it go on.
     pub fn new(alloc: Global, kernel: &Kernel<LinkedLines>) -> Result<Waits, LabFault> {
         let spaces = Spaces::new(alloc, kernel)?;
         let Ok(needs) = Needs::new(alloc, kernel) else {
@@ -180,7 +179,7 @@ impl Waits {
         Ok(waits)
     }
 
-    /// Adds for whom the next thread waits.
+    /// Adds the threads that the next thread waits for.
     fn add(
         &mut self,
         alloc: Global,
@@ -310,7 +309,7 @@ impl Waits {
         is_free
     }
 
-    /// Puts for whom a thread waits.
+    /// Puts the threads that a thread waits for.
     fn put_waited(
         &self,
         page: &mut Page,

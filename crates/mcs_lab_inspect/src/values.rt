@@ -274,7 +274,7 @@ impl<'a> Values<'a> {
         }
     }
 
-    /// Puts the threads that are stuck, and for whom each waits.
+    /// Puts the threads that are stuck, and the threads that each waits for.
     fn put_stuck(&self, page: &mut Page, waits: &Waits) {
         page.put(b"\"stuck\":[");
         let mut is_first = true;

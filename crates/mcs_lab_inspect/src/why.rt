@@ -24,7 +24,7 @@ struct Entered {
     records: Vec<Rec>,
 }
 
-/// Who took a call, and whose it is, where nobody can answer it: in a line in which a message is
+/// The taker of a call and its caller, where nobody can answer it: in a line in which a message is
 /// taken its caller becomes inactive, and no debt to it ends.
 fn unanswerable(records: &[Rec]) -> Option<(ObjId, ObjId)> {
     let mut taker = None;
@@ -51,7 +51,7 @@ fn refuses<T: Drop>(found: Option<Result<T, Refusal>>, refusal: Refusal) -> bool
     }
 }
 
-/// Of a step: who entered, and how lookup refused it.
+/// Of a step: the thread that entered, and how lookup refused it.
 #[derive(Clone, Copy)]
 struct Refused {
     thread: ObjId,
@@ -169,7 +169,7 @@ fn put_refused(
     )
 }
 
-/// Puts who took the call for which a reply object owes.
+/// Puts the thread that took the call for which a reply object owes.
 fn put_taker(
     alloc: Global,
     page: &mut Page,
@@ -259,7 +259,7 @@ fn put_void(page: &mut Page, names: &Names, reply: ObjId, caller: ObjId, ending:
     }
 }
 
-/// Puts what a record means for who waits for an answer.
+/// Puts what a record means for the thread that waits for an answer.
 fn put_record(page: &mut Page, names: &Names, record: &Rec) {
     match record {
         Rec::Sent {
@@ -488,7 +488,7 @@ impl Teller {
         }))
     }
 
-    /// Reports who took a call that nobody can answer.
+    /// Reports the taker of a call that nobody can answer.
     fn tell_unanswerable(&mut self, taker: ObjId, caller: ObjId) {
         self.put_step();
         self.page.object(&self.names, taker);

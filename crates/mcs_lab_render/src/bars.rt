@@ -36,7 +36,7 @@ pub fn event_of(row: &Row) -> u64 {
     }
 }
 
-/// Adds what a thread does: which runs is told from which could.
+/// Adds what a thread does: threads that run differ from those that could.
 pub fn put_state<N: Names>(
     to: &mut String,
     names: &N,

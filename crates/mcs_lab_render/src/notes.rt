@@ -154,8 +154,8 @@ pub fn has_note(before: Look, now: Look) -> bool {
     now.status != before.status
 }
 
-/// The thread at whose lane the mark of a record is; None where it has no mark. Who enters stands
-/// in for what is no thread.
+/// The thread at whose lane the mark of a record is; None where it has no mark. The entering thread
+/// stands in for what is no thread.
 pub fn marked(strokes: &Strokes, here: Point, fact: &Rec) -> Option<ObjId> {
     match fact {
         Rec::Dropped { message } => Some(strokes.start_of(here, *message).thread),

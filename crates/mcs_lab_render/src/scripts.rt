@@ -71,7 +71,8 @@ impl Drawn {
         Ok(Drawn { drawing })
     }
 
-    /// With a step more, whose line is this. The faults of a drawing are told as those of a script.
+    /// With a step more, whose line is this. The faults of a drawing are reported as those of a
+    /// script.
     fn with_step(self, alloc: Global, step: &Step, line: &str) -> Result<Drawn, LabFault> {
         let Drawn { mut drawing } = self;
         match drawing.enter(alloc, step, line) {

@@ -30,7 +30,7 @@ pub struct Notifications {
 }
 
 // By hand, so that it is a function of its own: a derived drop would be proved anew wherever it is
-// let go.
+// dropped.
 impl Drop for Notifications {
     fn drop(self) {
         let Notifications { rows: _ } = self;
@@ -77,8 +77,7 @@ impl Notifications {
         rows
     }
 
-    /// A table like this one, in the memory of a spare one (own). OutOfMemory where memory is
-    /// refused.
+    /// Clones the table in the memory of a spare one (own). OutOfMemory where memory is refused.
     pub fn copy(
         &self,
         alloc: Global,
@@ -118,7 +117,7 @@ impl Notifications {
     }
 
     /// Forgets a notification that is bound to no thread, and its word, if one is pending: its
-    /// serial is never given again (manual: Kernel Services and Objects).
+    /// serial is never reused (manual: Kernel Services and Objects).
     pub fn close(&mut self, notification: ObjId)
         requires there { is_there self.old notification ≡ true }
         requires unbound { thread_in self.old notification ≡ None }
@@ -166,8 +165,8 @@ impl Notifications {
         self.rows.get(notification)?.word
     }
 
-    /// The pending word of a notification that is there gains the bits of a badge; where none was
-    /// pending, it is the badge, also where that is 0 (manual: Notifications).
+    /// Adds the bits of a badge to the pending word of a notification that is there. Where no word
+    /// was pending, the badge is the word, even if it is 0 (manual: Notifications).
     pub fn raise(&mut self, notification: ObjId, badge: Badge)
         requires { is_there self.old notification ≡ true }
         ensures counts { counts self.new ≡ counts self.old }
@@ -227,7 +226,7 @@ impl Notifications {
         self.rows.get(notification)?.homed
     }
 
-    /// This context is homed at a notification that is there, or none is (own).
+    /// Sets the context that is homed at a notification that is there, or clears it (own).
     pub fn set_homed(&mut self, notification: ObjId, homed: Option<ObjId>)
         requires { is_there self.old notification ≡ true }
         ensures counts { counts self.new ≡ counts self.old }

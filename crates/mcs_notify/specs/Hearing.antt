@@ -13,12 +13,12 @@ use Rattle.mcs_book.specs.Pieces.{Piece, ◌then◌, say}
 use Rattle.mcs_book.specs.Signalling.{wake}
 use Rattle.mcs_notify.specs.declared.signalling.Hearer.{Hearer}
 
--- a thread, where it stands in a queue of receivers
+-- a thread, where it is in a queue of receivers
 abbrev pub among_receivers : ObjId → Option Queue → Option Hearer
 among_receivers x (Some (Receivers e)) = Some (record { thread = x; queue = Receivers e })
 among_receivers x _ = None
 
--- the thread to which n is bound, where it stands in a queue of receivers
+-- the thread to which n is bound, where it is in a queue of receivers
 abbrev pub bound_receiver : Log → ObjId → Option Hearer
 bound_receiver R n = option_and_then (λ x. among_receivers x (queue_of R x)) (tied_to R n)
 

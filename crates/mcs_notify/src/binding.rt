@@ -52,7 +52,7 @@ fn tie_to_end<W: Waiting>(state: &State<W>, thread: ObjId, holder: u64) -> Resul
     })
 }
 
-/// BindNtfn: the notification is bound to the thread from now on. The refusals are 1 to 3 of the
+/// Performs BindNtfn: the notification is bound to the thread. The refusals are 1 to 3 of the
 /// lookups, the thread's first, 4 for a capability of another kind, 5 where the notification's
 /// lacks Read, and 9 where the thread has a notification, the notification is bound, or a thread
 /// waits on it (own); they change nothing (manual: Notifications).
@@ -74,7 +74,7 @@ pub fn bind<W: Waiting>(
     Ok(())
 }
 
-/// UnbindNtfn: no notification is bound to the thread from now on. The refusals are 1 to 3 of the
+/// Performs UnbindNtfn: the thread's notification is unbound. The refusals are 1 to 3 of the
 /// lookup, 4 for a capability of another kind, and 10 where none is bound; they change nothing
 /// (manual: Notifications).
 pub fn unbind<W: Waiting>(

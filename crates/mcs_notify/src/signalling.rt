@@ -1,4 +1,4 @@
-//! Signals, and who hears them.
+//! Signals, and the threads that hear them.
 ghost use Rattle.std.specs.Prelude.{◌≡◌, Some};
 ghost use Rattle.mcs_types.specs.declared.entry.Entry.{Entry};
 ghost use Rattle.mcs_types.specs.declared.id.Kind.{Kind};
@@ -18,14 +18,15 @@ use mcs_object_queues::Waiting;
 use mcs_state::{State, give_back, of_kind, wake, with_write};
 use mcs_types::{Badge, Cap, CoreId, Kind, Mode, ObjId, Queue, Refusal};
 
-/// A thread that a word reaches, and the queue in which it stands.
+/// A thread that a word reaches, and the queue in which it is.
 #[derive(Clone, Copy)]
 pub struct Hearer {
     pub thread: ObjId,
     pub queue: Queue,
 }
 
-/// The thread to which a notification is bound, where it stands among the receivers of an endpoint.
+/// The thread to which a notification is bound, where it is queued among the receivers of an
+/// endpoint.
 fn bound_receiver<W: Waiting>(state: &State<W>, notification: ObjId) -> Option<Hearer>
     ensures { result ≡ bound_receiver (so_far state.now) notification }
 {
@@ -46,8 +47,8 @@ fn first_waiter<W: Waiting>(state: &State<W>, notification: ObjId) -> Option<Hea
     Some(Hearer { thread, queue })
 }
 
-/// Who hears the next word of a notification: the bound thread where it receives, else the first
-/// waiter.
+/// The thread that hears the next word of a notification: the bound thread where it receives, else
+/// the first waiter.
 fn next_hearer<W: Waiting>(state: &State<W>, notification: ObjId) -> Option<Hearer>
     ensures { result ≡ next_hearer (so_far state.now) notification }
 {
@@ -57,7 +58,7 @@ fn next_hearer<W: Waiting>(state: &State<W>, notification: ObjId) -> Option<Hear
     }
 }
 
-/// Whom a signal reaches: nobody where a word is pending.
+/// The thread that a signal reaches: none where a word is pending.
 fn reached<W: Waiting>(state: &State<W>, notification: ObjId) -> Option<Hearer>
     requires { IsThere (so_far state.now) Kind.Notification notification }
     ensures { result ≡ reached (so_far state.now) notification }
@@ -68,7 +69,7 @@ fn reached<W: Waiting>(state: &State<W>, notification: ObjId) -> Option<Hearer>
     }
 }
 
-/// A hearer leaves its queue.
+/// Takes a hearer out of its queue.
 fn leave<W: Waiting>(state: &mut State<W>, hearer: &Hearer)
     requires stands { queue_of (so_far state.old) hearer.now.thread ≡ Some hearer.now.queue }
     requires room { HasRoomFor (left_by hearer.now) state.old }
@@ -90,7 +91,7 @@ fn spare_context<W: Waiting>(state: &State<W>, notification: ObjId) -> Option<Ob
     }
 }
 
-/// A hearer takes the word, leaves its queue, and runs.
+/// Gives a hearer the word, takes it out of its queue, and lets it run.
 fn go_on<W: Waiting>(state: &mut State<W>, notification: ObjId, word: u64, hearer: &Hearer)
     requires stands { queue_of (so_far state.old) hearer.now.thread ≡ Some hearer.now.queue }
     requires pending { pending (so_far state.old) notification ≡ Some word }
@@ -104,9 +105,9 @@ fn go_on<W: Waiting>(state: &mut State<W>, notification: ObjId, word: u64, heare
     state.turns(hearer.thread, Mode::Running);
 }
 
-/// A hearer takes the word, leaves its queue, and runs. The context that is homed at the
-/// notification wakes with it, where nobody holds that and it came along no call that has not
-/// ended, and where the hearer holds none (own).
+/// Gives a hearer the word, takes it out of its queue, and lets it run. The context that is homed
+/// at the notification wakes with it, where nobody holds that and it came along no call that has
+/// not ended, and where the hearer holds none (own).
 fn hear<W: Waiting>(state: &mut State<W>, notification: ObjId, word: u64, hearer: &Hearer)
     requires stands { queue_of (so_far state.old) hearer.now.thread ≡ Some hearer.now.queue }
     requires pending { pending (so_far state.old) notification ≡ Some word }
@@ -147,9 +148,9 @@ fn cap_to_signal<W: Waiting>(state: &State<W>, thread: ObjId, address: u64) -> R
     with_write(of_kind(state.capability(thread, address), Kind::Notification))
 }
 
-/// Signal: the notification is signalled with the badge of the capability. The refusals are 1 to 3
-/// of the lookup, 4 for a capability of another kind, and 5 where Write is missing; they change
-/// nothing (manual: Notifications).
+/// Performs Signal: the notification is signalled with the badge of the capability. The refusals
+/// are 1 to 3 of the lookup, 4 for a capability of another kind, and 5 where Write is missing; they
+/// change nothing (manual: Notifications).
 pub fn signal_at<W: Waiting>(
     state: &mut State<W>,
     core: CoreId,

@@ -76,7 +76,7 @@ pub nobody-among : (t : ObjId) (vs : List Waiter) → place_of Thread t ≡ None
 nobody-among t [] h = refl
 nobody-among t (v ∷ vs) h = ap (λ b. b || is_among t (map standing vs)) (not-thread t v.thread h) ∙ nobody-among t vs h
 
--- the first, and who is behind another
+-- the first, and who is after another
 pub head-map : (vs : List Waiter) → head_of (threads_in (map standing vs)) ≡ option_map thread_at (first_waiter vs)
 head-map [] = refl
 head-map (v ∷ vs) = refl

@@ -27,7 +27,7 @@ abbrev pub queue_by : (ℕ → Option Queue) → (ℕ → Option ℕ) → ObjId 
 queue_by que place t = option_and_then que (option_and_then place (place_of Thread t))
 
 module _ (que : ℕ → Option Queue) (line : ℕ → List Waiter) (place : ℕ → Option ℕ) (a : IsLined que line place) where
-  -- a line in which a thread stands has a queue
+  -- a line in which a thread is has a queue
   pub has-queue : (u k : ℕ) → place u ≡ Some k → (q : Queue) × (que k ≡ Some q)
   has-queue u k h = go (que k) refl
     where
@@ -48,7 +48,7 @@ module _ (que : ℕ → Option Queue) (line : ℕ → List Waiter) (place : ℕ 
           let no : Some q.0 ≡ None = sym q.1 ∙ ap (λ o. option_and_then que o) (sym e ∙ ap (λ o. option_and_then place o) (sym who)) ∙ h in
           absurd cc
 
-  -- who is no thread with a number stands nowhere
+  -- who is no thread with a number is nowhere
   pub absent : (t : ObjId) → below_room (place_of Thread t) ≡ None → (n : Option ℕ) → is_among t (lined line n) ≡ false
   absent t h None = refl
   absent t h (Some n) = go (place_of Thread t) refl h
@@ -109,7 +109,7 @@ module _ (que : ℕ → Option Queue) (line later : ℕ → List Waiter) (place 
       go None = refl
       go (Some n) = ap (λ vs. map standing vs) (lines n) ∙ sym (map-without t u (line n) who)
 
--- a thread goes behind all of a priority
+-- a thread goes after all of a priority
 module _ (que : ℕ → Option Queue) (line later : ℕ → List Waiter) (place after : ℕ → Option ℕ) (u p : ℕ)
     (lines : (m : ℕ) → later m ≡ cond (is_place (place u) m) (insert_behind (record { thread = u; priority = p }) (without u (line m))) (line m)) (places : (v : ℕ) → after v ≡ place v) where
   pub moved : IsLined que line place → IsLined que later after
@@ -173,7 +173,7 @@ module _ (num : Queue → Option ℕ) (que : ℕ → Option Queue) (iso : IsNumb
       go false e = refl
       go true e = let no : Some n ≡ None = sym f ∙ ap (λ x. num x) (same_queue-equal q k e) ∙ g in absurd cc
 
-  -- a thread that stands nowhere joins a line
+  -- a thread that is nowhere joins a line
   module _ (line later : ℕ → List Waiter) (place after : ℕ → Option ℕ) (t : ObjId) (u p n : ℕ) (q : Queue) (who : place_of Thread t ≡ Some u) (into : num q ≡ Some n)
       (lines : (m : ℕ) → later m ≡ cond (n == m) (insert_behind (record { thread = u; priority = p }) (line m)) (line m)) (places : (v : ℕ) → after v ≡ cond (u == v) (Some n) (place v)) where
     pub joined : place u ≡ None → u < 256 → IsLined que line place → IsLined que later after
@@ -209,7 +209,7 @@ module _ (num : Queue → Option ℕ) (que : ℕ → Option Queue) (iso : IsNumb
     pub joined-queue : (x : ObjId) → queue_by que after x ≡ value_after x t (Some q) (queue_by que place x)
     joined-queue x = placed-queue que place after t u (Some n) who places x ∙ ap (λ o. value_after x t o (queue_by que place x)) (iso.there q n into)
 
-  -- who is behind a thread
+  -- who is after a thread
   pub next-behind : (line : ℕ → List Waiter) (place : ℕ → Option ℕ) → IsLined que line place → (t : ObjId) (u : ℕ) → place_of Thread t ≡ Some u
       → behind_in (queue_by que place t) (λ q. lined line (num q)) t ≡ option_map thread_at (behind_in_no (place u) line u)
   next-behind line place a t u who = ap (λ i. behind_in (option_and_then que (option_and_then place i)) (λ q. lined line (num q)) t) who ∙ go (place u) refl
@@ -264,7 +264,7 @@ module _ (num later : Queue → Option ℕ) (que after : ℕ → Option Queue) (
         go None = refl
         go (Some u) = at u (place u) refl
 
-  -- fewer queues have numbers, and nobody stands in the others
+  -- fewer queues have numbers, and nobody is in the others
   module _ (shrinks : (q : Queue) (n : ℕ) → later q ≡ Some n → num q ≡ Some n) (empty : (q : Queue) (n : ℕ) → num q ≡ Some n → later q ≡ None → line n ≡ []) where
     pub shrunk : IsLined after line place
     shrunk = record { stands = a.stands; vacant = λ k h. go k h (que k) refl; beyond = a.beyond }
@@ -309,7 +309,7 @@ module _ (num later : Queue → Option ℕ) (que after : ℕ → Option Queue) (
         go None = refl
         go (Some u) = at u (place u) refl
 
--- lines like others stand as those do
+-- lines like others are as those are
 pub lined-alike : (que : ℕ → Option Queue) (line other : ℕ → List Waiter) (place at : ℕ → Option ℕ) → IsLined que line place
     → ((k : ℕ) → other k ≡ line k) → ((u : ℕ) → at u ≡ place u) → IsLined que other at
 lined-alike que line other place at l same there = record {

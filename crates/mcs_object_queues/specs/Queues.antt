@@ -48,7 +48,7 @@ CountsOneMore old new kind = (k : Kind) → new k ≡ count_after k kind (old k 
 abbrev pub LosesQueues : (Queue → Bool) → (Queue → Bool) → ObjId → Type 0
 LosesQueues old new object = (q : Queue) → new q ≡ (not (is_queue_of object q) && old q)
 
--- who stands in the queue k after a thread joined q: the other queues are as before
+-- who is in the queue k after a thread joined q: the other queues are as before
 abbrev pub line_after : Queue → Queue → Waiter → List Waiter → List Waiter
 line_after k q w before = cond (same_queue q k) (insert_behind w before) before
 
@@ -56,12 +56,12 @@ line_after k q w before = cond (same_queue q k) (insert_behind w before) before
 abbrev pub JoinsQueue : (Queue → List Waiter) → (Queue → List Waiter) → ObjId → Queue → Prio → Type 0
 JoinsQueue old new t into p = (q : Queue) → new q ≡ line_after q into (record { thread = t; priority = p.0 }) (old q)
 
--- the thread behind another
+-- the thread after another
 abbrev pub behind : ObjId → List Waiter → Option ObjId
 behind t [] = None
 behind t (v ∷ vs) = cond (same t v.thread) (head_of (threads_in vs)) (behind t vs)
 
--- the thread behind another, in the queue where it stands
+-- the thread after another, in the queue where it is
 abbrev pub behind_in : Option Queue → (Queue → List Waiter) → ObjId → Option ObjId
 behind_in None line t = None
 behind_in (Some q) line t = behind t (line q)

@@ -23,8 +23,8 @@ const WAITERS: u16 = 2 * OBJECTS;
 const LINES: u16 = 3 * OBJECTS;
 
 /// Queues over lines with numbers: the line of a queue goes by the place of its object, which the
-/// next object in that place gets again. An object is forgotten only where nobody stands in its
-/// queues, so a line is empty while its place is vacant (own).
+/// next object in that place gets again. An object is forgotten only where nobody is in its queues,
+/// so a line is empty while its place is vacant (own).
 pub struct ObjectQueues<L: Lines> {
     endpoints: Store<()>,
     notifications: Store<()>,
@@ -32,7 +32,7 @@ pub struct ObjectQueues<L: Lines> {
 }
 
 // By hand, so that it is a function of its own: a derived drop would be proved anew wherever it is
-// let go.
+// dropped.
 impl<L: Lines> Drop for ObjectQueues<L> {
     fn drop(self) {
         let ObjectQueues {

@@ -13,8 +13,8 @@ use std::alloc::Global;
 
 /// The endpoints and the notifications, 256 of each at most, with the threads that wait in their
 /// queues (manual: Message Passing; Notifications). An endpoint has two queues and a notification
-/// one; the greatest priority stands first, and within one priority who came first. The threads are
-/// those of the serials 1 to 256, and each stands in at most one queue (own).
+/// one; the greatest priority is first, and within one priority the thread that came first. The
+/// threads are those of the serials 1 to 256, and each is in at most one queue (own).
 ///
 /// All is seen by ids. `new` takes the memory for all calls.
 pub trait Waiting: Sized + Drop {
@@ -22,7 +22,7 @@ pub trait Waiting: Sized + Drop {
     /// there.
     ghost line: { Self → Queue → List Waiter };
 
-    /// The queue in which a thread stands.
+    /// The queue in which a thread is.
     ghost queue: { Self → ObjId → Option Queue };
 
     /// Whether the object of a queue is there.
@@ -34,8 +34,8 @@ pub trait Waiting: Sized + Drop {
     /// How many objects of a kind are there.
     ghost there: { Self → Kind → ℕ };
 
-    /// No object, and nobody who waits. OutOfMemory where memory is refused: no later call takes
-    /// any (own).
+    /// No object, and no thread that waits. OutOfMemory where memory is refused: no later call
+    /// takes any (own).
     fn new(alloc: Global) -> Result<Self, OutOfMemory>
         ensures line { IfOk result (λ s. (q : Queue) → line s q ≡ []) }
         ensures queue { IfOk result (λ s. (t : ObjId) → queue s t ≡ None) }
@@ -59,7 +59,7 @@ pub trait Waiting: Sized + Drop {
     fn is_there(&self, of: Queue) -> bool
         ensures { result ≡ has self.now of };
 
-    /// Queues like these, in the memory of spare ones. OutOfMemory where memory is refused.
+    /// Clones the queues in the memory of spare ones. OutOfMemory where memory is refused.
     fn copy(&self, alloc: Global, spare: Option<Self>) -> Result<Self, OutOfMemory>
         ensures line { IfOk result (λ s. (q : Queue) → line s q ≡ line self.now q) }
         ensures queue { IfOk result (λ s. (t : ObjId) → queue s t ≡ queue self.now t) }
@@ -68,7 +68,7 @@ pub trait Waiting: Sized + Drop {
         ensures there { IfOk result (λ s. (k : Kind) → there s k ≡ there self.now k) };
 
     /// Makes an endpoint or a notification, where there is room. Its serial is the next of its
-    /// kind, and nobody stands in its queues (own).
+    /// kind, and nobody is in its queues (own).
     fn open(&mut self, kind: Kind) -> ObjId
         requires queued { has_queues kind ≡ true }
         requires room { no_room (given self.old kind) (there self.old kind) ≡ false }
@@ -80,8 +80,8 @@ pub trait Waiting: Sized + Drop {
         ensures given { CountsOneMore (given self.old) (given self.new) kind }
         ensures there { CountsOneMore (there self.old) (there self.new) kind };
 
-    /// Forgets an endpoint or a notification that is there, and in whose queues nobody stands: its
-    /// serial is never given again (manual: Kernel Services and Objects).
+    /// Forgets an endpoint or a notification that is there, and in whose queues nobody is: its
+    /// serial is never reused (manual: Kernel Services and Objects).
     fn close(&mut self, object: ObjId)
         requires queued { has_queues object.kind ≡ true }
         requires there { (q : Queue) → is_queue_of object q ≡ true → has self.old q ≡ true }
@@ -93,8 +93,8 @@ pub trait Waiting: Sized + Drop {
         // One is there less, and at least one was.
         ensures there { CountsOneMore (there self.new) (there self.old) object.kind };
 
-    /// Puts a thread that stands in no queue into one whose object is there, behind all of its
-    /// priority (manual: Message Passing).
+    /// Puts a thread that is in no queue into one whose object is there, after all of its priority
+    /// (manual: Message Passing).
     fn join(&mut self, thread: ObjId, into: Queue, priority: Prio)
         requires known { IsThread thread }
         requires there { has self.old into ≡ true }
@@ -105,7 +105,7 @@ pub trait Waiting: Sized + Drop {
         ensures given { (k : Kind) → given self.new k ≡ given self.old k }
         ensures there { (k : Kind) → there self.new k ≡ there self.old k };
 
-    /// Takes a thread out of its queue, if it stands in one (manual: Message Passing).
+    /// Takes a thread out of its queue, if it is in one (manual: Message Passing).
     fn part(&mut self, thread: ObjId)
         ensures line { (q : Queue) → line self.new q ≡ without thread (line self.old q) }
         ensures queue { ChangesAt (queue self.old) (queue self.new) thread None }
@@ -113,8 +113,8 @@ pub trait Waiting: Sized + Drop {
         ensures given { (k : Kind) → given self.new k ≡ given self.old k }
         ensures there { (k : Kind) → there self.new k ≡ there self.old k };
 
-    /// Gives a thread another priority in its queue, if it stands in one: it goes behind all of
-    /// that priority, even where it had that priority before (own).
+    /// Gives a thread another priority in its queue, if it is in one: it goes after all of that
+    /// priority, even where it had that priority before (own).
     fn shift(&mut self, thread: ObjId, priority: Prio)
         ensures line { (q : Queue) → line self.new q ≡ shifted thread priority.0 (line self.old q) }
         ensures queue { (t : ObjId) → queue self.new t ≡ queue self.old t }
@@ -122,13 +122,13 @@ pub trait Waiting: Sized + Drop {
         ensures given { (k : Kind) → given self.new k ≡ given self.old k }
         ensures there { (k : Kind) → there self.new k ≡ there self.old k };
 
-    /// The first thread of a queue. None where nobody stands in it, and where its object is not
-    /// there (manual: Message Passing).
+    /// The first thread of a queue. None where nobody is in it, and where its object is not there
+    /// (manual: Message Passing).
     fn first(&self, of: Queue) -> Option<ObjId>
         ensures { result ≡ head_of (threads_in (line self.now of)) };
 
-    /// The thread behind another in its queue. None where it is the last of it or stands in no
-    /// queue (own).
+    /// The thread after another in its queue. None where it is the last of it or is in no queue
+    /// (own).
     fn next(&self, thread: ObjId) -> Option<ObjId>
         ensures { result ≡ behind_in (queue self.now thread) (line self.now) thread };
 }

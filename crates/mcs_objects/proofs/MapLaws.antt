@@ -18,7 +18,7 @@ pub at-room : (n l room given : ℕ) → l ≡ n → room ≤ l → n ≤ room �
 at-room n l room given e le few = grind (arith, common_steps)
 
 module _ {T : Type 0} where
-  -- no serial was given beyond, and none stands before the first
+  -- no serial was given beyond, and none is before the first
   pub object_in-beyond : (room given last n : ℕ) (os : List (Object T)) → AreApart room given last os → given < n → object_in os n ≡ None
   object_in-beyond room given last n [] h lt = refl
   object_in-beyond room given last n (o ∷ os) h lt = let ih = object_in-beyond room given o.serial n os h.4 lt in let le = h.1 in grind (arith, common_steps, ih, le)

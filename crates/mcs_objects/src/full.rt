@@ -1,4 +1,4 @@
-//! The answer where no object can be added.
+//! The fault where no object can be added.
 use thiserror::Error;
 
 /// There is no room for another object, or each serial was given (own). The value comes back.

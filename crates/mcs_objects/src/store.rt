@@ -52,13 +52,13 @@ impl<T> Model for Store<T> {
     ghost invariant = { λ s. IsSound s.room s.given s.rows.items (vec_capacity s.rows) s.values };
 }
 
-/// Where the row of a serial stands, among rows whose serials rise; their number where none has it.
+/// Where the row of a serial is, among rows whose serials rise; their number where none has it.
 #[inline(always)]
 fn position_of(rows: &[Row], serial: u32) -> usize
     requires { Rises 0 rows.now }
     ensures { result ≡ position_or_len (is_of serial) rows.now }
 {
-    // it stands where its serial says, until an object that was made before it ends
+    // it is where its serial says, until an object that was made before it ends
     let first = serial.wrapping_sub(1) as usize;
     if first < rows.len() && rows[first].serial == serial {
         return first;
@@ -126,8 +126,8 @@ impl<T: Clone> Store<T> {
         rows
     }
 
-    /// A store like this one, in the memory of a spare one, where a clone of a value equals the
-    /// value (own). OutOfMemory where memory is refused.
+    /// Clones the store in the memory of a spare one, where a clone of a value equals the value
+    /// (own). OutOfMemory where memory is refused.
     pub fn copy(&self, alloc: Global, spare: Option<Store<T>>) -> Result<Store<T>, OutOfMemory>
         requires clones { (x y : T) → T.is_clone x y → y ≡ x }
         ensures { IfOk result (λ t. t ≡ self.now) }
@@ -171,16 +171,16 @@ impl<T: Drop> Store<T> {
         })
     }
 
-    /// The store is a map: its serials rise and were given, and its places are below its room and
-    /// different.
+    /// Proves that the store is a map: its serials rise and were given, and its places differ and
+    /// are below its room.
     fn is_map(&self)
         ensures { IsMap self.now }
     {
         let _ = &self.values;
     }
 
-    /// Two objects that are there have different places, below the store's room, so a place tells
-    /// its object. What is there was given (own).
+    /// Proves that two objects that are there have different places below the store's room, so a
+    /// place identifies its object. What is there was given (own).
     pub fn are_apart(&self)
         ensures { HasPlaces self.now }
     {
@@ -264,7 +264,7 @@ impl<T: Drop> Store<T> {
         self.values.get(row.place as usize)
     }
 
-    /// The value of an object for writing, or None where it is not there (own).
+    /// Returns the value of an object for writing; None where it is not there (own).
     pub fn get_mut(&mut self, id: ObjId) -> Option<&mut T>
         ensures* writes_back { sem 𝓛 (lends_value T.row self.entry id result) }
         ensures value { option_copied_mut result ≡ value_at self.old id }
@@ -281,7 +281,7 @@ impl<T: Drop> Store<T> {
         self.values.get(place as usize)
     }
 
-    /// The value for writing of an object that has this place (own).
+    /// Returns for writing the value of an object that has this place (own).
     pub fn get_mut_at(&mut self, id: ObjId, place: u16) -> Option<&mut T>
         requires { place_at self.old id ≡ Some place }
         ensures* writes_back { sem 𝓛 (lends_value T.row self.entry id result) }

@@ -25,7 +25,7 @@ Writes text n = IsNumeral 10 (without_leading_plus text) × (digits_value 10 (wi
 abbrev pub GivesCores : List Text → Text → List Text → Type 0
 GivesCores words text rest = (words ≡ codes "--cores" ∷ text ∷ rest) ⊎ (words ≡ (codes "--cores=" ++ text) ∷ rest)
 
--- the words of the option `--cores`, where it stands there, and then no more
+-- the words of the option `--cores`, where it is there, and then no more
 abbrev pub SaysCores : List Text → Option ℕ → Type 0
 SaysCores words None = IsEnd words
 SaysCores words (Some n) =

@@ -9,7 +9,7 @@ use Rattle.mcs_packing.specs.declared.heads.AnswerForm.TheVariants.{Done, Got, H
 use Rattle.mcs_packing.specs.Packing.{word_at, content_at, IsBadgedAt}
 use Rattle.mcs_packing.specs.Entries.{EntryFits, entry_of}
 
--- the answer of a form, whose message or word stands at a place
+-- the answer of a form, whose message or word is at a place
 abbrev pub answer_of : AnswerForm → ℕ → List ℕ → Answer
 answer_of Done at ws = done
 answer_of (Got len) at ws = got (record { 0 = word_at ws (at + 1 + len) }) (content_at ws at len)

@@ -30,19 +30,19 @@ queue_on Waiters n = in_waiters (object Notification n)
 abbrev pub word_at : List ℕ → ℕ → ℕ
 word_at ws at = slice_index_or ws at 0
 
--- the serial that stands behind the word at a place
+-- the serial that follows the word at a place
 abbrev pub serial_behind : List ℕ → ℕ → ℕ
 serial_behind ws at = word_at ws (at + 1)
 
--- the message at a place: its label, and then so many words; behind them a badge may stand
+-- the message at a place: its label, and then so many words; after them a badge may be
 abbrev pub content_at : List ℕ → ℕ → ℕ → Content
 content_at ws at n = record { label = word_at ws at; words = take n (drop (at + 1) ws) }
 
--- this message stands at a place
+-- this message is at a place
 abbrev pub HoldsAt : List ℕ → ℕ → Content → Type 0
 HoldsAt ws at m = content_at ws at (length m.words) ≡ m
 
--- this badge stands behind a message of such a length
+-- this badge follows a message of such a length
 abbrev pub HasBadgeAt : List ℕ → ℕ → Content → ℕ → Type 0
 HasBadgeAt ws at m badge = word_at ws (at + 1 + length m.words) ≡ badge
 
@@ -103,7 +103,7 @@ IsOfSlot (Emptied _ _) = Unit {0}
 IsOfSlot (Filled _ _ _ _ _) = Unit {0}
 IsOfSlot _ = ⊥
 
--- how a thread runs and where it stands
+-- how a thread runs and where it is
 abbrev pub IsOfThread : Packed → Type 0
 IsOfThread (Prio _ _) = Unit {0}
 IsOfThread (Turns _ _) = Unit {0}
@@ -150,18 +150,18 @@ IsOfMessage (Sent _ _ _ _ _) = Unit {0}
 IsOfMessage (Paid _ _ _ _) = Unit {0}
 IsOfMessage _ = ⊥
 
--- a message of so many words stands there
+-- a message of so many words is there
 pub record IsMessageAt (ws : List ℕ) (at len : ℕ) : Type 0 where
   pub ends : at + len < length ws
   pub label : word_at ws at < 2 ^ 52
   pub few : len ≤ 120
 
--- the same, with a badge behind it
+-- the same, with a badge after it
 pub record IsBadgedAt (ws : List ℕ) (at len : ℕ) : Type 0 where
   pub message : IsMessageAt ws at len
   pub badge : at + 1 + len < length ws
 
--- a word stands there, and the serial of an object behind it
+-- a word is there, and the serial of an object after it
 pub record IsPairAt (ws : List ℕ) (at : ℕ) : Type 0 where
   pub ends : at + 1 < length ws
   pub serial : serial_behind ws at < 2 ^ 32

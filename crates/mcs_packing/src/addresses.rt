@@ -1,4 +1,4 @@
-//! Addresses in four bytes each: the large ones stand among the words.
+//! Addresses in four bytes each: the large ones are among the words.
 ghost use Rattle.std.specs.Prelude.{◌≡◌};
 ghost use Rattle.mcs_packing.specs.Addresses.{AddressFits, GrewWords, HasWordRoom, address_of};
 

@@ -8,9 +8,9 @@ use mcs_types::{Badge, INLINE_WORDS, Message, OutOfMemory, Rec, copy_rows, empti
 use std::alloc::Global;
 
 /// The words that packed records, entries and answers name by their places, and the records that
-/// fit no packed form. A message stands as its label and its words, and a badge behind them where
-/// one is kept with it; a large address stands alone. Both lists only grow. `spare` is how many
-/// words the long messages of records may still take beyond six each.
+/// fit no packed form. A message is kept as its label and its words, and a badge after them where
+/// one is kept with it; a large address is alone. Both lists only grow. `spare` is how many words
+/// the long messages of records may still take beyond six each.
 #[derive(Drop)]
 pub struct Arena {
     pub words: Vec<u64>,
@@ -18,7 +18,7 @@ pub struct Arena {
     pub spare: usize,
 }
 
-/// The same records, with room for that many, in the memory of spare ones.
+/// Clones the records, with room for so many, in the memory of spare ones.
 fn copy_records(
     alloc: Global,
     spare: Vec<Rec>,
@@ -58,7 +58,7 @@ pub fn message_at(alloc: Global, words: &[u64], at: u32, len: u8) -> Result<Mess
     }
 }
 
-/// Whether this message stands at a place.
+/// Whether this message is at a place.
 #[inline(always)]
 fn is_at(words: &[u64], at: u32, message: &Message) -> bool
     ensures there { IsTrue result → IsMessageAt words.now at (length message.now.words) }
@@ -72,7 +72,7 @@ fn is_at(words: &[u64], at: u32, message: &Message) -> bool
         && &words[place + 1..end] == message.words()
 }
 
-/// Whether this badge stands behind a message of this length.
+/// Whether this badge follows a message of this length.
 fn is_badge_at(words: &[u64], at: u32, message: &Message, badge: Badge) -> bool
     requires { IsMessageAt words.now at (length message.now.words) }
     ensures there { IsTrue result → IsBadgedAt words.now at (length message.now.words) }
@@ -82,7 +82,7 @@ fn is_badge_at(words: &[u64], at: u32, message: &Message, badge: Badge) -> bool
     end < words.len() && words[end] == badge.0
 }
 
-/// How many words a message has beyond those that stand in it.
+/// How many words a message has beyond those that are in it.
 fn long_words(message: &Message) -> usize
     ensures { result ≡ length message.now.words - INLINE_WORDS }
 {
@@ -112,7 +112,7 @@ fn push_words(words: &mut Vec<u64>, more: &[u64])
     }
 }
 
-/// Keeps a message, for which there is room, and answers where.
+/// Keeps a message, for which there is room, and returns where.
 fn keep_message(words: &mut Vec<u64>, message: &Message) -> u32
     requires room { vec_len words.old + length message.now.words + 1 ≤ vec_capacity words.old }
     requires named { vec_len words.old < 2 ^ 32 }
@@ -130,7 +130,7 @@ fn keep_message(words: &mut Vec<u64>, message: &Message) -> u32
     at
 }
 
-/// Keeps a message and a badge behind it, for which there is room, and answers where.
+/// Keeps a message and a badge after it, for which there is room, and returns where.
 fn keep_badged(words: &mut Vec<u64>, message: &Message, badge: Badge) -> u32
     requires room { vec_len words.old + length message.now.words + 2 ≤ vec_capacity words.old }
     requires named { vec_len words.old < 2 ^ 32 }
@@ -146,7 +146,7 @@ fn keep_badged(words: &mut Vec<u64>, message: &Message, badge: Badge) -> u32
     at
 }
 
-/// Keeps a word, for which there is room, and answers where.
+/// Keeps a word, for which there is room, and returns where.
 pub(crate) fn keep_one(words: &mut Vec<u64>, word: u64) -> u32
     requires room { vec_len words.old < vec_capacity words.old }
     requires named { vec_len words.old < 2 ^ 32 }
@@ -161,7 +161,7 @@ pub(crate) fn keep_one(words: &mut Vec<u64>, word: u64) -> u32
     at
 }
 
-/// Keeps a word and the serial of an object behind it, for which there is room, and answers where.
+/// Keeps a word and the serial of an object after it, for which there is room, and returns where.
 fn keep_two(words: &mut Vec<u64>, word: u64, serial: u32) -> u32
     requires room { vec_len words.old + 2 ≤ vec_capacity words.old }
     requires named { vec_len words.old < 2 ^ 32 }
@@ -178,7 +178,7 @@ fn keep_two(words: &mut Vec<u64>, word: u64, serial: u32) -> u32
 }
 
 impl Arena {
-    /// The same words and records, with as much room, in the memory of a spare one. OutOfMemory
+    /// Clones the words and records, with as much room, in the memory of a spare one. OutOfMemory
     /// where memory is refused.
     pub fn copy(&self, alloc: Global, spare: Option<Arena>) -> Result<Arena, OutOfMemory>
         ensures words { IfOk result (λ a. a.words.items ≡ self.now.words.items) }
@@ -198,7 +198,7 @@ impl Arena {
         })
     }
 
-    /// Keeps the message of a record, and answers where. None, and nothing changes, where the
+    /// Keeps the message of a record, and returns where. None, and nothing changes, where the
     /// message is long and the spare words are used up.
     pub(crate) fn keep(&mut self, message: &Message) -> Option<u32>
         requires { HasRoom self.old 1 }
@@ -213,7 +213,7 @@ impl Arena {
         Some(keep_message(&mut self.words, message))
     }
 
-    /// Keeps the message of a record and a badge behind it, as `keep` does.
+    /// Keeps the message of a record and a badge after it, as `keep` does.
     pub(crate) fn keep_with_badge(&mut self, message: &Message, badge: Badge) -> Option<u32>
         requires { HasRoom self.old 1 }
         ensures value { IfSome result (λ at. HoldsAt self.new.words.items at message.now) }
@@ -229,8 +229,8 @@ impl Arena {
         Some(keep_badged(&mut self.words, message, badge))
     }
 
-    /// Keeps the message of an answer and a badge behind it, and answers where: at this place, if
-    /// they stand there already.
+    /// Keeps the message of an answer and a badge after it, and returns where: at this place, if
+    /// they are there already.
     pub(crate) fn share(&mut self, message: &Message, badge: Badge, place: u32) -> u32
         requires { HasMessageRoom self.old 1 }
         ensures value { HoldsAt self.new.words.items result message.now }
@@ -247,7 +247,7 @@ impl Arena {
         }
     }
 
-    /// Keeps the message of an entry, and answers where: at this place, if it stands there already.
+    /// Keeps the message of an entry, and returns where: at this place, if it is there already.
     #[inline(always)]
     pub(crate) fn share_plain(&mut self, message: &Message, place: u32) -> u32
         requires { HasMessageRoom self.old 1 }
@@ -263,7 +263,7 @@ impl Arena {
         }
     }
 
-    /// Keeps the word of a record, and answers where.
+    /// Keeps the word of a record, and returns where.
     pub(crate) fn keep_word(&mut self, word: u64) -> u32
         requires { HasRoom self.old 1 }
         ensures value { word_at self.new.words.items result ≡ word }
@@ -273,7 +273,7 @@ impl Arena {
         keep_one(&mut self.words, word)
     }
 
-    /// Keeps the word of a record and the serial of an object behind it, and answers where.
+    /// Keeps the word of a record and the serial of an object after it, and returns where.
     pub(crate) fn keep_pair(&mut self, word: u64, serial: u32) -> u32
         requires { HasRoom self.old 1 }
         ensures value { word_at self.new.words.items result ≡ word }
@@ -284,8 +284,8 @@ impl Arena {
         keep_two(&mut self.words, word, serial)
     }
 
-    /// Keeps the word of an entry or an answer, and answers where: at this place, if it stands
-    /// there already.
+    /// Keeps the word of an entry or an answer, and returns where: at this place, if it is there
+    /// already.
     pub(crate) fn share_word(&mut self, word: u64, place: u32) -> u32
         requires { HasMessageRoom self.old 1 }
         ensures value { word_at self.new.words.items result ≡ word }

@@ -51,7 +51,7 @@ pub enum OverPlace {
 }
 
 /// An entry, packed: `at` is a place among the words, of a message with `len` words or of a badge.
-/// Addresses stand in the order in which the entry names them, and a place as its depth and its
+/// Addresses are in the order in which the entry names them, and a place as its depth and its
 /// index.
 #[derive(Clone, Copy)]
 pub enum PackedEntry {
@@ -67,7 +67,7 @@ pub enum PackedEntry {
         cap: PackedAddress,
         reply: PackedAddress,
     },
-    /// The address of the reply object stands behind the message, where a badge does.
+    /// The address of the reply object follows the message, where a badge does.
     NbSendRecv {
         len: u8,
         at: u32,
@@ -165,7 +165,7 @@ impl Arena {
         };
     }
 
-    /// Packs an entry that sends and receives, with the reply object behind the message.
+    /// Packs an entry that sends and receives, with the reply object after the message.
     fn pack_send_recv(
         &mut self,
         cap: u64,
@@ -387,8 +387,8 @@ impl Arena {
         }
     }
 
-    /// Packs an entry, for which there is room, into `into`. Its message or its badge may stand at
-    /// a place already. What was packed before stands for what it stood for.
+    /// Packs an entry, for which there is room, into `into`. Its message or its badge may be at a
+    /// place already. What was packed before stands for what it stood for.
     // a part of its caller, but for invocations: so the entry is packed where it stays, and no
     // place for it is handed on
     #[inline(always)]

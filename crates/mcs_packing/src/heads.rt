@@ -51,8 +51,8 @@ fn placeless(form: AnswerForm) -> PackedAnswer
 }
 
 impl Arena {
-    /// Packs an answer, for which there is room. Its message or its word may stand at a place
-    /// already. What was packed before stands for what it stood for.
+    /// Packs an answer, for which there is room. Its message or its word may be at a place already.
+    /// What was packed before stands for what it stood for.
     pub fn pack_answer(&mut self, answer: &Answer, place: u32) -> PackedAnswer
         requires { HasMessageRoom self.old 1 }
         ensures value { answer_of result.form result.at self.new.words.items ≡ answer.now }

@@ -1,4 +1,4 @@
-//! What a book keeps, read where it stands: nothing is unpacked before it is asked for.
+//! What a book keeps, read where it is: nothing is unpacked before it is asked for.
 ghost use Rattle.std.specs.Prelude.{◌≡◌, IfOk};
 ghost use Rattle.mcs_packing.specs.Kept.{is_sent};
 
@@ -49,7 +49,7 @@ impl<'a> KeptRecord<'a> {
     }
 }
 
-/// Who entered on which core, and the entry, where it is kept. Clauses see the step.
+/// The thread that entered, its core and the entry, where it is kept. Clauses see the step.
 #[derive(Drop)]
 pub struct KeptStep<'a> {
     pub core: CoreId,

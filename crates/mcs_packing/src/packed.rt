@@ -49,8 +49,8 @@ pub enum Packed {
         cnode: u32,
         serial: u32,
     },
-    /// A slot holds a capability with a badge, which stands among the words, and behind it the
-    /// serial of the slot's CNode.
+    /// A slot holds a capability with a badge, which is among the words, and after it the serial of
+    /// the slot's CNode.
     FilledBadged {
         index: u8,
         rights: Rights,
@@ -58,8 +58,8 @@ pub enum Packed {
         serial: u32,
         at: u32,
     },
-    /// A slot holds a capability to a CNode with a guard of so many bits, whose value stands among
-    /// the words, and behind it the serial of the slot's CNode.
+    /// A slot holds a capability to a CNode with a guard of so many bits, whose value is among the
+    /// words, and after it the serial of the slot's CNode.
     FilledGuarded {
         index: u8,
         rights: Rights,
@@ -80,7 +80,7 @@ pub enum Packed {
         thread: u8,
         object: u32,
     },
-    /// A thread stands in a queue with a reply object.
+    /// A thread is in a queue with a reply object.
     JoinsWith {
         side: Side,
         thread: u8,
@@ -141,7 +141,7 @@ pub enum Packed {
         notification: u32,
         badge: u32,
     },
-    /// A badge of more bits was signalled, which stands among the words.
+    /// A badge of more bits was signalled, which is among the words.
     RaisedAt {
         notification: u32,
         at: u32,
@@ -241,7 +241,7 @@ fn pack_object(fact: &Rec) -> Option<Packed>
     }
 }
 
-/// Packs how a thread stands in a queue.
+/// Packs how a thread is in a queue.
 #[inline(always)]
 fn pack_joins(thread: &ObjId, queue: &Queue, reply: &Option<ObjId>) -> Option<Packed>
     ensures { IsPlain result (Rec.Joins thread.now queue.now reply.now) }
@@ -280,7 +280,7 @@ fn pack_owes(reply: &ObjId, caller: &ObjId, context: &Option<ObjId>) -> Option<P
     })
 }
 
-/// Packs how a thread runs and where it stands.
+/// Packs how a thread runs and where it is.
 #[inline(always)]
 fn pack_thread(fact: &Rec) -> Option<Packed>
     ensures { IsPlain result fact.now }
@@ -340,7 +340,7 @@ fn pack_debt(fact: &Rec) -> Option<Packed>
     })
 }
 
-/// Packs who holds a context.
+/// Packs the holder of a context.
 #[inline(always)]
 fn pack_holds(context: &ObjId, thread: &Option<ObjId>) -> Option<Packed>
     ensures { IsPlain result (Rec.Holds context.now thread.now) }
@@ -397,7 +397,7 @@ fn pack_raised(notification: &ObjId, badge: Badge) -> Option<Packed>
     })
 }
 
-/// Packs who holds a context, is bound to a notification, and what was signalled.
+/// Packs the holder of a context, is bound to a notification, and what was signalled.
 #[inline(always)]
 fn pack_bond(fact: &Rec) -> Option<Packed>
     ensures { IsPlain result fact.now }
@@ -603,7 +603,7 @@ impl Arena {
     }
 
     /// Keeps the record of a message that was sent as it is.
-    // out of line, as that of `keep_paid`: so that a record that is packed never stands in memory
+    // out of line, as that of `keep_paid`: so that a record that is packed is never in memory
     #[cold]
     #[inline(never)]
     fn keep_sent(

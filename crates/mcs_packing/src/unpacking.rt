@@ -38,7 +38,7 @@ pub fn queue_of(side: Side, serial: u32) -> Queue
     }
 }
 
-/// The serial that stands behind the word at a place.
+/// The serial that follows the word at a place.
 #[inline(always)]
 pub fn serial_behind(words: &[u64], at: u32) -> u32
     requires { IsPairAt words.now at }
@@ -144,7 +144,7 @@ fn unpack_slot(packed: &Packed, words: &[u64], wide: &[Rec]) -> Rec
     }
 }
 
-/// How a thread runs and where it stands.
+/// How a thread runs and where it is.
 fn unpack_thread(packed: &Packed, words: &[u64], wide: &[Rec]) -> Rec
     requires { IsOfThread packed.now }
     ensures { result ≡ record_of packed.now words.now wide.now }

@@ -1,4 +1,4 @@
--- What stands after a line, by the book before.
+-- What is after a line, by the book before.
 use Rattle.std.proofs.Common.{◌≡◌, ℕ, ◌⊎◌, inl, inr, Option, Some, None, Result, Ok, Err, List, [], ◌++◌, ◌-◌, length, take, refl, sym, ap, subst, ◌∙◌}
 use Rattle.std.specs.Prelude.{option_to_list}
 use Rattle.mcs_types.specs.declared.entry.Step.{Step}
@@ -21,7 +21,7 @@ comes-err view other fault.Write out f is comes = ap f comes ∙ is fault.Write
 comes-err view other fault.BookFull out f is comes = ap f comes ∙ is fault.BookFull
 comes-err view other fault.Failed out f is comes = ap f comes ∙ is fault.Failed
 
--- what stands where a book does
+-- what is where a book is
 pub comes-stands : {X : Type 0} (boot : Option Boot) (r : Result X SimFault) (k : Book) (out : Result Book SimFault) → ComesOf (λ u. k) r out → ComesOf (λ u. record { boot = boot; book = Some k }) r (stands boot out)
 comes-stands {X = X} boot (Ok u) k out comes = ap (stands boot) comes
 comes-stands {X = X} boot (Err e) k out comes = comes-err {X = X} {V = X} (λ u. k) (λ u. record { boot = boot; book = Some k }) e out (stands boot) (λ e. refl) comes
@@ -41,7 +41,7 @@ pub after-open : (t : Script Step) (n : ℕ) (l : List ℕ) → t.items ≡ [] �
 unfolding after_line
 after-open t n l none = ap (λ (ss : List Step). after_boot_line (read_at n (read_line of_steps (record { boot = t.boot; items = ss }) n l))) (sym none)
 
--- behind the boot
+-- after the boot
 pub after-run : (k : Book) (n : ℕ) (l : List ℕ) → after_line (opened_to None (Some k)) n l ≡ stands None (book_after k n l)
 unfolding after_line
 after-run k n l = refl

@@ -44,7 +44,7 @@ begun_by b = record { boot = b; lines = [] }
 unfoldable pub stepped : Book → Step → Result Book SimFault
 stepped k s = if is_book_full (fault_of k s.core s.thread) then Err fault.BookFull else Ok (with_step k s)
 
--- the step that a line behind the boot says, where its first word has this key of a boot
+-- the step that a line after the boot says, where its first word has this key of a boot
 abbrev pub behind_boot : Option Key → Result Step LineFault → Result (Option Step) LineFault
 behind_boot (Some key) step = Err why.LateBoot
 behind_boot None step = step >>= λ s. Ok (Some s)
@@ -54,7 +54,7 @@ abbrev pub step_spelled : ℕ → ℕ → List ℕ → List (List ℕ) → Resul
 step_spelled cores threads line [] = Err why.Form
 step_spelled cores threads line (w ∷ ws) = behind_boot (boot_key w) (step_of cores threads line)
 
--- the step that the line of this number says, where it is not skipped, behind a boot with so many
+-- the step that the line of this number says, where it is not skipped, after a boot with so many
 -- cores and threads
 unfoldable pub step_line : ℕ → ℕ → ℕ → List ℕ → Result (Option Step) LineFault
 step_line cores threads number line = says_something number line >>= λ says. if says then step_spelled cores threads line (words_of line) else Ok None
@@ -68,46 +68,46 @@ abbrev pub read_at : {X : Type 0} → ℕ → Result X LineFault → Result X Si
 read_at number (Ok x) = Ok x
 read_at number (Err e) = Err (fault.Script number e)
 
--- what stands after that, where it stands
+-- what is after that, where it is
 abbrev pub stands : Option Boot → Result Book SimFault → Result BootOrBook SimFault
 stands boot (Ok k) = Ok (record { boot = boot; book = Some k })
 stands boot (Err e) = Err e
 
--- what stands once a script has this boot and these steps, before which it had none: the first step
+-- what is once a script has this boot and these steps, before which it had none: the first step
 -- ends the boot
 abbrev pub opened : Option Boot → List Step → Result BootOrBook SimFault
 opened boot [] = Ok (record { boot = boot; book = None })
 opened None (s ∷ ss) = Ok not_begun
 opened (Some b) (s ∷ ss) = stands None (stepped (begun_by b) s)
 
--- what stands after a line while the boot goes on, by what was read of it
+-- what is after a line while the boot goes on, by what was read of it
 abbrev pub after_boot_line : Result (Script Step) SimFault → Result BootOrBook SimFault
 after_boot_line (Ok t) = opened t.boot t.items
 after_boot_line (Err e) = Err e
 
--- the book after a line behind the boot, by what was read of it
+-- the book after a line after the boot, by what was read of it
 abbrev pub after_step : Book → Result (Option Step) SimFault → Result Book SimFault
 after_step k (Ok None) = Ok k
 after_step k (Ok (Some s)) = stepped k s
 after_step k (Err e) = Err e
 
--- the book after the line of this number, behind the boot
+-- the book after the line of this number, after the boot
 unfoldable pub book_after : Book → ℕ → List ℕ → Result Book SimFault
 book_after k number line = after_step k (read_at number (step_line k.boot.cores (threads_of k.boot) number line))
 
--- what stands after the line of this number, where the book was this one, if the boot had ended
+-- what is after the line of this number, where the book was this one, if the boot had ended
 abbrev pub after_line_on : BootOrBook → Option Book → ℕ → List ℕ → Result BootOrBook SimFault
 after_line_on s None number line = after_boot_line (read_at number (read_line of_steps (record { boot = s.boot; items = [] }) number line))
 after_line_on s (Some k) number line = stands s.boot (book_after k number line)
 
--- what stands after the line of this number
+-- what is after the line of this number
 unfoldable pub after_line : BootOrBook → ℕ → List ℕ → Result BootOrBook SimFault
 after_line s number line = after_line_on s s.book number line
 
 -- ---- line by line
 
--- what a replay holds between two lines: what stands, and how many lines there were; and after a
--- fault that fault, and nothing else but the book
+-- what a replay holds between two lines: what is, and how many lines there were; and after a fault
+-- that fault, and nothing else but the book
 pub record Course : Type 0 where
   pub stands : BootOrBook
   pub lines : ℕ
@@ -125,7 +125,7 @@ ended_by e c = record { stands = record { boot = None; book = c.stands.book }; l
 abbrev pub refused_for : LineFault → Course → Course
 refused_for e c = ended_by (fault.Script (c.lines + 1) e) c
 
--- a line more, by what stands after it
+-- a line more, by what is after it
 abbrev pub past_line : Course → Result BootOrBook SimFault → Course
 past_line c (Ok s) = record { stands = s; lines = c.lines + 1; fault = None }
 past_line c (Err e) = ended_by e c
@@ -134,8 +134,8 @@ past_line c (Err e) = ended_by e c
 unfoldable pub with_line : Course → List ℕ → Course
 with_line c line = past_line c (after_line c.stands (c.lines + 1) line)
 
--- what stands at the end of the input, where this is the number of the line that would follow: the
--- boot has ended, if no step ended it
+-- what is at the end of the input, where this is the number of the line that would follow: the boot
+-- has ended, if no step ended it
 abbrev pub after_end_on : BootOrBook → Option Book → Option Boot → ℕ → Result BootOrBook SimFault
 after_end_on s (Some k) boot number = Ok s
 after_end_on s None (Some b) number = Ok (record { boot = None; book = Some (begun_by b) })
@@ -144,7 +144,7 @@ after_end_on s None None number = Err (fault.Script number why.NoCores)
 unfoldable pub after_end : BootOrBook → ℕ → Result BootOrBook SimFault
 after_end s number = after_end_on s s.book s.boot number
 
--- the boot has ended, by what stands then
+-- the boot has ended, by what is then
 abbrev pub past_boot : Course → Result BootOrBook SimFault → Course
 past_boot c (Ok s) = record { stands = s; lines = c.lines; fault = None }
 past_boot c (Err e) = ended_by e c

@@ -1,4 +1,4 @@
--- What a script says: its boot and the items behind it, up to the first faulty line. The items are
+-- What a script says: its boot and the items after it, up to the first faulty line. The items are
 -- steps, or entries of users.
 use Rattle.std.specs.Prelude.{◌≡◌, ℕ, ◌+◌, Bool, true, List, [], ◌∷◌, ◌++◌, length, Option, Some, None, Result, Ok, Err, nat_lt, not, ◌==◌, ◌||◌, if◌then◌else◌}
 use Rattle.mcs_types.specs.declared.id.Kind.TheVariants as kind
@@ -34,7 +34,7 @@ Reads view (Err (not_taken.Line e)) read = read ≡ Err e
 Reads view (Err not_taken.OutOfMemory) read = Unit {0}
 
 -- how a script is read: the number of cores that it has to say, where that is given, and the item
--- that a line behind the boot spells, where so many cores and threads are there
+-- that a line after the boot spells, where so many cores and threads are there
 pub record Grammar (T : Type 0) : Type 0 where
   pub cores : Option ℕ
   pub item : ℕ → ℕ → List ℕ → Result T LineFault
@@ -58,7 +58,7 @@ abbrev pub boot_in : Option ℕ → RawBootLine → Result Boot LineFault
 boot_in asked (raw.Cores n) = cores_of n >>= λ cores. asked_cores asked cores >>= λ cores. Ok (record { cores = cores; lines = [] })
 boot_in asked _ = Err fault.Form
 
--- the boot that a first line begins: the words behind its first, by its key
+-- the boot that a first line begins: the words after its first, by its key
 unfoldable pub first_boot : Option ℕ → Option Key → List (List ℕ) → Result Boot LineFault
 first_boot asked (Some k.Cores) ws = raw_line k.Cores ws >>= boot_in asked
 first_boot asked _ ws = Err fault.NoCores
@@ -67,7 +67,7 @@ first_boot asked _ ws = Err fault.NoCores
 abbrev pub threads_of : Boot → ℕ
 threads_of b = counted (makes_kind kind.Thread) (boot_log b.lines)
 
--- a boot with the line that these words spell behind the key
+-- a boot with the line that these words spell after the key
 unfoldable pub next_boot : Boot → Key → List (List ℕ) → Result Boot LineFault
 next_boot b key ws = do
   spelled ← raw_line key ws
@@ -110,7 +110,7 @@ says_something number line = if nat_lt 2000000 number then Err fault.ManyLines
 unfoldable pub read_line : {T : Type 0} → Grammar T → Script T → ℕ → List ℕ → Result (Script T) LineFault
 read_line grammar s number line = says_something number line >>= λ says. if says then spelled grammar s line (words_of line) else Ok s
 
--- the end of a script stands in the line after the last
+-- the end of a script is in the line after the last
 abbrev pub ending : {T : Type 0} → Script T → ℕ → Option Boot → Script T × Option (ℕ × LineFault)
 ending s number None = (s, Some (number, fault.NoCores))
 ending s number (Some b) = (s, None)

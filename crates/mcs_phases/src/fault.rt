@@ -21,7 +21,7 @@ pub enum SimFault {
     /// Memory was refused.
     OutOfMemory,
     /// A run of users could not be ended well: a host thread was not started, or the book does not
-    /// agree with what the cores were told.
+    /// agree with the calls of the cores.
     Failed,
 }
 

@@ -51,8 +51,8 @@ impl Model for StepRun {
         × (s.threads ≡ threads_of s.replay.book.boot) };
 }
 
-/// What came of a line whose number is not told.
-// two values, so that it is answered in registers, as a fault with a number is not
+/// The outcome of a line whose number is not known.
+// two values, so that it is returned in registers, as a fault with a number is not
 #[derive(Clone, Copy)]
 enum Outcome {
     Taken,

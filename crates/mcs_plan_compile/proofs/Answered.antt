@@ -1,4 +1,4 @@
--- The words behind a question, one after another, and the last dot of a word.
+-- The words after a question, one after another, and the last dot of a word.
 use Rattle.std.proofs.Common.{◌≡◌, ◌≢◌, ◌<◌, ◌==◌, ℕ, zero, suc, Bool, true, false, List, [], ◌∷◌, length, take, drop, get_or, Option, Some, None, Ok, Err, refl, sym, ap, ◌∙◌, arith, Bor, MatchOption, option_map, if◌then◌else◌, length-drop}
 use Rattle.std.specs.Str.Pattern.{RFindsChar, SplitsAroundMatch}
 use Rattle.std.proofs.lemmas.Str.Pattern.{NoCharPasses-char, drop_at_char}
@@ -6,7 +6,7 @@ use Rattle.mcs_plan_source.specs.Naming.{NameList}
 use Rattle.mcs_plan_source.specs.Refusals.{Refusal, Read, ◌>>=◌}
 use Rattle.mcs_plan_compile.specs.Wanting.{dot_or, cut_at_dot, answer_more, answers_more}
 
--- a word, and those behind it
+-- a word, and those after it
 pub answer_turn : (names : NameList) (words left : List (List ℕ)) (word line new : List ℕ) → words ≡ word ∷ left → answer_more names word line ≡ Ok new
     → answers_more names words line ≡ answers_more names left new
 answer_turn names words left word line new taken is =
@@ -24,7 +24,7 @@ no_answers names (word ∷ words) line none = absurd (omega (arith, none))
 abbrev dot_if : List ℕ → Bool → Option (List ℕ × List ℕ)
 dot_if bs t = if t then Some ([], bs) else None
 
--- no dot stands in a word
+-- no dot is in a word
 no_dot : (s : List ℕ) → ((k : ℕ) → k < length s → get_or s k 0 ≢ 46) → cut_at_dot s ≡ None
 no_dot [] lacks = refl
 no_dot (b ∷ bs) lacks =
@@ -36,7 +36,7 @@ no_dot (b ∷ bs) lacks =
         absurd (lacks 0 (omega arith) is)
     go false e = ap (dot_if bs) e
 
--- the last stands at a place
+-- the last is at a place
 last_dot : (s : List ℕ) (i : ℕ) (behind : List ℕ) → drop i s ≡ 46 ∷ behind → ((k : ℕ) → k < length behind → get_or behind k 0 ≢ 46)
     → cut_at_dot s ≡ Some (take i s, behind)
 last_dot [] i behind there lacks = absurd (omega (arith, ap length there, length-drop {A = ℕ} i []))

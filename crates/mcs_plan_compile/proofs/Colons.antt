@@ -1,11 +1,11 @@
--- Where the first colon stands that a space follows, and the first line of a step.
+-- Where the first colon is that a space follows, and the first line of a step.
 use Rattle.std.proofs.Common.{◌≡◌, ◌≢◌, ◌+◌, ◌<◌, ◌≤◌, ◌==◌, ◌&&◌, ℕ, zero, suc, Bool, true, false, not, cond, List, [], ◌∷◌, length, take, drop, get_or, Some, None, Option, refl, sym, ap, ◌∙◌, arith, Bor, MatchOption, option_map, length-drop}
 use Rattle.std.specs.Str.Pattern.{FindsText, SplitsAroundMatch}
 use Rattle.mcs_plan_source.specs.Naming.{texts}
 use Rattle.mcs_plan_compile.specs.Stepping.{begins_with_space, cut_at_colon, begins_steps, count_before}
 use Rattle.mcs_plan_compile.proofs.Said.{rest_is}
 
--- no colon with a space behind it stands in front
+-- no colon with a space after it is in front
 none_here : (b : ℕ) (bs : List ℕ) → ((rest : List ℕ) → b ∷ bs ≢ 58 ∷ 32 ∷ rest) → b == 58 && begins_with_space bs ≡ false
 none_here b [] lacks = go (b == 58)
   where
@@ -28,7 +28,7 @@ behind_byte b o = option_map (λ p. (b ∷ p.0, p.1)) o
 next_byte : (b : ℕ) (bs : List ℕ) → b == 58 && begins_with_space bs ≡ false → cut_at_colon (b ∷ bs) ≡ behind_byte b (cut_at_colon bs)
 next_byte b bs none = ap (λ t. cond t (Some ([], drop 1 bs)) (behind_byte b (cut_at_colon bs))) none
 
--- one stands at a place, and none before it
+-- one is at a place, and none before it
 found : (s : List ℕ) (i : ℕ) (behind : List ℕ) → ((k : ℕ) → k < i → (rest : List ℕ) → drop k s ≢ 58 ∷ 32 ∷ rest) → drop i s ≡ 58 ∷ 32 ∷ behind
     → cut_at_colon s ≡ Some (take i s, behind)
 found [] i behind lacks there = absurd (omega (arith, ap length there, length-drop {A = ℕ} i []))

@@ -16,7 +16,7 @@ abbrev one_number : List ℕ → List (List ℕ) → List ℕ → Option ℕ →
 one_number word words line o =
     ok_or (option_map (λ n. (n, words)) o) (not_wanted word) >>= (λ (r : ℕ × List (List ℕ)). Ok (with_word line (decimal r.0), r.1))
 
--- a number, and those behind it
+-- a number, and those after it
 numbers_next : (words : List (List ℕ)) (line : List ℕ) → 0 < length words → numbers_more words line ≡ (number_more most words line >>= (λ (more : Line). numbers_more more.1 more.0))
 numbers_next [] line some = absurd (omega (arith, some))
 numbers_next (word ∷ words) line some = go (number_within most word)
@@ -50,7 +50,7 @@ pub no_numbers : (words : List (List ℕ)) (line : List ℕ) → length words �
 no_numbers [] line none = (refl, refl)
 no_numbers (word ∷ words) line none = absurd (omega (arith, none))
 
--- a field, and those behind it
+-- a field, and those after it
 module _ (laid : LaidPlan) (t : ObjId) (fs : List Field) (i : ℕ) (d : Field) (within : i < length fs) where
   field_next : (words : List (List ℕ)) (line : List ℕ) → fields_more laid t (drop i fs) words line
       ≡ (field_more laid t (get_or fs i d) words line >>= (λ (more : Line). fields_more laid t (drop (i + 1) fs) more.1 more.0))

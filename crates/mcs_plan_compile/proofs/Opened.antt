@@ -61,7 +61,7 @@ module _ (laid : LaidPlan) (i : ℕ) (within : i < length laid.plan.passives) wh
       go (inl h) = from_there h.0 h.2 h.3
       go (inr h) = absurd (omega (arith, h.0, within))
 
-  -- a thread is made passive, and those behind it
+  -- a thread is made passive, and those after it
   pub next_opened : (now : LaidPlan) (all : ReadAt (Unit {0})) → now ≡ laid → all ≡ openings_said laid (drop i laid.plan.passives) → opened_at now i ≡ Ok tt
       → all ≡ openings_said laid (drop (i + 1) laid.plan.passives)
   next_opened now all same so_far is =

@@ -37,7 +37,7 @@ module _ (ls : List (Bor (List ℕ))) (i : ℕ) (d : Bor (List ℕ)) (within : i
       → all ≡ and_then (at_line (i + 1) (line_said (i + 1) (get_or ls i d).now s)) (lines_said (i + 1) (drop (i + 1) (texts ls)))
   one_line s all so_far = so_far ∙ ap (λ ms. lines_said i ms s) rest_is
 
-  -- the line there adds something, and those behind it say the rest
+  -- the line there adds something, and those after it say the rest
   pub next_said : (s t : Said) (all : ReadAt Said) → line_said (i + 1) (get_or ls i d).now s ≡ Ok t → all ≡ lines_said i (drop i (texts ls)) s
       → all ≡ lines_said (i + 1) (drop (i + 1) (texts ls)) t
   next_said s t all adds so_far =
@@ -96,7 +96,7 @@ pub no_boot : (laid : LaidPlan) (ls : List (Bor (List ℕ))) (taken : Entries) (
 no_boot laid ls taken fault is line told =
     inr (record { entries = taken; taken = is; line = line ∙ sym (length-map ls (λ (m : Bor (List ℕ)). m.now)); told = told })
 
--- what is told of the boot, where that is refused
+-- what is reported of the boot, where that is refused
 pub boot_refused : (r : Result Script Why) (w : Why) (laid now : Laid) → now ≡ laid → IfErr r (Refuses (boot_fits (said now.plan))) → r ≡ Err w
     → Refuses (boot_fits (said laid.plan)) w
 boot_refused r w laid now same told is =

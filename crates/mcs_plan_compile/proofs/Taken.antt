@@ -15,7 +15,7 @@ module _ (laid now : LaidPlan) (same : now ≡ laid) (ls : List (Bor (List ℕ))
   one_line : all ≡ and_then (at_line (i + 1) (line_taken laid e (get_or ls i d).now)) (lines_taken laid (i + 1) (drop (i + 1) (texts ls)))
   one_line = so_far ∙ ap (λ ms. lines_taken laid i ms e) (rest_is ls i d within)
 
-  -- the line there is taken, and those behind it
+  -- the line there is taken, and those after it
   pub next_taken : (f : Entries) → line_taken now e (get_or ls i d).now ≡ Ok f → all ≡ lines_taken laid (i + 1) (drop (i + 1) (texts ls)) f
   next_taken f takes =
       let here : line_taken laid e (get_or ls i d).now ≡ Ok f = subst (λ v. line_taken v e (get_or ls i d).now ≡ Ok f) same takes in

@@ -27,7 +27,7 @@ address_or laid t word None = named_read laid t word >>= λ named. Ok named.addr
 abbrev pub address_read : LaidPlan → ObjId → List ℕ → Read ℕ
 address_read laid t word = address_or laid t word (number_of word)
 
--- the place of an index, with the depth that stands behind it
+-- the place of an index, with the depth that follows it
 abbrev pub place_with : ℕ → List (List ℕ) → Read (Place × List (List ℕ))
 place_with index words = do
   (depth, left) ← number_then 255 words

@@ -1,4 +1,4 @@
--- What stands behind the word of an entry.
+-- What follows the word of an entry.
 use Rattle.std.specs.Prelude.{ℕ, List, [], ◌∷◌, Option, Some, None, codes, bytes_eq, nat_lt, option_map, if◌then◌else◌}
 use Rattle.std.specs.Option.{option_or}
 use Rattle.mcs_plan_compile.specs.declared.fields.Field.{Field}
@@ -43,7 +43,7 @@ send_count key =
     else if bytes_eq key (codes "nbsendrecv") then Some 3
     else None
 
--- what stands behind the word of one that names places, or sets a priority
+-- what follows the word of one that names places, or sets a priority
 abbrev pub placing : List ℕ → Option (List Field)
 placing key =
     if bytes_eq key (codes "setprio") then Some (field.Address ∷ field.Address ∷ field.Priority ∷ field.End ∷ [])
@@ -54,6 +54,6 @@ placing key =
     else if bytes_eq key (codes "make") then Some (field.Kind ∷ field.Place ∷ field.End ∷ field.End ∷ [])
     else None
 
--- what stands behind the word of an entry; none where the word is none
+-- what follows the word of an entry; none where the word is none
 abbrev pub fields_of : List ℕ → Option (List Field)
 fields_of key = option_or (option_map addresses (address_count key)) (option_or (option_map sends (send_count key)) (placing key))

@@ -1,4 +1,4 @@
--- What stands in front of an entry, in a script.
+-- What is in front of an entry, in a script.
 use Rattle.std.specs.Prelude.{ℕ, List, ◌∷◌, Option, Some, None, decimal, codes}
 use Rattle.mcs_types.specs.declared.id.CoreId.{CoreId}
 use Rattle.mcs_types.specs.declared.id.ObjId.{ObjId}

@@ -74,7 +74,7 @@ opened_by laid (Some p) = at_line p.line (opening_said laid p)
 abbrev pub opened_at : LaidPlan → ℕ → ReadAt (Unit {0})
 opened_at laid place = opened_by laid (slice_get laid.plan.passives place)
 
--- what makes each of these threads passive; a fault is told at the line that makes it so
+-- what makes each of these threads passive; a fault is reported at the line that makes it so
 abbrev pub openings_said : LaidPlan → List SaidPassive → ReadAt (Unit {0})
 openings_said laid [] = Ok tt
 openings_said laid (p ∷ ps) = and_then (at_line p.line (opening_said laid p)) (λ done. openings_said laid ps)
@@ -90,12 +90,12 @@ left_said laid (p ∷ ps) = at_line 0 (step_added laid (starter_head laid.plan) 
 abbrev pub opened_said : LaidPlan → ReadAt (Unit {0})
 opened_said laid = and_then (openings_said laid laid.plan.passives) (λ done. left_said laid laid.plan.passives)
 
--- all behind the lines before the first step
+-- all after the lines before the first step
 abbrev pub behind_said : LaidPlan → List (List ℕ) → ReadAt Entries
 behind_said laid found =
     and_then (opened_said laid) (λ done. lines_taken laid (count_before found) (drop (count_before found) found) entries.Nothing)
 
--- whether lines of users stood behind
+-- whether lines of users followed
 abbrev pub are_users : Entries → Bool
 are_users entries.Nothing = false
 are_users entries.Steps = false

@@ -39,7 +39,7 @@ line_said number line s = do
   short line
   line_more number (words_of (code_of line)) s
 
--- what lines add, one after another, behind so many
+-- what lines add, one after another, after so many
 abbrev pub lines_said : ℕ → List (List ℕ) → Said → ReadAt Said
 lines_said count [] s = Ok s
 lines_said count (line ∷ lines) s = and_then (at_line (count + 1) (line_said (count + 1) line s)) (lines_said (count + 1) lines)

@@ -50,7 +50,7 @@ step_head laid name words = do
   end_of left
   Ok (record { thread = thread; core = Some core })
 
--- `NAME` behind `user`
+-- `NAME` after `user`
 abbrev pub user_head : LaidPlan → List (List ℕ) → Read Head
 user_head laid words = do
   (name, left) ← word_then words
@@ -58,14 +58,14 @@ user_head laid words = do
   end_of left
   Ok (record { thread = thread; core = None })
 
--- whether a line is that of a user: a name stands behind `user`
+-- whether a line is that of a user: a name follows `user`
 abbrev pub is_user : List ℕ → List (List ℕ) → Bool
 is_user first words = bytes_eq first (codes "user") && is_any words
 
 abbrev pub head_by : LaidPlan → List ℕ → List (List ℕ) → Read Head
 head_by laid first words = if is_user first words then user_head laid words else step_head laid first words
 
--- what stands before the colon
+-- what is before the colon
 abbrev pub head_read : LaidPlan → List (List ℕ) → Read Head
 head_read laid words = do
   (first, rest) ← word_then words
@@ -96,13 +96,13 @@ words_taken laid e code (first ∷ rest) =
 abbrev pub code_taken : LaidPlan → Entries → List ℕ → Read Entries
 code_taken laid e code = words_taken laid e code (words_of code)
 
--- a line behind those before the first step
+-- a line after those before the first step
 abbrev pub line_taken : LaidPlan → Entries → List ℕ → Read Entries
 line_taken laid e line = do
   short line
   code_taken laid e (code_of line)
 
--- lines, one after another, behind so many
+-- lines, one after another, after so many
 abbrev pub lines_taken : LaidPlan → ℕ → List (List ℕ) → Entries → ReadAt Entries
 lines_taken laid count [] e = Ok e
 lines_taken laid count (line ∷ lines) e =

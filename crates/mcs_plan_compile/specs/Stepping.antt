@@ -8,13 +8,13 @@ abbrev pub begins_with_space : List ℕ → Bool
 begins_with_space [] = false
 begins_with_space (b ∷ bs) = b == 32
 
--- what stands before the first colon that a space follows, and what behind the two
+-- what is before the first colon that a space follows, and what after the two
 abbrev pub cut_at_colon : List ℕ → Option (List ℕ × List ℕ)
 cut_at_colon [] = None
 cut_at_colon (b ∷ bs) =
     cond (b == 58 && begins_with_space bs) (Some ([], drop 1 bs)) (option_map (λ p. (b ∷ p.0, p.1)) (cut_at_colon bs))
 
--- whether the first byte behind white space is `?`
+-- whether the first byte after white space is `?`
 abbrev pub asks : List ℕ → Bool
 asks [] = false
 asks (b ∷ bs) = cond (is_white b) (asks bs) (b == 63)
@@ -23,6 +23,6 @@ asks (b ∷ bs) = cond (is_white b) (asks bs) (b == 63)
 abbrev pub begins_steps : List ℕ → Bool
 begins_steps line = is_some (cut_at_colon (code_of line)) || asks (code_of line)
 
--- how many lines stand before the first of these
+-- how many lines are before the first of these
 abbrev pub count_before : List (List ℕ) → ℕ
 count_before lines = position_or_len begins_steps lines

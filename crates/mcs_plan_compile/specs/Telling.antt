@@ -1,4 +1,4 @@
--- What is told of a text that no script comes of.
+-- What is reported of a text that no script comes of.
 use Rattle.std.specs.Prelude.{◌≡◌, ◌+◌, ◌==◌, ◌⊎◌, ℕ, List, Ok, Err, length, take, count_by, nat_lt, if◌then◌else◌}
 use Rattle.std.specs.Str.{is_utf8}
 use Rattle.std.specs.Str.Lossy.{utf8_valid_len}
@@ -14,7 +14,7 @@ use Rattle.mcs_plan_compile.specs.declared.compiling.TheConstants.{LINES}
 use Rattle.mcs_plan_compile.specs.Opening.{behind_said}
 use Rattle.mcs_plan_compile.specs.Reading.{ReadAt, RefusesAt, plan_said}
 
--- the number of the line in which a byte stands
+-- the number of the line in which a byte is
 abbrev pub line_of : List ℕ → ℕ → ℕ
 line_of bytes place = count_by (λ b. b == 10) (take place bytes) + 1
 
@@ -46,17 +46,17 @@ pub record RefusesStarted (plan : Said) (found : List (List ℕ)) (fault : PlanF
   pub started : IsStarted plan new
   pub told : RefusesLaid (laid_of new) found fault
 
--- what is refused behind the lines before the first step, which say this plan
+-- what is refused after the lines before the first step, which say this plan
 pub record RefusesBehind (found : List (List ℕ)) (fault : PlanFault) : Type 0 where
   pub plan : Said
   pub says : plan_said found ≡ Ok plan
   pub told : RefusesStarter plan fault ⊎ RefusesStarted plan found fault
 
--- what is told of lines: the first that is refused
+-- what is reported of lines: the first that is refused
 abbrev pub TellsLines : List (List ℕ) → PlanFault → Type 0
 TellsLines found fault = RefusesAt (plan_said found) fault ⊎ RefusesBehind found fault
 
--- what is told of bytes: that they are no text, or too many lines, or of their lines
+-- what is reported of bytes: that they are no text, or too many lines, or of their lines
 pub record TellsOfLines (bytes : List ℕ) (fault : PlanFault) : Type 0 where
   pub found : List (List ℕ)
   pub are : lines_in bytes ≡ Ok found

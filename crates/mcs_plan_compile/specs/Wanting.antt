@@ -17,7 +17,7 @@ begins_answer word =
     bytes_eq word (codes "done") || bytes_eq word (codes "got") || bytes_eq word (codes "heard") || bytes_eq word (codes "empty")
     || bytes_eq word (codes "waits") || bytes_eq word (codes "refused")
 
--- whether a word of a question stands behind what that asks of
+-- whether a word of a question follows what that asks of
 abbrev pub asks_state : List ℕ → Bool
 asks_state word =
     bytes_eq word (codes "waits") || bytes_eq word (codes "owed") || bytes_eq word (codes "running") || bytes_eq word (codes "restart")
@@ -34,7 +34,7 @@ asks_debt word = bytes_eq word (codes "owes") || bytes_eq word (codes "with") ||
 abbrev pub is_asked : List ℕ → Bool
 is_asked word = asks_state word || asks_tie word || asks_debt word
 
--- what stands in front of the last dot of a word, and behind it
+-- what is in front of the last dot of a word, and after it
 abbrev pub dot_or : ℕ → List ℕ → Option (List ℕ × List ℕ) → Option (List ℕ × List ℕ)
 dot_or b bs None = if b == 46 then Some ([], bs) else None
 dot_or b bs (Some p) = Some (b ∷ p.0, p.1)
@@ -74,7 +74,7 @@ subject_text names word = subject_or names word (find names word)
 abbrev pub subject_more : NameList → List ℕ → List ℕ → Read (List ℕ)
 subject_more names word line = ok_or (option_map (λ text. with_word line text) (subject_text names word)) (no_name word)
 
--- a word behind a question more: a number, `-`, `nothing`, or a name
+-- a word after a question more: a number, `-`, `nothing`, or a name
 abbrev pub answer_or : NameList → List ℕ → List ℕ → Option ℕ → Read (List ℕ)
 answer_or names word line (Some n) = Ok (with_word line (decimal n))
 answer_or names word line None =
@@ -92,25 +92,25 @@ answers_more names (word ∷ words) line = answer_more names word line >>= λ mo
 abbrev pub answer_read : List ℕ → List (List ℕ) → Read (List ℕ)
 answer_read first words = numbers_more words (codes "= " ++ first)
 
--- the word of a question, and those behind it
+-- the word of a question, and those after it
 abbrev pub asked_more : NameList → List (List ℕ) → List ℕ → Read (List ℕ)
 asked_more names words line = do
   (word, rest) ← word_then words
   need (is_asked word) (not_wanted word)
   answers_more names rest (with_word line word)
 
--- a question: what it asks of; behind the name of an object a word of questions; then names and
+-- a question: what it asks of; after the name of an object a word of questions; then names and
 -- numbers
 abbrev pub question_read : NameList → List ℕ → List (List ℕ) → Read (List ℕ)
 question_read names first words = do
   line ← subject_more names first (codes "#?")
   if is_some (find names first) then asked_more names words line else answers_more names words line
 
--- whether a word is why a step is turned away
+-- whether a word is why a step is skipped
 abbrev pub is_reason : List ℕ → Bool
 is_reason word = bytes_eq word (codes "NotRunning") || bytes_eq word (codes "NoContext") || bytes_eq word (codes "WrongCore")
 
--- that the step is turned away, and why
+-- that the step is skipped, and why
 abbrev pub away_text : List ℕ
 away_text = codes "#? away"
 
@@ -121,14 +121,14 @@ away_read (reason ∷ words) = do
   end_of words
   Ok (with_word away_text reason)
 
--- what stands behind `?`, which begins with this word
+-- what follows `?`, which begins with this word
 abbrev pub wanted_by : NameList → List ℕ → List (List ℕ) → Read (List ℕ)
 wanted_by names first rest =
     if bytes_eq first (codes "away") then away_read rest
     else if begins_answer first && is_none (find names first) then answer_read first rest
     else question_read names first rest
 
--- what stands behind `?`
+-- what follows `?`
 abbrev pub wanted_read : NameList → List (List ℕ) → Read (List ℕ)
 wanted_read names words = do
   (first, rest) ← word_then words

@@ -160,7 +160,7 @@ fn opening_at(alloc: Global, plan: &Plan, place: usize) -> Result<Opening, PlanF
     at(0, opening_of(alloc, plan, &plan.passives[place]))
 }
 
-/// Who takes the contexts of passive threads away: the last thread.
+/// The thread that takes the contexts of passive threads away: the last one.
 fn starter_head(plan: &Plan) -> Head
     ensures { result ≡ starter_head (said plan.now) }
 {

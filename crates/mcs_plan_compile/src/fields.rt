@@ -99,7 +99,7 @@ fn placing(key: &str) -> Option<Fields>
     }
 }
 
-/// What follows the word of an entry; None where the word is none.
+/// Returns the fields after an entry's keyword; None if the word is no keyword.
 pub fn fields_of(key: &str) -> Option<Fields>
     ensures { result ≡ fields_of key.now }
 {

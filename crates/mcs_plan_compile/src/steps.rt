@@ -17,7 +17,7 @@ use mcs_text::letter;
 use mcs_types::{CoreId, Kind, ObjId};
 use std::alloc::{AllocError, Global};
 
-/// Who enters, and where: None for a user.
+/// The thread that enters, and its core: None for a user.
 #[derive(Clone, Copy)]
 pub struct Head {
     pub thread: ObjId,
@@ -146,7 +146,7 @@ fn core_text(alloc: Global, core: Option<CoreId>) -> Result<String, AllocError>
     format!(in alloc; "{core}")
 }
 
-/// Who enters, and where.
+/// The thread that enters, and its core.
 fn head_text(alloc: Global, head: Head) -> Result<String, AllocError>
     ensures { IfOk result (λ text. string_bytes text ≡ head_text head) }
 {
@@ -156,7 +156,7 @@ fn head_text(alloc: Global, head: Head) -> Result<String, AllocError>
     Ok(text)
 }
 
-/// The line of a step, or of a user: who enters, and the entry that words spell.
+/// The line of a step, or of a user: the thread that enters, and the entry that words spell.
 pub fn write_entry(alloc: Global, laid: &Laid, head: Head, words: &[&str]) -> Result<String, Why>
     ensures put { IfOk result
         (λ line. step_read (laid_said laid.now) head (texts words.now) ≡ Ok (string_bytes line)) }

@@ -16,7 +16,7 @@ use Rattle.mcs_plan_layout.specs.Tables.{Row, row_of, rows_of, table_rows}
 pub row_more : (table : List Named) (n : Named) → rows_of (table ++ n ∷ []) ≡ rows_of table ++ row_of n ∷ []
 row_more table n = map-append row_of table (n ∷ [])
 
--- a row, and those behind it
+-- a row, and those after it
 pub behind_one : (old mid new behind : List Row) (row : Row) → mid ≡ old ++ row ∷ [] → new ≡ mid ++ behind → new ≡ old ++ row ∷ behind
 behind_one old mid new behind row one more = more ∙ ap (λ rows. rows ++ behind) one ∙ append_assoc old (row ∷ []) behind
 

@@ -18,7 +18,7 @@ module _ (layouts : List Layout) (spaces : List Space) (i : ℕ) (space : Space)
   there : space ≡ get_or spaces i space
   there = is ∙ ap (λ ys. get_or ys i space) same
 
-  -- how many CNodes stand before the next space
+  -- how many CNodes are before the next space
   pub counted : (before leaves : ℕ) → before ≡ before_of spaces i → leaves ≡ leaves_of space → before + leaves ≡ before_of spaces (i + 1)
   counted before leaves e f =
       let more : sum_by leaves_of (take (i + 1) spaces) ≡ sum_by leaves_of (take i spaces) + leaves_of (get_or spaces i space) = sum_by_more leaves_of spaces i space within in

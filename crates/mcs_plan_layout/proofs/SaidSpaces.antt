@@ -19,7 +19,7 @@ module _ {A : Type 0} (entries : List (String A × Slot)) where
       slice_get-map (λ (s : List ℕ × Slot). (s.0, s.1.cap)) (named_in entries) i
       ∙ ap (λ o. option_map (λ (s : List ℕ × Slot). (s.0, s.1.cap)) o) (slice_get-map (λ (e : String A × Slot). (string_bytes e.0, e.1)) entries i)
 
-  -- which one stands at an index
+  -- which one is at an index
   pub slot_there : (i : ℕ) (e : String A × Slot) → slice_get entries i ≡ Some e → slice_get (held_in (named_in entries)) i ≡ Some (string_bytes e.0, e.1.cap)
   slot_there i e there =
       slot_said i ∙ ap (λ o. option_map (λ (s : List ℕ × Slot). (s.0, s.1.cap)) (option_map (λ (e : String A × Slot). (string_bytes e.0, e.1)) o)) there

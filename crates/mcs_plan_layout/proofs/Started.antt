@@ -28,7 +28,7 @@ starter_added old mid new names space starter context started named thread own h
     same_space : space ≡ space_started (record old { names = names }) (next_of kind.Thread old.names)
     same_space = held ∙ (λ k. space_started (named k) (thread k))
 
--- its names behind the first, and behind the second
+-- its names after the first, and after the second
 pub behind_own : (names own : NameList) → name_more kind.Thread own_name names ≡ Ok own
     → names_started names ≡ (name_more kind.Context context_name own >>= λ two. name_more kind.CNode space_name two)
 behind_own names own e =

@@ -67,7 +67,7 @@ larger_enough n r enough few =
     let power : 2 ^ (r + 8) ≡ 2 ^ r * 256 = pow-add 2 r 8 in
     omega (arith, above, more, power)
 
--- the level of a CNode behind the root
+-- the level of a CNode after the root
 leaf-level : (S : Space) (next : Cap) (w slot j : ℕ) → next.guard ≡ zero_guard 0 → S.radix next.obj ≡ 8 → j < 2 ^ w
     → level_at next.guard (S.radix next.obj) (8 + w) (slot * 2 ^ w + j) ≡ Ok (record { index = slot % 2 ^ 8; left = w })
 leaf-level S next w slot j unguarded radix hj =

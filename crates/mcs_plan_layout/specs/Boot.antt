@@ -22,7 +22,7 @@ use Rattle.mcs_plan_layout.specs.declared.layout.Layout.{Layout}
 use Rattle.mcs_plan_layout.specs.SpaceLayouts.{bits_behind, zero_guard}
 use Rattle.mcs_plan_layout.specs.declared.boot.Site.{Site}
 
--- the CNode at a place, from 0: those of the spaces come first, and behind them the further ones of
+-- the CNode at a place, from 0: those of the spaces come first, and after them the further ones of
 -- larger spaces
 abbrev pub cnode_at : ℕ → ObjId
 cnode_at place = record { kind = kind.CNode; serial = place + 1 }
@@ -68,7 +68,7 @@ abbrev pub each : {X : Type 0} → ℕ → (ℕ → List X) → List X
 each zero lines = []
 each (suc n) lines = each n lines ++ lines n
 
--- the CNode that a slot of a space stands in: the root, or the further one of its 256
+-- the CNode that a slot of a space is in: the root, or the further one of its 256
 abbrev pub cnode_of : Site → ℕ → ObjId
 cnode_of site index = cond (site.leaves == 0) (cnode_at site.place) (cnode_at (site.before + index / 256))
 
@@ -85,11 +85,11 @@ link_lines site leaf = line.Slot (cnode_at site.place) leaf (bare (cnode_at (sit
 abbrev pub space_lines : List Layout → Site → Space → List BootLine
 space_lines layouts site space = each site.leaves (link_lines site) ++ each (slot_count space) (λ index. slot_lines layouts site index (cap_at space index))
 
--- how many CNodes stand before the further ones of a space
+-- how many CNodes are before the further ones of a space
 abbrev pub before_of : List Space → ℕ → ℕ
 before_of spaces place = length spaces + sum_by leaves_of (take place spaces)
 
--- where the slots of a space stand
+-- where the slots of a space are
 abbrev pub site_of : List Space → ℕ → Space → Site
 site_of spaces place space = record { place = place; before = before_of spaces place; leaves = leaves_of space }
 
@@ -98,9 +98,9 @@ abbrev pub filling : List Layout → List Space → ℕ → Option Space → Lis
 filling layouts spaces place None = []
 filling layouts spaces place (Some space) = space_lines layouts (site_of spaces place space) space
 
--- the boot of a plan, behind the line of its cores: a CNode for each space and those of larger
--- ones; the endpoints, notifications and reply objects; each context, each thread, each slot that
--- holds something, each binding; nothing else
+-- the boot of a plan, after the line of its cores: a CNode for each space and those of larger ones;
+-- the endpoints, notifications and reply objects; each context, each thread, each slot that holds
+-- something, each binding; nothing else
 abbrev pub boot_of : Plan → List Layout → List BootLine
 boot_of plan layouts =
     map root_line layouts

@@ -48,7 +48,7 @@ pub record Fits (plan : Plan) : Type 0 where
   pub notifications : count_of kind.Notification plan.names ≤ limit_of kind.Notification
   pub replies : count_of kind.Reply plan.names ≤ limit_of kind.Reply
 
--- the CNodes that the slots of a space stand in are there
+-- the CNodes that the slots of a space are in are there
 pub record IsWithin (site : Site) : Type 0 where
   pub place : site.place < cnode_limit
   pub leaves : site.before + site.leaves ≤ cnode_limit

@@ -1,5 +1,4 @@
--- Where the slots of a space that is laid out stand, and what they hold (manual: Capability
--- Spaces).
+-- Where the slots of a space that is laid out are, and what they hold (manual: Capability Spaces).
 use Rattle.std.specs.Prelude.{ℕ, ◌-◌, ◌/◌, ◌%◌, ◌^◌, ◌<◌, ◌≡◌, ◌⊎◌, Some, None, Ok}
 use Rattle.mcs_types.specs.declared.id.ObjId.{ObjId}
 use Rattle.mcs_types.specs.declared.cap.Cap.{Cap}
@@ -29,12 +28,11 @@ pub record IsBehind (S : Space) (root : Cap) (l : Layout) (slot : ℕ) (c : ObjI
   pub cnode : c ≡ next.obj
   pub index : i ≡ slot % 2 ^ 8
 
--- a slot of a space stands in this CNode, at this index
+-- a slot of a space is in this CNode, at this index
 abbrev pub Stands : Space → Cap → Layout → ℕ → ObjId → ℕ → Type 0
 Stands S root l slot c i = IsInRoot root l slot c i ⊎ IsBehind S root l slot c i
 
--- a slot of a space holds this capability; where bits are left behind its index, that is to no
--- CNode
+-- a slot of a space holds this capability; where bits are left after its index, that is to no CNode
 pub record Holds (S : Space) (root : Cap) (l : Layout) (slot : ℕ) (cap : Cap) : Type 0 where
   pub of_root : IsRoot S root l 64
   pub cnode : ObjId

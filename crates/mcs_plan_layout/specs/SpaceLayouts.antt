@@ -4,7 +4,7 @@ use Rattle.mcs_types.specs.declared.cap.Guard.{Guard}
 use Rattle.mcs_plan_layout.specs.declared.layout.Layout.{Layout}
 use Rattle.mcs_plan_layout.specs.declared.layout.TheConstants.{LEAF}
 
--- how many bits of an address stand behind the guard
+-- how many bits of an address follow the guard
 abbrev pub bits_behind : Layout → ℕ
 bits_behind l = l.root + l.leaf + l.within
 

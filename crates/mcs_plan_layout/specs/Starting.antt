@@ -53,7 +53,7 @@ starter_with context s =
       core = record { 0 = 0 };
     }
 
--- slots with one of this name that holds this, in the place of one that has the name, or behind the
+-- slots with one of this name that holds this, in the place of one that has the name, or after the
 -- others
 abbrev pub with_slot : {X : Type 0} → List ℕ → X → ByName X → ByName X
 with_slot name x [] = (name, x) ∷ []
@@ -112,8 +112,8 @@ abbrev pub first_line : List SaidPassive → Option ℕ
 first_line [] = None
 first_line (p ∷ ps) = Some p.line
 
--- a plan that has a passive thread may not have the thread more, which is told at the line of the
--- first passive one; that memory was refused says nothing of it
+-- a plan that has a passive thread may not have the thread more, which is reported at the line of
+-- the first passive one; that memory was refused says nothing of it
 abbrev pub RefusesStarter : Said → PlanFault → Type 0
 RefusesStarter old fault =
     ForSome (told_by fault.why) (λ e. (first_line old.passives ≡ Some fault.line) × (names_started old.names ≡ Err e))

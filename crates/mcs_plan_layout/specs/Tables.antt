@@ -41,8 +41,8 @@ rows_by rows slots = each (length slots) (λ i. row_at rows i (slice_get slots i
 abbrev pub held_then : List Layout → ℕ → Option Cap → Option Cap
 held_then layouts space cap = option_map (λ c. guarded layouts space c) cap
 
--- the address of a slot of a space, which the bits of the CNodes stand behind that it holds
--- capabilities to
+-- the address of a slot of a space, which the bits of the CNodes follow that it holds capabilities
+-- to
 abbrev pub address_in : Layout → ℕ → ℕ
 address_in l index = index * 2 ^ l.within
 
@@ -79,7 +79,7 @@ abbrev pub inner_rows : List Layout → List ℕ → ℕ → ℕ → Option Said
 inner_rows layouts outer first space None = []
 inner_rows layouts outer first space (Some held) = rows_by (inner_slot layouts outer first space) held.slots
 
--- the rows behind a slot: those of the CNode that it holds a capability to
+-- the rows after a slot: those of the CNode that it holds a capability to
 abbrev pub rows_at : List Layout → List SaidSpace → List ℕ → ℕ → Option ℕ → List Row
 rows_at layouts spaces outer first None = []
 rows_at layouts spaces outer first (Some place) = inner_rows layouts outer first place (slice_get spaces place)
@@ -88,7 +88,7 @@ abbrev pub rows_behind : List Layout → List SaidSpace → List ℕ → ℕ →
 rows_behind layouts spaces outer first None = []
 rows_behind layouts spaces outer first (Some cap) = rows_at layouts spaces outer first (place_of kind.CNode cap.obj)
 
--- the row of a slot, and those behind it, where the space has it
+-- the row of a slot, and those after it, where the space has it
 abbrev pub own_rows : List Layout → List SaidSpace → ℕ → ℕ → List ℕ → Option Cap → List Row
 own_rows layouts spaces space index name cap =
     if has_slot (layout_at layouts space) index then

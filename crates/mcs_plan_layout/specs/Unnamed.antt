@@ -13,7 +13,7 @@ use Rattle.mcs_plan_layout.specs.Laid.{LaidPlan, row_named}
 use Rattle.mcs_plan_layout.specs.Layouts.{space_behind}
 use Rattle.mcs_plan_layout.specs.Tables.{Row}
 
--- the parts of a word: the name of a slot, and behind a slash that of a slot of the CNode that it
+-- the parts of a word: the name of a slot, and after a slash that of a slot of the CNode that it
 -- holds a capability to
 abbrev pub outer_in : List ℕ → List ℕ
 outer_in word = front_of 47 word
@@ -46,7 +46,7 @@ unnamed_in s t word (Some space) =
     if is_some (find space.slots (outer_in word)) then no_inner_of s space word (inner_in word)
     else no_capability (name_of s.names t) (outer_in word)
 
--- what is told of a word that names nothing for a thread
+-- what is reported of a word that names nothing for a thread
 abbrev pub unnamed : Said → ObjId → List ℕ → Refusal
 unnamed s t word = unnamed_in s t word (slice_get s.spaces (space_at s.threads t))
 

@@ -21,7 +21,7 @@ use mcs_plan_source::{Space, Thread, Why};
 use mcs_types::{BootLine, Cap, Guard, Kind, ObjId};
 use std::alloc::{AllocError, Global};
 
-/// Where the slots of a space stand: in its root, the CNode at a place, or in so many others, the
+/// Where the slots of a space are: in its root, the CNode at a place, or in so many others, the
 /// first of them at another place.
 #[derive(Clone, Copy)]
 pub struct Site {
@@ -42,7 +42,7 @@ fn cnode(place: usize) -> ObjId
 }
 
 impl Site {
-    /// The CNode that a slot stands in.
+    /// The CNode that a slot is in.
     fn cnode(self, index: u32) -> ObjId
         requires within { IsWithin self }
         requires index { 0 < self.leaves → index / 256 < self.leaves }
@@ -55,7 +55,7 @@ impl Site {
     }
 }
 
-/// So many lines more.
+/// Adds a line so many times.
 fn add_times(to: &mut Vec<BootLine>, line: &BootLine, times: u32) -> Result<(), AllocError>
     ensures { OnOk result (to.new.items ≡ to.old.items ++ replicate times line.now) }
 {
@@ -65,7 +65,7 @@ fn add_times(to: &mut Vec<BootLine>, line: &BootLine, times: u32) -> Result<(), 
     Ok(())
 }
 
-/// The line that puts a further CNode of a space into its root.
+/// Adds the line that puts a further CNode of a space into its root.
 fn add_link(to: &mut Vec<BootLine>, site: Site, leaf: u32) -> Result<(), AllocError>
     requires within { IsWithin site }
     requires leaf { leaf < site.leaves }
@@ -82,7 +82,7 @@ fn add_link(to: &mut Vec<BootLine>, site: Site, leaf: u32) -> Result<(), AllocEr
     Ok(())
 }
 
-/// The slots of a root that hold capabilities to the further CNodes of its space.
+/// Adds the slots of a root that hold capabilities to the further CNodes of its space.
 fn add_links(to: &mut Vec<BootLine>, site: Site) -> Result<(), AllocError>
     requires { IsWithin site }
     ensures { OnOk result (to.new.items ≡ to.old.items ++ each site.leaves (link_lines site)) }
@@ -115,7 +115,7 @@ impl Laid {
         }
     }
 
-    /// The lines that make the roots of spaces.
+    /// Adds the lines that make the roots of spaces.
     fn make_roots(&self, to: &mut Vec<BootLine>) -> Result<(), AllocError>
         ensures { OnOk result
             (to.new.items ≡ to.old.items ++ map root_line self.now.layouts.items) }
@@ -126,7 +126,7 @@ impl Laid {
         Ok(())
     }
 
-    /// The lines that make the objects of a kind, all the same.
+    /// Adds the lines that make the objects of a kind, all the same.
     fn make_objects(
         &self,
         to: &mut Vec<BootLine>,
@@ -140,7 +140,7 @@ impl Laid {
         add_times(to, line, self.plan.names.count(kind))
     }
 
-    /// The lines that make the contexts.
+    /// Adds the lines that make the contexts.
     fn make_contexts(&self, to: &mut Vec<BootLine>) -> Result<(), AllocError>
         ensures { OnOk result
             (to.new.items ≡ to.old.items ++ map context_line self.now.plan.contexts.items) }
@@ -174,7 +174,7 @@ impl Laid {
         }
     }
 
-    /// The lines that make the threads.
+    /// Adds the lines that make the threads.
     #[tactic(auto, using(crate::proofs::Limits::housed_at))]
     fn make_threads(&self, to: &mut Vec<BootLine>) -> Result<(), AllocError>
         requires { are_housed self.now.plan.threads.items ≡ true }
@@ -187,7 +187,7 @@ impl Laid {
         Ok(())
     }
 
-    /// The line that fills a slot, where it holds something.
+    /// Adds the line that fills a slot, where it holds something.
     fn add_slot(
         &self,
         to: &mut Vec<BootLine>,
@@ -211,7 +211,7 @@ impl Laid {
         Ok(())
     }
 
-    /// The lines that fill the slots of a space.
+    /// Adds the lines that fill the slots of a space.
     #[tactic(auto, using(crate::proofs::Limits::leaf_within))]
     fn add_slots(&self, to: &mut Vec<BootLine>, site: Site, space: &Space) -> Result<(), AllocError>
         requires within { IsWithin site }
@@ -225,7 +225,7 @@ impl Laid {
         Ok(())
     }
 
-    /// The lines that fill a space.
+    /// Adds the lines that fill a space.
     fn fill(&self, to: &mut Vec<BootLine>, site: Site, space: &Space) -> Result<(), AllocError>
         requires within { IsWithin site }
         requires leaves { site.leaves ≡ leaves_of space.now }
@@ -236,7 +236,7 @@ impl Laid {
         self.add_slots(to, site, space)
     }
 
-    /// The lines that fill all spaces.
+    /// Adds the lines that fill all spaces.
     fn fill_all(&self, to: &mut Vec<BootLine>) -> Result<(), AllocError>
         requires { HasFewCNodes self.now.plan }
         ensures { OnOk result (to.new.items ≡ to.old.items ++ each (length self.now.plan.spaces.items)
@@ -257,7 +257,7 @@ impl Laid {
         Ok(())
     }
 
-    /// The lines that bind notifications to threads.
+    /// Adds the lines that bind notifications to threads.
     fn bind_all(&self, to: &mut Vec<BootLine>) -> Result<(), AllocError>
         ensures { OnOk result
             (to.new.items ≡ to.old.items ++ map tie_line self.now.plan.ties.items) }
@@ -271,7 +271,7 @@ impl Laid {
         Ok(())
     }
 
-    /// The lines of a boot that a machine may have, behind that of its cores.
+    /// The lines of a boot that a machine may have, after that of its cores.
     fn lines(&self, alloc: Global) -> Result<Vec<BootLine>, AllocError>
         requires { Fits self.now.plan }
         ensures { IfOk result (λ ls. ls.items ≡ boot_of self.now.plan self.now.layouts.items) }
@@ -290,7 +290,7 @@ impl Laid {
         Ok(lines)
     }
 
-    /// The lines of the boot, behind that of its cores. Limit where it makes more of a kind than a
+    /// The lines of the boot, after that of its cores. Limit where it makes more of a kind than a
     /// machine may have.
     pub fn boot_lines(&self, alloc: Global) -> Result<Vec<BootLine>, Why>
         ensures made { IfOk result (λ ls. ls.items ≡ boot_of self.now.plan self.now.layouts.items) }

@@ -20,7 +20,7 @@ fn too_many(kind: Kind) -> Why
     }
 }
 
-/// Limit where the plan has more CNodes than there may be.
+/// Fails with Limit if the plan has more than 64 CNodes.
 #[tactic(auto, using(crate::proofs::Limits::few_said))]
 fn has_few_cnodes(plan: &Plan) -> Result<(), Why>
     ensures few { OnOk result (HasFewCNodes plan.now) }
@@ -34,7 +34,7 @@ fn has_few_cnodes(plan: &Plan) -> Result<(), Why>
     Err(too_many(Kind::CNode))
 }
 
-/// Limit where it has more objects of a kind.
+/// Fails with Limit if it has more objects of a kind than there may be.
 fn has_few(plan: &Plan, kind: Kind) -> Result<(), Why>
     ensures few { OnOk result (count_of kind plan.now.names ≤ limit_of kind) }
     ensures ok { OnOk result (may_be kind (count_of kind plan.now.names) ≡ Ok tt) }
@@ -65,7 +65,7 @@ fn are_housed(threads: &[Thread]) -> bool
     true
 }
 
-/// Limit where a thread is not.
+/// Fails with Limit if the space of a thread is beyond the 64 that there may be.
 fn has_housed(plan: &Plan) -> Result<(), Why>
     ensures housed { OnOk result (are_housed plan.now.threads.items ≡ true) }
     ensures ok { OnOk result
@@ -79,7 +79,7 @@ fn has_housed(plan: &Plan) -> Result<(), Why>
     Err(too_many(Kind::CNode))
 }
 
-/// Limit where the boot of a plan makes more of a kind than a machine may have.
+/// Fails with Limit if the boot of a plan makes more of a kind than a machine may have.
 pub fn fits(plan: &Plan) -> Result<(), Why>
     ensures fits { OnOk result (Fits plan.now) }
     ensures ok { OnOk result (boot_fits (said plan.now) ≡ Ok tt) }

@@ -8,12 +8,12 @@ use mcs_types::{Guard, Place};
 /// How many bits of an index a CNode of a larger space takes.
 pub const LEAF: u8 = 8;
 
-/// The bits of a space's addresses, behind its guard.
+/// The bits of a space's addresses, after its guard.
 #[derive(Clone, Copy, PartialEq, Eq, Debug)]
 pub struct Layout {
     /// The radix of the root CNode, 1 to 8.
     pub root: u8,
-    /// The radix of the CNodes in the root: 8, or 0 where the slots stand in the root itself.
+    /// The radix of the CNodes in the root: 8, or 0 where the slots are in the root itself.
     pub leaf: u8,
     /// How many bits name a slot of a CNode that a slot of the space holds a capability to, 0 to
     /// 16.
@@ -130,8 +130,8 @@ impl Layout {
         (slot as u64) << self.within
     }
 
-    /// The address of a slot: what stands there is what it names, in every space that is laid out
-    /// so (manual: Capability Spaces).
+    /// The address of a slot: what is there is what it names, in every space that is laid out so
+    /// (manual: Capability Spaces).
     pub fn address(&self, slot: u32) -> u64
         requires laid_out { IsLaidOut self.now }
         requires within { slot < 2 ^ (self.now.root + self.now.leaf) }

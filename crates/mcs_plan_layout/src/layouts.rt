@@ -9,7 +9,7 @@ use mcs_plan_source::Space;
 use mcs_types::Cap;
 use std::alloc::{AllocError, Global};
 
-/// How the slots of a space are laid out, with no bits behind them.
+/// How the slots of a space are laid out, with no bits after them.
 fn own_layout(space: &Space) -> Layout
     ensures value { result ≡ own_layout (said_space space.now) }
     ensures few { result.root + result.leaf ≤ 255 }

@@ -32,7 +32,7 @@ pub fn bare(obj: ObjId, guard: Guard) -> Option<Cap>
     })
 }
 
-/// A slot that holds a capability to this object under its name.
+/// Adds a slot that holds a capability to this object under its name.
 #[tactic(auto, using(crate::proofs::Started::put_held))]
 fn add_slot(alloc: Global, space: &mut Space, obj: ObjId, name: &str) -> Result<(), AllocError>
     ensures { OnOk result (said_space space.new ≡ with_held name.now obj (said_space space.old)) }
@@ -45,7 +45,7 @@ fn add_slot(alloc: Global, space: &mut Space, obj: ObjId, name: &str) -> Result<
     Ok(())
 }
 
-/// The slot of the context of a thread, where it has one.
+/// Adds the slot of the context of a thread, where it has one.
 fn add_context(
     alloc: Global,
     space: &mut Space,
@@ -98,7 +98,7 @@ fn add_names(alloc: Global, names: &mut Names) -> Result<(ObjId, ObjId), Why>
     Ok((thread, context))
 }
 
-/// Puts it behind the other threads, with its context and its space.
+/// Puts it after the other threads, with its context and its space.
 fn put(plan: &mut Plan, space: Space, context: ObjId) -> Result<(), AllocError>
     ensures { OnOk result (said plan.new ≡ with_thread (starter_with context (said plan.old))
         (with_parts (said_space space) (said plan.old))) }

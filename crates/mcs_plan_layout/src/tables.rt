@@ -54,7 +54,7 @@ fn address_in(layout: &Layout, index: u32) -> u64
     layout.address(index)
 }
 
-/// A row more.
+/// Adds a row.
 #[tactic(auto, using(crate::proofs::MoreRows::row_more))]
 fn push(to: &mut Vec<Named>, named: Named) -> Result<(), AllocError>
     ensures { OnOk result (rows_of to.new.items ≡ rows_of to.old.items ++ row_of named ∷ []) }
@@ -98,7 +98,7 @@ impl Laid {
         })
     }
 
-    /// The row of the slot at an index, from 0, of a space that is held under another name.
+    /// Adds the row of the slot at an index, from 0, of a space that is held under another name.
     fn add_inner_slot(
         &self,
         alloc: Global,
@@ -121,7 +121,7 @@ impl Laid {
         push(to, named)
     }
 
-    /// The rows of a space that is held under another name.
+    /// Adds the rows of a space that is held under another name.
     fn add_inner(
         &self,
         alloc: Global,
@@ -142,7 +142,7 @@ impl Laid {
         Ok(())
     }
 
-    /// The rows behind a slot: those of the CNode that it holds a capability to.
+    /// Adds the rows below a slot: those of the CNode that it holds a capability to.
     fn add_behind(
         &self,
         alloc: Global,
@@ -172,7 +172,7 @@ impl Laid {
         }
     }
 
-    /// The row of the slot at an index, from 0, of the space at a place, and those behind it.
+    /// Adds the row of the slot at an index, from 0, of the space at a place, and those below it.
     #[tactic(auto, using(crate::proofs::MoreRows::behind_one))]
     fn add_own(
         &self,

@@ -7,7 +7,7 @@ use Rattle.std.proofs.lemmas.Str.Pattern.{strip_prefix_char}
 use Rattle.std.specs.Str.Pattern.{FindsCharPrefix}
 use Rattle.mcs_plan_source.specs.Cutting.{is_white, code_len, behind_first}
 
--- the comment's `#`, and what stands behind it
+-- the comment's `#`, and what follows it
 abbrev Stops : ℕ → List ℕ → Type 0
 Stops n line = ((n ≡ length line) × (drop n line ≡ [])) ⊎ ((rest : List ℕ) × (n < length line) × (get_or line n 0 ≡ 35) × (drop n line ≡ 35 ∷ rest))
 

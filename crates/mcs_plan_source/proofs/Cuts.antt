@@ -44,7 +44,7 @@ keeps set other = (test : ℕ → Bool) → Tests set test → Tests other test
 same_tests : Tests (32 ∷ 9 ∷ []) is_white
 same_tests c = grind (arith, nat_tests)
 
--- a piece has no white space; it is all of the text, or white space stands behind it
+-- a piece has no white space; it is all of the text, or white space follows it
 piece : (w x rest : List ℕ) (live : Bool) (o : Option (ℕ × ℕ)) → FindsBy is_white w o
     → MatchOption o ((x ≡ w) × (live ≡ false)) (λ q. 0 < q.1 → (x ≡ take q.0 w) × (live ≡ true) × (rest ≡ drop q.1 w))
     → slice_split is_white w ≡ x ∷ cond live (slice_split is_white rest) []

@@ -41,7 +41,7 @@ counted_no kind names i within is =
     let same : count_of kind (take i names) + 0 ≡ count_of kind (take i names) = omega arith in
     counted_more kind names i within ∙ ap (λ b. count_of kind (take i names) + cond b 1 0) is ∙ same
 
--- the words behind those that were taken
+-- the words after those that were taken
 pub next_word : (ws : List (Bor (List ℕ))) (n : ℕ) (w : Bor (List ℕ)) → slice_get ws n ≡ Some w → drop n (texts ws) ≡ w.now ∷ drop (n + 1) (texts ws)
 next_word ws n w there =
     let next : suc n ≡ n + 1 = omega arith in
@@ -81,7 +81,7 @@ one_more (b ∷ bs) word e = sym (append_assoc (b ∷ bs) (32 ∷ []) word)
 pub takes_number : (old new : List (List ℕ)) (word : List ℕ) → old ≡ word ∷ new → begins_with_digit word ≡ true → TakesNumber old new
 takes_number old new word e digit = subst (λ ws. TakesNumber ws new) (sym e) (refl, digit)
 
--- the name of an object stands here, or later
+-- the name of an object is here, or later
 module _ (names : NameList) (i : ℕ) (n : List ℕ × ObjId) (object : ObjId) (there : slice_get names i ≡ Some n) where
   rest_is : drop i names ≡ n ∷ drop (i + 1) names
   rest_is =

@@ -21,7 +21,7 @@ module _ {A X : Type 0} where
       → named_in (insert_entry string_eq m.entries k x) ≡ named_in m.entries ++ (string_bytes k, x) ∷ []
   put m k x none = put_last m k x none
 
-  -- which thing stands at an index
+  -- which thing is at an index
   pub held : {Y : Type 0} (f : X → Option Y) (entries : List (String A × X)) (i : ℕ) (e : String A × X) → slice_get entries i ≡ Some e
       → option_and_then (λ s. f s.1) (slice_get (named_in entries) i) ≡ f e.1
   held f entries i e there = ap (λ o. option_and_then (λ (s : List ℕ × X). f s.1) o) (slice_get-map (λ (e : String A × X). (string_bytes e.0, e.1)) entries i ∙ ap (λ o. option_map (λ (e : String A × X). (string_bytes e.0, e.1)) o) there)

@@ -27,8 +27,7 @@ bits_after bits (c ∷ cs) = option_and_then (λ more. bits_after more cs) (with
 abbrev pub rights_of : List ℕ → Option ℕ
 rights_of word = cond (bytes_eq word (45 ∷ [])) (Some 0) (cond (length word == 0) None (bits_after 0 word))
 
--- what stands in a text in front of the first such byte, and what stands behind it, where it has
--- one
+-- what is in a text in front of the first such byte, and what follows it, where it has one
 abbrev pub front_of : ℕ → List ℕ → List ℕ
 front_of mark text = before_first (λ b. b == mark) text
 

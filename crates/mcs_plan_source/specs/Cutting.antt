@@ -10,13 +10,12 @@ is_white b = b == 32 || b == 9
 abbrev pub is_some_text : List ℕ → Bool
 is_some_text bs = not (length bs == 0)
 
--- the words of a line: what stands between white space, from one to the next, where that is
--- something
+-- the words of a line: what is between white space, from one to the next, where that is something
 abbrev pub words_of : List ℕ → List (List ℕ)
 words_of line = filter is_some_text (slice_split is_white line)
 
--- how many bytes stand before the `#` of a comment, which stands where one may begin or behind
--- white space; all where there is none
+-- how many bytes are before the `#` of a comment, which is where one may begin or after white
+-- space; all where there is none
 abbrev pub code_len : Bool → List ℕ → ℕ
 code_len begins [] = 0
 code_len begins (b ∷ bs) = cond (begins && b == 35) 0 (1 + code_len (is_white b) bs)
@@ -25,11 +24,11 @@ code_len begins (b ∷ bs) = cond (begins && b == 35) 0 (1 + code_len (is_white 
 abbrev pub code_of : List ℕ → List ℕ
 code_of line = take (code_len true line) line
 
--- what stands behind a first byte
+-- what follows a first byte
 abbrev pub behind_first : List ℕ → Option (List ℕ)
 behind_first [] = None
 behind_first (b ∷ bs) = Some bs
 
--- the comment of a line, behind its `#`
+-- the comment of a line, after its `#`
 abbrev pub comment_of : List ℕ → Option (List ℕ)
 comment_of line = behind_first (drop (code_len true line) line)

@@ -60,7 +60,7 @@ usual_name space word = do
   need (not (is_dash word)) missing
   Ok (if has_slot space (name_in word) then word else name_in word)
 
--- the name that stands behind `as`, and the words behind it
+-- the name that follows `as`, and the words after it
 abbrev pub given_name : List (List ℕ) → Read (List ℕ × List (List ℕ))
 given_name [] = Err missing
 given_name (as_word ∷ words) = do
@@ -68,7 +68,7 @@ given_name (as_word ∷ words) = do
   need (is_name name) (not_wanted name)
   Ok (name, left)
 
--- the name of a slot, and the words behind it
+-- the name of a slot, and the words after it
 abbrev pub slot_name : Option SaidSpace → List ℕ → List (List ℕ) → Read (List ℕ × List (List ℕ))
 slot_name space word words = if says_as words then given_name words else do
   name ← usual_name space word
@@ -87,7 +87,7 @@ slot_added place name cap s = do
   may_have (slice_get s.spaces place) name
   Ok (with_slot place name cap s)
 
--- a word, and the words behind it, say a slot more of the space at a place
+-- a word, and the words after it, say a slot more of the space at a place
 abbrev pub slot_more : ℕ → List ℕ → List (List ℕ) → Said → Read (Said × List (List ℕ))
 slot_more place word words s = do
   cap ← held_by s.names word

@@ -91,7 +91,7 @@ named_in entries = map (λ e. (string_bytes e.0, e.1)) entries
 abbrev pub texts : List (Bor (List ℕ)) → List (List ℕ)
 texts words = map (λ w. w.now) words
 
--- a text with a word more, behind a space where it is not the first
+-- a text with a word more, after a space where it is not the first
 abbrev pub with_word : List ℕ → List ℕ → List ℕ
 with_word [] word = word
 with_word (b ∷ bs) word = (b ∷ bs) ++ 32 ∷ word

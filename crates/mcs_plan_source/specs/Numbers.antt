@@ -23,7 +23,7 @@ is_hexadecimal [] = false
 is_hexadecimal (a ∷ []) = false
 is_hexadecimal (a ∷ b ∷ bs) = a == 48 && b == 120
 
--- the number that a word spells: decimal, or hexadecimal behind `0x`
+-- the number that a word spells: decimal, or hexadecimal after `0x`
 abbrev pub number_of : List ℕ → Option ℕ
 number_of word =
     cond (begins_with_digit word) (cond (is_hexadecimal word) (number_in 16 (drop 2 word)) (number_in 10 word)) None

@@ -24,7 +24,7 @@ pub data Refusal : Type 0 where
   passive_user : Refusal
   boot : BootFault → Refusal
 
--- the fault that is told; that memory was refused tells none
+-- the fault that is reported; that memory was refused tells none
 abbrev pub told_by : Why → Option Refusal
 told_by why.NotText = Some no_text
 told_by (why.Unknown word) = Some (unknown (string_bytes word))

@@ -69,7 +69,7 @@ at_place place f [] = []
 at_place zero f (x ∷ xs) = f x ∷ xs
 at_place (suc place) f (x ∷ xs) = x ∷ at_place place f xs
 
--- a space with a slot more, behind the others
+-- a space with a slot more, after the others
 abbrev pub with_last : List ℕ → Option Cap → SaidSpace → SaidSpace
 with_last name cap space = record space { slots = space.slots ++ (name, cap) ∷ [] }
 

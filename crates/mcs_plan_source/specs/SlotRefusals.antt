@@ -1,4 +1,4 @@
--- What is told of a slot that is refused.
+-- What is reported of a slot that is refused.
 use Rattle.std.specs.Prelude.{◌≡◌, ◌≤◌, ℕ, List, None, IsSome, length, string_bytes}
 use Rattle.mcs_plan_source.specs.declared.fault.Why.{Why}
 use Rattle.mcs_plan_source.specs.declared.fault.Why.TheVariants as why

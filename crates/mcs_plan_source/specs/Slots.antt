@@ -19,7 +19,7 @@ pub record MayHave (space : Space) (name : List ℕ) : Type 0 where
   pub fresh : find (slots_of space) name ≡ None
   pub room : length (slots_of space) < most_slots space.radix
 
--- it has it now, behind the others
+-- it has it now, after the others
 pub record AddsSlot (old : Space) (name : List ℕ) (slot : Slot) (new : Space) : Type 0 where
   pub may : MayHave old name
   pub slots : slots_of new ≡ slots_of old ++ (name, slot) ∷ []

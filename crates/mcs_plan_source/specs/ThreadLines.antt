@@ -26,7 +26,7 @@ pub record SaidReceiving : Type 0 where
   pub endpoint : List ℕ
   pub reply : List ℕ
 
--- what the line of a thread says behind its name
+-- what the line of a thread says after its name
 pub record Form : Type 0 where
   pub priority : Option ℕ
   pub maximum : ℕ
@@ -71,7 +71,7 @@ receiving_then words = do
   (reply, left) ← word_then with_word
   Ok (record { endpoint = endpoint; reply = reply }, left)
 
--- a form with what stands in front of the words
+-- a form with what is in front of the words
 abbrev pub taking : {X : Type 0} → (X → Form) → Read (X × List (List ℕ)) → Read (Form × List (List ℕ))
 taking change read = do
   (x, left) ← read
@@ -111,7 +111,7 @@ parts_then (suc turns) cores words form = do
 abbrev pub may_be : Form → Bool
 may_be form = not (is_some form.passive && not form.has_context)
 
--- what the line of a thread says behind its name
+-- what the line of a thread says after its name
 abbrev pub form_said : Option ℕ → List (List ℕ) → Read Form
 form_said cores words = do
   form ← parts_then (length words) cores words plain_form
@@ -139,8 +139,8 @@ abbrev pub with_own_context : List ℕ → Form → Said → Read Said
 with_own_context name form s =
     if form.has_context then context_more (name ++ codes ".context") (record { 0 = form.core }) s else Ok s
 
--- the place of the space that a thread is in, and the plan with it: its own comes behind the
--- others, and is made for it
+-- the place of the space that a thread is in, and the plan with it: its own comes after the others,
+-- and is made for it
 abbrev pub with_own_space : List ℕ → Option (List ℕ) → Said → Read (ℕ × Said)
 with_own_space name None s = do
   more ← space_more (name ++ codes ".space") None s

@@ -15,7 +15,7 @@ fn is_badged(kind: Kind) -> bool
     matches!(kind, Kind::Endpoint | Kind::Notification)
 }
 
-/// A text in front of the first such mark, and what stands behind it.
+/// A text in front of the first such mark, and what follows it.
 #[tactic(auto, using(crate::proofs::PlanWords::no_rest, crate::proofs::PlanWords::one_rest))]
 fn cut<'a>(text: &'a str, mark: char) -> (&'a str, Option<&'a str>)
     requires { mark < 128 }

@@ -4,8 +4,8 @@ use std::alloc::{AllocError, AllocFailed};
 use std::fmt;
 use thiserror::Error;
 
-/// Why a line of a plan is refused. What is told names the word, and where a name is not there
-/// those that are.
+/// Why a line of a plan is refused. The report names the word, and where a name is not there those
+/// that are.
 #[derive(Debug, Drop, Error)]
 pub enum Why {
     #[error("its bytes are no text")]

@@ -58,7 +58,7 @@ pub fn singular(kind: Kind) -> &'static str {
     }
 }
 
-/// A word more, behind a space where it is not the first.
+/// Adds a word, after a space where it is not the first.
 #[tactic(auto, using(crate::proofs::Entries::first_of_all, crate::proofs::Entries::one_more))]
 pub fn add_word(text: &mut String, word: &str) -> Result<(), AllocError>
     ensures { OnOk result (string_bytes text.new ≡ with_word (string_bytes text.old) word.now) }

@@ -108,7 +108,7 @@ impl Space {
         self.slots.contains_key(name)
     }
 
-    /// Adds a slot behind the others, whose name is none yet.
+    /// Adds a slot after the others, whose name is none yet.
     #[tactic(auto, using(crate::proofs::SlotNames::put))]
     fn put(&mut self, alloc: Global, name: &str, slot: Slot) -> Result<(), AllocError>
         requires { find (slots_of self.old) name.now ≡ None }
@@ -121,7 +121,7 @@ impl Space {
         Ok(())
     }
 
-    /// Adds a slot behind the others. Twice where its name is there, and Limit where the space is
+    /// Adds a slot after the others. Twice where its name is there, and Limit where the space is
     /// full.
     #[tactic(auto, using(crate::proofs::SlotNames::counted))]
     pub fn add(&mut self, alloc: Global, name: &str, slot: Slot) -> Result<(), Why>
@@ -247,7 +247,7 @@ impl Plan {
             .saturating_add(self.of_spaces(kind))
     }
 
-    /// Limit where the script would make more objects of a kind than there may be.
+    /// Fails with Limit where the script would make more objects of a kind than there may be.
     pub fn keeps_limit(&self, kind: Kind) -> Result<(), Why>
         ensures within { OnOk result (made_of (said self.now) kind ≤ limit_of kind) }
         ensures ok { OnOk result (keeps_limit kind (said self.now) ≡ Ok tt) }

@@ -46,7 +46,7 @@ fn with_end(alloc: Global, name: &str, end: &str) -> Result<String, AllocError>
     Ok(whole)
 }
 
-/// A number of 8 bits.
+/// Reads a number of 8 bits, up to a limit.
 fn byte(alloc: Global, words: &mut Words<'_>, wanted: &'static str, limit: u8) -> Result<u8, Why>
     ensures value { IfOk result (λ n. number_then limit words.old ≡ Ok (n, words.new)) }
     ensures told { IfErr result (Refuses (number_then limit words.old)) }
@@ -65,7 +65,7 @@ fn says_as(words: &Words<'_>) -> bool
     }
 }
 
-/// The name behind `as`.
+/// Reads the name after `as`.
 fn given_name(alloc: Global, words: &mut Words<'_>) -> Result<String, Why>
     ensures name { IfOk result (λ n. given_name words.old ≡ Ok (string_bytes n, words.new)) }
     ensures told { IfErr result (Refuses (given_name words.old)) }
@@ -89,7 +89,7 @@ fn held_by(alloc: Global, names: &Names, word: &str) -> Result<Option<Cap>, Why>
     Ok(Some(cap_of(alloc, names, word)?))
 }
 
-/// The radix of a CNode, where the line says one.
+/// Reads the radix of a CNode, where the line says one.
 fn read_radix(alloc: Global, words: &mut Words<'_>) -> Result<Option<u8>, Why>
     ensures radix { IfOk result (λ r. radix_then words.old ≡ Ok (r, words.new)) }
     ensures told { IfErr result (Refuses (radix_then words.old)) }
@@ -104,7 +104,7 @@ fn read_radix(alloc: Global, words: &mut Words<'_>) -> Result<Option<u8>, Why>
     Ok(Some(n))
 }
 
-/// Whether a thread has a context, where the line says `without context`: it has none.
+/// Reads `without context`, where the line says it. Returns whether the thread has a context.
 fn read_without(alloc: Global, words: &mut Words<'_>) -> Result<bool, Why>
     ensures none { IfOk result (λ has. without_then words.old ≡ Ok (has, words.new)) }
     ensures told { IfErr result (Refuses (without_then words.old)) }
@@ -124,7 +124,7 @@ fn says_has(words: &Words<'_>) -> bool
 }
 
 impl Plan {
-    /// An object more.
+    /// Adds an object.
     fn add_object(&mut self, alloc: Global, kind: Kind, name: &str) -> Result<ObjId, Why>
         ensures object { IfOk result (λ o. o ≡ next_of kind self.old.names) }
         ensures added { OnOk result
@@ -136,7 +136,7 @@ impl Plan {
         Ok(object)
     }
 
-    /// Objects of a kind, each with a name.
+    /// Reads objects of a kind, each with a name.
     fn read_objects(&mut self, alloc: Global, words: &mut Words<'_>, kind: Kind) -> Result<(), Why>
         ensures added { OnOk result
             (objects_line kind words.old (said self.old) ≡ Ok (said self.new)) }
@@ -153,7 +153,7 @@ impl Plan {
         Ok(())
     }
 
-    /// The number of a core. Not where there are fewer cores.
+    /// Reads the number of a core. Not where there are fewer cores.
     fn read_core(&self, alloc: Global, words: &mut Words<'_>) -> Result<u8, Why>
         ensures core { IfOk result (λ n. core_then self.now.cores words.old ≡ Ok (n, words.new)) }
         ensures told { IfErr result (Refuses (core_then self.now.cores words.old)) }
@@ -196,7 +196,7 @@ impl Plan {
         Ok(place)
     }
 
-    /// The core of a context: 0 where the line says none.
+    /// Reads the core of a context: 0 where the line says none.
     fn read_on(&self, alloc: Global, words: &mut Words<'_>) -> Result<u8, Why>
         ensures core { IfOk result (λ n. on_then self.now.cores words.old ≡ Ok (n, words.new)) }
         ensures told { IfErr result (Refuses (on_then self.now.cores words.old)) }
@@ -208,7 +208,7 @@ impl Plan {
         self.read_core(alloc, words)
     }
 
-    /// The line of a context: `context NAME` or `context NAME on core N`.
+    /// Reads the line of a context: `context NAME` or `context NAME on core N`.
     fn read_context(&mut self, alloc: Global, words: &mut Words<'_>) -> Result<(), Why>
         ensures added { OnOk result (context_line words.old (said self.old) ≡ Ok (said self.new)) }
         ensures told { IfErr result (Refuses (context_line words.old (said self.old))) }
@@ -220,7 +220,7 @@ impl Plan {
         Ok(())
     }
 
-    /// The line of a CNode: `cnode NAME` or `cnode NAME RADIX`.
+    /// Reads the line of a CNode: `cnode NAME` or `cnode NAME RADIX`.
     fn read_cnode(&mut self, alloc: Global, words: &mut Words<'_>) -> Result<(), Why>
         ensures added { OnOk result (cnode_line words.old (said self.old) ≡ Ok (said self.new)) }
         ensures told { IfErr result (Refuses (cnode_line words.old (said self.old))) }
@@ -232,7 +232,7 @@ impl Plan {
         Ok(())
     }
 
-    /// What a passive thread receives with: `on EP with REPLY`.
+    /// Reads what a passive thread receives with: `on EP with REPLY`.
     fn read_receiving(alloc: Global, words: &mut Words<'_>) -> Result<Receiving, Why>
         ensures said { IfOk result (λ r.
             receiving_then words.old ≡ Ok (said_receiving r, words.new)) }
@@ -248,7 +248,7 @@ impl Plan {
         })
     }
 
-    /// A part of a thread's line.
+    /// Reads a part of a thread's line.
     fn read_part(
         &self,
         alloc: Global,
@@ -305,7 +305,7 @@ impl Plan {
         }
     }
 
-    /// The next part of a thread's line, where there is one.
+    /// Reads the next part of a thread's line, where there is one.
     fn read_next(
         &self,
         alloc: Global,
@@ -323,7 +323,7 @@ impl Plan {
         }
     }
 
-    /// The parts of a thread's line, as far as it goes.
+    /// Reads the parts of a thread's line, as far as it goes.
     #[tactic(auto, using(crate::proofs::Turns::parts_turn, crate::proofs::Turns::parts_last))]
     fn read_parts(&self, alloc: Global, words: &mut Words<'_>) -> Result<ThreadForm, Why>
         ensures said { IfOk result (λ f.
@@ -346,7 +346,7 @@ impl Plan {
         Ok(form)
     }
 
-    /// What a thread's line says behind its name.
+    /// Reads what a thread's line says after its name.
     fn read_form(&self, alloc: Global, words: &mut Words<'_>) -> Result<ThreadForm, Why>
         ensures said { IfOk result (λ f. form_said self.now.cores words.old ≡ Ok (form_of f)) }
         ensures told { IfErr result (Refuses (form_said self.now.cores words.old)) }
@@ -358,7 +358,7 @@ impl Plan {
         Ok(form)
     }
 
-    /// The space of a thread: one by hand, or its own.
+    /// Finds or makes the space of a thread: one by hand, or its own.
     fn read_space(&mut self, alloc: Global, name: &str, form: &ThreadForm) -> Result<usize, Why>
         ensures added { IfOk result (λ place.
             with_own_space name.now (form_of form.now).space (said self.old)
@@ -378,7 +378,7 @@ impl Plan {
         }
     }
 
-    /// The context of a thread, where it has one.
+    /// Makes the context of a thread, where it has one.
     fn read_own_context(
         &mut self,
         alloc: Global,
@@ -399,7 +399,7 @@ impl Plan {
         Ok(Some(context))
     }
 
-    /// A thread behind the others.
+    /// Adds a thread after the others.
     fn push_thread(&mut self, thread: Thread) -> Result<(), AllocError>
         ensures added { OnOk result (said self.new ≡ with_thread thread (said self.old)) }
         ensures unchanged { OnErr result (said self.new ≡ said self.old) }
@@ -408,7 +408,7 @@ impl Plan {
         Ok(())
     }
 
-    /// A thread more, with its context and its space.
+    /// Adds a thread, with its context and its space.
     fn add_thread(
         &mut self,
         alloc: Global,
@@ -436,7 +436,7 @@ impl Plan {
         Ok(thread)
     }
 
-    /// A passive thread more, where the thread is one.
+    /// Adds a passive thread, where the thread is one.
     fn add_passive(
         &mut self,
         line: u64,
@@ -459,7 +459,7 @@ impl Plan {
         Ok(())
     }
 
-    /// A thread as its line says it.
+    /// Adds a thread as its line says it.
     fn put_thread(&mut self, alloc: Global, line: u64, words: &mut Words<'_>) -> Result<(), Why>
         ensures added { OnOk result
             (thread_said line words.old (said self.old) ≡ Ok (said self.new)) }
@@ -475,7 +475,7 @@ impl Plan {
         Ok(())
     }
 
-    /// The line of a thread.
+    /// Reads the line of a thread.
     fn read_thread(&mut self, alloc: Global, line: u64, words: &mut Words<'_>) -> Result<(), Why>
         ensures added { OnOk result
             (thread_line line words.old (said self.old) ≡ Ok (said self.new)) }
@@ -503,7 +503,7 @@ impl Plan {
             .any(|tie| tie.notification.is_same(notification))
     }
 
-    /// The line of a binding: `tie THREAD NOTIFICATION`. Bound where one of the two is bound
+    /// Reads the line of a binding: `tie THREAD NOTIFICATION`. Bound where one of the two is bound
     /// already.
     fn read_tie(&mut self, alloc: Global, words: &mut Words<'_>) -> Result<(), Why>
         ensures added { OnOk result (tie_line words.old (said self.old) ≡ Ok (said self.new)) }
@@ -532,7 +532,7 @@ impl Plan {
         Ok(())
     }
 
-    /// The line of the number of cores, which comes first. Late where a context was made.
+    /// Reads the line of the number of cores, which comes first. Late where a context was made.
     fn read_cores(&mut self, alloc: Global, words: &mut Words<'_>) -> Result<(), Why>
         ensures added { OnOk result (cores_line words.old (said self.old) ≡ Ok (said self.new)) }
         ensures told { IfErr result (Refuses (cores_line words.old (said self.old))) }
@@ -598,7 +598,7 @@ impl Plan {
         Ok(String::from_str(alloc, name)?)
     }
 
-    /// The name of a slot: the word behind `as`, or the usual one.
+    /// Reads the name of a slot: the word after `as`, or the usual one.
     fn slot_name(
         &self,
         alloc: Global,
@@ -618,7 +618,7 @@ impl Plan {
         given_name(alloc, words)
     }
 
-    /// A slot of a space. Twice where its name is there, and Limit where the space is full.
+    /// Adds a slot of a space. Twice where its name is there, and Limit where the space is full.
     fn add_slot(&mut self, alloc: Global, place: usize, name: &str, slot: Slot) -> Result<(), Why>
         ensures added { OnOk result
             (slot_added place name.now slot.cap (said self.old) ≡ Ok (said self.new)) }
@@ -632,8 +632,8 @@ impl Plan {
         space.add(alloc, name, slot)
     }
 
-    /// A capability of a space, with `as NAME` behind it where it is to have a name of its own; `-`
-    /// is an empty slot.
+    /// Adds a capability of a space, with a name of its own where `as NAME` follows; `-` is an
+    /// empty slot.
     fn put_slot(
         &mut self,
         alloc: Global,
@@ -653,7 +653,7 @@ impl Plan {
         self.add_slot(alloc, place, name.as_str(), Slot { cap, written })
     }
 
-    /// The same, where the space does not take more CNodes then than there may be.
+    /// Does the same, where the space then takes no more CNodes than there may be.
     fn read_slot(
         &mut self,
         alloc: Global,
@@ -670,7 +670,7 @@ impl Plan {
         self.keeps_limit(Kind::CNode)
     }
 
-    /// Capabilities of a space, as far as the line goes.
+    /// Reads capabilities of a space, as far as the line goes.
     fn read_slots(&mut self, alloc: Global, place: usize, words: &mut Words<'_>) -> Result<(), Why>
         ensures added { OnOk result
             (slots_more (length words.old) place words.old (said self.old) ≡ Ok (said self.new)) }
@@ -685,7 +685,7 @@ impl Plan {
         Ok(())
     }
 
-    /// The line of what a space has: `NAME has CAPABILITY ..`.
+    /// Reads the line of what a space has: `NAME has CAPABILITY ..`.
     fn read_has(&mut self, alloc: Global, name: &str, words: &mut Words<'_>) -> Result<(), Why>
         ensures added { OnOk result
             (has_line name.now words.old (said self.old) ≡ Ok (said self.new)) }
@@ -700,7 +700,7 @@ impl Plan {
         self.read_slots(alloc, place, words)
     }
 
-    /// A line that begins with this word. Unknown where it begins none.
+    /// Reads a line that begins with this word. Unknown where it begins none.
     fn read_line(
         &mut self,
         alloc: Global,
@@ -728,8 +728,8 @@ impl Plan {
         }
     }
 
-    /// A line before the first step. Where it is refused, the first fault is told, and what the
-    /// plan says then is not: the caller lets it go.
+    /// Reads a line before the first step. Where it is refused, the first fault is returned. What
+    /// the plan then says is not specified: the caller drops it.
     pub fn read(&mut self, alloc: Global, line: u64, words: &[&str]) -> Result<(), Why>
         ensures taken { OnOk result (ReadsLine line (texts words.now) self.old (said self.new)) }
         ensures refused { IfErr result (RefusesLine line (texts words.now) self.old) }

@@ -21,7 +21,7 @@ fn names_of<'a>(
     Ok(names)
 }
 
-/// A word, by its name where it is an object or a queue of one.
+/// Adds a word, by its name where it is an object or a queue of one.
 fn add_told(
     to: &mut Vec<u8>,
     names: &IndexMap<Vec<u8>, &[u8]>,

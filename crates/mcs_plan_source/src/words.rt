@@ -94,7 +94,7 @@ impl<'a> Words<'a> {
         }
     }
 
-    /// TooMany where a word is left.
+    /// Fails with TooMany where a word is left.
     pub fn end(&mut self, alloc: Global) -> Result<(), Why>
         ensures ok { OnOk result (self.old ≡ []) }
         ensures told { IfErr result (TellsTooMany self.old) }
@@ -136,7 +136,7 @@ pub fn not(alloc: Global, word: &str, wanted: &'static str) -> Why
     }
 }
 
-/// The words of a line, between which spaces and tabs stand.
+/// The words of a line, between which spaces and tabs are.
 pub fn split_words<'a>(alloc: Global, line: &'a str) -> Result<Vec<&'a str>, AllocError>
     ensures { IfOk result (λ words. texts words.items ≡ words_of line.now) }
 {
@@ -152,7 +152,7 @@ pub fn is_white(byte: u8) -> bool
     byte == 32 || byte == 9
 }
 
-/// How many bytes of a line stand before its comment; all where it has none.
+/// How many bytes of a line are before its comment; all where it has none.
 fn code_len(line: &[u8]) -> usize
     ensures { result ≡ code_len true line.now }
 {
@@ -167,7 +167,7 @@ fn code_len(line: &[u8]) -> usize
 }
 
 /// A line without its comment, and the comment. A comment begins with `#`, at the line's beginning
-/// or behind a space or a tab.
+/// or after a space or a tab.
 pub fn split_comment<'a>(line: &'a str) -> (&'a str, Option<&'a str>)
     ensures code { result.0.now ≡ code_of line.now }
     ensures comment { option_map (λ c. c.now) result.1 ≡ comment_of line.now }
@@ -186,7 +186,7 @@ fn begins_with_digit(word: &str) -> bool
     }
 }
 
-/// Whether a word begins with a plus, which may stand before digits elsewhere.
+/// Whether a word begins with a plus, which may be before digits elsewhere.
 fn begins_with_plus(word: &str) -> bool
     ensures { result ≡ (slice_index word.now 0 == 43) }
 {
@@ -210,7 +210,7 @@ fn number_in(radix: u32, digits: &str) -> Option<u64>
     u64::from_str_radix(digits, radix).ok()
 }
 
-/// A number of 64 bits: decimal, or hexadecimal behind `0x`. None where the word is none.
+/// A number of 64 bits: decimal, or hexadecimal after `0x`. None where the word is none.
 #[tactic(auto, using(crate::proofs::Spelled::hexadecimal, crate::proofs::Spelled::not_hexadecimal))]
 pub fn number(word: &str) -> Option<u64>
     ensures digit { OnSome result (begins_with_digit word.now ≡ true) }
@@ -239,14 +239,14 @@ fn is_digit(byte: u8) -> bool
     48 <= byte && byte <= 57
 }
 
-/// Whether a byte may stand in a name.
+/// Whether a byte may be in a name.
 fn is_name_byte(byte: u8) -> bool
     ensures { result ≡ is_name_byte byte }
 {
     is_letter(byte) || is_digit(byte) || byte == 45 || byte == 46 || byte == 95
 }
 
-/// Whether all bytes may stand in a name.
+/// Whether all bytes may be in a name.
 fn are_name_bytes(bytes: &[u8]) -> bool
     ensures { result ≡ list_all is_name_byte bytes.now }
 {

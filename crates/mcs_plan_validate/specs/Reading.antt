@@ -32,7 +32,7 @@ pub record IsPlansBoot (laid : Laid) (boot : Boot) : Type 0 where
   pub cores : boot.cores ≡ cores_of laid.plan.cores laid.plan.contexts.items
   pub lines : reverse boot.lines ≡ boot_of laid.plan laid.layouts.items
 
--- a text is a script of steps without a fault, its boot is that of the plan, and behind this each
+-- a text is a script of steps without a fault, its boot is that of the plan, and after this each
 -- name of each thread leads to what its slot holds
 pub record IsVouched (text : List ℕ) (laid : Laid) : Type 0 where
   pub book : Book

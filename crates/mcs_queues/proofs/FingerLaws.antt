@@ -64,7 +64,7 @@ finger-walks f l q p t h g i =
 pub finger-in_room : (f : FingerRows) (l : Links) (q p : ℕ) (t : ThreadNo) → Linked l (spelled l) → Pointed f l → IsLower f q p t → t.0 < length l.threads
 finger-in_room f l q p t h g i = (place l t q h (g.stands q i.0 t i.2)).within
 
--- a thread stands in a line with a priority
+-- a thread is in a line with a priority
 abbrev IsIn : Links → ℕ → ℕ → ℕ → Type 0
 IsIn l q p t = (stands_at l t ≡ Some q) × ((slot_at l t).priority.0 ≡ p)
 

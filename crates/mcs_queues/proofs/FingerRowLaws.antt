@@ -25,7 +25,7 @@ own-some : (r : LineFingers) (p n : ℕ) → (n ≡ 0 → r ≡ no_fingers) → 
 own-some r p n h None e = tt
 own-some r p n h (Some t) e = λ z. let none = ap (λ (x : LineFingers). get_or x.threads p None) (h z) ∙ get-replicate None PRIORITIES p in absurd (cc)
 
--- a finger stands in a row of its line's own
+-- a finger is in a row of its line's own
 pub own-row : (r : LineFingers) (p n : ℕ) → (n ≡ 0 → r ≡ no_fingers) → IfSome (get_or r.threads p None) (λ t. n ≢ 0)
 own-row r p n h = own-some r p n h (get_or r.threads p None) refl
 

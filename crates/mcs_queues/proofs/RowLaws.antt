@@ -103,7 +103,7 @@ pub found-row : (t : ℕ) (d : Row) (rows : List Row) → position_or_len (is_of
 found-row t d [] lt = absurd (omega (arith, lt))
 found-row t d (v ∷ vs) lt = found-cons t d v vs (position_or_len (is_of t) vs) (is_of t v) refl lt (found-row t d vs)
 
--- who stands behind a thread: the first of its line in the rows behind its row
+-- who follows a thread: the first of its line in the rows after its row
 behind-cons : (n m t k : ℕ) (v : Row) (vs : List Row) (i : ℕ) (b : Bool) → is_of t v ≡ b → cond (not b) (1 + i) 0 < length (v ∷ vs) → Kept n m (v ∷ vs) → cond b (Some v.line.0) (place_in vs t) ≡ Some k
     → (i < length vs → place_in vs t ≡ Some k → behind t (line_in vs k) ≡ first_waiter (line_in (drop (i + 1) vs) k))
     → behind t (line_in (v ∷ vs) k) ≡ first_waiter (line_in (drop (cond (not b) (1 + i) 0 + 1) (v ∷ vs)) k)
@@ -196,7 +196,7 @@ pub leaves-nothing : (t : ℕ) (rows : List Row) → place_in rows t ≡ None �
 leaves-nothing t [] h = refl
 leaves-nothing t (v ∷ vs) h = let r = leaves-nothing t vs in grind (arith, common_steps, r)
 
--- who enters stands last of its priority
+-- who enters is last of its priority
 pub put-enters : (r : Row) (rows : List Row) → NeverRises (line_in rows r.line.0)
     → IsPut (record { thread = r.thread.0; priority = r.priority }) (line_in rows r.line.0) (line_in (enters r rows) r.line.0)
 put-enters r rows h =

@@ -13,7 +13,7 @@ pub record Rooms : Type 0 where
 abbrev pub waiter : ThreadNo → Prio → Waiter
 waiter t p = record { thread = t.0; priority = p.0 }
 
--- whether a thread may join a line: both are in range, and it stands in none
+-- whether a thread may join a line: both are in range, and it is in none
 abbrev pub may_join : Rooms → (ℕ → Option ℕ) → ℕ → ℕ → Bool
 may_join rooms place t q = nat_lt t rooms.threads && nat_lt q rooms.lines && is_none (place t)
 
@@ -29,14 +29,14 @@ JoinsPlace old new joins t q = (u : ℕ) → new u ≡ cond (joins && (t == u)) 
 abbrev pub LeavesPlace : (ℕ → Option ℕ) → (ℕ → Option ℕ) → ℕ → Type 0
 LeavesPlace old new t = (u : ℕ) → new u ≡ cond (t == u) None (old u)
 
--- the lines after a thread went behind all of its priority in its own, if it stands in one
+-- the lines after a thread went after all of its priority in its own, if it is in one
 abbrev pub ShiftsLine : (ℕ → List Waiter) → (ℕ → List Waiter) → (ℕ → Option ℕ) → Waiter → Type 0
 ShiftsLine old new place w = (k : ℕ) → new k ≡ cond (is_place (place w.thread) k) (insert_behind w (without w.thread (old k))) (old k)
 
--- it stands there behind all of its priority and ahead of all lower ones
+-- it is there after all of its priority and ahead of all lower ones
 abbrev pub IsPutAnew : (ℕ → List Waiter) → (ℕ → List Waiter) → (ℕ → Option ℕ) → Waiter → Type 0
 IsPutAnew old new place w = (k : ℕ) → place w.thread ≡ Some k → IsPut w (without w.thread (old k)) (new k)
 
--- a thread stands in a line exactly where that is its place
+-- a thread is in a line exactly where that is its place
 abbrev pub StandsAtPlace : (ℕ → List Waiter) → (ℕ → Option ℕ) → ℕ → Type 0
 StandsAtPlace line place t = (k : ℕ) → stands_in t (line k) ≡ is_place (place t) k

@@ -69,7 +69,7 @@ pub record AtMostOneGoes (old new : FingerRows) : Type 0 where
 abbrev pub IsLower : FingerRows → ℕ → ℕ → ThreadNo → Type 0
 IsLower f q p t = (c : ℕ) × (c < p) × (finger f q c ≡ Some t)
 
--- each finger points at a thread that stands in its line with its priority
+-- each finger points at a thread that is in its line with its priority
 pub record Pointed (f : FingerRows) (l : Links) : Type 0 where
   pub lines : length f.places ≡ length l.lines
   pub stands : (q c : ℕ) (t : ThreadNo) → finger f q c ≡ Some t → stands_at l t.0 ≡ Some q

@@ -28,11 +28,11 @@ Kept threads lines (r ∷ rs) = (r.thread.0 < threads) × (r.line.0 < lines) × 
 abbrev pub is_of : ℕ → Row → Bool
 is_of t r = r.thread.0 == t
 
--- whether a row stands in a line with a priority below a given one
+-- whether a row is in a line with a priority below a given one
 abbrev pub is_lower : ℕ → ℕ → Row → Bool
 is_lower k p r = (r.line.0 == k) && nat_lt r.priority p
 
--- behind all of its line with its priority or a greater one
+-- after all of its line with its priority or a greater one
 abbrev pub enters : Row → List Row → List Row
 enters r [] = r ∷ []
 enters r (v ∷ vs) = cond (is_lower r.line.0 r.priority v) (r ∷ v ∷ vs) (v ∷ enters r vs)

@@ -1,4 +1,4 @@
-//! Where a walk along a line may begin.
+//! Where the traversal of a line may begin.
 ghost use Rattle.std.specs.Prelude.{◌≡◌, ◌≢◌, ◌<◌, length, slice_index_or, IfOk, IfSome, Some, None, is_none, cond, not, ◌==◌};
 ghost use Rattle.mcs_queues.specs.Fingers.{Points, IsReleased, IsLower, SameFingers, finger, row_of, no_fingers, blank_rows};
 
@@ -44,9 +44,9 @@ impl LineFingers {
     }
 }
 
-/// For each line and each priority a finger: a thread that stands in the line with that priority
-/// (own). The first that joins while there is none becomes it, so most often no other of its
-/// priority stands ahead of it.
+/// For each line and each priority a finger: a thread that is in the line with that priority (own).
+/// The first that joins while there is none becomes it, so most often no other of its priority is
+/// ahead of it.
 ///
 /// Lines without fingers share the first row, in which there are none: no memory is written for a
 /// line before it has a finger.
@@ -79,7 +79,7 @@ impl Fingers {
         Ok(Fingers { rows, places })
     }
 
-    /// The same fingers, in the memory of spare ones. OutOfMemory where memory is refused.
+    /// Clones the fingers in the memory of spare ones. OutOfMemory where memory is refused.
     pub fn copy(&self, alloc: Global, spare: Option<Fingers>) -> Result<Fingers, OutOfMemory>
         ensures { IfOk result (λ f. f ≡ self.now) }
     {
@@ -162,7 +162,7 @@ impl Fingers {
         };
     }
 
-    /// Makes a thread the finger of its priority, if that has none. Answers whether.
+    /// Makes a thread the finger of its priority, if that has none. Returns whether it became that.
     pub fn claim(&mut self, q: LineNo, p: Prio, t: ThreadNo) -> bool
         requires { q.0 < length self.old.places }
         ensures answer { result ≡ is_none (finger self.old q.0 p.0) }

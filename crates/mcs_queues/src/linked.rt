@@ -15,17 +15,17 @@ use std::alloc::Global;
 use std::marker::{Brand, Model};
 use std::sync::ledger::{Blank, Ledger};
 
-/// Lines as links: each thread's slot names the threads before and behind it, and each line's slot
+/// Lines as links: each thread's slot names the threads before and after it, and each line's slot
 /// its first and its last. To leave a line or to ask for a neighbour reads no other thread's slot;
-/// to join one walks past threads of a lower priority, from the finger of the nearest lower one
-/// that has a finger, or from the line's end (own). `new` takes all memory.
+/// to join one visits threads of a lower priority, from the finger of the nearest lower one that
+/// has a finger, or from the line's end (own). `new` takes all memory.
 pub struct LinkedLines {
     slots: LinkSlots,
     fingers: Fingers,
 }
 
 // By hand, so that it is a function of its own: a derived drop would be proved anew wherever it is
-// let go.
+// dropped.
 impl Drop for LinkedLines {
     fn drop(self) {
         let LinkedLines {
@@ -48,8 +48,8 @@ impl Model for LinkedLines {
         × Pointed s.fingers s.slots };
 }
 
-/// Where a walk to a priority begins: ahead of a finger of a lower one, or at the line's end. It
-/// answers the thread that is to be visited next, and the one behind it.
+/// Finds where a traversal to a priority begins: ahead of a finger of a lower one, or at the line's
+/// end. Returns the thread to visit next, and the one after it.
 fn begin<G: Ledger>(
     slots: &LinkSlots,
     fingers: &Fingers,
@@ -73,8 +73,8 @@ fn begin<G: Ledger>(
     }
 }
 
-/// Between which threads of a line a priority belongs, by a walk from a finger or from the line's
-/// end.
+/// Finds the two threads of a line between which a priority belongs. The traversal starts at a
+/// finger or at the line's end.
 fn seek<G: Ledger>(
     slots: &LinkSlots,
     fingers: &Fingers,
@@ -118,7 +118,7 @@ fn relink(
     slots.set(t, slot);
 }
 
-/// Takes a thread out of its line, which is answered.
+/// Takes a thread out of its line, and returns the line.
 fn leave(slots: &mut LinkSlots, fingers: &mut Fingers, t: ThreadNo) -> Option<LineNo>
     requires linked { Linked slots.old (spelled slots.old) }
     requires pointed { Pointed fingers.old slots.old }
@@ -157,8 +157,8 @@ fn leave(slots: &mut LinkSlots, fingers: &mut Fingers, t: ThreadNo) -> Option<Li
     Some(q)
 }
 
-/// Makes a thread the finger of its priority, if that has none. Answers whether. A thread that
-/// stands alone needs none, so a line that never has two takes no memory for fingers.
+/// Makes a thread the finger of its priority, if that has none. Returns whether it became that. A
+/// thread that is alone needs none, so a line that never has two takes no memory for fingers.
 fn offer(
     fingers: &mut Fingers,
     q: LineNo,
@@ -177,7 +177,7 @@ fn offer(
     fingers.claim(q, p, t)
 }
 
-/// Puts a thread that stands in no line behind all of its priority.
+/// Puts a thread that is in no line after all of its priority.
 fn enter<G: Ledger>(
     slots: &mut LinkSlots,
     fingers: &mut Fingers,
@@ -223,7 +223,7 @@ fn first_in(slots: &LinkSlots, q: LineNo) -> Option<ThreadNo>
     slots.ends(q).first
 }
 
-/// The thread behind another in its line.
+/// The thread after another in its line.
 fn next_in(slots: &LinkSlots, t: ThreadNo) -> Option<ThreadNo>
     requires { Linked slots.now (spelled slots.now) }
     ensures { thread_number result ≡ behind_in (stands_at slots.now t.0) (spelled slots.now) t.0 }
@@ -266,8 +266,8 @@ impl LinkedLines {
         (slots, fingers)
     }
 
-    /// `join`, which counts its visits: at most one more than threads of a lower priority stand in
-    /// the line (own).
+    /// Does what `join` does, and counts its visits: at most one more than the line has threads of
+    /// a lower priority (own).
     pub fn join_counted<G: Ledger>(
         &mut self,
         t: ThreadNo,
@@ -290,8 +290,8 @@ impl LinkedLines {
         may
     }
 
-    /// `shift`, which counts its visits: none where the thread stands in no line, and else at most
-    /// one more than other threads of a lower priority stand in its line (own).
+    /// Does what `shift` does, and counts its visits: none where the thread is in no line, else at
+    /// most one more than its line has other threads of a lower priority (own).
     pub fn shift_counted<G: Ledger>(&mut self, t: ThreadNo, p: Prio, steps: &mut Steps<G>) -> bool
         ensures answer { result ≡ is_some (stands_at self.old t.0) }
         ensures line { ShiftsLine (spelled self.old) (spelled self.new) (stands_at self.old)
@@ -314,7 +314,7 @@ impl LinkedLines {
     }
 }
 
-/// `join` with visits of its own.
+/// Does what `join` does, with a count of visits of its own.
 fn join_alone<G: Ledger>(
     lines: &mut LinkedLines,
     t: ThreadNo,
@@ -336,7 +336,7 @@ fn join_alone<G: Ledger>(
     lines.join_counted(t, q, p, &mut steps)
 }
 
-/// `shift` with visits of its own.
+/// Does what `shift` does, with a count of visits of its own.
 fn shift_alone<G: Ledger>(lines: &mut LinkedLines, t: ThreadNo, p: Prio, blank: Blank) -> bool
     requires name { blank.name ≡ G.name }
     requires parts { blank.parts ≡ G.parts }
@@ -399,7 +399,7 @@ impl Lines for LinkedLines {
         next_in(&self.slots, t)
     }
 
-    /// As the trait's. At most four links differ after it, and at most one finger, which then
+    /// Does what the trait says. It changes at most four links, and at most one finger, which then
     /// points nowhere (own).
     fn part(&mut self, t: ThreadNo) -> Option<LineNo>
         ensures answer { line_number result ≡ stands_at self.old t.0 }

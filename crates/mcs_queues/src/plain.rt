@@ -19,9 +19,9 @@ struct Row {
 
 const _: () = prove!(size_of::<Row>() == 8);
 
-/// All lines in one list of rows: a row for each thread that stands in a line, and the rows of a
-/// line in that line's order. One list, so that nothing in it can disagree and its text is short
-/// enough to read; each call walks it for that. `new` takes room for a row of every thread.
+/// All lines in one list of rows: a row for each thread that is in a line, and the rows of a line
+/// in that line's order. One list, so that nothing in it can disagree and its text is short enough
+/// to read; each call traverses it for that. `new` takes room for a row of every thread.
 pub struct PlainLines {
     rows: Vec<Row>,
     threads: u16,
@@ -29,7 +29,7 @@ pub struct PlainLines {
 }
 
 // By hand, so that it is a function of its own: a derived drop would be proved anew wherever it is
-// let go.
+// dropped.
 impl Drop for PlainLines {
     fn drop(self) {
         let PlainLines {
@@ -54,14 +54,14 @@ impl Model for PlainLines {
         × ((k : ℕ) → NeverRises (line_in s.rows.items k)) };
 }
 
-/// Where the row of a thread stands.
+/// Where the row of a thread is.
 fn row_of(rows: &[Row], t: ThreadNo) -> Option<usize>
     ensures { result ≡ position (is_of t.0) rows.now }
 {
     rows.iter().position(|row| row.thread.0 == t.0)
 }
 
-/// Where the first row of a lower priority stands in a line.
+/// Where the first row of a lower priority is in a line.
 fn first_lower(rows: &[Row], q: LineNo, p: u32) -> Option<usize>
     ensures { result ≡ position (is_lower q.0 p) rows.now }
 {
@@ -88,7 +88,7 @@ fn may_enter(rows: &[Row], threads: u16, lines: u16, t: ThreadNo, q: LineNo) -> 
     t.0 < threads && q.0 < lines && line_of(rows, t).is_none()
 }
 
-/// Puts a row behind all of its line with its priority or a greater one. There is room for it.
+/// Puts a row after all of its line with its priority or a greater one. There is room for it.
 fn enter(rows: &mut Vec<Row>, row: Row)
     requires { vec_len rows.old < vec_capacity rows.old }
     ensures items { rows.new.items ≡ enters row rows.old.items }

@@ -8,7 +8,7 @@ use std::alloc::Global;
 use std::marker::Model;
 use std::sync::ledger::{Blank, Book, Ledger, Share};
 
-/// Where a thread stands, and its neighbours there.
+/// Where a thread is, and its neighbours there.
 #[derive(Clone, Copy)]
 pub struct ThreadSlot {
     pub line: Option<LineNo>,
@@ -98,7 +98,7 @@ impl LinkSlots {
         })
     }
 
-    /// The same slots, in the memory of spare ones. OutOfMemory where memory is refused.
+    /// Clones the slots in the memory of spare ones. OutOfMemory where memory is refused.
     pub fn copy(&self, alloc: Global, spare: Option<LinkSlots>) -> Result<LinkSlots, OutOfMemory>
         ensures { IfOk result (λ s. s ≡ self.now) }
     {
@@ -134,7 +134,7 @@ impl LinkSlots {
         self.threads[t.0 as usize]
     }
 
-    /// The slot of another thread, which is counted.
+    /// Returns the slot of another thread, and counts the visit.
     pub fn visit<G: Ledger>(&self, t: ThreadNo, steps: &mut Steps<G>) -> ThreadSlot
         requires { t.0 < length self.now.threads }
         ensures slot { result ≡ slot_at self.now t.0 }
@@ -152,7 +152,7 @@ impl LinkSlots {
         self.lines[q.0 as usize]
     }
 
-    /// The slot of the thread that a call names is written.
+    /// Writes the slot of the thread that a call names.
     pub fn set(&mut self, t: ThreadNo, slot: ThreadSlot)
         requires { t.0 < length self.old.threads }
         ensures { self.new ≡ with_slot t.0 slot self.old }
@@ -160,7 +160,8 @@ impl LinkSlots {
         self.threads[t.0 as usize] = slot;
     }
 
-    /// What is next to a thread in its line, or the first of the line where there is no thread.
+    /// Sets what is next to a thread in its line, or the first of the line where there is no
+    /// thread.
     pub fn set_next(&mut self, q: LineNo, before: Option<ThreadNo>, next: Option<ThreadNo>)
         requires line { q.0 < length self.old.lines }
         requires thread { IfSome before (λ b. b.0 < length self.old.threads) }
@@ -178,7 +179,8 @@ impl LinkSlots {
         }
     }
 
-    /// What is previous to a thread in its line, or the last of the line where there is no thread.
+    /// Sets what is previous to a thread in its line, or the last of the line where there is no
+    /// thread.
     pub fn set_previous(&mut self, q: LineNo, after: Option<ThreadNo>, previous: Option<ThreadNo>)
         requires line { q.0 < length self.old.lines }
         requires thread { IfSome after (λ a. a.0 < length self.old.threads) }

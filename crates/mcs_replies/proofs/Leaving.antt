@@ -159,7 +159,7 @@ dh-gone : (b : Bool) → cond {A = Option Link} b (with_below None None) None �
 dh-gone true = refl
 dh-gone false = refl
 
--- what stands in no chain of s
+-- what is in no chain of s
 none-true : (b : Bool) → (b ≡ true → true ≡ false) → b ≡ false
 none-true false h = refl
 none-true true h = h refl

@@ -97,7 +97,7 @@ length-lower p (x ∷ xs) = go (nat_eq x p) (length-lower p xs)
     go true r = omega arith
     go false r = omega (arith, r)
 
--- each stands in the upper part or in the lower
+-- each is in the upper part or in the lower
 pub upper-lower : (p u : ℕ) (ps : List ℕ) → Apart ps → has u (upper p ps) ≡ cond (has u (lower p ps)) false (has u ps)
 upper-lower p u [] a = refl
 upper-lower p u (x ∷ xs) a =
@@ -115,7 +115,7 @@ below-upper p u [] a h = refl
 below-upper p u (x ∷ []) a h = grind (arith, common_steps)
 below-upper p u (x ∷ y ∷ zs) a h = let r = below-upper p u (y ∷ zs) a.1 in let o = a.0 in grind (arith, common_steps, r, o)
 
--- who stands above p has p below
+-- who is above p has p below
 above-below_from : (b : Option ℕ) (p u : ℕ) (ps : List ℕ) → Apart ps → is_at b u ≡ false → has u (upper p ps) ≡ true → has p ps ≡ true → is_at (above_from b p ps) u ≡ is_at (below u ps) p
 above-below_from b p u [] a nb h i = refl
 above-below_from b p u (x ∷ []) a nb h i = grind (arith, common_steps)

@@ -347,7 +347,7 @@ pub shape-kept : (rows new : Objects ReplyRow) (res : Option ReplyRow) → OnSom
 shape-kept rows new None h some = absurd (false≢true some)
 shape-kept rows new (Some x) h some = (ap (λ n. n.room) h, ap (λ n. n.kind) h)
 
--- what stands in chains
+-- what is in chains
 pub record At (f : ℕ → Option Link) (r : ObjId) (ps : List ℕ) : Type 0 where
   pub place : ℕ
   pub in_list : has place ps ≡ true

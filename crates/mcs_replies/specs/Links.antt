@@ -148,6 +148,6 @@ abbrev pub topped_by : Option Link → Option ObjId
 topped_by None = None
 topped_by (Some l) = cond (is_none (place_number l.above)) (Some l.context) None
 
--- the tops without that of a link's context, where nothing stands above the link
+-- the tops without that of a link's context, where nothing is above the link
 abbrev pub left_by : Link → TopRows → TopRows
 left_by l ts = cond (is_none (place_number l.above)) (left l.context ts) ts

@@ -17,7 +17,7 @@ abbrev pub below : ℕ → List ℕ → Option ℕ
 below u [] = None
 below u (x ∷ xs) = cond (x == u) (head_of xs) (below u xs)
 
--- the place above another, where b stands above all
+-- the place above another, where b is above all
 abbrev pub above_from : Option ℕ → ℕ → List ℕ → Option ℕ
 above_from b u [] = None
 above_from b u (x ∷ xs) = cond (x == u) b (above_from (Some x) u xs)
@@ -26,7 +26,7 @@ above_from b u (x ∷ xs) = cond (x == u) b (above_from (Some x) u xs)
 abbrev pub above : ℕ → List ℕ → Option ℕ
 above u ps = above_from None u ps
 
--- all that stand above a place; all where it is not among them
+-- all that are above a place; all where it is not among them
 abbrev pub upper : ℕ → List ℕ → List ℕ
 upper p [] = []
 upper p (x ∷ xs) = cond (x == p) [] (x ∷ upper p xs)

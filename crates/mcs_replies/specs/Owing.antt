@@ -31,7 +31,7 @@ no_room v = is_full v.rows
 abbrev pub next_reply : Owing → ObjId
 next_reply v = next_id v.rows
 
--- whether a reply object is among rows, the receiver that stands with it, and the caller that it
+-- whether a reply object is among rows, the receiver that is queued with it, and the caller that it
 -- owes
 abbrev pub has_row : Objects ReplyRow → ObjId → Bool
 has_row rows r = is_some (value_at rows r)
@@ -46,7 +46,7 @@ owed_at rows r = option_and_then (λ x. x.caller) (value_at rows r)
 abbrev pub is_there : Owing → ObjId → Bool
 is_there v r = has_row v.rows r
 
--- the receiver that stands with a reply object
+-- the receiver that is queued with a reply object
 abbrev pub receiver_in : Owing → ObjId → Option ObjId
 receiver_in v r = receiver_at v.rows r
 
@@ -94,12 +94,12 @@ EndsDebt old new how r = (s : ObjId) → chain_in new s ≡ ended how r (chain_i
 abbrev pub link_changes : Owing → Owing → ℕ
 link_changes old new = changes old.links old.tops new.links new.tops
 
--- none stands twice in a chain
+-- none is twice in a chain
 abbrev pub AreOnce : List ObjId → Type 0
 AreOnce [] = Unit {0}
 AreOnce (o ∷ os) = (is_in o os ≡ false) × AreOnce os
 
--- what stands in a chain is there and owes, stands in no other chain, and once in its own
+-- what is in a chain is there and owes, is in no other chain, and once in its own
 pub record IsChained (v : Owing) : Type 0 where
   pub owing : (s r : ObjId) → is_in r (chain_in v s) ≡ true → IsSome (owed_in v r)
   pub apart : (s u r : ObjId) → is_in r (chain_in v s) ≡ true → is_in r (chain_in v u) ≡ true → s ≡ u

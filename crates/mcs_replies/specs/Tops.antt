@@ -66,7 +66,7 @@ top_or (Some x) s o = cond (is_for s x) (Some x.top.0) o
 abbrev pub top_at : TopRows → ObjId → Option ℕ
 top_at ts s = top_or (home_row ts s) s (top_among ts.others s)
 
--- whether a row of s, with that top among the others, is to stand at a home where that row stands
+-- whether a row of s, with that top among the others, is to be at a home where that row is
 abbrev pub takes : Option Top → ObjId → Option ℕ → Bool
 takes None s o = is_none o
 takes (Some x) s o = is_for s x

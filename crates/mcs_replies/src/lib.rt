@@ -1,4 +1,4 @@
-//! Reply objects, whom they owe, and the chain of each context.
+//! Reply objects, the callers that they owe, and the chain of each context.
 #![tactic(auto)]
 
 mod links;

@@ -10,8 +10,8 @@ use crate::places::PlaceNo;
 use crate::tops::Tops;
 use mcs_types::{Ending, OBJECTS, ObjId};
 
-/// Where a reply object stands in a chain: its context, and the places of the reply objects above
-/// and below it (own).
+/// Where a reply object is in a chain: its context, and the places of the reply objects above and
+/// below it (own).
 #[derive(Clone, Copy)]
 pub struct Link {
     context: ObjId,
@@ -78,7 +78,7 @@ fn take(links: &mut Vec<Option<Link>>, place: PlaceNo)
     }
 }
 
-/// What stands above a place, if it is in a chain.
+/// Sets the link above a place, if the place is in a chain.
 fn set_above(links: &mut Vec<Option<Link>>, at: Option<PlaceNo>, above: Option<PlaceNo>)
     ensures items { links.new.items ≡ with_above_at at above links.old.items }
     ensures above { SetsAbove links.old.items links.new.items at above }
@@ -93,7 +93,7 @@ fn set_above(links: &mut Vec<Option<Link>>, at: Option<PlaceNo>, above: Option<P
     put(links, place, Some(Link { above, ..link }));
 }
 
-/// What stands below a place, if it is in a chain.
+/// Sets the link below a place, if the place is in a chain.
 fn set_below(links: &mut Vec<Option<Link>>, at: Option<PlaceNo>, below: Option<PlaceNo>)
     ensures below { SetsBelow links.old.items links.new.items at below }
     ensures places { length links.new.items ≡ length links.old.items }
@@ -171,7 +171,7 @@ fn pop(links: &mut Vec<Option<Link>>, tops: &mut Tops, place: PlaceNo, link: Lin
     tops.move_to(link.context, link.below);
 }
 
-/// No top any more, where nothing stands above.
+/// Clears the top of the chain of a link's context, where nothing is above the link.
 fn cut_top(tops: &mut Tops, link: Link)
     ensures { tops.new ≡ left_by link tops.old }
 {
@@ -180,7 +180,7 @@ fn cut_top(tops: &mut Tops, link: Link)
     }
 }
 
-/// Takes a reply object and all below it from their chain: what stands above stays.
+/// Takes a reply object and all below it from their chain: what is above stays.
 fn cut(links: &mut Vec<Option<Link>>, tops: &mut Tops, place: PlaceNo, link: Link)
     requires sound { Sound links.old.items tops.old }
     requires at { link_at links.old.items place.0 ≡ Some link }

@@ -21,8 +21,8 @@ use mcs_types::{Ending, Kind, OBJECTS, ObjId, OutOfMemory, copy_rows};
 use std::alloc::Global;
 use std::marker::Model;
 
-/// A reply object: the receiver that stands with it, and the caller that it owes an answer (manual:
-/// Message Passing).
+/// A reply object: the receiver that is queued with it, and the caller that it owes an answer
+/// (manual: Message Passing).
 #[derive(Clone, Copy)]
 pub struct ReplyRow {
     receiver: Option<ObjId>,
@@ -37,10 +37,10 @@ pub struct Ended {
     pub topped: Option<ObjId>,
 }
 
-/// Up to 256 reply objects, which come and go under serials that count from 1: the receiver that
-/// stands with each, the caller that it owes, and the chain of each context (manual: Message
-/// Passing; chains are own). What stands in a chain owes, and stands in no other. All memory is
-/// taken when they are made (own).
+/// Up to 256 reply objects, which come and go under serials that count from 1: the receiver that is
+/// queued with each, the caller that it owes, and the chain of each context (manual: Message
+/// Passing; chains are own). What is in a chain owes, and is in no other. All memory is taken when
+/// they are made (own).
 pub struct Replies {
     rows: Store<ReplyRow>,
     links: Vec<Option<Link>>,
@@ -48,7 +48,7 @@ pub struct Replies {
 }
 
 // By hand, so that it is a function of its own: a derived drop would be proved anew wherever it is
-// let go.
+// dropped.
 impl Drop for Replies {
     fn drop(self) {
         let Replies {
@@ -143,8 +143,7 @@ impl Replies {
         (rows, links, tops)
     }
 
-    /// A table like this one, in the memory of a spare one (own). OutOfMemory where memory is
-    /// refused.
+    /// Clones the table in the memory of a spare one (own). OutOfMemory where memory is refused.
     pub fn copy(&self, alloc: Global, spare: Option<Replies>) -> Result<Replies, OutOfMemory>
         ensures { IfOk result (λ t. t ≡ self.now) }
     {
@@ -171,7 +170,7 @@ impl Replies {
     }
 
     /// Adds a reply object where there is room: its serial is the next, it owes nobody, and no
-    /// receiver stands with it (own).
+    /// receiver is queued with it (own).
     pub fn add(&mut self) -> ObjId
         requires { no_room self.old ≡ false }
         ensures id { result ≡ next_reply self.old }
@@ -198,7 +197,7 @@ impl Replies {
         self.rows.get(reply).is_some()
     }
 
-    /// The receiver that stands with a reply object, or None where none does (manual: Message
+    /// The receiver that is queued with a reply object, or None where none is (manual: Message
     /// Passing).
     pub fn receiver(&self, reply: ObjId) -> Option<ObjId>
         ensures { result ≡ receiver_in self.now reply }
@@ -206,7 +205,7 @@ impl Replies {
         self.rows.get(reply)?.receiver
     }
 
-    /// Has this receiver stand with a reply object that is there, or none (manual: Message
+    /// Sets the receiver that is queued with a reply object that is there, or none (manual: Message
     /// Passing).
     pub fn set_receiver(&mut self, reply: ObjId, receiver: Option<ObjId>)
         requires { is_there self.old reply ≡ true }
@@ -226,8 +225,8 @@ impl Replies {
         self.rows.get(reply)?.caller
     }
 
-    /// Who uses a reply object: the caller that it owes, or else the receiver that stands with it;
-    /// None where nobody does (manual: Message Passing).
+    /// The user of a reply object: the caller that it owes, or else the receiver that is queued
+    /// with it; None where nobody does (manual: Message Passing).
     pub fn user(&self, reply: ObjId) -> Option<ObjId>
         ensures { result ≡ option_or (owed_in self.now reply) (receiver_in self.now reply) }
     {
@@ -235,7 +234,7 @@ impl Replies {
         row.caller.or(row.receiver)
     }
 
-    /// What stands in a chain is there and owes, stands in no other chain, and once in its own
+    /// Proves that what is in a chain is there and owes, is in no other chain, and once in its own
     /// (own).
     pub fn are_chained(&self)
         ensures { IsChained self.now }
@@ -264,8 +263,8 @@ impl Replies {
         links::lay(&mut self.links, &mut self.tops, place, reply, context);
     }
 
-    /// A reply object owes a caller from now on, and lies on top of the chain of the context that
-    /// the caller brought. False where it owes already or is not there: then nothing changes
+    /// Makes a reply object owe a caller, and puts it on top of the chain of the context that the
+    /// caller brought. Returns false where it owes already or is not there: then nothing changes
     /// (manual: Message Passing; chains are own).
     pub fn owe(&mut self, reply: ObjId, caller: ObjId, brought: Option<ObjId>) -> bool
         ensures answer { result ≡ may_owe self.old reply }
@@ -286,9 +285,9 @@ impl Replies {
         true
     }
 
-    /// The debt of a reply object is paid. On top of a chain it is taken off; else it and all below
-    /// leave their chain, and those below owe still. None, and nothing changes, where it owes
-    /// nobody (manual: Message Passing; chains are own). On top of a chain at most three links
+    /// Pays the debt of a reply object. On top of a chain it is taken off; else it and all below
+    /// leave their chain, and those below still owe. Returns None, and changes nothing, where it
+    /// owes nobody (manual: Message Passing; chains are own). On top of a chain at most three links
     /// change, however long the chain is (own).
     pub fn pay(&mut self, reply: ObjId) -> Option<Ended>
         ensures caller { option_map (λ e. e.caller) result ≡ owed_in self.old reply }
@@ -306,9 +305,9 @@ impl Replies {
         self.void(reply, Ending::Deleted)
     }
 
-    /// The debt of a reply object becomes void. Deleted, a reply object leaves its chain as if it
-    /// had paid; cancelled, it and all below leave it, also from the top. None, and nothing
-    /// changes, where it owes nobody (manual: Message Passing; chains are own).
+    /// Voids the debt of a reply object. Deleted, a reply object leaves its chain as if it had
+    /// paid; cancelled, it and all below leave it, also from the top. Returns None, and changes
+    /// nothing, where it owes nobody (manual: Message Passing; chains are own).
     // a part of its callers, which know how the debt ends
     #[inline(always)]
     pub fn void(&mut self, reply: ObjId, how: Ending) -> Option<Ended>
@@ -350,7 +349,7 @@ impl Replies {
         self.chain_of(context).next()
     }
 
-    /// Empties the chain of a context: what stood in it owes still (own).
+    /// Empties the chain of a context: what was in it owes still (own).
     pub fn drop_chain(&mut self, context: ObjId)
         ensures chains { ChangesAt (chain_in self.old) (chain_in self.new) context [] }
         ensures owed { (r : ObjId) → owed_in self.new r ≡ owed_in self.old r }
@@ -361,8 +360,8 @@ impl Replies {
         links::drop_links(&mut self.links, &mut self.tops, context);
     }
 
-    /// Forgets a reply object that owes nobody and with which no receiver stands: its serial is
-    /// never given again (manual: Kernel Services and Objects).
+    /// Forgets a reply object that owes nobody and with which no receiver is: its serial is never
+    /// reused (manual: Kernel Services and Objects).
     pub fn close(&mut self, reply: ObjId)
         requires there { is_there self.old reply ≡ true }
         requires alone { receiver_in self.old reply ≡ None }

@@ -1,4 +1,4 @@
-//! The top of each context's chain, which stands where the serial of the context says.
+//! The top of each context's chain, which is where the serial of the context says.
 ghost use Rattle.std.specs.Prelude.{◌≡◌, ◌≤◌, ◌<◌, ◌++◌, ◌%◌, position, length, replicate, vec_len, vec_capacity, [], Some, None, IsSome, IfOk};
 ghost use Rattle.mcs_types.specs.Limits.{object_limit};
 ghost use Rattle.mcs_replies.specs.Places.{place_number};
@@ -16,8 +16,8 @@ pub struct Top {
     top: PlaceNo,
 }
 
-/// The top of each chain that is not empty (own). The row of a context stands at its home, which
-/// its serial tells, or among the others, where the row of another context was at home as it came:
+/// The top of each chain that is not empty (own). The row of a context is at its home, which its
+/// serial tells, or among the others, where the row of another context was at home as it came:
 /// their serials then differ by a multiple of 256, which is rare.
 #[derive(Drop)]
 pub struct Tops {
@@ -38,7 +38,7 @@ impl Model for Tops {
         × (object_limit ≤ vec_capacity t.others) };
 }
 
-/// Where the row of a context stands among those that are not at home.
+/// Where the row of a context is among those that are not at home.
 fn place_among(others: &[Top], context: ObjId) -> Option<usize>
     ensures { result ≡ position (is_for context) others.now }
 {
@@ -53,7 +53,7 @@ fn top_among(others: &[Top], context: ObjId) -> Option<PlaceNo>
     Some(others[at].top)
 }
 
-/// A row more. There is room for one.
+/// Adds a row. There is room for one.
 fn push_row(others: &mut Vec<Top>, context: ObjId, top: PlaceNo)
     requires { vec_len others.old < vec_capacity others.old }
     ensures items { others.new.items ≡ others.old.items ++ row_of context top.0 }
@@ -65,7 +65,7 @@ fn push_row(others: &mut Vec<Top>, context: ObjId, top: PlaceNo)
     }
 }
 
-/// Another top in the row of a context. There is room for one more, unless it has one.
+/// Sets the top in the row of a context. There is room for one row more, unless it has one.
 fn enter_among(others: &mut Vec<Top>, context: ObjId, top: PlaceNo)
     requires { top_among others.old.items context ≡ None
         → vec_len others.old < vec_capacity others.old }
@@ -78,7 +78,7 @@ fn enter_among(others: &mut Vec<Top>, context: ObjId, top: PlaceNo)
     }
 }
 
-/// The row of a context goes, if it has one.
+/// Removes the row of a context, if it has one.
 fn leave_among(others: &mut Vec<Top>, context: ObjId)
     ensures items { others.new.items ≡ left_among context others.old.items }
     ensures capacity { vec_capacity others.old ≤ vec_capacity others.new }
@@ -110,7 +110,7 @@ impl Tops {
         })
     }
 
-    /// The same tops, in the memory of spare ones. OutOfMemory where memory is refused.
+    /// Clones the tops in the memory of spare ones. OutOfMemory where memory is refused.
     pub(crate) fn copy(&self, alloc: Global, spare: Option<Tops>) -> Result<Tops, OutOfMemory>
         ensures { IfOk result (λ t. t ≡ self.now) }
     {
@@ -134,7 +134,7 @@ impl Tops {
         }
     }
 
-    /// Whether the row of a context is to stand at home.
+    /// Whether the row of a context is to be at home.
     fn takes_home(&self, context: ObjId) -> bool
         ensures { result ≡ takes_home self.now context }
     {
@@ -144,7 +144,7 @@ impl Tops {
         }
     }
 
-    /// Another top of the chain of a context.
+    /// Sets the top of the chain of a context.
     fn enter(&mut self, context: ObjId, top: PlaceNo)
         requires { top_at self.old context ≡ None → length self.old.others < object_limit }
         ensures { self.new ≡ entered context top.0 self.old }
@@ -156,7 +156,7 @@ impl Tops {
         }
     }
 
-    /// The chain of a context has no top any more.
+    /// Clears the top of the chain of a context.
     fn leave(&mut self, context: ObjId)
         ensures { self.new ≡ left context self.old }
     {
@@ -167,7 +167,8 @@ impl Tops {
         }
     }
 
-    /// Another top of the chain of a context, or none. There is room for one, unless it has one.
+    /// Sets the top of the chain of a context, or clears it. There is room for one, unless it has
+    /// one.
     // a part of its callers, which know whether there is one
     #[inline(always)]
     pub(crate) fn move_to(&mut self, context: ObjId, top: Option<PlaceNo>)

@@ -94,7 +94,7 @@ few-before : (p : Piece) (act : Act) → FewAct act → FewAct (before p act)
 unfolding before
 few-before p act h = record { at = λ W few. h.at (onto (p W) W) (rw (onto-append (p W) ((act (onto (p W) W)).records) W) at few) }
 
--- a sender that stands in line
+-- a sender that is in line
 few-queues : (letter : Log → Letter) → FewAct (queues letter)
 unfolding queues
 few-queues letter = record { at = λ W few. tt }

@@ -177,14 +177,14 @@ length-words (t ∷ ts) ns ms hs =
 unfoldable pub IsSmall : Form → Type 0
 IsSmall f = length (form_line f) ≤ 4096
 
--- the line of a form with the words of a message behind few other words
+-- the line of a form with the words of a message after few other words
 small-message : (first : Token) (ts : List Token) (ns ms : List ℕ) → AllByRecursion IsWord ms → 201 * (length ts + length ns) + 21 * length ms ≤ 3896
     → IsSmall (record { first = first; others = ts; numbers = ns ++ ms })
 unfolding IsSmall
 small-message first ts ns ms words few =
     omega (arith, length-append (token_text first) (flat_map then_text (map token_text ts ++ map decimal (ns ++ ms))), length-token first, length-words ts ns ms words, few)
 
--- so is one with a message, and at most six others behind the first
+-- so is one with a message, and at most six others after the first
 pub small-with : (first : Token) (ts : List Token) (ns : List ℕ) (m : Content) → IsMessage m → length ts + length ns ≤ 6
     → IsSmall (record { first = first; others = ts; numbers = ns ++ m.words })
 small-with first ts ns m is few = small-message first ts ns m.words (recursion_from_All IsWord m.words is.words) (omega (arith, few, is.few))

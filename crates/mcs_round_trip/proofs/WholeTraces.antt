@@ -84,7 +84,7 @@ lines_forms-end : (n : ℕ) (ls : List Line) (l : Line) → lines_forms n (ls ++
 lines_forms-end n [] l = append-nil (line_forms n l)
 lines_forms-end n (m ∷ ls) l = ap (λ (fs : List Form). line_forms n m ++ fs) (lines_forms-end (sent_after n m.records) ls l) ∙ sym (append_assoc (line_forms n m) (lines_forms (sent_after n m.records) ls) (line_forms (sent_in n (m ∷ ls)) l))
 
--- a line of the book adds its step, and what stands below that is skipped
+-- a line of the book adds its step, and what is below that is skipped
 takes-line : (b : Boot) (ss : List Step) (n m : ℕ) (l : Line) → IsLineAgain b l → n + length (line_forms m l) ≤ 2000001 → Takes (so_far b ss) n (map form_line (line_forms m l)) (so_far b (ss ++ l.step ∷ []))
 unfolding AreSmall
 takes-line b ss n m l again few =

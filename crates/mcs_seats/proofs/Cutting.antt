@@ -124,7 +124,7 @@ line-none b at some e = elim (slice_get_cases (reverse b.lines) (at - 1)).1 [ in
 pub one-on : (at : ℕ) → 1 ≤ at → at - 1 + 1 ≡ at + 1 - 1
 one-on at some = omega (arith, some)
 
--- the next line, made again on a replay that stands before it
+-- the next line, made again on a replay that is before it
 pub record IsAgain (b r : Book) (at : ℕ) (l : Line) : Type 0 where
   pub let_in : fault_of r l.step.core l.step.thread ≡ None
   pub stands : StandsAt b (with_entry r l.step.core l.step.thread l.step.entry) (at + 1)

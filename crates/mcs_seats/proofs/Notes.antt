@@ -30,7 +30,7 @@ pub notes-own : (b : Book) (c : CoreId) (at : ℕ) (l : Line) → 1 ≤ at → l
     → notes_from b c at ≡ note_of at l ∷ notes_from b c (at + 1)
 notes-own b c at l some e own = notes-step b c at l some e ∙ rw own refl
 
--- behind the last line there is no note
+-- after the last line there is no note
 pub notes-none : (b : Book) (c : CoreId) (at : ℕ) → length b.lines < at → notes_from b c at ≡ []
 notes-none b c at past =
     let whole = length-reverse b.lines in

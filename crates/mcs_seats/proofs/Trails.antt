@@ -90,7 +90,7 @@ right-more w k x to h here led =
           subst (λ i. IsTornOf w i) same (h.torn (n + 1) whole);
     }
 
--- a call that was turned away rightly before the next line
+-- a call that was skipped rightly before the next line
 pub away-right : (w : Trail) (k : ℕ) (x : Call) (n : ℕ) (f : EnterFault) → AreRightTo w k → IsCallAt w k x
     → x.outcome ≡ Away n f → n ≡ w.at → 1 ≤ w.at → w.at ≤ length w.book.lines + 1
     → fault_of (cut w.book (w.at - 1)) w.core x.thread ≡ Some f → AreRightTo w (k + 1)
@@ -101,7 +101,7 @@ away-right w k x n f h call away here some few fault =
     let came : Away w.at f ≡ x.outcome = sym (away ∙ ap (λ i. Away i f) here) in
     right-more w k x w.at h call (subst (λ o. Leads w x o w.at) came led)
 
--- no call is right that was turned away before
+-- no call is right that was skipped before
 pub early-wrong : (w : Trail) (x : Call) (n : ℕ) (f : EnterFault) → x.outcome ≡ Away n f → n < w.at
     → ¬ (IsRight w.book w.core (notes_ahead w) w.at x)
 early-wrong w x n f away early right =
@@ -109,7 +109,7 @@ early-wrong w x n f away early right =
     subst (λ o. IsRightAt w.book w.core (notes_ahead w) w.at x o) away right in
     let least = r.0 in absurd (omega (arith, least, early))
 
--- nor one that was turned away for another reason
+-- nor one that was skipped for another reason
 pub fault-wrong : (w : Trail) (x : Call) (n : ℕ) (f : EnterFault) → x.outcome ≡ Away n f → n ≡ w.at
     → ¬ (fault_of (cut w.book (w.at - 1)) w.core x.thread ≡ Some f) → ¬ (IsRight w.book w.core (notes_ahead w) w.at x)
 fault-wrong w x n f away here other right =
@@ -117,13 +117,13 @@ fault-wrong w x n f away here other right =
     subst (λ o. IsRightAt w.book w.core (notes_ahead w) w.at x o) away right in
     other (subst (λ i. fault_of (cut w.book (i - 1)) w.core x.thread ≡ Some f) here r.2)
 
--- a call that comes later is right at a line where it is right behind it
+-- a call that comes later is right at a line where it is right after it
 later-back : (b : Book) (c : CoreId) (notes : List Note) (at : ℕ) (x : Call) (o : Outcome)
     → IsRightAt b c notes (at + 1) x o → IsRightAt b c notes at x o
 later-back b c notes at x (Told a) right = right
 later-back b c notes at x (Away n f) right = let least = right.0 in (omega (arith, least), right.1, right.2)
 
--- and behind it where it is right there
+-- and after it where it is right there
 later-on : (b : Book) (c : CoreId) (notes : List Note) (at : ℕ) (x : Call) (o : Outcome) → CameLater at o
     → IsRightAt b c notes at x o → IsRightAt b c notes (at + 1) x o
 later-on b c notes at x (Told a) later right = right
@@ -180,7 +180,7 @@ other-wrong w x a n ns told other notes right =
     let same : n ≡ told_note x a = cc in
     other same
 
--- nor one that was turned away later
+-- nor one that was skipped later
 pub late-wrong : (w : Trail) (x : Call) (m : ℕ) (f : EnterFault) (n : Note) (ns : List Note) → x.outcome ≡ Away m f
     → w.at < m → n.line ≡ w.at → notes_ahead w ≡ n ∷ ns → ¬ (IsRight w.book w.core (notes_ahead w) w.at x)
 late-wrong w x m f n ns away late number notes right =
@@ -198,7 +198,7 @@ untold-wrong w x a told none right =
     let no : None ≡ Some (told_note x a) = subst (λ ms. next_note ms ≡ Some (told_note x a)) none r in
     absurd cc
 
--- nor one that was turned away behind the last line
+-- nor one that was skipped after the last line
 pub behind-wrong : (w : Trail) (x : Call) (m : ℕ) (f : EnterFault) → x.outcome ≡ Away m f → w.at < m
     → w.at ≡ length w.book.lines + 1 → notes_ahead w ≡ [] → ¬ (IsRight w.book w.core (notes_ahead w) w.at x)
 behind-wrong w x m f away late end none right =
@@ -207,7 +207,7 @@ behind-wrong w x m f away late end none right =
     let before : m ≤ length w.book.lines + 1 = subst (λ ms. m ≤ next_line w.book ms) none r.1 in
     absurd (omega (arith, before, end, late))
 
--- behind the last line no call that is left is right
+-- after the last line no call that is left is right
 pub ended-torn : (w : Trail) (k : ℕ) (x : Call) → AreRightTo w k → IsLater w.at (drop k w.calls) → IsCallAt w k x
     → w.at ≡ length w.book.lines + 1 → IsTornOf w (k + 1)
 ended-torn w k x h later call end =
@@ -234,7 +234,7 @@ pub line-foreign : (w : Trail) (k : ℕ) (l : Line) → AreRightTo w k → IsLat
 line-foreign w k l h later some is other = past-foreign w k h later (notes-foreign w.book w.core w.at l some is other)
 
 -- before the next line, which is the core's own, so many calls are right, and the next one was not
--- turned away before it
+-- skipped before it
 pub record IsBeforeOwn (w : Trail) (k : ℕ) (l : Line) : Type 0 where
   pub right : AreRightTo w k
   pub later : IsLater w.at (drop k w.calls)
@@ -259,7 +259,7 @@ module _ (w : Trail) (k : ℕ) (l : Line) (before : IsBeforeOwn w k l) where
       wrong-torn w k x before.right call
       (other-wrong w x a (note_of w.at l) (notes_from w.book w.core (w.at + 1)) told other told-next)
 
-  -- where the next call was turned away behind it
+  -- where the next call was skipped after it
   pub line-late : (x : Call) (m : ℕ) (f : EnterFault) → IsCallAt w k x → x.outcome ≡ Away m f → IsTornOf w (k + 1)
   line-late x m f call away =
       let came : CameLater w.at x.outcome = subst (λ ys. IsLater w.at ys) (next-call w.calls k x call.few call.is) before.later in

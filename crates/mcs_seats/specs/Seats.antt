@@ -1,4 +1,4 @@
--- What a seat keeps. Calls stand newest first.
+-- What a seat keeps. Calls are newest first.
 use Rattle.std.specs.Prelude.{ℕ, ◌≡◌, ◌+◌, ◌<◌, List, [], ◌∷◌, length, slice_index_or, Result, Ok, Err, Some, None, OnOk, OnErr, IfOk, IfErr}
 use Rattle.std.specs.List.{sum_by}
 use Rattle.mcs_types.specs.declared.id.CoreId.{CoreId}
@@ -49,7 +49,7 @@ WhyTurned b c t (turned.Away n f) = (n ≡ length b.lines + 1) × (fault_of b c 
 WhyTurned b c t turned.OutOfMemory = Unit {0}
 
 -- an entry of a thread that had this result: the seat keeps what became of it, and the book has its
--- line and gave its answer, or is as it was where it was turned away
+-- line and gave its answer, or is as it was where it was skipped
 pub record Enters (old new : Seat) (before after : Book) (t : ObjId) (e : Entry) (r : Result Answered Turned) : Type 0 where
   pub seat : new ≡ noted old t e r
   pub let_in : OnOk r (fault_of before old.core t ≡ None)

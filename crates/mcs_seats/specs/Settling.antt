@@ -1,4 +1,4 @@
--- How a seat stands to a book.
+-- How a seat relates to a book.
 use Rattle.std.specs.Prelude.{ℕ, true, false, ◌≡◌, ◌≢◌, ◌+◌, ◌-◌, ◌≤◌, ◌<◌, ◌==◌, ◌⊎◌, if◌then◌else◌, List, [], ◌∷◌, ◌++◌, length, take, drop, reverse, Option, Some, None, slice_index_or}
 use Rattle.std.specs.List.{list_any}
 use Rattle.mcs_types.specs.declared.id.CoreId.{CoreId}
@@ -67,13 +67,13 @@ abbrev pub next_line : Book → List Note → ℕ
 next_line b [] = length b.lines + 1
 next_line b (n ∷ ns) = n.line
 
--- the notes behind the next one
+-- the notes after the next one
 abbrev pub later_notes : List Note → List Note
 later_notes [] = []
 later_notes (n ∷ ns) = ns
 
 -- a call of which this became is right, where the core is still told these notes and the book had
--- at least so many lines: it was told the next line, or turned away rightly before that line came
+-- at least so many lines: it was told the next line, or skipped rightly before that line came
 abbrev pub IsRightAt : Book → CoreId → List Note → ℕ → Call → Outcome → Type 0
 IsRightAt b c notes lines x (Told a) = next_note notes ≡ Some (told_note x a)
 IsRightAt b c notes lines x (Away n f) = (lines ≤ n) × (n ≤ next_line b notes) × (fault_of (cut b (n - 1)) c x.thread ≡ Some f)
@@ -125,7 +125,7 @@ abbrev pub entry_of : Line → Step × Answer
 entry_of l = (l.step, l.answer)
 
 -- a seat was told its core's lines and no other, in order, with their numbers and answers, and was
--- turned away rightly
+-- skipped rightly
 abbrev pub Agrees : Book → Seat → Type 0
 Agrees b s = AreRight b s.core (notes_of b s.core) 1 (reverse s.calls)
 

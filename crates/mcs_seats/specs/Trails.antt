@@ -100,7 +100,7 @@ abbrev pub IsProgress : Trail → Progress → Type 0
 IsProgress w (Right k) = AreRightTo w k
 IsProgress w (Torn n) = IsTornOf w n
 
--- a call that this became was not turned away before this line
+-- a call that this became was not skipped before this line
 abbrev pub CameLater : ℕ → Outcome → Type 0
 CameLater at (Told a) = Unit {0}
 CameLater at (Away n f) = at < n
@@ -110,7 +110,7 @@ abbrev pub IsLater : ℕ → List Call → Type 0
 IsLater at [] = Unit {0}
 IsLater at (x ∷ xs) = CameLater at x.outcome
 
--- how far the calls are right, when none that is left was turned away before the next line
+-- how far the calls are right, when none that is left was skipped before the next line
 abbrev pub IsReady : Trail → Progress → Type 0
 IsReady w (Right k) = AreRightTo w k × IsLater w.at (drop k w.calls)
 IsReady w (Torn n) = IsTornOf w n

@@ -1,4 +1,4 @@
-//! What seats were told in all, by their ledger (own).
+//! How many lines the seats have in all, by their ledger (own).
 ghost use Rattle.std.specs.Prelude.{◌≡◌, ◌≤◌, ◌+◌, length};
 ghost use Rattle.mcs_seats.specs.Seats.{told_by};
 
@@ -6,7 +6,7 @@ use crate::seat::CoreSeat;
 use std::sync::ledger::{Book, Ledger, Share};
 
 /// Puts the shares of seats to what was kept of their ledger, and audits that: where no part is
-/// missing, the seats were told as many lines as the ledger counts.
+/// missing, the seats have as many lines as the ledger counts.
 pub fn audit_seats<G: Ledger>(book: &mut Book<G>, kept: Share<G>, seats: Vec<CoreSeat<G>>)
     requires { kept.amount ≡ 0 }
     ensures parts { kept.parts + length seats.items ≤ G.parts }

@@ -3,14 +3,14 @@ ghost use Rattle.std.specs.Prelude.{◌≡◌, map, reverse};
 ghost use Rattle.mcs_book.specs.History.{of_core};
 ghost use Rattle.mcs_seats.specs.Settling.{Agreement, told_of, notes_of, entry_told, entry_of};
 
-/// A seat that agrees with a book was told the lines of its core, all and in order, with their
-/// numbers, threads, entries and answers, and no other.
+/// A seat that agrees with a book has the lines of its core, all and in order, with their numbers,
+/// threads, entries and answers, and no other.
 pub fn told_lines()
     ghost it: { Agreement }
     ensures { told_of (reverse it.seat.calls) ≡ notes_of it.book it.seat.core }
 {}
 
-/// The entries that it was told, with their answers, are the lines of its core in order.
+/// The entries of these calls, with their answers, are the lines of its core in order.
 pub fn told_of_core()
     ghost it: { Agreement }
     ensures { map (entry_told it.seat.core) (told_of (reverse it.seat.calls))

@@ -1,4 +1,4 @@
-//! Seats: what each core of a machine was told, and whether that agrees with a book.
+//! Seats: the calls of each core of a machine, and whether they agree with a book.
 #![tactic(auto)]
 
 mod audit;

@@ -100,7 +100,7 @@ pub(crate) enum Progress {
     /// So many are; of the others none was skipped before the next line.
     Right(usize),
     /// The call of this number, counted from 1, is the first that is not; one more than there are,
-    /// where the core was told more.
+    /// where the core has more.
     Torn(usize),
 }
 
@@ -137,7 +137,7 @@ fn is_same_fault(found: Option<EnterFault>, fault: EnterFault) -> bool
     found == Some(fault)
 }
 
-/// Whether a call was told this line, which is of this number.
+/// Whether a call has this line, which is of this number.
 fn is_noted(number: usize, line: &LineCopy, call: &Call, told: &Answered) -> bool
     ensures { IsTrue result
         ↔ (noted_line number line.now.step line.now.answer ≡ told_note call.now told.now) }

@@ -10,8 +10,8 @@ use std::alloc::Global;
 use std::marker::Model;
 use std::sync::ledger::{Book, Ledger, Share};
 
-/// What a core knows of its calls. Its share of the ledger counts the lines that it was told.
-/// Clauses see the core and the calls, newest first.
+/// What a core knows of its calls. Its share of the ledger counts the lines that it has. Clauses
+/// see the core and the calls, newest first.
 #[derive(Drop)]
 pub struct CoreSeat<G: Ledger> {
     core: CoreId,

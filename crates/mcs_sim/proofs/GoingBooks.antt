@@ -53,7 +53,7 @@ steps-longer (s ∷ ss) b before =
     (subst (λ (k : Book). IsLonger (Some (book_of b before)) (Some k)) (sym (book_of-end b before s)) (with_step-longer (book_of b before) s))
     (subst (λ (xs : List Step). IsLonger (Some (book_of b (before ++ s ∷ []))) (Some (book_of b xs))) (append_assoc before (s ∷ []) ss) (steps-longer ss b (before ++ s ∷ [])))
 
--- what stands next has a longer book
+-- what is next has a longer book
 abbrev LongerIn : Option Book → Result BootOrBook SimFault → Type 0
 LongerIn k (Ok s) = IsLonger k s.book
 LongerIn k (Err e) = Unit {0}
@@ -167,7 +167,7 @@ trace-more b c more boot lines =
 pub sent-more : (b c : Book) (more : List Line) → c.lines ≡ more ++ b.lines → sent_in 0 (reverse c.lines) ≡ sent_in (sent_in 0 (reverse b.lines)) (reverse more)
 sent-more b c more lines = ap (λ (ls : List Line). sent_in 0 (reverse ls)) lines ∙ ap (sent_in 0) (reverse-append more b.lines) ∙ sent_in-append (reverse b.lines) 0 (reverse more)
 
--- the lines behind those of a book
+-- the lines after those of a book
 pub drop-more : (b c : Book) (more : List Line) → c.lines ≡ more ++ b.lines → drop (length b.lines) (reverse c.lines) ≡ reverse more
 drop-more b c more lines =
     ap (λ (ls : List Line). drop (length b.lines) (reverse ls)) lines ∙ ap (drop (length b.lines)) (reverse-append more b.lines)

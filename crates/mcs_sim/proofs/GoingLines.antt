@@ -22,7 +22,7 @@ use Rattle.mcs_sim.specs.Trace.{sent_after, sent_in, line_trace, lines_trace, un
 use Rattle.mcs_phases.specs.Going.{BootOrBook, Course, stepped, stands, read_at, step_line, step_spelled, behind_boot, after_step, book_after, after_line_on, after_line, past_line, with_line, TakesLine}
 use Rattle.mcs_sim.proofs.GoingBooks.{drop-more, lines-next, lines-all}
 
--- of the line behind a boot that says a step that step is read
+-- of the line after a boot that says a step that step is read
 behind-boot : (k : Option Key) (r : Result Step LineFault) (s : Step) → behind_boot k r ≡ Ok (Some s) → r ≡ Ok s
 behind-boot (Some k) r s is = absurd cc
 behind-boot None (Err e) s is = absurd cc
@@ -71,7 +71,7 @@ with_step-read text t k s told is = go (may_enter (log_of k) s.core s.thread)
         let here : line_for s (does (log_of k) s.core s.thread s.entry) ≡ l = cc in
         ap (λ (l : Line). step_text l.step) (sym here) ∙ is
 
--- what stands next has at most a line more, whose step was read of this text
+-- what is next has at most a line more, whose step was read of this text
 abbrev ReadIn : List ℕ → Told → Result BootOrBook SimFault → Type 0
 ReadIn text t (Ok s) = IsReadOfAny text t s.book
 ReadIn text t (Err e) = Unit {0}

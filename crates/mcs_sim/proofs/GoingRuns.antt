@@ -148,7 +148,7 @@ pub ended-stopped : (g : Going) (e : SimFault) → g.course.fault ≡ Some e →
 unfolding ended
 ended-stopped g e is = ap (at_end g) is
 
--- a faulty line stands whatever follows
+-- a faulty line is the same whatever follows
 pub faulty-stands : (text more : List ℕ) (line : ℕ) (why : LineFault) → (fed (at_line no_line) text).course.fault ≡ Some (fault.Script line why) → (steps (text ++ more)).1 ≡ Some (line, why)
 faulty-stands text more line why ends =
     let same : fed (at_line no_line) (text ++ more) ≡ fed (at_line no_line) text = fed-append (at_line no_line) text more ∙ fed-stopped (fed (at_line no_line) text) (fault.Script line why) more ends in
@@ -217,7 +217,7 @@ of-text (t, Some (line, why)) c e (inr is) ends = let other : Some fault.BookFul
 begins-more : (a b : Option (List ℕ)) (x y rest : List ℕ) → Moves a b x rest → IsBeginning x y → Begins a b y
 begins-more a b x y rest moves is = (rest ++ is.0, record { sent = moves.sent; grown = moves.grown; split = is.1 ∙ ap (λ (l : List ℕ). l ++ is.0) moves.split ∙ append_assoc moves.sent rest is.0 })
 
--- a line's fault stands: the input has ended, or the fault came before
+-- a line's fault remains: the input has ended, or the fault came before
 named : (left : Option (List ℕ)) (g : Going) (text piece : List ℕ) (h : Going) (line : ℕ) (why : LineFault) → g ≡ fed (at_line no_line) text → (piece ≡ [] → IsAtEnd left) → TakesPiece g piece h → h.course.fault ≡ Some (fault.Script line why) → IsNamed left (text ++ piece) line why
 named left g text [] h line why is end takes ends = inl (end refl)
 named left g text (b ∷ bs) h line why is end (inl takes) ends =

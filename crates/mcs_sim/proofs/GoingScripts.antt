@@ -24,9 +24,9 @@ use Rattle.mcs_sim.specs.Outcomes.{boot_or_book_of, IsTakenToFull, ComesOfScript
 use Rattle.mcs_sim.proofs.ScriptLaws.{script_from-ok, script_from-err}
 use Rattle.mcs_sim.proofs.GoingLaws.{fed-stopped, fits-part, many-says, long-says}
 
--- ---- a line behind the boot
+-- ---- a line after the boot
 
--- a script behind its boot with a step more, if the line said one
+-- a script after its boot with a step more, if the line said one
 abbrev with_said : Boot → List Step → Result (Option Step) LineFault → Result (Script Step) LineFault
 with_said b ss (Ok None) = Ok (record { boot = Some b; items = ss })
 with_said b ss (Ok (Some y)) = Ok (record { boot = Some b; items = ss ++ y ∷ [] })
@@ -113,7 +113,7 @@ full-grows (x ∷ xs) ts n k m full = go (is_full_for k x) (full-grows xs ts (n 
 
 -- ---- a line of a script
 
--- steps are read behind a boot
+-- steps are read after a boot
 abbrev IsKnown : Option Boot → List Step → Type 0
 IsKnown None (s ∷ ss) = ⊥
 IsKnown _ _ = Unit {0}
@@ -137,7 +137,7 @@ abbrev AfterRead : ℕ → Script Step → Result BootOrBook SimFault → Result
 AfterRead n s r (Ok t) = GoesOn t r ⊎ IsFullNow s t r
 AfterRead n s r (Err e) = r ≡ Err (fault.Script n e)
 
--- after a step behind the boot
+-- after a step after the boot
 after-step : (n : ℕ) (b : Boot) (ss : List Step) (y : Step) (boot : Option Boot) → boot ≡ None → IsRoomy (Some b) ss
     → AfterRead n (record { boot = Some b; items = ss }) (stands boot (stepped (book_of b ss) y)) (Ok (record { boot = Some b; items = ss ++ y ∷ [] }))
 unfolding stepped book_of
@@ -187,7 +187,7 @@ after-opening n boot (Ok t) is = elim is [ inl none ↦ still none | inr first �
         (subst (λ (o : Option Boot). AfterRead n (record { boot = o; items = [] }) (opened (Some f.by) (f.first ∷ [])) (Ok (record { boot = Some f.by; items = f.first ∷ [] }))) (sym f.said)
         (after-step n f.by [] f.first None refl refl))
 
--- a line behind the boot
+-- a line after the boot
 after-behind : (n : ℕ) (b : Boot) (x : Step) (xs : List Step) → IsRoomy (Some b) (x ∷ xs) → (r : Result (Option Step) LineFault)
     → AfterRead n (record { boot = Some b; items = x ∷ xs }) (stands None (after_step (book_of b (x ∷ xs)) (read_at n r))) (with_said b (x ∷ xs) r)
 after-behind n b x xs roomy (Err e) = refl
@@ -210,7 +210,7 @@ after-read n s l known roomy = go s.boot s.items known roomy
 
 -- ---- lines
 
--- a script behind its boot that has grown by steps
+-- a script after its boot that has grown by steps
 Grown : Boot → List Step → Script Step → Type 0
 Grown b ss t = (t.boot ≡ Some b) × ((more : List Step) × (t.items ≡ ss ++ more))
 

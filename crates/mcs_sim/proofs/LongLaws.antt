@@ -1,4 +1,4 @@
--- What is said by a text that is too long stands whatever bytes follow.
+-- What is said by a text that is too long is the same whatever bytes follow.
 use Rattle.std.proofs.Common.{◌≡◌, ℕ, ◌+◌, ◌*◌, ◌<◌, ◌≤◌, ◌⊎◌, inl, inr, Bool, true, false, ltb, eqb, Result, Ok, Err, List, [], ◌∷◌, ◌++◌, length, refl, sym, ap, ◌∙◌, arith}
 use Rattle.std.proofs.lemmas.Bool.{lt-ltb, ltb-true, ltb-false}
 use Rattle.std.proofs.lemmas.List.{length-append}
@@ -12,14 +12,14 @@ use Rattle.mcs_sim.proofs.ScriptLaws.{script_from-ok, script_from-err}
 
 -- ---- lines that go on
 
--- the same lines, the last of which may go on, and lines behind them
+-- the same lines, the last of which may go on, and lines after them
 abbrev Extends : List (List ℕ) → List (List ℕ) → Type 0
 Extends [] ms = Unit {0}
 Extends (l ∷ ls) [] = ⊥
 Extends (l ∷ []) (m ∷ ms) = (more : List ℕ) × (m ≡ l ++ more)
 Extends (l ∷ k ∷ ls) (m ∷ ms) = (m ≡ l) × Extends (k ∷ ls) ms
 
--- behind an empty line
+-- after an empty line
 extends-empty : (ls ms : List (List ℕ)) → Extends ls ms → Extends ([] ∷ ls) ([] ∷ ms)
 extends-empty [] ms e = ([], refl)
 extends-empty (l ∷ ls) ms e = (refl, e)
@@ -41,9 +41,9 @@ lines-extend (b ∷ bs) more = go (lines-extend bs more) (eqb b 10) refl
     go rest true e = rw (lines-byte b bs true e, lines-byte b (bs ++ more) true e) (extends-empty (lines_of bs) (lines_of (bs ++ more)) rest)
     go rest false e = rw (lines-byte b bs false e, lines-byte b (bs ++ more) false e) (extends-onto b (lines_of bs) (lines_of (bs ++ more)) rest)
 
--- ---- faults that stand
+-- ---- faults that remain
 
--- a line behind the last
+-- a line after the last
 many : {T : Type 0} (grammar : Grammar T) (s : Script T) (n : ℕ) (line : List ℕ) → 2000000 < n → read_line grammar s n line ≡ Err ManyLines
 unfolding read_line
 many {T = T} grammar s n line lt = rw (lt-ltb 2000000 n lt) refl
@@ -80,7 +80,7 @@ last-stands {T = T} grammar s n l m more ms goes le too = go (ltb 2000000 n) ref
     go true e = let over : 2000000 < n = ltb-true _ _ e in refused grammar s n l m [] ms ManyLines (many grammar s n l over) (many grammar s n m over)
     go false e = short (ltb-false _ _ e) (ltb 4096 (length l)) refl
 
--- a line that is taken leaves those behind it too long
+-- a line that is taken leaves those after it too long
 long-next : (n : ℕ) (l : List ℕ) (ls : List (List ℕ)) → length l ≤ 4096 → LongFrom n (l ∷ ls) → LongFrom (n + 1) ls
 unfolding LongFrom total
 long-next n l ls fits too = elim too [ inl lines ↦ inl (omega (arith, lines)) | inr bytes ↦ inr (omega (arith, bytes, fits)) ]
@@ -101,7 +101,7 @@ lines-stand {T = T} grammar (l ∷ k ∷ ls) (m ∷ ms) s n e le too =
         let rest = next t (omega (arith, w.0)) (long-next n l (k ∷ ls) w.1 too) in
         script_from-ok grammar s t n l ms is ∙ rest ∙ sym (script_from-ok grammar s t n l (k ∷ ls) is)
 
--- the law: what a text says that is too long stands whatever follows
+-- the law: what a text says that is too long is the same whatever follows
 pub long-stands : {T : Type 0} (grammar : Grammar T) (text more : List ℕ) → IsTooLong text → script_of grammar (text ++ more) ≡ script_of grammar text
 unfolding LongFrom script_of
 long-stands {T = T} grammar text more too =

@@ -21,7 +21,7 @@ puts_nothing f s = Puts-nil f s
 pub puts_after : {W : Type 0} (f : W → Option (List ℕ)) (s t v : Sink W) (text : List ℕ) → Puts f s t text → Puts f t v [] → Puts f s v text
 puts_after f s t v text puts sent = Puts-text f s v (text ++ []) text (Puts-then f s t v text [] puts sent) (append-nil text)
 
--- what stands within a list is there
+-- what is within a list is there
 pub none-past : {X : Type 0} (xs : List X) (i : ℕ) → None ≡ slice_get xs i → i < length xs → ⊥
 none-past xs i none lt =
     elim (slice_get_cases xs i).1 [

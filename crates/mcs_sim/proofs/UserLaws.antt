@@ -136,7 +136,7 @@ fault-long u part kept plain some few over = fault-part u part why.LongLine kept
 
 -- ---- a whole line
 
--- a line, its newline and any text, behind what was kept
+-- a line, its newline and any text, after what was kept
 cut-line : (kept part line more : List ℕ) → line ≡ kept ++ part → kept ++ (part ++ 10 ∷ []) ++ more ≡ line ++ 10 ∷ more
 cut-line kept part line more is =
     ap (λ (l : List ℕ). l ++ more) (sym (append_assoc kept part (10 ∷ []))) ∙ append_assoc (kept ++ part) (10 ∷ []) more ∙ ap (λ (l : List ℕ). l ++ 10 ∷ more) (sym is)
@@ -187,7 +187,7 @@ takes-append u v w xs ys one two = record {
   reads = λ more. ap (read_behind u) (append_assoc one.ended two.ended more) ∙ one.reads (two.ended ++ more) ∙ two.reads more;
 }
 
--- the bytes behind those that were taken
+-- the bytes after those that were taken
 behind : (u v : Users) (xs ys more : List ℕ) → (t : TakesUsers xs u v) → u.line ++ (xs ++ ys) ++ more ≡ t.ended ++ (v.line ++ ys ++ more)
 behind u v xs ys more t =
     ap (λ (l : List ℕ). l ++ more) (sym (append_assoc u.line xs ys) ∙ ap (λ (l : List ℕ). l ++ ys) t.split ∙ append_assoc t.ended v.line ys) ∙ append_assoc t.ended (v.line ++ ys) more
@@ -211,7 +211,7 @@ fault-before u xs ys fault.BookFull bad = absurd bad
 fault-before u xs ys fault.OutOfMemory bad = tt
 fault-before u xs ys fault.Failed bad = absurd bad
 
--- a fault of a piece, in the line that ends behind what was taken of it
+-- a fault of a piece, in the line that ends after what was taken of it
 pub fault-within : (u v : Users) (piece before line rest : List ℕ) (e : SimFault) → piece ≡ before ++ (line ++ rest) → TakesUsers before u v → IsFaultIn line v e → IsFaultIn piece u e
 fault-within u v piece before line rest e split takes bad =
     subst (λ (l : List ℕ). IsFaultIn l u e) (sym split) (fault-behind u v before (line ++ rest) e takes (fault-before v line rest e bad))
@@ -325,13 +325,13 @@ goes-on asked text u takes kept = record {
     few (inl none) = omega (arith, all, none, kept.few)
     few (inr one) = omega (arith, all, one.1, kept.room one.0)
 
--- a fault of a piece stands in the text with it
+-- a fault of a piece is in the text with it
 stands-in : (asked : Option ℕ) (text piece : List ℕ) (u : Users) (line : ℕ) (e : LineFault) → TakesUsers text (no_users asked) u → IsFaultIn piece u (fault.Script line e)
     → (more : List ℕ) → (users asked ((text ++ piece) ++ more)).1 ≡ Some (line, e)
 unfolding script_of
 stands-in asked text piece u line e takes bad more = fault-behind (no_users asked) u text piece (fault.Script line e) takes bad more
 
--- a piece is read behind what gave no fault
+-- a piece is read after what gave no fault
 pub stops-in : (asked : Option ℕ) (text piece : List ℕ) (u : Users) → TakesUsers text (no_users asked) u → IsKept u.lines u.line → length piece ≤ 4096 → UsersStopSoon asked (text ++ piece)
 stops-in asked text piece u takes kept few = record { before = text; piece = piece; split = refl; few = few; goes = goes-on asked text u takes kept }
 

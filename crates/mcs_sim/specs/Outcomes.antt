@@ -9,7 +9,7 @@ use Rattle.mcs_phases.specs.Script.{Script}
 use Rattle.mcs_sim.specs.Runs.{IsFullAt, IsRoomy}
 use Rattle.mcs_phases.specs.Going.{BootOrBook, Course, not_begun}
 
--- what stands after the lines of a script
+-- what is after the lines of a script
 abbrev pub boot_or_book_of : Option Boot → List Step → BootOrBook
 boot_or_book_of boot [] = record { boot = boot; book = None }
 boot_or_book_of None (s ∷ ss) = not_begun

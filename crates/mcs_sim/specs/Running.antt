@@ -27,8 +27,8 @@ pub record Reads (asked : Option ℕ) (left left' : Option (List ℕ)) (boot : B
   pub ended : IsAtEnd left'
   pub faultless : users asked text ≡ (record { boot = Some boot; items = entries }, None)
 
--- an input was read to a faulty line: the input has ended, or the fault stands, whatever follows;
--- and at most a piece was read behind what gave no fault
+-- an input was read to a faulty line: the input has ended, or the fault remains, whatever follows;
+-- and at most a piece was read after what gave no fault
 pub record ReadsTo (line : ℕ) (why : LineFault) (asked : Option ℕ) (left left' : Option (List ℕ)) : Type 0 where
   pub text : List ℕ
   pub read : Consumes left left' text
@@ -36,7 +36,7 @@ pub record ReadsTo (line : ℕ) (why : LineFault) (asked : Option ℕ) (left lef
   pub named : IsAtEnd left' ⊎ ((more : List ℕ) → (users asked (text ++ more)).1 ≡ Some (line, why))
   pub faulty : (users asked text).1 ≡ Some (line, why)
 
--- part of an input was read, at most a piece of it behind what gave no fault
+-- part of an input was read, at most a piece of it after what gave no fault
 abbrev pub ReadsPart : (asked : Option ℕ) (left left' : Option (List ℕ)) → Type 0
 ReadsPart asked left left' = (text : List ℕ) × Consumes left left' text × UsersStopSoon asked text
 
@@ -51,13 +51,13 @@ EndsUsers fault.Read asked left left' = ReadsPart asked left left'
 EndsUsers fault.OutOfMemory asked left left' = ReadsPart asked left left'
 EndsUsers _ asked left left' = ⊥
 
--- how the program tells why a run ended early
+-- how the program says why a run ended early
 abbrev pub run_fault : RunFault → SimFault
 run_fault run.BookFull = fault.BookFull
 run_fault run.OutOfMemory = fault.OutOfMemory
 run_fault run.NoThread = fault.Failed
 
--- how the program tells why a machine did not settle
+-- how the program says why a machine did not settle
 abbrev pub finish_fault : FinishFault → SimFault
 finish_fault finish.OutOfMemory = fault.OutOfMemory
 finish_fault _ = fault.Failed
@@ -95,7 +95,7 @@ pub record RunWrites (asked : Option ℕ) (left left' out out' : Option (List �
   pub wrote : Begins out out' (trace book)
 
 -- what a run leaves that ended early: nothing was written, but where the writing itself failed.
--- Memory may be refused while users are read, or behind that
+-- Memory may be refused while users are read, or after that
 abbrev pub RunEnds : SimFault → (asked : Option ℕ) (left left' out out' : Option (List ℕ)) → Type 0
 RunEnds fault.Argument asked left left' out out' = ⊥
 RunEnds (fault.Script line why) asked left left' out out' = ReadsTo line why asked left left' × Appends out out' []

@@ -21,7 +21,7 @@ unfoldable pub script_trace : Option Boot → List Step → List ℕ
 script_trace None ss = []
 script_trace (Some b) ss = trace (book_of b ss)
 
--- what is written before a faulty line: nothing where that stands in the boot, as no step was read
+-- what is written before a faulty line: nothing where that is in the boot, as no step was read
 unfoldable pub trace_before : Option Boot → List Step → List ℕ
 trace_before b [] = []
 trace_before b (s ∷ ss) = script_trace b (s ∷ ss)
@@ -102,8 +102,7 @@ pub record Finishes (left left' out out' : Option (List ℕ)) : Type 0 where
 abbrev pub TellsMore : {W : Type 0} → (W → Option (List ℕ)) → (old new : Sink W) → (before after : Option Book) → Type 0
 TellsMore contents old new before after = (more : List ℕ) × (trace_of after ≡ trace_of before ++ more) × Puts contents old new more
 
--- what the trace of a book has more than that of one before was written behind what a sink kept
--- back
+-- what the trace of a book has more than that of one before was written after what a sink kept back
 abbrev pub WritesMore : {W : Type 0} → (W → Option (List ℕ)) → (old new : Sink W) → (before after : Option Book) → Type 0
 WritesMore contents old new before after = (more : List ℕ) × (trace_of after ≡ trace_of before ++ more) × Appends (contents old.writer) (contents new.writer) (kept old ++ more)
 
@@ -116,11 +115,11 @@ abbrev pub answer_with : Bool → Option SimFault → Result (Unit {0}) SimFault
 answer_with true f = Err fault.Write
 answer_with false f = answer_of f
 
--- the fault of a line stands: the input has ended, or no bytes that follow change it
+-- the fault of a line remains: the input has ended, or no bytes that follow change it
 abbrev pub IsNamed : (left : Option (List ℕ)) (text : List ℕ) (line : ℕ) (why : LineFault) → Type 0
 IsNamed left text line why = IsAtEnd left ⊎ ((more : List ℕ) → (steps (text ++ more)).1 ≡ Some (line, why))
 
--- reading stops soon: within a piece of 4,096 bytes, at most, behind what gave no fault
+-- reading stops soon: within a piece of 4,096 bytes, at most, after what gave no fault
 pub record StopsSoon (text : List ℕ) : Type 0 where
   pub before : List ℕ
   pub piece : List ℕ
@@ -128,7 +127,7 @@ pub record StopsSoon (text : List ℕ) : Type 0 where
   pub few : length piece ≤ 4096
   pub goes : (fed (at_line no_line) before).course.fault ≡ None
 
--- a text was read from an input, at most a piece of it behind a fault
+-- a text was read from an input, at most a piece of it after a fault
 pub record ReadsText (left left' : Option (List ℕ)) (text : List ℕ) : Type 0 where
   pub read : Consumes left left' text
   pub stops : StopsSoon text

@@ -60,7 +60,7 @@ abbrev pub told_of : Option Book → Told
 told_of None = record { lines = 0; sent = 0 }
 told_of (Some b) = all_told b
 
--- the lines of a book behind those that were told
+-- the lines of a book after those that were told
 abbrev pub untold_lines : Told → Book → List Line
 untold_lines t b = drop (t.lines - 1) (reverse b.lines)
 

@@ -46,7 +46,7 @@ pub record TakesUsers (bytes : List ℕ) (old new : Users) : Type 0 where
   pub short : old.lines * (SCRIPT_LINE_BYTES + 1) + length ended ≤ new.lines * (SCRIPT_LINE_BYTES + 1)
   pub reads : (more : List ℕ) → read_behind old (ended ++ more) ≡ read_behind new more
 
--- a fault that stands in these bytes, whatever follows; nothing is said where memory was refused
+-- a fault that these bytes have, whatever follows; nothing is said where memory was refused
 abbrev pub IsFaultIn : (bytes : List ℕ) → Users → SimFault → Type 0
 IsFaultIn bytes u (fault.Script line why) = (more : List ℕ) → (read_behind u (u.line ++ bytes ++ more)).1 ≡ Some (line, why)
 IsFaultIn bytes u fault.OutOfMemory = Unit {0}
@@ -84,7 +84,7 @@ pub record GoesOn (asked : Option ℕ) (text : List ℕ) : Type 0 where
   pub short : length last ≤ SCRIPT_LINE_BYTES
   pub few : length (lines_of text) ≤ SCRIPT_LINES
 
--- reading users stops soon: within one piece, at most, behind what gave no fault
+-- reading users stops soon: within one piece, at most, after what gave no fault
 pub record UsersStopSoon (asked : Option ℕ) (text : List ℕ) : Type 0 where
   pub before : List ℕ
   pub piece : List ℕ

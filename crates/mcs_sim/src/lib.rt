@@ -12,7 +12,7 @@
 //! what each piece adds to the trace before it reads on. The lower way is `run_text`: `users` reads
 //! to the end, and `running` runs what all users said on a machine and writes then. `Source` tries
 //! a read again that is interrupted, `Script` says what a line says, and `writing` writes the trace
-//! of a book, or what of it was not told. `startup` tells how the program ends. `laws` has what
+//! of a book, or what of it was not written. `startup` tells how the program ends. `laws` has what
 //! holds of all texts, however they are cut.
 #![tactic(auto)]
 

@@ -16,7 +16,7 @@ use std::alloc::Global;
 use std::io::{Read, Write};
 use std::marker::Model;
 
-/// Puts what of a run's book was not told, if it has one.
+/// Puts what of a run's book was not written yet, if it has one.
 #[tactic(auto, using(crate::proofs::TraceLaws::puts_nothing))]
 fn put_more<W: Write>(to: &mut Sink<W>, told: &mut Told, run: &ReplayRun)
     requires told { IsToldUpTo told.old run.now.course.stands.book }
@@ -29,8 +29,8 @@ fn put_more<W: Write>(to: &mut Sink<W>, told: &mut Told, run: &ReplayRun)
     }
 }
 
-/// Puts what of a run's book was not told, if it has one, where the step of a single line more was
-/// read of this text.
+/// Puts what of a run's book was not written yet, if it has one, where the step of a single line
+/// more was read of this text.
 #[tactic(auto, using(crate::proofs::TraceLaws::puts_nothing))]
 fn put_line<W: Write>(to: &mut Sink<W>, told: &mut Told, run: &ReplayRun, text: &[u8])
     requires told { IsToldUpTo told.old run.now.course.stands.book }
@@ -150,10 +150,10 @@ impl TracedRun {
     }
 
     /// Takes a piece of a script, or its end where the piece is empty, and writes what it adds to
-    /// the trace: the boot once that has ended, and each line of the book. So who asks for more
-    /// only then has written the trace of all lines so far. Fault Write where a call of the writer
-    /// failed; else the fault of the script, after which the trace of the steps before it is
-    /// written.
+    /// the trace: the boot once that has ended, and each line of the book. So a caller that asks
+    /// for more only then has written the trace of all lines so far. Fault Write where a call of
+    /// the writer failed; else the fault of the script, after which the trace of the steps before
+    /// it is written.
     pub fn take_piece<W: Write>(
         &mut self,
         alloc: Global,

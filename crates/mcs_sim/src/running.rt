@@ -138,10 +138,10 @@ fn run_users<X: Threads + Wait + Sync, T: Gate>(
 /// Write a beginning of such a trace is written, and after any other fault nothing: Script where a
 /// line is faulty, OutOfMemory where memory was refused while users were read or after that,
 /// BookFull where the book had no room for an entry, Failed where a host thread was not started or
-/// the book does not agree with what the cores were told. Nothing is read after the piece of at
-/// most 4,096 bytes in which a fault is: that of a line comes with its newline, its 4,097th byte,
-/// or the first byte of line 2,000,001. The gate is called as `Machine::run` says. Reads and writes
-/// are tried again as `simulate` does.
+/// the book does not agree with the calls of the cores. Nothing is read after the piece of at most
+/// 4,096 bytes in which a fault is: that of a line comes with its newline, its 4,097th byte, or the
+/// first byte of line 2,000,001. The gate is called as `Machine::run` says. Reads and writes are
+/// tried again as `simulate` does.
 pub fn run_text<R: Read, W: Write, X: AllocGlobal + Threads + Wait + Sync, T: Gate>(
     rt: &X,
     from: &mut Source<R>,

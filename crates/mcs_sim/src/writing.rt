@@ -60,7 +60,7 @@ fn put_records<W: Write>(
     count
 }
 
-/// Writes a line before which so many messages were sent, and returns how many were sent with it.
+/// Writes a line. `sent` counts the messages sent before it; returns the count after it.
 #[inline(always)]
 fn put_book_line<W: Write>(sink: &mut Sink<W>, sent: u128, line: &Line<'_>) -> u128
     requires { sent + 2 ^ 64 < 2 ^ 128 }
@@ -93,7 +93,7 @@ fn put_read_line<W: Write>(sink: &mut Sink<W>, sent: u128, line: &Line<'_>, text
     put_records(sink, sent, line, Some(&read))
 }
 
-/// How much of a book's trace was told: so many of its lines, with that of the boot, and so many
+/// How much of a book's trace was written: so many of its lines, with that of the boot, and so many
 /// messages sent with them.
 #[derive(Clone, Copy)]
 pub struct Told {
@@ -110,8 +110,8 @@ impl Told {
     }
 }
 
-/// Puts the lines after those that were told, and returns how many messages were sent with all of
-/// them.
+/// Puts the lines after those that were written, and returns how many messages were sent with all
+/// of them.
 // a part of its caller, as what it calls is: the parts of a line that is kept stay in registers
 #[inline(always)]
 fn put_lines<W: Write>(sink: &mut Sink<W>, told: Told, book: &Book) -> u128
@@ -133,7 +133,7 @@ fn put_lines<W: Write>(sink: &mut Sink<W>, told: Told, book: &Book) -> u128
     sent
 }
 
-/// Puts the lines of the boot, where nothing was told.
+/// Puts the lines of the boot, where nothing was written.
 fn put_untold_boot<W: Write>(sink: &mut Sink<W>, told: Told, book: &Book)
     ensures { Puts W.contents sink.old sink.new (untold_boot told book.now.book) }
 {
@@ -144,7 +144,7 @@ fn put_untold_boot<W: Write>(sink: &mut Sink<W>, told: Told, book: &Book)
     put_boot(sink, book.boot());
 }
 
-/// Puts what of a book's trace was not told, so that all of it is reported then.
+/// Puts what of a book's trace was not written yet, so that all of it is.
 #[tactic(auto, unfolding(crate::specs::Trace::untold))]
 pub fn put_untold<W: Write>(sink: &mut Sink<W>, told: &mut Told, book: &Book)
     requires told { IsToldOf told.old book.now.book }
@@ -157,8 +157,8 @@ pub fn put_untold<W: Write>(sink: &mut Sink<W>, told: &mut Told, book: &Book)
     told.lines = book.lines();
 }
 
-/// Puts what of a book's trace was not told, as `put_untold` does. The step of a single line that
-/// the book has more was read of this text, which is its line, so it is not spelled again.
+/// Puts what of a book's trace was not written yet, as `put_untold` does. The step of a single line
+/// that the book has more was read of this text, which is its line, so it is not spelled again.
 #[tactic(auto, unfolding(crate::specs::Trace::untold))]
 pub fn put_read<W: Write>(sink: &mut Sink<W>, told: &mut Told, book: &Book, text: &[u8])
     requires told { IsToldOf told.old book.now.book }

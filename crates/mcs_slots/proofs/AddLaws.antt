@@ -12,12 +12,12 @@ use Rattle.mcs_slots.specs.Numbers.{number_of}
 use Rattle.mcs_slots.specs.Pages.{Page, empty_page, page_of, page_radix, page_slot, radix_of, slot_at, held}
 use Rattle.mcs_slots.proofs.SlotLaws.{same-numbers, other-object}
 
--- behind the last page there is none
+-- after the last page there is none
 page-none : (S : List Page) → slice_get S (length S) ≡ None
 page-none [] = refl
 page-none (q ∷ qs) = page-none qs
 
--- a page that is added stands there
+-- a page that is added is there
 page-last : (S : List Page) (p : Page) → slice_get (S ++ p ∷ []) (length S) ≡ Some p
 page-last [] p = refl
 page-last (q ∷ qs) p = page-last qs p
@@ -41,7 +41,7 @@ page-more S p n =
           rw other (page-other S p n ne)
     ]
 
--- the same stands at each index of equal slots, and behind them
+-- the same is at each index of equal slots, and after them
 equal-slot : (n i : ℕ) (x : Option Cap) → slice_index_or (replicate n x) i x ≡ x
 equal-slot zero i x = refl
 equal-slot (suc n) zero x = refl

@@ -152,7 +152,7 @@ each-set P (x ∷ xs) (suc k) t here other (suc b) u h =
 not-there : (T : List Tally) (k b : ℕ) (t : Tally) → slice_get T k ≡ None → slice_get T b ≡ Some t → b ≢ k
 not-there T k b t none at e = absurd (let both : None ≡ Some t = sym none ∙ ap (slice_get T) (sym e) ∙ at in cc)
 
--- a slot lets go of what it held
+-- a slot drops what it held
 let-go : (x : Option Cap) (T U : List Tally) (old new : List Page) → OneMore new x old → Tells T old → LetsGo T x U → Tells U new
 let-go None T U old new less told is b t found =
     let at : slice_get T b ≡ Some t = ap (λ ts. slice_get ts b) (sym is) ∙ found in

@@ -19,7 +19,7 @@ enum Fields {
 }
 
 /// A capability, or none, with its fields side by side: half the size of an `Option<Cap>`, so that
-/// twice as many slots stand in the processor's caches.
+/// twice as many slots are in the processor's caches.
 #[derive(Clone, Copy)]
 pub(crate) struct Cell {
     fields: Fields,

@@ -76,7 +76,7 @@ impl Page {
         Ok(Page { radix, caps })
     }
 
-    /// A page like this one, in the memory of a spare one. OutOfMemory where memory is refused.
+    /// Clones the page in the memory of a spare one. OutOfMemory where memory is refused.
     pub(crate) fn copy(&self, alloc: Global, spare: Option<Page>) -> Result<Page, OutOfMemory>
         ensures { IfOk result (λ p. p ≡ self.now) }
     {

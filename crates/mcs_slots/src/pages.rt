@@ -25,7 +25,7 @@ impl Model for Pages {
     ghost invariant = { λ s. (length s.pages.items ≤ 64) × ArePages s.pages.items };
 }
 
-/// Where the page of a CNode stands, if it can be one.
+/// Where the page of a CNode is, if it can be one.
 fn page_number(cnode: ObjId) -> Option<usize>
     ensures { result ≡ number_of cnode }
 {
@@ -38,7 +38,7 @@ fn page_number(cnode: ObjId) -> Option<usize>
     Some((cnode.serial - 1) as usize)
 }
 
-/// Pages like these, in the memory of spare ones.
+/// Clones the pages in the memory of spare ones.
 fn copied_pages(alloc: Global, spare: Vec<Page>, pages: &[Page]) -> Result<Vec<Page>, OutOfMemory>
     ensures { IfOk result (λ v. v.items ≡ pages.now) }
 {
@@ -68,7 +68,7 @@ impl Pages {
         Ok(Pages { pages })
     }
 
-    /// Pages like these, in the memory of spare ones. OutOfMemory where memory is refused.
+    /// Clones the pages in the memory of spare ones. OutOfMemory where memory is refused.
     pub(crate) fn copy(&self, alloc: Global, spare: Option<Pages>) -> Result<Pages, OutOfMemory>
         ensures { IfOk result (λ s. s ≡ self.now) }
     {
@@ -97,7 +97,8 @@ impl Pages {
         Ok(())
     }
 
-    /// There are 64 CNodes at most, each with a radix from 1 to 8 and with 2 to the radix slots.
+    /// Proves that there are at most 64 CNodes, each with a radix from 1 to 8 and with 2 to the
+    /// radix slots.
     pub(crate) fn are_pages(&self)
         ensures few { length self.now ≤ 64 }
         ensures pages { ArePages self.now }

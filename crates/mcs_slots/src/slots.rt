@@ -42,7 +42,7 @@ pub struct Slots {
 }
 
 // By hand, so that it is a function of its own: a derived drop would be proved anew wherever it is
-// let go.
+// dropped.
 impl Drop for Slots {
     fn drop(self) {
         let Slots {
@@ -88,7 +88,7 @@ impl Slots {
         (pages, tallies)
     }
 
-    /// Slots like these, in the memory of spare ones. OutOfMemory where memory is refused.
+    /// Clones the slots in the memory of spare ones. OutOfMemory where memory is refused.
     pub fn copy_all(&self, alloc: Global, spare: Option<Slots>) -> Result<Slots, OutOfMemory>
         ensures { IfOk result (λ s. s ≡ self.now) }
     {
@@ -119,7 +119,8 @@ impl Slots {
         Ok(())
     }
 
-    /// There are 64 CNodes at most, each with a radix from 1 to 8 and with 2 to the radix slots.
+    /// Proves that there are at most 64 CNodes, each with a radix from 1 to 8 and with 2 to the
+    /// radix slots.
     pub fn are_pages(&self)
         ensures few { length self.now ≤ 64 }
         ensures pages { ArePages self.now }

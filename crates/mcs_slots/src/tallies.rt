@@ -89,7 +89,7 @@ impl Tally {
         self.held as u32
     }
 
-    /// One capability to an object of its bucket less.
+    /// Counts one capability less to an object of its bucket.
     fn count_down(&mut self, obj: ObjId)
         ensures { self.new ≡ one_less obj self.old }
     {
@@ -99,8 +99,9 @@ impl Tally {
         self.total = self.total.saturating_sub(1);
     }
 
-    /// One capability to an object of its bucket more. The object is its owner from now on where no
-    /// slot held a capability to one of them. The slots are too few for a count to be cut off.
+    /// Counts one capability more to an object of its bucket. The object owns the bucket from now
+    /// on, where no slot held a capability to one of the bucket's objects. The slots are too few
+    /// for a count to be cut off.
     fn count_up(&mut self, obj: ObjId)
         ensures { self.new ≡ one_more obj self.old }
     {
@@ -141,8 +142,8 @@ impl Tallies {
         })
     }
 
-    /// The tallies of the first buckets, in the memory of spare ones. OutOfMemory where memory is
-    /// refused.
+    /// Clones the tallies of the first buckets in the memory of spare ones. OutOfMemory where
+    /// memory is refused.
     pub(crate) fn copy(&self, alloc: Global, spare: Option<Tallies>) -> Result<Tallies, OutOfMemory>
         ensures { IfOk result (λ t. AreFrom t self.now) }
     {
@@ -163,7 +164,7 @@ impl Tallies {
         self.tallies.get(bucket_of(obj)).copied()
     }
 
-    /// A slot no longer holds what it held.
+    /// Counts what a slot no longer holds.
     pub(crate) fn let_go(&mut self, cap: &Option<Cap>)
         ensures { LetsGo self.old cap.now self.new }
     {
@@ -175,7 +176,7 @@ impl Tallies {
         }
     }
 
-    /// An empty slot holds this.
+    /// Counts what an empty slot comes to hold.
     pub(crate) fn count(&mut self, cap: &Option<Cap>)
         ensures { Counts self.old cap.now self.new }
     {

@@ -22,7 +22,7 @@ pub enum ReadFault {
 /// How many bytes are asked for at once.
 pub const PIECE: usize = 4_096;
 
-/// One read, tried again where it is interrupted, a bounded number of times.
+/// Reads once; a read that is interrupted is tried again, a bounded number of times.
 fn read_some<R: Read>(reader: &mut R, failed: &mut u64, buf: &mut [u8]) -> Result<usize, ReadFault>
     ensures ok { IfOk result (λ n. n ≤ length buf.new) }
     ensures consumed { IfOk result (λ n. Consumes (R.remaining reader.old) (R.remaining reader.new)
@@ -66,7 +66,7 @@ impl<R> Source<R> {
 impl<R: Read> Source<R> {
     ghost use Rattle.mcs_source.specs.Input.{Reads};
 
-    /// The next bytes, as many as one read gives, and none at the end of the input.
+    /// Reads the next bytes, as many as one read gives, and none at the end of the input.
     pub fn read_piece(&mut self, piece: &mut [u8]) -> Result<usize, ReadFault>
         requires some { 0 < length piece.old }
         ensures ok { IfOk result (λ n. n ≤ length piece.new) }

@@ -52,7 +52,7 @@ use Rattle.mcs_state.proofs.ThereLaws.{there}
 pub never-rowless : (R : Log) (t : ObjId) → Sound R → IsThere R kind.Thread t → None ≡ row_said R t → ⊥
 never-rowless R t sound there none = let no : true ≡ false = sym there.1 ∙ rowless R t sound there.0 none in absurd cc
 
--- what has no row stands in no queue
+-- what has no row is in no queue
 pub unqueued : (R : Log) (t : ObjId) → Sound R → None ≡ row_said R t → None ≡ queue_of R t
 unqueued R t sound none = go (queue_of R t) refl
   where
@@ -85,7 +85,7 @@ pub first-is : (R : Log) (q : Queue) (ws : List Waiter) → Sound R → ws ≡ g
 unfolding first_in
 first-is R q ws sound e = ap (λ vs. head_of (threads_in vs)) e ∙ sym (ap (λ ts. head_of ts) (queued_in-growing R q sound))
 
--- the thread behind another in the table is the next in order
+-- the thread after another in the table is the next in order
 pub next-is : (R : Log) (t : ObjId) (o : Option Queue) (line : Queue → List Waiter) → Sound R → o ≡ queue_of R t → ((q : Queue) → line q ≡ growing_queue R q) → behind_in o line t ≡ next_of R t
 unfolding next_of
 next-is R t o line sound e lines = go o ∙ ap (λ k. next_in R k t) e

@@ -42,11 +42,11 @@ find-same : (p q : ObjId → Bool) (xs : List ObjId) → ((x : ObjId) → p x �
 find-same p q [] h = refl
 find-same p q (x ∷ xs) h = rw (h x, find-same p q xs h) refl
 
--- whether t stands with r
+-- whether t is queued with r
 abbrev stands_with : Log → ObjId → ObjId → Bool
 stands_with R r t = is_receiving R t && is_just (reply_with R t) r
 
--- whether a record makes nothing, and leaves who stands in which queue
+-- whether a record makes nothing, and leaves who is in which queue
 abbrev is_unmoving : Rec → Bool
 is_unmoving (rec.Made o f) = false
 is_unmoving (rec.Joins t q reply) = false
@@ -229,7 +229,7 @@ joined R v w u (Receivers e) None sound ok h a = aside R v w u (Receivers e) Non
 joined R v w u (Senders e) reply sound ok h a = aside R v w u (Senders e) reply ok.1.0 (λ x. refl) h a
 joined R v w u (Waiters n) reply sound ok h a = aside R v w u (Waiters n) reply ok.1.0 (λ x. refl) h a
 
--- nobody stands with a reply object once its receiver left
+-- nobody is queued with a reply object once its receiver left
 unattended : (R : Log) (u r e : ObjId) → Sound R → queue_of R u ≡ Some (Receivers e) → reply_with R u ≡ Some r → receiver_with (rec.Parts u (Receivers e) ∷ R) r ≡ None
 unattended R u r e sound stands named = go (receiver_with (rec.Parts u (Receivers e) ∷ R) r) refl
   where
@@ -299,7 +299,7 @@ named-there R v (Receivers e) None a h = tt
 named-there R v (Senders e) reply a h = tt
 named-there R v (Waiters n) reply a h = tt
 
--- and so is the one with which it stands
+-- and so is the one with which it is
 pub attended-there : (R : Log) (v : Owing) (u : ObjId) (q : Queue) → Sound R → queue_of R u ≡ Some q → RepliesAgree v R → IfSome (attended q (reply_with R u)) (λ r. has_reply v r ≡ true)
 attended-there R v u (Receivers e) sound stands a = go (reply_with R u) refl
   where

@@ -149,7 +149,7 @@ unowed R t sound h = go (owing R t) refl
     go None e = refl
     go (Some r) e = let no : true ≡ false = sym (owed-made R r t sound (owing-owed R t r e)) ∙ h in absurd cc
 
--- nor who stands in a queue
+-- nor who is in a queue
 pub standing-unowed : (R : Log) (t : ObjId) (q : Queue) → Sound R → queue_of R t ≡ Some q → owing R t ≡ None
 standing-unowed R t q sound h = go (owing R t) refl
   where

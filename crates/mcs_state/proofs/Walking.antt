@@ -38,7 +38,7 @@ ends-in t ts [] e = absurd cc
 ends-in t ts (x ∷ xs) (inl e) = let it : t ≡ x = cc in inl it
 ends-in t ts (x ∷ xs) (inr e) = inr (ends-in t ts xs e)
 
--- behind a thread of a list in order comes the first of its rest
+-- after a thread of a list in order comes the first of its rest
 next-behind : (R : Log) (t : ObjId) (ts xs : List ObjId) → Sorted (is_ahead R) xs → Ends (t ∷ ts) xs → next_among t xs ≡ head_of ts
 next-behind R t ts [] s e = absurd cc
 next-behind R t ts (x ∷ xs) s (inl e) =
@@ -51,7 +51,7 @@ next-behind R t ts (x ∷ xs) s (inr e) = go (same t x) refl (next-behind R t ts
     go false other h = h
     go true it h = absurd (ahead-irreflexive R x (sym (ap (λ u. is_ahead R x u) (same-equal t x it)) ∙ ahead-in (is_ahead R) x xs t s.0 (ends-in t ts xs e)))
 
--- who stands behind a thread of a queue
+-- who follows a thread of a queue
 next-in_queue : (R : Log) (q : Queue) (t : ObjId) (ts : List ObjId) → Sorted (is_ahead R) (queued_in R q) → Ends (t ∷ ts) (queued_in R q) → next_of R t ≡ head_of ts
 unfolding next_of
 next-in_queue R q t ts s e = ap (λ o. next_in R o t) (in-line R q t (ends-in t ts (queued_in R q) e)) ∙ next-behind R t ts (queued_in R q) s e

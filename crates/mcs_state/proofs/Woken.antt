@@ -62,7 +62,7 @@ woken-wait R t only = go (mode_of R t)
     go Running w n u at bound = only w n u at bound
     go Inactive w n u at bound = only w n u at bound
 
--- and whoever has an open message stands in its queue still
+-- and whoever has an open message is in its queue still
 pub woken-stand : (R : Log) (t : ObjId) → OpenStand R → OpenStand (onto (wakes (mode_of R t) t R) R)
 woken-stand R t stand = go (mode_of R t)
   where

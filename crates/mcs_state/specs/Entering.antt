@@ -26,7 +26,7 @@ pub record IsActing (R : Log) (t : ObjId) : Type 0 where
   pub idle : IsIdle R t
   pub runs : mode_of R t ≡ Running
 
--- who has an open message stands among the senders of its endpoint
+-- who has an open message is queued among the senders of its endpoint
 abbrev pub OpenStand : Log → Type 0
 OpenStand R = (x e : ObjId) (m : ℕ) → IsOpenOf R x e m → queue_of R x ≡ Some (Senders e)
 

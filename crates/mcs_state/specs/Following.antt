@@ -69,7 +69,7 @@ abbrev pub ThreadsFollowClosed : Kind → ObjId → Table → Table → Type 0
 ThreadsFollowClosed kind.Thread o old new = ClosesThread o old new
 ThreadsFollowClosed _ o old new = new ≡ old
 
--- how the threads follow a record; R stands before it
+-- how the threads follow a record; R is before it
 abbrev pub ThreadsFollow : Log → Rec → Table → Table → Type 0
 ThreadsFollow R (rec.Made o (form.Runner maximum root)) old new = AddsThread o maximum root old new
 ThreadsFollow R (rec.Made o f) old new = new ≡ old
@@ -161,13 +161,13 @@ pub record SameObjects (old new : Queueing) : Type 0 where
   pub made : (k : Kind) → new.made k ≡ old.made k
   pub there : (k : Kind) → new.there k ≡ old.there k
 
--- a thread stands in a queue from now on
+-- a thread is in a queue from now on
 pub record JoinsQueue (u : ObjId) (p : ℕ) (q : Queue) (old new : Queueing) : Type 0 where
   pub line : (k : Queue) → new.line k ≡ line_after k q (record { thread = u; priority = p }) (old.line k)
   pub queue : (t : ObjId) → new.queue t ≡ value_after t u (Some q) (old.queue t)
   pub objects : SameObjects old new
 
--- a thread stands in no queue any more
+-- a thread is in no queue any more
 pub record PartsQueue (u : ObjId) (old new : Queueing) : Type 0 where
   pub line : (k : Queue) → new.line k ≡ without u (old.line k)
   pub queue : (t : ObjId) → new.queue t ≡ value_after t u None (old.queue t)
@@ -273,7 +273,7 @@ abbrev pub SetsAny : Option ObjId → Option ObjId → Owing → Owing → Type 
 SetsAny None t old new = new ≡ old
 SetsAny (Some r) t old new = SetsReceiver r t old new
 
--- the reply object with which a thread stands in a queue: in one of receivers it may be one
+-- the reply object with which a thread is in a queue: in one of receivers it may be one
 abbrev pub attended : Queue → Option ObjId → Option ObjId
 attended (Receivers e) reply = reply
 attended _ reply = None

@@ -102,8 +102,8 @@ pub record QueuesAgree (v : Queueing) (R : Log) : Type 0 where
   pub queue : (t : ObjId) → v.queue t ≡ queue_of R t
   pub has : (q : Queue) → v.has q ≡ is_there R (queue_kind q) (queue_object q)
 
--- the reply objects, the receiver that stands with each, the caller that it owes, and the chain of
--- each context
+-- the reply objects, the receiver that is queued with each, the caller that it owes, and the chain
+-- of each context
 pub record RepliesAgree (v : Owing) (R : Log) : Type 0 where
   pub counts : reply_counts v ≡ shape_said kind.Reply R
   pub there : (r : ObjId) → has_reply v r ≡ is_there R kind.Reply r

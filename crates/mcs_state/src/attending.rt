@@ -1,4 +1,4 @@
-//! Receivers that come to stand with reply objects.
+//! Receivers that come to be with reply objects.
 ghost use Rattle.std.specs.Prelude.{◌≡◌, true, IfSome};
 ghost use Rattle.mcs_replies.specs.Owing.{is_there};
 ghost use Rattle.mcs_state.specs.Following.{SetsAny, attended};
@@ -6,7 +6,7 @@ ghost use Rattle.mcs_state.specs.Following.{SetsAny, attended};
 use mcs_replies::Replies;
 use mcs_types::{ObjId, Queue};
 
-/// The reply object with which a thread stands in a queue: in one of receivers it may be one.
+/// The reply object with which a thread is in a queue: in one of receivers it may be one.
 pub fn attended(queue: Queue, reply: Option<ObjId>) -> Option<ObjId>
     ensures { result ≡ attended queue reply }
 {
@@ -16,7 +16,7 @@ pub fn attended(queue: Queue, reply: Option<ObjId>) -> Option<ObjId>
     }
 }
 
-/// The receiver of a reply object that is there, if one is named, is this one now.
+/// Sets the receiver of a reply object that is there, if one is named.
 // a part of its callers, which know whether a reply object is named
 #[inline(always)]
 pub fn attend(replies: &mut Replies, reply: Option<ObjId>, receiver: Option<ObjId>)

@@ -12,8 +12,8 @@ use crate::waking::wake;
 use mcs_object_queues::Waiting;
 use mcs_types::{ObjId, Prio};
 
-/// One thing that an entry changes: who holds a context, where it is homed, which notification is
-/// bound to a thread, or a thread's priority.
+/// One thing that an entry changes: the holder of a context, where it is homed, which notification
+/// is bound to a thread, or a thread's priority.
 #[derive(Clone, Copy)]
 pub enum Change {
     Holds {

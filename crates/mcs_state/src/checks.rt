@@ -20,7 +20,7 @@ pub fn of_kind(found: Result<Cap, Refusal>, kind: Kind) -> Result<Cap, Refusal>
     Ok(cap)
 }
 
-/// What was found, where one may send or signal over it.
+/// Returns the capability if it has Write, else NoRight.
 pub fn with_write(found: Result<Cap, Refusal>) -> Result<Cap, Refusal>
     ensures { result ≡ writable found }
 {
@@ -31,7 +31,7 @@ pub fn with_write(found: Result<Cap, Refusal>) -> Result<Cap, Refusal>
     Ok(cap)
 }
 
-/// What was found, where one may receive or wait over it.
+/// Returns the capability if it has Read, else NoRight.
 pub fn with_read(found: Result<Cap, Refusal>) -> Result<Cap, Refusal>
     ensures { result ≡ readable found }
 {

@@ -14,7 +14,7 @@ use mcs_types::{Kind, Letter, Mail, Message, OBJECTS, ObjId, OutOfMemory, emptie
 use std::alloc::Global;
 use std::marker::Model;
 
-/// An open message, with a spare one for the answer to who receives it. Clauses see the letter.
+/// An open message, with a spare one for the receiver's answer. Clauses see the letter.
 #[derive(Drop)]
 pub struct OpenLetter {
     pub letter: Letter,
@@ -87,14 +87,14 @@ impl Model for Letters {
 }
 
 // By hand, so that it is a function of its own: a derived drop would be proved anew wherever a
-// state is let go.
+// state is dropped.
 impl Drop for Letters {
     fn drop(self) {
         let Letters { places: _ } = self;
     }
 }
 
-/// Open messages like these, at most 256, with the room for so many, in the memory of spare ones.
+/// Clones open messages, at most 256, with the room for so many, in the memory of spare ones.
 fn copied_places(
     alloc: Global,
     spare: Vec<Option<OpenLetter>>,
@@ -111,7 +111,7 @@ fn copied_places(
     Ok(copies)
 }
 
-/// So many places or more are there: those that were not have no open message.
+/// Makes at least so many places. The new ones have no open message.
 fn make_places(places: &mut Vec<Option<OpenLetter>>, count: usize)
     requires count { count ≤ ROOM }
     requires few { vec_len places.old ≤ ROOM }
@@ -143,7 +143,7 @@ impl Letters {
         places
     }
 
-    /// Open messages like these, in the memory of spare ones. OutOfMemory where memory is refused.
+    /// Clones the open messages in the memory of spare ones. OutOfMemory where memory is refused.
     pub fn copy(&self, alloc: Global, spare: Option<Letters>) -> Result<Letters, OutOfMemory>
         ensures { IfOk result (λ l. l ≡ self.now) }
     {
@@ -166,7 +166,7 @@ impl Letters {
         }
     }
 
-    /// A message of a thread, whose serial is 256 at most, is open.
+    /// Opens a message of a thread whose serial is at most 256.
     pub fn open(&mut self, sender: ObjId, letter: OpenLetter)
         requires { IsThread sender }
         ensures { KeepsAt Kind.Thread self.old self.new sender (Some letter) }
@@ -175,8 +175,8 @@ impl Letters {
         keep(Kind::Thread, &mut self.places, sender, Some(letter));
     }
 
-    /// The open message of a thread, which is open no more; None, and nothing changes, where it has
-    /// none.
+    /// Closes the open message of a thread, and returns it; returns None, and changes nothing,
+    /// where the thread has none.
     pub fn close(&mut self, sender: ObjId) -> Option<OpenLetter>
         ensures value { result ≡ kept_at Kind.Thread self.old sender }
         ensures kept { KeepsAt Kind.Thread self.old self.new sender None }
@@ -185,8 +185,7 @@ impl Letters {
     }
 }
 
-/// A letter becomes the mail of its receiver, a thread that is there. The answer is an equal
-/// message.
+/// Delivers a letter to the mail of its receiver, a thread that is there. Returns an equal message.
 // a part of its caller, so that the letter is moved once less
 #[inline(always)]
 pub fn deliver(threads: &mut Threads, receiver: ObjId, letter: OpenLetter) -> Message

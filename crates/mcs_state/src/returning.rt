@@ -14,7 +14,7 @@ use crate::state::State;
 use mcs_object_queues::Waiting;
 use mcs_types::{ObjId, Queue};
 
-/// A context passes to a thread, where the thread holds none.
+/// Gives a context, if there is one, to a thread that holds none.
 // a part of its callers, so that the context does not go through memory
 #[inline(always)]
 pub fn give_back<W: Waiting>(state: &mut State<W>, context: Option<ObjId>, thread: ObjId)
@@ -62,7 +62,7 @@ fn context_at_home<W: Waiting>(
     }
 }
 
-/// A thread gives up the context that it holds, where that is homed at the notification by which
+/// Takes from a thread the context that it holds, where that is homed at the notification by which
 /// the thread may wake, and came along no call that has not ended.
 fn go_home<W: Waiting>(state: &mut State<W>, thread: ObjId, notification: Option<ObjId>)
     requires room { HasRoomFor (gone_home thread notification) state.old }
@@ -74,8 +74,8 @@ fn go_home<W: Waiting>(state: &mut State<W>, thread: ObjId, notification: Option
     }
 }
 
-/// A thread stands in a queue with a reply object, and its context goes home, where it is homed at
-/// the notification by which the thread may wake.
+/// Queues a thread with a reply object. Its context goes home, where it is homed at the
+/// notification by which the thread may wake.
 // a part of its callers, which know the kind of the queue
 #[inline(always)]
 pub fn stand<W: Waiting>(

@@ -49,7 +49,7 @@ pub struct State<W: Waiting> {
 }
 
 // By hand, so that it is a function of its own: a derived drop would be proved anew wherever a
-// state, a boot or a kernel is let go.
+// state, a boot or a kernel is dropped.
 impl<W: Waiting> Drop for State<W> {
     fn drop(self) {
         let State {
@@ -66,7 +66,7 @@ impl<W: Waiting> Drop for State<W> {
     }
 }
 
-/// The tables of a state that is let go, each if it is there.
+/// The tables of a state that is dropped, each if it is there.
 #[derive(Drop)]
 struct Spare<W: Waiting> {
     book: Option<Book>,
@@ -168,7 +168,7 @@ impl<W: Waiting> State<W> {
         }
     }
 
-    /// A state like this one, in the memory of a spare one. OutOfMemory where memory is refused.
+    /// Clones the state in the memory of a spare one. OutOfMemory where memory is refused.
     pub fn copy(&self, alloc: Global, spare: Option<State<W>>) -> Result<State<W>, OutOfMemory>
         ensures book { IfOk result (λ s. s.book ≡ self.now.book) }
         ensures hand { IfOk result (λ s. s.hand ≡ self.now.hand) }
@@ -198,7 +198,7 @@ impl<W: Waiting> State<W> {
         &self.book
     }
 
-    /// The book, with which the state ends: the tables are let go.
+    /// The book, with which the state ends: the tables are dropped.
     pub fn into_book(self) -> Book
         ensures { result.book ≡ self.book }
     {
@@ -261,7 +261,7 @@ impl<W: Waiting> State<W> {
         self.book.close(step, answer);
     }
 
-    /// A slot holds a capability now, or none.
+    /// Puts a capability into a slot, or empties the slot.
     #[inline(always)]
     pub fn fills(&mut self, at: SlotId, cap: Option<Cap>)
         requires allowed { Allowed (so_far self.old) (Rec.Slot at.cnode at.index cap) }
@@ -274,7 +274,7 @@ impl<W: Waiting> State<W> {
         self.book.note(Rec::Slot { cnode, index, cap });
     }
 
-    /// The priority of a thread changes; where it stands in a queue, it queues anew.
+    /// Sets the priority of a thread. A thread in a queue is queued anew.
     pub fn prio(&mut self, thread: ObjId, priority: Prio)
         requires allowed { Allowed (so_far self.old) (Rec.Prio thread priority) }
         requires room { length self.old.hand + 1 < self.old.room }
@@ -285,7 +285,7 @@ impl<W: Waiting> State<W> {
         self.queues.shift(thread, priority);
     }
 
-    /// The mode of a thread changes.
+    /// Sets the mode of a thread.
     pub fn turns(&mut self, thread: ObjId, mode: Mode)
         requires allowed { Allowed (so_far self.old) (Rec.Turns thread mode) }
         requires room { length self.old.hand + 1 < self.old.room }
@@ -295,7 +295,7 @@ impl<W: Waiting> State<W> {
         self.threads.set_mode(thread, mode).unwrap();
     }
 
-    /// A thread joins a queue; a receiver names its reply object.
+    /// Puts a thread into a queue; a receiver names its reply object.
     // a part of its callers, which know the kind of the queue, as that of `parts`
     #[inline(always)]
     pub fn joins(&mut self, thread: ObjId, queue: Queue, reply: Option<ObjId>)
@@ -316,7 +316,7 @@ impl<W: Waiting> State<W> {
         attend(&mut self.replies, attended(queue, reply), Some(thread));
     }
 
-    /// A thread leaves its queue.
+    /// Takes a thread out of its queue.
     #[inline(always)]
     pub fn parts(&mut self, thread: ObjId, queue: Queue)
         requires allowed { Allowed (so_far self.old) (Rec.Parts thread queue) }
@@ -330,7 +330,7 @@ impl<W: Waiting> State<W> {
         attend(&mut self.replies, reply, None);
     }
 
-    /// A thread sends a message on an endpoint.
+    /// Sends a message of a thread on an endpoint.
     #[inline(always)]
     pub fn sends(
         &mut self,
@@ -372,8 +372,8 @@ impl<W: Waiting> State<W> {
         self.letters.open(sender, letter);
     }
 
-    /// The open message of a sender, which has this number, is received: it moves to the mail of
-    /// its receiver. The answer is an equal message.
+    /// Moves the open message of a sender, which has this number, to the mail of its receiver.
+    /// Returns an equal message.
     #[inline(always)]
     pub fn took(&mut self, number: u32, sender: ObjId, receiver: ObjId) -> Message
         requires allowed { Allowed (so_far self.old) (Rec.Took number receiver) }
@@ -393,7 +393,7 @@ impl<W: Waiting> State<W> {
         }
     }
 
-    /// The open message of a sender, which has this number, is dropped: nobody receives it (own).
+    /// Drops the open message of a sender, which has this number: nobody receives it (own).
     pub fn drops(&mut self, number: u32, sender: ObjId)
         requires allowed { Allowed (so_far self.old) (Rec.Dropped number) }
         requires open { IsNumberOf number (open_of (so_far self.old) sender) }
@@ -404,7 +404,7 @@ impl<W: Waiting> State<W> {
         self.letters.close(sender);
     }
 
-    /// A context is held by this thread now, or by nobody.
+    /// Gives a context to this thread, or to nobody.
     #[inline(always)]
     pub fn holds(&mut self, context: ObjId, thread: Option<ObjId>)
         requires allowed { Allowed (so_far self.old) (Rec.Holds context thread) }

@@ -9,7 +9,7 @@ use crate::state::State;
 use mcs_object_queues::Waiting;
 use mcs_types::{Mode, ObjId};
 
-/// The thread becomes Running where it is in Restart.
+/// Turns a thread in Restart to Running.
 pub fn wake<W: Waiting>(state: &mut State<W>, thread: ObjId)
     requires entering { IsEntering (so_far state.old) thread }
     requires room { HasRoomFor (wakes (mode_of (so_far state.old) thread) thread) state.old }

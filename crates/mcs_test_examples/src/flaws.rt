@@ -8,7 +8,7 @@ use mcs_sim::Source;
 use std::alloc::Global;
 use std::io::Write;
 
-/// Heights of a text and of another below it, and where the tip of an arrow stands above them.
+/// Heights of a text and of another below it, and where the tip of an arrow is above them.
 const PAGES: &[(u64, u64, u64)] = &[
     (43, 55, 106),
     (43, 54, 106),
@@ -73,7 +73,7 @@ fn tell_fault<W: Write>(to: &mut W, verb: &str, fault: Option<LabFault>) -> Resu
     Ok(())
 }
 
-/// Tells of each script with names what is wrong with it, for who draws it and for who checks it.
+/// Tells of each script with names what is wrong with it, for drawing and for checking.
 fn tell_names<W: Write>(alloc: Global, to: &mut W) -> Result<(), LabFault> {
     for &script in NAMES {
         let mut source = Source::new(script.as_bytes());

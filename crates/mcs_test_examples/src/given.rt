@@ -1,6 +1,6 @@
 //! What the first example gives by calls of the kernel, and then each script of standard input:
 //! what it gives is written, and that it gives the same in pieces, and its trace itself, is tested.
-//! `#!` begins the name of the script behind its line; `#!+` that of lines which are put behind the
+//! `#!` begins the name of the script after its line; `#!+` that of lines which are put after the
 //! script that `#!` named last. A call that memory was refused to is given once more.
 ghost use Rattle.std.specs.Prelude.{◌≤◌, length};
 
@@ -13,7 +13,7 @@ use std::io::{self, Input, Write};
 /// With this the name of a script begins, which ends with its line.
 const NAME: &[u8] = b"#!";
 
-/// With this the name of lines begins that stand behind the script named last.
+/// With this the name of lines begins that follow the script named last.
 const MORE: &[u8] = b"#!+";
 
 /// The most bytes of all scripts.
@@ -55,7 +55,7 @@ fn name_length(text: &[u8]) -> usize
     }
 }
 
-/// How many bytes stand before the next name of a script.
+/// How many bytes are before the next name of a script.
 fn script_length(text: &[u8]) -> usize
     ensures { result ≤ length text.now }
 {
@@ -82,7 +82,7 @@ fn write_given(rt: &HostRuntime, name: &[u8], script: &[u8]) -> io::Result<()> {
     Ok(())
 }
 
-/// Two texts, one behind the other.
+/// Two texts, one after the other.
 fn joined(alloc: Global, text: &[u8], more: &[u8]) -> Result<Vec<u8>, AllocError> {
     let mut script = Vec::with_capacity(alloc, text.len().saturating_add(more.len()))?;
     script.extend_from_slice(text)?;
@@ -90,7 +90,7 @@ fn joined(alloc: Global, text: &[u8], more: &[u8]) -> Result<Vec<u8>, AllocError
     Ok(script)
 }
 
-/// Writes what a script gives behind another. The room for both is asked for once more where memory
+/// Writes what a script gives after another. The room for both is asked for once more where memory
 /// was refused.
 fn write_behind(rt: &HostRuntime, name: &[u8], base: &[u8], lines: &[u8]) -> io::Result<()> {
     let script = match joined(rt.alloc(), base, lines) {
@@ -100,7 +100,7 @@ fn write_behind(rt: &HostRuntime, name: &[u8], base: &[u8], lines: &[u8]) -> io:
     write_given(rt, name, &script)
 }
 
-/// Writes what each script of a text gives, behind its name.
+/// Writes what each script of a text gives, after its name.
 fn write_all(rt: &HostRuntime, text: &[u8]) -> io::Result<()> {
     let mut rest = text;
     let mut base: &[u8] = &[];

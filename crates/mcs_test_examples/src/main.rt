@@ -2,10 +2,10 @@
 //! answer, and drawn, as those of its gallery: each picture is compared with the one that is kept
 //! beside its script, and looked at. So are pages, texts and scripts with a flaw. All orders of the
 //! scripts of users are gone through, and plans are compiled. Told is besides what a search finds
-//! of a small system, for which texts patterns stand, what is stuck at the end of some scripts, and
-//! what the scripts of standard input give, which is all that is told where no file is named (so
-//! `tests/each-allocation.sh` has each allocation refused in turn, and wants the same traces). With
-//! a number alone, a byte of each plan is changed so many times, and no more is done.
+//! of a small system, which texts patterns match, what is stuck at the end of some scripts, and
+//! what the scripts of standard input give, which is all that is reported where no file is named
+//! (so `tests/each-allocation.sh` has each allocation refused in turn, and wants the same traces).
+//! With a number alone, a byte of each plan is changed so many times, and no more is done.
 #![tactic(auto)]
 
 mod calls;
@@ -117,7 +117,7 @@ fn number_of(paths: &[String]) -> Option<usize> {
     }
 }
 
-/// Tells what the words behind the program's name ask for. True where all holds.
+/// Tells what the words after the program's name ask for. True where all holds.
 fn tell(rt: &HostRuntime, paths: &[String]) -> Result<bool, LabFault> {
     if let Some(times) = number_of(paths) {
         return tell_changes(rt, times);

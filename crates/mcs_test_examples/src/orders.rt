@@ -1,4 +1,4 @@
-//! All orders of the scripts of users in `examples/explore/`: what is told of each, and how the
+//! All orders of the scripts of users in `examples/explore/`: what is reported of each, and how the
 //! scripts replay that show it.
 use mcs_explore_questions::ExploreFault;
 use mcs_explore_report::{Explored, Output, Saves, Wanted, explore_script};
@@ -44,12 +44,11 @@ const ASKED: &str = "explore/asked.mcs";
 /// Questions that are asked of it, each alone.
 const QUESTIONS: &str = "explore/questions.txt";
 
-/// A boot, and behind each line `%` random entries of its users: by `tests/random-orders.py
-/// --data`.
+/// A boot, and after each line `%` random entries of its users: by `tests/random-orders.py --data`.
 const RANDOM: &str = "explore/random.txt";
 
 /// The scripts that were kept: how many, of how many the kernel accepts each step, in how many each
-/// answer is the one that stands after its step, and how many steps they have in all.
+/// answer is the one that is after its step, and how many steps they have in all.
 #[derive(Drop)]
 struct Replayed {
     count: u64,
@@ -85,7 +84,7 @@ fn is_whole(alloc: Global, text: &[u8]) -> bool {
     }
 }
 
-/// Whether a script holds by the answers that stand in it.
+/// Whether a script holds by the answers that are in it.
 fn holds(alloc: Global, text: &[u8]) -> Result<bool, LabFault> {
     let mut told = Vec::new(alloc);
     let all_hold = check(alloc, &mut Source::new(text), &mut told)?;
@@ -128,7 +127,7 @@ fn wanted(is_exact: bool) -> Wanted {
     }
 }
 
-/// How it is told.
+/// How it is reported.
 const OUTPUT: Output = Output {
     with_answers: true,
     is_json: false,
@@ -193,7 +192,7 @@ fn is_reported(line: &[u8]) -> bool {
     line.starts_with(b"end") || line.starts_with(b"stuck") || line.starts_with(b"question")
 }
 
-/// Asks a question behind a script, and tells what comes of it: the lines of questions, the verdict
+/// Asks a question after a script, and tells what comes of it: the lines of questions, the verdict
 /// and the exit status.
 fn ask<W: Write>(
     alloc: Global,

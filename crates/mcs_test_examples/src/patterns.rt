@@ -3,7 +3,7 @@ use mcs_explore_questions::is_match;
 use mcs_lab_check::LabFault;
 use std::io::Write;
 
-/// Patterns and texts. Nothing has one word, which is empty, and spaces stand between such words.
+/// Patterns and texts. Nothing has one word, which is empty, and spaces are between such words.
 const PATTERNS: &[(&str, &str)] = &[
     ("got * 7", "got 9 7"),
     ("got * 7", "got 9 7 5"),

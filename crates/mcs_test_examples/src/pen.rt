@@ -101,7 +101,7 @@ impl Pen {
         Ok(())
     }
 
-    /// Follows a line to its end, where the tip of the arrow stands.
+    /// Follows a line to its end, where the tip of the arrow is.
     pub fn follow(&mut self, marks: &mut Vec<Place>, line: &str) -> Result<(), AllocError> {
         for letter in line.chars() {
             self.read(marks, letter)?;

@@ -1,5 +1,5 @@
-//! Where everything stands on a page of SVG, whose marks have a line each: the boxes of all texts,
-//! and those of bars and arrows.
+//! Where everything is on a page of SVG, whose marks have a line each: the boxes of all texts, and
+//! those of bars and arrows.
 use crate::pen::{Pen, Place};
 use std::alloc::{AllocError, Global};
 use unicode_width::UnicodeWidthChar;
@@ -11,14 +11,14 @@ const UP: u64 = 9;
 
 const DOWN: u64 = 3;
 
-/// What stands between these words and the next quote.
+/// What is between these words and the next quote.
 fn attribute<'a>(mark: &'a str, words: &str) -> Option<&'a str> {
     let (_, behind) = mark.split_once(words)?;
     let (value, _) = behind.split_once('"')?;
     Some(value)
 }
 
-/// The number that stands there.
+/// The number that is there.
 fn number(mark: &str, words: &str) -> Option<u64> {
     match attribute(mark, words)?.parse::<u64>() {
         Ok(number) => Some(number),
@@ -113,7 +113,7 @@ impl Places {
         Ok(())
     }
 
-    /// Whether a text touches no bar, no arrow, and none of the texts behind it.
+    /// Whether a text touches no bar, no arrow, and none of the texts after it.
     fn stands_clear(&self, at: usize, place: Place) -> bool {
         self.marks.iter().all(|mark| !place.is_on(*mark))
             && self

@@ -1,6 +1,6 @@
 //! Plans: each of the gallery, and a small one, is compiled, and its script compared with the one
-//! that is kept beside it; then each plan with a fault, and what is told of it; then a plan of two
-//! levels, the map and the names of one, and plans with a byte changed.
+//! that is kept beside it; then each plan with a fault, and what is reported of it; then a plan of
+//! two levels, the map and the names of one, and plans with a byte changed.
 use mcs_lab_check::LabFault;
 use mcs_plan_compile::write_map;
 use mcs_plan_source::tell_names;
@@ -54,7 +54,7 @@ fn text_of(alloc: Global, compiled: &Compiled) -> Result<String, LabFault> {
     Ok(String::from_utf8_lossy(alloc, &text)?)
 }
 
-/// The script of a plan, or what is told of its fault.
+/// The script of a plan, or what is reported of its fault.
 fn told_of(alloc: Global, plan: &[u8]) -> Result<String, LabFault> {
     match compile_text(alloc, plan) {
         Ok(compiled) => text_of(alloc, &compiled),
@@ -91,7 +91,7 @@ fn are_done(alloc: Global, trace: &[u8]) -> Result<bool, LabFault> {
     Ok(done == 2 && !text.contains("= refused"))
 }
 
-/// A plan of 300 slots in one space: its first and its last name answer.
+/// Compiles a plan of 300 slots in one space, and runs steps over its first and its last name.
 fn try_large<W: Write>(rt: &HostRuntime, to: &mut W) -> Result<(), LabFault> {
     let script = told_of(rt.alloc(), &plan_of(rt, "plans/large")?)?;
     let told = match trace_of(rt.alloc(), script.as_bytes())? {
@@ -124,7 +124,7 @@ const NAMED: &str = "\
 # t3
 ";
 
-/// The map of a plan, and a trace with its names.
+/// Writes the map of a plan, and a trace with its names.
 fn try_names<W: Write>(rt: &HostRuntime, to: &mut W) -> Result<(), LabFault> {
     let kept = read_text(rt, "gallery/own-spaces.map")?;
     let Ok(compiled) = compile_text(rt.alloc(), &plan_of(rt, "gallery/own-spaces")?) else {
@@ -140,7 +140,7 @@ fn try_names<W: Write>(rt: &HostRuntime, to: &mut W) -> Result<(), LabFault> {
     Ok(())
 }
 
-/// Compares what is told of each plan with a fault.
+/// Compares what is reported of each plan with a fault.
 fn try_faults<W: Write>(rt: &HostRuntime, to: &mut W) -> Result<(), LabFault> {
     let faults = read_text(rt, "plans/faults.txt")?;
     let wanted = read_text(rt, "plans/faults.told")?;
@@ -167,7 +167,7 @@ fn is_right(alloc: Global, plan: &[u8]) -> Result<bool, LabFault> {
     }
 }
 
-/// A plan with one byte changed.
+/// Returns a plan with one byte changed.
 fn changed(plan: &[u8], alloc: Global, random: &mut Pcg32) -> Result<Vec<u8>, LabFault> {
     let mut changed = plan.to_vec(alloc)?;
     let at = random.next_word() as usize % changed.len().max(1);

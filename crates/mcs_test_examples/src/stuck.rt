@@ -1,5 +1,5 @@
 //! Scripts at whose end threads are stuck, each beside one like it at whose end none is, and one
-//! whose messages are dropped: what is told of each.
+//! whose messages are dropped: what is reported of each.
 use mcs_lab_check::LabFault;
 use mcs_lab_inspect::{Wanted, explain, show_state};
 use mcs_sim::Source;
@@ -44,7 +44,7 @@ fn tell_script<W: Write + Drop>(rt: &HostRuntime, to: &mut W, path: &str) -> Res
     Ok(())
 }
 
-/// Tells what is told of all of them.
+/// Tells what is reported of all of them.
 pub fn tell_stuck<W: Write + Drop>(rt: &HostRuntime, to: &mut W) -> Result<(), LabFault> {
     for path in SCRIPTS {
         tell_script(rt, to, path)?;

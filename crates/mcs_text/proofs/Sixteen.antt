@@ -16,7 +16,7 @@ alike : (p q : ℕ → Bool) (xs : List ℕ) → Each1 (λ x. p x ≡ q x) xs �
 alike p q [] h = refl
 alike p q (x ∷ xs) h = rw (h.0, alike p q xs h.1) refl
 
--- how many digits stand in front, where each lane of a mask says that one is none
+-- how many digits are in front, where each lane of a mask says that one is none
 pub front-is : (less : List ℕ) (r : ℕ) (z : List ℕ) → length less ≡ 16 → Each1 (Fits w8) less → r ≡ first_set (mask_l (map (top 7) z) % 2 ^ 64) → (f : ℕ → ℕ) → z ≡ map f less
     → agree_below (λ d. not (top 7 (f d))) (λ d. leb d 9) 256 ≡ true → r ≡ prefix_len (λ d. leb d 9) less
 front-is less r z long fits found f lanes all =
@@ -27,7 +27,7 @@ front-is less r z long fits found f lanes all =
     ∙ alike (λ d. not (stops d)) (λ d. leb d 9) less
     (Each1-weaker (Fits w8) (λ d. not (stops d) ≡ leb d 9) (λ d h. agree_below_at (λ e. not (stops e)) (λ e. leb e 9) 256 d all h.fits) less fits)
 
--- what is read of so many zeros and bytes behind them
+-- what is read of so many zeros and bytes after them
 pub moved : (bs : List ℕ) (c : ℕ) → length bs ≡ 16 → c ≤ 16 → chunk 0 16 (take (32 - c) (drop c (replicate 16 0 ++ bs))) ≡ replicate (16 - c) 0 ++ take c bs
 moved bs c long few =
     let zeros : List ℕ = replicate 16 0 in

@@ -133,11 +133,11 @@ last_place-written ws p h =
 
 -- ---- entries
 
--- the words of an entry behind the thread that asks
+-- the words of an entry after the thread that asks
 abbrev IsEntry : Step → Entry → List (List ℕ) → Type 0
 IsEntry s e ws = form_rest (entry_form s e) ≡ name_text s.thread ∷ ws
 
--- what is read of the words behind a key
+-- what is read of the words after a key
 fields-entry : {A : Type 0} (s : Step) (key : Key) (w : List ℕ) (ws : List (List ℕ)) (r : Result A LineFault) (make : A → Entry) (fields : A → List (List ℕ)) (e : Entry)
     → ((x : A) → IsEntry s (make x) (key_text key ∷ fields x)) → ((x : A) → r ≡ Ok x → ws ≡ fields x) → key_text key ≡ w → (r >>= λ x. Ok (make x)) ≡ Ok e → IsEntry s e (w ∷ ws)
 fields-entry s key w ws r make fields e forms written is h =

@@ -163,7 +163,7 @@ unfolding kept_after
 kept-none [] ms h = cc
 kept-none (w ∷ ws) ms h = let r = reads (number w) (λ n. kept_after None ws) (Some ms) h in kept-none ws ms r.rest
 
--- numbers to the end of the line, behind those that were kept before
+-- numbers to the end of the line, after those that were kept before
 kept-behind : (front : List ℕ) (ws : List (List ℕ)) (ms : List ℕ) → kept_after (Some front) ws ≡ Ok (Some ms) → (tail : List ℕ) × (ms ≡ front ++ tail) × (ws ≡ map decimal tail)
 unfolding kept_after
 kept-behind front [] ms h = let e : front ≡ ms = cc in ([], sym e ∙ sym (append-nil front), refl)
@@ -282,7 +282,7 @@ rights_of-written w r h = go (bytes_eq (codes "-") w) refl h
     go true e k = let n : 0 ≡ r = cc in ap rights_text (sym n) ∙ dash ∙ same-bytes (codes "-") w e
     go false e k = lettered-written w r k
 
--- rights, and the words behind them
+-- rights, and the words after them
 pub rights-written : (ws : List (List ℕ)) (r : ℕ × List (List ℕ)) → rights_at ws ≡ Ok r → ws ≡ rights_text r.0 ∷ r.1
 unfolding rights_at
 rights-written [] r h = absurd (cc)
@@ -296,7 +296,7 @@ rights-written (w ∷ ws) r h = go (rights_of w) refl h
 
 -- ---- places
 
--- a place, and the words behind it
+-- a place, and the words after it
 pub place-written : (ws : List (List ℕ)) (r : RawPlace × List (List ℕ)) (p : Place) → place_at ws ≡ Ok r → place_of r.0 ≡ Ok p → ws ≡ decimal p.index ∷ decimal p.depth ∷ r.1
 unfolding place_at place_of
 place-written ws r p h k =

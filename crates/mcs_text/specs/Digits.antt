@@ -24,7 +24,7 @@ pub record IsFirst (text : List ℕ) (count n : ℕ) : Type 0 where
   pub unpadded : slice_index text 0 ≢ 48
   pub end : count < length text → slice_index text count ≡ 32
 
--- the words behind a first word of so many bytes
+-- the words after a first word of so many bytes
 abbrev pub words_behind : ℕ → List ℕ → List (List ℕ)
 words_behind count text = if nat_lt count (length text) then words_of (drop (count + 1) text) else []
 

@@ -1,4 +1,4 @@
--- The numbers by which faults of a line are told.
+-- The numbers by which faults of a line are reported.
 use Rattle.std.specs.Prelude.{ℕ}
 use Rattle.mcs_text.specs.declared.fault.LineFault.{LineFault}
 use Rattle.mcs_text.specs.declared.fault.LineFault.TheVariants as fault

@@ -7,7 +7,7 @@ abbrev pub numbers_of : Option Kept → Option (List ℕ)
 numbers_of None = None
 numbers_of (Some kept) = Some kept.words.items
 
--- there are at most 120, and there is room for as many: where they stand, or in the room
+-- there are at most 120, and there is room for as many: where they are, or in the room
 pub record MayGrow {X : Type 0} (kept : Kept) (desk : Option X) : Type 0 where
   pub few : length kept.words.items ≤ 120
   pub fits : length kept.words.items ≤ kept.words.capacity

@@ -31,7 +31,7 @@ impl Model for Threads {
 }
 
 // By hand, so that it is a function of its own: a derived drop would be proved anew wherever it is
-// let go.
+// dropped.
 impl Drop for Threads {
     fn drop(self) {
         let Threads { rows: _, mails: _ } = self;
@@ -52,7 +52,7 @@ fn copied_mail(alloc: Global, mail: &Option<Mail>) -> Result<Option<Mail>, OutOf
     })
 }
 
-/// These mails, at most 256, with the room for so many, in the memory of spare ones.
+/// Clones mails, at most 256, with the room for so many, in the memory of spare ones.
 fn copied_mails(
     alloc: Global,
     spare: Vec<Option<Mail>>,
@@ -90,7 +90,7 @@ impl Threads {
         (rows, mails)
     }
 
-    /// A table like this one, in the memory of a spare one. OutOfMemory where memory is refused.
+    /// Clones the table in the memory of a spare one. OutOfMemory where memory is refused.
     pub fn copy(&self, alloc: Global, spare: Option<Threads>) -> Result<Threads, OutOfMemory>
         ensures { IfOk result (λ t. t ≡ self.now) }
     {
@@ -112,7 +112,7 @@ impl Threads {
         self.rows.len() as u16
     }
 
-    /// Who is there is a thread of a serial from 1 to 256 (own).
+    /// Proves that each thread that is there has a serial from 1 to 256 (own).
     pub fn are_few(&self)
         ensures { (t : ObjId) → IsSome (row_of self.now t) → IsThread t }
     {
@@ -210,7 +210,7 @@ impl Threads {
         Some(())
     }
 
-    /// Nothing blocks a thread any more; None like `set_mode` (manual: Message Passing).
+    /// Unblocks a thread; None like `set_mode` (manual: Message Passing).
     pub fn unblock(&mut self, id: ObjId) -> Option<()>
         ensures found { IsSome result ↔ IsSome (row_of self.old id) }
         ensures changed { ChangesRow (λ r. record r { block = None }) self.old self.new id }
@@ -234,7 +234,7 @@ impl Threads {
         Some(())
     }
 
-    /// No notification is bound to a thread any more; None like `set_mode` (manual: Notifications).
+    /// Unbinds the notification of a thread; None like `set_mode` (manual: Notifications).
     pub fn untie(&mut self, id: ObjId) -> Option<()>
         ensures found { IsSome result ↔ IsSome (row_of self.old id) }
         ensures changed { ChangesRow (with_notification None) self.old self.new id }
@@ -260,8 +260,8 @@ impl Threads {
         Some(())
     }
 
-    /// Forgets a thread and its mail: its serial is never given again. None like `set_mode`
-    /// (manual: Kernel Services and Objects).
+    /// Forgets a thread and its mail: its serial is never reused. None like `set_mode` (manual:
+    /// Kernel Services and Objects).
     pub fn close(&mut self, id: ObjId) -> Option<()>
         ensures found { IsSome result ↔ IsSome (row_of self.old id) }
         ensures rows { SetsRow self.old self.new id None }

@@ -23,7 +23,7 @@ below (suc n) p t h =
       | inr g ↦ below n p (and_r _ (are_pairs n) t) (omega arith)
     ]
 
--- both digits of a number below 100 stand in the table
+-- both digits of a number below 100 are in the table
 pub pair-at : (p : ℕ) → p < 100 → (get_or PAIRS (p * 2) 0 ≡ 48 + p / 10) × (get_or PAIRS (p * 2 + 1) 0 ≡ 48 + p % 10)
 pair-at p h = below 100 p tt h
 

@@ -1,4 +1,4 @@
--- One text behind another.
+-- One text after another.
 use Rattle.std.proofs.Common.{◌≡◌, ℕ, List, [], ◌∷◌, ◌++◌, ap, ◌∙◌, append-nil, append_assoc}
 use Rattle.std.specs.List.{flat_map}
 use Rattle.std.proofs.lemmas.List.Concat.{flat_map-cons}
@@ -9,7 +9,7 @@ use Rattle.mcs_text.specs.Spelling.{then_text, token_text, line_text}
 pub text-then : (a b c x y : List ℕ) → b ≡ a ++ x → c ≡ b ++ y → c ≡ a ++ (x ++ y)
 text-then a b c x y p q = q ∙ ap (λ (l : List ℕ). l ++ y) p ∙ append_assoc a x y
 
--- a line, behind what stood there: its first word, others, and then two more
+-- a line, after what was there: its first word, others, and then two more
 pub line-by-parts : (front : List ℕ) (first : Token) (words : List Token) (one other : Token) →
     (((front ++ (token_text first ++ flat_map (λ t. then_text (token_text t)) words)) ++ then_text (token_text one)) ++ then_text (token_text other)) ++ 10 ∷ []
     ≡ front ++ line_text first (words ++ one ∷ other ∷ []) []

@@ -18,11 +18,11 @@ message_text label words = flat_map (λ n. then_text (decimal n)) (label ∷ wor
 abbrev pub IsMessageText : List ℕ → ℕ → List ℕ → Type 0
 IsMessageText text label words = (text ≡ message_text label words) × (length text ≤ MESSAGE)
 
--- the text of a message stands in a line behind so many bytes
+-- the text of a message is in a line after so many bytes
 abbrev pub StandsBehind : List ℕ → ℕ → ℕ → List ℕ → Type 0
 StandsBehind line front label words = (front ≤ length line) × (drop front line ≡ message_text label words)
 
--- what stands before the message of an entry: who enters, the word of the entry, and an address
+-- what is before the message of an entry: who enters, the word of the entry, and an address
 abbrev pub front_text : Entrant → Key → ℕ → List ℕ
 front_text from key address = decimal from.core.0 ++ then_text (name_text from.thread) ++ then_text (key_text key) ++ then_text (decimal address)
 

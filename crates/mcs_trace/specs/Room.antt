@@ -1,4 +1,4 @@
--- What stands on a line, and the room behind it.
+-- What is on a line, and the room after it.
 use Rattle.std.specs.Prelude.{◌≡◌, ℕ, ◌+◌, ◌≤◌, List, ◌++◌, length}
 use Rattle.mcs_trace.specs.declared.line.TheConstants.{SIZE}
 
@@ -6,6 +6,6 @@ use Rattle.mcs_trace.specs.declared.line.TheConstants.{SIZE}
 abbrev pub HasRoom : List ℕ → ℕ → Type 0
 HasRoom line count = length line + count ≤ SIZE
 
--- a text stands behind what stood there, and took at most so much room
+-- a text follows what was there, and took at most so much room
 abbrev pub Adds : List ℕ → List ℕ → ℕ → List ℕ → Type 0
 Adds old new most text = (new ≡ old ++ text) × (length new ≤ length old + most)

@@ -11,7 +11,7 @@ use mcs_text::{Key, Token};
 use mcs_types::{BootLine, Cap, Guard, ObjId, Prio};
 
 impl Line {
-    /// A space, and whether a thread runs at first.
+    /// Appends a space, and whether a thread runs at first.
     fn runs(&mut self, runs: bool)
         requires { HasRoom self.old (1 + WORD) }
         ensures { Adds self.old self.new (1 + WORD) (then_text (token_text (runs_key runs))) }
@@ -23,7 +23,7 @@ impl Line {
         }
     }
 
-    /// The words of the line of a thread of the boot as far as the guard of the root.
+    /// Appends the words of the line of a thread of the boot, up to the guard of the root.
     fn rooted(&mut self, priorities: (Prio, Prio), root: ObjId, guard: Guard)
         requires { HasRoom self.old ROOTED }
         ensures { Adds self.old self.new ROOTED
@@ -39,7 +39,7 @@ impl Line {
         self.spaced(guard.value);
     }
 
-    /// The line of a thread of the boot.
+    /// Appends the line of a thread of the boot.
     #[tactic(auto, unfolding(mcs_text::specs::Spelling::line_text))]
     fn thread(
         &mut self,
@@ -59,7 +59,7 @@ impl Line {
         self.byte(b'\n');
     }
 
-    /// The line of a slot of the boot.
+    /// Appends the line of a slot of the boot.
     #[tactic(auto, unfolding(mcs_text::specs::Spelling::line_text))]
     fn boot_slot(&mut self, cnode: ObjId, index: u8, cap: &Cap)
         requires { HasRoom self.old LINE }
@@ -72,7 +72,7 @@ impl Line {
         self.byte(b'\n');
     }
 
-    /// The line of a notification that is bound to a thread.
+    /// Appends the line of a notification that is bound to a thread.
     #[tactic(auto, unfolding(mcs_text::specs::Spelling::line_text))]
     fn tie(&mut self, thread: ObjId, notification: ObjId)
         requires { HasRoom self.old LINE }
@@ -84,7 +84,7 @@ impl Line {
         self.byte(b'\n');
     }
 
-    /// A line of the boot but the first.
+    /// Appends a line of the boot other than the first.
     pub fn boot_line(&mut self, line: &BootLine)
         requires { HasRoom self.old LINE }
         ensures { self.new ≡ self.old ++ boot_text line.now }

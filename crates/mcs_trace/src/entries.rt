@@ -11,7 +11,7 @@ use mcs_text::{Entrant, Key, Token};
 use mcs_types::{Badge, MESSAGE_WORDS, Place, Prio, Rights};
 
 impl Line {
-    /// The line of an entry that names one address.
+    /// Appends the line of an entry that names one address.
     #[inline(always)]
     #[tactic(auto, unfolding(mcs_text::specs::Spelling::line_text))]
     pub fn address(&mut self, from: Entrant, key: Key, address: u64)
@@ -24,7 +24,7 @@ impl Line {
         self.byte(b'\n');
     }
 
-    /// The line of an entry that names two addresses.
+    /// Appends the line of an entry that names two addresses.
     #[inline(always)]
     #[tactic(auto, unfolding(mcs_text::specs::Spelling::line_text))]
     pub fn addresses(&mut self, from: Entrant, key: Key, first: u64, second: u64)
@@ -38,7 +38,7 @@ impl Line {
         self.byte(b'\n');
     }
 
-    /// The line of an entry that sets a priority.
+    /// Appends the line of an entry that sets a priority.
     #[tactic(auto, unfolding(mcs_text::specs::Spelling::line_text))]
     pub fn priority(&mut self, from: Entrant, thread: u64, authority: u64, priority: Prio)
         requires { HasRoom self.old LINE }
@@ -52,7 +52,7 @@ impl Line {
         self.byte(b'\n');
     }
 
-    /// The line of an entry that sends a message.
+    /// Appends the line of an entry that sends a message.
     #[inline(always)]
     #[tactic(auto, unfolding(mcs_text::specs::Spelling::line_text))]
     pub fn send(&mut self, from: Entrant, key: Key, cap: u64, label: u64, words: &[u64])
@@ -67,7 +67,7 @@ impl Line {
         self.byte(b'\n');
     }
 
-    /// The line of an entry that sends and receives, over two addresses.
+    /// Appends the line of an entry that sends and receives, over two addresses.
     #[inline(always)]
     #[tactic(auto, unfolding(mcs_text::specs::Spelling::line_text))]
     pub fn send_receive(
@@ -91,7 +91,7 @@ impl Line {
         self.byte(b'\n');
     }
 
-    /// The line of an entry that sends, and receives with a reply object.
+    /// Appends the line of an entry that sends, and receives with a reply object.
     #[inline(always)]
     #[tactic(auto, unfolding(mcs_text::specs::Spelling::line_text))]
     pub fn exchange(
@@ -116,7 +116,7 @@ impl Line {
         self.byte(b'\n');
     }
 
-    /// The line of an entry that makes an object.
+    /// Appends the line of an entry that makes an object.
     #[tactic(auto, unfolding(mcs_text::specs::Spelling::line_text))]
     pub fn make(&mut self, from: Entrant, key: Key, place: Place)
         requires { HasRoom self.old LINE }
@@ -129,7 +129,7 @@ impl Line {
         self.byte(b'\n');
     }
 
-    /// The words of an entry that copies a capability: where from, where to, and rights.
+    /// Appends the words of an entry that copies a capability: where from, where to, and rights.
     // a part of its callers, as a place of its own is: so the places need not go through memory
     #[inline(always)]
     fn copied(&mut self, from: Entrant, key: Key, places: (Place, Place), rights: Rights)
@@ -145,7 +145,7 @@ impl Line {
         self.spaced_word(&Token::Rights(rights));
     }
 
-    /// The line of an entry that copies a capability.
+    /// Appends the line of an entry that copies a capability.
     #[tactic(auto, unfolding(mcs_text::specs::Spelling::line_text))]
     pub fn copy(&mut self, from: Entrant, places: (Place, Place), rights: Rights)
         requires { HasRoom self.old LINE }
@@ -157,7 +157,7 @@ impl Line {
         self.byte(b'\n');
     }
 
-    /// The line of an entry that mints a capability.
+    /// Appends the line of an entry that mints a capability.
     #[tactic(auto, unfolding(mcs_text::specs::Spelling::line_text))]
     pub fn mint(&mut self, from: Entrant, places: (Place, Place), rights: Rights, badge: Badge)
         requires { HasRoom self.old LINE }
@@ -170,7 +170,7 @@ impl Line {
         self.byte(b'\n');
     }
 
-    /// The line of an entry that moves a capability.
+    /// Appends the line of an entry that moves a capability.
     #[tactic(auto, unfolding(mcs_text::specs::Spelling::line_text))]
     pub fn move_cap(&mut self, from: Entrant, source: Place, dest: Place)
         requires { HasRoom self.old LINE }
@@ -183,7 +183,7 @@ impl Line {
         self.byte(b'\n');
     }
 
-    /// The line of an entry that deletes a capability.
+    /// Appends the line of an entry that deletes a capability.
     #[tactic(auto, unfolding(mcs_text::specs::Spelling::line_text))]
     pub fn delete(&mut self, from: Entrant, place: Place)
         requires { HasRoom self.old LINE }

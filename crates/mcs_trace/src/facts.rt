@@ -34,7 +34,7 @@ pub fn number_of(refusal: Refusal) -> u64
 }
 
 impl Line {
-    /// A line of one word.
+    /// Appends a line of one word.
     #[inline(always)]
     #[tactic(auto, unfolding(mcs_text::specs::Spelling::line_text))]
     pub fn bare(&mut self, key: Key)
@@ -45,7 +45,7 @@ impl Line {
         self.byte(b'\n');
     }
 
-    /// A line of one number.
+    /// Appends a line of one number.
     #[inline(always)]
     #[tactic(auto, unfolding(mcs_text::specs::Spelling::line_text))]
     pub fn numbered(&mut self, key: Key, number: u64)
@@ -57,7 +57,7 @@ impl Line {
         self.byte(b'\n');
     }
 
-    /// The line of a message that was received.
+    /// Appends the line of a message that was received.
     #[inline(always)]
     #[tactic(auto, unfolding(mcs_text::specs::Spelling::line_text))]
     pub fn got(&mut self, badge: u64, label: u64, words: &[u64])
@@ -72,7 +72,7 @@ impl Line {
         self.byte(b'\n');
     }
 
-    /// A record that names one object.
+    /// Appends a record that names one object.
     #[inline(always)]
     #[tactic(auto, unfolding(mcs_text::specs::Spelling::line_text))]
     pub fn named(&mut self, key: Key, object: ObjId)
@@ -84,7 +84,7 @@ impl Line {
         self.byte(b'\n');
     }
 
-    /// A record that names an object, and another or none.
+    /// Appends a record that names an object, and another or none.
     #[inline(always)]
     #[tactic(auto, unfolding(mcs_text::specs::Spelling::line_text))]
     pub fn bound(&mut self, key: Key, object: ObjId, other: Option<ObjId>)
@@ -98,7 +98,7 @@ impl Line {
         self.byte(b'\n');
     }
 
-    /// A record that names a thread and its queue.
+    /// Appends a record that names a thread and its queue.
     #[inline(always)]
     #[tactic(auto, unfolding(mcs_text::specs::Spelling::line_text))]
     pub fn stands(&mut self, key: Key, thread: ObjId, queue: Queue)
@@ -112,7 +112,7 @@ impl Line {
         self.byte(b'\n');
     }
 
-    /// The record of a message that was taken.
+    /// Appends the record of a message that was taken.
     #[inline(always)]
     #[tactic(auto, unfolding(mcs_text::specs::Spelling::line_text))]
     pub fn took(&mut self, message: u32, thread: ObjId)
@@ -126,7 +126,7 @@ impl Line {
         self.byte(b'\n');
     }
 
-    /// The record of a message that was dropped.
+    /// Appends the record of a message that was dropped.
     #[tactic(auto, unfolding(mcs_text::specs::Spelling::line_text))]
     pub fn dropped(&mut self, message: u32)
         requires { HasRoom self.old LINE }
@@ -138,8 +138,8 @@ impl Line {
         self.byte(b'\n');
     }
 
-    /// The record of a caller that is owed an answer, with the context that it brought along, if it
-    /// brought one.
+    /// Appends the record of a caller that is owed an answer, with the context that it brought
+    /// along, if it brought one.
     #[inline(always)]
     #[tactic(auto, unfolding(mcs_text::specs::Spelling::line_text))]
     pub fn owes(&mut self, reply: ObjId, caller: ObjId, context: Option<ObjId>)
@@ -154,7 +154,7 @@ impl Line {
         self.byte(b'\n');
     }
 
-    /// The record of a debt that ended without an answer.
+    /// Appends the record of a debt that ended without an answer.
     #[tactic(auto, unfolding(mcs_text::specs::Spelling::line_text))]
     pub fn void(&mut self, reply: ObjId, caller: ObjId, ending: Ending)
         requires { HasRoom self.old LINE }
@@ -171,7 +171,7 @@ impl Line {
         self.byte(b'\n');
     }
 
-    /// What a slot of a CNode holds.
+    /// Appends the record of what a slot of a CNode holds.
     #[inline(always)]
     #[tactic(auto, unfolding(mcs_text::specs::Spelling::line_text))]
     pub fn slot(&mut self, cnode: ObjId, index: u8, cap: Option<Cap>)
@@ -187,7 +187,7 @@ impl Line {
         self.byte(b'\n');
     }
 
-    /// A record that names an object and a number.
+    /// Appends a record that names an object and a number.
     #[tactic(auto, unfolding(mcs_text::specs::Spelling::line_text))]
     pub fn object_number(&mut self, key: Key, object: ObjId, number: u64)
         requires { HasRoom self.old LINE }
@@ -200,7 +200,7 @@ impl Line {
         self.byte(b'\n');
     }
 
-    /// The record of the mode of a thread.
+    /// Appends the record of the mode of a thread.
     #[inline(always)]
     #[tactic(auto, unfolding(mcs_text::specs::Spelling::line_text))]
     pub fn turns(&mut self, thread: ObjId, mode: Mode)
@@ -217,7 +217,7 @@ impl Line {
         self.byte(b'\n');
     }
 
-    /// A space, and how a message was sent.
+    /// Appends a space, and how a message was sent.
     #[inline(always)]
     fn how(&mut self, mode: SendMode)
         requires { HasRoom self.old (1 + WORD) }
@@ -231,7 +231,7 @@ impl Line {
         }
     }
 
-    /// The record of a message that was sent.
+    /// Appends the record of a message that was sent.
     #[inline(always)]
     #[tactic(auto, unfolding(mcs_text::specs::Spelling::line_text))]
     pub fn sent(
@@ -261,7 +261,7 @@ impl Line {
         self.byte(b'\n');
     }
 
-    /// The record of an answer to a caller.
+    /// Appends the record of an answer to a caller.
     #[inline(always)]
     #[tactic(auto, unfolding(mcs_text::specs::Spelling::line_text))]
     pub fn paid(
@@ -285,7 +285,7 @@ impl Line {
         self.byte(b'\n');
     }
 
-    /// The record of a word that was heard.
+    /// Appends the record of a word that was heard.
     #[inline(always)]
     #[tactic(auto, unfolding(mcs_text::specs::Spelling::line_text))]
     pub fn heard(&mut self, thread: ObjId, notification: ObjId, word: u64)
@@ -299,7 +299,7 @@ impl Line {
         self.byte(b'\n');
     }
 
-    /// The record of a receiver that joins a queue with its reply object.
+    /// Appends the record of a receiver that joins a queue with its reply object.
     #[inline(always)]
     #[tactic(auto, unfolding(mcs_text::specs::Spelling::line_text))]
     fn receiver(&mut self, thread: ObjId, queue: Queue, reply: Option<ObjId>)
@@ -314,7 +314,7 @@ impl Line {
         self.byte(b'\n');
     }
 
-    /// The record of a thread that joins a queue.
+    /// Appends the record of a thread that joins a queue.
     #[inline(always)]
     pub fn joins(&mut self, thread: ObjId, queue: Queue, reply: Option<ObjId>)
         requires { HasRoom self.old LINE }

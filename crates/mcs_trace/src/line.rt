@@ -67,7 +67,7 @@ impl Line {
     // The end is read once, before the bytes are written: so it stays in a register from word to
     // word.
 
-    /// A byte.
+    /// Appends a byte.
     #[inline(always)]
     pub fn byte(&mut self, byte: u8)
         requires { HasRoom self.old 1 }
@@ -78,7 +78,7 @@ impl Line {
         self.end = end + 1;
     }
 
-    /// So many bytes of a text from a position on, stored behind the first so many of a buffer.
+    /// Stores so many bytes of a text, from a position on, after the first so many of a buffer.
     // of the buffer alone: so the end is stored once, and not with each part
     #[inline(always)]
     fn part<const N: usize>(buffer: &mut [u8], front: usize, text: &[u8], at: usize)
@@ -90,8 +90,7 @@ impl Line {
         Simd::<u8, N>::from_slice(&text[at..]).copy_to_slice(&mut buffer[front..]);
     }
 
-    /// Bytes, N to twice as many: the first N, and the last N whichever of them stand there
-    /// already.
+    /// Appends N to twice as many bytes: the first N, and then the last N, which may overlap them.
     #[inline(always)]
     fn ends<const N: usize>(&mut self, bytes: &[u8])
         requires least { N ≤ length bytes.now }
@@ -106,8 +105,8 @@ impl Line {
         self.end = front + bytes.len();
     }
 
-    /// Bytes. They are moved 4, 8 or 16 at a time, and the last so many whichever of them stand
-    /// there already.
+    /// Appends bytes. They are moved 4, 8 or 16 at a time; the last such part may overlap the one
+    /// before.
     // a copy of a length that is not known would go byte by byte
     #[inline(always)]
     pub fn bytes(&mut self, bytes: &[u8])
@@ -130,7 +129,7 @@ impl Line {
         self.many_bytes(bytes);
     }
 
-    /// Bytes, more than 32.
+    /// Appends more than 32 bytes.
     #[inline(always)]
     fn many_bytes(&mut self, bytes: &[u8])
         requires many { PART ≤ length bytes.now }
@@ -148,7 +147,7 @@ impl Line {
         self.end = front + bytes.len();
     }
 
-    /// A line that is spelled already, and its newline.
+    /// Appends a line that is spelled already, and its newline.
     #[inline(always)]
     pub fn spelled(&mut self, line: &[u8])
         requires short { length line.now < LINE }
@@ -159,8 +158,8 @@ impl Line {
         self.byte(b'\n');
     }
 
-    /// A few bytes, one after the other: where they are known they are stored together, and no call
-    /// compares where they stand.
+    /// Appends a few bytes, one after the other. Where they are known they are stored together, and
+    /// no call compares their places.
     #[inline(always)]
     pub fn few_bytes(&mut self, bytes: &[u8])
         requires { HasRoom self.old (length bytes.now) }

@@ -53,8 +53,8 @@ fn digit_count(n: u64) -> usize
     }
 }
 
-/// The last so many of the two digits of each of two numbers below 100 in front, and anything
-/// behind them.
+/// The last so many of the two digits of each of two numbers below 100 in front, and anything after
+/// them.
 #[inline(always)]
 fn last_digits(high: u64, low: u64, count: usize) -> [u8; 4]
     requires high { high < 100 }
@@ -92,8 +92,7 @@ pub fn number_length(n: u64) -> usize
     }
 }
 
-/// Two digits of a number below 100, also where the first is 0. Answers where what follows them
-/// stands.
+/// Puts two digits of a number below 100, also where the first is 0. Returns the place after them.
 #[inline(always)]
 fn put_pair(buffer: &mut [u8], at: usize, n: u64) -> usize
     requires small { n < 100 }
@@ -106,7 +105,7 @@ fn put_pair(buffer: &mut [u8], at: usize, n: u64) -> usize
     at + 2
 }
 
-/// The four digits of a number below 10,000, also where the first are 0.
+/// Puts the four digits of a number below 10,000, also where the first are 0.
 #[inline(always)]
 fn put_four(buffer: &mut [u8], at: usize, n: u64) -> usize
     requires small { n < 10000 }
@@ -118,7 +117,7 @@ fn put_four(buffer: &mut [u8], at: usize, n: u64) -> usize
     put_pair(buffer, at, n % 100)
 }
 
-/// The eight digits of a number below 100,000,000, also where the first are 0.
+/// Puts the eight digits of a number below 100,000,000, also where the first are 0.
 fn put_eight(buffer: &mut [u8], at: usize, n: u64) -> usize
     requires small { n < 100000000 }
     requires room { at + 8 ≤ length buffer.old }
@@ -129,7 +128,8 @@ fn put_eight(buffer: &mut [u8], at: usize, n: u64) -> usize
     put_four(buffer, at, n % 10_000)
 }
 
-/// The first so many of four bytes. All four are stored, so nothing branches on how many they are.
+/// Puts the first so many of four bytes. All four are stored, so nothing branches on how many they
+/// are.
 #[inline(always)]
 fn put_first_of(buffer: &mut [u8], at: usize, bytes: [u8; 4], count: usize) -> usize
     requires few { count ≤ 4 }
@@ -141,8 +141,8 @@ fn put_first_of(buffer: &mut [u8], at: usize, bytes: [u8; 4], count: usize) -> u
     at + count
 }
 
-/// A number below 10,000. Its four digits are stored together, and moved to the front by those that
-/// are 0, so no branch depends on how many there are.
+/// Puts a number below 10,000. Its four digits are stored together, and moved to the front by those
+/// that are 0, so no branch depends on how many there are.
 #[inline(always)]
 fn put_short(buffer: &mut [u8], at: usize, n: u64) -> usize
     requires small { n < 10000 }
@@ -154,7 +154,7 @@ fn put_short(buffer: &mut [u8], at: usize, n: u64) -> usize
     put_first_of(buffer, at, last_digits(n / 100, n % 100, count), count)
 }
 
-/// A number below 100,000,000.
+/// Puts a number below 100,000,000.
 #[inline(always)]
 fn put_middle(buffer: &mut [u8], at: usize, n: u64) -> usize
     requires small { n < 100000000 }
@@ -169,8 +169,8 @@ fn put_middle(buffer: &mut [u8], at: usize, n: u64) -> usize
     put_four(buffer, at, n % 10_000)
 }
 
-/// A number of nine digits or more. It is never a part of `put_long`, which saves no registers for
-/// it so.
+/// Puts a number of nine digits or more. It is never inlined into `put_long`, which thus saves no
+/// registers for it.
 #[inline(never)]
 fn put_huge(buffer: &mut [u8], at: usize, n: u64) -> usize
     requires large { 100000000 ≤ n }
@@ -188,8 +188,8 @@ fn put_huge(buffer: &mut [u8], at: usize, n: u64) -> usize
     put_eight(buffer, at, n % 100_000_000)
 }
 
-/// A number of 10 or more. It is a function of its own, as most numbers of a trace have one digit;
-/// where it ends is answered in a register, so that nobody reads it back from the line.
+/// Puts a number of 10 or more. It is a function of its own, as most numbers of a trace have one
+/// digit. It returns the number's end in a register, so that no caller reads it back from the line.
 #[inline(never)]
 fn put_long(buffer: &mut [u8], at: usize, n: u64) -> usize
     requires large { 10 ≤ n }
@@ -207,7 +207,7 @@ fn put_long(buffer: &mut [u8], at: usize, n: u64) -> usize
 }
 
 impl Line {
-    /// A digit.
+    /// Appends a digit.
     #[inline(always)]
     #[tactic(auto, using(std::proofs::lemmas::Fmt::decimal_digit))]
     fn digit(&mut self, n: u64)
@@ -218,7 +218,7 @@ impl Line {
         self.byte(b'0' + n as u8);
     }
 
-    /// A number of 10 or more.
+    /// Appends a number of 10 or more.
     #[inline(always)]
     fn long(&mut self, n: u64)
         requires large { 10 ≤ n }
@@ -228,7 +228,7 @@ impl Line {
         self.end = put_long(&mut self.bytes, self.end, n);
     }
 
-    /// A number.
+    /// Appends a number.
     #[inline(always)]
     pub fn number(&mut self, n: u64)
         requires { HasRoom self.old NUMBER }
@@ -241,7 +241,7 @@ impl Line {
         }
     }
 
-    /// A space, and the number.
+    /// Appends a space and a number.
     #[inline(always)]
     pub fn spaced(&mut self, n: u64)
         requires { HasRoom self.old (1 + NUMBER) }
@@ -251,7 +251,7 @@ impl Line {
         self.number(n);
     }
 
-    /// A number of 128 bits.
+    /// Appends a number of 128 bits.
     #[cold]
     #[inline(never)]
     fn wide(&mut self, n: u128)
@@ -262,7 +262,7 @@ impl Line {
         self.bytes(digits.format(n).as_bytes());
     }
 
-    /// A number of messages.
+    /// Appends a number of messages.
     pub fn count(&mut self, count: u128)
         requires { HasRoom self.old COUNT }
         ensures { Adds self.old self.new COUNT (decimal count) }
@@ -286,7 +286,7 @@ impl Line {
         }
     }
 
-    /// The label and the words of a message, with a space before each.
+    /// Appends the label and the words of a message, with a space before each.
     #[inline(always)]
     pub fn message(&mut self, label: u64, words: &[u64])
         requires few { length words.now ≤ MESSAGE_WORDS }
@@ -298,7 +298,7 @@ impl Line {
         self.numbers(words);
     }
 
-    /// The same, copied where its text is known.
+    /// Appends the same, copied where its text is known.
     #[inline(always)]
     pub fn message_or_text(&mut self, label: u64, words: &[u64], text: Option<&[u8]>)
         requires few { length words.now ≤ MESSAGE_WORDS }

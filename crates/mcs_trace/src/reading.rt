@@ -22,8 +22,8 @@ fn key_length(key: Key) -> usize
     key.text().len()
 }
 
-/// How many bytes stand before the message of an entry: who enters, the word of the entry, and an
-/// address.
+/// How many bytes are before the message of an entry: the entering thread, the word of the entry,
+/// and an address.
 #[inline(always)]
 fn front_length(from: Entrant, key: Key, address: u64) -> usize
     ensures value { result ≡ length (front_text from key address) }
@@ -46,7 +46,7 @@ fn sending_key(form: Sending) -> Key
     }
 }
 
-/// The text of a message, where it is the one whose text stands in a line behind so many bytes.
+/// The text of a message, where it is the one whose text is in a line after so many bytes.
 #[inline(always)]
 fn text_behind<'a>(
     line: &'a [u8],
@@ -125,8 +125,8 @@ impl<'a> Model for ReadStep<'a> {
 }
 
 impl<'a> ReadStep<'a> {
-    /// The text of a message, where it is that of the step, and stands behind one address or two.
-    /// None says nothing.
+    /// The text of a message, where it is that of the step, and follows one address or two. None
+    /// says nothing.
     #[inline(always)]
     pub fn message_text(&self, label: u64, words: &[u64]) -> Option<&[u8]>
         ensures { IfSome result (λ t. IsMessageText t.now label words.now) }

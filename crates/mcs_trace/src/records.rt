@@ -18,7 +18,7 @@ use mcs_packing::{
 use mcs_text::Key;
 use mcs_types::{Cap, CoreId, Kind, MESSAGE_WORDS, ObjId, Rec};
 
-/// The words of a message that stands at a place.
+/// The words of a message that is at a place.
 #[inline(always)]
 pub fn words_at(words: &[u64], at: u32, len: u8) -> &[u64]
     requires { IsMessageAt words.now at len }
@@ -29,7 +29,7 @@ pub fn words_at(words: &[u64], at: u32, len: u8) -> &[u64]
     &words[start..start + len as usize]
 }
 
-/// The line of a slot.
+/// Writes the line of a slot.
 // a part of its callers, which know of a capability which fields are 0
 #[inline(always)]
 fn write_slot(line: &mut Line, cnode: u32, index: u8, cap: Option<Cap>)
@@ -39,7 +39,7 @@ fn write_slot(line: &mut Line, cnode: u32, index: u8, cap: Option<Cap>)
     line.slot(id_of(Kind::CNode, cnode), index, cap)
 }
 
-/// What was made and what ended.
+/// Writes the record of what was made or ended.
 fn write_object(line: &mut Line, sent: u128, packed: &Packed, words: &[u64], wide: &[Rec])
     requires of { IsOfObject packed.now }
     requires room { HasRoom line.old LINE }
@@ -55,7 +55,7 @@ fn write_object(line: &mut Line, sent: u128, packed: &Packed, words: &[u64], wid
     }
 }
 
-/// A slot without a capability, or with one that has no badge and no guard.
+/// Writes the record of a slot without a capability, or with one that has no badge and no guard.
 fn write_plain_slot(line: &mut Line, sent: u128, packed: &Packed, words: &[u64], wide: &[Rec])
     requires of { IsOfSlot packed.now }
     requires room { HasRoom line.old LINE }
@@ -77,7 +77,7 @@ fn write_plain_slot(line: &mut Line, sent: u128, packed: &Packed, words: &[u64],
     }
 }
 
-/// How a thread runs and where it stands.
+/// Writes the record of a thread's mode or queue.
 #[inline(always)]
 fn write_thread(line: &mut Line, sent: u128, packed: &Packed, words: &[u64], wide: &[Rec])
     requires of { IsOfThread packed.now }
@@ -120,7 +120,7 @@ fn write_thread(line: &mut Line, sent: u128, packed: &Packed, words: &[u64], wid
     }
 }
 
-/// What became of a message, and of the debt for it.
+/// Writes the record of what became of a message, and of the debt for it.
 #[inline(always)]
 fn write_debt(line: &mut Line, sent: u128, packed: &Packed, words: &[u64], wide: &[Rec])
     requires of { IsOfDebt packed.now }
@@ -154,7 +154,8 @@ fn write_debt(line: &mut Line, sent: u128, packed: &Packed, words: &[u64], wide:
     }
 }
 
-/// Who holds a context, is bound to a notification, and what was signalled.
+/// Writes the record of which thread holds a context, is bound to a notification, or of what was
+/// signalled.
 fn write_bond(line: &mut Line, sent: u128, packed: &Packed, words: &[u64], wide: &[Rec])
     requires of { IsOfBond packed.now }
     requires room { HasRoom line.old LINE }
@@ -201,7 +202,7 @@ fn write_bond(line: &mut Line, sent: u128, packed: &Packed, words: &[u64], wide:
     }
 }
 
-/// A slot with a capability that has a badge or a guard.
+/// Writes the record of a slot with a capability that has a badge or a guard.
 fn write_marked_slot(line: &mut Line, sent: u128, packed: &Packed, words: &[u64], wide: &[Rec])
     requires of { IsOfMarked packed.now }
     requires fits { Fits packed.now words.now wide.now }
@@ -233,7 +234,7 @@ fn write_marked_slot(line: &mut Line, sent: u128, packed: &Packed, words: &[u64]
     }
 }
 
-/// What keeps one word: what was signalled or heard.
+/// Writes a record that keeps one word: what was signalled or heard.
 fn write_word(line: &mut Line, sent: u128, packed: &Packed, words: &[u64], wide: &[Rec])
     requires of { IsOfWord packed.now }
     requires fits { Fits packed.now words.now wide.now }
@@ -269,7 +270,7 @@ fn text_of<'a>(read: Option<&'a ReadStep<'_>>, label: u64, words: &[u64]) -> Opt
     }
 }
 
-/// What was sent and paid, whose text is copied where it is that of this step.
+/// Writes the record of what was sent or paid. Its text is copied where it is that of this step.
 #[inline(never)]
 fn write_message_of(
     line: &mut Line,
@@ -321,7 +322,7 @@ fn write_message_of(
     }
 }
 
-/// What was sent and paid, of which no text was read.
+/// Writes the record of what was sent or paid, of which no text was read.
 #[inline(never)]
 fn write_message(line: &mut Line, sent: u128, packed: &Packed, words: &[u64], wide: &[Rec])
     requires of { IsOfMessage packed.now }
@@ -332,8 +333,9 @@ fn write_message(line: &mut Line, sent: u128, packed: &Packed, words: &[u64], wi
     write_message_of(line, sent, packed, words, wide, None)
 }
 
-/// What was sent and paid, whose text is copied where it is that of this step, which was read.
-// the parts of the step each for itself: so who writes other records puts nothing together for it
+/// Writes the record of what was sent or paid. Its text is copied where it is that of this step,
+/// which was read.
+// the parts of the step each for itself: so other records put nothing together for it
 #[inline(always)]
 fn write_read_message(
     line: &mut Line,
@@ -369,8 +371,8 @@ fn write_read_message(
     write_message_of(line, sent, packed, words, wide, Some(&read))
 }
 
-/// The line of a record that stands as it is, before which so many messages were sent: a table,
-/// with an arm for each record.
+/// Writes the line of a record that is kept unpacked, before which so many messages were sent: a
+/// table, with an arm for each record.
 fn write_record(line: &mut Line, sent: u128, fact: &Rec)
     requires { HasRoom line.old LINE }
     ensures { line.new ≡ line.old ++ record_text sent fact.now }
@@ -446,8 +448,8 @@ fn write_record(line: &mut Line, sent: u128, fact: &Rec)
     }
 }
 
-/// The line of a record where it is kept, before which so many messages were sent. The text of a
-/// message that was read is copied.
+/// Writes the line of a record where it is kept, before which so many messages were sent. The text
+/// of a message that was read is copied.
 #[inline(always)]
 pub fn write_kept(
     line: &mut Line,
@@ -506,7 +508,7 @@ pub fn write_kept(
     }
 }
 
-/// The line of an answer where it is kept.
+/// Writes the line of an answer where it is kept.
 #[inline(always)]
 pub fn write_kept_answer(line: &mut Line, form: AnswerForm, at: u32, words: &[u64])
     requires fits { AnswerFits form at words.now }

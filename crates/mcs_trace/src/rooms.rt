@@ -31,7 +31,7 @@ pub const WORD: usize = CAP;
 /// The words with which the line of an entry begins.
 pub const HEAD: usize = NUMBER + 1 + NAME + 1 + KEY;
 
-/// What stands before the message of an entry, as far as an address.
+/// What is before the message of an entry, as far as an address.
 pub const FRONT: usize = HEAD + 1 + NUMBER;
 
 /// The words of an entry that copies a capability.

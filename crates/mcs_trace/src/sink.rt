@@ -22,7 +22,7 @@ pub struct Sink<W> {
 #[derive(Clone, Copy, Debug, PartialEq, Eq)]
 pub struct WriteFault;
 
-/// One write of at least a byte, tried again where it is interrupted.
+/// Writes at least a byte at once; a write that is interrupted is tried again.
 fn write_some<W: Write>(writer: &mut W, failed: &mut u64, bytes: &[u8]) -> Result<usize, WriteFault>
     ensures ok { IfOk result (λ n. n ≤ length bytes.now) }
     ensures some { IfOk result (λ n. 0 < n) }
@@ -123,8 +123,8 @@ impl<W: Write> Sink<W> {
         self.line.clear();
     }
 
-    /// Writes what is kept back. It is out of line, so that who makes room only tests whether there
-    /// is some.
+    /// Writes what is kept back. It is out of line, so that the caller only tests whether there is
+    /// some.
     #[cold]
     #[inline(never)]
     pub fn flush(&mut self)

@@ -9,7 +9,7 @@ use crate::steps::write_kept_step;
 use mcs_packing::{KeptAnswer, KeptRecord, KeptStep, id_of};
 use mcs_text::{Entrant, Token};
 
-/// A word.
+/// Spells a word.
 pub fn spell(line: &mut Line, token: &Token)
     ensures { line.new ≡ token_text token.now }
 {
@@ -17,7 +17,7 @@ pub fn spell(line: &mut Line, token: &Token)
     line.word(token);
 }
 
-/// The line of a step.
+/// Spells the line of a step.
 pub fn spell_step(line: &mut Line, step: &KeptStep<'_>)
     ensures { line.new ≡ step_text step.now }
 {
@@ -29,7 +29,7 @@ pub fn spell_step(line: &mut Line, step: &KeptStep<'_>)
     write_kept_step(line, from, step.entry, step.words);
 }
 
-/// The line of an answer.
+/// Spells the line of an answer.
 pub fn spell_answer(line: &mut Line, answer: &KeptAnswer<'_>)
     ensures { line.new ≡ answer_text answer.now }
 {
@@ -37,7 +37,7 @@ pub fn spell_answer(line: &mut Line, answer: &KeptAnswer<'_>)
     write_kept_answer(line, answer.form, answer.at, answer.words);
 }
 
-/// The line of a record, before which so many messages were sent.
+/// Spells the line of a record, before which so many messages were sent.
 pub fn spell_record(line: &mut Line, sent: u128, fact: &KeptRecord<'_>)
     ensures { line.new ≡ record_text sent fact.now }
 {

@@ -11,7 +11,7 @@ use mcs_packing::{OverAddress, OverPair, OverPlace, PackedEntry, Sending, addres
 use mcs_text::{Entrant, Key};
 use mcs_types::{Badge, MESSAGE_WORDS, Place};
 
-/// The line of an entry that sends a message.
+/// Writes the line of an entry that sends a message.
 #[inline(always)]
 fn write_sending(line: &mut Line, from: Entrant, form: Sending, cap: u64, label: u64, words: &[u64])
     requires few { length words.now ≤ MESSAGE_WORDS }
@@ -26,7 +26,7 @@ fn write_sending(line: &mut Line, from: Entrant, form: Sending, cap: u64, label:
     }
 }
 
-/// The line of an entry of two addresses.
+/// Writes the line of an entry of two addresses.
 #[inline(always)]
 fn write_pair(line: &mut Line, from: Entrant, form: OverPair, first: u64, second: u64)
     requires { HasRoom line.old LINE }
@@ -40,7 +40,7 @@ fn write_pair(line: &mut Line, from: Entrant, form: OverPair, first: u64, second
     }
 }
 
-/// The line of an entry of one address.
+/// Writes the line of an entry of one address.
 #[inline(always)]
 fn write_over_address(line: &mut Line, from: Entrant, form: OverAddress, address: u64)
     requires { HasRoom line.old LINE }
@@ -58,7 +58,7 @@ fn write_over_address(line: &mut Line, from: Entrant, form: OverAddress, address
     }
 }
 
-/// The line of an entry of one place.
+/// Writes the line of an entry of one place.
 fn write_at_place(line: &mut Line, from: Entrant, form: OverPlace, place: Place)
     requires { HasRoom line.old LINE }
     ensures { line.new ≡ line.old ++ step_text (step_by from (over_place form place)) }
@@ -72,7 +72,7 @@ fn write_at_place(line: &mut Line, from: Entrant, form: OverPlace, place: Place)
     }
 }
 
-/// The line of an entry where it is kept: a table, with an arm for each form.
+/// Writes the line of an entry where it is kept: a table, with an arm for each form.
 #[inline(always)]
 pub fn write_kept_step(line: &mut Line, from: Entrant, entry: &PackedEntry, words: &[u64])
     requires fits { EntryFits entry.now words.now }

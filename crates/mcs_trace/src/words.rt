@@ -11,7 +11,7 @@ use mcs_text::{Entrant, Key, Token, letter};
 use mcs_types::{Cap, Kind, ObjId, Place, Queue, Rights};
 
 impl Line {
-    /// The name of an object.
+    /// Appends the name of an object.
     #[inline(always)]
     pub fn name(&mut self, o: ObjId)
         requires { HasRoom self.old NAME }
@@ -21,7 +21,7 @@ impl Line {
         self.number(o.serial as u64);
     }
 
-    /// A space, and the name.
+    /// Appends a space and the name.
     #[inline(always)]
     pub fn spaced_name(&mut self, o: ObjId)
         requires { HasRoom self.old (1 + NAME) }
@@ -31,7 +31,7 @@ impl Line {
         self.name(o);
     }
 
-    /// A fixed word.
+    /// Appends a fixed word.
     // the table of all keys does not count in what takes in this one, so that the records which
     // most lines have are inlined
     #[inline]
@@ -42,7 +42,7 @@ impl Line {
         self.few_bytes(key.text());
     }
 
-    /// A space, and the fixed word.
+    /// Appends a space and the fixed word.
     #[inline(always)]
     pub fn spaced_key(&mut self, key: Key)
         requires { HasRoom self.old (1 + KEY) }
@@ -62,7 +62,7 @@ impl Line {
         }
     }
 
-    /// Rights, or a dash for none.
+    /// Appends rights, or a dash for none.
     #[tactic(auto, unfolding(mcs_text::specs::Spelling::rights_text))]
     pub fn rights(&mut self, rights: Rights)
         requires { HasRoom self.old RIGHTS }
@@ -78,7 +78,7 @@ impl Line {
         self.letter_if(8, b'p', rights);
     }
 
-    /// A place: an index and a depth.
+    /// Appends a place: an index and a depth.
     pub fn place(&mut self, place: Place)
         requires { HasRoom self.old PLACE }
         ensures { Adds self.old self.new PLACE (place_text place) }
@@ -87,7 +87,7 @@ impl Line {
         self.spaced(place.depth as u64);
     }
 
-    /// A word. Where the caller says the kind of word, only that kind is left of this.
+    /// Appends a word. Where the caller says the kind of word, only that kind is left of this.
     // long words are calls: a function that grows too large is not inlined, whatever is asked for
     #[inline(always)]
     pub fn word(&mut self, token: &Token)
@@ -108,7 +108,7 @@ impl Line {
         }
     }
 
-    /// A space, and the word.
+    /// Appends a space and the word.
     #[inline(always)]
     pub fn spaced_word(&mut self, token: &Token)
         requires { HasRoom self.old (1 + WORD) }
@@ -118,7 +118,7 @@ impl Line {
         self.word(token);
     }
 
-    /// A name, or a dash.
+    /// Appends a name or a dash.
     #[inline(always)]
     fn maybe(&mut self, o: Option<ObjId>)
         requires { HasRoom self.old NAME }
@@ -130,7 +130,7 @@ impl Line {
         }
     }
 
-    /// A space, and a name or a dash.
+    /// Appends a space, and a name or a dash.
     #[inline(always)]
     pub fn spaced_maybe(&mut self, o: Option<ObjId>)
         requires { HasRoom self.old (1 + NAME) }
@@ -149,7 +149,7 @@ impl Line {
         self.count(number);
     }
 
-    /// A space, and the name of a message.
+    /// Appends a space and the name of a message.
     #[inline(always)]
     pub fn spaced_message(&mut self, number: u128)
         requires { HasRoom self.old (2 + COUNT) }
@@ -159,7 +159,7 @@ impl Line {
         self.message_name(number);
     }
 
-    /// A capability, or a dash.
+    /// Appends a capability or a dash.
     pub fn held(&mut self, cap: &Option<Cap>)
         requires { HasRoom self.old CAP }
         ensures { Adds self.old self.new CAP (held_text cap.now) }
@@ -170,7 +170,7 @@ impl Line {
         }
     }
 
-    /// A queue: the object, and which of its queues.
+    /// Appends a queue: the object, and which of its queues.
     #[inline(always)]
     fn queue(&mut self, queue: Queue)
         requires { HasRoom self.old QUEUE }
@@ -185,7 +185,7 @@ impl Line {
         self.few_bytes(suffix);
     }
 
-    /// A space, and the queue.
+    /// Appends a space and the queue.
     #[inline(always)]
     pub fn spaced_queue(&mut self, queue: Queue)
         requires { HasRoom self.old (1 + QUEUE) }
@@ -195,7 +195,7 @@ impl Line {
         self.queue(queue);
     }
 
-    /// A capability.
+    /// Appends a capability.
     #[inline(always)]
     pub fn cap(&mut self, cap: &Cap)
         requires { HasRoom self.old CAP }
@@ -216,7 +216,7 @@ impl Line {
         }
     }
 
-    /// The words with which the line of an entry begins.
+    /// Appends the words with which the line of an entry begins.
     #[inline(always)]
     pub fn head(&mut self, from: Entrant, key: Key)
         requires { HasRoom self.old HEAD }

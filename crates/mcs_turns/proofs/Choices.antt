@@ -1,4 +1,4 @@
--- What each core may enter, at a point and behind a line.
+-- What each core may enter, at a point and after a line.
 use Rattle.std.specs.Prelude.{ℕ, zero, suc, Bool, true, false, cond, ◌≡◌, ◌+◌, ◌==◌, ◌⊎◌, length, List, [], ◌∷◌, Option, Some, None, slice_get}
 use Rattle.std.specs.List.{Contains}
 use Rattle.std.proofs.Common.{refl, ap, sym, ◌∙◌, subst, inl, inr}

@@ -17,7 +17,7 @@ due_by _ p = p.next
 abbrev pub begun : Position
 begun = record { next = 0; waited = None }
 
--- behind an entry that was let in with an answer
+-- after an entry that was let in with an answer
 abbrev pub moved_past : ℕ → Answer → Position
 moved_past number answer.Waits = record { next = number + 1; waited = Some number }
 moved_past number _ = record { next = number + 1; waited = None }

@@ -79,13 +79,13 @@ put_at (suc i) x (y ∷ ys) = y ∷ put_at i x ys
 abbrev pub outcome : Book → Step → Outcome
 outcome b s = does (log_of b) s.core s.thread s.entry
 
--- the number of the entry behind one that is not the last: the next, and behind the last that with
+-- the number of the entry after one that is not the last: the next, and after the last that with
 -- which the user goes on
 abbrev pub again_by : Option ℕ → ℕ → ℕ → ℕ
 again_by None entries next = next
 again_by (Some first) entries next = cond (nat_lt next entries) next first
 
--- the position of a user behind an entry that was let in with an answer
+-- the position of a user after an entry that was let in with an answer
 abbrev pub behind : User → ℕ → Answer → Position
 behind u number a = record (moved_past number a) { next = again_by u.again (length u.entries) (number + 1) }
 

@@ -16,7 +16,7 @@ pub record Tells {K : Type 0} (E : K → K → Bool) : Type 0 where
 pub told_same : {K : Type 0} {E : K → K → Bool} → Tells E → (x y : K) {r : Bool} → r ≡ E x y → IsTrue r ↔ (x ≡ y)
 told_same {K} {E} t x y e = (λ h. t.told x y (sym e ∙ h), λ p. e ∙ subst (λ z. E x z ≡ true) p (t.itself x))
 
--- a field, and those behind it; the last field
+-- a field, and those after it; the last field
 pub fields : {A B : Type 0} {E : A → A → Bool} {F : B → B → Bool} → Tells E → Tells F → Tells {K = A × B} (λ x y. E x.0 y.0 && F x.1 y.1)
 fields {A} {B} {E} {F} a b = record {
   told = λ x y e i. (a.told x.0 y.0 (first_so (E x.0 y.0) (F x.1 y.1) e) i, b.told x.1 y.1 (second_so (E x.0 y.0) (F x.1 y.1) e) i);

@@ -1,4 +1,4 @@
--- Users with an entry more, by the place of its thread's list, or of the first one behind it.
+-- Users with an entry more, by the place of its thread's list, or of the first one after it.
 use Rattle.std.proofs.Common.{ℕ, Bool, true, false, not, cond, nat_lt, suc, ◌≡◌, ◌<◌, ◌≤◌, ◌+◌, ◌||◌, List, [], ◌∷◌, ◌++◌, Some, None, length, set, take, drop, refl, ap, sym, subst, arith, one-add, rules}
 use Rattle.std.specs.Prelude.{if◌then◌else◌, get_or, position, slice_get}
 use Rattle.std.specs.List.{position_or_len}

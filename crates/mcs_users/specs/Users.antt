@@ -38,12 +38,12 @@ with_again us t n = elim (position (λ (u : User). same u.thread t) us) [ None �
 abbrev pub is_place_for : ObjId → User → Bool
 is_place_for t u = same u.thread t || nat_lt t.serial u.thread.serial
 
--- v stands behind u: its thread is another one, of no lower serial
+-- v follows u: its thread is another one, of no lower serial
 pub record StandsBehind (u v : User) : Type 0 where
   pub other : same u.thread v.thread ≡ false
   pub serial : u.thread.serial ≤ v.thread.serial
 
--- each user stands behind all before it
+-- each user follows all before it
 abbrev pub AreInOrder : List User → Type 0
 AreInOrder [] = Unit {0}
 AreInOrder (u ∷ us) = AllByRecursion (StandsBehind u) us × AreInOrder us

@@ -13,11 +13,11 @@ const VERSION: &str = "0.1.0";
 /// What the program does with a script.
 #[derive(Clone, Copy)]
 pub enum Command<'a> {
-    /// Compares what stands behind each step with what it did.
+    /// Compares what follows each step with what it did.
     Check,
     /// Tells why steps did nothing, and what is stuck at the end.
     Why,
-    /// Shows who stands where.
+    /// Shows the state of each thread.
     State(Wanted),
     /// Writes the lines of the book as JSON.
     Json,
@@ -68,7 +68,7 @@ fn plan<'a>(alloc: Global) -> Arg<'a> {
     Arg::new(alloc, "FILE").help("The plan [default: standard input]")
 }
 
-/// The option that says behind which line.
+/// The option that says after which line.
 fn at<'a>(alloc: Global) -> Arg<'a> {
     Arg::new(alloc, "at")
         .long("at")
@@ -129,7 +129,7 @@ fn why<'a>(alloc: Global) -> Result<Words<'a>, Error> {
     with(Ok(words), file(alloc))
 }
 
-/// The command that shows who stands where.
+/// The command that shows the state of each thread.
 fn state<'a>(alloc: Global) -> Result<Words<'a>, Error> {
     let words = Words::new(alloc, "state").about("Shows who stands where");
     let words = with(Ok(words), at(alloc));

@@ -73,7 +73,7 @@ fn read_input(rt: &HostRuntime) -> io::Result<Vec<u8>> {
 }
 
 /// The bytes of a file, or of the standard input; or the exit status, where they can't be read,
-/// which is told.
+/// which is reported.
 fn read_bytes(rt: &HostRuntime, file: Option<&str>) -> Result<Vec<u8>, u8> {
     let read = match file {
         Some(path) => match fs::read(rt, path) {

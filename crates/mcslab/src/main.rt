@@ -1,5 +1,5 @@
-//! The program: `mcslab check` compares what a script says of its steps with what they do, `mcslab
-//! why` tells why a step did nothing, and `mcslab compile` makes a script of a plan.
+//! The program: `mcslab check` compares what a script says of its steps with what they do,
+//! `mcslab why` says why a step did nothing, and `mcslab compile` makes a script of a plan.
 #![tactic(auto)]
 
 mod command_line;
@@ -33,7 +33,7 @@ fn tell(rt: &HostRuntime, fault: &ExploreFault) -> ExitCode {
     ExitCode::from(fault.status())
 }
 
-/// Tells what `clap` answers in place of a command.
+/// Tells what `clap` returns in place of a command.
 fn tell_answer(rt: &HostRuntime, answer: &Error) -> ExitCode {
     let _ = answer.print(rt);
     match answer.kind() {

@@ -45,7 +45,7 @@ pub heads-of : (hs : List Head) (h : Head) (k : Entered) (ws vs : List ℕ) → 
     → all_entered (hs ++ h ∷ []) vs ≡ all_entered hs ws ++ k ∷ []
 heads-of hs h k ws vs w fits is = all_entered-push hs h vs ∙ ap (λ l. l ++ entered_of h vs ∷ []) (all_entered-grows hs ws vs w fits) ∙ ap (λ x. all_entered hs ws ++ x ∷ []) is
 
--- the lines, with one more, of the records behind the last end
+-- the lines, with one more, of the records after the last end
 pub lines-closed : (hs : List Head) (h : Head) (k : Entered) (ws vs : List ℕ) (ps : List Packed) (rs os : List Rec) (n : ℕ)
     → all_entered (hs ++ h ∷ []) vs ≡ all_entered hs ws ++ k ∷ []
     → records_of ps vs os ≡ records_of ps ws rs
@@ -54,7 +54,7 @@ pub lines-closed : (hs : List Head) (h : Head) (k : Entered) (ws vs : List ℕ) 
 lines-closed hs h k ws vs ps rs os n heads records le rise end =
     ap (λ l. cut 0 l (records_of ps vs os)) heads ∙ ap (cut 0 (all_entered hs ws ++ k ∷ [])) records ∙ cut-close (all_entered hs ws) (records_of ps ws rs) k n le rise end
 
--- the lines, with one more record behind the last end
+-- the lines, with one more record after the last end
 pub lines-noted : (hs : List Head) (ws vs : List ℕ) (qs ps : List Packed) (rs os : List Rec) (new : List Rec) (n : ℕ)
     → GrowsBy ws vs → AllHeadsFit hs ws → records_of ps vs os ≡ records_of qs ws rs ++ new
     → n ≤ length (records_of qs ws rs) → EndsRise 0 (all_entered hs ws) n

@@ -28,7 +28,7 @@ cut-push s (j ∷ hs) rs new k n e h end =
     let rest : n ≡ j.end + length (drop (j.end - s) rs) = omega (arith, h.0, length-drop (j.end - s) rs) in
     rw (take-append-le, drop-append-le) (ap (λ ls. (record { step = j.step; answer = j.answer; records = take (j.end - s) rs }) ∷ ls) (cut-push j.end hs (drop (j.end - s) rs) new k n rest h.1 end))
 
--- records behind the last end are in no line
+-- records after the last end are in no line
 pub cut-beyond : (s : ℕ) (hs : List Entered) (rs new : List Rec) (n : ℕ) → n ≤ s + length rs → EndsRise s hs n → cut s hs (rs ++ new) ≡ cut s hs rs
 cut-beyond s [] rs new n le h = refl
 cut-beyond s (j ∷ hs) rs new n le h =
@@ -37,13 +37,13 @@ cut-beyond s (j ∷ hs) rs new n le h =
     let rest : n ≤ j.end + length (drop (j.end - s) rs) = omega (arith, h.0, last, le, length-drop (j.end - s) rs) in
     rw (take-append-le, drop-append-le) (ap (λ ls. (record { step = j.step; answer = j.answer; records = take (j.end - s) rs }) ∷ ls) (cut-beyond j.end hs (drop (j.end - s) rs) new n rest h.1))
 
--- the lines without the records behind the last end
+-- the lines without the records after the last end
 pub cut-first : (hs : List Entered) (rs : List Rec) (n : ℕ) → n ≤ length rs → EndsRise 0 hs n → cut 0 hs (take n rs) ≡ cut 0 hs rs
 cut-first hs rs n le h =
     let long : n ≤ 0 + length (take n rs) = omega (arith, length-take-le n rs le) in
     sym (cut-beyond 0 hs (take n rs) (drop n rs) n long h) ∙ ap (cut 0 hs) (take-append-drop n rs)
 
--- one more line, of the records behind the last end
+-- one more line, of the records after the last end
 pub cut-close : (hs : List Entered) (rs : List Rec) (k : Entered) (n : ℕ) → n ≤ length rs → EndsRise 0 hs n → k.end ≡ length rs
     → cut 0 (hs ++ k ∷ []) rs ≡ cut 0 hs rs ++ (record { step = k.step; answer = k.answer; records = drop n rs }) ∷ []
 cut-close hs rs k n le h end =

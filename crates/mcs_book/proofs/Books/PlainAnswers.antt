@@ -41,7 +41,7 @@ plain-sends : (letter : Log → Letter) (answer : Answer) (alone : Act) → IsPl
 unfolding sends
 plain-sends letter answer alone h k = λ S. plain-sends_to (letter S) answer alone (first_in S (Receivers ((letter S).endpoint))) h k S
 
--- its sender stands in its queue
+-- its sender is in its queue
 plain-queues : (letter : Log → Letter) → PlainAct (queues letter)
 unfolding queues
 plain-queues letter = λ S. tt

@@ -45,7 +45,7 @@ kept-cut s later (r ∷ R) h = ap (λ xs. kept_debt s (owes_with s r) later ++ x
     at None = refl
     at (Some o) = gone (lasts o later) (any_cut s later) o h
 
--- a record that ends no debt, and comes last, changes nothing of what stands before it
+-- a record that ends no debt, and comes last, changes nothing of what is before it
 module _ (s : ObjId) (new : Rec) (e : (r : ObjId) → ends r new ≡ false) where
   -- one more record that ends no debt changes no lasting
   lasts-more : (r : ObjId) (later : List Rec) → lasts r (later ++ new ∷ []) ≡ lasts r later
@@ -223,7 +223,7 @@ module _ (s r : ObjId) (e : Rec) (c : Bool) (ending : (o : ObjId) → ends o e �
       go false e k tail = (refl, tail k)
   owed-ended (rec ∷ R) later h = (refl, owed-ended R (rec ∷ later) h)
 
-  -- the chain after the ending; above says whether some debt stands above
+  -- the chain after the ending; above says whether some debt is above
   abbrev step : Bool → List ObjId → List ObjId
   step above [] = []
   step above (o ∷ os) = cond (same o r) (cond above [] os) (o ∷ step true os)
@@ -284,7 +284,7 @@ module _ (s r : ObjId) (e : Rec) (c : Bool) (ending : (o : ObjId) → ends o e �
           at (owes_with s rec) f ih (kept-hit (rec ∷ later) R)
           (λ o is x hit. kept-same (rec ∷ later) R hit (owed-ended R (rec ∷ later) (ap (λ (z : ObjId). owed_by R z) (sym (same-equal o r x)) ∙ free-before R rec o sound is)))
 
-  -- a cancelled debt leaves what stands above it
+  -- a cancelled debt leaves what is above it
   step-above : (os : List ObjId) → step true os ≡ above r os
   step-above [] = refl
   step-above (o ∷ os) = ap (λ xs. cond (same o r) [] (o ∷ xs)) (step-above os)

@@ -36,7 +36,7 @@ record AreBrought (R : Log) (s : ObjId) (os : List ObjId) : Type 0 where
 brought-none : (R : Log) (s : ObjId) → AreBrought R s []
 brought-none R s = record { each = λ r i. absurd i; distinct = tt }
 
--- what stands above r is in the list, and is not r
+-- what is above r is in the list, and is not r
 in-above : (r z : ObjId) (os : List ObjId) → In z (above r os) → In z os × (z ≢ r)
 in-above r z [] i = absurd i
 in-above r z (o ∷ os) i = go (same o r) refl i (in-above r z os)

@@ -56,7 +56,7 @@ still : (b : Bool) (o : Option ObjId) (x : ObjId) → (o ≡ Some x) ⊎ (o ≡ 
 still true o x h = inr refl
 still false o x h = h
 
--- a reply object with which nobody stands stays so while another is cancelled
+-- a reply object with which nobody is queued stays so while another is cancelled
 unattended-cancel : (d x : ObjId) → Outlasts x Inactive (λ R. IsUnattended R d)
 unattended-cancel d x = record { dropped = λ R m h. h; parts = λ R q h y e at with. h y e ((left-queue R x y q (Receivers e) at).1) with; voided = λ R r h. h; turns = λ R h. h }
 
@@ -66,7 +66,7 @@ pub record Apart (t : ObjId) (R : Log) : Type 0 where
   pub idle : IsIdle R t
   pub running : mode_of R t ≡ Running
 
--- the same in a firm log, where those who stand among senders are those with an open message
+-- the same in a firm log, where those who are among senders are those with an open message
 pub record Acting (t : ObjId) (R : Log) : Type 0 where
   pub firm : Firm R
   pub there : IsThere R kind.Thread t
@@ -171,7 +171,7 @@ module _ (t : ObjId) where
   owed-other : (R : Log) (d x : ObjId) → Acting t R → owed_by R d ≡ Some x → IsOther R x
   owed-other R d x h owed = record { other = λ is. h.idle.1 d (owed ∙ ap (λ z. Some z) (sym is)); there = (owed-there R d x (firm-sound R h.firm) owed).1 }
 
-  -- who stands with it
+  -- who is queued with it
   standing-other : (R : Log) (x : ObjId) (q : Queue) → Acting t R → queue_of R x ≡ Some q → IsOther R x
   standing-other R x q h at = record { other = λ is. never-both (queue_of R x) q at (ap (λ z. queue_of R z) (sym is) ∙ h.idle.0); there = standing-thread R x q (firm-sound R h.firm) at }
 

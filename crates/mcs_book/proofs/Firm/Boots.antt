@@ -30,7 +30,7 @@ use Rattle.mcs_book.proofs.SoundLogs.KeptLaws.{there-next, held-there}
 use Rattle.mcs_book.proofs.Firm.Laws.{Firm, Also, firm-sound, tied-none, none-is}
 use Rattle.mcs_book.proofs.Objects.CountLaws.{next-unmade, made-there}
 
--- a firm log in which nobody stands in its queue or is owed, and nothing was closed
+-- a firm log in which nobody is in its queue or is owed, and nothing was closed
 record Quiet (R : Log) : Type 0 where
   firm : Firm R
   stands : (x : ObjId) → queue_of R x ≡ None
@@ -45,7 +45,7 @@ quiet-there R o h made = both _ _ made (ap (λ b. not b) (h.unclosed o))
 object-there : (R : Log) (k : Kind) (o : ObjId) → Quiet R → is_object R k o ≡ true → IsThere R k o
 object-there R k o h is = let p : (same_kind o.kind k ≡ true) × (was_made R o ≡ true) = parts _ _ is in (same_kind-equal o.kind k p.0, quiet-there R o h p.1)
 
--- a check that is passed, and those behind it
+-- a check that is passed, and those after it
 need-ok : {E : Type 0} (b : Bool) (why : E) (next : Result Passed E) → is_ok (need b why >> next) ≡ true → (b ≡ true) × (is_ok next ≡ true)
 unfolding ◌>>◌ need
 need-ok true why next h = (refl, h)

@@ -33,7 +33,7 @@ pub record IsLeft (x : ObjId) (R : Log) : Type 0 where
   pub there : IsThere R kind.Thread x
   pub idle : IsIdle R x
 
--- once x has left the line in which it stood, it is idle
+-- once x has left the line in which it was, it is idle
 pub parted-idle : (R : Log) (x : ObjId) (q : Queue) → Sound R → queue_of R x ≡ Some q → IsIdle (rec.Parts x q ∷ R) x
 parted-idle R x q sound at = (set-self x None (queue_of R x), λ r o. standing-owed R x q r sound at o)
 
@@ -102,7 +102,7 @@ module _ (F : Log → Type 0) where
   outlasts-cancel_all [] mode f R h = h
   outlasts-cancel_all (x ∷ xs) mode f R h = then-next F (cancel x mode) (cancel_all xs mode) R (outlasts-cancel_all xs mode f (onto (cancel x mode R) R) (outlasts-cancel x mode (f x) R h))
 
--- who stands in no queue still does not
+-- who is in no queue still does not
 outlasts-nowhere : (y x : ObjId) (mode : Mode) → Outlasts x mode (λ R. queue_of R y ≡ None)
 outlasts-nowhere y x mode = record { dropped = λ R m h. h; parts = λ R q h. set-kept (same y x) None (queue_of R y) h; voided = λ R r h. h; turns = λ R h. h }
 
@@ -110,7 +110,7 @@ outlasts-nowhere y x mode = record { dropped = λ R m h. h; parts = λ R q h. se
 outlasts-threads : (xs : List ObjId) (x : ObjId) (mode : Mode) → Outlasts x mode (λ R. (y : ObjId) → In y xs → IsThere R kind.Thread y)
 outlasts-threads xs x mode = record { dropped = λ R m h. h; parts = λ R q h. h; voided = λ R r h. h; turns = λ R h. h }
 
--- all of a list are cancelled, and then stand nowhere
+-- all of a list are cancelled, and then are nowhere
 pub all-cancelled : (xs : List ObjId) (mode : Mode) (R : Log) → ((y : ObjId) → In y xs → IsThere R kind.Thread y) → Firm R → Firm (onto (cancel_all xs mode R) R) × ((y : ObjId) → In y xs → queue_of (onto (cancel_all xs mode R) R) y ≡ None)
 all-cancelled [] mode R there firm = (firm, λ y i. absurd i)
 all-cancelled (x ∷ xs) mode R there firm =
@@ -125,16 +125,16 @@ all-cancelled (x ∷ xs) mode R there firm =
       ],
     )
 
--- who stands in a queue is in its list
+-- who is in a queue is in its list
 pub line-in : (R : Log) (q : Queue) (x : ObjId) → Sound R → queue_of R x ≡ Some q → In x (queued_in R q)
 line-in R q x sound at =
     in-sort (is_ahead R) (ahead-irreflexive R) (ahead-transitive R) (filter (stands_in R q) (threads R)) x (in-filter (stands_in R q) (threads R) x (standing-made R x q sound at) (ap (λ o. is_queue o q) at ∙ same_queue-self q))
 
--- who is in the list of a queue stands there
+-- who is in the list of a queue is there
 pub in-line : (R : Log) (q : Queue) (x : ObjId) → In x (queued_in R q) → queue_of R x ≡ Some q
 in-line R q x i = is_queue-some (queue_of R x) q ((filter-in (stands_in R q) (threads R) x (sort-in (is_ahead R) (ahead-irreflexive R) (ahead-transitive R) (filter (stands_in R q) (threads R)) x i)).1)
 
--- those who stand in a queue are among a list
+-- those who are in a queue are among a list
 outlasts-among : (q : Queue) (xs : List ObjId) (x : ObjId) (mode : Mode) → Outlasts x mode (λ R. (y : ObjId) → queue_of R y ≡ Some q → In y xs)
 outlasts-among q xs x mode = record { dropped = λ R m h. h; parts = λ R k h y at. h y ((left-queue R x y k q at).1); voided = λ R r h. h; turns = λ R h. h }
 

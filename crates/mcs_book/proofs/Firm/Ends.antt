@@ -69,7 +69,7 @@ pub record OutlastsEnding (mode : Mode) (F : Log → Type 0) : Type 0 where
   pub turns : (R : Log) (x : ObjId) → F R → F (rec.Turns x mode ∷ R)
   pub holds : (R : Log) (s x : ObjId) → F R → F (rec.Holds s (Some x) ∷ R)
 
--- it outlasts what comes behind the ending
+-- it outlasts what comes after the ending
 outlasts-ending : (F : Log → Type 0) (mode : Mode) (f : OutlastsEnding mode F) (R : Log) (r x : ObjId) (e : Rec) → F (e ∷ R) → F (onto (ending R e r x mode R) R)
 unfolding ◌then◌ give_back
 outlasts-ending F mode f R r x e h = go (topped_by R r) (context_of (rec.Turns x mode ∷ e ∷ R) x)

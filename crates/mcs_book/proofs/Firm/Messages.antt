@@ -62,7 +62,7 @@ sent-letter R s number = here (next_message R == s.number) (eq-eqb (next_message
     here true e = ap (λ z. Some z) it
     here false e = absurd cc
 
--- somebody stands in a queue, or does not block
+-- somebody is in a queue, or does not block
 firm-joins_or : (b : Bool) (p : Piece) (R : Log) → Firm (onto (p R) R) → Firm R → Firm (onto ((joins_or b p R).records) R)
 unfolding joins_or
 firm-joins_or true p R stands firm = stands
@@ -157,7 +157,7 @@ module _ (t : ObjId) where
   firm-sent : (R : Log) (cap : Cap) (mode : SendMode) (message : Content) → IsThere R kind.Endpoint cap.obj → Acting t R → Firm (sent_record (letter_over t cap mode message R) ∷ R)
   firm-sent R cap mode message there h = (((h.there, h.idle, there, λ e m o. idle-none t R h.calm e m o), tt), h.firm)
 
-  -- a message is sent, and its sender stands in its queue
+  -- a message is sent, and its sender is in its queue
   pub firm-queues : (R : Log) (cap : Cap) (mode : SendMode) (message : Content) → IsThere R kind.Endpoint cap.obj → Acting t R → Firm (onto ((queues (letter_over t cap mode message) R).records) R)
   unfolding queues
   firm-queues R cap mode message there h =

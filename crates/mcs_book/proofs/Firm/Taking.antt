@@ -152,7 +152,7 @@ settle-ready how.Call x p (Some r) R ne h = go (context_of R p) (context_of R x)
     go (Some s) None = record { there = h.there; idle = (h.idle.0, owed_none None) }
     go (Some s) (Some d) = record { there = h.there; idle = (h.idle.0, owed_none None) }
 
--- a message just sent is handed over to p, who stands in its queue for it
+-- a message just sent is handed over to p, who is in its queue for it
 pub firm-handed : (R : Log) (s : Letter) (p : ObjId) → is_open R s.number ≡ true → TakesAlive R (rec.Took s.number p) → TakesFirst R (rec.Took s.number p) → queue_of R p ≡ Some (Receivers s.endpoint)
     → IsThere R kind.Thread s.sender → IsIdle R s.sender → Firm R → Firm (onto (handed s p R) R)
 unfolding handed
@@ -179,7 +179,7 @@ firm-handed R s p unsettled alive first at there idle firm = then-next Firm (too
     firm2 : Firm U
     firm2 = ((at, tt), firm1)
 
-    -- the sender stands nowhere, and so is another
+    -- the sender is nowhere, and so is another
     other : s.sender ≢ p
     other is = let no : None ≡ Some (Receivers s.endpoint) = sym idle.0 ∙ ap (λ z. queue_of R z) is ∙ at in absurd cc
 
@@ -190,7 +190,7 @@ firm-handed R s p unsettled alive first at there idle firm = then-next Firm (too
     ready : IsReady p U
     ready = record { there = taker; idle = parted-idle (rec.Took s.number p ∷ R) p (Receivers s.endpoint) (firm-sound (rec.Took s.number p ∷ R) firm1) at }
 
-    -- the reply object with which p stood is free
+    -- the reply object with which p was is free
     free : (d : ObjId) → reply_with R p ≡ Some d → IsThere U kind.Reply d × IsFreeReply U d
     free d named =
         let f : IsThere R kind.Reply d × (owed_by R d ≡ None) = reply-there R p s.endpoint d (firm-sound R firm) at named in
@@ -208,8 +208,8 @@ firm-handed R s p unsettled alive first at there idle firm = then-next Firm (too
     ends : (R' : Log) → Both R' → Firm (rec.Turns p Running ∷ R')
     ends R' h = (((h.1.there, h.1.idle), tt), h.0)
 
--- the message of a sender who stands in its queue is taken by t, who receives with a free reply
--- object, or with none
+-- the message of a sender who is in its queue is taken by t, who receives with a free reply object,
+-- or with none
 pub firm-taken : (R : Log) (s : Letter) (t : ObjId) (r : Option ObjId) → is_open R s.number ≡ true → TakesAlive R (rec.Took s.number t) → TakesFirst R (rec.Took s.number t) → queue_of R s.sender ≡ Some (Senders s.endpoint)
     → IsThere R kind.Thread t → ((d : ObjId) → r ≡ Some d → IsThere R kind.Reply d × IsFreeReply R d) → Firm R → Firm (onto (taken s t r R) R)
 unfolding taken

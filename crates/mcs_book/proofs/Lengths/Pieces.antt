@@ -117,7 +117,7 @@ module _ (T : List ObjId) where
   unfolding give
   few-give x p = record { at = λ S is. (few-back (context_of S x) p).at S is }
 
-  -- a context is let go
+  -- a context is dropped
   pub few-let_go : (s : Option ObjId) → Few 1 (let_go s)
   few-let_go s = few-any 1 s _ (λ c. few-say (rec.Holds c None) (λ S. refl))
 

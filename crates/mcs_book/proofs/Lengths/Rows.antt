@@ -89,7 +89,7 @@ module _ (T : List ObjId) where
   act-say : (r : Rec) → ((S : Log) → threads (r ∷ S) ≡ threads S) → OnPassed RowAct (Ok (answers Done (say r)))
   act-say r e = act-piece 1 Done (say r) (omega arith) (few-say T r e)
 
-  -- a message is sent, and its sender stands in its queue
+  -- a message is sent, and its sender is in its queue
   few-queues : (t : ObjId) (held : Cap) (mode : SendMode) (message : Content) → FewAct 2 (queues (letter_over t held mode message))
   unfolding queues ◌then◌
   few-queues t held mode message = record { at = λ S is. record { few = omega arith; threads_same = is } }

@@ -1,4 +1,4 @@
--- In every legal book, after each line, a thread stands among the senders of an endpoint exactly
+-- In every legal book, after each line, a thread is queued among the senders of an endpoint exactly
 -- where a message of it is open there, and no thread has two.
 use Rattle.std.specs.Prelude.{ℕ, Bool, true, false, cond, not, ◌||◌, ◌==◌, ◌≡◌, ◌≢◌, ◌⊎◌, [], ◌∷◌, Option, Some, None, refl, find, is_some, unwrap_or}
 use Rattle.std.specs.List.{list_any}
@@ -31,7 +31,8 @@ use Rattle.mcs_book.proofs.Books.HistoryLaws.{boot-keeps, legal-past, legal-afte
 use Rattle.mcs_book.proofs.Threads.EntersLaws.{IsEntering, enters-ready}
 use Rattle.mcs_book.proofs.Queues.NoneBeside.{HasOpen, Beside, Calm, letters-aside, queue-aside, has-open, beside-steps, beside-entering, calm-aside, calm-empty}
 
--- each open message's sender stands among the senders of its endpoint, and no thread has two open
+-- each open message's sender is queued among the senders of its endpoint, and no thread has two
+-- open
 pub record Opened (R : Log) : Type 0 where
   pub open_queued : (x e : ObjId) (m : ℕ) → IsOpenOf R x e m → queue_of R x ≡ Some (Senders e)
   pub one : (x e e' : ObjId) (m n : ℕ) → IsOpenOf R x e m → IsOpenOf R x e' n → m ≡ n
@@ -99,7 +100,7 @@ opened-joins R t q r others mine one = record {
     go y e m o true is = ap (λ k. Some k) (mine e m (subst (λ (z : ObjId). IsOpenOf R z e m) (same-equal y t is) o))
     go y e m o false is = others y e m (λ s. let no : true ≡ false = sym (same-self y) ∙ ap (λ (z : ObjId). same y z) s ∙ is in absurd cc) o
 
--- who stands in another queue, or in none, has no open message
+-- who is in another queue, or in none, has no open message
 other-none : (R : Log) (x : ObjId) (o : Option Queue) → Opened R → queue_of R x ≡ o → ((e : ObjId) → o ≢ Some (Senders e)) → (e : ObjId) (m : ℕ) → IsOpenOf R x e m → ⊥
 other-none R x o h at other e m is = other e (sym at ∙ h.open_queued x e m is)
 
@@ -111,7 +112,7 @@ settled-none R r x s same_letters settling is h e m o =
     let no : true ≡ false = sym (eq-eqb m s.number it) ∙ sym (settling m) ∙ b.0 in
     absurd cc
 
--- who stands nowhere does so after another, or it, leaves a queue
+-- who is nowhere does so after another, or it, leaves a queue
 parts-none : (R : Log) (t x : ObjId) (q : Queue) → queue_of R t ≡ None → queue_of (rec.Parts x q ∷ R) t ≡ None
 parts-none R t x q h = go (same t x)
   where
@@ -119,7 +120,7 @@ parts-none R t x q h = go (same t x)
     go true = refl
     go false = h
 
--- while t enters it stands nowhere, and so has no open message
+-- while t enters it is nowhere, and so has no open message
 pub record Idle (t : ObjId) (R : Log) : Type 0 where
   pub beside : Beside t R
   pub opened : Opened R
@@ -162,7 +163,7 @@ module _ (t : ObjId) where
     leaves_waiter = λ R n x at h. idle-leaves R x (Waiters n) at (λ e' k. absurd cc) ((beside-steps t).leaves_waiter R n x at h.beside) h;
   }
 
-  -- a message is handed to p, who stood among the receivers
+  -- a message is handed to p, who was among the receivers
   pub idle-hands : (R : Log) (s : Letter) (p : ObjId) → s.number ≡ next_message R → s.sender ≡ t → first_in R (Receivers s.endpoint) ≡ Some p → Idle t R → Idle t (rec.Parts p (Receivers s.endpoint) ∷ rec.Took s.number p ∷ sent_record s ∷ R)
   idle-hands R s p number sender first h = record {
     beside = (beside-entering t).hands R s p number sender first h.beside;

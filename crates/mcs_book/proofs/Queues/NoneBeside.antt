@@ -41,7 +41,7 @@ pub record HasOpen (R : Log) (x : ObjId) : Type 0 where
   pub open_still : is_open R number ≡ true
   pub of_sender : sent.sender ≡ x
 
--- who stands in a queue was made, a queued sender has an open message, and nobody waits beside; the
+-- who is in a queue was made, a queued sender has an open message, and nobody waits beside; the
 -- entering thread t was made
 pub record Beside (t : ObjId) (R : Log) : Type 0 where
   pub ends : Each EndsOpen R
@@ -122,7 +122,7 @@ has-open R x h =
     find-some (λ s. s.number == h.number) (λ s. same s.sender x && is_open R s.number) (letters R) h.sent h.is_letter
     (both _ _ (ap (λ (y : ObjId). same y x) h.of_sender ∙ same-self x) (ap (λ n. is_open R n) number ∙ h.open_still))
 
--- who stands after a thread left a line, and after one joined
+-- who is after a thread left a line, and after one joined
 pub left-queue : (R : Log) (x y : ObjId) (q k : Queue) → queue_of (rec.Parts x q ∷ R) y ≡ Some k → (y ≢ x) × (queue_of R y ≡ Some k)
 left-queue R x y q k h = go (same y x) refl h
   where
@@ -130,7 +130,7 @@ left-queue R x y q k h = go (same y x) refl h
     go true e h = absurd cc
     go false e h = (λ s. let no : true ≡ false = sym (same-self y) ∙ ap (λ (z : ObjId). same y z) s ∙ e in absurd cc, h)
 
--- who stands after t joined a queue stood there before, or is t
+-- who is after t joined a queue was there before, or is t
 pub joined-queue : (R : Log) (t x : ObjId) (q k : Queue) (r : Option ObjId) → queue_of (rec.Joins t q r ∷ R) x ≡ Some k → ((x ≡ t) × (q ≡ k)) ⊎ (queue_of R x ≡ Some k)
 joined-queue R t x q k r h = go (same x t) refl h
   where
@@ -161,7 +161,7 @@ module _ (t : ObjId) where
     entering = entering;
   }
 
-  -- t joins a queue, with an open message among senders, and where nobody stands on the other side
+  -- t joins a queue, with an open message among senders, and where nobody is on the other side
   beside-joins : (R : Log) (q : Queue) (r : Option ObjId) → Beside t R → ((e : ObjId) → q ≡ Senders e → HasOpen R t × ((p : ObjId) → queue_of R p ≢ Some (Receivers e)))
       → ((e : ObjId) → q ≡ Receivers e → (x : ObjId) → queue_of R x ≢ Some (Senders e)) → Beside t (rec.Joins t q r ∷ R)
   beside-joins R q r h sends receives = record {

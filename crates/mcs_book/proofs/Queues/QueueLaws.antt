@@ -20,7 +20,7 @@ use Rattle.mcs_book.proofs.Queues.Sorted.{In, Sorted, AheadOfAll, filter-in, in-
 use Rattle.mcs_book.proofs.Objects.MadeLaws.{made-in, made-distinct, alive-made}
 use Rattle.mcs_book.proofs.Queues.Waiting.{among-insert, among-without, among-shifted, among-in, in-among}
 
--- a thread is among the waiters of a line exactly where it stands there
+-- a thread is among the waiters of a line exactly where it is there
 pub among-line : (R : Log) (t : ObjId) (q : Queue) → Sound R → is_among t (growing_queue R q) ≡ is_queue (queue_of R t) q
 among-line [] t q s = refl
 among-line (Joins u k reply ∷ R) t q s = go (same t u) refl (same_queue k q) refl (among-line R t q s.1)
@@ -51,7 +51,7 @@ EachWaiter P (v ∷ vs) = P v × EachWaiter P vs
 abbrev Leads : (ObjId → ℕ) → Waiter → Waiter → Type 0
 Leads at v w = (w.priority < v.priority) ⊎ ((v.priority ≡ w.priority) × (at v.thread < at w.thread))
 
--- each leads all behind it
+-- each leads all after it
 abbrev Ordered : (ObjId → ℕ) → List Waiter → Type 0
 Ordered at [] = Unit {0}
 Ordered at (v ∷ vs) = EachWaiter (Leads at v) vs × Ordered at vs
@@ -157,7 +157,7 @@ module _ (R : Log) (rec : Rec) (u : ObjId)
     ordered = ordered-same (place_of R) (place_of (rec ∷ R)) vs (each-map (λ v. same v.thread u ≡ false) (λ v. place_of (rec ∷ R) v.thread ≡ place_of R v.thread) (λ v n. place v.thread n) vs o) i.ordered;
   }
 
-  -- u behind all of its priority
+  -- u after all of its priority
   behind : (p : ℕ) → p ≡ prio_of (rec ∷ R) u → (vs : List Waiter) → EachWaiter (λ v. same v.thread u ≡ false) vs → InOrder R vs → InOrder (rec ∷ R) (insert_behind (record { thread = u; priority = p }) vs)
   behind p e vs o i =
       let k : InOrder (rec ∷ R) vs = others vs o i in
@@ -258,7 +258,7 @@ ordered-sorted : (R : Log) (vs : List Waiter) → EachWaiter (IsOf R) vs → Ord
 ordered-sorted R [] e o = tt
 ordered-sorted R (v ∷ vs) e o = (ahead-all R v vs e.0 e.1 o.0, ordered-sorted R vs e.1 o.1)
 
--- the threads of a line's waiters stand in order
+-- the threads of a line's waiters are in order
 pub line-sorted : (R : Log) (q : Queue) → Sound R → Sorted (is_ahead R) (threads_in (growing_queue R q))
 line-sorted R q s = let i : InOrder R (growing_queue R q) = in_order R q s in ordered-sorted R (growing_queue R q) i.each i.ordered
 
@@ -286,7 +286,7 @@ ahead-irreflexive R t h = before-not_self (prio_of R t) (place_of R t) h
 pub ahead-transitive : (R : Log) (t u v : ObjId) → is_ahead R t u ≡ true → is_ahead R u v ≡ true → is_ahead R t v ≡ true
 ahead-transitive R t u v = before-transitive (prio_of R t) (place_of R t) (prio_of R u) (place_of R u) (prio_of R v) (place_of R v)
 
--- nobody is first, so nobody stands
+-- nobody is first, so nobody is
 pub first-none : (R : Log) (q : Queue) → ((x : ObjId) (k : Queue) → queue_of R x ≡ Some k → (x.kind ≡ kind.Thread) × (was_made R x ≡ true)) → first_in R q ≡ None → (x : ObjId) → queue_of R x ≢ Some q
 unfolding first_in
 first-none R q made none x stands =
@@ -296,7 +296,7 @@ first-none R q made none x stands =
     empty [] h i = i
     empty (y ∷ ys) h i = absurd cc
 
--- the first of a line stands there
+-- the first of a line is there
 pub first-stands : (R : Log) (q : Queue) (x : ObjId) → first_in R q ≡ Some x → queue_of R x ≡ Some q
 unfolding first_in
 first-stands R q x h =
@@ -306,7 +306,7 @@ first-stands R q x h =
     head [] h = absurd cc
     head (y ∷ ys) h = let it : y ≡ x = cc in inl (sym it)
 
--- who stands in a queue was made
+-- who is in a queue was made
 pub standing-made : (R : Log) (t : ObjId) (q : Queue) → Sound R → queue_of R t ≡ Some q → In t (threads R)
 standing-made [] t q s h = absurd cc
 standing-made (Joins u k reply ∷ R) t q s h = go (same t u) refl h (standing-made R t q s.1)

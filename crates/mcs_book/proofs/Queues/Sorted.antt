@@ -50,7 +50,7 @@ module _ (ahead : ObjId → ObjId → Bool) where
   AheadOfAll x [] = Unit {0}
   AheadOfAll x (y ∷ ys) = (ahead x y ≡ true) × AheadOfAll x ys
 
-  -- each is ahead of all behind it
+  -- each is ahead of all after it
   abbrev pub Sorted : List ObjId → Type 0
   Sorted [] = Unit {0}
   Sorted (x ∷ xs) = AheadOfAll x xs × Sorted xs

@@ -43,7 +43,7 @@ pub breaks-whole : EachLine IsWholeLine wrong_badge → ⊥
 unfolding computing
 breaks-whole h = badges-apart (text 1) ((h.0.1.0 (record { number = 0; sender = t 1; endpoint = e 1; mode = how.Plain; badge = badge 9; message = text 1 }) refl).0 refl)
 
--- neither is the sender the first of the senders, nor does the taker stand among the receivers
+-- neither is the sender the first of the senders, nor is the taker among the receivers
 pub breaks-by_priority : EachRecord TakesFirst not_the_first → ⊥
 unfolding computing
 breaks-by_priority h =
@@ -80,7 +80,7 @@ pub breaks-answered_whole : EachLine AnswersWhole kept_context → ⊥
 unfolding computing
 breaks-answered_whole h = holders-apart (h.0.0.0 (s 1) refl refl).1
 
--- a sender and a receiver stand in their queues
+-- a sender and a receiver are in their queues
 pub breaks-none_beside : AfterEachLine NoneWaitBeside both_wait → ⊥
 unfolding computing
 breaks-none_beside h = h.0 (e 1) (t 1) (t 2) refl refl

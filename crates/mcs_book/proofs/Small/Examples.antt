@@ -92,7 +92,7 @@ pub deletion : outcomes_of (by 1 (do_.Send 3 (message 1)) ∷ by 2 (do_.Send 3 (
 unfolding computing
 deletion = refl
 
--- thread i stands in its queue with a message of label i over the badged capability
+-- thread i is in its queue with a message of label i over the badged capability
 abbrev a_sent : ℕ → Outcome
 a_sent i = line Waits (rec.Sent (t i) (e 1) how.Plain (badge 9) (message i) ∷ rec.Joins (t i) (Senders (e 1)) None ∷ [])
 
@@ -144,7 +144,7 @@ pub joined_word : outcomes_of (by 1 (do_.Signal 5) ∷ by 1 (do_.Signal 6) ∷ b
 unfolding computing
 joined_word = refl
 
--- thread i stands in the queue of endpoint k with the reply object of this number
+-- thread i is in the queue of endpoint k with the reply object of this number
 abbrev a_receiver : ℕ → ℕ → ℕ → Outcome
 a_receiver i k d = line Waits (rec.Joins (t i) (Receivers (e k)) (Some (r d)) ∷ [])
 

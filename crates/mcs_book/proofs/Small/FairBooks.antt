@@ -129,7 +129,7 @@ found-same k l is = cc
 call_log : Log
 call_log = rec.Sent (t 1) (e 1) how.Call (badge 0) (text 3) ∷ rec.Holds (s 2) None ∷ rec.Joins (t 2) (Receivers (e 1)) (Some (r 1)) ∷ boot_log five_threads.lines
 
--- its taker is the first of the receivers, and its sender stands in no queue
+-- its taker is the first of the receivers, and its sender is in no queue
 call-first : (l : Letter) → call_letter ≡ l → IsFirstOfOne call_log l (t 2)
 unfolding computing call_log call_letter
 call-first l it = subst (λ (l : Letter). IsFirstOfOne call_log l (t 2)) it (inr ((refl, λ u at other. alone u (same u (t 2)) refl at other), λ at. absurd cc))

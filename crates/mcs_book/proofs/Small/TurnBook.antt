@@ -47,7 +47,7 @@ turns-legal = subst (λ (b : Book). IsLegal b) turns-replayed (replayed-legal fi
 letter_of : ℕ → ℕ → Letter
 letter_of m i = record { number = m; sender = t i; endpoint = e 1; mode = how.Plain; badge = badge 9; message = text i }
 
--- the log when both stand in their queues
+-- the log when both are in their queues
 both_log : Log
 both_log = rec.Joins (t 2) (Senders (e 1)) None ∷ rec.Sent (t 2) (e 1) how.Plain (badge 9) (text 2) ∷ rec.Joins (t 1) (Senders (e 1)) None ∷ rec.Sent (t 1) (e 1) how.Plain (badge 9) (text 1) ∷ boot_log five_threads.lines
 

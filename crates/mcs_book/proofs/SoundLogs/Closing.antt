@@ -1,4 +1,4 @@
--- A thread that is closed stands in no queue and is owed nothing: it is cancelled first.
+-- A thread that is closed is in no queue and is owed nothing: it is cancelled first.
 use Rattle.std.specs.Prelude.{Bool, true, false, cond, ◌==◌, ◌≡◌, ◌≢◌, List, [], ◌∷◌, Option, Some, None, refl, unwrap_or}
 use Rattle.std.proofs.Common.{sym, ◌∙◌, ap}
 use Rattle.mcs_types.specs.declared.record.Letter.{Letter}
@@ -33,7 +33,7 @@ use Rattle.mcs_book.proofs.SoundLogs.Safety.{Safe, none-plains, owed-plains, par
 use Rattle.mcs_book.proofs.SoundLogs.Making.{is_plain, Plain, makes-say, makes-any, plain-release}
 use Rattle.mcs_book.proofs.WholeMessages.Records.{each-append, AreWhole, plain-all}
 
--- x stands in no queue and is owed nothing
+-- x is in no queue and is owed nothing
 abbrev IsLoose : ObjId → Log → Type 0
 IsLoose x R = (queue_of R x ≡ None) × IsOwedNothing R x
 

@@ -176,7 +176,7 @@ module _ (J : Log → Type 0) (steps : Steps J) where
   unfolding wake
   keeps-wake R n x q word h = then-at J _ _ R (then-at J _ _ R (then-next J (say (rec.Heard x n word)) (say (rec.Parts x q)) R h) (keeps-say _ refl)) (keeps-back (spare_at R n) x)
 
-  -- who hears a word stands where it is said to stand
+  -- who hears a word is where it is said to be
   keeps-hearer : (R : Log) (n : ObjId) (bound : Option ObjId) (q : Option Queue) (waiter : Option ObjId) (word : ℕ)
       → queue_of_any R bound ≡ q → ((x : ObjId) → waiter ≡ Some x → queue_of R x ≡ Some (Waiters n)) → J R → J (onto (hearer n bound q waiter word R) R)
   keeps-hearer R n bound q waiter word at waits h = go bound q waiter at waits
@@ -211,7 +211,7 @@ module _ (J : Log → Type 0) (steps : Steps J) where
       go (Some old) = raised
       go None = keeps-hearer (rec.Raised n badge ∷ R) n (tied_to R n) _ (first_in R (Waiters n)) badge.0 (standing (tied_to R n)) (λ x first. first-stands R (Waiters n) x first) raised
 
-  -- a context is let go
+  -- a context is dropped
   keeps-let_go : (s : Option ObjId) → Keeps J (let_go s)
   keeps-let_go s = keeps-any J s _ (λ x. keeps-say _ refl)
 

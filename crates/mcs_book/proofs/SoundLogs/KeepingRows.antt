@@ -81,7 +81,7 @@ module _ (t : ObjId) (J I : Log → Type 0) (enters : Entering t J I) where
   abbrev AloneTo : (Log → Type 0) → ObjId → Act → Type 0
   AloneTo K e act = (R : Log) → first_in R (Receivers e) ≡ None → J R → K (onto ((act R).records) R)
 
-  -- a message is sent, and its sender stands in its queue
+  -- a message is sent, and its sender is in its queue
   keeps-queues : (cap : Cap) (mode : SendMode) (message : Content) → AloneTo I cap.obj (queues (letter_over t cap mode message))
   unfolding queues
   keeps-queues cap mode message R none h =
@@ -109,7 +109,7 @@ module _ (t : ObjId) (J I : Log → Type 0) (enters : Entering t J I) where
   keeps-send_by K leads Thread mode cap message alone h = passed-err _ _
   keeps-send_by K leads Context mode cap message alone h = passed-err _ _
 
-  -- t stands in a queue, and may give up its context
+  -- t is in a queue, and may give up its context
   keeps-stand : (q : Queue) (r n : Option ObjId) (R : Log) → I (rec.Joins t q r ∷ R) → I (onto (stand t q r n R) R)
   unfolding stand go_home
   keeps-stand q r n R joined = then-next I (say (rec.Joins t q r)) (go_home t n) R (go (if_at_home (rec.Joins t q r ∷ R) n (context_of (rec.Joins t q r ∷ R) t)))
@@ -118,7 +118,7 @@ module _ (t : ObjId) (J I : Log → Type 0) (enters : Entering t J I) where
       go None = joined
       go (Some s) = enters.gives_up (rec.Joins t q r ∷ R) s joined
 
-  -- t stands in a queue, or does not block
+  -- t is in a queue, or does not block
   keeps-joins_or : (b : Bool) (p : Piece) (R : Log) → I (onto (p R) R) → J R → I (onto ((joins_or b p R).records) R)
   unfolding joins_or
   keeps-joins_or true p R joined h = joined

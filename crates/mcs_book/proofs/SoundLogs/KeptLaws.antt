@@ -1,4 +1,4 @@
--- What holds after each record of a sound log: of who stands, of who is owed, of who holds a
+-- What holds after each record of a sound log: of who is in a queue, of who is owed, of who holds a
 -- context, of bindings, and of slots.
 use Rattle.std.specs.Prelude.{ℕ, Bool, true, false, not, ◌&&◌, ◌||◌, ◌==◌, ◌≡◌, ◌≢◌, ◌⊎◌, [], ◌∷◌, Option, Some, None, refl, unwrap_or}
 use Rattle.std.proofs.Common.{sym, ◌∙◌, ap, inl, inr, subst}
@@ -71,7 +71,7 @@ released-as R o x k h e is = subst (λ (j : Kind). IsReleased R j x) e (subst (�
 pub there-closed : (R : Log) (o x : ObjId) (k : Kind) → Allowed R (rec.Closed o) → IsThere R k x → (IsReleased R k x → ⊥) → IsThere (rec.Closed o ∷ R) k x
 there-closed R o x k h there busy = there-next R (rec.Closed o) k x there (same-other x o (λ e. busy (released-as R o x k h there.0 e)))
 
--- who stands in a queue is a thread, and there
+-- who is in a queue is a thread, and there
 pub standing-thread : (R : Log) (x : ObjId) (q : Queue) → Sound R → queue_of R x ≡ Some q → IsThere R kind.Thread x
 standing-thread [] x q sound h = absurd cc
 standing-thread (rec.Joins u k reply ∷ R) x q sound h = elim (set-split x u (Some k) (queue_of R x) (Some q) h) [ inl (who, is) ↦ subst (λ (z : ObjId). IsThere R kind.Thread z) (sym who) sound.0.0 | inr (other, is) ↦ standing-thread R x q sound.1 is ]
@@ -85,7 +85,7 @@ line-next R r (Senders e) h f = there-next R r kind.Endpoint e h (f e)
 line-next R r (Receivers e) h f = there-next R r kind.Endpoint e h (f e)
 line-next R r (Waiters n) h f = there-next R r kind.Notification n h (f n)
 
--- the object of a queue in which somebody stands is there
+-- the object of a queue is there where somebody is in the queue
 pub line-there : (R : Log) (x : ObjId) (q : Queue) → Sound R → queue_of R x ≡ Some q → IsLineThere R q
 line-there [] x q sound h = absurd cc
 line-there (rec.Joins u k reply ∷ R) x q sound h = line-next R (rec.Joins u k reply) q (elim (set-split x u (Some k) (queue_of R x) (Some q) h) [ inl (who, is) ↦ (let it : k ≡ q = cc in subst (λ (z : Queue). IsLineThere R z) it sound.0.3) | inr (other, is) ↦ line-there R x q sound.1 is ]) (λ o. refl)
@@ -95,7 +95,7 @@ line-there (rec.Closed o ∷ R) x (Receivers e) sound h = there-closed R o e kin
 line-there (rec.Closed o ∷ R) x (Waiters n) sound h = there-closed R o n kind.Notification sound.0 (line-there R x (Waiters n) sound.1 h) (λ r. r.0 x h)
 line-there (r ∷ R) x q sound h = line-next R r q (line-there R x q sound.1 h) (λ o. refl)
 
--- who stands in a queue is owed nothing
+-- who is in a queue is owed nothing
 pub standing-owed : (R : Log) (x : ObjId) (q : Queue) (r : ObjId) → Sound R → queue_of R x ≡ Some q → owed_by R r ≢ Some x
 standing-owed [] x q r sound h o = absurd cc
 standing-owed (rec.Joins u k reply ∷ R) x q r sound h o = elim (set-split x u (Some k) (queue_of R x) (Some q) h) [ inl (who, is) ↦ sound.0.1.1 r (o ∙ ap (λ z. Some z) who) | inr (other, is) ↦ standing-owed R x q r sound.1 is o ]
@@ -169,7 +169,7 @@ owed-one (rec.Void d y m ∷ R) r q x sound o p = elim (set-split r d None (owed
 ]
 owed-one (_ ∷ R) r q x sound o p = owed-one R r q x sound.1 o p
 
--- who is owed stands in no queue
+-- who is owed is in no queue
 pub owed-stands_none : (R : Log) (r x : ObjId) → Sound R → owed_by R r ≡ Some x → queue_of R x ≡ None
 owed-stands_none R r x sound o = go (queue_of R x) refl
   where

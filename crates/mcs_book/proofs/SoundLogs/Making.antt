@@ -1,4 +1,4 @@
--- Which records each piece makes. Messages, answers and words stand in few pieces, and so do
+-- Which records each piece makes. Messages, answers and words are in few pieces, and so are
 -- beginnings and ends of objects.
 use Rattle.std.specs.Prelude.{ℕ, Bool, true, false, cond, ◌≡◌, List, [], ◌∷◌, ◌++◌, Option, Some, None, refl}
 use Rattle.mcs_types.specs.declared.id.ObjId.{ObjId}
@@ -142,7 +142,7 @@ pub plain-give : (x p : ObjId) → Plain (give x p)
 unfolding give
 plain-give x p = record { passes = λ R. (plain-back (context_of R x) p).passes R }
 
--- a context is let go
+-- a context is dropped
 pub plain-let_go : (s : Option ObjId) → Plain (let_go s)
 plain-let_go s = makes-any is_plain s _ (λ c. makes-say is_plain _ refl)
 

@@ -1,5 +1,5 @@
--- What must hold before a record so that whoever stands in a queue or is owed an answer is there,
--- and what follows of a log of such records.
+-- What must hold before a record so that whoever is in a queue or is owed an answer is there, and
+-- what follows of a log of such records.
 use Rattle.std.specs.Prelude.{ℕ, ◌≤◌, ◌==◌, Bool, true, false, cond, not, ◌&&◌, ◌||◌, ◌≡◌, ◌≢◌, List, [], ◌∷◌, Some, None, refl, find, unwrap_or}
 use Rattle.std.proofs.Common.{sym, ◌∙◌, ap, inl, inr, subst}
 use Rattle.mcs_types.specs.declared.id.ObjId.{ObjId}
@@ -32,9 +32,9 @@ abbrev pub IsReplyMade : Log → ObjId → Type 0
 IsReplyMade R r = (r.kind ≡ kind.Reply) × (was_made R r ≡ true)
 
 -- who joins a queue is a thread that is there and is owed nothing, with a reply object that was
--- made; who comes to be owed is one that stands in no queue and is owed nothing; a thread that is
--- closed stands in no queue and is owed nothing; a slot holds a capability to what was made, a
--- CNode's index has some bits, and a thread's root is a CNode that was made
+-- made; who comes to be owed is one that is in no queue and is owed nothing; a thread that is
+-- closed is in no queue and is owed nothing; a slot holds a capability to what was made, a CNode's
+-- index has some bits, and a thread's root is a CNode that was made
 abbrev pub Safe : Log → Rec → Type 0
 Safe R (rec.Joins t q reply) = (t.kind ≡ kind.Thread) × (is_alive R t ≡ true) × IsOwedNothing R t × ((r : ObjId) → reply ≡ Some r → IsReplyMade R r)
 Safe R (rec.Owes r x c) = IsReplyMade R r × (x.kind ≡ kind.Thread) × (is_alive R x ≡ true) × (queue_of R x ≡ None) × IsOwedNothing R x
@@ -67,7 +67,7 @@ pub none-plains : (R : Log) (x : ObjId) (made : List Rec) → Passes is_plain ma
 none-plains R x [] h k = k
 none-plains R x (r ∷ made) h k = none-plains (r ∷ R) x made h.1 (none-plain R x r h.0 k)
 
--- who leaves a queue stands in none
+-- who leaves a queue is in none
 pub parted-none : (R : Log) (x : ObjId) (q : Queue) → queue_of (rec.Parts x q ∷ R) x ≡ None
 parted-none R x q = go (same x x) (same-self x)
   where
@@ -117,7 +117,7 @@ other-debt R x r y s ne h = go (same s r)
     go true e = let it : y ≡ x = cc in ne (sym it)
     go false e = h s e
 
--- who stands in a queue is a thread that is there, and is owed nothing
+-- who is in a queue is a thread that is there, and is owed nothing
 pub safe-standing : (R : Log) (x : ObjId) (q : Queue) → Each Safe R → queue_of R x ≡ Some q → IsStanding R x
 safe-standing [] x q h at = absurd cc
 safe-standing (rec.Joins t k reply ∷ R) x q h at = go (same x t) refl at (safe-standing R x q h.1)

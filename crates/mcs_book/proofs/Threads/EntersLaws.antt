@@ -1,4 +1,4 @@
--- Who may enter: a living thread that was made, stands in no queue, and is owed no reply.
+-- Who may enter: a living thread that was made, is in no queue, and is owed no reply.
 use Rattle.std.specs.Prelude.{Bool, true, false, cond, ◌&&◌, ◌≡◌, Option, Some, None, refl}
 use Rattle.mcs_types.specs.declared.id.ObjId.{ObjId}
 use Rattle.mcs_types.specs.declared.id.CoreId.{CoreId}

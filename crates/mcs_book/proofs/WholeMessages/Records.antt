@@ -67,8 +67,8 @@ abbrev pub MadeOn : CoreId → Rec → Type 0
 MadeOn core (rec.Made o form) = (c : CoreId) → form ≡ OnCore c → c ≡ core
 MadeOn core _ = Unit {0}
 
--- what is said of the records of a step with its answer: R stands before its line, and `after` once
--- it is done; what returns is said where the records so far were allowed
+-- what is said of the records of a step with its answer: R is before its line, and `after` once it
+-- is done; what returns is said where the records so far were allowed
 abbrev pub IsWhole : Log → Log → Step → Answer → Log → Rec → Type 0
 IsWhole R after s a S r =
     let l : Line = record { step = s; answer = a; records = [] } in
@@ -98,8 +98,8 @@ quiet-all R after s a S made h = each-passes (IsWhole R after s a) is_quiet (qui
 pub plain-all : (R after : Log) (s : Step) (a : Answer) (S : Log) (made : List Rec) → Passes is_plain made → AreWhole R after s a S made
 plain-all R after s a S made h = quiet-all R after s a S made (passes-map is_plain is_quiet plain-quiet made h)
 
--- the entering thread t is there, stands in no queue and is owed nothing; all records so far are
--- safe, and what the slots hold after R was made
+-- the entering thread t is there, is in no queue and is owed nothing; all records so far are safe,
+-- and what the slots hold after R was made
 pub record Begins (R : Log) (t : ObjId) (S : Log) : Type 0 where
   pub thread : t.kind ≡ kind.Thread
   pub alive : is_alive S t ≡ true
@@ -128,7 +128,7 @@ begins-plains R t S (r ∷ made) h b = begins-plains R t (r ∷ S) made h.1 (beg
 pub begins-paid : (R : Log) (t : ObjId) (S : Log) (r x : ObjId) (message : Content) → Begins R t S → Begins R t (rec.Paid r x message ∷ S)
 begins-paid R t S r x message b = record { thread = b.thread; alive = b.alive; stands_none = b.stands_none; owed_nothing = λ s. paid-owed S t r s b.owed_nothing; safe = (tt, b.safe); held = b.held }
 
--- who stands in a queue is another
+-- who is in a queue is another
 begins-other : (R : Log) (t : ObjId) (S : Log) (x : ObjId) (q : Queue) → Begins R t S → queue_of S x ≡ Some q → x ≢ t
 begins-other R t S x q b at e = let clash : None ≡ Some q = sym b.stands_none ∙ ap (λ z. queue_of S z) (sym e) ∙ at in absurd cc
 
@@ -183,7 +183,7 @@ settle-rest S how.Call x p None goes_on h = rest-plain (MayOwe S None x) S (rec.
 settle-rest S how.Give x p r goes_on h = rest-plain (MayOwe S r x) S (give x p S) ((plain-give x p).passes S)
 settle-rest S how.Mute x p r goes_on h = rest-plain (MayOwe S r x) S (rec.Turns x Inactive ∷ []) (refl, tt)
 
--- the log when a message was taken, and who stood in line has left it
+-- the log when a message was taken, and who was in line has left it
 abbrev left_log : Log → Letter → ObjId → ObjId → Queue → Log
 left_log S l p x q = rec.Parts x q ∷ rec.Took l.number p ∷ S
 
@@ -290,7 +290,7 @@ begins-sends R t cap message done nobody S b = go (first_in S (Receivers cap.obj
         let b1 : Begins R t (rec.Took l.number p ∷ sent_record l ∷ S) = record { thread = b.thread; alive = b.alive; stands_none = b.stands_none; owed_nothing = b.owed_nothing; safe = (tt, (tt, b.safe)); held = b.held } in
         subst (λ made. Begins R t (onto made (sent_record l ∷ S))) (sym shape) (begins-plains R t (rec.Took l.number p ∷ sent_record l ∷ S) rest plain b1)
 
--- a message is sent, and its sender stands in its queue
+-- a message is sent, and its sender is in its queue
 pub queues-whole : (R : Log) (s : Step) (cap : Cap) (mode : SendMode) (message : Content) → IsSending R s cap message → WholeAct R s (queues (letter_over s.thread cap mode message))
 unfolding queues ◌then◌
 queues-whole R s cap mode message h = record {
@@ -346,7 +346,7 @@ settle-holders S how.Call x p (Some o) goes_on c y ne h k = go (context_of S p) 
 settle-holders S how.Call x p None goes_on c y ne h k = h
 settle-holders S how.Mute x p r goes_on c y ne h k = h
 
--- who stands in no queue keeps its context when a message is taken
+-- who is in no queue keeps its context when a message is taken
 pub taken-holders : (S : Log) (t x : ObjId) (q : Queue) (l : Letter) (r : Option ObjId) (c y : ObjId) → queue_of S x ≡ Some q → open_of S x ≡ Some l → holder_of S c ≡ Some y → queue_of S y ≡ None → holder_of (onto (taken l t r S) S) c ≡ Some y
 unfolding taken ◌then◌
 taken-holders S t x q l r c y at is h none =

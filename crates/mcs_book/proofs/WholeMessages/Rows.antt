@@ -109,7 +109,7 @@ pay-holder S r message x c owed top none =
     holds true e = refl
     holds false e = absurd cc
 
--- who is owed stands in no queue, also once it is paid
+-- who is owed is in no queue, also once it is paid
 pay-none_stands : (R : Log) (t : ObjId) (S : Log) (r : ObjId) (message : Content) (x : ObjId) → Begins R t S → owed_by S r ≡ Some x → queue_of (onto (pay r message S) S) x ≡ None
 pay-none_stands R t S r message x b owed =
     let (rest, shape, plain) = pay-shape S r message x owed in
@@ -119,8 +119,8 @@ pay-none_stands R t S r message x b owed =
     go None is = is
     go (Some q) is = absurd ((safe-standing S x q b.safe is).owed_nothing r owed)
 
--- what comes after an answer: it reaches nobody but the entering thread, and any other who stands
--- in no queue keeps its context
+-- what comes after an answer: it reaches nobody but the entering thread, and any other who is in no
+-- queue keeps its context
 pub record Follows (t : ObjId) (S : Log) (more : List Rec) : Type 0 where
   pub still : (x : ObjId) → x ≢ t → Passes (is_still x) more
   pub holders : (c y : ObjId) → y ≢ t → holder_of S c ≡ Some y → queue_of S y ≡ None → holder_of (onto more S) c ≡ Some y

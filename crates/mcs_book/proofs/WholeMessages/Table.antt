@@ -1,4 +1,4 @@
--- What each entry sends, takes and answers is whole, where those who stand in their queues or are
+-- What each entry sends, takes and answers is whole, where those who are in their queues or are
 -- owed an answer are there.
 use Rattle.std.specs.Prelude.{ℕ, Bool, true, false, ◌||◌, ◌≡◌, ◌≢◌, is_none, List, ◌∷◌, ◌++◌, Option, Some, None, Ok, Err, refl}
 use Rattle.std.proofs.Common.{sym, ◌∙◌, ap, subst}
@@ -189,7 +189,7 @@ whole-row R core t (MakeReply place) = act-make R (step_of core t (MakeReply pla
 whole-row R core t (MakeContext place) = act-make R (step_of core t (MakeContext place)) Context 0 (form.OnCore core) place (λ e. absurd cc) refl (λ o c e. cc)
 whole-row R core t _ = search (passed-bind, passed-next, act-quiet, quiet-signal, quiet-piece, plain-cancel, plain-unbind, act-say, act-bind_by, act-delete) depth 9
 
--- who stands or is owed does so after the entering thread became Running
+-- who is in a queue or is owed is so after the entering thread became Running
 begins-wakes : (mode : Mode) (R : Log) (t : ObjId) (S : Log) → Begins R t S → Begins R t (onto (wakes mode t S) S)
 begins-wakes mode R t S b = begins-plains R t S (wakes mode t S) ((plain-wakes mode t).passes S) b
 

@@ -164,9 +164,10 @@ fn place_is_free<W: Waiting>(state: &State<W>, line: &BootLine) -> bool
     }
 }
 
-/// What is wrong with a line of the boot: Number where a number is out of its range, NoObject where
-/// an object that it names was not made, Limit where there are too many objects, and Taken where a
-/// slot is filled, a context is held, or a thread or a notification is bound; the first of these.
+/// Checks a line of the boot. The first of these is the fault: Number where a number is out of its
+/// range, NoObject where an object that it names was not made, Limit where there are too many
+/// objects, and Taken where a slot is filled, a context is held, or a thread or a notification is
+/// bound.
 pub(crate) fn check<W: Waiting>(state: &State<W>, line: &BootLine) -> Result<(), BootFault>
     requires { IsBooting (so_far state.now) }
     ensures ok { OnOk result (IsTrue

@@ -1,5 +1,5 @@
-//! Questions to the kernel: the state of each thread, who holds and owes what, and what
-//! capabilities name. None takes memory.
+//! Questions to the kernel: the state of each thread, holders, debts, and what capabilities name.
+//! None takes memory.
 ghost use Rattle.std.specs.Prelude.{◌≡◌, option_copied, option_map};
 ghost use Rattle.mcs_book.specs.Logs.{counted};
 ghost use Rattle.mcs_book.specs.Objects.{form_of, is_alive, makes_kind};

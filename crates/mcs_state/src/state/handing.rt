@@ -11,8 +11,8 @@ use mcs_packing::Lent;
 use mcs_types::{BOOK_LINES, Badge, Copied, Copies, Mail, ObjId, Rec, SendMode};
 
 impl<W: Waiting> State<W> {
-    /// A thread sends a message on an endpoint, and a receiver takes it at once: it is never among
-    /// those that are open.
+    /// Hands a message of a thread on an endpoint at once to a receiver: it is never among those
+    /// that are open.
     // a part of its caller, so that what is sent is moved once, into the mail
     #[inline(always)]
     pub fn hands(

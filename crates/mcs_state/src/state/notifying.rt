@@ -1,4 +1,4 @@
-//! Signals, who hears them, and the threads that notifications are bound to.
+//! Signals, the threads that hear them, and the threads that notifications are bound to.
 ghost use Rattle.std.specs.Prelude.{◌≡◌, ◌<◌, true, IfSome, IsSome, is_some, is_none, length, ◌+◌};
 ghost use Rattle.mcs_types.specs.declared.id.Kind.{Kind};
 ghost use Rattle.mcs_types.specs.declared.record.Rec.{Rec};
@@ -19,7 +19,7 @@ use mcs_object_queues::Waiting;
 use mcs_threads::Threads;
 use mcs_types::{Badge, Mail, ObjId, Rec};
 
-/// A thread is bound to this notification now, or to none.
+/// Binds a thread to this notification, or to none.
 fn tie(threads: &mut Threads, thread: ObjId, notification: Option<ObjId>)
     ensures { ChangesRow (with_notification notification) threads.old threads.new thread }
 {
@@ -29,8 +29,8 @@ fn tie(threads: &mut Threads, thread: ObjId, notification: Option<ObjId>)
     };
 }
 
-/// A notification that is there is bound to a thread now; or, where none is named, the one to which
-/// it was bound is free.
+/// Binds a notification that is there to a thread. Where none is named, it frees the one to which
+/// the thread was bound.
 fn rebind(notifications: &mut Notifications, thread: ObjId, from: Option<ObjId>, to: Option<ObjId>)
     requires from { IfSome from (λ n. is_there notifications.old n ≡ true) }
     requires to { IfSome to (λ n. is_there notifications.old n ≡ true) }
@@ -43,8 +43,8 @@ fn rebind(notifications: &mut Notifications, thread: ObjId, from: Option<ObjId>,
     }
 }
 
-/// A context that is there and homed nowhere is homed at a notification now; or, where none is
-/// named, one that is homed nowhere.
+/// Homes a context that is there and homed nowhere at a notification. Where none is named, it
+/// unhomes a context that is homed.
 // a part of its caller, so that no name goes through memory
 #[inline(always)]
 fn home(contexts: &mut Contexts, context: ObjId, notification: Option<ObjId>)
@@ -59,8 +59,8 @@ fn home(contexts: &mut Contexts, context: ObjId, notification: Option<ObjId>)
     prove!(is_changed);
 }
 
-/// A notification that is there is the home of a context now; or, where none is named, the one that
-/// was its home is none.
+/// Makes a notification that is there the home of a context. Where none is named, the former home
+/// has no context any more.
 fn rehome(notifications: &mut Notifications, context: ObjId, from: Option<ObjId>, to: Option<ObjId>)
     requires from { IfSome from (λ n. is_there notifications.old n ≡ true) }
     requires to { IfSome to (λ n. is_there notifications.old n ≡ true) }
@@ -74,7 +74,7 @@ fn rehome(notifications: &mut Notifications, context: ObjId, from: Option<ObjId>
 }
 
 impl<W: Waiting> State<W> {
-    /// A notification is signalled: its word gains the bits of the badge (manual: Notifications).
+    /// Signals a notification: its word gains the bits of the badge (manual: Notifications).
     pub fn raises(&mut self, notification: ObjId, badge: Badge)
         requires allowed { Allowed (so_far self.old) (Rec.Raised notification badge) }
         requires room { length self.old.hand + 1 < self.old.room }
@@ -87,7 +87,8 @@ impl<W: Waiting> State<W> {
         self.notifications.raise(notification, badge);
     }
 
-    /// A thread hears the pending word of a notification, which is cleared (manual: Notifications).
+    /// Gives a thread the pending word of a notification, and clears the word (manual:
+    /// Notifications).
     pub fn hears(&mut self, thread: ObjId, notification: ObjId, word: u64)
         requires allowed { Allowed (so_far self.old) (Rec.Heard thread notification word) }
         requires room { length self.old.hand + 1 < self.old.room }
@@ -102,8 +103,7 @@ impl<W: Waiting> State<W> {
         self.notifications.hear(notification);
     }
 
-    /// A notification is bound to a thread from now on, or none is any more (manual:
-    /// Notifications).
+    /// Binds a notification to a thread, or unbinds the thread's (manual: Notifications).
     pub fn ties(&mut self, thread: ObjId, notification: Option<ObjId>)
         requires allowed { Allowed (so_far self.old) (Rec.Tied thread notification) }
         requires room { length self.old.hand + 1 < self.old.room }
@@ -118,7 +118,7 @@ impl<W: Waiting> State<W> {
         rebind(&mut self.notifications, thread, bound, notification);
     }
 
-    /// A context is homed at a notification from now on, or nowhere any more (own).
+    /// Homes a context at a notification, or nowhere (own).
     pub fn homes(&mut self, context: ObjId, notification: Option<ObjId>)
         requires allowed { Allowed (so_far self.old) (Rec.Homed context notification) }
         requires room { length self.old.hand + 1 < self.old.room }

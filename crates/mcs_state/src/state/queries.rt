@@ -81,7 +81,7 @@ impl<W: Waiting> State<W> {
         }
     }
 
-    /// The queue in which a thread stands.
+    /// The queue in which a thread is.
     pub fn queue(&self, thread: ObjId) -> Option<Queue>
         ensures { result ≡ queue_of (so_far self.now) thread }
     {
@@ -91,7 +91,7 @@ impl<W: Waiting> State<W> {
         }
     }
 
-    /// The reply object with which a thread stands in a queue.
+    /// The reply object with which a thread is in a queue.
     pub fn reply_with(&self, thread: ObjId, queue: Queue) -> Option<ObjId>
         requires { queue_of (so_far self.now) thread ≡ Some queue }
         ensures { result ≡ attended queue (reply_with (so_far self.now) thread) }
@@ -182,8 +182,8 @@ impl<W: Waiting> State<W> {
         self.letters.of(thread)
     }
 
-    /// Each record was allowed when it was made, few threads were made, and the hand has at most as
-    /// many records as a line.
+    /// Proves that each record was allowed when it was made, that few threads were made, and that
+    /// the hand has at most as many records as a line.
     pub fn is_sound(&self)
         ensures few { length self.now.hand ≤ HAND }
         ensures threads { counted (makes_kind Kind.Thread) (so_far self.now) ≤ ROOM }
@@ -243,8 +243,8 @@ impl<W: Waiting> State<W> {
         self.queues.first(queue)
     }
 
-    /// The thread behind another in its queue. None where it is the last of it or stands in no
-    /// queue (own).
+    /// The thread after another in its queue. None where it is the last of it or is in no queue
+    /// (own).
     pub fn next(&self, thread: ObjId) -> Option<ObjId>
         ensures { result ≡ next_of (so_far self.now) thread }
     {
@@ -252,7 +252,7 @@ impl<W: Waiting> State<W> {
         self.queues.next(thread)
     }
 
-    /// The thread that receives with a reply object, or None where none does (manual: Message
+    /// The thread that receives with a reply object, or None where none is (manual: Message
     /// Passing).
     pub fn receiver_with(&self, reply: ObjId) -> Option<ObjId>
         ensures { result ≡ receiver_with (so_far self.now) reply }
@@ -268,8 +268,8 @@ impl<W: Waiting> State<W> {
         self.replies.owed(reply)
     }
 
-    /// Who uses a reply object: the caller that it owes, or the receiver that stands with it; None
-    /// where nobody does (manual: Message Passing).
+    /// The user of a reply object: the caller that it owes, or the receiver that is queued with it;
+    /// None where nobody does (manual: Message Passing).
     pub fn user_of(&self, reply: ObjId) -> Option<ObjId>
         ensures { result ≡ user_of (so_far self.now) reply }
     {

@@ -16,7 +16,7 @@ use mcs_replies::{Ended, Replies};
 use mcs_threads::{Block, Threads};
 use mcs_types::{Badge, Copied, Copies, Ending, Mail, Message, ObjId, Rec};
 
-/// A reply object that may owe owes this caller from now on.
+/// Makes a reply object that may owe owe this caller.
 fn owe(replies: &mut Replies, reply: ObjId, caller: ObjId, brought: Option<ObjId>)
     requires { may_owe replies.old reply ≡ true }
     ensures { AddsDebt reply caller brought replies.old replies.new }
@@ -34,7 +34,7 @@ fn topped(ended: Option<Ended>) -> Option<ObjId>
     ended.unwrap().topped
 }
 
-/// A thread that is there gets an answer, with badge 0 (own), and is blocked no more.
+/// Gives a thread that is there an answer, with badge 0 (own), and unblocks it.
 fn answers(threads: &mut Threads, caller: ObjId, message: Message)
     requires { IsSome (row_of threads.old caller) }
     ensures { MailsFreed caller (Mail.Message (record { 0 = 0 }) message) threads.old threads.new }
@@ -46,8 +46,8 @@ fn answers(threads: &mut Threads, caller: ObjId, message: Message)
 }
 
 impl<W: Waiting> State<W> {
-    /// A reply object owes a caller an answer; the context is the one that the caller brought along
-    /// (manual: Message Passing).
+    /// Makes a reply object owe a caller an answer. The context is the one that the caller brought
+    /// along (manual: Message Passing).
     pub fn owes(&mut self, reply: ObjId, caller: ObjId, brought: Option<ObjId>)
         requires allowed { Allowed (so_far self.old) (Rec.Owes reply caller brought) }
         requires room { length self.old.hand + 1 < self.old.room }
@@ -63,8 +63,8 @@ impl<W: Waiting> State<W> {
         owe(&mut self.replies, reply, caller, brought);
     }
 
-    /// The caller that a reply object owes is answered. The answer is the context whose chain the
-    /// reply object topped before, if it topped one (manual: Message Passing; chains are own).
+    /// Pays the caller that a reply object owes. Returns the context whose chain the reply object
+    /// topped before, if it topped one (manual: Message Passing; chains are own).
     pub fn paid(&mut self, reply: ObjId, caller: ObjId, message: Copies<'_>) -> Option<ObjId>
         requires allowed { Allowed (so_far self.old) (Rec.Paid reply caller message) }
         requires room { length self.old.hand + 1 < self.old.room }
@@ -86,8 +86,8 @@ impl<W: Waiting> State<W> {
         topped(self.replies.pay(reply))
     }
 
-    /// The debt of a reply object becomes void. The answer is as that of `paid` (manual: Message
-    /// Passing; chains are own).
+    /// Voids the debt of a reply object. Returns what `paid` returns (manual: Message Passing;
+    /// chains are own).
     pub fn voids(&mut self, reply: ObjId, caller: ObjId, how: Ending) -> Option<ObjId>
         requires allowed { Allowed (so_far self.old) (Rec.Void reply caller how) }
         requires room { length self.old.hand + 1 < self.old.room }

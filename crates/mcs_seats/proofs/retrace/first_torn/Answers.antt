@@ -7,7 +7,7 @@ use Rattle.mcs_seats.proofs.Cutting.{line-none}
 use Rattle.mcs_seats.proofs.Seating.{all-beside, all-past, none-torn, has-torn}
 use Rattle.mcs_seats.proofs.retrace.first_torn.Goals as goal
 
--- all followers stand where the book was made again
+-- all followers are where the book was made again
 beside : (b : Book) (at : ℕ) (seats : List Seat) (p : Place) (ws : List Trail) → p ≡ record { book = b; at = at } → ws ≡ map (trail_of b at) seats → All (IsBeside p) ws
 beside b at seats p ws made followed =
     subst (λ (q : Place). All (IsBeside q) ws) (sym made)

@@ -9,11 +9,11 @@ use Rattle.mcs_seats.specs.Trails.{Trail, Place, IsBeside}
 use Rattle.mcs_seats.proofs.Trails.{call-at, wrong-torn, early-wrong, fault-wrong, away-right}
 use Rattle.mcs_seats.proofs.retrace.Follower.follow_away.Goals as goal
 
--- what became of a call, by the list in which it stands
+-- what became of a call, by the list in which it is
 became : (xs : List Call) (i n : ℕ) (f : EnterFault) (x : Call) → x ≡ get_or xs i x → (get_or xs i x).outcome ≡ Away n f → x.outcome ≡ Away n f
 became xs i n f x is away = ap (λ (z : Call). z.outcome) is ∙ away
 
--- why a call would be turned away before the next line, as the replay tells it
+-- why a call would be skipped before the next line, as the replay tells it
 fault-there : {t w : Trail} → t ≡ w → (p : Place) (xs : List Call) (i : ℕ) (x : Call) (found : Option EnterFault) → IsBeside p w → x ≡ get_or xs i x
     → found ≡ fault_of (cut p.book (p.at - 1)) t.core (get_or xs i x).thread → found ≡ fault_of (cut w.book (w.at - 1)) w.core x.thread
 fault-there {w = w} same p xs i x found beside is e =

@@ -6,7 +6,7 @@ use Rattle.mcs_seats.specs.Trails.{Trail, IsLineAt, AreRightTo, IsLater, place_o
 use Rattle.mcs_seats.proofs.Trails.{IsBeforeOwn, call-at, line-left, line-late, line-own, line-other}
 use Rattle.mcs_seats.proofs.retrace.Follower.follow_own.Goals as goal
 
--- the trail stands before the line of which this is a copy
+-- the trail is before the line of which this is a copy
 before : {t w : Trail} → t ≡ w → (k : ℕ) (copy : LineCopy) (line : IsLineAt (place_of w) copy) → 1 ≤ t.at → AreRightTo w k
     → IsLater w.at (drop k w.calls) → (copy.step.core.0 == w.core.0) ≡ true → IsBeforeOwn w k line.line
 before {w = w} same k copy line some right later own = record {
