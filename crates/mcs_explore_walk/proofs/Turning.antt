@@ -230,17 +230,20 @@ none-over users g ts n each long none = λ h f.
 -- an entry that the rule lets in is a turn
 pub some-turn : {X : Type 0} (users : List User) (g : Going) (picks : List (Option Pick)) (t : Turn) (user : X → User) (entry : X → Entry) (o : Option X) → ArePicks users g picks
     → IfSome o (λ x. IsEntrant users g picks t (user x) (entry x)) → is_some o ≡ true → (h : Going) × IsTurn users t.core t.pick g h
-some-turn users g picks t user entry (Some x) are is there = (entered picks (user x) (step_of t.core (user x) (entry x)) t.pick g, record {
-  user = user x;
-  entry = entry x;
-  picks = picks;
-  is_user = is.is_user;
-  is_entry = is.is_entry;
-  are_picks = are;
-  picked = is.picked;
-  enters = is.enters;
-  after = refl;
-})
+some-turn users g picks t user entry (Some x) are is there = (
+  entered picks (user x) (step_of t.core (user x) (entry x)) t.pick g,
+  record {
+    user = user x;
+    entry = entry x;
+    picks = picks;
+    is_user = is.is_user;
+    is_entry = is.is_entry;
+    are_picks = are;
+    picked = is.picked;
+    enters = is.enters;
+    after = refl;
+  },
+)
 some-turn users g picks t user entry None are is there = absurd cc
 
 -- and without one there is no turn
