@@ -1,10 +1,17 @@
 //! At how many states a search stops, so that it finds no more than are wanted.
 use mcs_explore_script::UserScript;
 
-/// Returns how many turns there are from a state at most, by the numbers of cores and of users: on
-/// each core one by each user.
+/// Returns how many turns the rule has from a state at most, by the numbers of cores and of users.
+/// These are two for each user: its thread enters on the core of its context alone, and since the
+/// user moved that core picked its next entry, or once more the one in which it waited. The user of
+/// the last line has one, as no core has an earlier pick of it, and so has each user before the
+/// first line. With one core there is one in all, as a line drops what its core picked before.
 fn most_turns(cores: u8, users: usize) -> usize {
-    users.saturating_mul(cores as usize)
+    if cores > 1 {
+        users.saturating_mul(2).saturating_sub(1)
+    } else {
+        1
+    }
 }
 
 /// Returns how many states may be found before a search expands no more, so that it finds no more

@@ -1,7 +1,7 @@
 //! All orders of the scripts of users in `examples/explore/`: what is reported of each, and how the
 //! scripts replay that show it.
 use mcs_explore_questions::ExploreFault;
-use mcs_explore_report::{Explored, Output, Saves, Wanted, explore_script};
+use mcs_explore_report::{Output, Saves, Wanted, explore_script};
 use mcs_lab_check::{LabFault, check};
 use mcs_sim::{ReplayRun, Source};
 use std::alloc::Global;
@@ -25,6 +25,7 @@ const SCRIPTS: &[&str] = &[
     "explore/named-object.mcs",
     "explore/made-objects.mcs",
     "explore/made.mcs",
+    "explore/made-waits.mcs",
     "explore/part.mcs",
 ];
 
@@ -36,7 +37,11 @@ const EXACT: &[&str] = &[
     "explore/bound.mcs",
     "explore/made-objects.mcs",
     "explore/made.mcs",
+    "explore/made-waits.mcs",
 ];
+
+/// How many budgets of states are tried with each script, from one state on.
+const BUDGETS: usize = 24;
 
 /// A script of users without questions.
 const ASKED: &str = "explore/asked.mcs";
@@ -109,15 +114,6 @@ impl Saves for Replayed {
     }
 }
 
-/// The word for what came of a search.
-fn word_of(explored: Explored) -> &'static str {
-    match explored {
-        Explored::Holds => "holds",
-        Explored::Fails => "fails",
-        Explored::Stopped => "stopped",
-    }
-}
-
 /// How far a search goes.
 fn wanted(is_exact: bool) -> Wanted {
     Wanted {
@@ -159,7 +155,7 @@ fn explore_file<W: Write + Drop>(
         OUTPUT,
         &mut replayed,
     )?;
-    let word = word_of(explored);
+    let word = explored.text();
     let Replayed {
         count,
         whole,
@@ -239,13 +235,13 @@ fn ask_all<W: Write>(rt: &HostRuntime, to: &mut W) -> Result<(), ExploreFault> {
 }
 
 /// Returns the report on a script.
-fn report_on(alloc: Global, script: &[u8], is_exact: bool) -> Result<Vec<u8>, ExploreFault> {
+fn report_on(alloc: Global, script: &[u8], wanted: Wanted) -> Result<Vec<u8>, ExploreFault> {
     let mut report: Vec<u8> = Vec::new(alloc);
     explore_script(
         alloc,
         &mut Source::new(script),
         &mut report,
-        wanted(is_exact),
+        wanted,
         OUTPUT,
         &mut Nowhere,
     )?;
@@ -294,8 +290,8 @@ fn explore_random<W: Write>(rt: &HostRuntime, to: &mut W) -> Result<(), ExploreF
     for users in parts {
         let mut script = Vec::from_slice(rt.alloc(), boot)?;
         script.extend_from_slice(users)?;
-        let report = report_on(rt.alloc(), &script, false)?;
-        let exact = report_on(rt.alloc(), &script, true)?;
+        let report = report_on(rt.alloc(), &script, wanted(false))?;
+        let exact = report_on(rt.alloc(), &script, wanted(true))?;
         count = count.saturating_add(1);
         alike = alike.saturating_add(u64::from(are_alike(&report, &exact)));
     }
@@ -306,7 +302,49 @@ fn explore_random<W: Write>(rt: &HostRuntime, to: &mut W) -> Result<(), ExploreF
     Ok(())
 }
 
-/// Explores all scripts and random ones, and asks all questions.
+/// Returns the first number of a report: how many states were found.
+fn states_in(report: &[u8]) -> usize {
+    let mut count: usize = 0;
+    for byte in report {
+        if byte.is_ascii_digit() {
+            let digit = usize::from(byte.saturating_sub(b'0'));
+            count = count.saturating_mul(10).saturating_add(digit);
+        } else if count > 0 {
+            break;
+        }
+    }
+    count
+}
+
+/// Explores each script with several budgets of states, and says in how many searches all of the
+/// budget was found, and in how many more.
+fn explore_budgets<W: Write>(rt: &HostRuntime, to: &mut W) -> Result<(), ExploreFault> {
+    let mut count: u64 = 0;
+    let mut full: u64 = 0;
+    let mut beyond: u64 = 0;
+    for &path in SCRIPTS {
+        let Ok(script) = fs::read(rt, path) else {
+            return Err(ExploreFault::Lab(LabFault::Read));
+        };
+        for states in 1..=BUDGETS {
+            let budget = Wanted {
+                states,
+                ..wanted(false)
+            };
+            let found = states_in(&report_on(rt.alloc(), &script, budget)?);
+            count = count.saturating_add(1);
+            full = full.saturating_add(u64::from(found == states));
+            beyond = beyond.saturating_add(u64::from(found > states));
+        }
+    }
+    writeln!(
+        to,
+        "of {count} searches with a budget of states {full} found as many, and {beyond} more"
+    )?;
+    Ok(())
+}
+
+/// Explores all scripts, with budgets too, and random ones, and asks all questions.
 fn try_all<W: Write + Drop>(rt: &HostRuntime, to: &mut W) -> Result<(), ExploreFault> {
     for &path in SCRIPTS {
         explore_file(rt, to, path, false)?;
@@ -314,6 +352,7 @@ fn try_all<W: Write + Drop>(rt: &HostRuntime, to: &mut W) -> Result<(), ExploreF
     for &path in EXACT {
         explore_file(rt, to, path, true)?;
     }
+    explore_budgets(rt, to)?;
     ask_all(rt, to)?;
     explore_random(rt, to)
 }
