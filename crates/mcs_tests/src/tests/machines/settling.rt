@@ -1,12 +1,14 @@
 //! Machines whose entries are made by hand.
 ghost use Rattle.std.specs.Prelude.{◌≡◌};
 
-use crate::tests::machines::boots::{ONE_CORE, TWO_CORES, boot_of, has_trace, replay_of, thread};
+use crate::tests::texts::{
+    ONE_CORE, TWO_CORES, boot_of, boot_of_script, has_trace, is_mail, replay_of, thread,
+};
 use mcs_book::{Book, Line};
 use mcs_cores::{CoreSeat, FinishFault, Machine, Settled};
 use mcs_kernel::{Boot, Kernel};
 use mcs_queues::{Lines, LinkedLines};
-use mcs_types::{Badge, CORES, Mail};
+use mcs_types::CORES;
 use std::alloc::Global;
 use std::marker::Brand;
 use std::sync::Wait;
@@ -32,7 +34,7 @@ const TRACE: &str = "\
 ";
 
 /// What becomes of the seats before a machine is finished.
-#[derive(Clone, Copy, PartialEq, Eq)]
+#[derive(Clone, Copy)]
 enum Seats {
     /// They are all handed in.
     All,
@@ -133,15 +135,6 @@ fn finish_steps<G: Ledger, L: Lines, R: Wait>(
     Ok(machine.finish(alloc, boot, seats))
 }
 
-/// The boot of a script.
-fn boot_of_script(alloc: Global, script: &str) -> Result<Boot, Fail> {
-    let replay = replay_of(alloc, script)?;
-    match replay.book() {
-        Some(book) => boot_of(alloc, book),
-        None => Err(Fail::from("a book")),
-    }
-}
-
 /// Enters a send and its receive on a machine of one core, and finishes it with this boot and these
 /// seats.
 fn finished<R: Wait>(
@@ -158,16 +151,6 @@ fn finished<R: Wait>(
             finish_steps::<Brand, LinkedLines, R>(rt, alloc, Blank::new(16), book, end)
         }
         None => Err(Fail::from("a book")),
-    }
-}
-
-/// Whether this message reached a thread: its badge is 9, its label 7, its words 5 and 6.
-fn is_mail(mail: Option<&Mail>) -> bool {
-    match mail {
-        Some(Mail::Message { badge, message }) => {
-            *badge == Badge(9) && message.label() == 7 && message.words() == [5, 6].as_slice()
-        }
-        _ => false,
     }
 }
 
