@@ -164,6 +164,21 @@ pub fn thread(serial: u32) -> ObjId {
     }
 }
 
+/// What is written `-`, or is not written.
+pub const NONE: u32 = u32::MAX;
+
+/// The numbers of a text, of which each is a word.
+pub fn numbers(text: &str) -> [u32; 12] {
+    let mut all = [NONE; 12];
+    let mut words = text.split_whitespace();
+    for place in &mut all {
+        if let Some(word) = words.next() {
+            *place = word.parse::<u32>().unwrap_or(NONE);
+        }
+    }
+    all
+}
+
 /// Adds so many pieces to a text.
 pub fn add_pieces(text: &mut Vec<u8>, piece: &str, count: u32) -> Result<(), Fail> {
     for _ in 0..count {

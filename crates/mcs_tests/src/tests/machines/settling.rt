@@ -75,24 +75,7 @@ fn enter_steps<G: Ledger, L: Lines, R: Wait>(
     Ok(())
 }
 
-/// The seats of a machine, of which the first has entered the steps of a book.
-fn entered<G: Ledger, L: Lines, R: Wait>(
-    rt: &R,
-    alloc: Global,
-    machine: &mut Machine<G, L>,
-    book: &Book,
-) -> Result<Vec<CoreSeat<G>>, Fail> {
-    let Ok(mut seats) = machine.seats(rt, alloc) else {
-        return Err(Fail::from("seats are given"));
-    };
-    match seats.first_mut() {
-        Some(seat) => enter_steps(rt, alloc, machine, seat, book)?,
-        None => return Err(Fail::from("there is a seat")),
-    }
-    Ok(seats)
-}
-
-/// The seats with which a machine is finished.
+/// The seats with which a machine is finished, of which the first has entered the steps of a book.
 fn seats_for<G: Ledger, L: Lines, R: Wait>(
     rt: &R,
     alloc: Global,
@@ -100,15 +83,20 @@ fn seats_for<G: Ledger, L: Lines, R: Wait>(
     book: &Book,
     kept: Seats,
 ) -> Result<Vec<CoreSeat<G>>, Fail> {
-    match kept {
-        Seats::NeverGiven => Ok(Vec::new(alloc)),
-        Seats::All => entered(rt, alloc, machine, book),
-        Seats::NotOne => {
-            let mut seats = entered(rt, alloc, machine, book)?;
-            let _ = seats.pop();
-            Ok(seats)
-        }
+    if let Seats::NeverGiven = kept {
+        return Ok(Vec::new(alloc));
     }
+    let Ok(mut seats) = machine.seats(rt, alloc) else {
+        return Err(Fail::from("seats are given"));
+    };
+    match seats.first_mut() {
+        Some(seat) => enter_steps(rt, alloc, machine, seat, book)?,
+        None => return Err(Fail::from("there is a seat")),
+    }
+    if let Seats::NotOne = kept {
+        let _ = seats.pop();
+    }
+    Ok(seats)
 }
 
 /// How a machine ends.

@@ -1,8 +1,7 @@
 //! Scripts of users, and lines that have no end: a fault is reported when it was read.
 use crate::tests::streams::{Output, pipe, pipe_users};
-use crate::tests::texts::BOOT;
+use crate::tests::texts::{BOOT, NONE, numbers, repeated};
 use mcs_sim::{Open, SimFault, Source};
-use mcs_text::LineFault;
 use std::alloc::AllocGlobal;
 use std::io::{self, Read};
 use std::sync::Wait;
@@ -32,19 +31,16 @@ impl<'a> Read for Endless<'a> {
     }
 }
 
-/// Whether a text before a line that has no end, as one of users or of steps, ends by this fault
-/// behind so many reads, and writes nothing.
+/// Whether a text before a line that has no end, as one of users or of steps, ends by the fault of
+/// this number at this line, behind so many reads, and writes nothing.
 fn ends<R: AllocGlobal + Threads + Wait + Sync>(
     rt: &R,
-    text: &str,
+    text: &[u8],
     users: Option<Option<u8>>,
-    fault: SimFault,
+    (line, number): (u32, u32),
     reads: u32,
 ) -> bool {
-    let mut input = Endless {
-        text: text.as_bytes(),
-        reads: 0,
-    };
+    let mut input = Endless { text, reads: 0 };
     let mut output = Output::new(rt.alloc());
     let result = match users {
         Some(cores) => {
@@ -54,76 +50,75 @@ fn ends<R: AllocGlobal + Threads + Wait + Sync>(
         }
         None => pipe(rt.alloc(), &mut input, &mut output),
     };
-    result == Err(fault) && output.taken.is_empty() && input.reads == reads
+    let is_told = match result {
+        Err(SimFault::Script { line: told, why }) => {
+            told == u64::from(line) && u32::from(why.number()) == number
+        }
+        _ => false,
+    };
+    is_told && output.taken.is_empty() && input.reads == reads
 }
 
 /// Texts, the number of the line that has no end, and how many reads come to its 4,097th byte: one
 /// for each line of the text, of which the boot has 36, and two of 4,096 bytes.
-const ENDLESS: &[(&str, u64, u32)] = &[("", 1, 2), ("cores 1\n", 2, 3), (BOOT, 37, 38)];
+const ENDLESS: &[(&str, u32, u32)] = &[("", 1, 2), ("cores 1\n", 2, 3), (BOOT, 37, 38)];
 
 #[test]
 fn an_endless_line_is_told_at_its_4097th_byte(rt: HostRuntime) {
-    let why = LineFault::LongLine;
     for &(text, line, reads) in ENDLESS {
-        let fault = SimFault::Script { line, why };
         for users in [Some(None), None] {
-            assert!(rt; ends(&rt, text, users, fault, reads), "line {line}");
+            assert!(rt;
+                ends(&rt, text.as_bytes(), users, (line, 7), reads),
+                "line {line}"
+            );
         }
     }
 }
 
-/// Lines behind the boot, how many cores are asked for, at which line that is a fault of users, and
-/// which.
-const FAULTS: &[(&str, Option<u8>, u32, LineFault)] = &[
-    ("", Some(2), 1, LineFault::Number),
-    ("nonsense\n", None, 37, LineFault::Form),
-    ("0 t1 nbsend 1 7\n", None, 37, LineFault::Form),
-    ("user t1\n", None, 37, LineFault::Form),
-    ("user t1 nbsend\n", None, 37, LineFault::Form),
-    ("user 1 nbsend 1 7\n", None, 37, LineFault::Form),
-    ("users t1 nbsend 1 7\n", None, 37, LineFault::Form),
-    ("cores 1\n", None, 37, LineFault::Taken),
-    ("endpoint 1\n", None, 37, LineFault::Form),
-    ("slot c1 32 e1 w 9\n", None, 37, LineFault::Number),
-    ("user t1 setprio 11 11 256\n", None, 37, LineFault::Number),
-    ("user t6 nbsend 1 7\n", None, 37, LineFault::NoObject),
-    (
-        "user t1 nbsend 1 7\nendpoint\n",
-        None,
-        38,
-        LineFault::LateBoot,
-    ),
-    (
-        "user t1 nbsend 1 7\nuser t1 send\n",
-        None,
-        38,
-        LineFault::Form,
-    ),
-    (
-        "#\n\nuser t1 setprio 11 11 256\n",
-        None,
-        39,
-        LineFault::Number,
-    ),
-];
+/// At which line a script of users is faulty, the number of the fault, and how many cores are asked
+/// for; then the lines behind the boot, each with a `;` at its end.
+const FAULTS: &str = "\
+1 3 2: #;
+37 2 -: nonsense;
+37 2 -: 0 t1 nbsend 1 7;
+37 2 -: user t1;
+37 2 -: user t1 nbsend;
+37 2 -: user 1 nbsend 1 7;
+37 2 -: users t1 nbsend 1 7;
+37 6 -: cores 1;
+37 2 -: endpoint 1;
+37 3 -: slot c1 32 e1 w 9;
+37 3 -: user t1 setprio 11 11 256;
+37 4 -: user t6 nbsend 1 7;
+38 8 -: user t1 nbsend 1 7;endpoint;
+38 2 -: user t1 nbsend 1 7;user t1 send;
+39 3 -: #;;user t1 setprio 11 11 256;
+";
 
-/// Whether a run of these lines behind the boot ends by this fault when it has read so many lines.
-fn is_faulty<R: AllocGlobal + Threads + Wait + Sync>(
-    rt: &R,
-    (lines, cores, line, why): (&str, Option<u8>, u32, LineFault),
-) -> Result<bool, Fail> {
-    let script = format!(in rt.alloc(); "{BOOT}{lines}")?;
-    let fault = SimFault::Script {
-        line: u64::from(line),
-        why,
+/// Whether the lines of a row end a run by its fault when so many lines were read.
+fn is_faulty<R: AllocGlobal + Threads + Wait + Sync>(rt: &R, row: &str) -> Result<bool, Fail> {
+    let Some((head, lines)) = row.split_once(": ") else {
+        return Ok(false);
     };
-    Ok(ends(rt, script.as_str(), Some(cores), fault, line))
+    let head = numbers(head);
+    let mut script = repeated(rt.alloc(), (BOOT, lines, 1, ""))?;
+    for byte in script.iter_mut() {
+        if *byte == b';' {
+            *byte = b'\n';
+        }
+    }
+    let cores = if head[2] == NONE {
+        None
+    } else {
+        Some(head[2] as u8)
+    };
+    Ok(ends(rt, &script, Some(cores), (head[0], head[1]), head[0]))
 }
 
 #[test]
 fn a_fault_is_told_before_the_next_line_is_read(rt: HostRuntime) -> Result<(), Fail> {
-    for (i, row) in FAULTS.iter().enumerate() {
-        assert!(rt; is_faulty(&rt, *row)?, "row {i}");
+    for row in FAULTS.lines() {
+        assert!(rt; is_faulty(&rt, row)?, "{row}");
     }
     Ok(())
 }

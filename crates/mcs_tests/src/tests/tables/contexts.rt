@@ -1,6 +1,7 @@
 //! The table of scheduling contexts.
 use super::names::{context, notification, thread};
-use super::rows::{NONE, done, named, row_of, word_of};
+use super::rows::{done, named, row_of, word_of};
+use crate::tests::texts::NONE;
 use mcs_contexts::Contexts;
 use mcs_types::{CoreId, Kind, ObjId, Refusal};
 use std::test::Fail;

@@ -1,6 +1,7 @@
 //! The table of notifications.
 use super::names::notification;
-use super::rows::{NONE, named, row_of};
+use super::rows::{named, row_of};
+use crate::tests::texts::NONE;
 use mcs_notifications::Notifications;
 use mcs_types::{Badge, Kind, ObjId};
 use std::test::Fail;

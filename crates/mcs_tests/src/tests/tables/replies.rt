@@ -1,6 +1,7 @@
 //! The table of reply objects.
 use super::names::{context, reply, thread};
-use super::rows::{NONE, named, row_of};
+use super::rows::{named, row_of};
+use crate::tests::texts::NONE;
 use mcs_replies::{Ended, Replies};
 use mcs_types::{Ending, Kind, ObjId};
 use std::test::Fail;

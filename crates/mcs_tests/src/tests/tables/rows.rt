@@ -1,24 +1,10 @@
 //! Rows of calls on tables, as texts: a call and its numbers, the word of its answer, and the
 //! numbers of what is kept then, as `bind 1 256 = bound 3 1 - - - -`.
+use crate::tests::texts::{NONE, numbers};
 use mcs_types::{Kind, ObjId, Refusal};
-
-/// What is written `-`, or is not written.
-pub const NONE: u32 = u32::MAX;
 
 /// A call, its numbers, the word of its answer, and the numbers of what is kept then.
 pub type Row<'a> = (&'a str, [u32; 12], &'a str, [u32; 12]);
-
-/// The numbers of a text.
-fn numbers(text: &str) -> [u32; 12] {
-    let mut all = [NONE; 12];
-    let mut words = text.split_whitespace();
-    for place in &mut all {
-        if let Some(word) = words.next() {
-            *place = word.parse::<u32>().unwrap_or(NONE);
-        }
-    }
-    all
-}
 
 /// The row of a line.
 pub fn row_of(line: &str) -> Option<Row<'_>> {

@@ -1,6 +1,7 @@
 //! The table of threads.
 use super::names::{notification, object, reply, thread};
-use super::rows::{NONE, named, row_of};
+use super::rows::{named, row_of};
+use crate::tests::texts::NONE;
 use mcs_threads::{Block, Threads};
 use mcs_types::{Badge, Cap, Guard, Kind, Mail, Message, Mode, ObjId, Prio, Queue, Rights, Status};
 use std::alloc::Global;
