@@ -3,6 +3,7 @@
 use crate::tests::texts::{FIVE_THREADS, LOOSE_THREADS, replay_of, thread};
 use mcs_kernel::Kernel;
 use mcs_queues::Lines;
+use mcs_slots::SlotId;
 use mcs_types::{CoreId, Kind, ObjId, Place, ThreadSet};
 use std::alloc::Global;
 use std::test::Fail;
@@ -33,25 +34,41 @@ fn object(kind: Kind, serial: u32) -> ObjId {
     ObjId { kind, serial }
 }
 
+/// The place of a slot that is empty.
+const PLACE: Place = Place {
+    index: 3,
+    depth: 64,
+};
+
 /// Whether nothing is reported of objects that are not there.
 fn are_missing<L: Lines>(kernel: &Kernel<L>) -> bool {
-    let place = Place {
-        index: 3,
-        depth: 64,
-    };
     kernel.radix(object(Kind::CNode, 2)) == 0
         && kernel.core(object(Kind::Context, 6)).is_none()
         && kernel.named(thread(6), 1).is_none()
-        && kernel.placed(thread(6), place).is_none()
+        && kernel.placed(thread(6), PLACE).is_none()
         && kernel.root(thread(6)).is_none()
-        && kernel.fault(CoreId(0), thread(1)).is_none()
 }
 
-/// Whether these are picked on a core behind a boot, and nothing is reported of what is not there.
+/// Whether a place is found, nothing turns the first thread away, and nothing was sent or bound.
+fn is_idle<L: Lines>(kernel: &Kernel<L>) -> bool {
+    let slot = SlotId {
+        cnode: object(Kind::CNode, 1),
+        index: 3,
+    };
+    kernel.placed(thread(1), PLACE) == Some(Ok(slot))
+        && kernel.fault(CoreId(0), thread(1)).is_none()
+        && kernel.open(thread(1)).is_none()
+        && kernel.tied(object(Kind::Notification, 1)).is_none()
+        && kernel.sent() == 0
+}
+
+/// Whether these are picked on a core behind a boot, where nothing was entered.
 fn are_picked(alloc: Global, boot: &str, core: u8, want: [u32; 6]) -> Result<bool, Fail> {
     let run = replay_of(alloc, boot)?;
     match run.kernel() {
-        Some(kernel) => Ok(picked(kernel, core) == want && are_missing(kernel)),
+        Some(kernel) => {
+            Ok(picked(kernel, core) == want && are_missing(kernel) && is_idle(kernel))
+        }
         None => Ok(false),
     }
 }
