@@ -1,11 +1,12 @@
 //! The scripts of `examples/` that consist of steps are checked, for each says what its steps
 //! answer, and drawn, as those of its gallery: each picture is compared with the one that is kept
-//! beside its script, and looked at. So are pages, texts and scripts with a flaw. All orders of the
-//! scripts of users are gone through, and plans are compiled. Told is besides what a search finds
-//! of a small system, which texts patterns match, what is stuck at the end of some scripts, and
-//! what the scripts of standard input give, which is all that is reported where no file is named
-//! (so `tests/each-allocation.sh` has each allocation refused in turn, and wants the same traces).
-//! With a number alone, a byte of each plan is changed so many times, and no more is done.
+//! beside its script, and looked at. So are pages, texts and scripts with a flaw. Scripts of what a
+//! kernel reports are checked alone. All orders of the scripts of users are gone through, and plans
+//! are compiled. Told is besides what a search finds of a small system, which texts patterns match,
+//! what is stuck at the end of some scripts, and what the scripts of standard input give, which is
+//! all that is reported where no file is named (so `tests/each-allocation.sh` has each allocation
+//! refused in turn, and wants the same traces). With a number alone, a byte of each plan is changed
+//! so many times, and no more is done.
 #![tactic(auto)]
 
 mod calls;
@@ -81,6 +82,28 @@ fn check_all<W: Write + Drop>(
     Ok(all_hold)
 }
 
+/// Scripts of what a kernel reports: what its threads do, what last reached them, whatever else is
+/// asked of it, and where addresses lead.
+const REPORTS: &[&str] = &[
+    "kernel/message.mcs",
+    "kernel/signal.mcs",
+    "kernel/call.mcs",
+    "kernel/cancelled.mcs",
+    "kernel/away.mcs",
+    "kernel/lent.mcs",
+    "kernel/lookup.mcs",
+];
+
+/// Checks these scripts. True where each holds.
+fn check_reports<W: Write + Drop>(rt: &HostRuntime, to: &mut W) -> Result<bool, LabFault> {
+    let mut all_hold = true;
+    for path in REPORTS {
+        let holds = check_file(rt, to, path)?;
+        all_hold = all_hold && holds;
+    }
+    Ok(all_hold)
+}
+
 /// How many times a byte of each plan is changed, where no number is given.
 const CHANGES: usize = 50;
 
@@ -89,6 +112,7 @@ const CHANGES: usize = 50;
 fn tell_all(rt: &HostRuntime, paths: &[String]) -> Result<bool, LabFault> {
     let mut to = BufWriter::new(rt.alloc(), io::writer(rt))?;
     let all_hold = check_all(rt, &mut to, paths)?;
+    let reports_hold = check_reports(rt, &mut to)?;
     draw_gallery(rt, &mut to)?;
     tell_flaws(rt.alloc(), &mut to)?;
     explore_all(rt, &mut to)?;
@@ -98,7 +122,7 @@ fn tell_all(rt: &HostRuntime, paths: &[String]) -> Result<bool, LabFault> {
     tell_patterns(&mut to)?;
     tell_stuck(rt, &mut to)?;
     to.flush()?;
-    Ok(all_hold)
+    Ok(all_hold && reports_hold)
 }
 
 /// Changes plans so many times, and tells how many went wrong.

@@ -3,4 +3,6 @@
 mod kernels;
 mod machines;
 mod replays;
+mod streams;
 mod tables;
+mod texts;

@@ -1,6 +1,5 @@
 //! Books, boots and the kernel.
 
+mod asking;
 mod books;
-mod boots;
-mod queries;
-mod questions;
+mod entering;

@@ -1,67 +1,270 @@
 //! A book gives back the lines that were added to it.
+use crate::tests::texts::{replay_of, trace_of};
 use mcs_book::{Book, Line};
-use mcs_trace::{Sink, put_kept_answer, put_kept_record, put_kept_step};
 use mcs_types::{
-    Answer, Badge, Cap, CoreId, Ending, Entry, Form, Guard, Kind, MESSAGE_WORDS, Message, Mode,
-    ObjId, OutOfMemory, Place, Prio, Queue, Rec, Refusal, Rights, SendMode, Step,
+    Badge, Cap, CoreId, Ending, Form, Guard, Kind, MESSAGE_WORDS, Message, Mode, ObjId, Prio,
+    Queue, Rec, Rights, SendMode, Step,
 };
 use std::alloc::Global;
-use std::io::Write;
 use std::test::Fail;
 
-/// An object of each kind.
-#[derive(Drop)]
-struct Ids {
-    cnode: ObjId,
-    thread: ObjId,
-    endpoint: ObjId,
-    notification: ObjId,
-    reply: ObjId,
-    context: ObjId,
-}
+/// Each entry, with the greatest numbers where it is refused, and each answer: those that receive
+/// with a short message and with a long one.
+const ENTRIES: &str = "\
+cores 1
+cnode 5
+cnode 1
+endpoint
+notification
+reply
+context 0
+context 0
+thread 10 255 c1 59 0 run s1
+thread 20 255 c1 59 0 run s2
+slot c1 1 e1 rwgp 0
+slot c1 2 n1 rw 18446744073709551615
+slot c1 3 r1
+slot c1 4 e1 w 18446744073709551615
+slot c1 12 c2 0 0
+0 t1 recv 18446744073709551615 1
+0 t1 nbrecv 18446744073709551615 1
+0 t1 wait 18446744073709551615
+0 t1 nbwait 2
+0 t1 signal 2
+0 t1 nbwait 2
+0 t1 setprio 18446744073709551614 4 255
+0 t1 suspend 18446744073709551614
+0 t1 resume 18446744073709551614
+0 t1 bindntfn 18446744073709551614 2
+0 t1 unbindntfn 18446744073709551614
+0 t1 bind 18446744073709551613 18446744073709551614
+0 t1 unbind 18446744073709551613
+0 t1 cancel 3
+0 t1 nbsend 18446744073709551615 4503599627370495 18446744073709551615
+0 t1 send 4 4503599627370495 18446744073709551615 18446744073709551614 18446744073709551613 18446744073709551612
+0 t2 nbrecv 1 3
+0 t1 call 1 4503599627370495 18446744073709551615 18446744073709551614 18446744073709551613 18446744073709551612 18446744073709551611 18446744073709551610 18446744073709551609 18446744073709551608 18446744073709551607 18446744073709551606 18446744073709551605 18446744073709551604 18446744073709551603 18446744073709551602 18446744073709551601 18446744073709551600 18446744073709551599 18446744073709551598 18446744073709551597 18446744073709551596 18446744073709551595 18446744073709551594 18446744073709551593 18446744073709551592 18446744073709551591 18446744073709551590 18446744073709551589 18446744073709551588 18446744073709551587 18446744073709551586 18446744073709551585 18446744073709551584 18446744073709551583 18446744073709551582 18446744073709551581 18446744073709551580 18446744073709551579 18446744073709551578 18446744073709551577 18446744073709551576 18446744073709551575 18446744073709551574 18446744073709551573 18446744073709551572 18446744073709551571 18446744073709551570 18446744073709551569 18446744073709551568 18446744073709551567 18446744073709551566 18446744073709551565 18446744073709551564 18446744073709551563 18446744073709551562 18446744073709551561 18446744073709551560 18446744073709551559 18446744073709551558 18446744073709551557 18446744073709551556 18446744073709551555 18446744073709551554 18446744073709551553 18446744073709551552 18446744073709551551 18446744073709551550 18446744073709551549 18446744073709551548 18446744073709551547 18446744073709551546 18446744073709551545 18446744073709551544 18446744073709551543 18446744073709551542 18446744073709551541 18446744073709551540 18446744073709551539 18446744073709551538 18446744073709551537 18446744073709551536 18446744073709551535 18446744073709551534 18446744073709551533 18446744073709551532 18446744073709551531 18446744073709551530 18446744073709551529 18446744073709551528 18446744073709551527 18446744073709551526 18446744073709551525 18446744073709551524 18446744073709551523 18446744073709551522 18446744073709551521 18446744073709551520 18446744073709551519 18446744073709551518 18446744073709551517 18446744073709551516 18446744073709551515 18446744073709551514 18446744073709551513 18446744073709551512 18446744073709551511 18446744073709551510 18446744073709551509 18446744073709551508 18446744073709551507 18446744073709551506 18446744073709551505 18446744073709551504 18446744073709551503 18446744073709551502 18446744073709551501 18446744073709551500 18446744073709551499 18446744073709551498 18446744073709551497 18446744073709551496
+0 t2 recv 1 3
+0 t2 send 18446744073709551615 4503599627370495
+0 t2 replyrecv 18446744073709551615 1 4503599627370495 18446744073709551615 18446744073709551614 18446744073709551613 18446744073709551612 18446744073709551611
+0 t2 nbsendrecv 18446744073709551615 1 3 4503599627370495 18446744073709551615
+0 t2 nbsendwait 18446744073709551615 1 4503599627370495 18446744073709551615 18446744073709551614 18446744073709551613 18446744073709551612 18446744073709551611
+0 t2 copy 18446744073709551615 64 1 255 rwgp
+0 t2 mint 18446744073709551615 64 1 255 rwgp 18446744073709551615
+0 t2 move 18446744073709551615 64 1 255
+0 t2 delete 1 255
+0 t2 make endpoint 1 255
+0 t2 make notification 1 255
+0 t2 make reply 1 255
+0 t2 make context 1 255
+0 t2 delete 12 64
+";
 
-fn id(kind: Kind, below: u32) -> ObjId {
+/// How many entries these are.
+const COUNT: usize = 32;
+
+/// A CNode, a thread, an endpoint, a notification, a reply object and a context, of great serials.
+const OWN: [ObjId; 6] = [
     ObjId {
-        kind,
-        serial: !below,
-    }
-}
+        kind: Kind::CNode,
+        serial: u32::MAX,
+    },
+    ObjId {
+        kind: Kind::Thread,
+        serial: 4_294_967_294,
+    },
+    ObjId {
+        kind: Kind::Endpoint,
+        serial: 4_294_967_293,
+    },
+    ObjId {
+        kind: Kind::Notification,
+        serial: 4_294_967_292,
+    },
+    ObjId {
+        kind: Kind::Reply,
+        serial: 4_294_967_291,
+    },
+    ObjId {
+        kind: Kind::Context,
+        serial: 4_294_967_290,
+    },
+];
 
-/// Objects of their kinds, with great serials.
-fn own_ids() -> Ids {
-    Ids {
-        cnode: id(Kind::CNode, 0),
-        thread: id(Kind::Thread, 1),
-        endpoint: id(Kind::Endpoint, 2),
-        notification: id(Kind::Notification, 3),
-        reply: id(Kind::Reply, 4),
-        context: id(Kind::Context, 5),
-    }
-}
+/// The same places with objects of other kinds: no run records them, but a record may name them.
+const ODD: [ObjId; 6] = [
+    ObjId {
+        kind: Kind::Thread,
+        serial: u32::MAX,
+    },
+    ObjId {
+        kind: Kind::Endpoint,
+        serial: 4_294_967_294,
+    },
+    ObjId {
+        kind: Kind::Notification,
+        serial: 4_294_967_293,
+    },
+    ObjId {
+        kind: Kind::Reply,
+        serial: 4_294_967_292,
+    },
+    ObjId {
+        kind: Kind::Context,
+        serial: 4_294_967_291,
+    },
+    ObjId {
+        kind: Kind::CNode,
+        serial: 4_294_967_290,
+    },
+];
 
-/// Objects of other kinds than their names say: no run records them, but a record may name them.
-fn odd_ids() -> Ids {
-    Ids {
-        cnode: id(Kind::Thread, 0),
-        thread: id(Kind::Endpoint, 1),
-        endpoint: id(Kind::Notification, 2),
-        notification: id(Kind::Reply, 3),
-        reply: id(Kind::Context, 4),
-        context: id(Kind::CNode, 5),
-    }
-}
+/// A thread that enters.
+const THREAD: ObjId = ObjId {
+    kind: Kind::Thread,
+    serial: 4_294_967_286,
+};
 
-fn rights() -> Result<Rights, Fail> {
-    Ok(Rights::new(15).ok_or("rights")?)
-}
-
-fn cap_to(obj: ObjId, badge: u64, bits: u8, value: u64) -> Result<Option<Cap>, Fail> {
-    Ok(Some(Cap {
+fn cap_to(obj: ObjId, badge: u64, bits: u8, value: u64) -> Option<Cap> {
+    Some(Cap {
         obj,
-        rights: rights()?,
+        rights: Rights::new(15)?,
         badge: Badge(badge),
         guard: Guard { bits, value },
-    }))
+    })
+}
+
+/// What was made and ended, and what slots hold: the records of these numbers.
+fn of_objects(number: usize, names: [ObjId; 6]) -> Option<Rec> {
+    let [cnode, thread, endpoint, notification, reply, context] = names;
+    let (maximum, core) = (Prio(255), CoreId(255));
+    let (object, form) = match number {
+        0 => (endpoint, Form::Plain),
+        1 => (cnode, Form::Slots { radix: 8 }),
+        2 => (context, Form::OnCore { core }),
+        3 => {
+            let root = cap_to(cnode, 0, 63, u64::MAX)?;
+            (thread, Form::Runner { maximum, root })
+        }
+        4 => return Some(Rec::Closed { object: reply }),
+        _ => {
+            let cap = match number {
+                5 => None,
+                6 => cap_to(endpoint, 0, 0, 0),
+                7 => cap_to(endpoint, u64::MAX, 0, 0),
+                8 => cap_to(cnode, 0, 63, u64::MAX),
+                9 => cap_to(cnode, 0, 0, 1),
+                10 => cap_to(notification, 7, 5, 3),
+                _ => return None,
+            };
+            let index = 255;
+            return Some(Rec::Slot { cnode, index, cap });
+        }
+    };
+    Some(Rec::Made { object, form })
+}
+
+/// How a thread runs, holds a context and is bound, and where a context is homed.
+fn of_threads(number: usize, names: [ObjId; 6]) -> Option<Rec> {
+    let [_, thread, _, other, _, context] = names;
+    let priority = Prio(255);
+    let notification = if number % 2 == 0 { None } else { Some(other) };
+    let mode = match number {
+        0 => return Some(Rec::Prio { thread, priority }),
+        1 => Mode::Running,
+        2 => Mode::Restart,
+        3 => Mode::Inactive,
+        4 => {
+            let thread = None;
+            return Some(Rec::Holds { context, thread });
+        }
+        5 => {
+            let thread = Some(thread);
+            return Some(Rec::Holds { context, thread });
+        }
+        6 | 7 => {
+            return Some(Rec::Tied {
+                thread,
+                notification,
+            });
+        }
+        8 | 9 => {
+            return Some(Rec::Homed {
+                context,
+                notification,
+            });
+        }
+        _ => return None,
+    };
+    Some(Rec::Turns { thread, mode })
+}
+
+/// How a thread stands in each kind of queue, without and with a reply object, and leaves it.
+fn of_queues(number: usize, names: [ObjId; 6]) -> Option<Rec> {
+    let [_, thread, endpoint, notification, own, _] = names;
+    let queue = match number {
+        0..=2 => Queue::Senders(endpoint),
+        3..=5 => Queue::Receivers(endpoint),
+        6..=8 => Queue::Waiters(notification),
+        _ => return None,
+    };
+    let reply = match number % 3 {
+        0 => None,
+        1 => Some(own),
+        _ => return Some(Rec::Parts { thread, queue }),
+    };
+    Some(Rec::Joins {
+        thread,
+        queue,
+        reply,
+    })
+}
+
+/// What was taken and dropped, raised and heard, and what reply objects owe and how that ends.
+fn of_words(number: usize, names: [ObjId; 6]) -> Option<Rec> {
+    let [_, thread, _, notification, reply, lent] = names;
+    let caller = thread;
+    let (message, word) = match number {
+        0 | 1 => (0, 0),
+        2 | 3 => (2, 0),
+        4 | 5 => (u32::MAX, 0),
+        6 | 7 => (0, 0),
+        8 | 9 => (0, u64::MAX),
+        10 | 11 => {
+            let context = if number == 10 { None } else { Some(lent) };
+            return Some(Rec::Owes {
+                reply,
+                caller,
+                context,
+            });
+        }
+        12 | 13 => {
+            let ending = if number == 12 {
+                Ending::Deleted
+            } else {
+                Ending::Cancelled
+            };
+            return Some(Rec::Void {
+                reply,
+                caller,
+                ending,
+            });
+        }
+        _ => return None,
+    };
+    Some(match (number < 6, number % 2 == 0) {
+        (true, true) => Rec::Took { message, thread },
+        (true, false) => Rec::Dropped { message },
+        (false, true) => Rec::Raised {
+            notification,
+            badge: Badge(word),
+        },
+        (false, false) => Rec::Heard {
+            thread,
+            notification,
+            word,
+        },
+    })
 }
 
 /// The greatest label, and so many words, from the greatest down.
@@ -73,103 +276,8 @@ fn message(alloc: Global, count: u64) -> Result<Message, Fail> {
     Ok(Message::new(alloc, (1 << 52) - 1, &words)?.ok_or("message")?)
 }
 
-/// What was made and ended.
-fn objects(alloc: Global, ids: &Ids) -> Result<Vec<Rec>, Fail> {
-    let root = cap_to(ids.cnode, 0, 63, u64::MAX)?.ok_or("root")?;
-    let maximum = Prio(255);
-    let core = CoreId(255);
-    let records = vec![in alloc;
-        Rec::Made {
-            object: ids.endpoint,
-            form: Form::Plain
-        },
-        Rec::Made {
-            object: ids.cnode,
-            form: Form::Slots { radix: 8 }
-        },
-        Rec::Made {
-            object: ids.context,
-            form: Form::OnCore { core }
-        },
-        Rec::Made {
-            object: ids.thread,
-            form: Form::Runner { maximum, root }
-        },
-        Rec::Closed { object: ids.reply },
-    ]?;
-    Ok(records)
-}
-
-/// Puts what slots hold.
-fn put_slots(records: &mut Vec<Rec>, ids: &Ids) -> Result<(), Fail> {
-    let caps = [
-        None,
-        cap_to(ids.endpoint, 0, 0, 0)?,
-        cap_to(ids.endpoint, u64::MAX, 0, 0)?,
-        cap_to(ids.cnode, 0, 63, u64::MAX)?,
-        cap_to(ids.cnode, 0, 0, 1)?,
-        cap_to(ids.notification, 7, 5, 3)?,
-    ];
-    let (cnode, index) = (ids.cnode, 255);
-    for cap in caps {
-        records.push(Rec::Slot { cnode, index, cap })?;
-    }
-    Ok(())
-}
-
-/// Puts how threads run and hold contexts.
-fn put_threads(records: &mut Vec<Rec>, ids: &Ids) -> Result<(), Fail> {
-    let (thread, context) = (ids.thread, ids.context);
-    let priority = Prio(255);
-    records.push(Rec::Prio { thread, priority })?;
-    for mode in [Mode::Running, Mode::Restart, Mode::Inactive] {
-        records.push(Rec::Turns { thread, mode })?;
-    }
-    for thread in [None, Some(thread)] {
-        records.push(Rec::Holds { context, thread })?;
-    }
-    Ok(())
-}
-
-/// Puts how threads are bound, and where contexts are homed.
-fn put_bindings(records: &mut Vec<Rec>, ids: &Ids) -> Result<(), Fail> {
-    let (thread, context) = (ids.thread, ids.context);
-    for notification in [None, Some(ids.notification)] {
-        records.push(Rec::Tied {
-            thread,
-            notification,
-        })?;
-        records.push(Rec::Homed {
-            context,
-            notification,
-        })?;
-    }
-    Ok(())
-}
-
-/// Puts how threads stand in queues.
-fn put_queued(records: &mut Vec<Rec>, ids: &Ids) -> Result<(), Fail> {
-    let thread = ids.thread;
-    let queues = [
-        Queue::Senders(ids.endpoint),
-        Queue::Receivers(ids.endpoint),
-        Queue::Waiters(ids.notification),
-    ];
-    for queue in queues {
-        for reply in [None, Some(ids.reply)] {
-            records.push(Rec::Joins {
-                thread,
-                queue,
-                reply,
-            })?;
-        }
-        records.push(Rec::Parts { thread, queue })?;
-    }
-    Ok(())
-}
-
 /// How messages are sent, with which badges, and how many words they have. The first that is long
-/// finds room among the words; the one behind it, and those of debts, stand beside the records.
+/// finds room among the words; the one behind it, and that of a debt, stand beside the records.
 const SENT: &[(SendMode, u64, u64)] = &[
     (SendMode::Plain, 0, 0),
     (SendMode::Call, 9, 1),
@@ -178,248 +286,79 @@ const SENT: &[(SendMode, u64, u64)] = &[
     (SendMode::Plain, 0, 5),
 ];
 
-/// Puts what was sent.
-fn put_sent(alloc: Global, records: &mut Vec<Rec>, ids: &Ids) -> Result<(), Fail> {
-    for &(mode, badge, words) in SENT {
-        let message = message(alloc, words)?;
-        records.push(Rec::Sent {
-            sender: ids.thread,
-            endpoint: ids.endpoint,
+/// What was sent, and behind that how a debt is paid.
+fn of_messages(alloc: Global, number: usize, names: [ObjId; 6]) -> Result<Rec, Fail> {
+    let [_, thread, endpoint, _, reply, _] = names;
+    match SENT.get(number) {
+        Some(&(mode, badge, words)) => Ok(Rec::Sent {
+            sender: thread,
+            endpoint,
             mode,
             badge: Badge(badge),
-            message,
-        })?;
-    }
-    Ok(())
-}
-
-/// Puts what was taken and dropped.
-fn put_taken(records: &mut Vec<Rec>, ids: &Ids) -> Result<(), Fail> {
-    let thread = ids.thread;
-    for message in [0, 2, u32::MAX] {
-        records.push(Rec::Took { message, thread })?;
-        records.push(Rec::Dropped { message })?;
-    }
-    Ok(())
-}
-
-/// Puts what was raised and heard.
-fn put_words(records: &mut Vec<Rec>, ids: &Ids) -> Result<(), Fail> {
-    let (thread, notification) = (ids.thread, ids.notification);
-    for word in [0, u64::MAX] {
-        let badge = Badge(word);
-        records.push(Rec::Raised {
-            notification,
-            badge,
-        })?;
-        records.push(Rec::Heard {
-            thread,
-            notification,
-            word,
-        })?;
-    }
-    Ok(())
-}
-
-/// Puts what reply objects owe, and how that ends.
-fn put_debts(alloc: Global, records: &mut Vec<Rec>, ids: &Ids) -> Result<(), Fail> {
-    let (reply, caller) = (ids.reply, ids.thread);
-    for context in [None, Some(ids.context)] {
-        records.push(Rec::Owes {
+            message: message(alloc, words)?,
+        }),
+        None => Ok(Rec::Paid {
             reply,
-            caller,
-            context,
-        })?;
+            caller: thread,
+            message: message(alloc, MESSAGE_WORDS as u64)?,
+        }),
     }
-    let message = message(alloc, MESSAGE_WORDS as u64)?;
-    records.push(Rec::Paid {
-        reply,
-        caller,
-        message,
-    })?;
-    for ending in [Ending::Deleted, Ending::Cancelled] {
-        records.push(Rec::Void {
-            reply,
-            caller,
-            ending,
-        })?;
+}
+
+/// Notes a record in the open line of a book.
+fn note(book: &mut Book, fact: Option<Rec>) -> Result<(), Fail> {
+    if let Some(fact) = fact {
+        book.reserve(1)?;
+        book.note(fact);
     }
     Ok(())
 }
 
-/// Puts records of all kinds.
-fn put_records(alloc: Global, records: &mut Vec<Rec>, ids: &Ids) -> Result<(), Fail> {
-    records.append(&mut objects(alloc, ids)?)?;
-    put_slots(records, ids)?;
-    put_threads(records, ids)?;
-    put_bindings(records, ids)?;
-    put_queued(records, ids)?;
-    put_sent(alloc, records, ids)?;
-    put_taken(records, ids)?;
-    put_words(records, ids)?;
-    put_debts(alloc, records, ids)
-}
-
-/// The entries that receive, and a signal.
-fn receives(alloc: Global) -> Result<Vec<Entry>, Fail> {
-    let (cap, reply) = (u64::MAX, 1);
-    let entries = vec![in alloc;
-        Entry::Recv { cap, reply },
-        Entry::NbRecv { cap, reply },
-        Entry::Wait { cap },
-        Entry::NbWait { cap },
-        Entry::Signal { cap },
-    ]?;
-    Ok(entries)
-}
-
-/// The entries that change what threads, notifications and contexts are to each other.
-fn changes(alloc: Global) -> Result<Vec<Entry>, Fail> {
-    let (thread, notification, context) = (u64::MAX - 1, 2, u64::MAX - 2);
-    let entries = vec![in alloc;
-        Entry::SetPriority {
-            thread,
-            authority: 4,
-            priority: Prio(255)
-        },
-        Entry::Suspend { thread },
-        Entry::Resume { thread },
-        Entry::BindNtfn {
-            thread,
-            notification
-        },
-        Entry::UnbindNtfn { thread },
-        Entry::BindCtx { context, thread },
-        Entry::UnbindCtx { context },
-        Entry::CancelBadged { endpoint: 3 },
-    ]?;
-    Ok(entries)
-}
-
-/// Puts the entries that send messages.
-fn put_sends(alloc: Global, entries: &mut Vec<Entry>) -> Result<(), Fail> {
-    let (cap, reply) = (u64::MAX, 1);
-    let none = message(alloc, 0)?;
-    entries.push(Entry::Send { cap, message: none })?;
-    let one = message(alloc, 1)?;
-    entries.push(Entry::NbSend { cap, message: one })?;
-    let all = message(alloc, MESSAGE_WORDS as u64)?;
-    entries.push(Entry::Call { cap, message: all })?;
-    let message = message(alloc, 5)?;
-    entries.push(Entry::ReplyRecv {
-        cap,
-        reply,
-        message,
-    })?;
+/// Notes records of all kinds.
+fn note_all(alloc: Global, book: &mut Book, names: [ObjId; 6]) -> Result<(), Fail> {
+    for number in 0..14 {
+        note(book, of_objects(number, names))?;
+        note(book, of_threads(number, names))?;
+        note(book, of_words(number, names))?;
+    }
+    for number in 0..9 {
+        note(book, of_queues(number, names))?;
+    }
+    for number in 0..=SENT.len() {
+        note(book, Some(of_messages(alloc, number, names)?))?;
+    }
     Ok(())
 }
 
-/// The entries that name places.
-fn placed(alloc: Global) -> Result<Vec<Entry>, Fail> {
-    let (rights, badge, index) = (rights()?, Badge(u64::MAX), u64::MAX);
-    let source = Place { index, depth: 64 };
-    let dest = Place {
-        index: 1,
-        depth: 255,
-    };
-    let place = dest;
-    let entries = vec![in alloc;
-        Entry::CopyCap {
-            source,
-            dest,
-            rights
-        },
-        Entry::MintCap {
-            source,
-            dest,
-            rights,
-            badge
-        },
-        Entry::MoveCap { source, dest },
-        Entry::DeleteCap { place },
-        Entry::MakeEndpoint { place },
-        Entry::MakeNotification { place },
-        Entry::MakeReply { place },
-        Entry::MakeContext { place },
-    ]?;
-    Ok(entries)
-}
-
-/// All answers, those that receive with a short message and with a long one.
-fn answers(alloc: Global) -> Result<Vec<Answer>, Fail> {
-    let badge = Badge(u64::MAX);
-    let (four, all) = (message(alloc, 4)?, message(alloc, MESSAGE_WORDS as u64)?);
-    let answers = vec![in alloc;
-        Answer::Done,
-        Answer::Got {
-            badge,
-            message: four
-        },
-        Answer::Got {
-            badge: Badge(0),
-            message: all
-        },
-        Answer::Heard { word: u64::MAX },
-        Answer::Empty,
-        Answer::Waits,
-        Answer::Refused(Refusal::LastCNode),
-    ]?;
-    Ok(answers)
-}
-
-/// Puts all entries.
-fn put_entries(alloc: Global, entries: &mut Vec<Entry>) -> Result<(), Fail> {
-    entries.append(&mut receives(alloc)?)?;
-    entries.append(&mut changes(alloc)?)?;
-    put_sends(alloc, entries)?;
-    entries.append(&mut placed(alloc)?)?;
-    Ok(())
-}
-
-/// Adds a line with this step and this answer, and these records.
-fn append(
+/// Adds a line with the entry of one line and the answer of another, and records of all kinds; each
+/// second one has the odd names.
+fn add_line(
+    alloc: Global,
     book: &mut Book,
-    step: &Step,
-    answer: &Answer,
-    records: &mut Vec<Rec>,
+    entering: &Line<'_>,
+    answered: &Line<'_>,
 ) -> Result<(), Fail> {
-    book.reserve(records.len())?;
-    book.append(step, answer, records);
-    Ok(())
-}
-
-/// The names of a line: each second has the odd ones.
-fn ids_of(line: usize) -> Ids {
-    if line % 2 == 0 { own_ids() } else { odd_ids() }
-}
-
-/// Adds a line with this entry and this answer, and records of all kinds.
-fn add_line(alloc: Global, book: &mut Book, entry: Entry, answer: &Answer) -> Result<(), Fail> {
+    let names = if book.lines() % 2 == 0 { OWN } else { ODD };
+    note_all(alloc, book, names)?;
+    let answer = answered.answer(alloc)?;
+    let entered = entering.step(alloc)?;
     let step = Step {
         core: CoreId(255),
-        thread: id(Kind::Thread, 9),
-        entry,
+        thread: THREAD,
+        entry: entered.entry,
     };
-    let mut records = Vec::new(alloc);
-    put_records(alloc, &mut records, &ids_of(book.lines()))?;
-    append(book, &step, answer, &mut records)
+    book.reserve(0)?;
+    book.close(&step, &answer);
+    Ok(())
 }
 
-/// Adds a line with this entry, whose answer has its turn.
-fn add_entry(alloc: Global, book: &mut Book, entry: Entry, answers: &[Answer]) -> Result<(), Fail> {
-    match answers.get(book.lines() % 7) {
-        Some(answer) => add_line(alloc, book, entry, answer),
-        None => Err(Fail::from("an answer")),
-    }
-}
-
-/// Adds a line for each of the entries, whose answers take turns.
-fn add_lines(alloc: Global, book: &mut Book) -> Result<(), Fail> {
-    let answers = answers(alloc)?;
-    let mut entries = Vec::new(alloc);
-    put_entries(alloc, &mut entries)?;
-    for entry in entries {
-        add_entry(alloc, book, entry, &answers)?;
+/// Adds a line for each line of a book, with the answers from the last to the first.
+fn add_lines(alloc: Global, book: &mut Book, from: &Book) -> Result<(), Fail> {
+    let lines = from.lines();
+    for i in 1..lines {
+        let entering = from.line(i).ok_or("an entry")?;
+        let answered = from.line(lines.saturating_sub(i)).ok_or("an answer")?;
+        add_line(alloc, book, &entering, &answered)?;
     }
     Ok(())
 }
@@ -436,7 +375,9 @@ fn put_again(alloc: Global, records: &mut Vec<Rec>, line: &Line<'_>) -> Result<(
 fn add_again(alloc: Global, book: &mut Book, line: &Line<'_>) -> Result<(), Fail> {
     let mut records = Vec::new(alloc);
     put_again(alloc, &mut records, line)?;
-    append(book, &line.step(alloc)?, &line.answer(alloc)?, &mut records)
+    book.reserve(records.len())?;
+    book.append(&line.step(alloc)?, &line.answer(alloc)?, &mut records);
+    Ok(())
 }
 
 /// Adds the lines of a book behind its boot to another.
@@ -447,79 +388,67 @@ fn add_lines_again(alloc: Global, other: &mut Book, book: &Book) -> Result<(), F
     Ok(())
 }
 
-fn put_line<W: Write>(sink: &mut Sink<W>, line: &Line<'_>) {
-    put_kept_step(sink, &line.kept_step());
-    put_kept_answer(sink, &line.kept_answer());
-    for i in 0..line.record_count() {
-        if let Some(fact) = line.kept_record(i) {
-            put_kept_record(sink, 0, &fact);
-        }
-    }
-}
-
-fn put_lines<W: Write>(sink: &mut Sink<W>, book: &Book) {
-    for i in 0..book.lines() {
-        if let Some(line) = book.line(i) {
-            put_line(sink, &line);
-        }
-    }
-    sink.flush();
-}
-
-/// The text of all lines of a book.
-fn text_of(alloc: Global, book: &Book) -> Result<Vec<u8>, OutOfMemory> {
-    let mut written = Vec::new(alloc);
-    put_lines(&mut Sink::new(alloc, &mut written)?, book);
-    Ok(written)
-}
-
-/// With this the text begins: the first entry, and what it records of odd names, of objects, slots
-/// and threads.
+/// With this the text begins: the first entry, the last answer, and what it records of odd names.
 const BEGINNING: &str = "\
+cores 2
 255 t4294967286 recv 18446744073709551615 1
-= got 18446744073709551615 4503599627370495 18446744073709551615 18446744073709551614 18446744073709551613 18446744073709551612
+= refused 13
 + made n4294967293
-+ made t4294967295
-+ made c4294967290
-+ made e4294967294
-+ closed s4294967291
-+ slot t4294967295 255 -
-+ slot t4294967295 255 n4294967293 rwgp 0
-+ slot t4294967295 255 n4294967293 rwgp 18446744073709551615
-+ slot t4294967295 255 t4294967295
-+ slot t4294967295 255 t4294967295
-+ slot t4294967295 255 r4294967292
 + prio e4294967294 255
++ took m0 e4294967294
++ made t4294967295
 + turns e4294967294 running
++ dropped m0
++ made c4294967290
 + turns e4294967294 restart
++ took m2 e4294967294
++ made e4294967294
 + turns e4294967294 inactive
++ dropped m2
++ closed s4294967291
 + holds c4294967290 -
++ took m4294967295 e4294967294
++ slot t4294967295 255 -
 + holds c4294967290 e4294967294
++ dropped m4294967295
++ slot t4294967295 255 n4294967293 rwgp 0
 + tied e4294967294 -
-+ homed c4294967290 -
++ raised r4294967292 0
++ slot t4294967295 255 n4294967293 rwgp 18446744073709551615
 + tied e4294967294 r4294967292
++ heard e4294967294 r4294967292 0
++ slot t4294967295 255 t4294967295
++ homed c4294967290 -
++ raised r4294967292 18446744073709551615
++ slot t4294967295 255 t4294967295
 + homed c4294967290 r4294967292
++ heard e4294967294 r4294967292 18446744073709551615
++ slot t4294967295 255 r4294967292
 ";
 
 /// The text of a book of a line for each entry.
 fn first_text(alloc: Global, book: &mut Book) -> Result<Vec<u8>, Fail> {
-    add_lines(alloc, book)?;
-    Ok(text_of(alloc, book)?)
+    let run = replay_of(alloc, ENTRIES)?;
+    match run.book() {
+        Some(from) => add_lines(alloc, book, from)?,
+        None => return Err(Fail::from("a book")),
+    }
+    trace_of(alloc, book)
 }
 
 /// The text of a book of what a book gives back.
 fn second_text(alloc: Global, book: &Book) -> Result<Vec<u8>, Fail> {
     let mut other = Book::new(alloc, 2);
     add_lines_again(alloc, &mut other, book)?;
-    Ok(text_of(alloc, &other)?)
+    trace_of(alloc, &other)
 }
 
 #[test]
 fn a_book_gives_back_its_lines(rt: HostRuntime) -> Result<(), Fail> {
     let mut book = Book::new(rt.alloc(), 2);
     let text = first_text(rt.alloc(), &mut book)?;
-    assert!(rt; book.lines() == 26);
-    assert!(rt; text.starts_with(BEGINNING.as_bytes()) && text.len() > 25 * 1_000);
+    assert!(rt; book.lines() == COUNT + 1);
+    assert!(rt; text.starts_with(BEGINNING.as_bytes()) && text.len() > COUNT * 1_000);
     let again = second_text(rt.alloc(), &book)?;
     assert!(rt; again == text);
     Ok(())

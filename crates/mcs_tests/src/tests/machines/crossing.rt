@@ -1,6 +1,6 @@
-//! Two cores of which each has picked before the other enters.
-use crate::tests::machines::boots::{FREE_CONTEXT, TWO_CORES, has_trace, thread};
-use crate::tests::machines::runs::{Ran, TurnedAway, run_users};
+//! Users on one core, and two cores of which each has picked before the other enters.
+use crate::tests::machines::runs::{Away, Ran, run_users};
+use crate::tests::texts::{FREE_CONTEXT, ONE_CORE, TWO_CORES, has_trace, thread};
 use mcs_cores::Gate;
 use mcs_kernel::EnterFault;
 use mcs_queues::LinkedLines;
@@ -22,15 +22,6 @@ struct Crossing {
 }
 
 impl Crossing {
-    fn new(answers: u64) -> Crossing {
-        Crossing {
-            answers,
-            picked: AtomicU64::new(0),
-            answered: AtomicU64::new(0),
-            late: AtomicU64::new(0),
-        }
-    }
-
     /// Waits until a count is reached; the run fails where that takes too long.
     fn await_count(&self, count: &AtomicU64, least: u64) {
         for _ in 0..1_000_000_000u64 {
@@ -60,65 +51,106 @@ impl Gate for Crossing {
     }
 }
 
-/// Runs a signal of the first thread, and these steps of the second. Core 0 enters what it picked
-/// first after so many answers of core 1.
+/// What may be turned away: nothing, or an entry of the first thread on core 0, with how many lines
+/// the book had then, and why.
+type TurnedAway = Option<(usize, EnterFault)>;
+
+/// Whether that is all that was turned away.
+fn is_away(told: Away, away: &TurnedAway) -> bool {
+    match *away {
+        None => told.0 == 0,
+        Some((lines, fault)) => told == (1, Some((CoreId(0), thread(1), lines, fault))),
+    }
+}
+
+/// A boot, the steps of its threads, how many answers of core 1 core 0 waits for, what may become
+/// of what core 0 picked, and the trace behind the boot.
+type Row = (
+    &'static str,
+    &'static str,
+    u64,
+    &'static [TurnedAway],
+    &'static str,
+);
+
+/// Runs the steps of threads behind a boot. Core 0 enters what it picked first after so many
+/// answers of core 1.
 fn crossed<R: Threads + Wait + Sync>(
     rt: &R,
     alloc: Global,
-    boot: &str,
-    steps: &str,
+    script: &str,
     answers: u64,
 ) -> Result<Ran<LinkedLines>, Fail> {
-    let script = format!(in alloc; "{boot}0 t1 signal 1\n{steps}")?;
-    let gate = Crossing::new(answers);
-    let ran = run_users(rt, alloc, script.as_str(), &gate)?;
+    let gate = Crossing {
+        answers,
+        picked: AtomicU64::new(0),
+        answered: AtomicU64::new(0),
+        late: AtomicU64::new(0),
+    };
+    let ran = run_users(rt, alloc, script, &gate)?;
     if gate.late.load(Ordering::SeqCst) != 0 {
         return Err(Fail::from("the cores run side by side"));
     }
     Ok(ran)
 }
 
-/// An entry of the first thread on core 0 that was turned away: how many lines the book had then,
-/// and why.
-type Away = Option<(usize, EnterFault)>;
-
-/// Whether that is all that was turned away.
-fn is_away(told: &[TurnedAway], away: &Away) -> bool {
-    match (told, away) {
-        ([], None) => true,
-        ([one], Some((lines, fault))) => {
-            *one == TurnedAway {
-                core: CoreId(0),
-                thread: thread(1),
-                lines: *lines,
-                fault: *fault,
-            }
-        }
-        _ => false,
-    }
-}
-
-/// Steps of the second thread on core 1, how many of its answers core 0 waits for, what may become
-/// of the signal that core 0 picked, and the trace behind the boot.
-type Row = (&'static str, u64, &'static [Away], &'static str);
-
 /// Whether such a run turns away one of these, and has this trace.
 fn is_crossed<R: Threads + Wait + Sync>(
     rt: &R,
     alloc: Global,
-    boot: &str,
-    (steps, answers, aways, trace): Row,
+    (boot, steps, answers, aways, trace): Row,
 ) -> Result<bool, Fail> {
-    let ran = crossed(rt, alloc, boot, steps, answers)?;
+    let script = format!(in alloc; "{boot}{steps}")?;
+    let ran = crossed(rt, alloc, script.as_str(), answers)?;
+    let told = ran.away;
     Ok(
-        aways.iter().any(|away| is_away(&ran.away, away))
+        aways.iter().any(|away| is_away(told, away))
             && has_trace(alloc, ran.settled.book(), boot, trace)?,
     )
 }
 
+/// The trace of a send whose receiver comes first.
+pub const RECEIVER_FIRST: &str = "\
+0 t2 recv 2 8
+= waits
++ joins t2 e1.recv r1
+0 t1 send 1 7
+= done
++ sent m0 t1 e1 send 9 7
++ took m0 t2
++ parts t2 e1.recv
++ turns t2 running
+";
+
+/// The trace of a send that waits, and is given again after its thread was restarted.
+pub const GIVEN_AGAIN: &str = "\
+0 t2 send 1 7
+= waits
++ sent m0 t2 e1 send 9 7
++ joins t2 e1.send
+0 t1 resume 12
+= done
++ dropped m0
++ parts t2 e1.send
++ turns t2 restart
+0 t2 send 1 7
+= waits
++ turns t2 running
++ sent m1 t2 e1 send 9 7
++ joins t2 e1.send
+0 t1 nbrecv 2 8
+= got 9 7
++ took m1 t1
++ parts t2 e1.send
++ turns t2 running
+0 t2 nbsend 1 8
+= done
+";
+
 /// A thread is suspended between its pick and its entry.
 const SUSPENDED: Row = (
-    "1 t2 suspend 1\n",
+    TWO_CORES,
+    "0 t1 signal 1\n1 t2 suspend 1\n",
     1,
     &[Some((2, EnterFault::NotRunning))],
     "1 t2 suspend 1\n= done\n+ turns t1 inactive\n",
@@ -126,14 +158,67 @@ const SUSPENDED: Row = (
 
 #[test]
 fn gate_row_16(rt: HostRuntime) -> Result<(), Fail> {
-    assert!(rt; is_crossed(&rt, rt.alloc(), TWO_CORES, SUSPENDED)?);
+    assert!(rt; is_crossed(&rt, rt.alloc(), SUSPENDED)?);
     Ok(())
 }
 
-/// What the second thread may do between the pick and the entry of the first.
+/// Users on one core, and what the second thread may do on another between the pick and the entry
+/// of the first.
 const CROSSINGS: &[Row] = &[
     (
-        "1 t2 delete 1 64\n",
+        ONE_CORE,
+        "0 t1 send 1 7\n0 t2 recv 2 8\n",
+        0,
+        &[None],
+        RECEIVER_FIRST,
+    ),
+    (
+        ONE_CORE,
+        "0 t2 send 1 7\n0 t1 resume 12\n0 t2 nbsend 1 8\n0 t1 nbrecv 2 8\n",
+        0,
+        &[None],
+        GIVEN_AGAIN,
+    ),
+    // A restarted exchange sends again.
+    (
+        ONE_CORE,
+        "\
+0 t1 resume 12
+0 t2 nbsendrecv 1 3 9 7
+0 t1 send 3 5
+0 t2 nbsend 1 8
+0 t1 recv 2 8
+",
+        0,
+        &[None],
+        "\
+0 t2 nbsendrecv 1 3 9 7
+= waits
++ joins t2 e2.recv r2
+0 t1 resume 12
+= done
++ parts t2 e2.recv
++ turns t2 restart
+0 t2 nbsendrecv 1 3 9 7
+= waits
++ turns t2 running
++ joins t2 e2.recv r2
+0 t1 send 3 5
+= done
++ sent m0 t1 e2 send 0 5
++ took m0 t2
++ parts t2 e2.recv
++ turns t2 running
+0 t2 nbsend 1 8
+= done
+0 t1 recv 2 8
+= waits
++ joins t1 e1.recv r1
+",
+    ),
+    (
+        FREE_CONTEXT,
+        "0 t1 signal 1\n1 t2 delete 1 64\n",
         1,
         &[Some((2, EnterFault::NotRunning))],
         "\
@@ -146,7 +231,8 @@ const CROSSINGS: &[Row] = &[
 ",
     ),
     (
-        "1 t2 unbind 2\n",
+        FREE_CONTEXT,
+        "0 t1 signal 1\n1 t2 unbind 2\n",
         1,
         &[Some((2, EnterFault::NoContext))],
         "\
@@ -157,7 +243,8 @@ const CROSSINGS: &[Row] = &[
     ),
     // A lower priority keeps the pick.
     (
-        "1 t2 setprio 1 3 5\n",
+        FREE_CONTEXT,
+        "0 t1 signal 1\n1 t2 setprio 1 3 5\n",
         1,
         &[None],
         "\
@@ -171,7 +258,8 @@ const CROSSINGS: &[Row] = &[
     // Core 1 may give the entry before it is entered, which the position shows, or after it was
     // turned away.
     (
-        "1 t2 unbind 2\n1 t2 bind 4 1\n",
+        FREE_CONTEXT,
+        "0 t1 signal 1\n1 t2 unbind 2\n1 t2 bind 4 1\n",
         2,
         &[None, Some((3, EnterFault::WrongCore))],
         "\
@@ -187,7 +275,8 @@ const CROSSINGS: &[Row] = &[
     ),
     // The thread comes back to core 0, where its only entry was picked before core 1 entered it.
     (
-        "1 t2 unbind 2\n1 t2 bind 4 1\n1 t2 unbind 4\n1 t2 bind 2 1\n",
+        FREE_CONTEXT,
+        "0 t1 signal 1\n1 t2 unbind 2\n1 t2 bind 4 1\n1 t2 unbind 4\n1 t2 bind 2 1\n",
         5,
         &[None],
         "\
@@ -212,7 +301,7 @@ const CROSSINGS: &[Row] = &[
 #[test]
 fn what_was_picked_is_entered_where_it_may(rt: HostRuntime) -> Result<(), Fail> {
     for (i, row) in CROSSINGS.iter().enumerate() {
-        assert!(rt; is_crossed(&rt, rt.alloc(), FREE_CONTEXT, *row)?, "row {i}");
+        assert!(rt; is_crossed(&rt, rt.alloc(), *row)?, "row {i}");
     }
     Ok(())
 }

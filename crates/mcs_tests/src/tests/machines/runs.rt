@@ -1,9 +1,9 @@
 //! A run from its boot to its settled book.
 ghost use Rattle.std.specs.Prelude.{◌≡◌};
 
-use crate::tests::machines::boots::{boot_of, replay_of, users_of};
+use crate::tests::texts::{boot_of, replay_of};
 use mcs_book::Book;
-use mcs_cores::{Call, CoreSeat, Gate, Machine, Outcome, SeatsFault, Settled, Users};
+use mcs_cores::{CoreSeat, Gate, Machine, Outcome, SeatsFault, Settled, Users};
 use mcs_kernel::{Boot, EnterFault, Kernel};
 use mcs_queues::{Lines, LinkedLines};
 use mcs_types::{CORES, CoreId, ObjId};
@@ -14,52 +14,30 @@ use std::sync::ledger::{Blank, Ledger};
 use std::test::Fail;
 use std::thread::Threads;
 
-/// An entry of a core that was turned away, and how many lines the book had then.
-#[derive(Clone, Copy, PartialEq, Eq, Debug)]
-pub struct TurnedAway {
-    pub core: CoreId,
-    pub thread: ObjId,
-    pub lines: usize,
-    pub fault: EnterFault,
-}
+/// How many entries were turned away, and of the last its core, its thread, how many lines the book
+/// had then, and why.
+pub type Away = (usize, Option<(CoreId, ObjId, usize, EnterFault)>);
 
 /// A run that ended well and was settled.
 #[derive(Drop)]
 pub struct Ran<L: Lines> {
     pub settled: Settled<L>,
-    pub away: Vec<TurnedAway>,
+    pub away: Away,
 }
 
-/// What was turned away of a core's calls.
-fn away_of(core: CoreId, call: &Call) -> Option<TurnedAway> {
-    let Outcome::Away { lines, fault } = &call.outcome else {
-        return None;
-    };
-    Some(TurnedAway {
-        core,
-        thread: call.thread,
-        lines: *lines,
-        fault: *fault,
-    })
-}
-
-/// Adds what was turned away of a core.
-fn add_away(away: &mut Vec<TurnedAway>, core: CoreId, calls: &[Call]) -> Result<(), Fail> {
-    for call in calls {
-        if let Some(one) = away_of(core, call) {
-            away.push(one)?;
+/// What was turned away.
+fn away_of<G: Ledger>(seats: &[CoreSeat<G>]) -> Away {
+    let mut count: usize = 0;
+    let mut last = None;
+    for seat in seats {
+        for call in seat.calls() {
+            if let Outcome::Away { lines, fault } = &call.outcome {
+                count = count.saturating_add(1);
+                last = Some((seat.core(), call.thread, *lines, *fault));
+            }
         }
     }
-    Ok(())
-}
-
-/// What was turned away, core by core.
-fn turned_away<G: Ledger>(alloc: Global, seats: &[CoreSeat<G>]) -> Result<Vec<TurnedAway>, Fail> {
-    let mut away = Vec::new(alloc);
-    for seat in seats {
-        add_away(&mut away, seat.core(), seat.calls())?;
-    }
-    Ok(away)
+    (count, last)
 }
 
 /// The seats of a machine, which are given once.
@@ -86,12 +64,12 @@ fn run_seats<G: Ledger + Send + Sync, L: Lines + Send + Sync, R: Threads + Wait 
     seats: Vec<CoreSeat<G>>,
     users: &Users,
     gate: &T,
-) -> Result<(Vec<CoreSeat<G>>, Vec<TurnedAway>), Fail> {
+) -> Result<(Vec<CoreSeat<G>>, Away), Fail> {
     let (seats, ended) = machine.run(rt, alloc, seats, users, gate);
     if ended.is_err() {
         return Err(Fail::from("the run ends well"));
     }
-    let away = turned_away(alloc, seats.as_slice())?;
+    let away = away_of(seats.as_slice());
     Ok((seats, away))
 }
 
@@ -116,6 +94,22 @@ fn settle_run<G: Ledger + Send + Sync, L: Lines + Send + Sync, R: Threads + Wait
         Ok(settled) => Ok(Ran { settled, away }),
         Err(_) => Err(Fail::from("the machine settles")),
     }
+}
+
+/// Adds the entries of a book to the lists of their threads.
+fn add_entries(alloc: Global, users: &mut Users, book: &Book) -> Result<(), Fail> {
+    for i in 1..book.lines() {
+        let step = book.line(i).ok_or("a line of the book")?.step(alloc)?;
+        users.add(step.thread, step.entry)?;
+    }
+    Ok(())
+}
+
+/// The entries of a book in the lists of their threads.
+fn users_of(alloc: Global, book: &Book) -> Result<Users, Fail> {
+    let mut users = Users::new(alloc);
+    add_entries(alloc, &mut users, book)?;
+    Ok(users)
 }
 
 /// Runs the boot and the entries of a book on a machine, and settles it.

@@ -1,12 +1,10 @@
 //! Scripts of users.
-ghost use Rattle.std.specs.Prelude.{◌<◌, length};
-
-use crate::tests::machines::boots::{ONE_CORE, gives_itself};
-use crate::tests::machines::running::{GIVEN_AGAIN, RECEIVER_FIRST};
-use mcs_sim::{Open, SimFault, Sink, Source, run_text, simulate};
+use crate::tests::machines::crossing::{GIVEN_AGAIN, RECEIVER_FIRST};
+use crate::tests::streams::{Input, Output, pipe_users, run_users};
+use crate::tests::texts::{ONE_CORE, gives_itself, occurrences, repeated};
+use mcs_sim::{Open, SimFault, Source};
 use mcs_text::LineFault;
-use std::alloc::{AllocGlobal, Global};
-use std::io::{self, ErrorKind, Read, Write};
+use std::alloc::AllocGlobal;
 use std::sync::Wait;
 use std::test::Fail;
 use std::thread::Threads;
@@ -57,42 +55,6 @@ user t3 replyrecv 2 3 202
 user t3 replyrecv 2 3 203
 ";
 
-/// What the users of a script give, and the bytes that are written.
-fn run_users<R: AllocGlobal + Threads + Wait + Sync>(
-    rt: &R,
-    script: &[u8],
-    cores: Option<u8>,
-) -> (Result<(), SimFault>, Vec<u8>) {
-    let mut written = Vec::new(rt.alloc());
-    let result = match Sink::new(rt.alloc(), &mut written) {
-        Ok(mut sink) => run_text(rt, &mut Source::new(script), &mut sink, cores, &Open),
-        Err(_) => Err(SimFault::OutOfMemory),
-    };
-    (result, written)
-}
-
-/// Whether a run of a script writes this.
-fn writes<R: AllocGlobal + Threads + Wait + Sync>(
-    rt: &R,
-    script: &[u8],
-    cores: Option<u8>,
-    want: &[u8],
-) -> bool {
-    let (result, written) = run_users(rt, script, cores);
-    result == Ok(()) && written.as_slice() == want
-}
-
-/// Whether a run of a script ends so, and writes nothing.
-fn ends<R: AllocGlobal + Threads + Wait + Sync>(
-    rt: &R,
-    script: &[u8],
-    cores: Option<u8>,
-    fault: SimFault,
-) -> bool {
-    let (result, written) = run_users(rt, script, cores);
-    result == Err(fault) && written.is_empty()
-}
-
 /// Whether these users on one core give this trace, which gives itself.
 fn give_trace<R: AllocGlobal + Threads + Wait + Sync>(
     rt: &R,
@@ -101,53 +63,19 @@ fn give_trace<R: AllocGlobal + Threads + Wait + Sync>(
 ) -> Result<bool, Fail> {
     let script = format!(in rt.alloc(); "{ONE_CORE}{users}")?;
     let want = format!(in rt.alloc(); "{ONE_CORE}{trace}")?;
-    Ok(
-        writes(rt, script.as_bytes(), None, want.as_bytes())
-            && writes(rt, script.as_bytes(), Some(1), want.as_bytes())
-            && gives_itself(rt.alloc(), want.as_bytes())?,
-    )
+    for cores in [None, Some(1)] {
+        let (result, written) = run_users(rt, script.as_bytes(), cores, &Open);
+        if result.is_err() || written.as_slice() != want.as_bytes() {
+            return Ok(false);
+        }
+    }
+    Ok(gives_itself(rt.alloc(), want.as_bytes()))
 }
 
 #[test]
 fn users_on_one_core_give_their_traces(rt: HostRuntime) -> Result<(), Fail> {
     for &(users, trace) in RUNS {
         assert!(rt; give_trace(&rt, users, trace)?, "{users}");
-    }
-    Ok(())
-}
-
-/// Runs the users of a script on two cores, and gives what is written, which gives itself.
-fn run_on_two_cores<R: AllocGlobal + Threads + Wait + Sync>(
-    rt: &R,
-    script: &str,
-) -> Result<Vec<u8>, Fail> {
-    let (result, written) = run_users(rt, script.as_bytes(), Some(2));
-    result?;
-    if gives_itself(rt.alloc(), &written)? {
-        Ok(written)
-    } else {
-        Err(Fail::from("the trace gives itself"))
-    }
-}
-
-/// How often these words stand in a text.
-fn occurrences(text: &[u8], words: &[u8]) -> usize
-    requires { 0 < length words.now }
-{
-    let parts = text.windows(words.len());
-    parts.filter(|part| *part == words).count()
-}
-
-/// How many answers a run on two cores has.
-fn answers<R: AllocGlobal + Threads + Wait + Sync>(rt: &R) -> Result<usize, Fail> {
-    let written = run_on_two_cores(rt, TWO_CORES)?;
-    Ok(occurrences(&written, b"\n= "))
-}
-
-#[test]
-fn a_run_on_two_cores_is_replayed(rt: HostRuntime) -> Result<(), Fail> {
-    for _ in 0..20 {
-        assert!(rt; answers(&rt)? == 7);
     }
     Ok(())
 }
@@ -177,147 +105,106 @@ user t3 replyrecv 2 3 202 11 12 13 14 15 16 17
 user t3 replyrecv 2 3 203 11 12 13 14 15 16 17
 ";
 
-/// Whether all words of long messages are written: each call as its step and its record, and as an
-/// answer where the server asked after it; each answer as its step and its record.
-fn are_long<R: AllocGlobal + Threads + Wait + Sync>(rt: &R) -> Result<bool, Fail> {
-    let written = run_on_two_cores(rt, LONG_CALLS)?;
-    let calls = occurrences(&written, b" 1 2 3 4 5 6 7 8 9");
-    Ok(calls >= 6 && calls <= 9 && occurrences(&written, b" 11 12 13 14 15 16 17") == 6)
-}
+/// Words of a trace, how often they come at least, and at most.
+type Count = (&'static [u8], usize, usize);
 
-#[test]
-fn long_messages_cross_the_cores(rt: HostRuntime) -> Result<(), Fail> {
-    for _ in 0..20 {
-        assert!(rt; are_long(&rt)?);
-    }
-    Ok(())
-}
-
-/// Lines behind the boot, and what is wrong with the last.
-const FAULTS: &[(&str, LineFault)] = &[
-    ("0 t1 nbsend 1 7", LineFault::Form),
-    ("user t1", LineFault::Form),
-    ("user t1 nbsend", LineFault::Form),
-    ("user 1 nbsend 1 7", LineFault::Form),
-    ("users t1 nbsend 1 7", LineFault::Form),
-    ("user t1 setprio 11 11 256", LineFault::Number),
-    ("user t3 nbsend 1 7", LineFault::NoObject),
-    ("user t1 nbsend 1 7\nendpoint", LineFault::LateBoot),
+/// Scripts for two cores, and how often words come. Each entry has an answer; of long messages all
+/// words are written: each call as its step and its record, and as an answer where the server asked
+/// after it; each answer as its step and its record.
+const SIDE_BY_SIDE: &[(&str, [Count; 2])] = &[
+    (TWO_CORES, [(b"\n= ", 7, 7), (b"\n= ", 7, 7)]),
+    (
+        LONG_CALLS,
+        [
+            (b" 1 2 3 4 5 6 7 8 9", 6, 9),
+            (b" 11 12 13 14 15 16 17", 6, 6),
+        ],
+    ),
 ];
 
-/// Whether these lines behind the boot are faulty so, at the last.
-fn is_faulty<R: AllocGlobal + Threads + Wait + Sync>(
+/// Whether a run on two cores gives itself, and words come so often.
+fn is_side_by_side<R: AllocGlobal + Threads + Wait + Sync>(
     rt: &R,
-    lines: &str,
-    why: LineFault,
-) -> Result<bool, Fail> {
-    let script = format!(in rt.alloc(); "{ONE_CORE}{lines}\n")?;
-    let line = if why == LineFault::LateBoot { 19 } else { 18 };
-    Ok(ends(rt, script.as_bytes(), None, SimFault::Script { line, why }))
+    script: &str,
+    counts: &[Count],
+) -> bool {
+    let (result, written) = run_users(rt, script.as_bytes(), Some(2), &Open);
+    for &(words, least, most) in counts {
+        let count = occurrences(&written, words);
+        if count < least || count > most {
+            return false;
+        }
+    }
+    result.is_ok() && gives_itself(rt.alloc(), &written)
 }
 
 #[test]
-fn faulty_lines_of_users_are_told(rt: HostRuntime) -> Result<(), Fail> {
-    for &(lines, why) in FAULTS {
-        assert!(rt; is_faulty(&rt, lines, why)?, "{lines}");
+fn runs_on_two_cores_are_replayed(rt: HostRuntime) {
+    for (i, &(script, counts)) in SIDE_BY_SIDE.iter().enumerate() {
+        for _ in 0..20 {
+            assert!(rt; is_side_by_side(&rt, script, &counts), "script {i}");
+        }
     }
-    let why = LineFault::NoCores;
-    assert!(rt; ends(&rt, b"", None, SimFault::Script { line: 1, why }));
-    Ok(())
 }
 
-/// Adds one line more than the book has room for.
-fn add_many(script: &mut Vec<u8>) -> Result<(), Fail> {
-    for _ in 0..1_000_000u32 {
-        script.extend_from_slice(b"user t1 recv 1 8\n")?;
+/// Whether a run of a script ends so, and writes nothing.
+fn ends<R: AllocGlobal + Threads + Wait + Sync>(
+    rt: &R,
+    script: &[u8],
+    cores: Option<u8>,
+    fault: SimFault,
+) -> bool {
+    let (result, written) = run_users(rt, script, cores, &Open);
+    result == Err(fault) && written.is_empty()
+}
+
+/// A script whose last line has no form.
+const NONSENSE: &str = "# users\ncores 1\nendpoint\nnonsense\n";
+
+/// Scripts, how many cores are asked for, and which line is faulty, and why: other cores are told
+/// before what stands behind them.
+const FAULTS: &[(&str, Option<u8>, u64, LineFault)] = &[
+    ("", None, 1, LineFault::NoCores),
+    (NONSENSE, None, 4, LineFault::Form),
+    (NONSENSE, Some(2), 2, LineFault::Number),
+    (NONSENSE, Some(16), 2, LineFault::Number),
+];
+
+#[test]
+fn another_number_of_cores_is_a_fault(rt: HostRuntime) {
+    for (i, &(script, cores, line, why)) in FAULTS.iter().enumerate() {
+        let fault = SimFault::Script { line, why };
+        assert!(rt; ends(&rt, script.as_bytes(), cores, fault), "script {i}");
     }
-    Ok(())
 }
 
 #[test]
 fn a_run_fills_the_book(rt: HostRuntime) -> Result<(), Fail> {
-    let mut script = Vec::new(rt.alloc());
-    script.extend_from_slice(ONE_CORE.as_bytes())?;
-    add_many(&mut script)?;
+    // one line more than the book has room for
+    let parts = (ONE_CORE, "user t1 recv 1 8\n", 1_000_000, "");
+    let script = repeated(rt.alloc(), parts)?;
     assert!(rt; ends(&rt, &script, None, SimFault::BookFull));
     Ok(())
 }
 
-/// What the replay of a script gives, and how much it writes.
-fn replay(alloc: Global, script: &[u8]) -> (Result<(), SimFault>, usize) {
-    let mut written = Vec::new(alloc);
-    let result = match Sink::new(alloc, &mut written) {
-        Ok(mut sink) => simulate(alloc, &mut Source::new(script), &mut sink),
-        Err(_) => Err(SimFault::OutOfMemory),
-    };
-    (result, written.len())
-}
-
-#[test]
-fn a_users_line_is_no_step(rt: HostRuntime) -> Result<(), Fail> {
-    let script = format!(in rt.alloc(); "{ONE_CORE}user t1 nbsend 1 7\n")?;
-    let why = LineFault::Form;
-    let fault = SimFault::Script { line: 18, why };
-    assert!(rt; replay(rt.alloc(), script.as_bytes()) == (Err(fault), 0));
-    Ok(())
-}
-
-#[test]
-fn another_number_of_cores_is_a_fault(rt: HostRuntime) -> Result<(), Fail> {
-    let script = format!(in rt.alloc(); "# users\n{ONE_CORE}user t1 nbsend 1 7\nnonsense\n")?;
-    let why = LineFault::Number;
-    let fault = SimFault::Script { line: 2, why };
-    for cores in [2, 16] {
-        assert!(rt; ends(&rt, script.as_bytes(), Some(cores), fault));
-    }
-    Ok(())
-}
-
-/// Fails at each call.
-#[derive(Drop)]
-struct Failing;
-
-impl Read for Failing {
-    fn read(&mut self, _buf: &mut [u8]) -> io::Result<usize> {
-        Err(io::Error::from(ErrorKind::TimedOut))
-    }
-}
-
-impl Write for Failing {
-    fn write(&mut self, _buf: &[u8]) -> io::Result<usize> {
-        Err(io::Error::from(ErrorKind::TimedOut))
-    }
-
-    fn flush(&mut self) -> io::Result<()> {
-        Ok(())
-    }
-}
-
-/// What a run gives whose reads fail, and how many failed.
-fn run_unread<R: AllocGlobal + Threads + Wait + Sync>(rt: &R) -> (Result<(), SimFault>, u64) {
-    let mut written = Vec::new(rt.alloc());
-    let mut source = Source::new(Failing);
-    let result = match Sink::new(rt.alloc(), &mut written) {
-        Ok(mut sink) => run_text(rt, &mut source, &mut sink, None, &Open),
-        Err(_) => Err(SimFault::OutOfMemory),
-    };
-    (result, source.failed())
-}
-
-/// What a run gives whose writes fail, and how many failed.
-fn run_unwritten<R: AllocGlobal + Threads + Wait + Sync>(rt: &R) -> (Result<(), SimFault>, u64) {
-    match Sink::new(rt.alloc(), Failing) {
-        Ok(mut sink) => {
-            let mut source = Source::new(TWO_CORES.as_bytes());
-            let result = run_text(rt, &mut source, &mut sink, None, &Open);
-            (result, sink.failed())
-        }
-        Err(_) => (Err(SimFault::OutOfMemory), 0),
-    }
+/// What a run gives whose reads and writes fail behind so many, and how many reads and writes
+/// failed.
+fn failed<R: AllocGlobal + Threads + Wait + Sync>(
+    rt: &R,
+    reads_left: u32,
+    writes_left: u32,
+) -> (Result<(), SimFault>, u64, u64) {
+    let mut input = Input::new(TWO_CORES.as_bytes());
+    input.reads_left = reads_left;
+    let mut output = Output::new(rt.alloc());
+    output.writes_left = writes_left;
+    let mut source = Source::new(input);
+    let (result, unwritten) = pipe_users(rt, &mut source, &mut output, None, &Open);
+    (result, source.failed(), unwritten)
 }
 
 #[test]
 fn a_failing_read_or_write_is_told(rt: HostRuntime) {
-    assert!(rt; run_unread(&rt) == (Err(SimFault::Read), 1));
-    assert!(rt; run_unwritten(&rt) == (Err(SimFault::Write), 1));
+    assert!(rt; failed(&rt, 0, u32::MAX) == (Err(SimFault::Read), 1, 0));
+    assert!(rt; failed(&rt, u32::MAX, 0) == (Err(SimFault::Write), 0, 1));
 }

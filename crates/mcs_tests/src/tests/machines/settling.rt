@@ -1,12 +1,14 @@
 //! Machines whose entries are made by hand.
 ghost use Rattle.std.specs.Prelude.{◌≡◌};
 
-use crate::tests::machines::boots::{ONE_CORE, TWO_CORES, boot_of, has_trace, replay_of, thread};
+use crate::tests::texts::{
+    ONE_CORE, TWO_CORES, boot_of, boot_of_script, has_trace, is_mail, replay_of, thread,
+};
 use mcs_book::{Book, Line};
 use mcs_cores::{CoreSeat, FinishFault, Machine, Settled};
 use mcs_kernel::{Boot, Kernel};
 use mcs_queues::{Lines, LinkedLines};
-use mcs_types::{Badge, CORES, Mail};
+use mcs_types::CORES;
 use std::alloc::Global;
 use std::marker::Brand;
 use std::sync::Wait;
@@ -32,7 +34,7 @@ const TRACE: &str = "\
 ";
 
 /// What becomes of the seats before a machine is finished.
-#[derive(Clone, Copy, PartialEq, Eq)]
+#[derive(Clone, Copy)]
 enum Seats {
     /// They are all handed in.
     All,
@@ -73,24 +75,7 @@ fn enter_steps<G: Ledger, L: Lines, R: Wait>(
     Ok(())
 }
 
-/// The seats of a machine, of which the first has entered the steps of a book.
-fn entered<G: Ledger, L: Lines, R: Wait>(
-    rt: &R,
-    alloc: Global,
-    machine: &mut Machine<G, L>,
-    book: &Book,
-) -> Result<Vec<CoreSeat<G>>, Fail> {
-    let Ok(mut seats) = machine.seats(rt, alloc) else {
-        return Err(Fail::from("seats are given"));
-    };
-    match seats.first_mut() {
-        Some(seat) => enter_steps(rt, alloc, machine, seat, book)?,
-        None => return Err(Fail::from("there is a seat")),
-    }
-    Ok(seats)
-}
-
-/// The seats with which a machine is finished.
+/// The seats with which a machine is finished, of which the first has entered the steps of a book.
 fn seats_for<G: Ledger, L: Lines, R: Wait>(
     rt: &R,
     alloc: Global,
@@ -98,15 +83,20 @@ fn seats_for<G: Ledger, L: Lines, R: Wait>(
     book: &Book,
     kept: Seats,
 ) -> Result<Vec<CoreSeat<G>>, Fail> {
-    match kept {
-        Seats::NeverGiven => Ok(Vec::new(alloc)),
-        Seats::All => entered(rt, alloc, machine, book),
-        Seats::NotOne => {
-            let mut seats = entered(rt, alloc, machine, book)?;
-            let _ = seats.pop();
-            Ok(seats)
-        }
+    if let Seats::NeverGiven = kept {
+        return Ok(Vec::new(alloc));
     }
+    let Ok(mut seats) = machine.seats(rt, alloc) else {
+        return Err(Fail::from("seats are given"));
+    };
+    match seats.first_mut() {
+        Some(seat) => enter_steps(rt, alloc, machine, seat, book)?,
+        None => return Err(Fail::from("there is a seat")),
+    }
+    if let Seats::NotOne = kept {
+        let _ = seats.pop();
+    }
+    Ok(seats)
 }
 
 /// How a machine ends.
@@ -133,15 +123,6 @@ fn finish_steps<G: Ledger, L: Lines, R: Wait>(
     Ok(machine.finish(alloc, boot, seats))
 }
 
-/// The boot of a script.
-fn boot_of_script(alloc: Global, script: &str) -> Result<Boot, Fail> {
-    let replay = replay_of(alloc, script)?;
-    match replay.book() {
-        Some(book) => boot_of(alloc, book),
-        None => Err(Fail::from("a book")),
-    }
-}
-
 /// Enters a send and its receive on a machine of one core, and finishes it with this boot and these
 /// seats.
 fn finished<R: Wait>(
@@ -158,16 +139,6 @@ fn finished<R: Wait>(
             finish_steps::<Brand, LinkedLines, R>(rt, alloc, Blank::new(16), book, end)
         }
         None => Err(Fail::from("a book")),
-    }
-}
-
-/// Whether this message reached a thread: its badge is 9, its label 7, its words 5 and 6.
-fn is_mail(mail: Option<&Mail>) -> bool {
-    match mail {
-        Some(Mail::Message { badge, message }) => {
-            *badge == Badge(9) && message.label() == 7 && message.words() == [5, 6].as_slice()
-        }
-        _ => false,
     }
 }
 

@@ -1,70 +1,66 @@
 //! Reads and writes that fail.
-use crate::tests::replays::runs::{BOOT, MIDDLE_STEPS, MIDDLE_TRACE};
-use crate::tests::replays::streams::{Input, Output, pipe};
+use crate::tests::streams::{Input, Output, pipe};
+use crate::tests::texts::{BOOT, repeated};
 use mcs_sim::SimFault;
 use std::alloc::Global;
 use std::test::Fail;
 
-/// How often the input is interrupted, how many reads are left, and what that gives: the one read
-/// of the text, or one more than are tried.
-const READS: &[(u32, u32, Result<(), SimFault>)] = &[
-    (0, 1, Err(SimFault::Read)),
-    (999, u32::MAX, Ok(())),
-    (1000, u32::MAX, Err(SimFault::Read)),
+/// What a script gives from a reader to a writer, and what is written.
+fn piped(alloc: Global, input: Input<'_>, mut output: Output) -> (Result<(), SimFault>, Vec<u8>) {
+    let result = pipe(alloc, input, &mut output);
+    let Output { taken, .. } = output;
+    (result, taken)
+}
+
+/// How often reads are interrupted, how many are left, how often writes are interrupted, how many
+/// bytes one takes, and how many find room.
+type Limits = (u32, u32, u32, usize, usize);
+
+/// All bytes.
+const ALL: usize = usize::MAX;
+
+/// Limits, what the boot gives within them, and how many bytes are written: the one read of the
+/// text is left, there are so many interruptions as are tried again, or one more, or a write finds
+/// no room.
+const LIMITS: &[(Limits, Result<(), SimFault>, usize)] = &[
+    ((0, 1, 0, ALL, ALL), Err(SimFault::Read), 0),
+    ((999, u32::MAX, 0, ALL, ALL), Ok(()), ALL),
+    ((1000, u32::MAX, 0, ALL, ALL), Err(SimFault::Read), 0),
+    ((0, u32::MAX, 999, ALL, ALL), Ok(()), ALL),
+    ((0, u32::MAX, 1000, ALL, ALL), Err(SimFault::Write), 0),
+    ((0, u32::MAX, 0, 7, 100), Err(SimFault::Write), 100),
 ];
 
-/// How much is written where this is given: the whole boot or nothing.
-fn length(ended: Result<(), SimFault>) -> usize {
-    if ended.is_ok() { BOOT.len() } else { 0 }
-}
-
-/// What the boot gives whose reads are interrupted so often, with so many reads left, and how much
-/// is written.
-fn read_boot(alloc: Global, interruptions: u32, reads_left: u32) -> (Result<(), SimFault>, usize) {
-    let mut input = Input::new(BOOT.as_bytes());
-    input.interruptions = interruptions;
-    input.reads_left = reads_left;
-    let mut output = Output::new(alloc);
-    let result = pipe(alloc, input, &mut output);
-    (result, output.taken.len())
-}
-
-/// What the boot gives whose writes are interrupted so often, and how much is written.
-fn write_boot(alloc: Global, interruptions: u32) -> (Result<(), SimFault>, usize) {
-    let mut output = Output::new(alloc);
-    output.interruptions = interruptions;
-    let result = pipe(alloc, Input::new(BOOT.as_bytes()), &mut output);
-    (result, output.taken.len())
+/// Whether the boot gives this within limits, and so many of its bytes are written.
+fn is_limited(
+    alloc: Global,
+    (reads, reads_left, writes, piece, room): Limits,
+    want: Result<(), SimFault>,
+    count: usize,
+) -> bool {
+    let boot = BOOT.as_bytes();
+    let input = Input {
+        text: boot,
+        piece: ALL,
+        reads_left,
+        interruptions: reads,
+    };
+    let output = Output {
+        taken: Vec::new(alloc),
+        piece,
+        room,
+        writes_left: u32::MAX,
+        interruptions: writes,
+    };
+    let (result, taken) = piped(alloc, input, output);
+    result == want && taken.as_slice() == boot.get(..count).unwrap_or(boot)
 }
 
 #[test]
-fn failed_reads_are_told(rt: HostRuntime) {
-    for &(interruptions, reads_left, want) in READS {
-        let read = read_boot(rt.alloc(), interruptions, reads_left);
-        assert!(rt; read == (want, length(want)), "{interruptions}");
+fn failed_reads_and_writes_are_told(rt: HostRuntime) {
+    for (i, &(limits, want, count)) in LIMITS.iter().enumerate() {
+        assert!(rt; is_limited(rt.alloc(), limits, want, count), "row {i}");
     }
-}
-
-#[test]
-fn interrupted_writes_are_tried_again(rt: HostRuntime) {
-    for (interruptions, want) in [(999, Ok(())), (1000, Err(SimFault::Write))] {
-        let written = write_boot(rt.alloc(), interruptions);
-        assert!(rt; written == (want, length(want)), "{interruptions}");
-    }
-}
-
-/// Whether a write fails for which no room is left, behind a beginning of the boot.
-fn is_cut(alloc: Global) -> bool {
-    let mut output = Output::new(alloc);
-    output.piece = 7;
-    output.room = 100;
-    let result = pipe(alloc, Input::new(BOOT.as_bytes()), &mut output);
-    result == Err(SimFault::Write) && output.taken.as_slice() == &BOOT.as_bytes()[..100]
-}
-
-#[test]
-fn a_failed_write_is_told(rt: HostRuntime) {
-    assert!(rt; is_cut(rt.alloc()));
 }
 
 /// How many bytes of a script come with one read, and of its trace go with one write.
@@ -72,97 +68,128 @@ const READ_PIECE: usize = 50;
 
 const WRITE_PIECE: usize = 7;
 
-/// What a script gives that is read and written in pieces, where so many reads and writes do not
-/// fail.
-fn piped(
+/// Two calls on one context, of which the first is answered before the second; the last step is
+/// turned away.
+const MIDDLE_STEPS: &str = "\
+0 t2 recv 2 8
+0 t3 recv 3 9
+0 t5 unbind 22
+0 t5 unbind 23
+0 t1 call 2 1
+0 t2 call 3 2
+0 t4 send 8 5
+0 t3 send 9 6
+0 t1 nbrecv 2 8
+";
+
+/// What the trace has for these.
+const MIDDLE_TRACE: &str = "\
+0 t2 recv 2 8
+= waits
++ joins t2 e1.recv r1
+0 t3 recv 3 9
+= waits
++ joins t3 e2.recv r2
+0 t5 unbind 22
+= done
++ holds s2 -
+0 t5 unbind 23
+= done
++ holds s3 -
+0 t1 call 2 1
+= waits
++ sent m0 t1 e1 call 0 1
++ took m0 t2
++ parts t2 e1.recv
++ owes r1 t1 s1
++ holds s1 t2
++ turns t2 running
+0 t2 call 3 2
+= waits
++ sent m1 t2 e2 call 0 2
++ took m1 t3
++ parts t3 e2.recv
++ owes r2 t2 s1
++ holds s1 t3
++ turns t3 running
+0 t4 send 8 5
+= done
++ paid r1 t1 5
++ turns t1 running
+0 t3 send 9 6
+= done
++ paid r2 t2 6
++ turns t2 running
++ holds s1 t2
+";
+
+/// How a script with this trace ends where so many reads and writes do not fail, or by this fault:
+/// then it has written a beginning of the trace, and without fault all of it. None where what is
+/// written is wrong.
+fn ended(
     alloc: Global,
-    script: &[u8],
-    reads_left: u32,
-    writes_left: u32,
-) -> (Result<(), SimFault>, Vec<u8>) {
-    let mut input = Input::new(script);
-    input.piece = READ_PIECE;
-    input.reads_left = reads_left;
-    let mut output = Output::new(alloc);
-    output.piece = WRITE_PIECE;
-    output.writes_left = writes_left;
-    let result = pipe(alloc, input, &mut output);
-    let Output { taken, .. } = output;
-    (result, taken)
-}
-
-/// Whether a run that ends by this fault has written a beginning of the trace, and one without
-/// fault all of it.
-fn is_told(ended: Result<(), SimFault>, taken: &[u8], want: &[u8], fault: SimFault) -> bool {
-    match ended {
-        Ok(()) => taken == want,
-        Err(told) => told == fault && want.starts_with(taken),
-    }
-}
-
-/// What a script of two calls gives, and its trace.
-#[derive(Drop)]
-struct Middle {
-    script: String,
-    want: String,
-}
-
-fn both_texts(alloc: Global) -> Result<Middle, Fail> {
-    let script = format!(in alloc; "{BOOT}{MIDDLE_STEPS}")?;
-    let want = format!(in alloc; "{BOOT}{MIDDLE_TRACE}")?;
-    Ok(Middle { script, want })
-}
-
-impl Middle {
-    /// How the script ends where so many reads do not fail; None where what is written then is
-    /// wrong.
-    fn read(&self, alloc: Global, left: u32) -> Option<Result<(), SimFault>> {
-        let (result, taken) = piped(alloc, self.script.as_bytes(), left, u32::MAX);
-        is_told(result, &taken, self.want.as_bytes(), SimFault::Read).then_some(result)
-    }
-
-    /// The same where so many writes do not fail.
-    fn write(&self, alloc: Global, left: u32) -> Option<Result<(), SimFault>> {
-        let (result, taken) = piped(alloc, self.script.as_bytes(), u32::MAX, left);
-        is_told(result, &taken, self.want.as_bytes(), SimFault::Write).then_some(result)
-    }
-
-    /// How many reads the script takes: so many pieces, and the one that finds the end.
-    fn reads(&self) -> u32 {
-        let pieces = self.script.len().div_ceil(READ_PIECE);
-        u32::try_from(pieces).unwrap_or(u32::MAX).saturating_add(1)
-    }
-
-    /// How many writes do not fail where the script ends well: None where something is wrong
-    /// before.
-    fn writes(&self, alloc: Global) -> Option<u32> {
-        for left in 0..10_000 {
-            if self.write(alloc, left)?.is_ok() {
-                return Some(left);
-            }
-        }
-        None
-    }
+    (script, trace): (&[u8], &[u8]),
+    (reads_left, writes_left): (u32, u32),
+    fault: SimFault,
+) -> Option<Result<(), SimFault>> {
+    let input = Input {
+        text: script,
+        piece: READ_PIECE,
+        reads_left,
+        interruptions: 0,
+    };
+    let output = Output {
+        taken: Vec::new(alloc),
+        piece: WRITE_PIECE,
+        room: ALL,
+        writes_left,
+        interruptions: 0,
+    };
+    let (result, taken) = piped(alloc, input, output);
+    let is_told = match result {
+        Ok(()) => taken.as_slice() == trace,
+        Err(told) => told == fault && trace.starts_with(&taken),
+    };
+    is_told.then_some(result)
 }
 
 #[test]
 fn each_read_fails_in_turn(rt: HostRuntime) -> Result<(), Fail> {
-    let middle = both_texts(rt.alloc())?;
-    let reads = middle.reads();
+    let script = repeated(rt.alloc(), (BOOT, MIDDLE_STEPS, 1, ""))?;
+    let trace = repeated(rt.alloc(), (BOOT, MIDDLE_TRACE, 1, ""))?;
+    // so many pieces, and the one that finds the end
+    let pieces = u32::try_from(script.len().div_ceil(READ_PIECE)).unwrap_or(u32::MAX);
+    let reads = pieces.saturating_add(1);
     for left in 0..=reads {
-        let ended = middle.read(rt.alloc(), left).map(|ended| ended.is_ok());
-        assert!(rt; ended == Some(left == reads), "read {left}");
+        let told = ended(
+            rt.alloc(),
+            (&script, &trace),
+            (left, u32::MAX),
+            SimFault::Read,
+        );
+        let is_ok = told == Some(Ok(()));
+        assert!(rt; told.is_some() && is_ok == (left == reads), "read {left}");
     }
     Ok(())
 }
 
+/// How many writes do not fail where a script with this trace ends well: None where something is
+/// wrong before.
+fn writes(alloc: Global, texts: (&[u8], &[u8])) -> Option<u32> {
+    for left in 0..10_000 {
+        if ended(alloc, texts, (u32::MAX, left), SimFault::Write)?.is_ok() {
+            return Some(left);
+        }
+    }
+    None
+}
+
 #[test]
 fn each_write_fails_in_turn(rt: HostRuntime) -> Result<(), Fail> {
-    let middle = both_texts(rt.alloc())?;
-    let writes = middle
-        .writes(rt.alloc())
-        .ok_or("so many writes are enough")?;
+    let script = repeated(rt.alloc(), (BOOT, MIDDLE_STEPS, 1, ""))?;
+    let trace = repeated(rt.alloc(), (BOOT, MIDDLE_TRACE, 1, ""))?;
+    let writes = writes(rt.alloc(), (&script, &trace)).ok_or("so many writes are enough")?;
     // a write takes no more
-    assert!(rt; writes as usize >= middle.want.len() / WRITE_PIECE);
+    assert!(rt; writes as usize >= trace.len() / WRITE_PIECE);
     Ok(())
 }

@@ -5,30 +5,22 @@ use std::alloc::Global;
 use std::env::{Env, FillError};
 use std::test::Fail;
 
-/// The faults of a line, their numbers and their texts.
-const LINE_FAULTS: &[(LineFault, u8, &str)] = &[
-    (LineFault::NoCores, 1, "mcssim: line 1: fault 1"),
-    (LineFault::Form, 2, "mcssim: line 1: fault 2"),
-    (LineFault::Number, 3, "mcssim: line 1: fault 3"),
-    (LineFault::NoObject, 4, "mcssim: line 1: fault 4"),
-    (LineFault::Limit, 5, "mcssim: line 1: fault 5"),
-    (LineFault::Taken, 6, "mcssim: line 1: fault 6"),
-    (LineFault::LongLine, 7, "mcssim: line 1: fault 7"),
-    (LineFault::LateBoot, 8, "mcssim: line 1: fault 8"),
-    (LineFault::ManyLines, 9, "mcssim: line 1: fault 9"),
+/// The faults of a line, by their numbers, from 1 on.
+const LINE_FAULTS: &[LineFault] = &[
+    LineFault::NoCores,
+    LineFault::Form,
+    LineFault::Number,
+    LineFault::NoObject,
+    LineFault::Limit,
+    LineFault::Taken,
+    LineFault::LongLine,
+    LineFault::LateBoot,
+    LineFault::ManyLines,
 ];
 
 /// Other faults, their statuses and their texts.
 const FAULTS: &[(SimFault, u8, &str)] = &[
     (SimFault::Argument, 1, "mcssim: an argument is not UTF-8"),
-    (
-        SimFault::Script {
-            line: 2_000_001,
-            why: LineFault::ManyLines,
-        },
-        2,
-        "mcssim: line 2000001: fault 9",
-    ),
     (SimFault::Read, 3, "mcssim: read fault"),
     (SimFault::Write, 4, "mcssim: write fault"),
     (SimFault::BookFull, 5, "mcssim: book full"),
@@ -41,18 +33,26 @@ fn is_reported(alloc: Global, fault: SimFault, status: u8, text: &str) -> Result
     Ok(fault.status() == status && fault.to_string(alloc)?.as_str() == text)
 }
 
-#[test]
-fn faults_of_lines_are_told_by_their_numbers(rt: HostRuntime) -> Result<(), Fail> {
-    for &(why, number, text) in LINE_FAULTS {
-        let fault = SimFault::Script { line: 1, why };
-        assert!(rt; why.number() == number, "{text}");
-        assert!(rt; is_reported(rt.alloc(), fault, 2, text)?, "{text}");
+/// Whether a fault of a line has this number, and is told by it.
+fn is_numbered(alloc: Global, why: LineFault, number: usize) -> Result<bool, Fail> {
+    for line in [1, 37, 2_000_001] {
+        let text = format!(in alloc; "mcssim: line {line}: fault {number}")?;
+        let fault = SimFault::Script { line, why };
+        if !is_reported(alloc, fault, 2, text.as_str())? {
+            return Ok(false);
+        }
     }
-    Ok(())
+    Ok(why.number() as usize == number)
 }
 
 #[test]
-fn other_faults_have_their_texts(rt: HostRuntime) -> Result<(), Fail> {
+fn faults_are_told(rt: HostRuntime) -> Result<(), Fail> {
+    for (i, why) in LINE_FAULTS.iter().enumerate() {
+        assert!(rt;
+            is_numbered(rt.alloc(), *why, i.saturating_add(1))?,
+            "fault {i}"
+        );
+    }
     for &(fault, status, text) in FAULTS {
         assert!(rt; is_reported(rt.alloc(), fault, status, text)?, "{text}");
     }
@@ -88,115 +88,79 @@ impl<'a> Env for Given<'a> {
 }
 
 /// Whether these two arguments are words, of which the second asks for a replay.
-fn asks_replay(alloc: Global, given: &[&[u8]]) -> bool {
+fn asks_replay(alloc: Global, given: &[&[u8]]) -> Result<bool, SimFault> {
     match arguments(&(Given { arguments: given }, alloc)) {
-        Ok(words) => words.len() == 2 && words[1].as_str() == "replay",
-        Err(_) => false,
+        Ok(words) => Ok(words.len() == 2 && words[1].as_str() == "replay"),
+        Err(fault) => Err(fault),
     }
-}
-
-/// Why these arguments are no words.
-fn fault_of(alloc: Global, given: &[&[u8]]) -> Option<SimFault> {
-    arguments(&(Given { arguments: given }, alloc)).err()
 }
 
 #[test]
 fn an_argument_that_is_no_text_is_a_fault(rt: HostRuntime) {
-    assert!(rt; asks_replay(rt.alloc(), &[b"mcssim", b"replay"]));
-    let fault = fault_of(rt.alloc(), &[b"mcssim", b"\xff"]);
-    assert!(rt; fault == Some(SimFault::Argument));
+    assert!(rt; asks_replay(rt.alloc(), &[b"mcssim", b"replay"]) == Ok(true));
+    let told = asks_replay(rt.alloc(), &[b"mcssim", b"\xff"]);
+    assert!(rt; told == Err(SimFault::Argument));
 }
 
-/// The status and the text of what the command line answers, where it asks for no command.
-fn answer(alloc: Global, words: &[&str]) -> Result<Option<(u8, String)>, Fail> {
-    let Err(answer) = options(alloc, words) else {
-        return Ok(None);
+/// Command lines, and what comes of them: a replay, a run with so many cores, or an answer with
+/// this status that has this text.
+const LINES: &str = "\
+mcssim replay = replay
+mcssim run = run
+mcssim run --cores 1 = run 1
+mcssim run --cores 16 = run 16
+mcssim run --cores=2 = run 2
+mcssim --version = 0 mcssim 0.1.0
+mcssim --help = 0 replay
+mcssim = 1
+mcssim again = 1
+mcssim replay x = 1
+mcssim run --cores 0 = 1 0 is not in 1..=16
+mcssim run --cores 17 = 1 17 is not in 1..=16
+mcssim run --cores x = 1 invalid digit found in string
+mcssim run --cores = 1 a value is required for '--cores <N>'
+mcssim run 3 = 1 unexpected argument '3' found
+mcssim replay --cores 2 = 1 unexpected argument '--cores' found
+";
+
+/// Whether a text is said. The version is all that is said of it.
+fn is_said(text: &str, part: &str) -> bool {
+    if part == "mcssim 0.1.0" {
+        text == "mcssim 0.1.0\n"
+    } else {
+        text.contains(part)
+    }
+}
+
+/// Whether this comes of a command line.
+fn comes(alloc: Global, words: &[&str], want: &str) -> Result<bool, Fail> {
+    let (word, rest) = want.split_once(' ').unwrap_or((want, ""));
+    let answer = match options(alloc, words) {
+        Ok(Options::Replay) => return Ok(want == "replay"),
+        Ok(Options::Run { cores }) => {
+            let wanted = rest.parse::<u8>().ok();
+            return Ok(word == "run" && cores == wanted);
+        }
+        Err(answer) => answer,
     };
     let text = answer.to_string(alloc)?;
-    Ok(Some((answer_status(&answer), text)))
+    let status = word.parse::<u8>().unwrap_or(u8::MAX);
+    Ok(answer_status(&answer) == status && is_said(text.as_str(), rest))
 }
 
-/// How many cores a run is to have, where the command line asks for a run.
-fn cores(alloc: Global, words: &[&str]) -> Option<Option<u8>> {
-    match options(alloc, words) {
-        Ok(Options::Run { cores }) => Some(cores),
-        _ => None,
-    }
-}
-
-/// Whether a command line asks for a command.
-fn is_command(alloc: Global, words: &[&str]) -> bool {
-    options(alloc, words).is_ok()
-}
-
-/// Command lines that ask for a run, and the cores that they say; the first asks for a replay.
-const RUNS: &[(&[&str], Option<Option<u8>>)] = &[
-    (&["mcssim", "replay"], None),
-    (&["mcssim", "run"], Some(None)),
-    (&["mcssim", "run", "--cores", "1"], Some(Some(1))),
-    (&["mcssim", "run", "--cores", "16"], Some(Some(16))),
-    (&["mcssim", "run", "--cores=2"], Some(Some(2))),
-];
-
-#[test]
-fn a_run_has_the_cores_that_are_said(rt: HostRuntime) {
-    for (i, &(words, want)) in RUNS.iter().enumerate() {
-        assert!(rt; is_command(rt.alloc(), words), "line {i}");
-        assert!(rt; cores(rt.alloc(), words) == want, "line {i}");
-    }
-}
-
-/// Other command lines, the status that they end with, and what is said of them.
-const ANSWERED: &[(&[&str], u8, &str)] = &[
-    (&["mcssim", "--version"], 0, "mcssim 0.1.0\n"),
-    (&["mcssim", "--help"], 0, "replay"),
-    (&["mcssim"], 1, ""),
-    (&["mcssim", "again"], 1, ""),
-    (&["mcssim", "replay", "x"], 1, ""),
-    (&["mcssim", "run", "--cores", "0"], 1, "0 is not in 1..=16"),
-    (
-        &["mcssim", "run", "--cores", "17"],
-        1,
-        "17 is not in 1..=16",
-    ),
-    (
-        &["mcssim", "run", "--cores", "x"],
-        1,
-        "invalid digit found in string",
-    ),
-    (
-        &["mcssim", "run", "--cores"],
-        1,
-        "a value is required for '--cores <N>'",
-    ),
-    (&["mcssim", "run", "3"], 1, "unexpected argument '3' found"),
-    (
-        &["mcssim", "replay", "--cores", "2"],
-        1,
-        "unexpected argument '--cores' found",
-    ),
-];
-
-/// Whether a command line is answered with this status, and a text that has this; the whole text
-/// where nothing else is said.
-fn is_answered(
-    alloc: Global,
-    (words, status, text): (&[&str], u8, &str),
-    is_all: bool,
-) -> Result<bool, Fail> {
-    match answer(alloc, words)? {
-        Some((told, said)) => Ok(
-            told == status && said.as_str().contains(text) && (!is_all || said.as_str() == text),
-        ),
-        None => Ok(false),
-    }
+/// Whether a line holds.
+fn is_answered(alloc: Global, line: &str) -> Result<bool, Fail> {
+    let Some((given, want)) = line.split_once(" = ") else {
+        return Ok(false);
+    };
+    let words: Vec<&str> = given.split_whitespace().collect(alloc)?;
+    comes(alloc, &words, want)
 }
 
 #[test]
-fn other_command_lines_are_answered(rt: HostRuntime) -> Result<(), Fail> {
-    for (i, line) in ANSWERED.iter().enumerate() {
-        // the version is all that is said of it
-        assert!(rt; is_answered(rt.alloc(), *line, i == 0)?, "line {i}");
+fn command_lines_are_answered(rt: HostRuntime) -> Result<(), Fail> {
+    for line in LINES.lines() {
+        assert!(rt; is_answered(rt.alloc(), line)?, "{line}");
     }
     Ok(())
 }

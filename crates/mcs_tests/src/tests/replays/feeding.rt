@@ -1,93 +1,49 @@
 //! Scripts that are fed piece by piece.
-use mcs_sim::{ReplayRun, SimFault, Sink, Source, simulate};
+use mcs_sim::{ReplayRun, SimFault};
 use mcs_text::LineFault;
 use std::alloc::Global;
-use std::io::{self, Read};
 use std::test::Fail;
 
-/// The fault of a line to which no form fits.
-fn no_form(line: u64) -> Result<(), SimFault> {
-    let why = LineFault::Form;
-    Err(SimFault::Script { line, why })
-}
+/// Pieces of a script, how often each is taken, and the fault of a line that ends the script then,
+/// if one does: it stays.
+type Fed = (&'static [u8], u32, Option<(u64, LineFault)>);
 
-/// Pieces of a script, and what each gives.
-const FED: &[(&[u8], bool)] = &[
-    (b"cores 1\nco", true),
-    (b"re 1\n\n", false),
-    (b"endpoint\n", false),
+/// A line to which no form fits.
+const NO_FORM: &[Fed] = &[
+    (b"cores 1\nco", 1, None),
+    (b"re 1\n\n", 0, Some((2, LineFault::Form))),
+    (b"endpoint\n", 0, Some((2, LineFault::Form))),
 ];
 
-/// Whether a piece gives this, and no book is begun.
-fn is_fed(alloc: Global, run: &mut ReplayRun, (piece, is_read): (&[u8], bool)) -> bool {
-    let want = if is_read { Ok(()) } else { no_form(2) };
-    run.feed(alloc, piece) == want && run.book().is_none()
-}
+/// A line that is too long at its 4,097th byte.
+const LONG: &[Fed] = &[
+    (b"x", 4_096, None),
+    (b"x", 0, Some((1, LineFault::LongLine))),
+];
 
-/// How many pieces give this.
-fn fed(alloc: Global, run: &mut ReplayRun) -> usize {
-    for (i, piece) in FED.iter().enumerate() {
-        if !is_fed(alloc, run, *piece) {
-            return i;
+/// Whether a piece is taken so often and then ends the script so, and no book is begun.
+fn is_fed(alloc: Global, run: &mut ReplayRun, (piece, count, fault): Fed) -> bool {
+    for _ in 0..count {
+        if run.feed(alloc, piece).is_err() {
+            return false;
         }
     }
-    FED.len()
+    let want = match fault {
+        Some((line, why)) => Err(SimFault::Script { line, why }),
+        None => Ok(()),
+    };
+    (want.is_ok() || run.feed(alloc, piece) == want) && run.book().is_none()
 }
 
 #[test]
 fn a_fault_stays(rt: HostRuntime) -> Result<(), Fail> {
-    let mut run = ReplayRun::new(rt.alloc())?;
-    assert!(rt; fed(rt.alloc(), &mut run) == FED.len());
-    assert!(rt; run.end(rt.alloc()) == no_form(2) && run.book().is_none());
-    Ok(())
-}
-
-/// Gives a letter for ever.
-#[derive(Drop)]
-struct Endless;
-
-impl Read for Endless {
-    fn read(&mut self, buf: &mut [u8]) -> io::Result<usize> {
-        buf.fill(b'x');
-        Ok(buf.len())
-    }
-}
-
-/// The fault of a first line that is too long.
-const LONG: SimFault = SimFault::Script {
-    line: 1,
-    why: LineFault::LongLine,
-};
-
-/// How many of so many letters are taken.
-fn taken(alloc: Global, run: &mut ReplayRun, letters: u32) -> u32 {
-    for i in 0..letters {
-        if run.feed(alloc, b"x").is_err() {
-            return i;
+    for pieces in [NO_FORM, LONG] {
+        let mut run = ReplayRun::new(rt.alloc())?;
+        for (i, piece) in pieces.iter().enumerate() {
+            assert!(rt; is_fed(rt.alloc(), &mut run, *piece), "piece {i}");
         }
+        let told = run.feed(rt.alloc(), b"\n");
+        assert!(rt; told.is_err() && run.end(rt.alloc()) == told && run.book().is_none());
     }
-    letters
-}
-
-#[test]
-fn a_line_is_too_long_at_its_4097th_byte(rt: HostRuntime) -> Result<(), Fail> {
-    let mut run = ReplayRun::new(rt.alloc())?;
-    assert!(rt; taken(rt.alloc(), &mut run, 4_096) == 4_096);
-    assert!(rt; run.feed(rt.alloc(), b"x") == Err(LONG));
     Ok(())
-}
-
-/// What the replay of a line without end gives, and how much it writes.
-fn replay_endless(alloc: Global) -> (Result<(), SimFault>, usize) {
-    let mut written = Vec::new(alloc);
-    let result = match Sink::new(alloc, &mut written) {
-        Ok(mut sink) => simulate(alloc, &mut Source::new(Endless), &mut sink),
-        Err(_) => Err(SimFault::OutOfMemory),
-    };
-    (result, written.len())
-}
-
-#[test]
-fn an_endless_line_is_too_long(rt: HostRuntime) {
-    assert!(rt; replay_endless(rt.alloc()) == (Err(LONG), 0));
 }

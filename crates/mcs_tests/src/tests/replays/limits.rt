@@ -1,9 +1,18 @@
 //! Scripts that are cut, long lines and full books.
-use crate::tests::replays::runs::{BOOT, FIRST_STEPS, run};
-use mcs_sim::SimFault;
+use crate::tests::streams::{run, run_users};
+use crate::tests::texts::{BOOT, repeated};
+use mcs_sim::{Open, SimFault};
 use mcs_text::LineFault;
-use std::alloc::Global;
+use std::alloc::{AllocGlobal, Global};
+use std::sync::Wait;
 use std::test::Fail;
+use std::thread::Threads;
+
+/// A message that waits for its receiver.
+const FIRST_STEPS: &str = "\
+0 t1 send 1 7 5 6
+0 t2 recv 2 8
+";
 
 /// What is wrong with a script of the first example that ends in this beginning of one of its
 /// lines, if anything is.
@@ -37,105 +46,92 @@ fn cut(script: &str, end: usize) -> Result<(), SimFault> {
     }
 }
 
-/// What a script gives, and how many bytes it writes.
-fn run_length(alloc: Global, script: &[u8]) -> (Result<(), SimFault>, usize) {
-    let (result, written) = run(alloc, script);
-    (result, written.len())
-}
-
 #[test]
 fn a_script_cut_anywhere_is_read_or_faulty(rt: HostRuntime) -> Result<(), Fail> {
     let script = format!(in rt.alloc(); "{BOOT}{FIRST_STEPS}")?;
     for end in 0..=script.len() {
-        let (result, _) = run_length(rt.alloc(), &script.as_bytes()[..end]);
+        let (result, _) = run(rt.alloc(), &script.as_bytes()[..end]);
         assert!(rt; result == cut(script.as_str(), end), "{end} bytes");
     }
     Ok(())
 }
 
-/// Adds so many pieces.
-fn add_pieces(script: &mut Vec<u8>, piece: &str, count: u32) -> Result<(), Fail> {
-    for _ in 0..count {
-        script.extend_from_slice(piece.as_bytes())?;
-    }
-    Ok(())
-}
+/// A text, so many pieces behind it, and an end.
+type Parts = (&'static str, &'static str, u32, &'static str);
 
-/// Adds a text, so many pieces and an end.
-fn add_all(
-    script: &mut Vec<u8>,
-    (text, piece, count, end): (&str, &str, u32, &str),
-) -> Result<(), Fail> {
-    script.extend_from_slice(text.as_bytes())?;
-    add_pieces(script, piece, count)?;
-    script.extend_from_slice(end.as_bytes())?;
-    Ok(())
-}
-
-/// A text and so many pieces behind it, and an end.
-fn repeated(alloc: Global, parts: (&str, &str, u32, &str)) -> Result<Vec<u8>, Fail> {
-    let mut script = Vec::new(alloc);
-    add_all(&mut script, parts)?;
-    Ok(script)
-}
-
-/// Scripts of a text, so many pieces and an end, and what is wrong at which line, if anything is.
-const LONG_SCRIPTS: &[(&str, &str, u32, &str, Option<(u64, LineFault)>)] = &[
-    ("cores 1\n", "#", 4_096, "\nendpoint\n", None),
+/// Such scripts of steps, and what is wrong at which line, if anything is.
+const LONG_SCRIPTS: &[(Parts, Option<(u64, LineFault)>)] = &[
+    (("cores 1\n", "#", 4_096, "\nendpoint\n"), None),
     (
-        "cores 1\n",
-        "#",
-        4_097,
-        "\nendpoint\n",
+        ("cores 1\n", "#", 4_097, "\nendpoint\n"),
         Some((2, LineFault::LongLine)),
     ),
     (
-        "cores 1\n0 t1 recv 2 ",
-        "9",
-        4_084,
-        "\n",
+        ("cores 1\n0 t1 recv 2 ", "9", 4_084, "\n"),
         Some((2, LineFault::Number)),
     ),
-    ("cores 1", "\n", 2_000_000, "", None),
+    (("cores 1", "\n", 2_000_000, ""), None),
     (
-        "cores 1",
-        "\n",
-        2_000_000,
-        "#",
+        ("cores 1", "\n", 2_000_000, "#"),
         Some((2_000_001, LineFault::ManyLines)),
     ),
-    ("cores 1\n", "endpoint\n", 256, "", None),
+    (("cores 1\n", "endpoint\n", 256, ""), None),
     (
-        "cores 1\n",
-        "endpoint\n",
-        257,
-        "",
+        ("cores 1\n", "endpoint\n", 257, ""),
         Some((258, LineFault::Limit)),
     ),
 ];
 
-/// Whether such a script ends so, and writes just where it ends well.
-fn is_read(
-    alloc: Global,
-    parts: (&str, &str, u32, &str),
-    want: Result<(), SimFault>,
-) -> Result<bool, Fail> {
-    let script = repeated(alloc, parts)?;
-    let (result, length) = run_length(alloc, &script);
-    Ok(result == want && (length == 0) == want.is_err())
+/// The same of scripts that are tried as those of users besides: the line behind the boot is as
+/// long as one may be, or longer.
+const LONG_LINES: &[(Parts, Option<(u64, LineFault)>)] = &[
+    ((BOOT, "#", 4_096, ""), None),
+    ((BOOT, "#", 4_096, "\n"), None),
+    ((BOOT, "#", 4_096, "\nendpoint\n"), None),
+    ((BOOT, "#", 4_097, ""), Some((37, LineFault::LongLine))),
+    ((BOOT, "#", 4_097, "\n"), Some((37, LineFault::LongLine))),
+    (
+        (BOOT, "#", 4_097, "\nendpoint\n"),
+        Some((37, LineFault::LongLine)),
+    ),
+];
+
+/// Whether what is given is this, and something is written just where it ends well.
+fn is_end(
+    (ended, written): (Result<(), SimFault>, Vec<u8>),
+    fault: Option<(u64, LineFault)>,
+) -> bool {
+    let want = match fault {
+        None => Ok(()),
+        Some((line, why)) => Err(SimFault::Script { line, why }),
+    };
+    ended == want && written.is_empty() == want.is_err()
 }
 
 #[test]
 fn long_scripts_are_read_or_faulty(rt: HostRuntime) -> Result<(), Fail> {
-    for (i, &(text, piece, count, end, fault)) in LONG_SCRIPTS.iter().enumerate() {
-        let want = match fault {
-            None => Ok(()),
-            Some((line, why)) => Err(SimFault::Script { line, why }),
-        };
-        assert!(rt;
-            is_read(rt.alloc(), (text, piece, count, end), want)?,
-            "script {i}"
-        );
+    for scripts in [LONG_SCRIPTS, LONG_LINES] {
+        for (i, &(parts, fault)) in scripts.iter().enumerate() {
+            let script = repeated(rt.alloc(), parts)?;
+            assert!(rt; is_end(run(rt.alloc(), &script), fault), "script {i}");
+        }
+    }
+    Ok(())
+}
+
+/// Whether a run of users ends so.
+fn is_run<R: AllocGlobal + Threads + Wait + Sync>(
+    rt: &R,
+    (parts, fault): (Parts, Option<(u64, LineFault)>),
+) -> Result<bool, Fail> {
+    let script = repeated(rt.alloc(), parts)?;
+    Ok(is_end(run_users(rt, &script, None, &Open), fault))
+}
+
+#[test]
+fn a_line_has_4096_bytes_at_most(rt: HostRuntime) -> Result<(), Fail> {
+    for (i, line) in LONG_LINES.iter().enumerate() {
+        assert!(rt; is_run(&rt, *line)?, "line {i}");
     }
     Ok(())
 }

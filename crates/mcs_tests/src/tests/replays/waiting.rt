@@ -1,5 +1,5 @@
 //! Who writes steps and waits for what they give before writing more.
-use crate::tests::replays::runs::BOOT;
+use crate::tests::texts::{BOOT, add_pieces};
 use mcs_sim::{Sink, Source, simulate};
 use std::alloc::Global;
 use std::cell::Cell;
@@ -13,6 +13,17 @@ const TOLD: &str = "0 t1 nbsend 1 7\n= done\n";
 
 /// How many pieces of steps follow the one with the boot.
 const ROUNDS: usize = 3;
+
+/// How many bytes are written before the read of this number: nothing, then the boot and the answer
+/// to its step, then those to the steps of one piece more.
+fn wanted(piece: usize, reads: usize) -> usize {
+    if reads == 0 {
+        return 0;
+    }
+    let steps = (piece / STEP.len()).saturating_mul(reads.saturating_sub(1));
+    let answers = steps.saturating_add(1).saturating_mul(TOLD.len());
+    answers.saturating_add(BOOT.len())
+}
 
 /// Counts the bytes that are written.
 #[derive(Drop)]
@@ -32,36 +43,25 @@ impl<'a> Write for Counting<'a> {
     }
 }
 
-/// Gives a text in pieces of so many bytes, and counts before which of them as many bytes were
-/// written as it waits for.
+/// Gives a text in pieces of so many bytes, and counts them, and before how many of them as many
+/// bytes were written as it waits for.
 #[derive(Drop)]
 struct Waiting<'a> {
     text: &'a [u8],
     piece: usize,
     left: usize,
-    waits: &'a [usize],
+    pieces: usize,
     written: &'a Cell<usize>,
     answered: &'a Cell<usize>,
-}
-
-impl<'a> Waiting<'a> {
-    /// Waits for the answer to what was given.
-    fn wait(&mut self) {
-        let Some((bytes, later)) = self.waits.split_first() else {
-            return;
-        };
-        if self.written.get() == *bytes {
-            let count = self.answered.get().saturating_add(1);
-            self.answered.set(count);
-        }
-        self.waits = later;
-    }
 }
 
 impl<'a> Read for Waiting<'a> {
     fn read(&mut self, buf: &mut [u8]) -> io::Result<usize> {
         if self.left == 0 {
-            self.wait();
+            if self.written.get() == wanted(self.piece, self.pieces) {
+                self.answered.set(self.answered.get().saturating_add(1));
+            }
+            self.pieces = self.pieces.saturating_add(1);
             self.left = self.piece;
         }
         let count = buf.len().min(self.left);
@@ -71,75 +71,53 @@ impl<'a> Read for Waiting<'a> {
     }
 }
 
-/// Adds so many steps.
-fn add_steps(script: &mut Vec<u8>, steps: usize) -> Result<(), Fail> {
-    for _ in 0..steps {
-        script.extend_from_slice(STEP.as_bytes())?;
+/// A piece of so many bytes with the boot and one step, and then pieces of steps alone, of so many
+/// steps each.
+fn script_of(alloc: Global, piece: u32, steps: u32) -> Result<Vec<u8>, Fail> {
+    let mut script = Vec::from_slice(alloc, BOOT.as_bytes())?;
+    let taken = script.len().saturating_add(STEP.len());
+    let rest = (piece as usize).saturating_sub(taken);
+    add_pieces(&mut script, "\n", u32::try_from(rest).unwrap_or(0))?;
+    for _ in 0..ROUNDS {
+        add_pieces(&mut script, STEP, steps)?;
     }
-    Ok(())
-}
-
-/// Adds a piece of so many bytes with the boot and one step, and then pieces of steps alone.
-fn add_pieces(script: &mut Vec<u8>, piece: usize) -> Result<(), Fail> {
-    script.extend_from_slice(BOOT.as_bytes())?;
-    for _ in script.len()..piece.saturating_sub(STEP.len()) {
-        script.push(b'\n')?;
-    }
-    add_steps(script, 1 + ROUNDS * (piece / STEP.len()))
-}
-
-/// A piece of so many bytes with the boot and one step, and then pieces of steps alone.
-fn pieces(alloc: Global, piece: usize) -> Result<Vec<u8>, Fail> {
-    let mut script = Vec::new(alloc);
-    add_pieces(&mut script, piece)?;
+    add_pieces(&mut script, STEP, 1)?;
     Ok(script)
 }
 
-/// Adds how many bytes are written before each piece: nothing, then the boot and the answer to its
-/// step, then those to the steps of one piece more.
-fn add_waits(waits: &mut Vec<usize>, piece: usize) -> Result<(), Fail> {
-    waits.push(0)?;
-    for round in 0..=ROUNDS {
-        let steps = 1 + round * (piece / STEP.len());
-        waits.push(steps.saturating_mul(TOLD.len()).saturating_add(BOOT.len()))?;
-    }
-    Ok(())
-}
-
-/// How many of these waits are answered while a script is replayed in pieces of so many bytes; None
-/// where it has a fault.
-fn answered(alloc: Global, script: &[u8], piece: usize, waits: &[usize]) -> Option<usize> {
+/// Before how many pieces of so many bytes all was written, while a script is replayed; None where
+/// it has a fault.
+fn answered(alloc: Global, script: &[u8], piece: usize) -> Option<usize> {
     let written = Cell::new(0);
     let answered = Cell::new(0);
     let reader = Waiting {
         text: script,
         piece,
         left: 0,
-        waits,
+        pieces: 0,
         written: &written,
         answered: &answered,
     };
-    let writer = Counting { written: &written };
-    let mut sink = Sink::new(alloc, writer).ok()?;
+    let mut sink = Sink::new(alloc, Counting { written: &written }).ok()?;
     simulate(alloc, &mut Source::new(reader), &mut sink).ok()?;
     Some(answered.get())
 }
 
-/// Whether each piece of so many bytes is answered before the next read.
-fn is_answered(alloc: Global, piece: usize) -> Result<bool, Fail> {
-    let mut waits = Vec::new(alloc);
-    add_waits(&mut waits, piece)?;
-    let script = pieces(alloc, piece)?;
-    Ok(
-        script.len() == piece.saturating_mul(ROUNDS + 1)
-            && answered(alloc, &script, piece, &waits) == Some(waits.len()),
-    )
-}
+/// Sizes of pieces, and how many steps one has.
+const PIECES: &[(u32, u32)] = &[(4_096, 256), (8_192, 512), (16_384, 1_024), (65_536, 4_096)];
 
 #[test]
 fn each_piece_is_answered_before_the_next_read(rt: HostRuntime) -> Result<(), Fail> {
-    for piece in [4_096, 8_192, 16_384, 65_536] {
-        assert!(rt; is_answered(rt.alloc(), piece)?, "{piece} bytes");
+    for &(piece, steps) in PIECES {
+        let script = script_of(rt.alloc(), piece, steps)?;
+        let size = piece as usize;
+        assert!(rt;
+            script.len() == size.saturating_mul(ROUNDS + 1),
+            "{piece} bytes"
+        );
+        let answered = answered(rt.alloc(), &script, size);
+        // each piece of the script, and the end
+        assert!(rt; answered == Some(ROUNDS + 2), "{piece} bytes");
     }
     Ok(())
 }

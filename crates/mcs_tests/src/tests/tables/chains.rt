@@ -1,4 +1,5 @@
 //! Chains of reply objects, beside a plain list of debts.
+use super::names::{next_number, object};
 use mcs_replies::{Ended, Replies};
 use mcs_types::{Ending, Kind, OBJECTS, ObjId};
 use std::alloc::Global;
@@ -15,16 +16,6 @@ struct Debt {
     context: Option<ObjId>,
 }
 
-impl Debt {
-    fn is_with(&self, context: ObjId) -> bool {
-        self.context == Some(context)
-    }
-}
-
-fn object(kind: Kind, serial: u32) -> ObjId {
-    ObjId { kind, serial }
-}
-
 /// One of 256 contexts. The serials of the last 64 are those of the first 64 and 256 more.
 fn context(number: u32) -> ObjId {
     let number = number % 256;
@@ -34,12 +25,6 @@ fn context(number: u32) -> ObjId {
         number + 65
     };
     object(Kind::Context, serial)
-}
-
-/// The next of a fixed list of numbers.
-fn next_number(n: u64) -> u64 {
-    n.wrapping_mul(6_364_136_223_846_793_005)
-        .wrapping_add(1_442_695_040_888_963_407)
 }
 
 /// A call on reply objects, which are named by their numbers in a list, or by none where they are
@@ -66,7 +51,7 @@ struct Plain {
 /// Takes those of the oldest debts that are in the chain of a context out of it.
 fn unlink(debts: &mut [Debt], context: ObjId) {
     for debt in debts.iter_mut() {
-        if debt.is_with(context) {
+        if debt.context == Some(context) {
             debt.context = None;
         }
     }
@@ -103,8 +88,12 @@ impl Plain {
 
     /// The reply object on top of the chain of a context.
     fn top_of(&self, context: ObjId) -> Option<ObjId> {
-        let debt = self.debts.iter().rev().find(|debt| debt.is_with(context))?;
-        Some(debt.reply)
+        for debt in self.debts.iter().rev() {
+            if debt.context == Some(context) {
+                return Some(debt.reply);
+            }
+        }
+        None
     }
 
     /// Adds a debt, unless its reply object owes already or is not there.
@@ -117,7 +106,7 @@ impl Plain {
     fn leave(&mut self, context: ObjId, older: usize, how: Ending) -> Option<ObjId> {
         let middle = older.min(self.debts.len());
         let (below, above) = self.debts.split_at_mut(middle);
-        let is_top = !above.iter().any(|debt| debt.is_with(context));
+        let is_top = !above.iter().any(|debt| debt.context == Some(context));
         if how == Ending::Cancelled || !is_top {
             unlink(below, context);
         }
@@ -179,7 +168,7 @@ impl Plain {
     fn agrees(&self, replies: &Replies, context: ObjId) -> bool {
         let mut chain = replies.chain_of(context);
         for debt in self.debts.iter().rev() {
-            if debt.is_with(context) && chain.next() != Some(debt.reply) {
+            if debt.context == Some(context) && chain.next() != Some(debt.reply) {
                 return false;
             }
         }
@@ -187,26 +176,18 @@ impl Plain {
     }
 }
 
-/// A new reply object in the place of one that owes nobody, where there is room.
-fn renewed(replies: &mut Replies, reply: ObjId) -> Option<ObjId> {
-    if replies.receiver(reply).is_some() || replies.owed(reply).is_some() {
-        return None;
-    }
-    if !replies.is_there(reply) {
-        return None;
-    }
-    replies.close(reply);
-    if replies.rows().is_full() {
-        return None;
-    }
-    Some(replies.add())
-}
-
-/// A new reply object comes in the place of one. Whether the links and the list say the same of
-/// what it owes.
+/// A new reply object comes in the place of one that owes nobody, where there is room. Whether the
+/// links and the list say the same of what it owes.
 fn renew(replies: &mut Replies, plain: &mut Plain, number: usize) -> bool {
-    if let Some(reply) = renewed(replies, plain.reply(number)) {
-        plain.put(number, reply);
+    let reply = plain.reply(number);
+    if replies.receiver(reply).is_none()
+        && replies.owed(reply).is_none()
+        && replies.is_there(reply)
+    {
+        replies.close(reply);
+        if !replies.rows().is_full() {
+            plain.put(number, replies.add());
+        }
     }
     let reply = plain.reply(number);
     replies.owed(reply).is_some() == plain.owes(reply)

@@ -1,35 +1,10 @@
 //! The table of notifications.
+use super::names::notification;
+use super::rows::{named, row_of};
+use crate::tests::texts::NONE;
 use mcs_notifications::Notifications;
 use mcs_types::{Badge, Kind, ObjId};
 use std::test::Fail;
-
-fn object(kind: Kind, serial: u32) -> ObjId {
-    ObjId { kind, serial }
-}
-
-fn notification(serial: u32) -> ObjId {
-    object(Kind::Notification, serial)
-}
-
-/// An object of a kind, or none.
-fn named(kind: Kind, serial: Option<u32>) -> Option<ObjId> {
-    Some(object(kind, serial?))
-}
-
-/// A call on notifications. Objects are named by their serials: notifications first, then threads
-/// and contexts.
-#[derive(Clone, Copy)]
-enum Call {
-    /// One is made, of this serial.
-    Add(u32),
-    Raise(u32, u64),
-    /// The word is taken, if there is one.
-    Hear(u32, Option<u64>),
-    Bind(u32, Option<u32>),
-    Home(u32, Option<u32>),
-    /// One is closed that is bound to nobody and home to no context.
-    Close(u32),
-}
 
 /// Closes a notification that is bound to nobody and home to no context. Whether it was one.
 fn close(notifications: &mut Notifications, id: ObjId) -> bool {
@@ -44,98 +19,91 @@ fn close(notifications: &mut Notifications, id: ObjId) -> bool {
 }
 
 /// Changes a notification that is there. Whether it is.
-fn change(notifications: &mut Notifications, id: ObjId, call: Call) -> bool {
+fn change(notifications: &mut Notifications, call: &str, id: ObjId, number: u32) -> bool {
     if !notifications.is_there(id) {
         return false;
     }
     match call {
-        Call::Raise(_, badge) => notifications.raise(id, Badge(badge)),
-        Call::Bind(_, thread) => notifications.set_bound(id, named(Kind::Thread, thread)),
-        Call::Home(_, context) => notifications.set_homed(id, named(Kind::Context, context)),
-        Call::Add(_) | Call::Hear(..) | Call::Close(_) => return false,
+        "raise" => notifications.raise(id, Badge(number as u64)),
+        "bind" => notifications.set_bound(id, named(Kind::Thread, number)),
+        "home" => notifications.set_homed(id, named(Kind::Context, number)),
+        _ => return false,
     }
     true
 }
 
-impl Call {
-    /// Whether the call is done, and as it says.
-    fn is_done(self, notifications: &mut Notifications) -> bool {
-        match self {
-            Call::Add(serial) => {
-                !notifications.rows().is_full() && notifications.add() == notification(serial)
-            }
-            Call::Hear(serial, word) => notifications.hear(notification(serial)) == word,
-            Call::Close(serial) => close(notifications, notification(serial)),
-            Call::Raise(serial, _) | Call::Bind(serial, _) | Call::Home(serial, _) => {
-                change(notifications, notification(serial), self)
-            }
-        }
+/// The word that is written so.
+fn word_of(number: u32) -> Option<u64> {
+    if number == NONE {
+        None
+    } else {
+        Some(number as u64)
     }
 }
 
-/// The word of a notification, the thread to which it is bound, and the context to which it is
-/// home.
-type Kept = (Option<u64>, Option<u32>, Option<u32>);
-
-/// What is kept of one that nobody uses, or that is not there.
-const IDLE: Kept = (None, None, None);
-
-fn is_kept(notifications: &Notifications, serial: u32, (word, thread, context): Kept) -> bool {
-    let id = notification(serial);
-    notifications.word(id) == word
-        && notifications.bound(id) == named(Kind::Thread, thread)
-        && notifications.homed(id) == named(Kind::Context, context)
+/// Whether a call is done, and as its numbers say.
+fn is_done(notifications: &mut Notifications, call: &str, id: ObjId, number: u32) -> bool {
+    match call {
+        "add" => !notifications.rows().is_full() && notifications.add() == id,
+        "hear" => notifications.hear(id) == word_of(number),
+        "close" => close(notifications, id),
+        _ => change(notifications, call, id, number),
+    }
 }
 
-/// Calls, whether they are done, and what is then kept of the first two notifications.
-const CALLS: &[(Call, bool, Kept, Kept)] = &[
-    (Call::Home(1, Some(9)), false, IDLE, IDLE),
-    (Call::Add(1), true, IDLE, IDLE),
-    // Badges are joined and heard once.
-    (Call::Raise(1, 0), true, (Some(0), None, None), IDLE),
-    (Call::Raise(1, 5), true, (Some(5), None, None), IDLE),
-    (Call::Raise(1, 6), true, (Some(7), None, None), IDLE),
-    (Call::Hear(1, Some(7)), true, IDLE, IDLE),
-    (Call::Hear(1, None), true, IDLE, IDLE),
-    (Call::Raise(2, 1), false, IDLE, IDLE),
-    (Call::Hear(2, None), true, IDLE, IDLE),
-    (Call::Add(2), true, IDLE, IDLE),
-    (Call::Home(1, Some(9)), true, (None, None, Some(9)), IDLE),
-    (Call::Raise(1, 4), true, (Some(4), None, Some(9)), IDLE),
-    (
-        Call::Bind(1, Some(7)),
-        true,
-        (Some(4), Some(7), Some(9)),
-        IDLE,
-    ),
-    (Call::Bind(1, None), true, (Some(4), None, Some(9)), IDLE),
-    (Call::Close(1), false, (Some(4), None, Some(9)), IDLE),
-    (Call::Home(1, None), true, (Some(4), None, None), IDLE),
-    (Call::Close(1), true, IDLE, IDLE),
-    (Call::Bind(2, Some(7)), true, IDLE, (None, Some(7), None)),
-    (Call::Close(2), false, IDLE, (None, Some(7), None)),
-    (Call::Bind(2, None), true, IDLE, IDLE),
-    (Call::Raise(2, 3), true, IDLE, (Some(3), None, None)),
-    (Call::Close(2), true, IDLE, IDLE),
-    (Call::Add(3), true, IDLE, IDLE),
-];
+/// Whether this word is kept of a notification, it is bound to this thread, and home to this
+/// context.
+fn is_kept(notifications: &Notifications, serial: u32, kept: [u32; 3]) -> bool {
+    let id = notification(serial);
+    notifications.word(id) == word_of(kept[0])
+        && notifications.bound(id) == named(Kind::Thread, kept[1])
+        && notifications.homed(id) == named(Kind::Context, kept[2])
+}
+
+/// Calls, whether they are done, and what is then kept of the first two notifications: the word,
+/// the thread, the context. One is made, of this serial; a word is raised, and taken if there is
+/// one; one is bound to a thread, is home to a context, or is closed.
+const CALLS: &str = "\
+home 1 9 = not - - - - - -
+add 1 = done - - - - - -
+raise 1 0 = done 0 - - - - -
+raise 1 5 = done 5 - - - - -
+raise 1 6 = done 7 - - - - -
+hear 1 7 = done - - - - - -
+hear 1 - = done - - - - - -
+raise 2 1 = not - - - - - -
+hear 2 - = done - - - - - -
+add 2 = done - - - - - -
+home 1 9 = done - - 9 - - -
+raise 1 4 = done 4 - 9 - - -
+bind 1 7 = done 4 7 9 - - -
+bind 1 - = done 4 - 9 - - -
+close 1 = not 4 - 9 - - -
+home 1 - = done 4 - - - - -
+close 1 = done - - - - - -
+bind 2 7 = done - - - - 7 -
+close 2 = not - - - - 7 -
+bind 2 - = done - - - - - -
+raise 2 3 = done - - - 3 - -
+close 2 = done - - - - - -
+add 3 = done - - - - - -
+";
+
+/// Whether the call of a line is done or not, and this is kept then.
+fn is_row(notifications: &mut Notifications, line: &str) -> bool {
+    let Some((call, given, answer, kept)) = row_of(line) else {
+        return false;
+    };
+    is_done(notifications, call, notification(given[0]), given[1]) == (answer == "done")
+        && is_kept(notifications, 1, [kept[0], kept[1], kept[2]])
+        && is_kept(notifications, 2, [kept[3], kept[4], kept[5]])
+}
 
 #[test]
 fn calls_on_notifications_answer(rt: HostRuntime) -> Result<(), Fail> {
     let mut notifications = Notifications::new(rt.alloc())?;
-    for (i, &(call, is_done, first, second)) in CALLS.iter().enumerate() {
-        assert!(rt;
-            call.is_done(&mut notifications) == is_done,
-            "the answer of call {i}"
-        );
-        assert!(rt;
-            is_kept(&notifications, 1, first),
-            "the first after call {i}"
-        );
-        assert!(rt;
-            is_kept(&notifications, 2, second),
-            "the second after call {i}"
-        );
+    for line in CALLS.lines() {
+        assert!(rt; is_row(&mut notifications, line), "{line}");
     }
     assert!(rt; notifications.rows().given() == 3);
     Ok(())

@@ -1,28 +1,22 @@
 //! Stores of objects.
+use super::names::object;
 use mcs_objects::Store;
 use mcs_types::{Kind, ObjId, OutOfMemory};
 use std::alloc::Global;
 use std::test::Fail;
 
 fn endpoint(serial: u32) -> ObjId {
-    ObjId {
-        kind: Kind::Endpoint,
-        serial,
-    }
-}
-
-/// Adds a value where there is room.
-fn add(store: &mut Store<u64>, value: u64) {
-    if !store.is_full() {
-        store.add(value);
-    }
+    object(Kind::Endpoint, serial)
 }
 
 /// A store with room for two, which is full.
 fn two(alloc: Global) -> Result<Store<u64>, OutOfMemory> {
     let mut store = Store::with_room(alloc, Kind::Endpoint, 2)?;
-    add(&mut store, 10);
-    add(&mut store, 20);
+    for value in [10, 20] {
+        if !store.is_full() {
+            store.add(value);
+        }
+    }
     Ok(store)
 }
 
@@ -67,18 +61,16 @@ impl Call {
 /// The value and the place of an object.
 type Kept = Option<(u64, u16)>;
 
+/// What is kept of an object, where the same value is found by the place.
 fn kept(store: &Store<u64>, serial: u32) -> Kept {
-    Some((
-        *store.get(endpoint(serial))?,
-        store.place(endpoint(serial))?,
-    ))
-}
-
-/// The same, where the value is found by the place.
-fn kept_by_place(store: &Store<u64>, serial: u32) -> Kept {
     let id = endpoint(serial);
     let place = store.place(id)?;
-    Some((*store.get_at(id, place)?, place))
+    let value = *store.get(id)?;
+    if *store.get_at(id, place)? == value {
+        Some((value, place))
+    } else {
+        None
+    }
 }
 
 /// Calls on the full store, the values and places of the first three objects after each, how many
@@ -117,24 +109,11 @@ fn objects_are_made_found_and_removed(rt: HostRuntime) -> Result<(), Fail> {
         assert!(rt; call.answers(&mut store), "the answer of call {i}");
         let told = (kept(&store, 1), kept(&store, 2), kept(&store, 3));
         assert!(rt; told == objects, "the objects after call {i}");
-        let told = (
-            kept_by_place(&store, 1),
-            kept_by_place(&store, 2),
-            kept_by_place(&store, 3),
-        );
-        assert!(rt;
-            told == objects,
-            "the objects by their places after call {i}"
-        );
         assert!(rt;
             (store.given(), store.len()) == counts,
             "the counts after call {i}"
         );
     }
-    let foreign = ObjId {
-        kind: Kind::Thread,
-        serial: 2,
-    };
-    assert!(rt; store.get(foreign).is_none());
+    assert!(rt; store.get(object(Kind::Thread, 2)).is_none());
     Ok(())
 }

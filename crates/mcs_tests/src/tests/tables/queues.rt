@@ -1,6 +1,7 @@
 //! Queues of threads.
 ghost use Rattle.std.specs.Prelude.{◌≡◌, ◌<◌};
 
+use super::names::next_number;
 use mcs_queues::{LineNo, Lines, LinkedLines, PlainLines, Steps, ThreadNo};
 use mcs_types::Prio;
 use std::marker::Brand;
@@ -14,12 +15,6 @@ const CALLS: u32 = 10_000;
 const THREADS: u16 = 256;
 
 const LINES: u16 = 768;
-
-/// The next of a fixed list of numbers.
-fn next_number(n: u64) -> u64 {
-    n.wrapping_mul(6_364_136_223_846_793_005)
-        .wrapping_add(1_442_695_040_888_963_407)
-}
 
 /// A call on lines.
 #[derive(Clone, Copy)]
@@ -78,19 +73,17 @@ fn has_same_threads<A: Lines, B: Lines>(a: &A, b: &B, line: LineNo) -> bool {
     false
 }
 
-/// Whether all lines have the same threads in the same order.
-fn have_same_threads<A: Lines, B: Lines>(a: &A, b: &B) -> bool {
+/// Whether both give the same answer to a call, and then have the same threads in all lines.
+fn agree<A: Lines, B: Lines>(a: &mut A, b: &mut B, call: Call) -> bool {
+    if call.on(a) != call.on(b) {
+        return false;
+    }
     for line in 0..LINES {
         if !has_same_threads(a, b, LineNo(line)) {
             return false;
         }
     }
     true
-}
-
-/// Whether both give the same answer to a call, and then have the same lines.
-fn agree<A: Lines, B: Lines>(a: &mut A, b: &mut B, call: Call) -> bool {
-    call.on(a) == call.on(b) && have_same_threads(a, b)
 }
 
 #[test]

@@ -1,30 +1,9 @@
 //! Slots of CNodes.
+use super::names::{object, slot};
+use super::rows::{done, row_of, word_of};
 use mcs_slots::{SlotId, Slots, Tallied};
 use mcs_types::{Badge, Cap, Guard, Kind, ObjId, Refusal, Rights};
 use std::test::Fail;
-
-fn object(kind: Kind, serial: u32) -> ObjId {
-    ObjId { kind, serial }
-}
-
-fn slot(cnode: u32, index: u8) -> SlotId {
-    SlotId {
-        cnode: object(Kind::CNode, cnode),
-        index,
-    }
-}
-
-/// The object, the bits of the rights and the badge of a capability.
-type Held = (ObjId, u8, u64);
-
-fn cap_to((obj, bits, badge): Held) -> Option<Cap> {
-    Some(Cap {
-        obj,
-        rights: Rights::new(bits)?,
-        badge: Badge(badge),
-        guard: Guard { bits: 0, value: 0 },
-    })
-}
 
 /// The last slot of the first CNode, which has 8, and both of the second.
 const A: SlotId = SlotId {
@@ -67,247 +46,128 @@ const REPLY: ObjId = ObjId {
     serial: 1,
 };
 
-/// A change of slots; rights are their bits.
-#[derive(Clone, Copy)]
-enum Call {
-    Put(SlotId, Held),
-    Empty(SlotId),
-    Take(SlotId, Held),
-    Copy(SlotId, SlotId, u8),
-    Mint(SlotId, SlotId, u8, u64),
-    Move(SlotId, SlotId),
-}
-
-/// Puts a capability into a slot that is there.
-fn put(slots: &mut Slots, at: SlotId, held: Held) -> Option<Result<(), Refusal>> {
-    let cap = cap_to(held)?;
-    if !slots.has_slot(at) {
-        return None;
-    }
-    slots.put(at, cap);
-    Some(Ok(()))
-}
-
-/// Empties a slot that is there.
-fn empty(slots: &mut Slots, at: SlotId) -> Option<Result<(), Refusal>> {
-    if !slots.has_slot(at) {
-        return None;
-    }
-    slots.set(at, None);
-    Some(Ok(()))
-}
-
-/// Takes this capability out of a slot that is there.
-fn take(slots: &mut Slots, at: SlotId, held: Held) -> Option<Result<(), Refusal>> {
-    if !slots.has_slot(at) || slots.take(at) != cap_to(held) {
-        return None;
-    }
-    Some(Ok(()))
-}
-
-/// Copies between slots that are there, and mints where a badge is given.
-fn copy(
-    slots: &mut Slots,
-    (source, dest): (SlotId, SlotId),
-    bits: u8,
-    badge: Option<u64>,
-) -> Option<Result<(), Refusal>> {
-    let mask = Rights::new(bits)?;
-    if !slots.has_slot(source) || !slots.has_slot(dest) {
-        return None;
-    }
-    Some(match badge {
-        None => slots.copy(source, dest, mask),
-        Some(badge) => slots.mint(source, dest, mask, Badge(badge)),
+/// A capability without a guard, by the serial of an endpoint, or 0 for a reply object; the bits of
+/// its rights, and its badge. None where it is none.
+fn cap_to(serial: u32, bits: u32, badge: u32) -> Option<Cap> {
+    let obj = match serial {
+        0 => REPLY,
+        1 => FIRST,
+        8193 => SECOND,
+        _ => return None,
+    };
+    Some(Cap {
+        obj,
+        rights: Rights::new(bits as u8)?,
+        badge: Badge(badge as u64),
+        guard: Guard { bits: 0, value: 0 },
     })
 }
 
-/// Moves between slots that are there.
-fn move_cap(slots: &mut Slots, source: SlotId, dest: SlotId) -> Option<Result<(), Refusal>> {
+/// The slot of this number.
+fn slot_of(number: u32) -> SlotId {
+    match number {
+        1 => A,
+        2 => B,
+        _ => C,
+    }
+}
+
+/// Copies with these rights, or mints with this badge, between slots that are there.
+fn copy(
+    slots: &mut Slots,
+    (source, dest): (SlotId, SlotId),
+    mints: bool,
+    (bits, badge): (u32, u32),
+) -> Result<bool, Refusal> {
+    let Some(mask) = Rights::new(bits as u8) else {
+        return Ok(false);
+    };
     if !slots.has_slot(source) || !slots.has_slot(dest) {
-        return None;
+        return Ok(false);
     }
-    Some(slots.move_cap(source, dest))
+    done(if mints {
+        slots.mint(source, dest, mask, Badge(badge as u64))
+    } else {
+        slots.copy(source, dest, mask)
+    })
 }
 
-impl Call {
-    /// What the call answers; None where a slot is not there.
-    fn on(self, slots: &mut Slots) -> Option<Result<(), Refusal>> {
-        match self {
-            Call::Put(at, held) => put(slots, at, held),
-            Call::Empty(at) => empty(slots, at),
-            Call::Take(at, held) => take(slots, at, held),
-            Call::Copy(source, dest, bits) => copy(slots, (source, dest), bits, None),
-            Call::Mint(source, dest, bits, badge) => {
-                copy(slots, (source, dest), bits, Some(badge))
-            }
-            Call::Move(source, dest) => move_cap(slots, source, dest),
+/// Whether a call is done, or what refuses it. Slots come first, then what is put or taken, or the
+/// bits of rights and a badge.
+fn on(slots: &mut Slots, call: &str, given: [u32; 12]) -> Result<bool, Refusal> {
+    let (at, dest) = (slot_of(given[0]), slot_of(given[1]));
+    let cap = cap_to(given[1], given[2], given[3]);
+    if !slots.has_slot(at) || !slots.has_slot(dest) {
+        return Ok(false);
+    }
+    match call {
+        "put" => {
+            let Some(cap) = cap else {
+                return Ok(false);
+            };
+            slots.put(at, cap);
+            Ok(true)
         }
+        "empty" => {
+            slots.set(at, None);
+            Ok(true)
+        }
+        "take" => Ok(slots.take(at) == cap),
+        "move" => done(slots.move_cap(at, dest)),
+        _ => copy(slots, (at, dest), call == "mint", (given[2], given[3])),
     }
 }
-
-/// Whether a slot holds this capability without a guard, or none.
-fn holds(slots: &Slots, at: SlotId, held: Option<Held>) -> bool {
-    match (slots.get(at), held) {
-        (Some(cap), Some(held)) => cap_to(held) == Some(cap),
-        (None, None) => true,
-        _ => false,
-    }
-}
-
-const DONE: Result<(), Refusal> = Ok(());
-
-/// What the three slots hold.
-type AllHeld = (Option<Held>, Option<Held>, Option<Held>);
 
 /// Calls, their answers, what then the three slots hold, and how many capabilities to the two
-/// endpoints there are.
-const CALLS: &[(Call, Result<(), Refusal>, AllHeld, [u32; 2])] = &[
-    (
-        Call::Copy(A, B, 2),
-        Err(Refusal::SlotEmpty),
-        (None, None, None),
-        [0, 0],
-    ),
-    (
-        Call::Put(A, (FIRST, 15, 0)),
-        DONE,
-        (Some((FIRST, 15, 0)), None, None),
-        [1, 0],
-    ),
-    (
-        Call::Copy(A, B, 2),
-        DONE,
-        (Some((FIRST, 15, 0)), Some((FIRST, 2, 0)), None),
-        [2, 0],
-    ),
-    (
-        Call::Mint(A, B, 2, 5),
-        Err(Refusal::SlotFull),
-        (Some((FIRST, 15, 0)), Some((FIRST, 2, 0)), None),
-        [2, 0],
-    ),
-    (
-        Call::Mint(A, C, 2, 5),
-        DONE,
-        (
-            Some((FIRST, 15, 0)),
-            Some((FIRST, 2, 0)),
-            Some((FIRST, 2, 5)),
-        ),
-        [3, 0],
-    ),
-    (
-        Call::Take(B, (FIRST, 2, 0)),
-        DONE,
-        (Some((FIRST, 15, 0)), None, Some((FIRST, 2, 5))),
-        [2, 0],
-    ),
-    (
-        Call::Mint(C, B, 15, 6),
-        Err(Refusal::BadgeNotAllowed),
-        (Some((FIRST, 15, 0)), None, Some((FIRST, 2, 5))),
-        [2, 0],
-    ),
-    (
-        Call::Move(A, B),
-        DONE,
-        (None, Some((FIRST, 15, 0)), Some((FIRST, 2, 5))),
-        [2, 0],
-    ),
-    (
-        Call::Empty(B),
-        DONE,
-        (None, None, Some((FIRST, 2, 5))),
-        [1, 0],
-    ),
-    (Call::Empty(C), DONE, (None, None, None), [0, 0]),
-    // A capability of another kind is not minted.
-    (
-        Call::Put(A, (REPLY, 0, 0)),
-        DONE,
-        (Some((REPLY, 0, 0)), None, None),
-        [0, 0],
-    ),
-    (
-        Call::Mint(A, B, 0, 1),
-        Err(Refusal::WrongKind),
-        (Some((REPLY, 0, 0)), None, None),
-        [0, 0],
-    ),
-    // The endpoints share a tally.
-    (
-        Call::Put(A, (FIRST, 15, 0)),
-        DONE,
-        (Some((FIRST, 15, 0)), None, None),
-        [1, 0],
-    ),
-    (
-        Call::Put(B, (SECOND, 15, 0)),
-        DONE,
-        (Some((FIRST, 15, 0)), Some((SECOND, 15, 0)), None),
-        [1, 1],
-    ),
-    (
-        Call::Copy(B, C, 15),
-        DONE,
-        (
-            Some((FIRST, 15, 0)),
-            Some((SECOND, 15, 0)),
-            Some((SECOND, 15, 0)),
-        ),
-        [1, 2],
-    ),
-    (
-        Call::Empty(A),
-        DONE,
-        (None, Some((SECOND, 15, 0)), Some((SECOND, 15, 0))),
-        [0, 2],
-    ),
-    (
-        Call::Empty(B),
-        DONE,
-        (None, None, Some((SECOND, 15, 0))),
-        [0, 1],
-    ),
-    (
-        Call::Put(C, (FIRST, 15, 0)),
-        DONE,
-        (None, None, Some((FIRST, 15, 0))),
-        [1, 0],
-    ),
-    (
-        Call::Put(A, (SECOND, 15, 7)),
-        DONE,
-        (Some((SECOND, 15, 7)), None, Some((FIRST, 15, 0))),
-        [1, 1],
-    ),
-    (
-        Call::Empty(C),
-        DONE,
-        (Some((SECOND, 15, 7)), None, None),
-        [0, 1],
-    ),
-    (Call::Empty(A), DONE, (None, None, None), [0, 0]),
-];
+/// endpoints there are. A capability of another kind is not minted, and the endpoints share a
+/// tally.
+const CALLS: &str = "\
+copy 1 2 2 = empty - - - - - - - - - 0 0
+put 1 1 15 0 = done 1 15 0 - - - - - - 1 0
+copy 1 2 2 = done 1 15 0 1 2 0 - - - 2 0
+mint 1 2 2 5 = full 1 15 0 1 2 0 - - - 2 0
+mint 1 3 2 5 = done 1 15 0 1 2 0 1 2 5 3 0
+take 2 1 2 0 = done 1 15 0 - - - 1 2 5 2 0
+mint 3 2 15 6 = badged 1 15 0 - - - 1 2 5 2 0
+move 1 2 = done - - - 1 15 0 1 2 5 2 0
+empty 2 = done - - - - - - 1 2 5 1 0
+empty 3 = done - - - - - - - - - 0 0
+put 1 0 0 0 = done 0 0 0 - - - - - - 0 0
+mint 1 2 0 1 = kind 0 0 0 - - - - - - 0 0
+put 1 1 15 0 = done 1 15 0 - - - - - - 1 0
+put 2 8193 15 0 = done 1 15 0 8193 15 0 - - - 1 1
+copy 2 3 15 = done 1 15 0 8193 15 0 8193 15 0 1 2
+empty 1 = done - - - 8193 15 0 8193 15 0 0 2
+empty 2 = done - - - - - - 8193 15 0 0 1
+put 3 1 15 0 = done - - - - - - 1 15 0 1 0
+put 1 8193 15 7 = done 8193 15 7 - - - 1 15 0 1 1
+empty 3 = done 8193 15 7 - - - - - - 0 1
+empty 1 = done - - - - - - - - - 0 0
+";
 
 /// Whether the three slots hold these, and there are so many capabilities to the two endpoints.
-fn are_as(slots: &Slots, (a, b, c): AllHeld, counts: [u32; 2]) -> bool {
-    holds(slots, A, a)
-        && holds(slots, B, b)
-        && holds(slots, C, c)
-        && [slots.count_of(FIRST), slots.count_of(SECOND)] == counts
+fn are_as(slots: &Slots, kept: [u32; 12]) -> bool {
+    slots.get(A) == cap_to(kept[0], kept[1], kept[2])
+        && slots.get(B) == cap_to(kept[3], kept[4], kept[5])
+        && slots.get(C) == cap_to(kept[6], kept[7], kept[8])
+        && [slots.count_of(FIRST), slots.count_of(SECOND)] == [kept[9], kept[10]]
+}
+
+/// Whether the call of a line has its answer, and the slots are as it says then.
+fn is_row(slots: &mut Slots, line: &str) -> bool {
+    match row_of(line) {
+        Some((call, given, answer, kept)) => {
+            word_of(on(slots, call, given)) == answer && are_as(slots, kept)
+        }
+        None => false,
+    }
 }
 
 #[test]
 fn calls_on_slots_answer(rt: HostRuntime) -> Result<(), Fail> {
     let mut slots = Slots::new(rt.alloc(), &[3, 1], Tallied::All)?;
-    for (i, &(call, answer, held, counts)) in CALLS.iter().enumerate() {
-        assert!(rt;
-            call.on(&mut slots) == Some(answer),
-            "the answer of call {i}"
-        );
-        assert!(rt; are_as(&slots, held, counts), "the slots after call {i}");
+    for line in CALLS.lines() {
+        assert!(rt; is_row(&mut slots, line), "{line}");
     }
     Ok(())
 }

@@ -1,7 +1,10 @@
-//! Readers and writers that interrupt and fail where a test says so.
-use mcs_sim::{SimFault, Sink, Source, simulate};
-use std::alloc::Global;
+//! Readers and writers that interrupt and fail where a test says so, and what scripts give from
+//! and to such.
+use mcs_sim::{Gate, SimFault, Sink, Source, run_text, simulate};
+use std::alloc::{AllocGlobal, Global};
 use std::io::{self, ErrorKind, Read, Write};
+use std::sync::Wait;
+use std::thread::Threads;
 
 /// Gives a text a piece at a time, then so many interruptions, then the end; where no read is left,
 /// it fails.
@@ -86,10 +89,48 @@ impl Write for Output {
 }
 
 /// What the replay of a script gives, from a reader to a writer.
-pub fn pipe(alloc: Global, input: Input<'_>, output: &mut Output) -> Result<(), SimFault> {
+pub fn pipe<F: Read + Drop>(alloc: Global, input: F, output: &mut Output) -> Result<(), SimFault> {
     simulate(
         alloc,
         &mut Source::new(input),
         &mut Sink::new(alloc, output).map_err(|_| SimFault::OutOfMemory)?,
     )
+}
+
+/// What a script gives, and the bytes that it writes.
+pub fn run(alloc: Global, script: &[u8]) -> (Result<(), SimFault>, Vec<u8>) {
+    let mut output = Output::new(alloc);
+    let result = pipe(alloc, Input::new(script), &mut output);
+    let Output { taken, .. } = output;
+    (result, taken)
+}
+
+/// What a run of users gives, from a reader to a writer, and how many writes failed.
+pub fn pipe_users<R: AllocGlobal + Threads + Wait + Sync, F: Read, T: Gate>(
+    rt: &R,
+    source: &mut Source<F>,
+    output: &mut Output,
+    cores: Option<u8>,
+    gate: &T,
+) -> (Result<(), SimFault>, u64) {
+    match Sink::new(rt.alloc(), output) {
+        Ok(mut sink) => {
+            let result = run_text(rt, source, &mut sink, cores, gate);
+            (result, sink.failed())
+        }
+        Err(_) => (Err(SimFault::OutOfMemory), 0),
+    }
+}
+
+/// What the users of a script give, and the bytes that are written.
+pub fn run_users<R: AllocGlobal + Threads + Wait + Sync, T: Gate>(
+    rt: &R,
+    script: &[u8],
+    cores: Option<u8>,
+    gate: &T,
+) -> (Result<(), SimFault>, Vec<u8>) {
+    let mut output = Output::new(rt.alloc());
+    let (result, _) = pipe_users(rt, &mut Source::new(script), &mut output, cores, gate);
+    let Output { taken, .. } = output;
+    (result, taken)
 }
