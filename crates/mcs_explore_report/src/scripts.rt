@@ -4,7 +4,7 @@ ghost use Rattle.mcs_turns.specs.Turns.{Going, beginning};
 ghost use Rattle.mcs_explore_search.specs.Paths.{Path};
 ghost use Rattle.mcs_explore_search.specs.Search.{listed, path_of};
 ghost use Rattle.mcs_explore_orders.specs.Trails.{Leads};
-ghost use Rattle.mcs_explore_report.specs.Scripts.{IsScriptOf};
+ghost use Rattle.mcs_explore_report.specs.Scripts.{WritesRun};
 
 use crate::judging::Sighting;
 use mcs_explore_orders::{Orders, OrdersFault, Turn, Walk, Watch, retrace};
@@ -12,6 +12,7 @@ use mcs_explore_script::{UserScript, write_steps};
 use mcs_lab_check::{LabFault, Names};
 use mcs_queues::PlainLines;
 use mcs_text::letter;
+use mcs_trace::Sink;
 use std::alloc::Global;
 use std::io::Write;
 
@@ -80,6 +81,21 @@ pub fn walk_by(
     }
 }
 
+/// Writes the boot of a script and the steps of the run that these turns lead to, each step with its
+/// answer.
+fn write_run<W: Write>(
+    alloc: Global,
+    sink: &mut Sink<W>,
+    script: &UserScript,
+    turns: &[Turn],
+) -> Result<(), LabFault>
+    ensures { OnOk result (WritesRun W.contents script.now.users script.now.boot turns.now
+        sink.old sink.new) }
+{
+    let walk = walk_by(alloc, script, turns)?;
+    write_steps(sink, walk.kernel().book())
+}
+
 /// Returns the script of these turns, which are made again from the boot, after a comment and the
 /// names.
 pub fn script_by(
@@ -87,13 +103,12 @@ pub fn script_by(
     script: &UserScript,
     comment: &[u8],
     turns: &[Turn],
-) -> Result<Vec<u8>, LabFault>
-    ensures { IfOk result (λ text.
-        IsScriptOf script.now.users script.now.boot turns.now text.items) }
-{
-    let walk = walk_by(alloc, script, turns)?;
+) -> Result<Vec<u8>, LabFault> {
     let mut text = Vec::from_slice(alloc, comment)?;
     put_names(&mut text, &script.names)?;
-    write_steps(alloc, &mut text, walk.kernel().book())?;
+    {
+        let mut sink = Sink::new(alloc, &mut text)?;
+        write_run(alloc, &mut sink, script, turns)?;
+    }
     Ok(text)
 }

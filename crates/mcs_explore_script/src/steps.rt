@@ -1,14 +1,14 @@
 //! The steps of a book, as a script.
-ghost use Rattle.std.specs.Prelude.{◌≡◌, ◌++◌, OnOk, reverse};
+ghost use Rattle.std.specs.Prelude.{OnOk, reverse};
 ghost use Rattle.std.specs.List.{flat_map};
 ghost use Rattle.mcs_trace.specs.Output.{Puts};
+ghost use Rattle.mcs_sim.specs.Runs.{Writes};
 ghost use Rattle.mcs_explore_script.specs.Steps.{script_text, step_lines};
 
 use mcs_book::{Book, Line};
 use mcs_lab_check::LabFault;
 use mcs_sim::put_boot;
 use mcs_trace::{Sink, put_cores, put_kept_answer, put_kept_step};
-use std::alloc::Global;
 use std::io::Write;
 
 /// Writes the step of a line of the book, and its answer.
@@ -42,13 +42,13 @@ fn put_script<W: Write>(sink: &mut Sink<W>, book: &Book)
     put_lines(sink, book);
 }
 
-/// Adds the boot and the steps of a book to a text, each with its answer. OutOfMemory where memory
-/// was refused; then a part of them is added.
-pub fn write_steps(alloc: Global, text: &mut Vec<u8>, book: &Book) -> Result<(), LabFault>
-    ensures { OnOk result (text.new.items ≡ text.old.items ++ script_text book.now.book) }
+/// Writes the boot and the steps of a book to a sink, each step with its answer. What the sink kept
+/// back is dropped first. OutOfMemory where the writer failed; then a part of them is written.
+pub fn write_steps<W: Write>(sink: &mut Sink<W>, book: &Book) -> Result<(), LabFault>
+    ensures { OnOk result (Writes W.contents sink.old sink.new (script_text book.now.book)) }
 {
-    let mut sink = Sink::new(alloc, text)?;
-    put_script(&mut sink, book);
+    sink.start();
+    put_script(sink, book);
     sink.flush();
     if sink.is_broken() {
         return Err(LabFault::OutOfMemory);

@@ -1,5 +1,5 @@
 //! The bytes of a script, and what they say.
-ghost use Rattle.std.specs.Prelude.{◌≡◌, ◌++◌, Err, IfErr, IfOk, None, OnErr, OnOk};
+ghost use Rattle.std.specs.Prelude.{◌≡◌, ◌++◌, IfErr, IfOk, None, OnOk};
 ghost use Rattle.mcs_explore_script.specs.Texts.{IsText};
 ghost use Rattle.mcs_sim.specs.Running.{EndsUsers};
 
@@ -22,7 +22,7 @@ pub struct UsersText {
 /// Adds a piece to a text. OutOfMemory where memory was refused.
 fn keep(text: &mut Vec<u8>, piece: &[u8]) -> Result<(), SimFault>
     ensures kept { OnOk result (text.new.items ≡ text.old.items ++ piece.now) }
-    ensures fault { OnErr result (result ≡ Err SimFault.OutOfMemory) }
+    ensures fault { IfErr result (λ e. e ≡ SimFault.OutOfMemory) }
 {
     match text.extend_from_slice(piece) {
         Ok(()) => Ok(()),
