@@ -76,7 +76,7 @@ returns-in_err-feed-clause-err g c =
     let left' = g.R.Read.remaining c.read_piece.new.self.reader in
     let count : length (take n p) ≡ n = length-take-le n p c.in-Ok-read_piece.ensures.ok in
     let read = Consumes-trans _ _ _ _ _ i.read c.in-Ok-read_piece.ensures.bytes in
-    IfErr-same _ _ _ c.from_residual.ensures.1
+    IfErr-same _ _ _ c.from_residual-in_err-feed.ensures.1
     (ends-in c.in_err-feed.field-0.0 None left left' c.loop-n.text.items (take n p) c.loop-n.users i.takes i.kept (omega (arith, count, c.in-Ok-read_piece.ensures.ok, c.read_piece.auto.piece)) read c.in_err-feed.ensures.err)
 
 pub returns-in_err-keep-clause-err : goal.returns-in_err-keep-clause-err
@@ -88,6 +88,6 @@ returns-in_err-keep-clause-err g c =
     let left' = g.R.Read.remaining c.read_piece.new.self.reader in
     let count : length (take n p) ≡ n = length-take-le n p c.in-Ok-read_piece.ensures.ok in
     let read = Consumes-trans _ _ _ _ _ i.read c.in-Ok-read_piece.ensures.bytes in
-    IfErr-same _ _ _ c.from_residual.ensures.1
+    IfErr-same _ _ _ c.from_residual-in_err-keep.ensures.1
     (subst (λ (e : SimFault). EndsUsers e None left left') (sym c.in_err-keep.ensures.fault)
     (ends-in fault.OutOfMemory None left left' c.loop-n.text.items (take n p) c.loop-n.users i.takes i.kept (omega (arith, count, c.in-Ok-read_piece.ensures.ok, c.read_piece.auto.piece)) read tt))
