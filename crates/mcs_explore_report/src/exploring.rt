@@ -28,7 +28,7 @@ pub struct Wanted {
     pub is_exact: bool,
 }
 
-/// The numbers of entries are in their ranges.
+/// Shows that the numbers of entries are in their ranges.
 fn entries_are_in_range(entries: &[Entry])
     ensures { (j : ℕ) (e : Entry) → slice_get entries.now j ≡ Some e → InRange e }
 {
@@ -39,7 +39,7 @@ fn entries_are_in_range(entries: &[Entry])
     }
 }
 
-/// The numbers of all entries of users are in their ranges.
+/// Shows that the numbers of all entries of users are in their ranges.
 fn are_in_range(users: &Users)
     ensures { AreInRange users.now }
 {

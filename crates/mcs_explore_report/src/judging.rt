@@ -270,7 +270,7 @@ fn fails(
     }
 }
 
-/// Where a question failed first, with one look more.
+/// Returns where a question failed first, with one look more.
 fn judged(
     text: &mut Line,
     users: &Users,

@@ -97,7 +97,7 @@ fn put_answer(text: &mut Vec<u8>, line: &mut Line, answer: &Answer) -> Result<()
     }
 }
 
-/// The text of an answer, as a trace has it, which is spelled in this line.
+/// Returns the text of an answer, as a trace has it. It is spelled in this line.
 pub fn text_of(alloc: Global, line: &mut Line, answer: &Answer) -> Result<Vec<u8>, LabFault>
     ensures { IfOk result (λ text. text.items ≡ said answer.now) }
 {

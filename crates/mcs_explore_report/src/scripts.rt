@@ -81,7 +81,7 @@ pub fn walk_by(
     }
 }
 
-/// Writes the boot of a script and the steps of the run that these turns lead to, each step with its
+/// Writes the boot of a script and the steps of the run to which these turns lead, each with its
 /// answer.
 fn write_run<W: Write>(
     alloc: Global,

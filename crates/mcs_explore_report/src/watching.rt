@@ -17,7 +17,7 @@ use std::alloc::Global;
 
 /// To whom it is reported how far a search is.
 pub trait Progress: Drop {
-    /// One more state is expanded: so many were before it, and so many turns lead to it.
+    /// Hears that one more state is expanded: so many were before it, and so many turns lead to it.
     fn looked(&mut self, before: usize, depth: usize);
 }
 

@@ -88,7 +88,7 @@ impl Write for Output {
     }
 }
 
-/// What the replay of a script gives, from a reader to a writer.
+/// Returns what the replay of a script gives, from a reader to a writer.
 pub fn pipe<F: Read + Drop>(alloc: Global, input: F, output: &mut Output) -> Result<(), SimFault> {
     simulate(
         alloc,
@@ -105,7 +105,7 @@ pub fn run(alloc: Global, script: &[u8]) -> (Result<(), SimFault>, Vec<u8>) {
     (result, taken)
 }
 
-/// What a run of users gives, from a reader to a writer, and how many writes failed.
+/// Returns what a run of users gives, from a reader to a writer, and how many writes failed.
 pub fn pipe_users<R: AllocGlobal + Threads + Wait + Sync, F: Read, T: Gate>(
     rt: &R,
     source: &mut Source<F>,

@@ -426,7 +426,7 @@ cores 2
 + slot t4294967295 255 r4294967292
 ";
 
-/// The text of a book of a line for each entry.
+/// Returns the text of a book of a line for each entry.
 fn first_text(alloc: Global, book: &mut Book) -> Result<Vec<u8>, Fail> {
     let run = replay_of(alloc, ENTRIES)?;
     match run.book() {

@@ -32,7 +32,7 @@ const CAP: u64 = 1;
 
 const OWN: u64 = 8;
 
-/// Whether the receive of a thread is refused, or why it is turned away.
+/// Returns whether the receive of a thread is refused, or why it is turned away.
 fn is_refused<L: Lines>(
     alloc: Global,
     kernel: &mut Kernel<L>,

@@ -40,7 +40,7 @@ fn away_of<G: Ledger>(seats: &[CoreSeat<G>]) -> Away {
     (count, last)
 }
 
-/// The seats of a machine, which are given once.
+/// Returns the seats of a machine, which are given once.
 fn seats_of<G: Ledger, L: Lines, R: Wait>(
     rt: &R,
     alloc: Global,

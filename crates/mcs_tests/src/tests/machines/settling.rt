@@ -75,7 +75,8 @@ fn enter_steps<G: Ledger, L: Lines, R: Wait>(
     Ok(())
 }
 
-/// The seats with which a machine is finished, of which the first has entered the steps of a book.
+/// Returns the seats with which a machine is finished, of which the first has entered the steps of
+/// a book.
 fn seats_for<G: Ledger, L: Lines, R: Wait>(
     rt: &R,
     alloc: Global,

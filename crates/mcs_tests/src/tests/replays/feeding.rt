@@ -21,7 +21,7 @@ const LONG: &[Fed] = &[
     (b"x", 0, Some((1, LineFault::LongLine))),
 ];
 
-/// Whether a piece is taken so often and then ends the script so, and no book is begun.
+/// Returns whether a piece is taken so often and then ends the script so, and no book is begun.
 fn is_fed(alloc: Global, run: &mut ReplayRun, (piece, count, fault): Fed) -> bool {
     for _ in 0..count {
         if run.feed(alloc, piece).is_err() {

@@ -30,7 +30,7 @@ fn cut_fault(number: u64, beginning: &str) -> Option<LineFault> {
     }
 }
 
-/// What a script gives that is cut after so many bytes.
+/// Returns what a script gives that is cut after so many bytes.
 fn cut(script: &str, end: usize) -> Result<(), SimFault> {
     let mut line: u64 = 1;
     let mut start: usize = 0;

@@ -102,7 +102,8 @@ impl Plain {
         is_there && !self.owes(debt.reply) && self.debts.push(debt).is_ok()
     }
 
-    /// What a debt leaves that was in the chain of this context, of which so many debts are older.
+    /// Returns what a debt leaves that was in the chain of this context, of which so many debts are
+    /// older.
     fn leave(&mut self, context: ObjId, older: usize, how: Ending) -> Option<ObjId> {
         let middle = older.min(self.debts.len());
         let (below, above) = self.debts.split_at_mut(middle);
@@ -176,7 +177,7 @@ impl Plain {
     }
 }
 
-/// A new reply object comes in the place of one that owes nobody, where there is room. Whether the
+/// Puts a new reply object in the place of one that owes nobody, where there is room. Whether the
 /// links and the list say the same of what it owes.
 fn renew(replies: &mut Replies, plain: &mut Plain, number: usize) -> bool {
     let reply = plain.reply(number);
@@ -194,7 +195,7 @@ fn renew(replies: &mut Replies, plain: &mut Plain, number: usize) -> bool {
 }
 
 impl Call {
-    /// Whether the links and the list give it the same answer.
+    /// Returns whether the links and the list give it the same answer.
     fn is_same(self, replies: &mut Replies, plain: &mut Plain) -> bool {
         match self {
             Call::Owe(debt) => {

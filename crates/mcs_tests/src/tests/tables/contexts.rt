@@ -44,7 +44,7 @@ fn give_context(contexts: &mut Contexts, id: ObjId, serial: u32) -> bool {
     true
 }
 
-/// Whether a call is done, or what refuses it.
+/// Returns whether a call is done, or what refuses it.
 fn on(contexts: &mut Contexts, call: &str, one: u32, two: u32) -> Result<bool, Refusal> {
     match call {
         "add" => Ok(add_context(contexts, one as u8, two)),
@@ -121,7 +121,7 @@ close 2 = done - - - - - -
 unbind 2 = free - - - - - -
 ";
 
-/// Whether the call of a line has its answer, and this is kept then.
+/// Returns whether the call of a line has its answer, and this is kept then.
 fn is_row(contexts: &mut Contexts, line: &str) -> bool {
     let Some((call, given, answer, kept)) = row_of(line) else {
         return false;

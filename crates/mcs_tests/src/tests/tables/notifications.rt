@@ -41,7 +41,7 @@ fn word_of(number: u32) -> Option<u64> {
     }
 }
 
-/// Whether a call is done, and as its numbers say.
+/// Returns whether a call is done, and as its numbers say.
 fn is_done(notifications: &mut Notifications, call: &str, id: ObjId, number: u32) -> bool {
     match call {
         "add" => !notifications.rows().is_full() && notifications.add() == id,
@@ -89,7 +89,7 @@ close 2 = done - - - - - -
 add 3 = done - - - - - -
 ";
 
-/// Whether the call of a line is done or not, and this is kept then.
+/// Returns whether the call of a line is done or not, and this is kept then.
 fn is_row(notifications: &mut Notifications, line: &str) -> bool {
     let Some((call, given, answer, kept)) = row_of(line) else {
         return false;

@@ -48,7 +48,7 @@ fn write(store: &mut Store<u64>, serial: u32, value: u64) -> bool {
 }
 
 impl Call {
-    /// Whether the call answers as it says.
+    /// Returns whether the call answers as it says.
     fn answers(self, store: &mut Store<u64>) -> bool {
         match self {
             Call::Make(value, made) => make(store, value, made),

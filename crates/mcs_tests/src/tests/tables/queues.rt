@@ -45,7 +45,7 @@ impl Call {
         }
     }
 
-    /// Whether it changed something, and the line that is answered.
+    /// Returns whether it changed something, and the line that is answered.
     fn on<L: Lines>(self, lines: &mut L) -> (bool, Option<LineNo>) {
         match self {
             Call::Join(t, q, p) => (lines.join(t, q, p), None),
@@ -73,7 +73,8 @@ fn has_same_threads<A: Lines, B: Lines>(a: &A, b: &B, line: LineNo) -> bool {
     false
 }
 
-/// Whether both give the same answer to a call, and then have the same threads in all lines.
+/// Returns whether both give the same answer to a call, and then have the same threads in all
+/// lines.
 fn agree<A: Lines, B: Lines>(a: &mut A, b: &mut B, call: Call) -> bool {
     if call.on(a) != call.on(b) {
         return false;
@@ -145,8 +146,8 @@ fn plain_lines_answer(rt: HostRuntime) -> Result<(), Fail> {
     Ok(())
 }
 
-/// Whether two threads join a line, and the first goes behind the second, with visits that are
-/// counted.
+/// Returns whether two threads join a line, and the first goes behind the second, with visits that
+/// are counted.
 fn move_counted<G: Ledger>(lines: &mut LinkedLines, blank: Blank) -> bool
     requires name { blank.name ≡ G.name }
     requires parts { blank.parts ≡ G.parts }

@@ -35,7 +35,7 @@ fn close(replies: &mut Replies, id: ObjId) -> bool {
     true
 }
 
-/// Whether a call is done, and as its numbers say.
+/// Returns whether a call is done, and as its numbers say.
 fn is_done(replies: &mut Replies, call: &str, serial: u32, given: (u32, u32)) -> bool {
     let (id, (one, two)) = (reply(serial), given);
     match call {
@@ -103,7 +103,7 @@ stand 2 - = done 1 - 3
 close 2 = done 1 - 3
 ";
 
-/// Whether the call of a line is done or not, and this is kept then.
+/// Returns whether the call of a line is done or not, and this is kept then.
 fn is_row(replies: &mut Replies, line: &str) -> bool {
     match row_of(line) {
         Some((call, given, answer, kept)) => {

@@ -92,8 +92,8 @@ fn copy(
     })
 }
 
-/// Whether a call is done, or what refuses it. Slots come first, then what is put or taken, or the
-/// bits of rights and a badge.
+/// Returns whether a call is done, or what refuses it. Slots come first, then what is put or taken,
+/// or the bits of rights and a badge.
 fn on(slots: &mut Slots, call: &str, given: [u32; 12]) -> Result<bool, Refusal> {
     let (at, dest) = (slot_of(given[0]), slot_of(given[1]));
     let cap = cap_to(given[1], given[2], given[3]);
@@ -153,7 +153,7 @@ fn are_as(slots: &Slots, kept: [u32; 12]) -> bool {
         && [slots.count_of(FIRST), slots.count_of(SECOND)] == [kept[9], kept[10]]
 }
 
-/// Whether the call of a line has its answer, and the slots are as it says then.
+/// Returns whether the call of a line has its answer, and the slots are as it says then.
 fn is_row(slots: &mut Slots, line: &str) -> bool {
     match row_of(line) {
         Some((call, given, answer, kept)) => {

@@ -34,7 +34,7 @@ const RECEIVES: Block = Block::Queued {
 
 const CALLS: Block = Block::OnReply { reply: OWN };
 
-/// Whether a thread is there, and so is changed.
+/// Returns whether a thread is there, and so is changed.
 fn is_done(threads: &mut Threads, call: &str, id: ObjId, number: u32) -> bool {
     let done = match call {
         "run" => threads.set_mode(id, Mode::Running),
@@ -108,7 +108,7 @@ close 1 = not - - - 0 2 -
 untie 1 = not - - - 0 2 -
 ";
 
-/// Whether the change of a line is done or not, and this is kept then.
+/// Returns whether the change of a line is done or not, and this is kept then.
 fn is_changed(threads: &mut Threads, line: &str) -> bool {
     let Some((call, given, answer, kept)) = row_of(line) else {
         return false;
@@ -118,7 +118,7 @@ fn is_changed(threads: &mut Threads, line: &str) -> bool {
         && is_kept(threads, 2, [kept[3], kept[4], kept[5]])
 }
 
-/// Whether a thread keeps a message that reaches it, until it is closed.
+/// Returns whether a thread keeps a message that reaches it, until it is closed.
 fn keeps_mail(alloc: Global, threads: &mut Threads, id: ObjId) -> Result<bool, Fail> {
     let message = Message::new(alloc, 7, &[5, 6])?.ok_or("too many words")?;
     let badge = Badge(3);
