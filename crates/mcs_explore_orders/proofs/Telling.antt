@@ -24,8 +24,8 @@ use Rattle.mcs_explore_orders.proofs.Paths.{path-one, take-on}
 
 -- what is said of a state: it is over, or a turn is possible
 pub over-is : (users : List User) (g : Going) (over : Bool) → (over ≡ true → IsOver users g) → (over ≡ false → (h : Going) × Follows users g h) → (over ≡ true) ↔ IsOver users g
-over-is users g true yes no = (yes, λ over. refl)
-over-is users g false yes no = (yes, λ over. let f = no refl in absurd (over f.0 f.1))
+over-is users g true ends goes = (ends, λ over. refl)
+over-is users g false ends goes = (ends, λ over. let f = goes refl in absurd (over f.0 f.1))
 
 -- places in two lists, one after the other
 at-both : {A : Type 0} (xs ys : List A) (j : ℕ) (m : A) → slice_get (xs ++ ys) j ≡ Some m → (slice_get xs j ≡ Some m) ⊎ ((k : ℕ) × (slice_get ys k ≡ Some m))
@@ -300,8 +300,8 @@ none-counted Has w users has = record { has = has; counted = record { turns = re
 -- a state that was reported, and a turn
 pub state-told : {W E : Type 0} (r : Result (Unit {0}) E) (Has : W → List User → Shown → Type 0) (a b : W) (users : List User) (place : ℕ) (g : Going) (over : Bool)
     → (over ≡ true → IsOver users g) → (over ≡ false → (h : Going) × Follows users g h) → OnOk r (SeesState Has a b users place g over) → OnOk r (IsToldState Has a b users place g)
-state-told (Ok x) Has a b users place g over yes no sees = record { is_over = over; over = over-is users g over yes no; sees = sees }
-state-told (Err e) Has a b users place g over yes no sees = sees
+state-told (Ok x) Has a b users place g over ends goes sees = record { is_over = over; over = over-is users g over ends goes; sees = sees }
+state-told (Err e) Has a b users place g over ends goes sees = sees
 
 pub turn-told : {W : Type 0} (Has : W → List User → Shown → Type 0) (a b : W) (users : List User) (place : ℕ) (t : Turn) (g h : Going) (answer : Answer)
     → Leads users t g h → last_answer h.book ≡ Some answer → SeesTurn Has a b users place t answer h → IsToldTurn Has a b users place t g

@@ -20,7 +20,7 @@ pub record IsFoundRun {K : Type 0} (users : List User) (boot : Boot) (found : En
 -- entries are in their ranges after a boot without fault
 pub record IsAllExpanded {K : Type 0} (is_exact : Bool) (users : List User) (boot : Boot) (done : ℕ) (found : Entries K Turn) : Type 0 where
   pub exact : is_exact ≡ true
-  pub boot : IsFaultless boot
+  pub faultless : IsFaultless boot
   pub in_range : AreInRange users
   pub all : length found ≤ done
 

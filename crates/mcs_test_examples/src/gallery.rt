@@ -45,6 +45,11 @@ const PICTURES: &[(&str, &str, Format)] = &[
     ("gallery/deadlock.mcs", "gallery/deadlock.svg", Format::Svg),
     ("gallery/started.mcs", "gallery/started.svg", Format::Svg),
     (
+        "explore/disk-log-end.mcs",
+        "explore/disk-log.svg",
+        Format::Svg,
+    ),
+    (
         "gallery/nested-calls.mcs",
         "gallery/nested-calls.mmd",
         Format::Mermaid,

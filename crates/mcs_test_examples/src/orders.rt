@@ -27,6 +27,7 @@ const SCRIPTS: &[&str] = &[
     "explore/made.mcs",
     "explore/made-waits.mcs",
     "explore/part.mcs",
+    "explore/disk-log.mcs",
 ];
 
 /// Those that are explored once more with exact keys.

@@ -25,6 +25,7 @@ const PLANS: &[&str] = &[
     "gallery/deadlock",
     "gallery/started",
     "plans/two-threads",
+    "explore/disk-log",
 ];
 
 /// What a file holds.

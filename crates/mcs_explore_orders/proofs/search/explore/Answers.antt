@@ -20,7 +20,7 @@ returns-clause-whole g c = λ all.
     let e = c.in_ok-explorer.explorer.search in
     let is = c.in_ok-explorer.ensures in
     let found = c.in_ok-search.search.map.entries in
-    let told : IsTold e = record { exact = is.exact ∙ all.exact; boot = subst IsFaultless (sym is.boot) all.boot; in_range = subst AreInRange (sym is.users) all.in_range } in
+    let told : IsTold e = record { exact = is.exact ∙ all.exact; boot = subst IsFaultless (sym is.boot) all.faultless; in_range = subst AreInRange (sym is.users) all.in_range } in
     subst (λ n. AreAllSeen n c.args.users.now c.args.boot.now found) is.numbered (subst (λ us. AreAllSeen e.keys.numbered us c.args.boot.now found) is.users (subst (λ b. AreAllSeen e.keys.numbered e.users b found) is.boot
     (all-seen e _ found told (likeness e.keys.numbered e.users e.boot told.boot told.in_range) (c.in_ok-search.ensures.whole all.all))))
 
@@ -34,7 +34,7 @@ returns-clause-graph g c = λ all.
     let is = c.in_ok-explorer.ensures in
     let found = c.in_ok-search.search.map.entries in
     let edges = c.in_ok-search.search.edges.items in
-    let told : IsTold e = record { exact = is.exact ∙ all.exact; boot = subst IsFaultless (sym is.boot) all.boot; in_range = subst AreInRange (sym is.users) all.in_range } in
+    let told : IsTold e = record { exact = is.exact ∙ all.exact; boot = subst IsFaultless (sym is.boot) all.faultless; in_range = subst AreInRange (sym is.users) all.in_range } in
     subst (λ n. IsGraphOfRuns n c.args.users.now c.args.boot.now found edges) is.numbered (subst (λ us. IsGraphOfRuns e.keys.numbered us c.args.boot.now found edges) is.users (subst (λ b. IsGraphOfRuns e.keys.numbered e.users b found edges) is.boot
     (graph-of e _ found c.in_ok-search.search.done edges told (likeness e.keys.numbered e.users e.boot told.boot told.in_range) all.all c.in_ok-search.ensures.graph)))
 

@@ -20,7 +20,7 @@ returns-clause-whole g c = λ is.
     let mode = c.mode_of-mode.ensures ∙ is.mode in
     let exact = c.is_proved.ensures ∙ mode-proved c.mode_of-mode.result is.numbered mode in
     let numbered = c.are_numbered.ensures ∙ mode-numbered c.mode_of-mode.result is.numbered mode in
-    let seen = subst (λ (b : Bool). AreAllSeen b c.args.users.now c.args.boot.now c.in-Ok.orders.search.map.entries) numbered (c.in-Ok.ensures.whole (record { exact = exact; boot = c.is_faultless.ensures; in_range = c.are_in_range.ensures; all = is.all })) in
+    let seen = subst (λ (b : Bool). AreAllSeen b c.args.users.now c.args.boot.now c.in-Ok.orders.search.map.entries) numbered (c.in-Ok.ensures.whole (record { exact = exact; faultless = c.is_faultless.ensures; in_range = c.are_in_range.ensures; all = is.all })) in
     seen
 
 pub returns-clause-ends : goal.returns-clause-ends
@@ -52,7 +52,7 @@ returns-clause-run_ends g c = λ is.
     let mode = c.mode_of-mode.ensures ∙ is.mode in
     let exact = c.is_proved.ensures ∙ mode-proved c.mode_of-mode.result is.numbered mode in
     let numbered = c.are_numbered.ensures ∙ mode-numbered c.mode_of-mode.result is.numbered mode in
-    let seen = subst (λ (b : Bool). AreAllSeen b c.args.users.now c.args.boot.now c.in-Ok.orders.search.map.entries) numbered (c.in-Ok.ensures.whole (record { exact = exact; boot = c.is_faultless.ensures; in_range = c.are_in_range.ensures; all = is.all })) in
+    let seen = subst (λ (b : Bool). AreAllSeen b c.args.users.now c.args.boot.now c.in-Ok.orders.search.map.entries) numbered (c.in-Ok.ensures.whole (record { exact = exact; faultless = c.is_faultless.ensures; in_range = c.are_in_range.ensures; all = is.all })) in
     let w = c.in_ok-watched.watched in
     let o = c.in-Ok.orders in
     let kept = begun c.args.users.now w.asked.now w.lives.lives w.ends w.answers w.failed.items w.lives.notes c.in_ok-watched.ensures.ends c.in_ok-watched.ensures.answers c.in_ok-watched.ensures.failed c.in_ok-watched.ensures.notes in
@@ -64,7 +64,7 @@ returns-clause-run_answers g c = λ is.
     let mode = c.mode_of-mode.ensures ∙ is.mode in
     let exact = c.is_proved.ensures ∙ mode-proved c.mode_of-mode.result is.numbered mode in
     let numbered = c.are_numbered.ensures ∙ mode-numbered c.mode_of-mode.result is.numbered mode in
-    let seen = subst (λ (b : Bool). AreAllSeen b c.args.users.now c.args.boot.now c.in-Ok.orders.search.map.entries) numbered (c.in-Ok.ensures.whole (record { exact = exact; boot = c.is_faultless.ensures; in_range = c.are_in_range.ensures; all = is.all })) in
+    let seen = subst (λ (b : Bool). AreAllSeen b c.args.users.now c.args.boot.now c.in-Ok.orders.search.map.entries) numbered (c.in-Ok.ensures.whole (record { exact = exact; faultless = c.is_faultless.ensures; in_range = c.are_in_range.ensures; all = is.all })) in
     let w = c.in_ok-watched.watched in
     let o = c.in-Ok.orders in
     let kept = begun c.args.users.now w.asked.now w.lives.lives w.ends w.answers w.failed.items w.lives.notes c.in_ok-watched.ensures.ends c.in_ok-watched.ensures.answers c.in_ok-watched.ensures.failed c.in_ok-watched.ensures.notes in
@@ -85,7 +85,7 @@ returns-clause-held g c = λ is.
     let mode = c.mode_of-mode.ensures ∙ is.mode in
     let exact = c.is_proved.ensures ∙ mode-proved c.mode_of-mode.result is.numbered mode in
     let numbered = c.are_numbered.ensures ∙ mode-numbered c.mode_of-mode.result is.numbered mode in
-    let seen = subst (λ (b : Bool). AreAllSeen b c.args.users.now c.args.boot.now c.in-Ok.orders.search.map.entries) numbered (c.in-Ok.ensures.whole (record { exact = exact; boot = c.is_faultless.ensures; in_range = c.are_in_range.ensures; all = is.all })) in
+    let seen = subst (λ (b : Bool). AreAllSeen b c.args.users.now c.args.boot.now c.in-Ok.orders.search.map.entries) numbered (c.in-Ok.ensures.whole (record { exact = exact; faultless = c.is_faultless.ensures; in_range = c.are_in_range.ensures; all = is.all })) in
     let w = c.in_ok-watched.watched in
     let o = c.in-Ok.orders in
     let kept = begun c.args.users.now w.asked.now w.lives.lives w.ends w.answers w.failed.items w.lives.notes c.in_ok-watched.ensures.ends c.in_ok-watched.ensures.answers c.in_ok-watched.ensures.failed c.in_ok-watched.ensures.notes in
@@ -116,7 +116,7 @@ returns-clause-shortest g c = λ is.
     let mode = c.mode_of-mode.ensures ∙ is.mode in
     let exact = c.is_proved.ensures ∙ mode-proved c.mode_of-mode.result is.numbered mode in
     let numbered = c.are_numbered.ensures ∙ mode-numbered c.mode_of-mode.result is.numbered mode in
-    let seen = subst (λ (b : Bool). AreAllSeen b c.args.users.now c.args.boot.now c.in-Ok.orders.search.map.entries) numbered (c.in-Ok.ensures.whole (record { exact = exact; boot = c.is_faultless.ensures; in_range = c.are_in_range.ensures; all = is.all })) in
+    let seen = subst (λ (b : Bool). AreAllSeen b c.args.users.now c.args.boot.now c.in-Ok.orders.search.map.entries) numbered (c.in-Ok.ensures.whole (record { exact = exact; faultless = c.is_faultless.ensures; in_range = c.are_in_range.ensures; all = is.all })) in
     let w = c.in_ok-watched.watched in
     let o = c.in-Ok.orders in
     let kept = begun c.args.users.now w.asked.now w.lives.lives w.ends w.answers w.failed.items w.lives.notes c.in_ok-watched.ensures.ends c.in_ok-watched.ensures.answers c.in_ok-watched.ensures.failed c.in_ok-watched.ensures.notes in
@@ -133,8 +133,8 @@ returns-clause-decided g c = λ is.
     let numbered = c.are_numbered.ensures ∙ mode-numbered c.mode_of-mode.result is.numbered mode in
     let w = c.in_ok-watched.watched in
     let o = c.in-Ok.orders in
-    let seen = subst (λ (b : Bool). AreAllSeen b c.args.users.now c.args.boot.now o.search.map.entries) numbered (c.in-Ok.ensures.whole (record { exact = exact; boot = c.is_faultless.ensures; in_range = c.are_in_range.ensures; all = is.all })) in
-    let graph = subst (λ (b : Bool). IsGraphOfRuns b c.args.users.now c.args.boot.now o.search.map.entries o.search.edges.items) numbered (c.in-Ok.ensures.graph (record { exact = exact; boot = c.is_faultless.ensures; in_range = c.are_in_range.ensures; all = is.all })) in
+    let seen = subst (λ (b : Bool). AreAllSeen b c.args.users.now c.args.boot.now o.search.map.entries) numbered (c.in-Ok.ensures.whole (record { exact = exact; faultless = c.is_faultless.ensures; in_range = c.are_in_range.ensures; all = is.all })) in
+    let graph = subst (λ (b : Bool). IsGraphOfRuns b c.args.users.now c.args.boot.now o.search.map.entries o.search.edges.items) numbered (c.in-Ok.ensures.graph (record { exact = exact; faultless = c.is_faultless.ensures; in_range = c.are_in_range.ensures; all = is.all })) in
     let kept = begun c.args.users.now w.asked.now w.lives.lives w.ends w.answers w.failed.items w.lives.notes c.in_ok-watched.ensures.ends c.in_ok-watched.ensures.answers c.in_ok-watched.ensures.failed c.in_ok-watched.ensures.notes in
     let shown = c.in-Ok.ensures.shown kept in
     let same = ap (λ (a : Aims). a.lives) c.in-Ok.ensures.aim ∙ c.in_ok-watched.ensures.lives in

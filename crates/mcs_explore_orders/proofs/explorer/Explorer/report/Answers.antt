@@ -1,9 +1,14 @@
 use Rattle.std.specs.Prelude.{◌≡◌, ◌+◌, ◌-◌, ◌^◌, min}
 use Rattle.std.specs.Int.{from_bool}
-use Rattle.std.proofs.Common.{arith, refl}
+use Rattle.std.proofs.Common.{arith, refl, subst, sym}
+use Rattle.mcs_explore_walk.specs.Walks.{HasEachTurn}
 use Rattle.mcs_explore_orders.specs.Shown.{HasCounted}
+use Rattle.mcs_explore_orders.specs.Watching.{Watching}
 use Rattle.mcs_explore_orders.proofs.Telling.{state-counted, state-told}
 use Rattle.mcs_explore_orders.proofs.explorer.Explorer.report.Goals as goal
+
+pub is_over-is_over-requires-clause-turns : goal.is_over-is_over-requires-clause-turns
+is_over-is_over-requires-clause-turns g c = subst (λ (e : Watching g.row.W.Denot). HasEachTurn e.search.users c.args.walk.now c.args.turns.now) (sym c.self.view_is) c.requires.turns
 
 pub returns-clause-told : goal.returns-clause-told
 returns-clause-told g c =
