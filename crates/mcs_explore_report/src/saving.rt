@@ -71,7 +71,8 @@ fn save_ends<P: Progress, S: Saves>(report: &Report<'_, P>, saves: &mut S) -> Re
         let mut comment = Page::new(findings.alloc)?;
         put_end(&mut comment, findings, "# ", &kind);
         let name = ScriptName::End(kind.number);
-        save(report, saves, name, &comment, seen_at(kind.end.place))?;
+        let end = kind.end;
+        save(report, saves, name, &comment, seen_at(end.place))?;
     }
     Ok(())
 }
