@@ -95,7 +95,7 @@ module _ {K : Type 0} (numbered : Bool) (users : List User) (boot : Boot) (whole
   ends-in-runs kinds ends = λ n g run over.
       let s = seen n g run in
       let within = s.within in
-      let end = ends.all s.place s.going (omega (arith, within, all)) s.is.path (over-there numbered users boot g s.going s.like.close over) in
+      let end = ends.all s.place s.going (omega (arith, within, all)) s.is.path (over-there numbered users boot g s.going s.like over) in
       subst (λ (ss : List Standing). (i : ℕ) × IsKindAt kinds ss i) (sym (standings-same users g s.going s.like.close.places (λ t. status-same (log_of g.book) (log_of s.going.book) ((by-likeness numbered).numbers (log_of g.book) (log_of s.going.book) s.like.close.logs) t))) end
 
   pub answers-in-runs : (tables : Tables) → AreAnswersFound users boot found done tables → IsMailFound users boot found done tables → AreAnswersInRuns users boot tables

@@ -53,7 +53,7 @@ module _ {K : Type 0} (numbered : Bool) (users : List User) (boot : Boot) (whole
   end i n k g at run over stands =
       let s = seen n g run in
       let same = standings-same users g s.going s.like.close.places (λ t. status-same (log_of g.book) (log_of s.going.book) ((by-likeness numbered).numbers (log_of g.book) (log_of s.going.book) s.like.close.logs) t) in
-      near n k.place g run (first.ends i s.place k s.going at (below n g run) s.is.path (over-there numbered users boot g s.going s.like.close over) (sym same ∙ stands))
+      near n k.place g run (first.ends i s.place k s.going at (below n g run) s.is.path (over-there numbered users boot g s.going s.like over) (sym same ∙ stands))
 
   answer : (user number i n : ℕ) (told : List Told) (t : Told) (u : Turn) (g h : Going) → table_of tables user number ≡ Some told → slice_get told i ≡ Some t → IsRun users boot n g → Leads users u g h → IsGiven users u h user number t.answer
       → depth_at found t.place ≤ n
