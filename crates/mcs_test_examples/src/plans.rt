@@ -25,8 +25,10 @@ const PLANS: &[&str] = &[
     "gallery/deadlock",
     "gallery/started",
     "plans/two-threads",
-    "explore/disk-log",
 ];
+
+/// Plans of users, whose scripts have no steps.
+const USERS: &[&str] = &["explore/disk-log"];
 
 /// What a file holds.
 fn bytes_of(rt: &HostRuntime, path: &str) -> Result<Vec<u8>, LabFault> {
@@ -73,13 +75,19 @@ fn trace_of(alloc: Global, script: &[u8]) -> Result<Option<Vec<u8>>, LabFault> {
     Ok(if done { Some(trace) } else { None })
 }
 
-/// Compares a plan's script with the one that is kept.
-fn compare<W: Write>(rt: &HostRuntime, to: &mut W, name: &str) -> Result<(), LabFault> {
+/// Compares a plan's script with the one that is kept, and replays it where it has steps.
+fn compare<W: Write>(
+    rt: &HostRuntime,
+    to: &mut W,
+    name: &str,
+    has_steps: bool,
+) -> Result<(), LabFault> {
     let kept = read_text(rt, format!(in rt.alloc(); "{name}.mcs")?.as_str())?;
     let script = told_of(rt.alloc(), &plan_of(rt, name)?)?;
-    let told = match trace_of(rt.alloc(), script.as_bytes())? {
-        Some(_) => word_of(script.as_str() == kept.as_str()),
-        None => "WITH A FAULT",
+    let told = if has_steps && trace_of(rt.alloc(), script.as_bytes())?.is_none() {
+        "WITH A FAULT"
+    } else {
+        word_of(script.as_str() == kept.as_str())
     };
     writeln!(to, "# {name}.plan: {told}")?;
     Ok(())
@@ -199,7 +207,10 @@ pub fn try_changes<W: Write>(rt: &HostRuntime, to: &mut W, times: usize) -> Resu
 /// Tells of all plans.
 pub fn tell_plans<W: Write>(rt: &HostRuntime, to: &mut W) -> Result<(), LabFault> {
     for &name in PLANS {
-        compare(rt, to, name)?;
+        compare(rt, to, name, true)?;
+    }
+    for &name in USERS {
+        compare(rt, to, name, false)?;
     }
     try_faults(rt, to)?;
     try_large(rt, to)?;
