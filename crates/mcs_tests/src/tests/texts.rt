@@ -267,3 +267,11 @@ pub fn is_mail(mail: Option<&Mail>) -> bool {
         _ => false,
     }
 }
+
+/// Returns a number as a byte, or the greatest byte where it is none.
+pub fn byte(number: u32) -> u8 {
+    match u8::try_from(number) {
+        Ok(byte) => byte,
+        Err(_) => u8::MAX,
+    }
+}

@@ -111,11 +111,11 @@ type Count = (&'static [u8], usize, usize);
 /// Scripts for two cores, and how often words come. Each entry has an answer; of long messages all
 /// words are written: each call as its step and its record, and as an answer where the server asked
 /// after it; each answer as its step and its record.
-const SIDE_BY_SIDE: &[(&str, [Count; 2])] = &[
-    (TWO_CORES, [(b"\n= ", 7, 7), (b"\n= ", 7, 7)]),
+const SIDE_BY_SIDE: &[(&str, &[Count])] = &[
+    (TWO_CORES, &[(b"\n= ", 7, 7)]),
     (
         LONG_CALLS,
-        [
+        &[
             (b" 1 2 3 4 5 6 7 8 9", 6, 9),
             (b" 11 12 13 14 15 16 17", 6, 6),
         ],
@@ -142,7 +142,7 @@ fn is_side_by_side<R: AllocGlobal + Threads + Wait + Sync>(
 fn runs_on_two_cores_are_replayed(rt: HostRuntime) {
     for (i, &(script, counts)) in SIDE_BY_SIDE.iter().enumerate() {
         for _ in 0..20 {
-            assert!(rt; is_side_by_side(&rt, script, &counts), "script {i}");
+            assert!(rt; is_side_by_side(&rt, script, counts), "script {i}");
         }
     }
 }

@@ -1,6 +1,6 @@
 //! Scripts of users, and lines that have no end: a fault is reported when it was read.
 use crate::tests::streams::{Output, pipe, pipe_users};
-use crate::tests::texts::{BOOT, NONE, numbers, repeated};
+use crate::tests::texts::{BOOT, NONE, byte, numbers, repeated};
 use mcs_sim::{Open, SimFault, Source};
 use std::alloc::AllocGlobal;
 use std::io::{self, Read};
@@ -110,7 +110,7 @@ fn is_faulty<R: AllocGlobal + Threads + Wait + Sync>(rt: &R, row: &str) -> Resul
     let cores = if head[2] == NONE {
         None
     } else {
-        Some(head[2] as u8)
+        Some(byte(head[2]))
     };
     Ok(ends(rt, &script, Some(cores), (head[0], head[1]), head[0]))
 }

@@ -1,7 +1,7 @@
 //! The table of scheduling contexts.
 use super::names::{context, notification, thread};
 use super::rows::{done, named, row_of, word_of};
-use crate::tests::texts::NONE;
+use crate::tests::texts::{NONE, byte};
 use mcs_contexts::Contexts;
 use mcs_types::{CoreId, Kind, ObjId, Refusal};
 use std::test::Fail;
@@ -47,7 +47,7 @@ fn give_context(contexts: &mut Contexts, id: ObjId, serial: u32) -> bool {
 /// Returns whether a call is done, or what refuses it.
 fn on(contexts: &mut Contexts, call: &str, one: u32, two: u32) -> Result<bool, Refusal> {
     match call {
-        "add" => Ok(add_context(contexts, one as u8, two)),
+        "add" => Ok(add_context(contexts, byte(one), two)),
         "bind" => done(contexts.bind(context(one), thread(two))),
         "unbind" => done(contexts.unbind(context(one))),
         "home" => done(contexts.home(context(one), notification(two))),
@@ -71,7 +71,7 @@ fn is_kept(contexts: &Contexts, serial: u32, kept: [u32; 3]) -> bool {
         None => true,
     };
     is_held
-        && core == CoreId(kept[0] as u8)
+        && core == CoreId(byte(kept[0]))
         && contexts.holder(id) == holder
         && contexts.home_of(id) == named(Kind::Notification, kept[2])
 }
@@ -123,9 +123,12 @@ unbind 2 = free - - - - - -
 
 /// Returns whether the call of a line has its answer, and this is kept then.
 fn is_row(contexts: &mut Contexts, line: &str) -> bool {
-    let Some((call, given, answer, kept)) = row_of(line) else {
+    let Some(row) = row_of(line) else {
         return false;
     };
+    let (call, answer) = (row.0, row.2);
+    let given = row.1;
+    let kept = row.3;
     word_of(on(contexts, call, given[0], given[1])) == answer
         && is_kept(contexts, 1, [kept[0], kept[1], kept[2]])
         && is_kept(contexts, 2, [kept[3], kept[4], kept[5]])

@@ -91,9 +91,12 @@ add 3 = done - - - - - -
 
 /// Returns whether the call of a line is done or not, and this is kept then.
 fn is_row(notifications: &mut Notifications, line: &str) -> bool {
-    let Some((call, given, answer, kept)) = row_of(line) else {
+    let Some(row) = row_of(line) else {
         return false;
     };
+    let (call, answer) = (row.0, row.2);
+    let given = row.1;
+    let kept = row.3;
     is_done(notifications, call, notification(given[0]), given[1]) == (answer == "done")
         && is_kept(notifications, 1, [kept[0], kept[1], kept[2]])
         && is_kept(notifications, 2, [kept[3], kept[4], kept[5]])

@@ -105,13 +105,14 @@ close 2 = done 1 - 3
 
 /// Returns whether the call of a line is done or not, and this is kept then.
 fn is_row(replies: &mut Replies, line: &str) -> bool {
-    match row_of(line) {
-        Some((call, given, answer, kept)) => {
-            is_done(replies, call, given[0], (given[1], given[2])) == (answer == "done")
-                && are_kept(replies, kept)
-        }
-        None => false,
-    }
+    let Some(row) = row_of(line) else {
+        return false;
+    };
+    let (call, answer) = (row.0, row.2);
+    let given = row.1;
+    let kept = row.3;
+    is_done(replies, call, given[0], (given[1], given[2])) == (answer == "done")
+        && are_kept(replies, kept)
 }
 
 #[test]

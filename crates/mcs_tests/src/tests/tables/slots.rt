@@ -1,6 +1,7 @@
 //! Slots of CNodes.
 use super::names::{object, slot};
 use super::rows::{done, row_of, word_of};
+use crate::tests::texts::byte;
 use mcs_slots::{SlotId, Slots, Tallied};
 use mcs_types::{Badge, Cap, Guard, Kind, ObjId, Refusal, Rights};
 use std::test::Fail;
@@ -57,7 +58,7 @@ fn cap_to(serial: u32, bits: u32, badge: u32) -> Option<Cap> {
     };
     Some(Cap {
         obj,
-        rights: Rights::new(bits as u8)?,
+        rights: Rights::new(byte(bits))?,
         badge: Badge(badge as u64),
         guard: Guard { bits: 0, value: 0 },
     })
@@ -79,7 +80,7 @@ fn copy(
     mints: bool,
     (bits, badge): (u32, u32),
 ) -> Result<bool, Refusal> {
-    let Some(mask) = Rights::new(bits as u8) else {
+    let Some(mask) = Rights::new(byte(bits)) else {
         return Ok(false);
     };
     if !slots.has_slot(source) || !slots.has_slot(dest) {
@@ -155,12 +156,13 @@ fn are_as(slots: &Slots, kept: [u32; 12]) -> bool {
 
 /// Returns whether the call of a line has its answer, and the slots are as it says then.
 fn is_row(slots: &mut Slots, line: &str) -> bool {
-    match row_of(line) {
-        Some((call, given, answer, kept)) => {
-            word_of(on(slots, call, given)) == answer && are_as(slots, kept)
-        }
-        None => false,
-    }
+    let Some(row) = row_of(line) else {
+        return false;
+    };
+    let (call, answer) = (row.0, row.2);
+    let given = row.1;
+    let kept = row.3;
+    word_of(on(slots, call, given)) == answer && are_as(slots, kept)
 }
 
 #[test]

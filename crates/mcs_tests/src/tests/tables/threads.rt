@@ -1,7 +1,7 @@
 //! The table of threads.
 use super::names::{notification, object, reply, thread};
 use super::rows::{named, row_of};
-use crate::tests::texts::NONE;
+use crate::tests::texts::{NONE, byte};
 use mcs_threads::{Block, Threads};
 use mcs_types::{Badge, Cap, Guard, Kind, Mail, Message, Mode, ObjId, Prio, Queue, Rights, Status};
 use std::alloc::Global;
@@ -39,7 +39,7 @@ fn is_done(threads: &mut Threads, call: &str, id: ObjId, number: u32) -> bool {
     let done = match call {
         "run" => threads.set_mode(id, Mode::Running),
         "restart" => threads.set_mode(id, Mode::Restart),
-        "prio" => threads.set_prio(id, Prio(number as u8)),
+        "prio" => threads.set_prio(id, Prio(byte(number))),
         "receive" => threads.block(id, RECEIVES),
         "call" => threads.block(id, CALLS),
         "unblock" => threads.unblock(id),
@@ -69,7 +69,7 @@ fn is_kept(threads: &Threads, serial: u32, kept: [u32; 3]) -> bool {
         return kept[0] == NONE;
     };
     let (status, queue) = status_of(kept[1]);
-    row.priority == Prio(kept[0] as u8)
+    row.priority == Prio(byte(kept[0]))
         && row.status() == status
         && row.notification == named(Kind::Notification, kept[2])
         && row.queue() == queue
@@ -110,9 +110,12 @@ untie 1 = not - - - 0 2 -
 
 /// Returns whether the change of a line is done or not, and this is kept then.
 fn is_changed(threads: &mut Threads, line: &str) -> bool {
-    let Some((call, given, answer, kept)) = row_of(line) else {
+    let Some(row) = row_of(line) else {
         return false;
     };
+    let (call, answer) = (row.0, row.2);
+    let given = row.1;
+    let kept = row.3;
     is_done(threads, call, thread(given[0]), given[1]) == (answer == "done")
         && is_kept(threads, 1, [kept[0], kept[1], kept[2]])
         && is_kept(threads, 2, [kept[3], kept[4], kept[5]])
