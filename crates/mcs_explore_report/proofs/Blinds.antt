@@ -1,14 +1,12 @@
 -- Patterns that name no message stand for lines whatever the numbers of messages; and mail names
 -- none.
-use Rattle.std.specs.Prelude.{ℕ, ◌≡◌, ◌-◌, ◌+◌, ◌/◌, ◌%◌, nat_lt, ◌||◌, ◌&&◌, ◌==◌, suc, zero, cond, Bool, true, false, map, List, [], ◌∷◌, ◌++◌, Option, length, take, decimal, bytes_eq, codes, if◌then◌else◌}
+use Rattle.std.specs.Prelude.{ℕ, ◌≡◌, ◌-◌, ◌+◌, ◌/◌, ◌%◌, nat_lt, ◌||◌, ◌&&◌, ◌==◌, suc, zero, Bool, true, false, map, List, [], ◌∷◌, ◌++◌, Option, length, take, decimal, bytes_eq, codes, if◌then◌else◌}
 use Rattle.std.specs.List.{list_any, flat_map}
-use Rattle.std.proofs.Common.{refl, ap, sym, ◌∙◌, subst, arith}
+use Rattle.std.proofs.Common.{refl, ap, sym, ◌∙◌, arith}
 use Rattle.std.proofs.lemmas.List.{append_assoc, append-nil}
-use Rattle.mcs_types.specs.declared.id.ObjId.{ObjId}
 use Rattle.mcs_text.specs.declared.token.Token.TheVariants as tok
 use Rattle.mcs_text.specs.declared.token.Token.{Token}
 use Rattle.mcs_text.specs.declared.key.Key.TheVariants as key
-use Rattle.mcs_text.specs.Spelling.{name_text}
 use Rattle.mcs_types.specs.declared.entry.Answer.{Answer}
 use Rattle.mcs_types.specs.declared.record.Rec.{Rec}
 use Rattle.mcs_types.specs.declared.record.Rec.TheVariants as rec

@@ -1,27 +1,25 @@
 -- What was shown first is what is kept.
-use Rattle.std.specs.Prelude.{ℕ, zero, suc, ◌≡◌, ◌≤◌, ◌<◌, ◌++◌, ◌⊎◌, Bool, true, false, cond, List, [], ◌∷◌, Option, Some, None, length, slice_get}
+use Rattle.std.specs.Prelude.{ℕ, ◌≡◌, ◌++◌, ◌⊎◌, Bool, true, false, cond, List, [], ◌∷◌, Option, Some, None, length, slice_get}
 use Rattle.std.proofs.Common.{refl, ap, sym, ◌∙◌, subst, inl, inr, arith}
 use Rattle.mcs_types.specs.declared.entry.Answer.{Answer}
-use Rattle.mcs_types.specs.declared.entry.Answer.TheVariants as answer
 use Rattle.mcs_turns.specs.declared.position.Pick.{Pick}
 use Rattle.mcs_turns.specs.Turns.{User, Going}
 use Rattle.mcs_explore_walk.specs.declared.walk.Turn.{Turn}
 use Rattle.mcs_explore_orders.specs.Shown.{Made, Shown, Sight, with_state, with_turn}
 use Rattle.mcs_explore_report.specs.declared.answers.Told.{Told}
-use Rattle.mcs_explore_questions.specs.declared.asking.Asked.{Asked}
 use Rattle.mcs_explore_report.specs.declared.mail.Reached.{Reached}
 use Rattle.mcs_explore_script.specs.declared.questions.AskedLine.{AskedLine}
 use Rattle.mcs_explore_report.specs.declared.judging.Sighting.{Sighting}
-use Rattle.mcs_explore_report.specs.Answers.{AreAnswersOf, AreMailOf, AreNotedMail, IsAmong, IsMailed, IsNoted, IsNotedFor, IsNotedMail, IsNotedOf, IsNotedTurn, IsOwnAnswer, Tables, mailed_to, table_of}
+use Rattle.mcs_explore_report.specs.Answers.{AreAnswersOf, AreMailOf, AreNotedMail, IsAmong, IsNoted, IsNotedFor, IsNotedOf, IsNotedTurn, Tables, mailed_to, table_of}
 use Rattle.mcs_explore_report.specs.Ends.{AreEndsOf, IsKindAt, IsNoted as IsEndNoted, IsNotedIf, Kind}
 use Rattle.mcs_explore_report.specs.Firsts.{AreFirstAnswers, AreFirstEnds, AreFirstFailures, HasGiven, IsStateBefore, IsTurnBefore}
-use Rattle.mcs_explore_report.specs.Judged.{AreJudged, AreJudgedBy, HasHeld, IsJudged, judged}
+use Rattle.mcs_explore_report.specs.Judged.{AreJudged, AreJudgedBy, judged}
 use Rattle.mcs_explore_report.specs.Judging.{fails}
 use Rattle.mcs_explore_report.specs.Mail.{brought}
 use Rattle.mcs_explore_report.specs.Standings.{standings}
 use Rattle.mcs_explore_report.proofs.Lists.{at-last, at-old, at-split, at-within, some-same, within-at}
 use Rattle.mcs_explore_report.proofs.Noting.{counted-back}
-use Rattle.mcs_explore_report.proofs.Telling.{Grows, for-grows, grows-on, mail-grows, noted-grows, table-was, turn-grows}
+use Rattle.mcs_explore_report.proofs.Telling.{Grows, for-grows, table-was, turn-grows}
 
 state-more : (states more : List Sight) (place j : ℕ) → IsStateBefore states place j → IsStateBefore (states ++ more) place j
 state-more states more place j b = record { number = b.number; sight = b.sight; at = at-old states more b.number b.sight b.at; there = b.there; before = b.before }

@@ -25,7 +25,7 @@ use Rattle.mcs_explore_report.specs.Standings.{standings}
 use Rattle.mcs_explore_report.specs.Ends.{AreEndsOf, IsKindAt, IsNotedIf, Kind}
 use Rattle.mcs_explore_report.specs.Answers.{AreAnswersOf, AreNotedMail, IsAmong, IsAnswerOf, IsNotedTurn, IsOwnAnswer, IsMailed, Tables, no_answers, table_of}
 use Rattle.mcs_explore_report.specs.Mail.{brought}
-use Rattle.mcs_explore_report.specs.Firsts.{AreFirst, HasGiven, IsStateBefore, IsTurnBefore}
+use Rattle.mcs_explore_report.specs.Firsts.{HasGiven, IsStateBefore, IsTurnBefore}
 use Rattle.mcs_explore_report.specs.Kept.{IsKept}
 use Rattle.mcs_explore_report.specs.Found.{AreAnswersFound, AreCountedFound, AreEndsFound, AreJudgedFound, IsAnswerFound, IsAnswered, IsAt, IsEndFound, IsFailureFound, IsGiven, IsJudgedFound, IsMailFound, IsSeenFrom, AreFirstFound}
 use Rattle.mcs_explore_report.proofs.Lists.{at-last, at-old, at-split, within-at, some-same}

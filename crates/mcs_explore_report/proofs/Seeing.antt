@@ -1,7 +1,7 @@
 -- What is kept and noted of a state or a turn more.
 use Rattle.std.specs.Prelude.{ℕ, ◌≡◌, Bool, List, [], Option, Some, None, Result, Ok, Err, length, replicate}
 use Rattle.std.specs.Result.{OnOk}
-use Rattle.std.proofs.Common.{ap, sym, subst}
+use Rattle.std.proofs.Common.{sym, subst}
 use Rattle.mcs_types.specs.declared.entry.Answer.{Answer}
 use Rattle.mcs_turns.specs.Turns.{User, Going}
 use Rattle.mcs_explore_walk.specs.declared.walk.Turn.{Turn}

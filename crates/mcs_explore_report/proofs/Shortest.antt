@@ -1,7 +1,6 @@
 -- Of a whole search, what is kept is kept by the fewest turns.
-use Rattle.std.specs.Prelude.{ℕ, ◌≡◌, ◌≤◌, ◌<◌, ◌⊎◌, Bool, true, List, Option, Some, None, length, slice_get}
+use Rattle.std.specs.Prelude.{ℕ, ◌≡◌, ◌≤◌, ◌<◌, Bool, true, List, Option, Some, None, length, slice_get}
 use Rattle.std.proofs.Common.{refl, ap, sym, ◌∙◌, inl, inr, arith}
-use Rattle.mcs_types.specs.declared.entry.Answer.{Answer}
 use Rattle.mcs_book.specs.Boots.{Boot, IsFaultless}
 use Rattle.mcs_book.specs.History.{log_of}
 use Rattle.mcs_turns.specs.Turns.{User, Going, AreInRange, IsOver, IsRun}
@@ -9,7 +8,6 @@ use Rattle.mcs_explore_equivalence.proofs.Asking.{status-same}
 use Rattle.mcs_explore_equivalence.proofs.Likenesses.{by-likeness}
 use Rattle.mcs_explore_search.specs.declared.search.Found.{Found}
 use Rattle.mcs_explore_search.specs.Search.{AreSorted, Entries, depth_at}
-use Rattle.mcs_explore_equivalence.specs.Runs.{AreAlike}
 use Rattle.mcs_explore_equivalence.proofs.Alikes.{over-there}
 use Rattle.mcs_explore_walk.specs.declared.walk.Turn.{Turn}
 use Rattle.mcs_explore_orders.specs.Seen.{AreAllSeen}

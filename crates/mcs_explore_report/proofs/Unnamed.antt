@@ -1,5 +1,5 @@
 -- What names no message, and what a mode tells apart.
-use Rattle.std.specs.Prelude.{ℕ, zero, suc, ◌≡◌, ◌==◌, ◌+◌, ◌/◌, ◌%◌, ◌<◌, ◌&&◌, ◌||◌, ◌⊎◌, nat_lt, nat_le, Bool, true, false, not, List, [], ◌∷◌, Option, Some, length, decimal, bytes_eq, slice_get, if◌then◌else◌}
+use Rattle.std.specs.Prelude.{ℕ, zero, suc, ◌≡◌, ◌==◌, ◌+◌, ◌/◌, ◌%◌, ◌<◌, ◌&&◌, ◌||◌, Bool, true, false, not, List, [], ◌∷◌, Some, length, decimal, bytes_eq, slice_get, if◌then◌else◌}
 use Rattle.std.specs.List.{list_all, list_any}
 use Rattle.std.specs.Fmt.{digit_glyph, digits_onto, digits}
 use Rattle.std.proofs.Common.{refl, ap, sym, ◌∙◌, arith}
@@ -12,7 +12,7 @@ use Rattle.mcs_turns.specs.Turns.{User}
 use Rattle.mcs_explore_questions.specs.declared.asking.Asked.{Asked}
 use Rattle.mcs_explore_questions.specs.declared.asking.Asked.TheVariants as asked
 use Rattle.mcs_explore_report.specs.declared.modes.Mode.{Mode}
-use Rattle.mcs_explore_report.specs.declared.modes.Mode.TheVariants.{Proved, Canonical}
+use Rattle.mcs_explore_report.specs.declared.modes.Mode.TheVariants.{Proved}
 use Rattle.mcs_explore_script.specs.declared.questions.AskedLine.{AskedLine}
 use Rattle.mcs_explore_report.specs.Judging.{IsDecided, NameNone}
 use Rattle.mcs_explore_report.specs.Naming.{is_message, names_message}

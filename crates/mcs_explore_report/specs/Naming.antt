@@ -2,7 +2,6 @@
 use Rattle.std.specs.Prelude.{ℕ, ◌==◌, ◌&&◌, Bool, false, not, nat_lt, List, [], ◌∷◌, Option, Some, None, length}
 use Rattle.std.specs.List.{list_all, list_any}
 use Rattle.mcs_types.specs.declared.id.ObjId.{ObjId}
-use Rattle.mcs_types.specs.declared.record.Queue.{Queue}
 use Rattle.mcs_book.specs.Boots.{Boot, boot_log}
 use Rattle.mcs_book.specs.Logs.{counted}
 use Rattle.mcs_book.specs.Objects.{makes_kind}

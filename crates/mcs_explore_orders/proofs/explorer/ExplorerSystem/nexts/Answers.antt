@@ -7,7 +7,7 @@ use Rattle.mcs_explore_search.specs.Paths.{Path}
 use Rattle.mcs_explore_orders.specs.Exploring.{Exploring}
 use Rattle.mcs_explore_orders.specs.Trails.{Leads}
 use Rattle.mcs_explore_orders.specs.Shown.{HasCounted, IsToldState}
-use Rattle.mcs_explore_orders.specs.Watching.{Watching, counting}
+use Rattle.mcs_explore_orders.specs.Watching.{counting}
 use Rattle.mcs_explore_orders.proofs.Nexts.{all-nexts}
 use Rattle.mcs_explore_orders.proofs.Telling.{seen-nexts}
 use Rattle.mcs_explore_orders.proofs.explorer.ExplorerSystem.nexts.Goals as goal
