@@ -1,5 +1,5 @@
 -- The users of a script (own).
-use Rattle.std.specs.Prelude.{ℕ, ◌-◌, List, [], ◌∷◌}
+use Rattle.std.specs.Prelude.{◌-◌, List, [], ◌∷◌}
 use Rattle.mcs_text.specs.declared.steps.UserEntry.{UserEntry}
 use Rattle.mcs_turns.specs.Turns.{User}
 use Rattle.mcs_users.specs.Users.{with_again, with_entry}

@@ -1,4 +1,4 @@
-use Rattle.std.proofs.Common.{◌≡◌, List, ℕ, ◌++◌, [], None, length, take, refl, ap, sym, subst, ◌∙◌, arith}
+use Rattle.std.proofs.Common.{◌≡◌, List, ℕ, [], None, length, take, refl, ap, sym, subst, ◌∙◌, arith}
 use Rattle.std.specs.Io.KnownBytes.{Consumes}
 use Rattle.std.proofs.KnownBytes.{Consumes-trans}
 use Rattle.std.proofs.lemmas.List.{length-take-le}
@@ -6,7 +6,7 @@ use Rattle.mcs_phases.specs.declared.fault.SimFault.TheVariants as fault
 use Rattle.mcs_phases.specs.declared.fault.SimFault.{SimFault}
 use Rattle.mcs_sim.specs.Users.{Users, no_users, IsKept, TakesUsers}
 use Rattle.mcs_sim.specs.Running.{EndsUsers}
-use Rattle.mcs_sim.proofs.RunLaws.{IfErr-same, IfErr-then, Consumes-nil, no-more}
+use Rattle.mcs_sim.proofs.RunLaws.{IfErr-same, Consumes-nil, no-more}
 use Rattle.mcs_sim.proofs.UserLaws.{takes-nothing, takes-append, kept-nil, further, stops-here, ends-in, ends-at, users-read}
 use Rattle.mcs_explore_script.proofs.text.read_text.Goals as goal
 
