@@ -9,8 +9,8 @@
 
 Prints each with its file and line, then how many there are. Exits with 1 where there is any of (a) or (c), or 20 of (b) or more.
 """
+import os
 import re
-import subprocess
 import sys
 from pathlib import Path
 
@@ -35,9 +35,13 @@ EXCEPTIONS = {
 COMMANDS = {"rt", "rattle-kit-13f", "git", "sh", "python3", "install", "valgrind", "grep", "head", "cat", "wc", "cd"}
 
 
-def tracked():
-    names = subprocess.run(["git", "ls-files"], cwd=ROOT, check=True, capture_output=True, text=True)
-    return [Path(name) for name in names.stdout.split("\n") if name and (ROOT / name).is_file()]
+def files():
+    """The files of the repository, without what a run leaves in `out` and in hidden folders."""
+    found = []
+    for top, folders, names in os.walk(ROOT):
+        folders[:] = sorted(it for it in folders if it not in ("out", "__pycache__") and not it.startswith("."))
+        found += [Path(top, name).relative_to(ROOT) for name in sorted(names)]
+    return [path for path in found if (ROOT / path).is_file()]
 
 
 def lines_of(path):
@@ -156,7 +160,7 @@ def unknown(paths):
 
 
 def main():
-    paths = tracked()
+    paths = files()
     found = [list(long_lines(paths)), list(verbless(paths)), list(unknown(paths))]
     for each in found:
         print("\n".join(each), end="\n" if each else "")
