@@ -1,4 +1,7 @@
 //! What a script asks of all orders.
+ghost use Rattle.std.specs.Prelude.{◌≡◌};
+ghost use Rattle.mcs_explore_questions.specs.Asking.{contain, excuses, is_live, is_of_waits, is_question};
+
 use mcs_types::ObjId;
 
 /// The entry of a user, by its number from 1 on.
@@ -84,14 +87,18 @@ pub enum Asked {
 
 impl Entries {
     /// Returns whether an entry is one of these, by its number from 1 on.
-    pub fn contain(self, number: usize) -> bool {
+    pub fn contain(self, number: usize) -> bool
+        ensures { result ≡ contain self number }
+    {
         self.first <= number && number <= self.last
     }
 }
 
 impl Asked {
     /// Returns whether it asks something that holds or does not.
-    pub fn is_question(&self) -> bool {
+    pub fn is_question(&self) -> bool
+        ensures { result ≡ is_question self.now }
+    {
         match self {
             Asked::Idle { .. } | Asked::Again { .. } => false,
             Asked::Live { .. }
@@ -105,7 +112,9 @@ impl Asked {
     }
 
     /// Returns whether it asks that a user never gets stuck.
-    pub fn is_live(&self) -> bool {
+    pub fn is_live(&self) -> bool
+        ensures { result ≡ is_live self.now }
+    {
         match self {
             Asked::Live { .. } => true,
             Asked::Idle { .. }
@@ -120,7 +129,9 @@ impl Asked {
     }
 
     /// Returns whether it lets a user wait for ever in an entry, by its number from 1 on.
-    pub fn excuses(&self, user: ObjId, number: usize) -> bool {
+    pub fn excuses(&self, user: ObjId, number: usize) -> bool
+        ensures { result ≡ excuses self.now user number }
+    {
         match self {
             Asked::Idle { thread, entries } => thread.is_same(user) && entries.contain(number),
             Asked::Live { .. }
@@ -136,7 +147,9 @@ impl Asked {
 
     /// Returns whether it is about the waits of a user: it excuses some, or asks that the user
     /// never gets stuck.
-    pub fn is_of_waits(&self, user: ObjId) -> bool {
+    pub fn is_of_waits(&self, user: ObjId) -> bool
+        ensures { result ≡ is_of_waits self.now user }
+    {
         match self {
             Asked::Idle { thread, .. } | Asked::Live { thread, .. } => thread.is_same(user),
             Asked::Answer { .. }

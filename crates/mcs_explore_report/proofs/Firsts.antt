@@ -61,7 +61,7 @@ module _ (users : List User) (states : List Sight) (old new : List Kind) (place 
 
   end-noted : IsEndNoted (standings users g) place old new → AreFirstEnds users (states ++ sight ∷ []) new
   end-noted (inl c) = λ i j k s at there is_over stands.
-      let b = counted-back old c.place c.is.kind c.is.at i k (ap (λ (ks : List Kind). slice_get ks i) (sym c.counted) ∙ at) in
+      let b = counted-back old c.place c.is.kind 1 c.is.at i k (ap (λ (ks : List Kind). slice_get ks i) (sym c.counted) ∙ at) in
       end-old i j k b.0 s b.1.0 b.1.1.0 b.1.1.1 is_over stands (at-split states sight j s there)
   end-noted (inr f) = λ i j k s at there is_over stands. go i j k s is_over stands (at-split states sight j s there) (at-split old kind i k (ap (λ (ks : List Kind). slice_get ks i) (sym f.added) ∙ at))
     where

@@ -33,7 +33,8 @@ use Rattle.mcs_explore_questions.specs.declared.asking.Event.{Event}
 use Rattle.mcs_explore_questions.specs.declared.asking.Span.{Span}
 use Rattle.mcs_explore_script.specs.declared.questions.AskedLine.{AskedLine}
 use Rattle.mcs_explore_report.specs.declared.judging.Sighting.{Sighting}
-use Rattle.mcs_explore_report.specs.Judging.{IsDecided, NameNone, answered_by, fails, gives, has_given, is_in, is_line, is_within, lines_told, place_of, record_lines, told_last}
+use Rattle.mcs_explore_report.specs.Judging.{IsDecided, NameNone, answered_by, fails, gives, has_given, is_in, is_line, is_within, lines_told, record_lines, told_last}
+use Rattle.mcs_explore_script.specs.UserLists.{user_of}
 use Rattle.mcs_explore_report.proofs.Blinds.{lines-blind}
 use Rattle.mcs_explore_report.specs.Found.{AreHeldInRuns, AreJudgedFound, IsHeldFound, IsHeldInRuns}
 
@@ -70,7 +71,7 @@ module _ (users : List User) (g h : Going) (places : g.places ≡ h.places) (sta
       go o p e = ap (by (status_of (log_of g.book) u.thread)) e ∙ ap (λ st. by st p) (statuses u.thread)
 
   span-same : (s : Span) → is_in users g s ≡ is_in users h s
-  span-same s = go (place_of users s.thread)
+  span-same s = go (user_of users s.thread)
     where
       go : (o : Option ℕ) → is_of g s o ≡ is_of h s o
       go None = refl

@@ -15,3 +15,6 @@ pub mod Shortest
 pub mod Always
 pub mod Stuck
 pub mod Seeing
+pub mod Merging
+pub mod Judged
+pub mod Holding

@@ -5,27 +5,27 @@ use Rattle.mcs_turns.specs.Turns.{User, Going}
 use Rattle.mcs_explore_orders.specs.Shown.{Sight}
 use Rattle.mcs_explore_report.specs.declared.ends.Standing.{Standing}
 use Rattle.mcs_explore_report.specs.Standings.{listed, standing_of, standings, standings_below}
-use Rattle.mcs_explore_report.specs.Ends.{AreEndsOf, IsCounted, IsEndOf, IsFirst, IsKindAt, IsNoKind, IsNoted, IsNotedIf, Kind, with_one_more}
+use Rattle.mcs_explore_report.specs.Ends.{AreEndsOf, IsCounted, IsEndOf, IsFirst, IsKindAt, IsNoKind, IsNoted, IsNotedIf, Kind, with_more}
 use Rattle.mcs_explore_report.proofs.Lists.{at-last, at-old, at-split, at-within, same-or-not, set-other, set-same, some-same}
 
 -- counting changes counts alone
-pub counted-back : (ks : List Kind) (i : ℕ) (x : Kind) → slice_get ks i ≡ Some x → (j : ℕ) (k : Kind) → slice_get (set ks i (with_one_more x)) j ≡ Some k → (l : Kind) × ((slice_get ks j ≡ Some l) × ((l.standing ≡ k.standing) × (l.place ≡ k.place)))
-counted-back ks i x there j k at = go (same-or-not j i)
+pub counted-back : (ks : List Kind) (i : ℕ) (x : Kind) (c : ℕ) → slice_get ks i ≡ Some x → (j : ℕ) (k : Kind) → slice_get (set ks i (with_more x c)) j ≡ Some k → (l : Kind) × ((slice_get ks j ≡ Some l) × ((l.standing ≡ k.standing) × (l.place ≡ k.place)))
+counted-back ks i x c there j k at = go (same-or-not j i)
   where
     go : (j ≡ i) ⊎ (j ≡ i → ⊥) → (l : Kind) × ((slice_get ks j ≡ Some l) × ((l.standing ≡ k.standing) × (l.place ≡ k.place)))
     go (inl e) =
-        let is : with_one_more x ≡ k = some-same (with_one_more x) k (sym (set-same ks i x (with_one_more x) there) ∙ ap (λ n. slice_get (set ks i (with_one_more x)) n) (sym e) ∙ at) in
+        let is : with_more x c ≡ k = some-same (with_more x c) k (sym (set-same ks i x (with_more x c) there) ∙ ap (λ n. slice_get (set ks i (with_more x c)) n) (sym e) ∙ at) in
         (x, (ap (λ n. slice_get ks n) e ∙ there, (ap (λ (y : Kind). y.standing) is, ap (λ (y : Kind). y.place) is)))
-    go (inr ne) = (k, (sym (set-other ks i j (with_one_more x) ne) ∙ at, (refl, refl)))
+    go (inr ne) = (k, (sym (set-other ks i j (with_more x c) ne) ∙ at, (refl, refl)))
 
-counted-there : (ks : List Kind) (i : ℕ) (x : Kind) → slice_get ks i ≡ Some x → (j : ℕ) (k : Kind) → slice_get ks j ≡ Some k → (l : Kind) × ((slice_get (set ks i (with_one_more x)) j ≡ Some l) × (l.standing ≡ k.standing))
-counted-there ks i x there j k at = go (same-or-not j i)
+pub counted-there : (ks : List Kind) (i : ℕ) (x : Kind) (c : ℕ) → slice_get ks i ≡ Some x → (j : ℕ) (k : Kind) → slice_get ks j ≡ Some k → (l : Kind) × ((slice_get (set ks i (with_more x c)) j ≡ Some l) × (l.standing ≡ k.standing))
+counted-there ks i x c there j k at = go (same-or-not j i)
   where
-    go : (j ≡ i) ⊎ (j ≡ i → ⊥) → (l : Kind) × ((slice_get (set ks i (with_one_more x)) j ≡ Some l) × (l.standing ≡ k.standing))
+    go : (j ≡ i) ⊎ (j ≡ i → ⊥) → (l : Kind) × ((slice_get (set ks i (with_more x c)) j ≡ Some l) × (l.standing ≡ k.standing))
     go (inl e) =
         let is : x ≡ k = some-same x k (sym there ∙ ap (λ n. slice_get ks n) (sym e) ∙ at) in
-        (with_one_more x, (ap (λ n. slice_get (set ks i (with_one_more x)) n) e ∙ set-same ks i x (with_one_more x) there, ap (λ (y : Kind). y.standing) is))
-    go (inr ne) = (k, (set-other ks i j (with_one_more x) ne ∙ at, refl))
+        (with_more x c, (ap (λ n. slice_get (set ks i (with_more x c)) n) e ∙ set-same ks i x (with_more x c) there, ap (λ (y : Kind). y.standing) is))
+    go (inr ne) = (k, (set-other ks i j (with_more x c) ne ∙ at, refl))
 
 end-more : (users : List User) (states more : List Sight) (k l : Kind) → l.standing ≡ k.standing → l.place ≡ k.place → IsEndOf users states l → IsEndOf users (states ++ more) k
 end-more users states more k l same place e = record { number = e.number; sight = e.sight; at = at-old states more e.number e.sight e.at; over = e.over; place = e.place ∙ place; standing = e.standing ∙ same }
@@ -50,18 +50,18 @@ module _ (users : List User) (states : List Sight) (old new : List Kind) (s : Si
   -- a state of a kind that is there
   end-counted : IsCounted (standings users s.going) old new → AreEndsOf users (states ++ s ∷ []) new
   end-counted c = subst (λ (ks : List Kind). AreEndsOf users (states ++ s ∷ []) ks) (sym c.counted) (record {
-    each = λ i k at. let b = counted-back old c.place c.is.kind c.is.at i k at in end-more users states (s ∷ []) k b.0 b.1.1.0 b.1.1.1 (are.each i b.0 b.1.0);
+    each = λ i k at. let b = counted-back old c.place c.is.kind 1 c.is.at i k at in end-more users states (s ∷ []) k b.0 b.1.1.0 b.1.1.1 (are.each i b.0 b.1.0);
     all = λ j t at over. all j t over (at-split states s j t at);
     apart = λ i j k l a b e.
-        let x = counted-back old c.place c.is.kind c.is.at i k a in
-        let y = counted-back old c.place c.is.kind c.is.at j l b in
+        let x = counted-back old c.place c.is.kind 1 c.is.at i k a in
+        let y = counted-back old c.place c.is.kind 1 c.is.at j l b in
         are.apart i j x.0 y.0 x.1.0 y.1.0 (x.1.1.0 ∙ e ∙ sym y.1.1.0);
   })
     where
-      there : (i : ℕ) (standing : List Standing) → IsKindAt old standing i → IsKindAt (set old c.place (with_one_more c.is.kind)) standing i
-      there i standing k = let x = counted-there old c.place c.is.kind c.is.at i k.kind k.at in record { kind = x.0; at = x.1.0; same = x.1.1 ∙ k.same }
+      there : (i : ℕ) (standing : List Standing) → IsKindAt old standing i → IsKindAt (set old c.place (with_more c.is.kind 1)) standing i
+      there i standing k = let x = counted-there old c.place c.is.kind 1 c.is.at i k.kind k.at in record { kind = x.0; at = x.1.0; same = x.1.1 ∙ k.same }
 
-      all : (j : ℕ) (t : Sight) → t.is_over ≡ true → (slice_get states j ≡ Some t) ⊎ ((j ≡ length states) × (t ≡ s)) → (i : ℕ) × IsKindAt (set old c.place (with_one_more c.is.kind)) (standings users t.going) i
+      all : (j : ℕ) (t : Sight) → t.is_over ≡ true → (slice_get states j ≡ Some t) ⊎ ((j ≡ length states) × (t ≡ s)) → (i : ℕ) × IsKindAt (set old c.place (with_more c.is.kind 1)) (standings users t.going) i
       all j t over (inl h) = let k = are.all j t h over in (k.0, there k.0 (standings users t.going) k.1)
       all j t over (inr e) = (c.place, there c.place (standings users t.going) (subst (λ (x : Sight). IsKindAt old (standings users x.going) c.place) (sym e.1) c.is))
 
@@ -102,7 +102,7 @@ state-noted users states old new place g over (inl same) are = subst (λ (ks : L
 state-noted users states old new place g over (inr noted) are = end-noted users states old new (record { place = place; going = g; is_over = over }) are noted.0 noted.1
 
 -- how an end was noted
-pub noted-again : (standing v : List Standing) (place i : ℕ) (old new : List Kind) → v ≡ standing → IsKindAt old v i → ((k : Kind) → slice_get old i ≡ Some k → new ≡ set old i (with_one_more k)) → IsNoted standing place old new
+pub noted-again : (standing v : List Standing) (place i : ℕ) (old new : List Kind) → v ≡ standing → IsKindAt old v i → ((k : Kind) → slice_get old i ≡ Some k → new ≡ set old i (with_more k 1)) → IsNoted standing place old new
 noted-again standing v place i old new same is put = inl (record {
   place = i;
   is = record { kind = is.kind; at = is.at; same = is.same ∙ same };

@@ -391,5 +391,7 @@ noted-turn users lives place t a h shown old new = noted-on users lives (with_ma
 pub decided : {K : Type 0} (numbered : Bool) (users : List User) → AreApart users → (boot : Boot) → IsFaultless boot → AreInRange users → (found : Entries K Turn) (done : ℕ) → length found ≤ done → AreAllSeen numbered users boot found
     → (edges : List Edge) → IsGraphOfRuns numbered users boot found edges → (shown : Shown) → AreShown users (beginning users boot) (paths_below found done) shown → (lives : List Live) (notes : List Noted) → AreNotedBy users lives shown notes
     → AreDecided users boot lives found edges notes
-decided numbered users apart boot whole range found done all seen edges graph shown are lives notes noted = λ i l n o at there first.
-    stuck-first numbered users apart boot whole range found done all seen edges graph shown are l n (noted.each i l n at there) o first
+decided numbered users apart boot whole range found done all seen edges graph shown are lives notes noted = record {
+  long = noted.long;
+  each = λ i l n o at there first. stuck-first numbered users apart boot whole range found done all seen edges graph shown are l n (noted.each i l n at there) o first;
+}

@@ -11,7 +11,7 @@ use Rattle.mcs_turns.specs.Due.{begun}
 use Rattle.mcs_turns.specs.Turns.{User, Going, IsRun, IsTurn, behind, outcome, put_at}
 use Rattle.mcs_explore_walk.specs.declared.walk.Turn.{Turn}
 use Rattle.mcs_explore_report.specs.declared.mail.Reached.{Reached}
-use Rattle.mcs_explore_report.specs.Judging.{place_of}
+use Rattle.mcs_explore_script.specs.UserLists.{user_of}
 use Rattle.mcs_explore_report.specs.Answers.{IsEntry, IsMailed, comes_to, mailed_to, waiting}
 use Rattle.mcs_explore_report.proofs.Lists.{some-same}
 
@@ -68,7 +68,7 @@ waits-entry users boot (suc n) h (g, (run, follows)) i m p at waits =
 
 -- the entry to which something comes waited
 mailed-waits : (users : List User) (g : Going) (t : Turn) (r : Reached) (e : Pick) → mailed_to users g t r ≡ Some e → waiting g e.user t ≡ Some e.number
-mailed-waits users g t r e is = outer (place_of users r.thread) is
+mailed-waits users g t r e is = outer (user_of users r.thread) is
   where
     last : (user number : ℕ) → waiting g user t ≡ Some number → (b : Bool) → cond b (Some (record { user = user; number = number })) None ≡ Some e → waiting g e.user t ≡ Some e.number
     last user number waits false is = absurd cc

@@ -9,7 +9,7 @@ use Rattle.mcs_explore_walk.specs.declared.walk.Turn.{Turn}
 use Rattle.mcs_explore_orders.specs.Shown.{Made}
 use Rattle.mcs_explore_report.specs.declared.answers.Told.{Told}
 use Rattle.mcs_explore_report.specs.declared.mail.Reached.{Reached}
-use Rattle.mcs_explore_report.specs.Judging.{place_of}
+use Rattle.mcs_explore_script.specs.UserLists.{user_of}
 use Rattle.mcs_explore_report.specs.Mail.{brought, is_send}
 
 -- the answers of the entries of all users
@@ -92,7 +92,7 @@ waiting g user t = cond (user == t.pick.user) None (elim (slice_get g.places use
 
 -- the entry of a user that waited and comes to what reached its thread, if there is one
 abbrev pub mailed_to : List User → Going → Turn → Reached → Option Pick
-mailed_to users g t r = elim (place_of users r.thread) [
+mailed_to users g t r = elim (user_of users r.thread) [
   | None ↦ None
   | Some user ↦ elim (waiting g user t) [
     | None ↦ None

@@ -21,15 +21,15 @@ pub record IsKindAt (kinds : List Kind) (standing : List Standing) (i : ℕ) : T
 abbrev pub IsNoKind : List Kind → List Standing → ℕ → Type 0
 IsNoKind kinds standing n = (i : ℕ) (k : Kind) → i < n → slice_get kinds i ≡ Some k → k.standing ≡ standing → ⊥
 
--- one end more; counts end with the largest
-abbrev pub with_one_more : Kind → Kind
-with_one_more k = record k { count = min (k.count + 1) (2 ^ 64 - 1) }
+-- so many ends more; counts end with the largest
+abbrev pub with_more : Kind → ℕ → Kind
+with_more k n = record k { count = min (k.count + n) (2 ^ 64 - 1) }
 
--- an end of a kind that is there
+-- an end more of a kind that is there
 pub record IsCounted (standing : List Standing) (old new : List Kind) : Type 0 where
   pub place : ℕ
   pub is : IsKindAt old standing place
-  pub counted : new ≡ set old place (with_one_more is.kind)
+  pub counted : new ≡ set old place (with_more is.kind 1)
 
 -- an end of a new kind, in the state of this place
 pub record IsFirst (standing : List Standing) (place : ℕ) (old new : List Kind) : Type 0 where
@@ -43,6 +43,35 @@ IsNoted standing place old new = IsCounted standing old new ⊎ IsFirst standing
 -- the end in a state that is over is noted, and nothing of another
 abbrev pub IsNotedIf : Bool → List Standing → ℕ → List Kind → List Kind → Type 0
 IsNotedIf over standing place old new = ((over ≡ false) × (new ≡ old)) ⊎ ((over ≡ true) × IsNoted standing place old new)
+
+-- ends of a kind that is there are counted
+pub record IsGrown (more : Kind) (old new : List Kind) : Type 0 where
+  pub place : ℕ
+  pub is : IsKindAt old more.standing place
+  pub grown : new ≡ set old place (with_more is.kind more.count)
+
+-- or are those of a new kind
+pub record IsNewKind (more : Kind) (old new : List Kind) : Type 0 where
+  pub none : IsNoKind old more.standing (length old)
+  pub added : new ≡ old ++ more ∷ []
+
+-- ends of a kind are added
+abbrev pub IsMerged : Kind → List Kind → List Kind → Type 0
+IsMerged more old new = IsGrown more old new ⊎ IsNewKind more old new
+
+-- one of the kinds is so
+abbrev pub HasKind : List Kind → List Standing → Type 0
+HasKind kinds standing = (i : ℕ) × IsKindAt kinds standing i
+
+-- kinds were added: each that was there still is, the first n of the others are, and no more
+pub record AreMergedBelow (more old new : List Kind) (n : ℕ) : Type 0 where
+  pub kept : (standing : List Standing) → HasKind old standing → HasKind new standing
+  pub added : (i : ℕ) (k : Kind) → i < n → slice_get more i ≡ Some k → HasKind new k.standing
+  pub only : (standing : List Standing) → HasKind new standing → HasKind old standing ⊎ HasKind more standing
+
+-- all of the others were
+abbrev pub AreMerged : List Kind → List Kind → List Kind → Type 0
+AreMerged more old new = AreMergedBelow more old new (length more)
 
 -- the kind is that of a state that was shown and is over
 pub record IsEndOf (users : List User) (states : List Sight) (k : Kind) : Type 0 where

@@ -1,11 +1,9 @@
 -- Where a question fails: in a state, or by a turn (own).
-use Rattle.std.specs.Prelude.{ℕ, ◌≡◌, ◌+◌, ◌-◌, ◌==◌, ◌&&◌, Bool, false, not, nat_lt, nat_le, unwrap_or, List, [], ◌∷◌, Option, Some, None, length, take, position, slice_get, bytes_eq, decimal}
+use Rattle.std.specs.Prelude.{ℕ, ◌≡◌, ◌+◌, ◌-◌, ◌==◌, ◌&&◌, Bool, false, not, nat_lt, nat_le, unwrap_or, List, [], ◌∷◌, Option, Some, None, length, take, slice_get, bytes_eq, decimal}
 use Rattle.std.specs.List.{list_all, list_any}
-use Rattle.mcs_types.specs.declared.id.ObjId.{ObjId}
 use Rattle.mcs_types.specs.declared.record.Rec.{Rec}
 use Rattle.mcs_types.specs.declared.record.Status.{Status}
 use Rattle.mcs_types.specs.declared.record.Status.TheVariants as status
-use Rattle.mcs_types.specs.Ids.{same}
 use Rattle.mcs_book.specs.Boots.{boot_log}
 use Rattle.mcs_book.specs.History.{Book, Line, log_of, past}
 use Rattle.mcs_book.specs.Logs.{Log}
@@ -24,10 +22,7 @@ use Rattle.mcs_explore_questions.specs.declared.asking.Span.{Span}
 use Rattle.mcs_explore_questions.specs.declared.asking.Until.{Until}
 use Rattle.mcs_explore_questions.specs.declared.asking.Until.TheVariants as until
 use Rattle.mcs_explore_questions.specs.Patterns.{is_match}
-
--- the place of the user of a thread
-abbrev pub place_of : List User → ObjId → Option ℕ
-place_of users thread = position (λ (u : User). same u.thread thread) users
+use Rattle.mcs_explore_script.specs.UserLists.{user_of}
 
 -- how many entries a user at this position was answered for good, by the status of its thread: one
 -- that waits is not among them
@@ -65,15 +60,15 @@ is_at users g s i = elim (slice_get users i) [
 
 -- whether the user of a span is in it
 abbrev pub is_in : List User → Going → Span → Bool
-is_in users g s = elim (place_of users s.thread) [ None ↦ false | Some i ↦ is_at users g s i ]
+is_in users g s = elim (user_of users s.thread) [ None ↦ false | Some i ↦ is_at users g s i ]
 
 -- whether a turn gives an entry
 abbrev pub gives : List User → Turn → Event → Bool
-gives users t e = elim (place_of users e.thread) [ None ↦ false | Some i ↦ (i == t.pick.user) && (e.number == t.pick.number + 1) ]
+gives users t e = elim (user_of users e.thread) [ None ↦ false | Some i ↦ (i == t.pick.user) && (e.number == t.pick.number + 1) ]
 
 -- whether a user has given an entry
 abbrev pub has_given : List User → Going → Event → Bool
-has_given users g e = elim (place_of users e.thread) [
+has_given users g e = elim (user_of users e.thread) [
   | None ↦ false
   | Some i ↦ elim (slice_get g.places i) [ None ↦ false | Some p ↦ nat_le e.number p.next ]
 ]

@@ -1,4 +1,5 @@
 pub mod Standings
+pub mod Endings
 pub mod Ends
 pub mod Mail
 pub mod Answers
@@ -12,4 +13,6 @@ pub mod Judged
 pub mod Saying
 pub mod Verdicts
 pub mod Stuck
+pub mod Holding
+pub mod Outcomes
 pub mod Scripts

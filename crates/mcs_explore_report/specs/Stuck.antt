@@ -130,6 +130,8 @@ abbrev pub IsStuckFirst : {K : Type 0} → List User → Boot → Live → Entri
 IsStuckFirst users boot l found None = (n : ℕ) (g : Going) → IsRun users boot n g → IsLive users l g
 IsStuckFirst users boot l found (Some place) = IsStuckAt users boot l found place
 
--- what edges do not lead on to from a place is what no run leads on to
-abbrev pub AreDecided : {K : Type 0} → List User → Boot → List Live → Entries K Turn → List Edge → List Noted → Type 0
-AreDecided users boot lives found edges notes = (i : ℕ) (l : Live) (n : Noted) (o : Option ℕ) → slice_get lives i ≡ Some l → slice_get notes i ≡ Some n → IsFirstUnled edges (first_marks (length found) n) o → IsStuckFirst users boot l found o
+-- what is noted of each user, and what edges do not lead on to from a place is what no run leads on
+-- to
+pub record AreDecided {K : Type 0} (users : List User) (boot : Boot) (lives : List Live) (found : Entries K Turn) (edges : List Edge) (notes : List Noted) : Type 0 where
+  pub long : length notes ≡ length lives
+  pub each : (i : ℕ) (l : Live) (n : Noted) (o : Option ℕ) → slice_get lives i ≡ Some l → slice_get notes i ≡ Some n → IsFirstUnled edges (first_marks (length found) n) o → IsStuckFirst users boot l found o

@@ -13,7 +13,7 @@ use Rattle.mcs_explore_report.specs.declared.judging.Sighting.{Sighting}
 use Rattle.mcs_explore_report.specs.declared.verdicts.Verdict.{Verdict}
 use Rattle.mcs_explore_report.specs.Answers.{Tables, table_of}
 use Rattle.mcs_explore_report.specs.Ends.{Kind}
-use Rattle.mcs_explore_report.specs.Judging.{place_of}
+use Rattle.mcs_explore_script.specs.UserLists.{user_of}
 use Rattle.mcs_explore_questions.specs.Patterns.{is_match}
 use Rattle.mcs_explore_report.specs.Saying.{said}
 
@@ -35,7 +35,7 @@ IsNotIn told pattern wanted n = (i : ℕ) (t : Told) → i < n → slice_get tol
 
 -- the answers of an entry
 abbrev pub answers_of : List User → Tables → Event → List Told
-answers_of users tables e = elim (place_of users e.thread) [ None ↦ [] | Some i ↦ unwrap_or (table_of tables i (e.number - 1)) [] ]
+answers_of users tables e = elim (user_of users e.thread) [ None ↦ [] | Some i ↦ unwrap_or (table_of tables i (e.number - 1)) [] ]
 
 -- what a look for such an answer gave: where there is one, and none where there is none
 abbrev pub IsSearched : List Told → List ℕ → Bool → Option Sighting → Type 0
@@ -44,11 +44,7 @@ IsSearched told pattern wanted (Some seen) = IsFoundIn told pattern wanted seen
 
 -- where a question failed first, if it did
 abbrev pub failed_at : List (Option Sighting) → ℕ → Option Sighting
-failed_at failed number = failed_of (slice_get failed number)
-  where
-    failed_of : Option (Option Sighting) → Option Sighting
-    failed_of None = None
-    failed_of (Some f) = f
+failed_at failed number = elim (slice_get failed number) [ None ↦ None | Some f ↦ f ]
 
 -- whether a user that stands so in an end has not been answered an entry
 abbrev pub lacks_one : Event → Standing → Bool

@@ -1,11 +1,13 @@
 //! How runs end.
-ghost use Rattle.std.specs.Prelude.{◌≡◌, ◌↔◌, ◌++◌, ◌<◌, [], IsTrue, IfOk, IfSome, IfNone, OnOk, Some, length, set, slice_get};
+ghost use Rattle.std.specs.Prelude.{◌≡◌, ◌↔◌, ◌++◌, ◌<◌, [], IsTrue, IfOk, IfSome, IfNone, OnOk, Some, is_some, length, set, slice_get};
 ghost use Rattle.mcs_explore_report.specs.Standings.{is_blocked, listed, standing_of, standings};
-ghost use Rattle.mcs_explore_report.specs.Ends.{Kind, IsKindAt, IsNoKind, IsNoted, IsNotedIf, with_one_more};
+ghost use Rattle.mcs_explore_report.specs.Endings.{entry_of, waits_for};
+ghost use Rattle.mcs_explore_report.specs.Ends.{AreMerged, Kind, IsKindAt, IsMerged, IsNoKind, IsNoted, IsNotedIf, with_more};
 
 use crate::judging::answered_by;
 use crate::naming::object_in;
 use mcs_explore_orders::{OrdersFault, Users, Walk};
+use mcs_lab_check::LabFault;
 use mcs_queues::PlainLines;
 use mcs_types::{ObjId, Status};
 use std::alloc::Global;
@@ -39,11 +41,11 @@ impl Model for End {
 }
 
 impl End {
-    /// Counts an end more; counts end with the largest.
-    fn add(&mut self)
-        ensures { self.new ≡ with_one_more self.old }
+    /// Counts so many ends more, up to `usize::MAX`.
+    fn add(&mut self, count: usize)
+        ensures { self.new ≡ with_more self.old count }
     {
-        self.count = self.count.saturating_add(1);
+        self.count = self.count.saturating_add(count);
     }
 }
 
@@ -101,13 +103,17 @@ impl Standing {
     }
 
     /// Returns the number of the entry in which it waits, or which it has left, from 1 on.
-    pub fn entry(&self) -> usize {
+    pub fn entry(&self) -> usize
+        ensures { result ≡ entry_of self.now }
+    {
         self.answered.saturating_add(1)
     }
 
     /// Returns what it waits for: the object of a queue, or the reply object that owes it an
     /// answer; None where it waits for nobody.
-    pub fn object(&self) -> Option<ObjId> {
+    pub fn object(&self) -> Option<ObjId>
+        ensures { result ≡ waits_for self.now.status }
+    {
         match self.status {
             Some(Status::Queued(queue)) => Some(object_in(queue)),
             Some(Status::OnReply(reply)) => Some(reply),
@@ -117,7 +123,9 @@ impl Standing {
     }
 
     /// Returns whether it waits for another: it is in a queue, or is owed an answer.
-    pub fn is_waiting(&self) -> bool {
+    pub fn is_waiting(&self) -> bool
+        ensures { result ≡ is_some (waits_for self.now.status) }
+    {
         self.object().is_some()
     }
 }
@@ -223,14 +231,14 @@ impl Ends {
         None
     }
 
-    /// Counts an end more of a kind.
-    fn count(&mut self, index: usize)
+    /// Counts so many ends more of a kind.
+    fn count(&mut self, index: usize, count: usize)
         requires { index < length self.old }
         ensures { (kind : Kind) → slice_get self.old index ≡ Some kind
-            → self.new ≡ set self.old index (with_one_more kind) }
+            → self.new ≡ set self.old index (with_more kind count) }
     {
         let kind = &mut self.kinds[index];
-        kind.add();
+        kind.add(count);
     }
 
     /// Notes the end in a state.
@@ -244,7 +252,7 @@ impl Ends {
     {
         let standing = standings(self.alloc, users, walk)?;
         if let Some(index) = self.find(&standing) {
-            self.count(index);
+            self.count(index, 1);
             return Ok(());
         }
         self.kinds.push(End {
@@ -252,6 +260,34 @@ impl Ends {
             count: 1,
             place,
         })?;
+        Ok(())
+    }
+
+    /// Adds ends of one kind: counts them where the kind is there, and else adds the kind.
+    /// OutOfMemory where memory was refused.
+    fn merge(&mut self, more: &End) -> Result<(), LabFault>
+        ensures { OnOk result (IsMerged more.now self.old self.new) }
+    {
+        if let Some(index) = self.find(&more.standing) {
+            self.count(index, more.count);
+            return Ok(());
+        }
+        self.kinds.push(End {
+            standing: Vec::from_slice(self.alloc, &more.standing)?,
+            count: more.count,
+            place: more.place,
+        })?;
+        Ok(())
+    }
+
+    /// Adds ends of these kinds, each where its kind is, or as a new one. OutOfMemory where memory
+    /// was refused.
+    pub fn merge_all(&mut self, more: &[End]) -> Result<(), LabFault>
+        ensures { OnOk result (AreMerged more.now self.old self.new) }
+    {
+        for index in 0..more.len() {
+            self.merge(&more[index])?;
+        }
         Ok(())
     }
 

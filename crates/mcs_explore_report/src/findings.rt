@@ -1,11 +1,19 @@
 //! What is reported of a search, before it is written.
-ghost use Rattle.std.specs.Prelude.{length};
+ghost use Rattle.std.specs.Prelude.{ℕ, true, false, ◌≡◌, ◌<◌, IfOk, Some, is_none, length, slice_get};
+ghost use Rattle.mcs_explore_script.specs.declared.questions.AskedLine.{AskedLine};
+ghost use Rattle.std.specs.List.{list_all};
 ghost use Rattle.mcs_explore_search.specs.Reaching.{AreWithin};
+ghost use Rattle.mcs_explore_report.specs.Endings.{are_idle};
+ghost use Rattle.mcs_explore_report.specs.Ends.{HasKind, Kind};
+ghost use Rattle.mcs_explore_report.specs.Outcomes.{AreFirstPlaces, IsHeld, holds};
+ghost use Rattle.mcs_explore_report.specs.Verdicts.{failed_at};
 
 use crate::answers::Told;
-use crate::ends::{End, Standing, is_same_kind};
+use crate::endings::{Ending, are_idle, ending_of};
+use crate::ends::{End, Ends};
 use crate::frontier::{deep_ends, is_given};
 use crate::judging::Sighting;
+use crate::outcomes::{Outcome, Unseen};
 use crate::saying::text_of;
 use crate::slots::{Origin, all_origins};
 use crate::stuck_users::{StuckUsers, first_stuck, stuck_of, stuck_users};
@@ -18,88 +26,6 @@ use mcs_lab_check::LabFault;
 use mcs_trace::Line;
 use mcs_types::ObjId;
 use std::alloc::Global;
-
-/// How a run ends.
-#[derive(Clone, Copy, PartialEq, Eq)]
-pub enum Ending {
-    /// Each user has given all its entries and waits for nothing, or may wait there for ever.
-    AllDone,
-    /// One waits that may not wait for ever.
-    Deadlock,
-    /// One has entries left, and waits for nobody.
-    EntriesLeft,
-}
-
-impl Ending {
-    /// Returns the words for it.
-    pub fn text(self) -> &'static str {
-        match self {
-            Ending::AllDone => "all done",
-            Ending::Deadlock => "deadlock",
-            Ending::EntriesLeft => "entries left",
-        }
-    }
-}
-
-/// What no order showed.
-#[derive(Clone, Copy, PartialEq, Eq)]
-pub enum Unseen {
-    /// An answer of an entry.
-    NeverAnswered,
-    /// An entry itself.
-    NeverGiven,
-    /// What a pattern stands for.
-    NothingMatched,
-}
-
-impl Unseen {
-    /// Returns the words for it.
-    pub fn text(self) -> &'static str {
-        match self {
-            Unseen::NeverAnswered => "never answered",
-            Unseen::NeverGiven => "never given",
-            Unseen::NothingMatched => "nothing matched it",
-        }
-    }
-}
-
-/// What came of a question.
-#[derive(Clone, Copy, PartialEq, Eq)]
-pub enum Outcome {
-    Holds,
-    /// It holds, and this says why that is little.
-    HoldsSince(Unseen),
-    Fails,
-    /// A budget ended the search before it was seen.
-    NotSeen,
-}
-
-impl Outcome {
-    /// Returns whether it holds, as far as was seen.
-    pub fn holds(self) -> bool {
-        match self {
-            Outcome::Holds | Outcome::HoldsSince(_) => true,
-            Outcome::Fails | Outcome::NotSeen => false,
-        }
-    }
-
-    /// Returns why it is little that it holds, if it is.
-    pub fn since(self) -> Option<Unseen> {
-        match self {
-            Outcome::HoldsSince(why) => Some(why),
-            Outcome::Holds | Outcome::Fails | Outcome::NotSeen => None,
-        }
-    }
-
-    /// Returns the word for it.
-    pub fn text(self) -> &'static str {
-        match self {
-            Outcome::Holds | Outcome::HoldsSince(_) => "holds",
-            Outcome::Fails => "fails",
-            Outcome::NotSeen => "not seen",
-        }
-    }
-}
 
 /// An answer of an entry, and where it came first.
 #[derive(Drop)]
@@ -138,21 +64,28 @@ impl KindOfEnd<'_> {
     }
 }
 
+/// A question and what came of it.
+#[derive(Drop)]
+pub struct Judged<'a> {
+    pub line: &'a AskedLine,
+    pub outcome: Outcome,
+    /// Where it failed, or where what it asks for was seen.
+    pub seen: Option<Sighting>,
+}
+
 /// What was found by a search, by the script and what was kept.
 pub struct Findings<'a, P: Progress> {
     pub alloc: Global,
     pub script: &'a UserScript,
     pub orders: &'a Orders<'a, Watched<'a, P>>,
-    pub watched: &'a Watched<'a, P>,
     /// The kinds of all ends, those of the deepest states among them.
-    pub ends: Vec<End>,
+    pub ends: Ends,
     /// Of each of them by what its objects are named.
     origins: Vec<Vec<Origin>>,
     /// Users that are stuck and of which no line asks.
     pub stuck: Vec<StuckUsers>,
     /// Of each user that may get stuck the first place from which on it is.
     places: Vec<Option<usize>>,
-    line: Box<Line>,
 }
 
 // By hand, so that it is a function of its own.
@@ -162,58 +95,48 @@ impl<'a, P: Progress> Drop for Findings<'a, P> {
             alloc: _,
             script: _,
             orders: _,
-            watched: _,
             ends: _,
             origins: _,
             stuck: _,
             places: _,
-            line: _,
         } = self;
     }
 }
 
-/// Adds a kind of ends, or how often it comes where it is there.
-fn add_end(alloc: Global, ends: &mut Vec<End>, more: &End) -> Result<(), LabFault> {
-    for end in ends.iter_mut() {
-        if is_same_kind(&end.standing, &more.standing) {
-            end.count = end.count.saturating_add(more.count);
-            return Ok(());
-        }
-    }
-    ends.push(End {
-        standing: Vec::from_slice(alloc, &more.standing)?,
-        count: more.count,
-        place: more.place,
-    })?;
-    Ok(())
-}
-
-/// Returns the same kinds once more.
-fn copies(alloc: Global, kinds: &[End]) -> Result<Vec<End>, LabFault> {
-    let mut ends = Vec::new(alloc);
-    for kind in kinds {
-        add_end(alloc, &mut ends, kind)?;
-    }
+/// Returns all kinds of ends: those that a search kept, and those of the deepest states.
+/// OutOfMemory where memory was refused.
+fn all_ends(alloc: Global, kept: &Ends, deep: &Ends) -> Result<Ends, LabFault>
+    ensures { IfOk result (λ ends. (i : ℕ) (k : Kind) → slice_get kept.now i ≡ Some k
+        → HasKind ends k.standing) }
+{
+    let mut ends = Ends::new(alloc);
+    ends.merge_all(kept.kinds())?;
+    ends.merge_all(deep.kinds())?;
     Ok(ends)
 }
 
-/// Returns of each user that may get stuck the first place from which on it is.
+/// Returns of each user that may get stuck the first place from which on it is. OutOfMemory where
+/// memory was refused.
 fn first_places<P: Progress>(
     alloc: Global,
-    script: &UserScript,
+    count: usize,
     orders: &Orders<'_, Watched<'_, P>>,
 ) -> Result<Vec<Option<usize>>, LabFault>
     requires { AreWithin orders.now.search.edges.items (length orders.now.search.map.entries) }
+    ensures { IfOk result (λ places. AreFirstPlaces orders.now.search.edges.items
+        (length orders.now.search.map.entries) orders.now.explorer.watch.lives.notes count
+        places.items) }
 {
     let mut places = Vec::new(alloc);
-    for number in 0..script.lives.len() {
+    for number in 0..count {
         places.push(first_stuck(alloc, orders, number)?)?;
     }
     Ok(places)
 }
 
 impl<'a, P: Progress> Findings<'a, P> {
-    /// Returns what was found in these orders.
+    /// Returns what was found in these orders, which go no deeper than this. BookFull and
+    /// OutOfMemory as for a search.
     pub fn new(
         alloc: Global,
         script: &'a UserScript,
@@ -222,30 +145,35 @@ impl<'a, P: Progress> Findings<'a, P> {
     ) -> Result<Findings<'a, P>, LabFault>
         requires { AreWithin orders.now.search.edges.items
             (length orders.now.search.map.entries) }
+        ensures script { IfOk result (λ f. f.script.now ≡ script.entry.now) }
+        ensures orders { IfOk result (λ f. f.orders.now ≡ orders.entry.now) }
+        ensures ends { IfOk result (λ f. (i : ℕ) (k : Kind)
+            → slice_get orders.entry.now.explorer.watch.ends i ≡ Some k
+            → HasKind f.ends k.standing) }
+        ensures places { IfOk result (λ f. AreFirstPlaces orders.entry.now.search.edges.items
+            (length orders.entry.now.search.map.entries)
+            orders.entry.now.explorer.watch.lives.notes
+            (length script.entry.now.lives.items) f.places.items) }
     {
-        let mut ends = copies(alloc, orders.watch().ends.kinds())?;
         let deep = deep_ends(alloc, script, orders, depth)?;
-        for end in deep.kinds() {
-            add_end(alloc, &mut ends, end)?;
-        }
-        let origins = all_origins(alloc, script, orders, &ends)?;
-        let places = first_places(alloc, script, orders)?;
+        let ends = all_ends(alloc, &orders.watch().ends, &deep)?;
+        let origins = all_origins(alloc, script, orders, ends.kinds())?;
+        let places = first_places(alloc, script.lives.len(), orders)?;
+        let stuck = stuck_users(alloc, &script.asked, &script.lives, &places)?;
         Ok(Findings {
             alloc,
             script,
             orders,
-            watched: orders.watch(),
             ends,
             origins,
-            stuck: stuck_users(alloc, &script.asked, &script.lives, &places)?,
+            stuck,
             places,
-            line: Box::new(alloc, Line::new())?,
         })
     }
 
     /// Returns the kind of end with a number, from 0 on; None where there is none.
     pub fn kind(&self, index: usize) -> Option<KindOfEnd<'_>> {
-        match (self.ends.get(index), self.origins.get(index)) {
+        match (self.ends.kinds().get(index), self.origins.get(index)) {
             (Some(end), Some(origins)) => Some(KindOfEnd {
                 number: index.saturating_add(1),
                 end,
@@ -255,33 +183,36 @@ impl<'a, P: Progress> Findings<'a, P> {
         }
     }
 
-    /// Returns whether a user may wait in this state for ever.
-    pub fn is_idle(&self, standing: &Standing) -> bool {
-        let number = standing.entry();
-        self.script
-            .asked
-            .iter()
-            .any(|line| line.asked.excuses(standing.thread, number))
-    }
-
     /// Returns how runs of this kind end.
     pub fn ending(&self, end: &End) -> Ending {
-        let mut ending = Ending::AllDone;
-        for standing in end.standing.iter() {
-            if self.is_idle(standing) {
-                continue;
-            }
-            if standing.is_waiting() {
-                return Ending::Deadlock;
-            }
-            ending = Ending::EntriesLeft;
-        }
-        ending
+        ending_of(&self.script.asked, &end.standing)
     }
 
     /// Returns whether a kind of end is one of these.
     pub fn has_ending(&self, ending: Ending) -> bool {
-        self.ends.iter().any(|end| self.ending(end) == ending)
+        self.ends
+            .kinds()
+            .iter()
+            .any(|end| self.ending(end) == ending)
+    }
+
+    /// Returns whether in each kind of end each user is done, or may wait there for ever.
+    pub fn are_done(&self) -> bool
+        ensures { result ≡ list_all
+            (λ (k : Kind). are_idle self.now.script.now.asked.items k.standing) self.now.ends }
+    {
+        let asked = self.script.asked.as_slice();
+        self.ends
+            .kinds()
+            .iter()
+            .all(|end| are_idle(asked, &end.standing))
+    }
+
+    /// Returns whether no user that may not get stuck does.
+    pub fn are_live(&self) -> bool
+        ensures { result ≡ list_all is_none self.now.places.items }
+    {
+        self.places.iter().all(|place| place.is_none())
     }
 
     /// Returns whether a user is stuck of which no line asks.
@@ -312,10 +243,15 @@ impl<'a, P: Progress> Findings<'a, P> {
     }
 
     /// Returns the answers of an entry, sorted by their texts.
-    fn answers(&mut self, user: usize, number: usize) -> Result<Vec<Answered>, LabFault> {
+    fn answers(
+        &self,
+        line: &mut Line,
+        user: usize,
+        number: usize,
+    ) -> Result<Vec<Answered>, LabFault> {
         let mut answers: Vec<Answered> = Vec::new(self.alloc);
-        for told in self.watched.answers.of(user, number) {
-            let answer = self.answered(told)?;
+        for told in self.orders.watch().answers.of(user, number) {
+            let answer = self.answered(line, told)?;
             let place = answers
                 .iter()
                 .position(|other| answer.text < other.text)
@@ -326,9 +262,9 @@ impl<'a, P: Progress> Findings<'a, P> {
     }
 
     /// Returns an answer with its text.
-    fn answered(&mut self, told: &Told) -> Result<Answered, LabFault> {
+    fn answered(&self, line: &mut Line, told: &Told) -> Result<Answered, LabFault> {
         Ok(Answered {
-            text: text_of(self.alloc, &mut self.line, &told.answer)?,
+            text: text_of(self.alloc, line, &told.answer)?,
             seen: Sighting {
                 place: told.place,
                 turn: Some(told.turn),
@@ -337,8 +273,8 @@ impl<'a, P: Progress> Findings<'a, P> {
     }
 
     /// Returns an entry of a user with its answers.
-    fn entry(&mut self, user: usize, event: Event) -> Result<AnsweredEntry, LabFault> {
-        let answers = self.answers(user, event.number.saturating_sub(1))?;
+    fn entry(&self, line: &mut Line, user: usize, event: Event) -> Result<AnsweredEntry, LabFault> {
+        let answers = self.answers(line, user, event.number.saturating_sub(1))?;
         let unanswered = if answers.is_empty() {
             Some(self.unanswered(event)?)
         } else {
@@ -351,8 +287,9 @@ impl<'a, P: Progress> Findings<'a, P> {
         })
     }
 
-    /// Returns all entries with their answers, in the order of users and entries.
-    pub fn entries(&mut self) -> Result<Vec<AnsweredEntry>, LabFault> {
+    /// Returns all entries with their answers, in the order of users and entries. Answers are
+    /// spelled in this line.
+    pub fn entries(&self, line: &mut Line) -> Result<Vec<AnsweredEntry>, LabFault> {
         let users: &'a Users = &self.script.users;
         let mut all = Vec::new(self.alloc);
         for user in 0..users.lists().len() {
@@ -364,7 +301,7 @@ impl<'a, P: Progress> Findings<'a, P> {
                     thread: list.thread,
                     number: before.saturating_add(1),
                 };
-                all.push(self.entry(user, event)?)?;
+                all.push(self.entry(line, user, event)?)?;
             }
         }
         Ok(all)
@@ -375,7 +312,7 @@ impl<'a, P: Progress> Findings<'a, P> {
         match self.script.users.find(event.thread) {
             Some(user) => {
                 let number = event.number.saturating_sub(1);
-                !self.watched.answers.of(user, number).is_empty()
+                !self.orders.watch().answers.of(user, number).is_empty()
             }
             None => false,
         }
@@ -439,38 +376,100 @@ impl<'a, P: Progress> Findings<'a, P> {
         span.from == 0 || self.is_answered(event)
     }
 
-    /// Returns what came of a question, by its number from 0 on, and where that is seen.
-    pub fn outcome(
-        &mut self,
+    /// Returns the verdict on the question with a number, from 0 on, by what the search kept.
+    /// Answers are spelled in this line.
+    fn verdict(
+        &self,
+        line: &mut Line,
         number: usize,
-        line: &AskedLine,
-    ) -> Result<(Outcome, Option<Sighting>), LabFault> {
+        question: &AskedLine,
+    ) -> Result<Verdict, LabFault>
+        ensures { IfOk result (λ v. v.holds ≡ true → IsHeld self.now.script.now.users
+            self.now.orders.now.explorer.watch.ends self.now.orders.now.explorer.watch.answers
+            (failed_at self.now.orders.now.explorer.watch.failed.items number)
+            question.now.asked) }
+    {
         let script = self.script;
         let stuck = stuck_of(&script.asked, &self.places, number);
-        let Verdict { holds, seen } = verdict_on(
+        let watched = self.orders.watch();
+        verdict_on(
             self.alloc,
-            &mut self.line,
+            line,
             &script.users,
-            self.watched,
+            watched,
             number,
             stuck,
-            line,
-        )?;
-        if let Asked::Answer { event, .. } = &line.asked
-            && holds
-            && let Some(seen) = find_end(self.ends.as_slice(), *event)
-        {
-            return Ok((Outcome::Fails, Some(seen)));
+            question,
+        )
+    }
+
+    /// Returns the first end that comes without an answer that a question asks for in each run.
+    fn end_without(&self, asked: &Asked) -> Option<Sighting> {
+        match asked {
+            Asked::Answer { event, .. } => find_end(self.ends.kinds(), *event),
+            Asked::Idle { .. }
+            | Asked::Live { .. }
+            | Asked::AnswerIf { .. }
+            | Asked::Some { .. }
+            | Asked::Never { .. }
+            | Asked::Apart { .. }
+            | Asked::Before { .. }
+            | Asked::Again { .. } => None,
         }
-        if holds {
-            return Ok(match self.little(&line.asked)? {
-                Some(why) => (Outcome::HoldsSince(why), seen),
-                None => (Outcome::Holds, seen),
+    }
+
+    /// Returns what came of a question that holds by what the search kept, and where that is seen:
+    /// an end among the deepest states may come without an answer.
+    fn held(
+        &self,
+        asked: &Asked,
+        seen: Option<Sighting>,
+    ) -> Result<(Outcome, Option<Sighting>), LabFault> {
+        if let Some(end) = self.end_without(asked) {
+            return Ok((Outcome::Fails, Some(end)));
+        }
+        Ok(match self.little(asked)? {
+            Some(why) => (Outcome::HoldsSince(why), seen),
+            None => (Outcome::Holds, seen),
+        })
+    }
+
+    /// Returns what came of a question that does not hold by what the search kept.
+    fn missed(&self, seen: Option<Sighting>) -> Outcome
+        ensures { holds result ≡ false }
+    {
+        if seen.is_none() && !self.orders.is_whole() {
+            Outcome::NotSeen
+        } else {
+            Outcome::Fails
+        }
+    }
+
+    /// Returns what came of the question with a number, from 0 on, and where that is seen. Answers
+    /// are spelled in this line.
+    pub fn judged(&self, line: &mut Line, number: usize) -> Result<Judged<'a>, LabFault>
+        requires { number < length self.now.script.now.asked.items }
+        ensures { IfOk result (λ j. (q : AskedLine)
+            → slice_get self.now.script.now.asked.items number ≡ Some q
+            → holds j.outcome ≡ true → IsHeld self.now.script.now.users
+            self.now.orders.now.explorer.watch.ends self.now.orders.now.explorer.watch.answers
+            (failed_at self.now.orders.now.explorer.watch.failed.items number) q.asked) }
+    {
+        let script: &'a UserScript = self.script;
+        let question = &script.asked[number];
+        let Verdict { holds, seen } = self.verdict(line, number, question)?;
+        if !holds {
+            return Ok(Judged {
+                line: question,
+                outcome: self.missed(seen),
+                seen,
             });
         }
-        if seen.is_none() && !self.orders.is_whole() {
-            return Ok((Outcome::NotSeen, seen));
-        }
-        Ok((Outcome::Fails, seen))
+        let (outcome, seen) = self.held(&question.asked, seen)?;
+        Ok(Judged {
+            line: question,
+            outcome,
+            seen,
+        })
     }
 }

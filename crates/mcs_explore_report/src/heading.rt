@@ -66,7 +66,7 @@ pub fn put_head<P: Progress>(page: &mut Page, report: &Report<'_, P>) {
     page.put(b" turns, depth ");
     page.count(orders.deepest());
     page.put(b", ");
-    page.count(count_of(report.findings.ends.as_slice()));
+    page.count(count_of(report.findings.ends.kinds()));
     page.put(b" ends");
     if orders.is_whole() {
         page.put(b", whole");

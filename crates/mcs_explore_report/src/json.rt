@@ -1,9 +1,10 @@
 //! The report of a search as one document of JSON.
+use crate::endings::is_idle;
 use crate::ends::Standing;
-use crate::findings::{AnsweredEntry, Findings, KindOfEnd};
+use crate::findings::{AnsweredEntry, Findings, Judged, KindOfEnd};
 use crate::frontier::count_of;
 use crate::judging::Sighting;
-use crate::report::{Judged, Report};
+use crate::report::Report;
 use crate::saving::ScriptName;
 use crate::slots::Origin;
 use crate::stuck_users::{StuckUsers, seen_at};
@@ -81,7 +82,7 @@ fn put_standing<P: Progress>(
     page.count_member("entry", number);
     page.text_member("text", findings.entry_text(standing.thread, number));
     page.flag_member("left", standing.has_entries);
-    page.flag_member("idle", findings.is_idle(standing));
+    page.flag_member("idle", is_idle(&findings.script.asked, standing));
     put_waits(page, names, standing.status);
     put_origin(page, origin);
     page.put(b"}");
@@ -159,7 +160,7 @@ fn put_ends<P: Progress, W: Write>(
 ) -> Result<(), LabFault> {
     page.key("kinds");
     page.put(b"[");
-    for index in 0..report.findings.ends.len() {
+    for index in 0..report.findings.ends.kinds().len() {
         let Some(kind) = report.findings.kind(index) else {
             break;
         };
@@ -290,7 +291,7 @@ fn put_counts<P: Progress>(page: &mut Page, findings: &Findings<'_, P>) {
     page.count(orders.states());
     page.count_member("turns", orders.turns());
     page.count_member("depth", orders.deepest());
-    page.count_member("ends", count_of(findings.ends.as_slice()));
+    page.count_member("ends", count_of(findings.ends.kinds()));
     page.flag_member("whole", orders.is_whole());
 }
 

@@ -11,6 +11,7 @@
 
 mod answers;
 mod bounds;
+mod endings;
 mod ends;
 mod exploring;
 mod findings;
@@ -22,6 +23,7 @@ mod live;
 mod mail;
 mod modes;
 mod naming;
+mod outcomes;
 mod report;
 mod saving;
 mod saying;
@@ -36,7 +38,7 @@ pub use exploring::{Wanted, watched};
 pub use live::{Lives, Notes, stuck_at};
 pub use modes::{Mode, make_objects, mode_of};
 pub use naming::{names_later, names_message};
-pub use report::{Explored, Output, explore_and_tell, explore_script};
+pub use report::{Explored, Output, explore_all, explore_and_tell, explore_script};
 pub use saving::Saves;
 pub use stuck_users::first_stuck;
 pub use verdicts::{Verdict, verdict_on};

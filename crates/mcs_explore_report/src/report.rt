@@ -1,7 +1,15 @@
 //! The report of a search.
+ghost use Rattle.std.specs.Prelude.{true, false, ◌≡◌, ◌<◌, ◌≤◌, ◌++◌, Bool, IfOk, OnOk, is_none, length};
+ghost use Rattle.std.specs.List.{list_all};
+ghost use Rattle.mcs_explore_report.specs.declared.report.Explored.TheVariants as Explored;
+ghost use Rattle.mcs_explore_report.specs.Endings.{are_idle};
+ghost use Rattle.mcs_explore_report.specs.Ends.{Kind};
+ghost use Rattle.mcs_explore_report.specs.Holding.{HasReadHolding, IsProvedToHold};
+ghost use Rattle.mcs_explore_report.specs.Outcomes.{AreHeldBelow, IsJudgedMore, all_hold};
+
 use crate::bounds::states_before;
 use crate::exploring::{Wanted, watched};
-use crate::findings::{AnsweredEntry, Ending, Findings, Outcome};
+use crate::findings::{AnsweredEntry, Findings, Judged};
 use crate::json::write_json;
 use crate::judging::Sighting;
 use crate::saving::{Saves, save_all};
@@ -9,9 +17,10 @@ use crate::scripts::{script_by, turns_of};
 use crate::text::write_text;
 use crate::watching::{Progress, Quiet};
 use mcs_explore_questions::ExploreFault;
-use mcs_explore_script::{AskedLine, UserScript, read_script};
+use mcs_explore_script::{UserScript, read_script};
 use mcs_lab_check::LabFault;
 use mcs_sim::Source;
+use mcs_trace::Line;
 use std::alloc::Global;
 use std::io::{Read, Write};
 
@@ -46,15 +55,6 @@ pub struct Output {
     pub is_json: bool,
 }
 
-/// A question and what came of it.
-#[derive(Drop)]
-pub struct Judged<'a> {
-    pub line: &'a AskedLine,
-    pub outcome: Outcome,
-    /// Where it failed, or where what it asks for was seen.
-    pub seen: Option<Sighting>,
-}
-
 /// What is reported of a search.
 pub struct Report<'a, P: Progress> {
     pub findings: Findings<'a, P>,
@@ -77,32 +77,57 @@ impl<'a, P: Progress> Drop for Report<'a, P> {
     }
 }
 
-/// Returns what came of each question.
+/// Adds what came of the question with a number, if that line asks something that holds or not.
+fn push_judged<'a, P: Progress>(
+    all: &mut Vec<Judged<'a>>,
+    findings: &Findings<'a, P>,
+    line: &mut Line,
+    number: usize,
+) -> Result<(), LabFault>
+    requires { number < length findings.now.script.now.asked.items }
+    ensures { OnOk result (IsJudgedMore findings.now.script.now.users
+        findings.now.orders.now.explorer.watch.ends findings.now.orders.now.explorer.watch.answers
+        findings.now.orders.now.explorer.watch.failed.items
+        findings.now.script.now.asked.items number all.old.items all.new.items) }
+{
+    if findings.script.asked[number].asked.is_question() {
+        all.push(findings.judged(line, number)?)?;
+    }
+    Ok(())
+}
+
+/// Returns what came of each question. Answers are spelled in this line.
 fn all_judged<'a, P: Progress>(
-    findings: &mut Findings<'a, P>,
-) -> Result<Vec<Judged<'a>>, LabFault> {
-    let script: &'a UserScript = findings.script;
+    findings: &Findings<'a, P>,
+    line: &mut Line,
+) -> Result<Vec<Judged<'a>>, LabFault>
+    ensures { IfOk result (λ all. all_hold all.items ≡ true
+        → AreHeldBelow findings.now.script.now.users
+        findings.now.orders.now.explorer.watch.ends findings.now.orders.now.explorer.watch.answers
+        findings.now.orders.now.explorer.watch.failed.items
+        findings.now.script.now.asked.items (length findings.now.script.now.asked.items)) }
+{
     let mut all = Vec::new(findings.alloc);
-    for number in 0..script.asked.len() {
-        let line = &script.asked[number];
-        if line.asked.is_question() {
-            let (outcome, seen) = findings.outcome(number, line)?;
-            all.push(Judged {
-                line,
-                outcome,
-                seen,
-            })?;
-        }
+    for number in 0..findings.script.asked.len() {
+        push_judged(&mut all, findings, line, number)?;
     }
     Ok(all)
 }
 
 impl<'a, P: Progress> Report<'a, P> {
-    /// Judges all questions by what was found, and returns the report.
-    fn new(findings: Findings<'a, P>, is_exact: bool) -> Result<Report<'a, P>, LabFault> {
-        let mut findings = findings;
-        let judged = all_judged(&mut findings)?;
-        let entries = findings.entries()?;
+    /// Judges all questions by what was found, and returns the report. OutOfMemory where memory was
+    /// refused.
+    fn new(findings: Findings<'a, P>, is_exact: bool) -> Result<Report<'a, P>, LabFault>
+        ensures findings { IfOk result (λ r. r.findings ≡ findings.entry) }
+        ensures judged { IfOk result (λ r. all_hold r.judged.items ≡ true
+            → AreHeldBelow r.findings.script.now.users
+            r.findings.orders.now.explorer.watch.ends r.findings.orders.now.explorer.watch.answers
+            r.findings.orders.now.explorer.watch.failed.items
+            r.findings.script.now.asked.items (length r.findings.script.now.asked.items)) }
+    {
+        let mut line = Box::new(findings.alloc, Line::new())?;
+        let judged = all_judged(&findings, &mut line)?;
+        let entries = findings.entries(&mut line)?;
         Ok(Report {
             findings,
             judged,
@@ -127,26 +152,42 @@ impl<'a, P: Progress> Report<'a, P> {
         count
     }
 
+    /// Returns whether all questions hold, as far as was seen.
+    fn are_held(&self) -> bool
+        ensures { result ≡ all_hold self.now.judged.items }
+    {
+        self.judged.iter().all(|judged| judged.outcome.holds())
+    }
+
     /// Returns whether a question does not hold, users are stuck, or a run ends with a user that
     /// is not done.
-    fn has_failure(&self) -> bool {
+    fn has_failure(&self) -> bool
+        ensures done { result ≡ false → list_all
+            (λ (k : Kind). are_idle self.now.findings.script.now.asked.items k.standing)
+            self.now.findings.ends ≡ true }
+        ensures live { result ≡ false → list_all is_none self.now.findings.places.items ≡ true }
+    {
         let findings = &self.findings;
-        let fails = self
-            .judged
-            .iter()
-            .any(|judged| judged.outcome == Outcome::Fails);
-        fails
-            || !findings.stuck.is_empty()
-            || findings.has_ending(Ending::Deadlock)
-            || findings.has_ending(Ending::EntriesLeft)
+        let fails = self.judged.iter().any(|judged| judged.outcome.fails());
+        fails || !findings.are_live() || !findings.are_done()
     }
 
     /// Returns what came of the search.
-    pub fn explored(&self) -> Explored {
+    pub fn explored(&self) -> Explored
+        ensures whole { result ≡ Explored.Holds
+            → length self.now.findings.orders.now.search.map.entries
+            ≤ self.now.findings.orders.now.search.done }
+        ensures held { result ≡ Explored.Holds → all_hold self.now.judged.items ≡ true }
+        ensures done { result ≡ Explored.Holds → list_all
+            (λ (k : Kind). are_idle self.now.findings.script.now.asked.items k.standing)
+            self.now.findings.ends ≡ true }
+        ensures live { result ≡ Explored.Holds
+            → list_all is_none self.now.findings.places.items ≡ true }
+    {
         if self.has_failure() {
             return Explored::Fails;
         }
-        if self.findings.orders.is_whole() && self.count_held() == self.judged.len() {
+        if self.findings.orders.is_whole() && self.are_held() {
             Explored::Holds
         } else {
             Explored::Stopped
@@ -157,33 +198,24 @@ impl<'a, P: Progress> Report<'a, P> {
 /// Goes through all orders of the users of a script, and reports what comes of them: first how many
 /// states were found, then each kind of end, each answer of each entry, and each question, what
 /// fails before what holds, and the verdict last. Each end and each answer is one of a run whose
-/// script is kept.
-pub fn explore_script<R: Read, W: Write + Drop, S: Saves>(
+/// script is kept. The faults are those of a search and of scripts that are kept; Write where a
+/// write failed.
+pub fn explore_all<W: Write, S: Saves, P: Progress>(
     alloc: Global,
-    from: &mut Source<R>,
-    to: W,
-    wanted: Wanted,
-    output: Output,
-    saves: &mut S,
-) -> Result<Explored, ExploreFault> {
-    explore_and_tell(alloc, from, to, wanted, output, saves, Quiet)
-}
-
-/// Goes through all orders and reports them in the same way, and reports how far it is while it
-/// goes.
-pub fn explore_and_tell<R: Read, W: Write + Drop, S: Saves, P: Progress>(
-    alloc: Global,
-    from: &mut Source<R>,
-    to: W,
+    script: &UserScript,
+    to: &mut W,
     wanted: Wanted,
     output: Output,
     saves: &mut S,
     progress: P,
-) -> Result<Explored, ExploreFault> {
-    let mut to = to;
-    let script = read_script(alloc, from)?;
+) -> Result<Explored, LabFault>
+    // where it holds, all that the script asks is so in each run of its users, if states were told
+    // apart by proved keys
+    ensures { IfOk result (λ e. e ≡ Explored.Holds
+        → IsProvedToHold wanted.is_exact script.now) }
+{
     let budget = Wanted {
-        states: states_before(&script, wanted.states),
+        states: states_before(script, wanted.states),
         ..wanted
     };
     let orders = watched(
@@ -195,13 +227,52 @@ pub fn explore_and_tell<R: Read, W: Write + Drop, S: Saves, P: Progress>(
         budget,
         progress,
     )?;
-    let findings = Findings::new(alloc, &script, &orders, wanted.depth)?;
+    let findings = Findings::new(alloc, script, &orders, wanted.depth)?;
     let report = Report::new(findings, wanted.is_exact)?;
     save_all(&report, saves, output.with_answers)?;
     if output.is_json {
-        write_json(&mut to, &report)?;
+        write_json(to, &report)?;
     } else {
-        write_text(&mut to, &report)?;
+        write_text(to, &report)?;
     }
     Ok(report.explored())
+}
+
+/// Reads a script of users, goes through all orders, and reports them. The faults are first those
+/// of the script.
+pub fn explore_script<R: Read, W: Write + Drop, S: Saves>(
+    alloc: Global,
+    from: &mut Source<R>,
+    to: W,
+    wanted: Wanted,
+    output: Output,
+    saves: &mut S,
+) -> Result<Explored, ExploreFault>
+    // where it holds, a script was read, and all that it asks is so in each run of its users, if
+    // states were told apart by proved keys
+    ensures { IfOk result (λ e. e ≡ Explored.Holds → HasReadHolding wanted.is_exact
+        (R.remaining from.old.reader) (R.remaining from.new.reader)) }
+{
+    explore_and_tell(alloc, from, to, wanted, output, saves, Quiet)
+}
+
+/// Does the same, and reports how far it is while it goes.
+pub fn explore_and_tell<R: Read, W: Write + Drop, S: Saves, P: Progress>(
+    alloc: Global,
+    from: &mut Source<R>,
+    to: W,
+    wanted: Wanted,
+    output: Output,
+    saves: &mut S,
+    progress: P,
+) -> Result<Explored, ExploreFault>
+    // where it holds, a script was read, and all that it asks is so in each run of its users, if
+    // states were told apart by proved keys
+    ensures { IfOk result (λ e. e ≡ Explored.Holds → HasReadHolding wanted.is_exact
+        (R.remaining from.old.reader) (R.remaining from.new.reader)) }
+{
+    let mut to = to;
+    let script = read_script(alloc, from)?;
+    let explored = explore_all(alloc, &script, &mut to, wanted, output, saves, progress)?;
+    Ok(explored)
 }

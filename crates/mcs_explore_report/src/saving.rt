@@ -64,7 +64,7 @@ fn save<P: Progress, S: Saves>(
 /// Keeps the scripts of all kinds of ends.
 fn save_ends<P: Progress, S: Saves>(report: &Report<'_, P>, saves: &mut S) -> Result<(), LabFault> {
     let findings = &report.findings;
-    for index in 0..findings.ends.len() {
+    for index in 0..findings.ends.kinds().len() {
         let Some(kind) = findings.kind(index) else {
             break;
         };

@@ -1,8 +1,10 @@
 //! The report of a search as text.
+use crate::endings::{Ending, is_idle};
 use crate::ends::Standing;
-use crate::findings::{Answered, AnsweredEntry, Ending, Findings, KindOfEnd, Outcome};
+use crate::findings::{Answered, AnsweredEntry, Findings, Judged, KindOfEnd};
 use crate::heading::put_head;
-use crate::report::{Explored, Judged, Report};
+use crate::outcomes::Outcome;
+use crate::report::{Explored, Report};
 use crate::slots::Origin;
 use crate::stuck_users::{StuckUsers, seen_at};
 use crate::watching::Progress;
@@ -75,7 +77,7 @@ fn put_standing<P: Progress>(
     if standing.has_entries {
         page.put(b", with entries left");
     }
-    if findings.is_idle(standing) {
+    if is_idle(&findings.script.asked, standing) {
         page.put(b" (idle)");
     }
     page.put(b"\n");
@@ -291,7 +293,7 @@ pub fn put_verdict<P: Progress>(page: &mut Page, report: &Report<'_, P>) {
 
 /// Puts all kinds of ends that are all done, or all others.
 fn put_ends<P: Progress>(page: &mut Page, findings: &Findings<'_, P>, wanted: bool) {
-    for index in 0..findings.ends.len() {
+    for index in 0..findings.ends.kinds().len() {
         let Some(kind) = findings.kind(index) else {
             break;
         };

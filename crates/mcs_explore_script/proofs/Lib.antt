@@ -1,2 +1,3 @@
 pub mod StepLines
 pub mod Texts
+pub mod AskedUsers

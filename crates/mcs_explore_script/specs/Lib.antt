@@ -1,5 +1,6 @@
 pub mod Texts
 pub mod Questions
 pub mod UserLists
+pub mod Lives
 pub mod Scripts
 pub mod Steps

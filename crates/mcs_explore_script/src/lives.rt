@@ -1,6 +1,12 @@
 //! Users that may not get stuck.
+ghost use Rattle.std.specs.Prelude.{◌≡◌, ◌++◌, IfOk, OnOk};
+ghost use Rattle.std.specs.List.{list_any};
+ghost use Rattle.mcs_explore_questions.specs.Asking.{is_of_waits};
+ghost use Rattle.mcs_explore_script.specs.Lives.{asked_live, asked_lives, entry_asked, last_entry, live_of, lives_of, other_live, other_lives};
+
 use crate::questions::AskedLine;
 use mcs_explore_questions::{Asked, ExploreFault};
+use mcs_types::ObjId;
 use mcs_users::{UserList, Users};
 use std::alloc::Global;
 
@@ -14,46 +20,112 @@ pub struct Live {
 
 /// Returns the entry that can be answered in some order as long as a user is not stuck: the last
 /// one, which is answered after all others; none in particular where the user never ends.
-fn last_entry(list: &UserList) -> Option<usize> {
+fn last_entry(list: &UserList) -> Option<usize>
+    ensures { result ≡ last_entry list.now }
+{
     match list.again {
         Some(_) => None,
         None => Some(list.entries.len().saturating_sub(1)),
     }
 }
 
-/// Returns what the lines `live` ask, in their order.
-fn asked_lives(
-    alloc: Global,
+/// Returns an entry, asked for by its number from 1 on, by its number from 0 on; the last where
+/// none is asked for.
+fn entry_asked(number: Option<usize>, list: &UserList) -> Option<usize>
+    ensures { result ≡ entry_asked number list.now }
+{
+    match number {
+        Some(number) => Some(number.saturating_sub(1)),
+        None => last_entry(list),
+    }
+}
+
+/// Adds the user in a place, if there is one, as one that may not get stuck before this entry.
+fn push_live(
+    lives: &mut Vec<Live>,
     users: &Users,
-    asked: &[AskedLine],
-) -> Result<Vec<Live>, ExploreFault> {
+    number: Option<usize>,
+    place: Option<usize>,
+) -> Result<(), ExploreFault>
+    ensures { OnOk result (lives.new.items ≡ lives.old.items ++ live_of users.now number place) }
+{
+    let Some(user) = place else {
+        return Ok(());
+    };
+    if let Some(list) = users.at(user) {
+        let entry = entry_asked(number, list);
+        lives.push(Live { user, entry })?;
+    }
+    Ok(())
+}
+
+/// Adds what a question asks of users that may not get stuck.
+fn push_asked(lives: &mut Vec<Live>, users: &Users, asked: &Asked) -> Result<(), ExploreFault>
+    ensures { OnOk result (lives.new.items ≡ lives.old.items ++ asked_live users.now asked.now) }
+{
+    match asked {
+        Asked::Live { thread, number } => push_live(lives, users, *number, users.find(*thread)),
+        Asked::Idle { .. }
+        | Asked::Answer { .. }
+        | Asked::AnswerIf { .. }
+        | Asked::Some { .. }
+        | Asked::Never { .. }
+        | Asked::Apart { .. }
+        | Asked::Before { .. }
+        | Asked::Again { .. } => Ok(()),
+    }
+}
+
+/// Returns what the lines `live` ask, in their order.
+fn asked_lives(alloc: Global, users: &Users, asked: &[AskedLine]) -> Result<Vec<Live>, ExploreFault>
+    ensures { IfOk result (λ lives. lives.items ≡ asked_lives users.now asked.now) }
+{
     let mut lives = Vec::new(alloc);
     for line in asked {
-        if let Asked::Live { thread, number } = line.asked
-            && let Some(user) = users.find(thread)
-            && let Some(list) = users.at(user)
-        {
-            let entry = match number {
-                Some(number) => Some(number.saturating_sub(1)),
-                None => last_entry(list),
-            };
-            lives.push(Live { user, entry })?;
-        }
+        push_asked(&mut lives, users, &line.asked)?;
     }
     Ok(lives)
 }
 
-/// Returns what is asked of users that may get stuck.
+/// Returns whether a question is about the waits of a user.
+fn are_of_waits(asked: &[AskedLine], thread: ObjId) -> bool
+    ensures { result ≡ list_any (λ q. is_of_waits q.asked thread) asked.now }
+{
+    asked.iter().any(|line| line.asked.is_of_waits(thread))
+}
+
+/// Adds a user, by its number, of whose waits no question is.
+fn push_other(
+    lives: &mut Vec<Live>,
+    asked: &[AskedLine],
+    user: usize,
+    list: &UserList,
+) -> Result<(), ExploreFault>
+    ensures { OnOk result (lives.new.items
+        ≡ lives.old.items ++ other_live asked.now user list.now) }
+{
+    if are_of_waits(asked, list.thread) {
+        return Ok(());
+    }
+    let entry = last_entry(list);
+    lives.push(Live { user, entry })?;
+    Ok(())
+}
+
+/// Returns the users that may not get stuck: those of questions, then each of whose waits no
+/// question is. OutOfMemory where memory was refused.
 pub fn lives_of(
     alloc: Global,
     users: &Users,
     asked: &[AskedLine],
-) -> Result<Vec<Live>, ExploreFault> {
+) -> Result<Vec<Live>, ExploreFault>
+    ensures { IfOk result (λ lives. lives.items ≡ lives_of users.now asked.now) }
+{
     let mut lives = asked_lives(alloc, users, asked)?;
-    for (user, list) in users.lists().iter().enumerate() {
-        if !asked.iter().any(|line| line.asked.is_of_waits(list.thread)) {
-            let entry = last_entry(list);
-            lives.push(Live { user, entry })?;
+    let lists = users.lists();
+    for user in 0..lists.len() {
+        if let Some(list) = lists.get(user) {
+            push_other(&mut lives, asked, user, list)?;
         }
     }
     Ok(lives)

@@ -1,4 +1,8 @@
 //! The search through all orders, as the command line asks for it.
+ghost use Rattle.std.specs.Prelude.{◌≡◌, IfOk};
+ghost use Rattle.mcs_explore_report.specs.declared.report.Explored.TheVariants as Explored;
+ghost use Rattle.mcs_explore_report.specs.Holding.{HasReadHolding};
+
 use crate::command_line::with;
 use clap::{Arg, ArgAction, ArgMatches, Command as Words, Error, value_parser};
 use mcs_explore_questions::ExploreFault;
@@ -140,7 +144,9 @@ pub fn asked<'a>(found: &ArgMatches<'a>) -> Sought<'a> {
 }
 
 /// Returns the exit status of a search; `QUESTIONS` says the same in words, with those of faults.
-fn status_of(explored: Explored) -> u8 {
+fn status_of(explored: Explored) -> u8
+    ensures { result ≡ 0 → explored ≡ Explored.Holds }
+{
     match explored {
         Explored::Holds => 0,
         Explored::Fails => 1,
@@ -258,7 +264,12 @@ pub fn explore<R: Read, W: Write + Drop>(
     from: &mut Source<R>,
     to: W,
     sought: Sought<'_>,
-) -> Result<u8, ExploreFault> {
+) -> Result<u8, ExploreFault>
+    // status 0: a script was read, and all that it asks is so in each run of its users, if states
+    // were told apart by proved keys
+    ensures { IfOk result (λ status. status ≡ 0 → HasReadHolding sought.entry.wanted.is_exact
+        (R.remaining from.old.reader) (R.remaining from.new.reader)) }
+{
     let mut folder = Folder {
         rt,
         path: sought.scripts,

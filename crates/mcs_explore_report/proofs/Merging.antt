@@ -1,0 +1,66 @@
+-- Kinds of ends that are added to others.
+use Rattle.std.specs.Prelude.{ℕ, ◌≡◌, ◌<◌, ◌+◌, ◌++◌, ◌⊎◌, List, [], ◌∷◌, Some, length, set, slice_get}
+use Rattle.std.proofs.Common.{refl, ap, sym, ◌∙◌, inl, inr, arith}
+use Rattle.mcs_explore_report.specs.declared.ends.Standing.{Standing}
+use Rattle.mcs_explore_report.specs.Ends.{AreMergedBelow, HasKind, IsKindAt, IsMerged, Kind, with_more}
+use Rattle.mcs_explore_report.proofs.Lists.{at-last, at-old, at-split, same-or-not, some-same}
+use Rattle.mcs_explore_report.proofs.Noting.{counted-back, counted-there}
+
+at-of : (i : ℕ) (old new : List Kind) → old ≡ new → slice_get old i ≡ slice_get new i
+at-of i old new same = ap (λ (ks : List Kind). slice_get ks i) same
+
+-- ends of a kind that was found are counted there
+pub merged-again : (more : Kind) (v : List Standing) (n i : ℕ) (old new : List Kind) → v ≡ more.standing → n ≡ more.count → IsKindAt old v i → ((k : Kind) → slice_get old i ≡ Some k → new ≡ set old i (with_more k n)) → IsMerged more old new
+merged-again more v n i old new same count is grown = inl (record {
+  place = i;
+  is = record { kind = is.kind; at = is.at; same = is.same ∙ same };
+  grown = grown is.kind is.at ∙ ap (λ (m : ℕ). set old i (with_more is.kind m)) count;
+})
+
+-- ends of one kind more: each kind that was there still is
+merged-kept : (more : Kind) (old new : List Kind) → IsMerged more old new → (standing : List Standing) → HasKind old standing → HasKind new standing
+merged-kept more old new (inl g) standing has =
+    let t = counted-there old g.place g.is.kind more.count g.is.at has.0 has.1.kind has.1.at in
+    (has.0, record { kind = t.0; at = at-of has.0 new _ g.grown ∙ t.1.0; same = t.1.1 ∙ has.1.same })
+merged-kept more old new (inr a) standing has = (has.0, record { kind = has.1.kind; at = at-of has.0 new _ a.added ∙ at-old old (more ∷ []) has.0 has.1.kind has.1.at; same = has.1.same })
+
+-- theirs is
+merged-there : (more : Kind) (old new : List Kind) → IsMerged more old new → HasKind new more.standing
+merged-there more old new (inl g) =
+    let t = counted-there old g.place g.is.kind more.count g.is.at g.place g.is.kind g.is.at in
+    (g.place, record { kind = t.0; at = at-of g.place new _ g.grown ∙ t.1.0; same = t.1.1 ∙ g.is.same })
+merged-there more old new (inr a) = (length old, record { kind = more; at = at-of (length old) new _ a.added ∙ at-last old more; same = refl })
+
+-- and no other
+merged-only : (more : Kind) (old new : List Kind) → IsMerged more old new → (standing : List Standing) → HasKind new standing → HasKind old standing ⊎ (more.standing ≡ standing)
+merged-only more old new (inl g) standing has =
+    let b = counted-back old g.place g.is.kind more.count g.is.at has.0 has.1.kind (sym (at-of has.0 new _ g.grown) ∙ has.1.at) in
+    inl (has.0, record { kind = b.0; at = b.1.0; same = b.1.1.0 ∙ has.1.same })
+merged-only more old new (inr a) standing has = by (at-split old more has.0 has.1.kind (sym (at-of has.0 new _ a.added) ∙ has.1.at))
+  where
+    by : (slice_get old has.0 ≡ Some has.1.kind) ⊎ ((has.0 ≡ length old) × (has.1.kind ≡ more)) → HasKind old standing ⊎ (more.standing ≡ standing)
+    by (inl at) = inl (has.0, record { kind = has.1.kind; at = at; same = has.1.same })
+    by (inr e) = inr (ap (λ (k : Kind). k.standing) (sym e.1) ∙ has.1.same)
+
+-- before the first
+pub merged-none : (more old : List Kind) → AreMergedBelow more old old 0
+merged-none more old = record { kept = λ standing has. has; added = λ i k below at. absurd (omega (arith, below)); only = λ standing has. inl has }
+
+-- one more of them
+pub merged-next : (more old mid new : List Kind) (n : ℕ) (k : Kind) → slice_get more n ≡ Some k → IsMerged k mid new → AreMergedBelow more old mid n → AreMergedBelow more old new (n + 1)
+merged-next more old mid new n k at is are = record {
+  kept = λ standing has. merged-kept k mid new is standing (are.kept standing has);
+  added = λ i x below there. added i x below there (same-or-not i n);
+  only = λ standing has. only standing (merged-only k mid new is standing has);
+}
+  where
+    added : (i : ℕ) (x : Kind) → i < n + 1 → slice_get more i ≡ Some x → (i ≡ n) ⊎ (i ≡ n → ⊥) → HasKind new x.standing
+    added i x below there (inl same) =
+        let kind : k ≡ x = some-same k x (sym at ∙ (ap (λ (m : ℕ). slice_get more m) (sym same) ∙ there)) in
+        let has = merged-there k mid new is in
+        (has.0, record { kind = has.1.kind; at = has.1.at; same = has.1.same ∙ ap (λ (y : Kind). y.standing) kind })
+    added i x below there (inr other) = merged-kept k mid new is x.standing (are.added i x (omega (arith, below, other)) there)
+
+    only : (standing : List Standing) → HasKind mid standing ⊎ (k.standing ≡ standing) → HasKind old standing ⊎ HasKind more standing
+    only standing (inl has) = are.only standing has
+    only standing (inr same) = inr (n, record { kind = k; at = at; same = same })

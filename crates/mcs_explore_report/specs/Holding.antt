@@ -1,0 +1,74 @@
+-- What it says that a script holds: all of it is so in each run of its users (own).
+use Rattle.std.specs.Prelude.{ℕ, ◌≡◌, ◌≤◌, ◌-◌, ◌⊎◌, Bool, true, false, is_none, List, Option, Some, length, slice_get}
+use Rattle.std.specs.List.{list_all}
+use Rattle.mcs_types.specs.declared.entry.Answer.{Answer}
+use Rattle.mcs_book.specs.Boots.{Boot}
+use Rattle.mcs_turns.specs.Turns.{User, Going, IsOver, IsRun}
+use Rattle.mcs_explore_walk.specs.declared.walk.Turn.{Turn}
+use Rattle.mcs_explore_orders.specs.Trails.{Leads}
+use Rattle.mcs_explore_questions.specs.declared.asking.Asked.{Asked}
+use Rattle.mcs_explore_questions.specs.declared.asking.Asked.TheVariants as asked
+use Rattle.mcs_explore_questions.specs.declared.asking.Event.{Event}
+use Rattle.mcs_explore_script.specs.declared.questions.AskedLine.{AskedLine}
+use Rattle.mcs_explore_script.specs.declared.lives.Live.{Live}
+use Rattle.mcs_explore_script.specs.declared.script.UserScript.{UserScript}
+use Rattle.mcs_explore_script.specs.Scripts.{IsScript}
+use Rattle.mcs_explore_script.specs.UserLists.{user_of}
+use Rattle.mcs_explore_report.specs.declared.modes.Mode.TheVariants.{Proved}
+use Rattle.mcs_explore_report.specs.Answers.{IsMailed}
+use Rattle.mcs_explore_report.specs.Endings.{are_idle}
+use Rattle.mcs_explore_report.specs.Found.{IsAnswered, IsGiven, IsHeldInRuns}
+use Rattle.mcs_explore_report.specs.Modes.{mode_of}
+use Rattle.mcs_explore_report.specs.Standings.{standings}
+use Rattle.mcs_explore_report.specs.Stuck.{IsLive}
+use Rattle.mcs_explore_report.specs.Verdicts.{is_said, lacks}
+
+-- in each run each answer of an entry is one that the pattern matches
+abbrev pub AreAllSaid : List User → Boot → Event → List ℕ → Type 0
+AreAllSaid users boot e pattern = (user n : ℕ) (t : Turn) (g h : Going) (a : Answer) → user_of users e.thread ≡ Some user → IsRun users boot n g → Leads users t g h → IsGiven users t h user (e.number - 1) a → is_said pattern a ≡ true
+
+-- each run that is over has had an answer of an entry
+abbrev pub IsAlwaysAnswered : List User → Boot → Event → Type 0
+IsAlwaysAnswered users boot e = (n : ℕ) (g : Going) → IsRun users boot n g → IsOver users g → lacks e (standings users g) ≡ false
+
+-- in some run some answer of an entry is one that the pattern matches
+pub record IsSaidOnce (users : List User) (boot : Boot) (e : Event) (pattern : List ℕ) : Type 0 where
+  pub user : ℕ
+  pub of : user_of users e.thread ≡ Some user
+  pub turns : ℕ
+  pub state : Going
+  pub run : IsRun users boot turns state
+  pub turn : Turn
+  pub going : Going
+  pub leads : Leads users turn state going
+  pub answer : Answer
+  pub is : IsAnswered turn going user (e.number - 1) answer ⊎ IsMailed users going user (e.number - 1) turn answer
+  pub said : is_said pattern answer ≡ true
+
+-- a question holds in all runs: that of a user that may not get stuck stands with those
+abbrev pub HoldsInRuns : List User → Boot → Asked → Type 0
+HoldsInRuns users boot (asked.Idle thread entries) = Unit {0}
+HoldsInRuns users boot (asked.Again event) = Unit {0}
+HoldsInRuns users boot (asked.Live thread number) = Unit {0}
+HoldsInRuns users boot (asked.Answer event pattern) = AreAllSaid users boot event pattern.items × IsAlwaysAnswered users boot event
+HoldsInRuns users boot (asked.AnswerIf event pattern) = AreAllSaid users boot event pattern.items
+HoldsInRuns users boot (asked.Some event pattern) = IsSaidOnce users boot event pattern.items
+HoldsInRuns users boot q = IsHeldInRuns users boot q
+
+-- a script holds: in each run that is over each user is done, or waits where a question lets it
+-- wait for ever; each question holds; and from each state each user that may not get stuck can go
+-- on
+pub record IsHolding (s : UserScript) : Type 0 where
+  pub ends : (n : ℕ) (g : Going) → IsRun s.users s.boot n g → IsOver s.users g → are_idle s.asked.items (standings s.users g) ≡ true
+  pub questions : (i : ℕ) (q : AskedLine) → slice_get s.asked.items i ≡ Some q → HoldsInRuns s.users s.boot q.asked
+  pub lives : (i n : ℕ) (l : Live) (g : Going) → slice_get s.lives.items i ≡ Some l → IsRun s.users s.boot n g → IsLive s.users l g
+
+-- it does, if its states are told apart by proved keys
+abbrev pub IsProvedToHold : Bool → UserScript → Type 0
+IsProvedToHold exact s = (numbered : Bool) → mode_of s.boot s.users s.asked.items exact ≡ Proved numbered → IsHolding s
+
+-- a script was read of which that is so
+pub record HasReadHolding (exact : Bool) (left left' : Option (List ℕ)) : Type 0 where
+  pub script : UserScript
+  pub is : IsScript left left' script
+  pub holds : IsProvedToHold exact script

@@ -1,0 +1,59 @@
+-- What came of questions (own).
+use Rattle.std.specs.Prelude.{ℕ, ◌≡◌, ◌<◌, ◌++◌, Bool, true, false, List, [], ◌∷◌, Option, Some, length, slice_get}
+use Rattle.std.specs.List.{list_all}
+use Rattle.mcs_turns.specs.Turns.{User}
+use Rattle.mcs_explore_search.specs.declared.search.Edge.{Edge}
+use Rattle.mcs_explore_questions.specs.declared.asking.Asked.{Asked}
+use Rattle.mcs_explore_questions.specs.Asking.{is_question}
+use Rattle.mcs_explore_script.specs.declared.questions.AskedLine.{AskedLine}
+use Rattle.mcs_explore_report.specs.declared.findings.Judged.{Judged}
+use Rattle.mcs_explore_report.specs.declared.judging.Sighting.{Sighting}
+use Rattle.mcs_explore_report.specs.declared.outcomes.Outcome.{Outcome}
+use Rattle.mcs_explore_report.specs.declared.outcomes.Outcome.TheVariants as outcome
+use Rattle.mcs_explore_report.specs.declared.verdicts.Verdict.{Verdict}
+use Rattle.mcs_explore_report.specs.Answers.{Tables}
+use Rattle.mcs_explore_report.specs.Ends.{Kind}
+use Rattle.mcs_explore_report.specs.Stuck.{IsFirstUnled, Noted, first_marks}
+use Rattle.mcs_explore_report.specs.Verdicts.{IsVerdict, failed_at}
+
+-- whether a question holds, as far as was seen
+abbrev pub holds : Outcome → Bool
+holds outcome.Holds = true
+holds (outcome.HoldsSince why) = true
+holds _ = false
+
+-- whether something shows that it does not
+abbrev pub fails : Outcome → Bool
+fails outcome.Fails = true
+fails _ = false
+
+-- a verdict by which a question holds, which failed first here, if it did
+pub record IsHeld (users : List User) (kinds : List Kind) (tables : Tables) (f : Option Sighting) (q : Asked) : Type 0 where
+  pub stuck : Option Sighting
+  pub verdict : Verdict
+  pub is : IsVerdict users kinds tables f stuck q verdict
+  pub holds : verdict.holds ≡ true
+
+-- so each of the first n lines holds that is a question
+abbrev pub AreHeldBelow : List User → List Kind → Tables → List (Option Sighting) → List AskedLine → ℕ → Type 0
+AreHeldBelow users kinds tables failed questions n = (i : ℕ) (q : AskedLine) → i < n → slice_get questions i ≡ Some q → is_question q.asked ≡ true → IsHeld users kinds tables (failed_at failed i) q.asked
+
+-- of each user that may not get stuck the first place from which no edges lead on to an answer
+pub record AreFirstPlaces (edges : List Edge) (states : ℕ) (notes : List Noted) (count : ℕ) (places : List (Option ℕ)) : Type 0 where
+  pub long : length places ≡ count
+  pub each : (i : ℕ) (n : Noted) (o : Option ℕ) → slice_get notes i ≡ Some n → slice_get places i ≡ Some o → IsFirstUnled edges (first_marks states n) o
+
+-- whether each question holds, as far as was seen
+abbrev pub all_hold : List Judged → Bool
+all_hold js = list_all (λ (j : Judged). holds j.outcome) js
+
+-- a question more was judged, that of this line
+pub record AddsJudged (users : List User) (kinds : List Kind) (tables : Tables) (failed : List (Option Sighting)) (questions : List AskedLine) (number : ℕ) (old new : List Judged) : Type 0 where
+  pub judged : Judged
+  pub added : new ≡ old ++ judged ∷ []
+  pub held : (q : AskedLine) → slice_get questions number ≡ Some q → holds judged.outcome ≡ true → IsHeld users kinds tables (failed_at failed number) q.asked
+
+-- so was each line that is a question; others are left out
+pub record IsJudgedMore (users : List User) (kinds : List Kind) (tables : Tables) (failed : List (Option Sighting)) (questions : List AskedLine) (number : ℕ) (old new : List Judged) : Type 0 where
+  pub asks : (q : AskedLine) → slice_get questions number ≡ Some q → is_question q.asked ≡ true → AddsJudged users kinds tables failed questions number old new
+  pub other : (q : AskedLine) → slice_get questions number ≡ Some q → is_question q.asked ≡ false → new ≡ old
