@@ -41,6 +41,37 @@ const EXACT: &[&str] = &[
     "explore/made-waits.mcs",
 ];
 
+/// Scripts of users that make objects, of which each sees what a key leaves out
+/// (`tests/canonical.py`): they are explored both ways.
+const MADE: &[&str] = &[
+    "explore/made-awaited.mcs",
+    "explore/made-badge.mcs",
+    "explore/made-bound.mcs",
+    "explore/made-chain.mcs",
+    "explore/made-context.mcs",
+    "explore/made-core.mcs",
+    "explore/made-guard-bits.mcs",
+    "explore/made-guard.mcs",
+    "explore/made-home.mcs",
+    "explore/made-kind.mcs",
+    "explore/made-late-pick.mcs",
+    "explore/made-letter.mcs",
+    "explore/made-mode.mcs",
+    "explore/made-prio.mcs",
+    "explore/made-queue.mcs",
+    "explore/made-replies.mcs",
+    "explore/made-rights.mcs",
+    "explore/made-slot.mcs",
+    "explore/made-turns.mcs",
+    "explore/made-twice.mcs",
+    "explore/made-waited.mcs",
+    "explore/made-word.mcs",
+    "explore/made-words.mcs",
+];
+
+/// One that is reported as JSON, too: its ends name objects that users make by slots.
+const AS_JSON: &str = "explore/made-waits.mcs";
+
 /// How many budgets of states are tried with each script, from one state on.
 const BUDGETS: usize = 24;
 
@@ -170,6 +201,31 @@ fn explore_file<W: Write + Drop>(
     Ok(())
 }
 
+/// Explores the script of a file, and reports it as JSON.
+fn explore_json<W: Write + Drop>(
+    rt: &HostRuntime,
+    to: &mut W,
+    path: &str,
+) -> Result<(), ExploreFault> {
+    writeln!(to, "# {path}, json")?;
+    let Ok(file) = fs::open(rt, path) else {
+        return Err(ExploreFault::Lab(LabFault::Read));
+    };
+    let output = Output {
+        is_json: true,
+        ..OUTPUT
+    };
+    explore_script(
+        rt.alloc(),
+        &mut Source::new(file),
+        &mut *to,
+        wanted(false),
+        output,
+        &mut Nowhere,
+    )?;
+    Ok(())
+}
+
 /// Keeps no script.
 #[derive(Drop)]
 struct Nowhere;
@@ -247,6 +303,25 @@ fn report_on(alloc: Global, script: &[u8], wanted: Wanted) -> Result<Vec<u8>, Ex
         &mut Nowhere,
     )?;
     Ok(report)
+}
+
+/// Writes the first line of a report: how many states, turns and ends were found.
+fn write_counts<W: Write>(to: &mut W, report: &[u8]) -> Result<(), ExploreFault> {
+    if let Some(line) = report.split(|byte| *byte == b'\n').next() {
+        to.write_all(line)?;
+    }
+    to.write_all(b"\n")?;
+    Ok(())
+}
+
+/// Explores the script of a file, by default and with exact keys, and writes what was counted.
+fn explore_made<W: Write>(rt: &HostRuntime, to: &mut W, path: &str) -> Result<(), ExploreFault> {
+    writeln!(to, "# {path}")?;
+    let Ok(script) = fs::read(rt, path) else {
+        return Err(ExploreFault::Lab(LabFault::Read));
+    };
+    write_counts(to, &report_on(rt.alloc(), &script, wanted(false))?)?;
+    write_counts(to, &report_on(rt.alloc(), &script, wanted(true))?)
 }
 
 /// Returns what is compared of a line: of an end its kind, and not how often it comes.
@@ -353,6 +428,10 @@ fn try_all<W: Write + Drop>(rt: &HostRuntime, to: &mut W) -> Result<(), ExploreF
     for &path in EXACT {
         explore_file(rt, to, path, true)?;
     }
+    for &path in MADE {
+        explore_made(rt, to, path)?;
+    }
+    explore_json(rt, to, AS_JSON)?;
     explore_budgets(rt, to)?;
     ask_all(rt, to)?;
     explore_random(rt, to)
