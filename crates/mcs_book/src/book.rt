@@ -347,7 +347,8 @@ fn push_paid(
     packed.push_reserved(one);
 }
 
-/// The same lines of a boot, with room for exactly that many.
+/// Returns a copy of the lines of a boot, with room for exactly `room` lines. OutOfMemory where
+/// that is refused.
 fn copy_boot(alloc: Global, boot: &[BootLine], room: usize) -> Result<Vec<BootLine>, OutOfMemory>
     requires { length boot.now ≤ room }
     ensures items { IfOk result (λ v. v.items ≡ boot.now) }

@@ -138,8 +138,8 @@ impl Contexts {
         &self.rows
     }
 
-    /// Adds a context of a core where there is room, as `rows` tell: its serial is the next, and
-    /// nobody holds it (own).
+    /// Adds a context of this core, with the next serial and no holder (own). The caller makes sure
+    /// that there is room: `rows` tell.
     pub fn add(&mut self, core: CoreId) -> ObjId
         requires { no_room self.old ≡ false }
         ensures id { result ≡ next_context self.old }

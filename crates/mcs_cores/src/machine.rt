@@ -49,7 +49,9 @@ impl<G: Ledger, L: Lines> LockedKernel<G, L> {
         &self.kernel
     }
 
-    /// Lets in an entry of a thread on the seat's core, or turns it away.
+    /// Makes a prepared entry of a thread on the seat's core, and notes it in the seat.
+    /// `Turned::Away` where the thread may not enter or the book is full; OutOfMemory where the
+    /// kernel gets no room.
     pub(crate) fn enter(
         &mut self,
         alloc: Global,
@@ -62,8 +64,9 @@ impl<G: Ledger, L: Lines> LockedKernel<G, L> {
         seat.enter(alloc, &mut self.kernel, &mut self.book, thread, prepared)
     }
 
-    /// Gives out a seat for each of so many cores, where none was given yet and the boot has as
-    /// many. No invariant says outside of the lock what is true under it, so both are tested again.
+    /// Gives out a seat for each of `cores` cores. OutOfMemory where memory is refused, and where
+    /// seats were given before or the boot has another number of cores: no invariant says outside
+    /// of the lock what is true under it, so these are tested again.
     fn seats(&mut self, alloc: Global, cores: u8) -> Result<Vec<CoreSeat<G>>, OutOfMemory>
         ensures unchanged { self.new ≡ self.old }
         ensures seats { IfOk result (λ v. AreNew v.items) }

@@ -411,7 +411,8 @@ fn firsts_of(alloc: Global, lines: Lines) -> Result<Listed, QuestionFault> {
     Ok(told)
 }
 
-/// The fault of a first word that no line has.
+/// Returns the fault of a first word with which no line of this kind begins, with the words that
+/// do.
 fn no_line(alloc: Global, lines: Lines, first: &[u8]) -> Result<QuestionFault, QuestionFault> {
     let word = Word::new(alloc, first)?;
     let there = firsts_of(alloc, lines)?;

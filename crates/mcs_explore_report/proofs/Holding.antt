@@ -1,10 +1,9 @@
 -- What a whole search comes to in which all is as it is asked.
-use Rattle.std.specs.Prelude.{ℕ, zero, suc, ◌≡◌, ◌<◌, ◌≤◌, ◌-◌, ◌⊎◌, Bool, true, false, is_none, is_some, unwrap_or, List, [], ◌∷◌, Option, Some, None, length, slice_get}
+use Rattle.std.specs.Prelude.{ℕ, zero, suc, ◌≡◌, ◌<◌, ◌-◌, Bool, true, false, is_none, is_some, unwrap_or, List, [], ◌∷◌, Option, Some, None, length, slice_get}
 use Rattle.std.specs.List.{list_all}
 use Rattle.std.proofs.Common.{refl, ap, sym, ◌∙◌, subst, inl, inr, arith}
 use Rattle.std.proofs.lemmas.Bool.{and_parts}
 use Rattle.mcs_types.specs.declared.entry.Answer.{Answer}
-use Rattle.mcs_types.specs.declared.entry.Answer.TheVariants as answer
 use Rattle.mcs_book.specs.Boots.{Boot}
 use Rattle.mcs_turns.specs.Turns.{User, Going, IsOver, IsRun, beginning}
 use Rattle.mcs_explore_search.specs.declared.search.Edge.{Edge}
@@ -22,12 +21,11 @@ use Rattle.mcs_explore_script.specs.declared.lives.Live.{Live}
 use Rattle.mcs_explore_script.specs.declared.script.UserScript.{UserScript}
 use Rattle.mcs_explore_script.specs.UserLists.{user_of}
 use Rattle.mcs_explore_report.specs.declared.answers.Told.{Told}
-use Rattle.mcs_explore_report.specs.declared.ends.Standing.{Standing}
 use Rattle.mcs_explore_report.specs.declared.judging.Sighting.{Sighting}
 use Rattle.mcs_explore_report.specs.declared.verdicts.Verdict.{Verdict}
-use Rattle.mcs_explore_report.specs.Answers.{IsAmong, Tables, table_of}
+use Rattle.mcs_explore_report.specs.Answers.{Tables, table_of}
 use Rattle.mcs_explore_report.specs.Endings.{are_idle}
-use Rattle.mcs_explore_report.specs.Ends.{HasKind, IsKindAt, Kind}
+use Rattle.mcs_explore_report.specs.Ends.{HasKind, Kind}
 use Rattle.mcs_explore_report.specs.Found.{AreAnswersFound, AreAnswersInRuns, AreEndsInRuns, AreHeldInRuns, IsAt, IsGiven, IsHeldInRuns, IsKeptOf}
 use Rattle.mcs_explore_report.specs.Holding.{AreAllSaid, HoldsInRuns, IsAlwaysAnswered, IsHolding, IsSaidOnce}
 use Rattle.mcs_explore_report.specs.Outcomes.{AreFirstPlaces, AreHeldBelow, IsHeld}

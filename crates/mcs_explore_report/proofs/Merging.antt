@@ -1,5 +1,5 @@
 -- Kinds of ends that are added to others.
-use Rattle.std.specs.Prelude.{ℕ, ◌≡◌, ◌<◌, ◌+◌, ◌++◌, ◌⊎◌, List, [], ◌∷◌, Some, length, set, slice_get}
+use Rattle.std.specs.Prelude.{ℕ, ◌≡◌, ◌<◌, ◌+◌, ◌⊎◌, List, [], ◌∷◌, Some, length, set, slice_get}
 use Rattle.std.proofs.Common.{refl, ap, sym, ◌∙◌, inl, inr, arith}
 use Rattle.mcs_explore_report.specs.declared.ends.Standing.{Standing}
 use Rattle.mcs_explore_report.specs.Ends.{AreMergedBelow, HasKind, IsKindAt, IsMerged, Kind, with_more}

@@ -1,6 +1,5 @@
 -- What it says that a script holds: all of it is so in each run of its users (own).
-use Rattle.std.specs.Prelude.{ℕ, ◌≡◌, ◌≤◌, ◌-◌, ◌⊎◌, Bool, true, false, is_none, List, Option, Some, length, slice_get}
-use Rattle.std.specs.List.{list_all}
+use Rattle.std.specs.Prelude.{ℕ, ◌≡◌, ◌-◌, ◌⊎◌, Bool, true, false, List, Option, Some, slice_get}
 use Rattle.mcs_types.specs.declared.entry.Answer.{Answer}
 use Rattle.mcs_book.specs.Boots.{Boot}
 use Rattle.mcs_turns.specs.Turns.{User, Going, IsOver, IsRun}

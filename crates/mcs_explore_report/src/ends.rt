@@ -49,7 +49,8 @@ impl End {
     }
 }
 
-/// All kinds of ends.
+/// The kinds of ends that a search found, in the order in which they were found first. (Only if
+/// that is the order kept; the clause `first` of `watched` says so.)
 #[derive(Drop)]
 pub struct Ends {
     alloc: Global,

@@ -131,7 +131,7 @@ fn has_given(users: &Users, walk: &Walk<PlainLines>, event: Event) -> bool
     }
 }
 
-/// How many messages were sent with a record more.
+/// Returns how many messages were sent once this record is added: one more where it is a Sent.
 fn with_sent(sent: u128, fact: &KeptRecord<'_>) -> u128
     requires { sent + 1 < 2 ^ 128 }
     ensures { result ≡ sent_with sent fact.now }

@@ -378,8 +378,9 @@ fn put_objects<L: Lines>(
     Ok(())
 }
 
-/// Returns the numbers of the rows of a state, in which the cores have these picks, among those
-/// that were met. The numbers of messages are told apart or not.
+/// Returns the number in `met` of each row of a state in which the cores have these picks. Rows
+/// that are not met yet are added, and the others keep their numbers. `numbered` says whether the
+/// numbers of messages tell rows apart. OutOfMemory where memory is refused.
 pub fn exact_numbers<L: Lines>(
     alloc: Global,
     met: &mut Met,

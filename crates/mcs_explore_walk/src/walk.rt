@@ -67,7 +67,8 @@ impl<L: Lines> Model for Walk<L> {
     } };
 }
 
-/// Whether an entry that would be skipped for this is one of a thread that may enter.
+/// Returns whether a thread may enter, given the fault that its entry would have, if any: a full
+/// book is no fault of the thread.
 fn is_let_in(fault: Option<EnterFault>) -> bool
     ensures { result ≡ is_let_in fault }
 {

@@ -35,7 +35,8 @@ fn is_of_name(byte: u8) -> bool {
     byte.is_ascii_alphanumeric() || byte == b'-' || byte == b'_' || byte == b'.'
 }
 
-/// The object of a queue, and the ending that says which of its queues it is.
+/// Returns the object of a queue, and the suffix that names the queue among the object's: `.send`,
+/// `.recv` or `.wait`.
 fn queue_parts(queue: Queue) -> (ObjId, &'static str) {
     match queue {
         Queue::Senders(object) => (object, ".send"),

@@ -88,7 +88,8 @@ impl<'a> Field<'a> {
     }
 }
 
-/// What a number of a step names.
+/// How the kernel looks up a number of a step in the thread's space: not at all, as an address, or
+/// as an index with a depth.
 #[derive(Clone, Copy, PartialEq, Eq)]
 pub enum LooksUp {
     Nothing,

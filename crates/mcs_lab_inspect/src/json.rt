@@ -87,7 +87,8 @@ struct Teller {
     page: Page,
 }
 
-/// Puts the records of a line of a book, before which so many messages were sent.
+/// Puts on the page the records of a line of a book as JSON. `before` is the number of messages
+/// that were sent before the line.
 fn put_records(
     alloc: Global,
     page: &mut Page,

@@ -268,7 +268,8 @@ impl Waits {
         }
     }
 
-    /// Puts why a thread waits.
+    /// Puts on the page what a thread waits for: a reply, its place in a queue, or a context. Puts
+    /// nothing for a thread that is inactive or closed.
     fn put_cause(page: &mut Page, kernel: &Kernel<LinkedLines>, names: &Names, thread: ObjId) {
         match kernel.status(thread) {
             Some(Status::OnReply(reply)) => {

@@ -188,7 +188,8 @@ fn put_taker(
     }
 }
 
-/// Puts why a thread does not run.
+/// Puts on the page a thread and why it does not run: its queue, the reply for which it waits and
+/// who took its call, or that it is inactive or closed.
 fn put_status(
     alloc: Global,
     page: &mut Page,

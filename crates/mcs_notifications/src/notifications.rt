@@ -157,8 +157,8 @@ impl Notifications {
         self.rows.get(notification).is_some()
     }
 
-    /// The pending word of a notification, or None where none is, and where it is not there
-    /// (manual: Notifications).
+    /// Returns the pending word of a notification; None where none is pending, or where the
+    /// notification does not exist (manual: Notifications).
     pub fn word(&self, notification: ObjId) -> Option<u64>
         ensures { result ≡ word_in self.now notification }
     {

@@ -509,7 +509,7 @@ fn unpack_address(form: OverAddress, address: u64) -> Entry
     }
 }
 
-/// The entry of one place.
+/// Returns the entry of this form over a place, the index and depth of a slot.
 fn unpack_at(form: OverPlace, place: Place) -> Entry
     ensures { result ≡ over_place form place }
 {

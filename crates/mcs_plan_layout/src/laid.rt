@@ -26,7 +26,7 @@ pub struct Laid {
     pub tables: Vec<Vec<Named>>,
 }
 
-/// The line of the first passive thread.
+/// Returns the number of the line that makes the first passive thread; None where none is passive.
 fn first_passive(plan: &Plan) -> Option<u64>
     ensures { result ≡ first_line (said plan.now).passives }
 {

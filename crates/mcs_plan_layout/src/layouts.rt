@@ -9,7 +9,8 @@ use mcs_plan_source::Space;
 use mcs_types::Cap;
 use std::alloc::{AllocError, Global};
 
-/// How the slots of a space are laid out, with no bits after them.
+/// Returns the layout of a space by its radix, or else by the number of its slots, with no bits
+/// left after an index.
 fn own_layout(space: &Space) -> Layout
     ensures value { result ≡ own_layout (said_space space.now) }
     ensures few { result.root + result.leaf ≤ 255 }

@@ -64,7 +64,8 @@ fn push(to: &mut Vec<Named>, named: Named) -> Result<(), AllocError>
 }
 
 impl Laid {
-    /// What a slot of a space holds when the boot has ended.
+    /// Returns the capability that a slot of a space holds when the boot has ended, with its guard
+    /// where it is to a CNode; None for an empty slot.
     fn held(&self, space: usize, slot: &Slot) -> Option<Cap>
         ensures { result ≡ held_then self.now.layouts.items space slot.now.cap }
     {

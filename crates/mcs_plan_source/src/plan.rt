@@ -273,7 +273,7 @@ impl Plan {
         }
     }
 
-    /// A thread.
+    /// Returns the thread with this id; None where the plan has none.
     pub fn thread(&self, thread: ObjId) -> Option<&Thread>
         ensures { option_copied result ≡ thread_in self.now thread }
     {

@@ -569,7 +569,8 @@ impl Plan {
         Ok(self.space_of(thread))
     }
 
-    /// Whether the space at a place has a slot of this name.
+    /// Returns whether the space at this place has a slot of this name; false where there is no
+    /// such space.
     #[tactic(auto, using(crate::proofs::Places::slot_there, crate::proofs::Places::no_slot_there))]
     fn has_slot(&self, place: usize, name: &str) -> bool
         ensures { result ≡ has_slot (slice_get (said self.now).spaces place) name.now }
@@ -632,8 +633,8 @@ impl Plan {
         space.add(alloc, name, slot)
     }
 
-    /// Adds a capability of a space, with a name of its own where `as NAME` follows; `-` is an
-    /// empty slot.
+    /// Adds a slot to the space at a place: with the capability that `word` spells, or empty for
+    /// `-`, and with the name of `as NAME` where that follows. After a fault nothing has changed.
     fn put_slot(
         &mut self,
         alloc: Global,

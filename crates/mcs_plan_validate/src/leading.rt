@@ -42,7 +42,8 @@ fn is_named<L: Lines>(kernel: &Kernel<L>, thread: ObjId, address: u64, cap: &Opt
     }
 }
 
-/// Whether a name leads to what its slot holds.
+/// Returns whether a name of a thread leads to what it means: its place names a slot that holds
+/// this, and its address names this too. Where it is true, both are so; false claims nothing.
 fn leads<L: Lines>(kernel: &Kernel<L>, thread: ObjId, named: &Named) -> bool
     ensures { result ≡ true → Leads (log_of kernel.now) thread named.now }
 {

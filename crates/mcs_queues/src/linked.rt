@@ -100,8 +100,9 @@ fn seek<G: Ledger>(
     (before, after)
 }
 
-/// Writes a thread's slot, and the links to it: what is next to the thread `around.0`, and previous
-/// to `around.1`.
+/// Writes a thread's slot and the links to it: `links.0` is next to the thread `around.0`, and
+/// `links.1` previous to `around.1`. Where `around.0` is None, `links.0` is the first of the line;
+/// where `around.1` is None, `links.1` is its last.
 fn relink(
     slots: &mut LinkSlots,
     q: LineNo,

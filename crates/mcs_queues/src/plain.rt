@@ -54,7 +54,7 @@ impl Model for PlainLines {
         × ((k : ℕ) → NeverRises (line_in s.rows.items k)) };
 }
 
-/// Where the row of a thread is.
+/// Returns the index of a thread's row; None where it has none.
 fn row_of(rows: &[Row], t: ThreadNo) -> Option<usize>
     ensures { result ≡ position (is_of t.0) rows.now }
 {

@@ -70,7 +70,7 @@ impl Model for Replies {
         (record { rows = s.rows; links = s.links.items; tops = s.tops }) };
 }
 
-/// Keeps another receiver of a reply object that is there.
+/// Sets the receiver of a reply object that exists, or clears it (None).
 fn keep_receiver(rows: &mut Store<ReplyRow>, reply: ObjId, receiver: Option<ObjId>)
     requires { has_row rows.old reply ≡ true }
     ensures shape { shape rows.new ≡ shape rows.old }

@@ -167,8 +167,8 @@ impl Tops {
         }
     }
 
-    /// Sets the top of the chain of a context, or clears it. There is room for one, unless it has
-    /// one.
+    /// Sets the top of a context's chain, or clears it (None). A context that has no top yet needs
+    /// room for one.
     // a part of its callers, which know whether there is one
     #[inline(always)]
     pub(crate) fn move_to(&mut self, context: ObjId, top: Option<PlaceNo>)

@@ -229,7 +229,8 @@ impl<'a> Follower<'a> {
         Progress::Right(count)
     }
 
-    /// Follows the calls past the next line.
+    /// Compares with the book the calls that were skipped before its next line, and the call of
+    /// that line where it is of this core, and goes one line further.
     fn pass_line<L: Lines>(&mut self, retrace: &Retrace<'_, L>, line: &LineCopy)
         requires beside { IsBeside retrace.now self.old }
         requires line { IsLineAt retrace.now line.now }

@@ -8,7 +8,7 @@
 //! Note over ID: TEXT
 //! ```
 
-/// Whether a word is an id as pictures have it: a letter and a number.
+/// Returns whether a word has the form of an id in a picture: a lowercase letter, then digits.
 fn is_id(word: &str) -> bool {
     let mut letters = word.chars();
     match letters.next() {

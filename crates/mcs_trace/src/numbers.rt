@@ -228,7 +228,7 @@ impl Line {
         self.end = put_long(&mut self.bytes, self.end, n);
     }
 
-    /// Appends a number.
+    /// Appends a number in decimal digits.
     #[inline(always)]
     pub fn number(&mut self, n: u64)
         requires { HasRoom self.old NUMBER }

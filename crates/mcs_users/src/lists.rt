@@ -135,7 +135,8 @@ impl Lists {
         }
     }
 
-    /// Adds an entry to the end of the list in a place.
+    /// Adds an entry to the end of the list at this index. OutOfMemory where a growth was refused:
+    /// then the lists are as they were.
     fn push_at(&mut self, place: usize, entry: Entry) -> Result<(), OutOfMemory>
         requires { place < length self.old }
         ensures added { OnOk result ((u : User) → slice_get self.old place ≡ Some u

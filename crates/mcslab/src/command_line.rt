@@ -105,7 +105,7 @@ fn add<'a>(words: Words<'a>, below: Words<'a>) -> Result<Words<'a>, Error> {
     Ok(words.subcommand(below)?)
 }
 
-/// A command with one more below it, where both could be made.
+/// Returns a command with a subcommand added, or the first error of making one of them.
 fn over<'a>(
     words: Result<Words<'a>, Error>,
     below: Result<Words<'a>, Error>,

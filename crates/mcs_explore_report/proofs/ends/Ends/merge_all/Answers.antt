@@ -1,4 +1,4 @@
-use Rattle.std.proofs.Common.{refl, arith}
+use Rattle.std.proofs.Common.{refl}
 use Rattle.std.proofs.lemmas.Option.{slice_get_read}
 use Rattle.mcs_explore_report.proofs.Merging.{merged-next}
 use Rattle.mcs_explore_report.proofs.ends.Ends.merge_all.Goals as goal
