@@ -27,7 +27,7 @@ use Rattle.mcs_explore_report.specs.Answers.{Tables, table_of}
 use Rattle.mcs_explore_report.specs.Endings.{are_idle}
 use Rattle.mcs_explore_report.specs.Ends.{HasKind, Kind}
 use Rattle.mcs_explore_report.specs.Found.{AreAnswersFound, AreAnswersInRuns, AreEndsInRuns, AreHeldInRuns, IsAt, IsGiven, IsHeldInRuns, IsKeptOf}
-use Rattle.mcs_explore_report.specs.Holding.{AreAllSaid, HoldsInRuns, IsAlwaysAnswered, IsHolding, IsSaidOnce}
+use Rattle.mcs_explore_report.specs.Holding.{AllAnswersMatch, HoldsInRuns, EachEndIsAnswered, IsHolding, SomeAnswerMatches}
 use Rattle.mcs_explore_report.specs.Outcomes.{AreFirstPlaces, AreHeldBelow, IsHeld}
 use Rattle.mcs_explore_report.specs.Standings.{standings}
 use Rattle.mcs_explore_report.specs.Stuck.{AreDecided, IsLive, Noted}
@@ -88,25 +88,25 @@ module _ {K : Type 0} (users : List User) (boot : Boot) (found : Entries K Turn)
       subst (λ (i : ℕ). IsKeptOf tables i number a) own.0.user (subst (λ (m : ℕ). IsKeptOf tables t.pick.user m a) own.0.number (in_runs.own n t g h a run turn own.0.answer own.1))
   kept user number n t g h a run turn (inr mail) = in_runs.mail n t g h user number a run turn mail
 
-  all-said : (e : Event) (pattern : List ℕ) → IsNotIn (answers_of users tables e) pattern false (length (answers_of users tables e)) → AreAllSaid users boot e pattern
+  all-said : (e : Event) (pattern : List ℕ) → IsNotIn (answers_of users tables e) pattern false (length (answers_of users tables e)) → AllAnswersMatch users boot e pattern
   all-said e pattern none = λ user n t g h a of run turn given.
       let k = kept user (e.number - 1) n t g h a run turn given in
       let same : answers_of users tables e ≡ k.told = kept-of e user k.told of k.at in
       let there : slice_get (answers_of users tables e) k.among.place ≡ Some k.among.one = ap (λ (ts : List Told). slice_get ts k.among.place) same ∙ k.among.at in
       ap (is_said pattern) (sym k.among.same) ∙ true-or (is_said pattern k.among.one.answer) (none k.among.place k.among.one (at-within (answers_of users tables e) k.among.place k.among.one there) there)
 
-  always-answered : (e : Event) → HasEach kinds e (length kinds) → IsAlwaysAnswered users boot e
+  always-answered : (e : Event) → HasEach kinds e (length kinds) → EachEndIsAnswered users boot e
   always-answered e each = λ n g run over.
       let end : HasKind kinds (standings users g) = ends n g run over in
       ap (lacks e) (sym end.1.same) ∙ each end.0 end.1.kind (at-within kinds end.0 end.1.kind end.1.at) end.1.at
 
-  said-once : (e : Event) (pattern : List ℕ) (seen : Sighting) → IsFoundIn (answers_of users tables e) pattern true seen → IsSaidOnce users boot e pattern
+  said-once : (e : Event) (pattern : List ℕ) (seen : Sighting) → IsFoundIn (answers_of users tables e) pattern true seen → SomeAnswerMatches users boot e pattern
   said-once e pattern seen it = by (user_of users e.thread) refl
     where
       none : Option (List Told) → List Told
       none o = unwrap_or o []
 
-      at-user : (user : ℕ) → user_of users e.thread ≡ Some user → (o : Option (List Told)) → table_of tables user (e.number - 1) ≡ o → slice_get (none o) it.index ≡ Some it.one → IsSaidOnce users boot e pattern
+      at-user : (user : ℕ) → user_of users e.thread ≡ Some user → (o : Option (List Told)) → table_of tables user (e.number - 1) ≡ o → slice_get (none o) it.index ≡ Some it.one → SomeAnswerMatches users boot e pattern
       at-user user of None is at = absurd cc
       at-user user of (Some told) is at =
           let a = answers.each user (e.number - 1) told it.index it.one is at in
@@ -124,7 +124,7 @@ module _ {K : Type 0} (users : List User) (boot : Boot) (found : Entries K Turn)
             said = it.is;
           }
 
-      by : (o : Option ℕ) → user_of users e.thread ≡ o → IsSaidOnce users boot e pattern
+      by : (o : Option ℕ) → user_of users e.thread ≡ o → SomeAnswerMatches users boot e pattern
       by None is =
           let empty : answers_of users tables e ≡ [] = ap (λ (p : Option ℕ). elim p [ None ↦ [] | Some i ↦ unwrap_or (table_of tables i (e.number - 1)) [] ]) is in
           let at : slice_get [] it.index ≡ Some it.one = sym (ap (λ (ts : List Told). slice_get ts it.index) empty) ∙ it.at in
@@ -133,15 +133,15 @@ module _ {K : Type 0} (users : List User) (boot : Boot) (found : Entries K Turn)
           let same : answers_of users tables e ≡ none (table_of tables user (e.number - 1)) = ap (λ (p : Option ℕ). elim p [ None ↦ [] | Some i ↦ unwrap_or (table_of tables i (e.number - 1)) [] ]) is in
           at-user user is (table_of tables user (e.number - 1)) refl (sym (ap (λ (ts : List Told). slice_get ts it.index) same) ∙ it.at)
 
-  answer-holds : (e : Event) (pattern : List ℕ) (v : Verdict) → v.holds ≡ true → v.holds ≡ is_none v.seen → (o : Option Sighting) → v.seen ≡ o → IsAlways (answers_of users tables e) pattern kinds e o → AreAllSaid users boot e pattern × IsAlwaysAnswered users boot e
+  answer-holds : (e : Event) (pattern : List ℕ) (v : Verdict) → v.holds ≡ true → v.holds ≡ is_none v.seen → (o : Option Sighting) → v.seen ≡ o → IsAlways (answers_of users tables e) pattern kinds e o → AllAnswersMatch users boot e pattern × EachEndIsAnswered users boot e
   answer-holds e pattern v holds by None is always = (all-said e pattern always.0, always-answered e always.1)
   answer-holds e pattern v holds by (Some seen) is always = let no : false ≡ true = sym (ap (λ (o : Option Sighting). is_none o) is) ∙ (sym by ∙ holds) in absurd cc
 
-  said-holds : (e : Event) (pattern : List ℕ) (v : Verdict) → v.holds ≡ true → v.holds ≡ is_none v.seen → (o : Option Sighting) → v.seen ≡ o → IsSearched (answers_of users tables e) pattern false o → AreAllSaid users boot e pattern
+  said-holds : (e : Event) (pattern : List ℕ) (v : Verdict) → v.holds ≡ true → v.holds ≡ is_none v.seen → (o : Option Sighting) → v.seen ≡ o → IsSearched (answers_of users tables e) pattern false o → AllAnswersMatch users boot e pattern
   said-holds e pattern v holds by None is none = all-said e pattern none
   said-holds e pattern v holds by (Some seen) is found = let no : false ≡ true = sym (ap (λ (o : Option Sighting). is_none o) is) ∙ (sym by ∙ holds) in absurd cc
 
-  once-holds : (e : Event) (pattern : List ℕ) (v : Verdict) → v.holds ≡ true → v.holds ≡ is_some v.seen → (o : Option Sighting) → v.seen ≡ o → IsSearched (answers_of users tables e) pattern true o → IsSaidOnce users boot e pattern
+  once-holds : (e : Event) (pattern : List ℕ) (v : Verdict) → v.holds ≡ true → v.holds ≡ is_some v.seen → (o : Option Sighting) → v.seen ≡ o → IsSearched (answers_of users tables e) pattern true o → SomeAnswerMatches users boot e pattern
   once-holds e pattern v holds by None is none = let no : false ≡ true = sym (ap (λ (o : Option Sighting). is_some o) is) ∙ (sym by ∙ holds) in absurd cc
   once-holds e pattern v holds by (Some seen) is it = said-once e pattern seen it
 

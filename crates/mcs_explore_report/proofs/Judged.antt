@@ -1,21 +1,18 @@
--- What came of one question more, and the first place of one user more.
-use Rattle.std.specs.Prelude.{ℕ, ◌≡◌, ◌<◌, ◌+◌, ◌++◌, ◌⊎◌, Bool, true, false, List, [], ◌∷◌, Option, Some, length, slice_get}
+-- What came of one question more.
+use Rattle.std.specs.Prelude.{ℕ, ◌≡◌, ◌<◌, ◌+◌, ◌++◌, ◌⊎◌, ◌||◌, Bool, true, false, not, List, [], ◌∷◌, Option, Some, slice_get}
 use Rattle.std.proofs.Common.{refl, ap, sym, ◌∙◌, subst, inl, inr, arith}
 use Rattle.std.proofs.lemmas.Bool.{and_parts}
-use Rattle.std.proofs.lemmas.List.{length-append}
 use Rattle.std.proofs.lemmas.List.Folds.{list_all-append}
 use Rattle.mcs_turns.specs.Turns.{User}
-use Rattle.mcs_explore_search.specs.declared.search.Edge.{Edge}
 use Rattle.mcs_explore_questions.specs.Asking.{is_question}
 use Rattle.mcs_explore_script.specs.declared.questions.AskedLine.{AskedLine}
 use Rattle.mcs_explore_report.specs.declared.findings.Judged.{Judged}
 use Rattle.mcs_explore_report.specs.declared.judging.Sighting.{Sighting}
 use Rattle.mcs_explore_report.specs.Answers.{Tables}
 use Rattle.mcs_explore_report.specs.Ends.{Kind}
-use Rattle.mcs_explore_report.specs.Outcomes.{AddsJudged, AreFirstPlaces, AreHeldBelow, IsHeld, IsJudgedMore, all_hold, holds}
-use Rattle.mcs_explore_report.specs.Stuck.{IsFirstUnled, Noted, first_marks}
+use Rattle.mcs_explore_report.specs.Outcomes.{AddsJudged, AreHeldBelow, IsHeld, IsJudgedMore, all_hold, holds}
 use Rattle.mcs_explore_report.specs.Verdicts.{failed_at}
-use Rattle.mcs_explore_report.proofs.Lists.{at-split, same-or-not, some-same}
+use Rattle.mcs_explore_report.proofs.Lists.{same-or-not, some-same}
 
 module _ (users : List User) (kinds : List Kind) (tables : Tables) (failed : List (Option Sighting)) (questions : List AskedLine) where
   held-next : (n : ℕ) (q : AskedLine) → slice_get questions n ≡ Some q → (is_question q.asked ≡ true → IsHeld users kinds tables (failed_at failed n) q.asked) → AreHeldBelow users kinds tables failed questions n → AreHeldBelow users kinds tables failed questions (n + 1)
@@ -42,18 +39,9 @@ module _ (users : List User) (kinds : List Kind) (tables : Tables) (failed : Lis
           held-next n q at (λ same. adds.held q at holds_it) (before parts.0)
       by false not = held-next n q at (λ asks. let no : false ≡ true = sym not ∙ asks in absurd cc) (before (sym (ap all_hold (more.other q at not)) ∙ all))
 
--- no place yet
-pub places-none : (edges : List Edge) (states : ℕ) (notes : List Noted) → AreFirstPlaces edges states notes 0 []
-places-none edges states notes = record { long = refl; each = λ i n o at there. absurd cc }
-
--- the first place of one user more
-pub places-next : (edges : List Edge) (states : ℕ) (notes : List Noted) (n : ℕ) (old : List (Option ℕ)) (o : Option ℕ) → ((x : Noted) → slice_get notes n ≡ Some x → IsFirstUnled edges (first_marks states x) o) → AreFirstPlaces edges states notes n old
-    → AreFirstPlaces edges states notes (n + 1) (old ++ o ∷ [])
-places-next edges states notes n old o first are = record {
-  long = let long = are.long in let more = length-append old (o ∷ []) in omega (arith, long, more);
-  each = λ i x p at there. by i x p at (at-split old o i p there);
-}
-  where
-    by : (i : ℕ) (x : Noted) (p : Option ℕ) → slice_get notes i ≡ Some x → (slice_get old i ≡ Some p) ⊎ ((i ≡ length old) × (p ≡ o)) → IsFirstUnled edges (first_marks states x) p
-    by i x p at (inl there) = are.each i x p at there
-    by i x p at (inr e) = subst (λ (q : Option ℕ). IsFirstUnled edges (first_marks states x) q) (sym e.1) (first x (sym (ap (λ (m : ℕ). slice_get notes m) (e.0 ∙ are.long)) ∙ at))
+-- where nothing fails, no user is stuck and each is done
+pub no-failure : (fails live done : Bool) → ((fails || not live) || not done) ≡ false → (live ≡ true) × (done ≡ true)
+no-failure false true true none = (refl, refl)
+no-failure false true false none = absurd cc
+no-failure false false done none = absurd cc
+no-failure true live done none = absurd cc

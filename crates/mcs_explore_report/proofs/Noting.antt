@@ -48,7 +48,7 @@ end-none users states kinds s not are = record {
 
 module _ (users : List User) (states : List Sight) (old new : List Kind) (s : Sight) (are : AreEndsOf users states old) where
   -- a state of a kind that is there
-  end-counted : IsCounted (standings users s.going) old new → AreEndsOf users (states ++ s ∷ []) new
+  end-counted : IsCounted (record { standing = standings users s.going; count = 1; place = s.place }) old new → AreEndsOf users (states ++ s ∷ []) new
   end-counted c = subst (λ (ks : List Kind). AreEndsOf users (states ++ s ∷ []) ks) (sym c.counted) (record {
     each = λ i k at. let b = counted-back old c.place c.is.kind 1 c.is.at i k at in end-more users states (s ∷ []) k b.0 b.1.1.0 b.1.1.1 (are.each i b.0 b.1.0);
     all = λ j t at over. all j t over (at-split states s j t at);
@@ -66,7 +66,7 @@ module _ (users : List User) (states : List Sight) (old new : List Kind) (s : Si
       all j t over (inr e) = (c.place, there c.place (standings users t.going) (subst (λ (x : Sight). IsKindAt old (standings users x.going) c.place) (sym e.1) c.is))
 
   -- a state of a new kind
-  end-first : s.is_over ≡ true → IsFirst (standings users s.going) s.place old new → AreEndsOf users (states ++ s ∷ []) new
+  end-first : s.is_over ≡ true → IsFirst (record { standing = standings users s.going; count = 1; place = s.place }) old new → AreEndsOf users (states ++ s ∷ []) new
   end-first over f = subst (λ (ks : List Kind). AreEndsOf users (states ++ s ∷ []) ks) (sym f.added) (record {
     each = λ i k at. each i k (at-split old kind i k at);
     all = λ j t at is_over. all j t is_over (at-split states s j t at);
@@ -100,20 +100,6 @@ pub state-noted : (users : List User) (states : List Sight) (old new : List Kind
     → AreEndsOf users (states ++ (record { place = place; going = g; is_over = over }) ∷ []) new
 state-noted users states old new place g over (inl same) are = subst (λ (ks : List Kind). AreEndsOf users (states ++ (record { place = place; going = g; is_over = over }) ∷ []) ks) (sym same.1) (end-none users states old (record { place = place; going = g; is_over = over }) same.0 are)
 state-noted users states old new place g over (inr noted) are = end-noted users states old new (record { place = place; going = g; is_over = over }) are noted.0 noted.1
-
--- how an end was noted
-pub noted-again : (standing v : List Standing) (place i : ℕ) (old new : List Kind) → v ≡ standing → IsKindAt old v i → ((k : Kind) → slice_get old i ≡ Some k → new ≡ set old i (with_more k 1)) → IsNoted standing place old new
-noted-again standing v place i old new same is put = inl (record {
-  place = i;
-  is = record { kind = is.kind; at = is.at; same = is.same ∙ same };
-  counted = put is.kind is.at;
-})
-
-pub noted-first : (standing v : List Standing) (place : ℕ) (old new : List Kind) → v ≡ standing → IsNoKind old v (length old) → new ≡ old ++ (record { standing = v; count = 1; place = place }) ∷ [] → IsNoted standing place old new
-noted-first standing v place old new same none added = inr (record {
-  none = subst (λ (s : List Standing). IsNoKind old s (length old)) same none;
-  added = added ∙ ap (λ (s : List Standing). old ++ (record { standing = s; count = 1; place = place }) ∷ []) same;
-})
 
 -- one kind more that is another
 pub none-more : (kinds : List Kind) (standing : List Standing) (n : ℕ) (k : Kind) → slice_get kinds n ≡ Some k → (k.standing ≡ standing → ⊥) → IsNoKind kinds standing n → IsNoKind kinds standing (n + 1)

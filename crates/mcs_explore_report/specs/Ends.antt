@@ -25,53 +25,48 @@ IsNoKind kinds standing n = (i : ℕ) (k : Kind) → i < n → slice_get kinds i
 abbrev pub with_more : Kind → ℕ → Kind
 with_more k n = record k { count = min (k.count + n) (2 ^ 64 - 1) }
 
--- an end more of a kind that is there
-pub record IsCounted (standing : List Standing) (old new : List Kind) : Type 0 where
+-- ends of a kind that is there are counted
+pub record IsCounted (more : Kind) (old new : List Kind) : Type 0 where
   pub place : ℕ
-  pub is : IsKindAt old standing place
-  pub counted : new ≡ set old place (with_more is.kind 1)
+  pub is : IsKindAt old more.standing place
+  pub counted : new ≡ set old place (with_more is.kind more.count)
 
--- an end of a new kind, in the state of this place
-pub record IsFirst (standing : List Standing) (place : ℕ) (old new : List Kind) : Type 0 where
-  pub none : IsNoKind old standing (length old)
-  pub added : new ≡ old ++ (record { standing = standing; count = 1; place = place }) ∷ []
+-- ends of a new kind are added
+pub record IsFirst (more : Kind) (old new : List Kind) : Type 0 where
+  pub none : IsNoKind old more.standing (length old)
+  pub added : new ≡ old ++ more ∷ []
 
--- an end is noted
+-- ends of a kind are counted or added
+abbrev pub IsMerged : Kind → List Kind → List Kind → Type 0
+IsMerged more old new = IsCounted more old new ⊎ IsFirst more old new
+
+-- one end is
 abbrev pub IsNoted : List Standing → ℕ → List Kind → List Kind → Type 0
-IsNoted standing place old new = IsCounted standing old new ⊎ IsFirst standing place old new
+IsNoted standing place old new = IsMerged (record { standing = standing; count = 1; place = place }) old new
 
 -- the end in a state that is over is noted, and nothing of another
 abbrev pub IsNotedIf : Bool → List Standing → ℕ → List Kind → List Kind → Type 0
 IsNotedIf over standing place old new = ((over ≡ false) × (new ≡ old)) ⊎ ((over ≡ true) × IsNoted standing place old new)
 
--- ends of a kind that is there are counted
-pub record IsGrown (more : Kind) (old new : List Kind) : Type 0 where
-  pub place : ℕ
-  pub is : IsKindAt old more.standing place
-  pub grown : new ≡ set old place (with_more is.kind more.count)
-
--- or are those of a new kind
-pub record IsNewKind (more : Kind) (old new : List Kind) : Type 0 where
-  pub none : IsNoKind old more.standing (length old)
-  pub added : new ≡ old ++ more ∷ []
-
--- ends of a kind are added
-abbrev pub IsMerged : Kind → List Kind → List Kind → Type 0
-IsMerged more old new = IsGrown more old new ⊎ IsNewKind more old new
-
--- one of the kinds is so
+-- in one of the kinds the users stand so
 abbrev pub HasKind : List Kind → List Standing → Type 0
 HasKind kinds standing = (i : ℕ) × IsKindAt kinds standing i
 
--- kinds were added: each that was there still is, the first n of the others are, and no more
+-- the first n of these kinds were added to others: each of both is there, and no other
 pub record AreMergedBelow (more old new : List Kind) (n : ℕ) : Type 0 where
   pub kept : (standing : List Standing) → HasKind old standing → HasKind new standing
   pub added : (i : ℕ) (k : Kind) → i < n → slice_get more i ≡ Some k → HasKind new k.standing
   pub only : (standing : List Standing) → HasKind new standing → HasKind old standing ⊎ HasKind more standing
 
--- all of the others were
+-- all of them were
 abbrev pub AreMerged : List Kind → List Kind → List Kind → Type 0
 AreMerged more old new = AreMergedBelow more old new (length more)
+
+-- the kinds of two lists, and no other
+pub record AreAllEnds (ks ds ends : List Kind) : Type 0 where
+  pub kept : (i : ℕ) (k : Kind) → slice_get ks i ≡ Some k → HasKind ends k.standing
+  pub deep : (i : ℕ) (k : Kind) → slice_get ds i ≡ Some k → HasKind ends k.standing
+  pub only : (standing : List Standing) → HasKind ends standing → HasKind ks standing ⊎ HasKind ds standing
 
 -- the kind is that of a state that was shown and is over
 pub record IsEndOf (users : List User) (states : List Sight) (k : Kind) : Type 0 where
@@ -86,5 +81,5 @@ pub record IsEndOf (users : List User) (states : List Sight) (k : Kind) : Type 0
 -- is of one of them
 pub record AreEndsOf (users : List User) (states : List Sight) (kinds : List Kind) : Type 0 where
   pub each : (i : ℕ) (k : Kind) → slice_get kinds i ≡ Some k → IsEndOf users states k
-  pub all : (j : ℕ) (s : Sight) → slice_get states j ≡ Some s → s.is_over ≡ true → (i : ℕ) × IsKindAt kinds (standings users s.going) i
+  pub all : (j : ℕ) (s : Sight) → slice_get states j ≡ Some s → s.is_over ≡ true → HasKind kinds (standings users s.going)
   pub apart : (i j : ℕ) (k l : Kind) → slice_get kinds i ≡ Some k → slice_get kinds j ≡ Some l → k.standing ≡ l.standing → i ≡ j

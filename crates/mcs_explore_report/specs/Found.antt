@@ -15,7 +15,7 @@ use Rattle.mcs_explore_questions.specs.declared.asking.Asked.{Asked}
 use Rattle.mcs_explore_script.specs.declared.questions.AskedLine.{AskedLine}
 use Rattle.mcs_explore_report.specs.declared.judging.Sighting.{Sighting}
 use Rattle.mcs_explore_report.specs.Standings.{standings}
-use Rattle.mcs_explore_report.specs.Ends.{IsKindAt, Kind}
+use Rattle.mcs_explore_report.specs.Ends.{HasKind, Kind}
 use Rattle.mcs_explore_report.specs.Judging.{fails}
 use Rattle.mcs_explore_report.specs.Answers.{IsAmong, IsEntry, IsMailed, Tables, table_of}
 
@@ -35,7 +35,7 @@ pub record IsEndFound {K : Type 0} (users : List User) (boot : Boot) (found : En
 -- state that is over is of one of them
 pub record AreEndsFound {K : Type 0} (users : List User) (boot : Boot) (found : Entries K Turn) (done : ℕ) (kinds : List Kind) : Type 0 where
   pub each : (i : ℕ) (k : Kind) → slice_get kinds i ≡ Some k → IsEndFound users boot found done k
-  pub all : (place : ℕ) (g : Going) → place < done → IsAt users boot found place g → IsOver users g → (i : ℕ) × IsKindAt kinds (standings users g) i
+  pub all : (place : ℕ) (g : Going) → place < done → IsAt users boot found place g → IsOver users g → HasKind kinds (standings users g)
   pub apart : (i j : ℕ) (k l : Kind) → slice_get kinds i ≡ Some k → slice_get kinds j ≡ Some l → k.standing ≡ l.standing → i ≡ j
 
 -- the entry itself was answered so by its turn
@@ -70,7 +70,7 @@ IsMailFound users boot found done tables = (place : ℕ) (t : Turn) (g h : Going
 
 -- each run of users that is over ends as one of these kinds says
 abbrev pub AreEndsInRuns : List User → Boot → List Kind → Type 0
-AreEndsInRuns users boot kinds = (n : ℕ) (g : Going) → IsRun users boot n g → IsOver users g → (i : ℕ) × IsKindAt kinds (standings users g) i
+AreEndsInRuns users boot kinds = (n : ℕ) (g : Going) → IsRun users boot n g → IsOver users g → HasKind kinds (standings users g)
 
 -- this answer is among those of an entry
 pub record IsKeptOf (tables : Tables) (user number : ℕ) (a : Answer) : Type 0 where

@@ -1,4 +1,4 @@
--- What it says that a script holds: all of it is so in each run of its users (own).
+-- What `holds` means of a script: all that it asks is so in each run of its users (own).
 use Rattle.std.specs.Prelude.{ℕ, ◌≡◌, ◌-◌, ◌⊎◌, Bool, true, false, List, Option, Some, slice_get}
 use Rattle.mcs_types.specs.declared.entry.Answer.{Answer}
 use Rattle.mcs_book.specs.Boots.{Boot}
@@ -22,16 +22,16 @@ use Rattle.mcs_explore_report.specs.Standings.{standings}
 use Rattle.mcs_explore_report.specs.Stuck.{IsLive}
 use Rattle.mcs_explore_report.specs.Verdicts.{is_said, lacks}
 
--- in each run each answer of an entry is one that the pattern matches
-abbrev pub AreAllSaid : List User → Boot → Event → List ℕ → Type 0
-AreAllSaid users boot e pattern = (user n : ℕ) (t : Turn) (g h : Going) (a : Answer) → user_of users e.thread ≡ Some user → IsRun users boot n g → Leads users t g h → IsGiven users t h user (e.number - 1) a → is_said pattern a ≡ true
+-- each answer of an entry, in each run, is one that the pattern matches
+abbrev pub AllAnswersMatch : List User → Boot → Event → List ℕ → Type 0
+AllAnswersMatch users boot e pattern = (user n : ℕ) (t : Turn) (g h : Going) (a : Answer) → user_of users e.thread ≡ Some user → IsRun users boot n g → Leads users t g h → IsGiven users t h user (e.number - 1) a → is_said pattern a ≡ true
 
--- each run that is over has had an answer of an entry
-abbrev pub IsAlwaysAnswered : List User → Boot → Event → Type 0
-IsAlwaysAnswered users boot e = (n : ℕ) (g : Going) → IsRun users boot n g → IsOver users g → lacks e (standings users g) ≡ false
+-- each run that is over has answered an entry for good
+abbrev pub EachEndIsAnswered : List User → Boot → Event → Type 0
+EachEndIsAnswered users boot e = (n : ℕ) (g : Going) → IsRun users boot n g → IsOver users g → lacks e (standings users g) ≡ false
 
--- in some run some answer of an entry is one that the pattern matches
-pub record IsSaidOnce (users : List User) (boot : Boot) (e : Event) (pattern : List ℕ) : Type 0 where
+-- some answer of an entry, in some run, is one that the pattern matches
+pub record SomeAnswerMatches (users : List User) (boot : Boot) (e : Event) (pattern : List ℕ) : Type 0 where
   pub user : ℕ
   pub of : user_of users e.thread ≡ Some user
   pub turns : ℕ
@@ -44,14 +44,14 @@ pub record IsSaidOnce (users : List User) (boot : Boot) (e : Event) (pattern : L
   pub is : IsAnswered turn going user (e.number - 1) answer ⊎ IsMailed users going user (e.number - 1) turn answer
   pub said : is_said pattern answer ≡ true
 
--- a question holds in all runs: that of a user that may not get stuck stands with those
+-- a question holds in all runs; what `live` asks is among the lives of the script
 abbrev pub HoldsInRuns : List User → Boot → Asked → Type 0
 HoldsInRuns users boot (asked.Idle thread entries) = Unit {0}
 HoldsInRuns users boot (asked.Again event) = Unit {0}
 HoldsInRuns users boot (asked.Live thread number) = Unit {0}
-HoldsInRuns users boot (asked.Answer event pattern) = AreAllSaid users boot event pattern.items × IsAlwaysAnswered users boot event
-HoldsInRuns users boot (asked.AnswerIf event pattern) = AreAllSaid users boot event pattern.items
-HoldsInRuns users boot (asked.Some event pattern) = IsSaidOnce users boot event pattern.items
+HoldsInRuns users boot (asked.Answer event pattern) = AllAnswersMatch users boot event pattern.items × EachEndIsAnswered users boot event
+HoldsInRuns users boot (asked.AnswerIf event pattern) = AllAnswersMatch users boot event pattern.items
+HoldsInRuns users boot (asked.Some event pattern) = SomeAnswerMatches users boot event pattern.items
 HoldsInRuns users boot q = IsHeldInRuns users boot q
 
 -- a script holds: in each run that is over each user is done, or waits where a question lets it
@@ -62,11 +62,11 @@ pub record IsHolding (s : UserScript) : Type 0 where
   pub questions : (i : ℕ) (q : AskedLine) → slice_get s.asked.items i ≡ Some q → HoldsInRuns s.users s.boot q.asked
   pub lives : (i n : ℕ) (l : Live) (g : Going) → slice_get s.lives.items i ≡ Some l → IsRun s.users s.boot n g → IsLive s.users l g
 
--- it does, if its states are told apart by proved keys
+-- a script holds, if its states are told apart by proved keys
 abbrev pub IsProvedToHold : Bool → UserScript → Type 0
 IsProvedToHold exact s = (numbered : Bool) → mode_of s.boot s.users s.asked.items exact ≡ Proved numbered → IsHolding s
 
--- a script was read of which that is so
+-- a script was read, and it holds, if its states are
 pub record HasReadHolding (exact : Bool) (left left' : Option (List ℕ)) : Type 0 where
   pub script : UserScript
   pub is : IsScript left left' script

@@ -1,6 +1,6 @@
 -- What came of questions (own).
-use Rattle.std.specs.Prelude.{ℕ, ◌≡◌, ◌<◌, ◌++◌, Bool, true, false, List, [], ◌∷◌, Option, Some, length, slice_get}
-use Rattle.std.specs.List.{list_all}
+use Rattle.std.specs.Prelude.{ℕ, ◌≡◌, ◌<◌, ◌++◌, ◌&&◌, ◌||◌, Bool, true, false, not, cond, is_none, List, [], ◌∷◌, Option, Some, length, slice_get}
+use Rattle.std.specs.List.{list_all, list_any}
 use Rattle.mcs_turns.specs.Turns.{User}
 use Rattle.mcs_explore_search.specs.declared.search.Edge.{Edge}
 use Rattle.mcs_explore_questions.specs.declared.asking.Asked.{Asked}
@@ -12,6 +12,7 @@ use Rattle.mcs_explore_report.specs.declared.outcomes.Outcome.{Outcome}
 use Rattle.mcs_explore_report.specs.declared.outcomes.Outcome.TheVariants as outcome
 use Rattle.mcs_explore_report.specs.declared.verdicts.Verdict.{Verdict}
 use Rattle.mcs_explore_report.specs.Answers.{Tables}
+use Rattle.mcs_explore_report.specs.Endings.{are_idle}
 use Rattle.mcs_explore_report.specs.Ends.{Kind}
 use Rattle.mcs_explore_report.specs.Stuck.{IsFirstUnled, Noted, first_marks}
 use Rattle.mcs_explore_report.specs.Verdicts.{IsVerdict, failed_at}
@@ -26,6 +27,11 @@ holds _ = false
 abbrev pub fails : Outcome → Bool
 fails outcome.Fails = true
 fails _ = false
+
+-- what came of a question that does not hold by what was found: of a search that is not whole, the
+-- answer that it asks for may still come
+abbrev pub missed : Bool → Option Sighting → Outcome
+missed whole seen = cond (is_none seen && not whole) outcome.NotSeen outcome.Fails
 
 -- a verdict by which a question holds, which failed first here, if it did
 pub record IsHeld (users : List User) (kinds : List Kind) (tables : Tables) (f : Option Sighting) (q : Asked) : Type 0 where
@@ -47,13 +53,29 @@ pub record AreFirstPlaces (edges : List Edge) (states : ℕ) (notes : List Noted
 abbrev pub all_hold : List Judged → Bool
 all_hold js = list_all (λ (j : Judged). holds j.outcome) js
 
+-- whether one of them does not
+abbrev pub any_fails : List Judged → Bool
+any_fails js = list_any (λ (j : Judged). fails j.outcome) js
+
+-- whether no user has a first place from which on it is stuck
+abbrev pub are_live : List (Option ℕ) → Bool
+are_live places = list_all is_none places
+
+-- whether in each kind of end each user is done, or may wait there for ever
+abbrev pub are_done : List AskedLine → List Kind → Bool
+are_done questions kinds = list_all (λ (k : Kind). are_idle questions k.standing) kinds
+
+-- whether something was found that is not as it is asked
+abbrev pub has_failure : List Judged → List (Option ℕ) → List AskedLine → List Kind → Bool
+has_failure js places questions kinds = (any_fails js || not (are_live places)) || not (are_done questions kinds)
+
 -- a question more was judged, that of this line
 pub record AddsJudged (users : List User) (kinds : List Kind) (tables : Tables) (failed : List (Option Sighting)) (questions : List AskedLine) (number : ℕ) (old new : List Judged) : Type 0 where
   pub judged : Judged
   pub added : new ≡ old ++ judged ∷ []
   pub held : (q : AskedLine) → slice_get questions number ≡ Some q → holds judged.outcome ≡ true → IsHeld users kinds tables (failed_at failed number) q.asked
 
--- so was each line that is a question; others are left out
+-- so is a line that asks something that holds or not; another is left out
 pub record IsJudgedMore (users : List User) (kinds : List Kind) (tables : Tables) (failed : List (Option Sighting)) (questions : List AskedLine) (number : ℕ) (old new : List Judged) : Type 0 where
   pub asks : (q : AskedLine) → slice_get questions number ≡ Some q → is_question q.asked ≡ true → AddsJudged users kinds tables failed questions number old new
   pub other : (q : AskedLine) → slice_get questions number ≡ Some q → is_question q.asked ≡ false → new ≡ old

@@ -7,10 +7,9 @@ ghost use Rattle.mcs_explore_report.specs.Ends.{AreMerged, Kind, IsKindAt, IsMer
 use crate::judging::answered_by;
 use crate::naming::object_in;
 use mcs_explore_orders::{OrdersFault, Users, Walk};
-use mcs_lab_check::LabFault;
 use mcs_queues::PlainLines;
 use mcs_types::{ObjId, Status};
-use std::alloc::Global;
+use std::alloc::{AllocError, Global};
 use std::marker::Model;
 
 /// A user that has entries left, or whose last entry waits.
@@ -251,22 +250,18 @@ impl Ends {
     ) -> Result<(), OrdersFault>
         ensures { OnOk result (IsNoted (standings users.now walk.now) place self.old self.new) }
     {
-        let standing = standings(self.alloc, users, walk)?;
-        if let Some(index) = self.find(&standing) {
-            self.count(index, 1);
-            return Ok(());
-        }
-        self.kinds.push(End {
-            standing,
+        let end = End {
+            standing: standings(self.alloc, users, walk)?,
             count: 1,
             place,
-        })?;
+        };
+        self.merge(&end)?;
         Ok(())
     }
 
     /// Adds ends of one kind: counts them where the kind is there, and else adds the kind.
     /// OutOfMemory where memory was refused.
-    fn merge(&mut self, more: &End) -> Result<(), LabFault>
+    fn merge(&mut self, more: &End) -> Result<(), AllocError>
         ensures { OnOk result (IsMerged more.now self.old self.new) }
     {
         if let Some(index) = self.find(&more.standing) {
@@ -283,7 +278,7 @@ impl Ends {
 
     /// Adds ends of these kinds, each where its kind is, or as a new one. OutOfMemory where memory
     /// was refused.
-    pub fn merge_all(&mut self, more: &[End]) -> Result<(), LabFault>
+    pub fn merge_all(&mut self, more: &[End]) -> Result<(), AllocError>
         ensures { OnOk result (AreMerged more.now self.old self.new) }
     {
         for index in 0..more.len() {

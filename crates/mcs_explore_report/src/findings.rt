@@ -1,11 +1,9 @@
 //! What is reported of a search, before it is written.
-ghost use Rattle.std.specs.Prelude.{ℕ, true, false, ◌≡◌, ◌<◌, IfOk, Some, is_none, length, slice_get};
+ghost use Rattle.std.specs.Prelude.{ℕ, true, ◌≡◌, ◌<◌, IfOk, Some, length, slice_get};
 ghost use Rattle.mcs_explore_script.specs.declared.questions.AskedLine.{AskedLine};
-ghost use Rattle.std.specs.List.{list_all};
 ghost use Rattle.mcs_explore_search.specs.Reaching.{AreWithin};
-ghost use Rattle.mcs_explore_report.specs.Endings.{are_idle};
-ghost use Rattle.mcs_explore_report.specs.Ends.{HasKind, Kind};
-ghost use Rattle.mcs_explore_report.specs.Outcomes.{AreFirstPlaces, IsHeld, holds};
+ghost use Rattle.mcs_explore_report.specs.Ends.{AreAllEnds, HasKind, Kind};
+ghost use Rattle.mcs_explore_report.specs.Outcomes.{AreFirstPlaces, IsHeld, are_done, are_live, holds};
 ghost use Rattle.mcs_explore_report.specs.Verdicts.{failed_at};
 
 use crate::answers::Told;
@@ -13,7 +11,7 @@ use crate::endings::{Ending, are_idle, ending_of};
 use crate::ends::{End, Ends};
 use crate::frontier::{deep_ends, is_given};
 use crate::judging::Sighting;
-use crate::outcomes::{Outcome, Unseen};
+use crate::outcomes::{Outcome, Unseen, missed};
 use crate::saying::text_of;
 use crate::slots::{Origin, all_origins};
 use crate::stuck_users::{StuckUsers, first_stuck, stuck_of, stuck_users};
@@ -106,8 +104,7 @@ impl<'a, P: Progress> Drop for Findings<'a, P> {
 /// Returns all kinds of ends: those that a search kept, and those of the deepest states.
 /// OutOfMemory where memory was refused.
 fn all_ends(alloc: Global, kept: &Ends, deep: &Ends) -> Result<Ends, LabFault>
-    ensures { IfOk result (λ ends. (i : ℕ) (k : Kind) → slice_get kept.now i ≡ Some k
-        → HasKind ends k.standing) }
+    ensures { IfOk result (λ ends. AreAllEnds kept.now deep.now ends) }
 {
     let mut ends = Ends::new(alloc);
     ends.merge_all(kept.kinds())?;
@@ -198,8 +195,7 @@ impl<'a, P: Progress> Findings<'a, P> {
 
     /// Returns whether in each kind of end each user is done, or may wait there for ever.
     pub fn are_done(&self) -> bool
-        ensures { result ≡ list_all
-            (λ (k : Kind). are_idle self.now.script.now.asked.items k.standing) self.now.ends }
+        ensures { result ≡ are_done self.now.script.now.asked.items self.now.ends }
     {
         let asked = self.script.asked.as_slice();
         self.ends
@@ -208,9 +204,9 @@ impl<'a, P: Progress> Findings<'a, P> {
             .all(|end| are_idle(asked, &end.standing))
     }
 
-    /// Returns whether no user that may not get stuck does.
+    /// Returns whether none of the users that the script's `lives` name gets stuck.
     pub fn are_live(&self) -> bool
-        ensures { result ≡ list_all is_none self.now.places.items }
+        ensures { result ≡ are_live self.now.places.items }
     {
         self.places.iter().all(|place| place.is_none())
     }
@@ -434,17 +430,6 @@ impl<'a, P: Progress> Findings<'a, P> {
         })
     }
 
-    /// Returns what came of a question that does not hold by what the search kept.
-    fn missed(&self, seen: Option<Sighting>) -> Outcome
-        ensures { holds result ≡ false }
-    {
-        if seen.is_none() && !self.orders.is_whole() {
-            Outcome::NotSeen
-        } else {
-            Outcome::Fails
-        }
-    }
-
     /// Returns what came of the question with a number, from 0 on, and where that is seen. Answers
     /// are spelled in this line.
     pub fn judged(&self, line: &mut Line, number: usize) -> Result<Judged<'a>, LabFault>
@@ -461,7 +446,7 @@ impl<'a, P: Progress> Findings<'a, P> {
         if !holds {
             return Ok(Judged {
                 line: question,
-                outcome: self.missed(seen),
+                outcome: missed(self.orders.is_whole(), seen),
                 seen,
             });
         }

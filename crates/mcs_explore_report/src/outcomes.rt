@@ -1,6 +1,8 @@
 //! What came of questions.
 ghost use Rattle.std.specs.Prelude.{◌≡◌};
-ghost use Rattle.mcs_explore_report.specs.Outcomes.{fails, holds};
+ghost use Rattle.mcs_explore_report.specs.Outcomes.{fails, holds, missed};
+
+use crate::judging::Sighting;
 
 /// What no order showed.
 #[derive(Clone, Copy, PartialEq, Eq)]
@@ -71,5 +73,17 @@ impl Outcome {
             Outcome::Fails => "fails",
             Outcome::NotSeen => "not seen",
         }
+    }
+}
+
+/// Returns what came of a question that does not hold by what was found, and where that is seen, by
+/// whether all was found.
+pub fn missed(is_whole: bool, seen: Option<Sighting>) -> Outcome
+    ensures { result ≡ missed is_whole seen }
+{
+    if seen.is_none() && !is_whole {
+        Outcome::NotSeen
+    } else {
+        Outcome::Fails
     }
 }

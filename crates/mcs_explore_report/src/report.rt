@@ -1,11 +1,8 @@
 //! The report of a search.
-ghost use Rattle.std.specs.Prelude.{true, false, ◌≡◌, ◌<◌, ◌≤◌, ◌++◌, Bool, IfOk, OnOk, is_none, length};
-ghost use Rattle.std.specs.List.{list_all};
+ghost use Rattle.std.specs.Prelude.{true, false, ◌≡◌, ◌<◌, ◌≤◌, IfOk, OnOk, length};
 ghost use Rattle.mcs_explore_report.specs.declared.report.Explored.TheVariants as Explored;
-ghost use Rattle.mcs_explore_report.specs.Endings.{are_idle};
-ghost use Rattle.mcs_explore_report.specs.Ends.{Kind};
 ghost use Rattle.mcs_explore_report.specs.Holding.{HasReadHolding, IsProvedToHold};
-ghost use Rattle.mcs_explore_report.specs.Outcomes.{AreHeldBelow, IsJudgedMore, all_hold};
+ghost use Rattle.mcs_explore_report.specs.Outcomes.{AreHeldBelow, IsJudgedMore, all_hold, any_fails, has_failure};
 
 use crate::bounds::states_before;
 use crate::exploring::{Wanted, watched};
@@ -159,30 +156,39 @@ impl<'a, P: Progress> Report<'a, P> {
         self.judged.iter().all(|judged| judged.outcome.holds())
     }
 
-    /// Returns whether a question does not hold, users are stuck, or a run ends with a user that
-    /// is not done.
-    fn has_failure(&self) -> bool
-        ensures done { result ≡ false → list_all
-            (λ (k : Kind). are_idle self.now.findings.script.now.asked.items k.standing)
-            self.now.findings.ends ≡ true }
-        ensures live { result ≡ false → list_all is_none self.now.findings.places.items ≡ true }
+    /// Returns whether one of the questions does not.
+    fn any_fails(&self) -> bool
+        ensures { result ≡ any_fails self.now.judged.items }
     {
-        let findings = &self.findings;
-        let fails = self.judged.iter().any(|judged| judged.outcome.fails());
-        fails || !findings.are_live() || !findings.are_done()
+        self.judged.iter().any(|judged| judged.outcome.fails())
+    }
+
+    /// Returns whether a question does not hold, a user is stuck, or a run ends with a user that is
+    /// not done and may not wait.
+    fn has_failure(&self) -> bool
+        ensures { result ≡ has_failure self.now.judged.items self.now.findings.places.items
+            self.now.findings.script.now.asked.items self.now.findings.ends }
+    {
+        self.any_fails() || !self.findings.are_live() || !self.findings.are_done()
     }
 
     /// Returns what came of the search.
     pub fn explored(&self) -> Explored
+        ensures fails { has_failure self.now.judged.items self.now.findings.places.items
+            self.now.findings.script.now.asked.items self.now.findings.ends ≡ true
+            → result ≡ Explored.Fails }
+        ensures passes { has_failure self.now.judged.items self.now.findings.places.items
+            self.now.findings.script.now.asked.items self.now.findings.ends ≡ false
+            → length self.now.findings.orders.now.search.map.entries
+            ≤ self.now.findings.orders.now.search.done → all_hold self.now.judged.items ≡ true
+            → result ≡ Explored.Holds }
+        ensures failure { result ≡ Explored.Holds → has_failure self.now.judged.items
+            self.now.findings.places.items self.now.findings.script.now.asked.items
+            self.now.findings.ends ≡ false }
         ensures whole { result ≡ Explored.Holds
             → length self.now.findings.orders.now.search.map.entries
             ≤ self.now.findings.orders.now.search.done }
         ensures held { result ≡ Explored.Holds → all_hold self.now.judged.items ≡ true }
-        ensures done { result ≡ Explored.Holds → list_all
-            (λ (k : Kind). are_idle self.now.findings.script.now.asked.items k.standing)
-            self.now.findings.ends ≡ true }
-        ensures live { result ≡ Explored.Holds
-            → list_all is_none self.now.findings.places.items ≡ true }
     {
         if self.has_failure() {
             return Explored::Fails;

@@ -1,3 +1,2 @@
 pub mod StepLines
 pub mod Texts
-pub mod AskedUsers

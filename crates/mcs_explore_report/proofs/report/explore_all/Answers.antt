@@ -1,15 +1,14 @@
-use Rattle.std.proofs.Common.{◌≡◌, ◌≤◌, true, List, Option, ℕ, is_none, length, ap, subst, ◌∙◌}
-use Rattle.std.specs.List.{list_all}
+use Rattle.std.proofs.Common.{◌≡◌, ◌≤◌, true, List, Option, ℕ, length, ap, subst, ◌∙◌}
 use Rattle.mcs_explore_script.specs.declared.lives.Live.{Live}
 use Rattle.mcs_explore_script.specs.declared.questions.AskedLine.{AskedLine}
 use Rattle.mcs_explore_script.specs.declared.script.UserScript.{UserScript}
-use Rattle.mcs_explore_report.specs.Endings.{are_idle}
 use Rattle.mcs_explore_report.specs.Ends.{Kind}
 use Rattle.mcs_explore_report.specs.Found.{AreHeldInRuns}
 use Rattle.mcs_explore_report.specs.Modes.{IsWholeSearch, mode_of}
-use Rattle.mcs_explore_report.specs.Outcomes.{AreHeldBelow}
+use Rattle.mcs_explore_report.specs.Outcomes.{AreHeldBelow, any_fails, are_done, are_live}
 use Rattle.mcs_explore_report.specs.Stuck.{AreDecided}
 use Rattle.mcs_explore_report.proofs.Holding.{holding}
+use Rattle.mcs_explore_report.proofs.Judged.{no-failure}
 use Rattle.mcs_explore_report.proofs.report.explore_all.Goals as goal
 
 pub returns : goal.returns
@@ -28,9 +27,10 @@ returns g c = λ is numbered mode.
     let fails_nowhere = subst (λ (qs : List AskedLine). AreHeldInRuns script.users script.boot qs o.explorer.watch.failed.items) asked (c.in_ok-orders.ensures.held whole) in
     let decided = subst (λ (ls : List Live). AreDecided script.users script.boot ls o.search.map.entries o.search.edges.items o.explorer.watch.lives.notes) lives (c.in_ok-orders.ensures.decided whole) in
     let long = c.in_ok-orders.ensures.judged.long ∙ ap (λ (qs : List AskedLine). length qs) asked in
-    let done = subst (λ (s : UserScript). list_all (λ (k : Kind). are_idle s.asked.items k.standing) r.findings.ends ≡ true) scripts (c.explored.ensures.done is) in
-    let idle = subst (λ (ks : List Kind). list_all (λ (k : Kind). are_idle script.asked.items k.standing) ks ≡ true) (ap (λ (x : _). x.ends) same) done in
-    let live = subst (λ (ps : List (Option ℕ)). list_all is_none ps ≡ true) (ap (λ (x : _). x.places.items) same) (c.explored.ensures.live is) in
+    let free = no-failure (any_fails r.judged.items) (are_live r.findings.places.items) (are_done r.findings.script.now.asked.items r.findings.ends) (c.explored.ensures.failure is) in
+    let done = subst (λ (s : UserScript). are_done s.asked.items r.findings.ends ≡ true) scripts free.1 in
+    let idle = subst (λ (ks : List Kind). are_done script.asked.items ks ≡ true) (ap (λ (x : _). x.ends) same) done in
+    let live = subst (λ (ps : List (Option ℕ)). are_live ps ≡ true) (ap (λ (x : _). x.places.items) same) free.0 in
     let below = subst (λ (x : _). AreHeldBelow r.findings.script.now.users x.explorer.watch.ends x.explorer.watch.answers x.explorer.watch.failed.items r.findings.script.now.asked.items (length r.findings.script.now.asked.items)) orders (c.in_ok-report.ensures.judged (c.explored.ensures.held is)) in
     let held = subst (λ (s : UserScript). AreHeldBelow s.users o.explorer.watch.ends o.explorer.watch.answers o.explorer.watch.failed.items s.asked.items (length s.asked.items)) scripts below in
     holding script o.search.map.entries o.search.done o.search.edges.items o.explorer.watch.lives.notes f.places.items o.explorer.watch.ends f.ends o.explorer.watch.answers o.explorer.watch.failed.items (c.in_ok-orders.ensures.run_ends whole)

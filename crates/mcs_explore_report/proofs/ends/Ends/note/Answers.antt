@@ -1,6 +1,7 @@
-use Rattle.std.proofs.Common.{◌∙◌}
-use Rattle.mcs_explore_report.proofs.Noting.{noted-again}
+use Rattle.std.proofs.Common.{List, subst}
+use Rattle.mcs_explore_report.specs.declared.ends.Standing.{Standing}
+use Rattle.mcs_explore_report.specs.Ends.{IsNoted}
 use Rattle.mcs_explore_report.proofs.ends.Ends.note.Goals as goal
 
-pub returns-in-Some : goal.returns-in-Some
-returns-in-Some c = noted-again _ _ c.args.place _ _ _ (c.deref.ensures.value ∙ c.in_ok-standing.ensures) c.in-Some.ensures.some c.count.ensures
+pub returns : goal.returns
+returns c = subst (λ (ss : List Standing). IsNoted ss c.args.place c.args.self.now c.merge.new.self) c.in_ok-standings.ensures c.in_ok-merge.ensures
