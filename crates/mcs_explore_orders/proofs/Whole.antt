@@ -1,6 +1,6 @@
 -- A search that has seen all.
-use Rattle.std.specs.Prelude.{ℕ, zero, suc, ◌≡◌, ◌≤◌, ◌<◌, List, [], ◌∷◌, Some, length, map, slice_get}
-use Rattle.std.proofs.Common.{refl, sym, ◌∙◌, ap, subst, arith}
+use Rattle.std.specs.Prelude.{ℕ, zero, suc, ◌≡◌, ◌≤◌, ◌<◌, ◌⊎◌, List, [], ◌∷◌, Some, length, map, slice_get}
+use Rattle.std.proofs.Common.{refl, sym, ◌∙◌, ap, subst, inl, inr, arith}
 use Rattle.std.proofs.lemmas.List.{length-map}
 use Rattle.mcs_book.specs.Boots.{Boot}
 use Rattle.mcs_turns.specs.Turns.{User, Going, Follows, IsRun, beginning}
@@ -8,9 +8,9 @@ use Rattle.mcs_explore_search.specs.declared.search.Edge.{Edge}
 use Rattle.mcs_explore_search.specs.declared.search.Found.{Found}
 use Rattle.mcs_explore_search.specs.Closure.{IsLikeness, Visit}
 use Rattle.mcs_explore_search.specs.Paths.{Run, Steps}
-use Rattle.mcs_explore_search.specs.Reaching.{AreWithin, IsLink}
+use Rattle.mcs_explore_search.specs.Reaching.{AreWithin, IsLink, LeadsOut}
 use Rattle.mcs_explore_search.specs.Search.{At, Entries, AreReached, IsGraph, IsReached, IsWhole, depth_at}
-use Rattle.mcs_explore_search.proofs.Links.{along, runs-along, within}
+use Rattle.mcs_explore_search.proofs.Links.{IsAlong, along, runs-along, within}
 use Rattle.mcs_explore_search.proofs.Places.{at-within, within-at, some-same}
 use Rattle.mcs_explore_search.proofs.Runs.{every-run}
 use Rattle.mcs_explore_walk.specs.declared.walk.Turn.{Turn}
@@ -100,10 +100,10 @@ visit-at (w ∷ vs) (suc i) g at = visit-at vs i g at
 pub edges-within : {K : Type 0} (e : Exploring) (IsKey : Going → K → Type 0) (E : Entries K Turn) (d : ℕ) (G : List Edge) → IsGraph (Leads e.users) (LooksLike e) IsKey (beginning e.users e.boot) d E G → AreWithin G (length E)
 edges-within e IsKey E d G graph = subst (λ n. AreWithin G n) graph.are.long (within (Leads e.users) (LooksLike e) d graph.visits G graph.edges)
 
--- where all that was found was expanded, its edges are the runs
-pub graph-of : {K : Type 0} (e : Exploring) (IsKey : Going → K → Type 0) (E : Entries K Turn) (d : ℕ) (G : List Edge) → IsTold e → IsLikeness (Follows e.users) (AreAlike e.keys.numbered e.users e.boot) → length E ≤ d
-    → IsGraph (Leads e.users) (LooksLike e) IsKey (beginning e.users e.boot) d E G → IsGraphOfRuns e.keys.numbered e.users e.boot E G
-graph-of e IsKey E d G told likeness all graph = record {
+-- the edges of what was found are the runs, as far as it was expanded
+pub graph-of : {K : Type 0} (e : Exploring) (IsKey : Going → K → Type 0) (E : Entries K Turn) (d : ℕ) (G : List Edge) → IsTold e → IsLikeness (Follows e.users) (AreAlike e.keys.numbered e.users e.boot)
+    → IsGraph (Leads e.users) (LooksLike e) IsKey (beginning e.users e.boot) d E G → IsGraphOfRuns e.keys.numbered e.users e.boot E d G
+graph-of e IsKey E d G told likeness graph = record {
   states = map (λ (w : Visit Going). w.state) graph.visits;
   long = length-map graph.visits (λ (w : Visit Going). w.state) ∙ graph.are.long;
   each = each;
@@ -124,11 +124,14 @@ graph-of e IsKey E d G told likeness all graph = record {
         subst (λ h. IsFoundRun e.users e.boot E i h) (ap (λ (w : Visit Going). w.state) same ∙ v.1.1) (found-run e.users e.boot E i x.0.0 x.0.1 is.visit.state x.1 is.reached)
 
     along-edges : (n i : ℕ) (g h k : Going) → slice_get (map (λ (w : Visit Going). w.state) graph.visits) i ≡ Some g → AreAlike e.keys.numbered e.users e.boot h g → Run (Follows e.users) h n k
-        → IsAlongEdges e.keys.numbered e.users e.boot (map (λ (w : Visit Going). w.state) graph.visits) G i n k
+        → IsAlongEdges e.keys.numbered e.users e.boot (map (λ (w : Visit Going). w.state) graph.visits) G i n k ⊎ LeadsOut G d (length E) i
     along-edges n i g h k at like run =
         let v = visit-at graph.visits i g at in
-        let a = along (Leads e.users) (LooksLike e) likes d graph.visits G graph.edges (subst (λ m. m ≤ d) (sym graph.are.long) all) n i v.0 h k v.1.0 (λ x. subst (λ (m : Going). AreAlike e.keys.numbered e.users e.boot h m) (sym v.1.1) like) (follows-steps e.users n h k run) in
-        record { end = a.end; state = a.visit.state; there = state-at graph.visits a.end a.visit a.there; run = a.run; like = a.like told }
+        on (along (Leads e.users) (LooksLike e) likes d graph.visits G graph.edges n i v.0 h k v.1.0 (λ x. subst (λ (m : Going). AreAlike e.keys.numbered e.users e.boot h m) (sym v.1.1) like) (follows-steps e.users n h k run))
+      where
+        on : IsAlong (LooksLike e) graph.visits G i n k ⊎ LeadsOut G d (length graph.visits) i → IsAlongEdges e.keys.numbered e.users e.boot (map (λ (w : Visit Going). w.state) graph.visits) G i n k ⊎ LeadsOut G d (length E) i
+        on (inl a) = inl (record { end = a.end; state = a.visit.state; there = state-at graph.visits a.end a.visit a.there; run = a.run; like = a.like told })
+        on (inr out) = inr (subst (λ m. LeadsOut G d m i) graph.are.long out)
 
     runs : (n i j : ℕ) (g h k : Going) → slice_get (map (λ (w : Visit Going). w.state) graph.visits) i ≡ Some g → slice_get (map (λ (w : Visit Going). w.state) graph.visits) j ≡ Some k → AreAlike e.keys.numbered e.users e.boot h g → Run (IsLink G) i n j
         → (m : Going) × (Run (Follows e.users) h n m × AreAlike e.keys.numbered e.users e.boot m k)

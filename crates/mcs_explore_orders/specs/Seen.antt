@@ -1,10 +1,10 @@
 -- What a search has seen of a run (own).
-use Rattle.std.specs.Prelude.{ℕ, ◌≡◌, ◌≤◌, ◌<◌, Bool, true, List, Some, length, slice_get}
+use Rattle.std.specs.Prelude.{ℕ, ◌≡◌, ◌≤◌, ◌<◌, ◌⊎◌, Bool, true, List, Some, length, slice_get}
 use Rattle.mcs_book.specs.Boots.{Boot, IsFaultless}
 use Rattle.mcs_turns.specs.Turns.{User, Going, AreInRange, Follows, IsRun, beginning}
 use Rattle.mcs_explore_search.specs.declared.search.Edge.{Edge}
 use Rattle.mcs_explore_search.specs.Paths.{Path, Run}
-use Rattle.mcs_explore_search.specs.Reaching.{IsLink}
+use Rattle.mcs_explore_search.specs.Reaching.{IsLink, LeadsOut}
 use Rattle.mcs_explore_search.specs.Search.{Entries, depth_at, path_of}
 use Rattle.mcs_explore_walk.specs.declared.walk.Turn.{Turn}
 use Rattle.mcs_explore_equivalence.specs.Runs.{AreAlike}
@@ -16,12 +16,16 @@ pub record IsFoundRun {K : Type 0} (users : List User) (boot : Boot) (found : En
   pub run : IsRun users boot (depth_at found place) g
   pub path : Path (Leads users) (beginning users boot) (path_of found place) g
 
--- a search that tells states apart by exact keys has expanded all that it found, of users whose
--- entries are in their ranges after a boot without fault
-pub record IsAllExpanded {K : Type 0} (is_exact : Bool) (users : List User) (boot : Boot) (done : ℕ) (found : Entries K Turn) : Type 0 where
+-- a search tells states apart by exact keys, of users whose entries are in their ranges after a
+-- boot without fault
+pub record IsByExactKeys (is_exact : Bool) (users : List User) (boot : Boot) : Type 0 where
   pub exact : is_exact ≡ true
   pub faultless : IsFaultless boot
   pub in_range : AreInRange users
+
+-- and it has expanded all that it found
+pub record IsAllExpanded {K : Type 0} (is_exact : Bool) (users : List User) (boot : Boot) (done : ℕ) (found : Entries K Turn) : Type 0 where
+  pub keys : IsByExactKeys is_exact users boot
   pub all : length found ≤ done
 
 -- each state that was found is so
@@ -51,12 +55,13 @@ pub record IsAlongEdges (numbered : Bool) (users : List User) (boot : Boot) (sta
   pub like : AreAlike numbered users boot k state
 
 -- the edges between the states that were found are the runs of the users, but for likeness: each
--- run from a state that is like a found one goes along edges, and edges from a found state are a
--- run from each state that is like it
-pub record IsGraphOfRuns {K : Type 0} (numbered : Bool) (users : List User) (boot : Boot) (found : Entries K Turn) (edges : List Edge) : Type 0 where
+-- run from a state that is like a found one goes along edges, or these lead to a place that was not
+-- expanded; and edges from a found state are a run from each state that is like it
+pub record IsGraphOfRuns {K : Type 0} (numbered : Bool) (users : List User) (boot : Boot) (found : Entries K Turn) (done : ℕ) (edges : List Edge) : Type 0 where
   pub states : List Going
   pub long : length states ≡ length found
   pub each : (i : ℕ) (g : Going) → slice_get states i ≡ Some g → IsFoundRun users boot found i g
-  pub along : (n i : ℕ) (g h k : Going) → slice_get states i ≡ Some g → AreAlike numbered users boot h g → Run (Follows users) h n k → IsAlongEdges numbered users boot states edges i n k
+  pub along : (n i : ℕ) (g h k : Going) → slice_get states i ≡ Some g → AreAlike numbered users boot h g → Run (Follows users) h n k
+      → IsAlongEdges numbered users boot states edges i n k ⊎ LeadsOut edges done (length found) i
   pub runs : (n i j : ℕ) (g h k : Going) → slice_get states i ≡ Some g → slice_get states j ≡ Some k → AreAlike numbered users boot h g → Run (IsLink edges) i n j
       → (m : Going) × (Run (Follows users) h n m × AreAlike numbered users boot m k)

@@ -55,6 +55,9 @@ pub trait Watch: Drop {
         ensures aim { aim self.new ≡ aim self.old }
         ensures sees { OnOk result (SeesTurn HasSeen self.old self.new
             users.now place turn answer.now walk.now) };
+
+    /// Returns whether the search goes on after a state was expanded.
+    fn goes_on(&self) -> bool;
 }
 
 /// The points of runs of users after a boot, their keys, and what they are reported to.
@@ -409,6 +412,10 @@ impl<'a, W: Watch> System for Explorer<'a, W> {
         self.report(place, &walk, &picks, &turns)?;
         let nexts = self.nexts_by(alloc, place, &turns, &picks, walk)?;
         Ok(nexts)
+    }
+
+    fn goes_on(&self) -> bool {
+        self.watch.goes_on()
     }
 
     ghost same = { λ e. goes-itself W.aim e };

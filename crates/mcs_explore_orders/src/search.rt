@@ -1,11 +1,11 @@
 //! The search, the nearest states first.
-ghost use Rattle.std.specs.Prelude.{ℕ, ◌≡◌, ◌≤◌, ◌-◌, ◌⊎◌, ◌↔◌, IsTrue, IfOk, OnOk, length};
+ghost use Rattle.std.specs.Prelude.{ℕ, true, ◌≡◌, ◌≤◌, ◌-◌, ◌⊎◌, ◌↔◌, IsTrue, IfOk, OnOk, length};
 ghost use Rattle.mcs_turns.specs.Turns.{Going, beginning};
 ghost use Rattle.mcs_explore_equivalence.specs.Runs.{IsReached};
 ghost use Rattle.mcs_explore_search.specs.Paths.{Path};
 ghost use Rattle.mcs_explore_search.specs.Reaching.{AreWithin};
 ghost use Rattle.mcs_explore_search.specs.Search.{AreFoundLast, AreNear, AreSorted, IsSpent, depth_at, label_at, path_of, paths_below};
-ghost use Rattle.mcs_explore_orders.specs.Seen.{AreAllSeen, AreFoundRuns, IsAllExpanded, IsGraphOfRuns};
+ghost use Rattle.mcs_explore_orders.specs.Seen.{AreAllSeen, AreFoundRuns, IsAllExpanded, IsByExactKeys, IsGraphOfRuns};
 ghost use Rattle.mcs_explore_orders.specs.Shown.{HasCounted, HasSeenAll, nothing};
 ghost use Rattle.mcs_explore_orders.specs.Trails.{Leads};
 ghost use Rattle.mcs_explore_orders.specs.Watching.{counting};
@@ -79,6 +79,13 @@ impl<'a, W: Watch> Orders<'a, W> {
         self.search.is_whole()
     }
 
+    /// Whether the watch stopped the search.
+    pub fn is_stopped(&self) -> bool
+        ensures { result ≡ self.now.search.is_stopped }
+    {
+        self.search.is_stopped
+    }
+
     /// Returns the turns between them, by their places.
     pub fn edges(&self) -> &[Edge]
         ensures { result.now ≡ self.now.search.edges.items }
@@ -150,10 +157,10 @@ impl<'a, W: Watch> Orders<'a, W> {
     }
 }
 
-/// Expands one state after another, the earliest found first, until none is left or the budget
-/// ends. BookFull where a book has 1,000,000 lines; OutOfMemory where memory was refused, and where
-/// a user's number has more than 16 bits, or that of an entry, a row or a state that is expanded
-/// more than 32.
+/// Expands one state after another, the earliest found first, until none is left, the budget ends,
+/// or the watch stops it. BookFull where a book has 1,000,000 lines; OutOfMemory where memory was
+/// refused, and where a user's number has more than 16 bits, or that of an entry, a row or a state
+/// that is expanded more than 32.
 pub fn explore<'a, W: Watch>(
     alloc: Global,
     boot: &'a Boot,
@@ -166,9 +173,10 @@ pub fn explore<'a, W: Watch>(
     // each state that was found is that of a run, by the turns of its path
     ensures runs { IfOk result (λ o. AreFoundRuns users.now boot.now o.search.map.entries) }
     ensures sorted { IfOk result (λ o. AreSorted o.search.map.entries) }
-    // it ends where all were expanded, or by the budget alone
+    // it ends where all were expanded, by the budget, or as the watch stops it
     ensures budget { IfOk result (λ o. (length o.search.map.entries ≤ o.search.done)
-        ⊎ IsSpent budget.states budget.depth o.search.done o.search.map.entries) }
+        ⊎ IsSpent budget.states budget.depth o.search.done o.search.map.entries
+        ⊎ (o.search.is_stopped ≡ true)) }
     // it expands no state beyond a budget
     ensures near { IfOk result (λ o.
         AreNear budget.depth o.search.done o.search.map.entries) }
@@ -180,12 +188,13 @@ pub fn explore<'a, W: Watch>(
     ensures whole { IfOk result (λ o. IsAllExpanded is_exact users.now boot.now
         o.search.done o.search.map.entries
         → AreAllSeen numbered users.now boot.now o.search.map.entries) }
-    // edges lie between states that were found, and then they are the runs of the users
+    // edges lie between states that were found, and where keys are exact they are the runs of the
+    // users, as far as states were expanded
     ensures within { IfOk result (λ o. AreWithin o.search.edges.items
         (length o.search.map.entries)) }
-    ensures graph { IfOk result (λ o. IsAllExpanded is_exact users.now boot.now
-        o.search.done o.search.map.entries
-        → IsGraphOfRuns numbered users.now boot.now o.search.map.entries o.search.edges.items) }
+    ensures graph { IfOk result (λ o. IsByExactKeys is_exact users.now boot.now
+        → IsGraphOfRuns numbered users.now boot.now o.search.map.entries o.search.done
+        o.search.edges.items) }
     // each state that was expanded was shown, and each turn from it, and no other, and these were
     // counted
     ensures shown { IfOk result (λ o. W.HasSeen watch users.now nothing

@@ -18,3 +18,6 @@ pub mod Seeing
 pub mod Merging
 pub mod Judged
 pub mod Holding
+pub mod Refuting
+mod Slotting
+mod Scripting

@@ -1,8 +1,10 @@
 -- Kinds of ends that are added to others.
-use Rattle.std.specs.Prelude.{ℕ, ◌≡◌, ◌<◌, ◌+◌, ◌⊎◌, List, [], ◌∷◌, Some, length, set, slice_get}
-use Rattle.std.proofs.Common.{refl, ap, sym, ◌∙◌, inl, inr, arith}
+use Rattle.std.specs.Prelude.{ℕ, ◌≡◌, ◌<◌, ◌+◌, ◌⊎◌, Bool, true, List, [], ◌∷◌, Some, length, set, slice_get}
+use Rattle.std.proofs.Common.{refl, ap, sym, ◌∙◌, subst, inl, inr, arith}
+use Rattle.mcs_book.specs.Boots.{Boot}
+use Rattle.mcs_turns.specs.Turns.{User}
 use Rattle.mcs_explore_report.specs.declared.ends.Standing.{Standing}
-use Rattle.mcs_explore_report.specs.Ends.{AreAllEnds, AreMerged, AreMergedBelow, HasKind, IsKindAt, IsMerged, Kind, with_more}
+use Rattle.mcs_explore_report.specs.Ends.{AreAllEnds, AreMerged, AreMergedBelow, AreRunEnds, HasKind, IsKindAt, IsMerged, IsNotedIf, IsRunEnd, Kind, with_more}
 use Rattle.mcs_explore_report.proofs.Lists.{at-last, at-old, at-split, at-within, same-or-not, some-same}
 use Rattle.mcs_explore_report.proofs.Noting.{counted-back, counted-there}
 
@@ -79,3 +81,23 @@ all-merged kept deep mid ends first then = record {
     by : (standing : List Standing) → HasKind mid standing ⊎ HasKind deep standing → HasKind kept standing ⊎ HasKind deep standing
     by standing (inl has) = inl (old standing (first.only standing has))
     by standing (inr has) = inr has
+
+-- ends of runs, and one more, if that is one
+pub noted-runs : (users : List User) (boot : Boot) (over : Bool) (v : List Standing) (place : ℕ) (old new : List Kind) → IsNotedIf over v place old new → (over ≡ true → IsRunEnd users boot v) → AreRunEnds users boot old → AreRunEnds users boot new
+noted-runs users boot over v place old new (inl none) run are = subst (λ (ks : List Kind). AreRunEnds users boot ks) (sym none.1) are
+noted-runs users boot over v place old new (inr one) run are = λ standing has. by standing (merged-only (record { standing = v; count = 1; place = place }) old new one.1 standing has)
+  where
+    by : (standing : List Standing) → HasKind old standing ⊎ (v ≡ standing) → IsRunEnd users boot standing
+    by standing (inl has) = are standing has
+    by standing (inr same) = subst (λ (s : List Standing). IsRunEnd users boot s) same (run one.0)
+
+-- ends of runs in two lists
+pub all-runs : (users : List User) (boot : Boot) (kept deep ends : List Kind) → AreAllEnds kept deep ends → AreRunEnds users boot kept → AreRunEnds users boot deep → AreRunEnds users boot ends
+all-runs users boot kept deep ends all of_kept of_deep = λ standing has. by standing (all.only standing has)
+  where
+    by : (standing : List Standing) → HasKind kept standing ⊎ HasKind deep standing → IsRunEnd users boot standing
+    by standing (inl has) = of_kept standing has
+    by standing (inr has) = of_deep standing has
+
+pub none-runs : (users : List User) (boot : Boot) → AreRunEnds users boot []
+none-runs users boot = λ standing has. let at = has.1.at in absurd cc

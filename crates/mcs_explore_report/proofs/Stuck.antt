@@ -4,7 +4,7 @@ use Rattle.std.specs.List.{list_any, position, position_or_len}
 use Rattle.std.proofs.Common.{refl, ap, sym, ◌∙◌, subst, inl, inr, arith, append_assoc}
 use Rattle.std.proofs.lemmas.Grind.{common_steps}
 use Rattle.std.proofs.lemmas.Option.{get_or_from_slice_get}
-use Rattle.std.proofs.lemmas.List.{drop_all, map-append, get_or-set_same, get_or-map, get_or-take, get_or_append_left, length-append, length-map, length-replicate, length-set, length-take}
+use Rattle.std.proofs.lemmas.List.{drop_all, map-append, get_or-set_same, get_or-append_right, get_or-map, get_or-replicate, get_or-take, get_or_append_left, length-append, length-map, length-replicate, length-set, length-take}
 use Rattle.mcs_types.specs.declared.entry.Answer.{Answer}
 use Rattle.mcs_book.specs.Boots.{Boot, IsFaultless}
 use Rattle.mcs_book.specs.History.{log_of}
@@ -14,7 +14,7 @@ use Rattle.mcs_explore_equivalence.proofs.Asking.{status-same}
 use Rattle.mcs_explore_equivalence.proofs.Likenesses.{by-likeness}
 use Rattle.mcs_explore_search.specs.declared.search.Edge.{Edge}
 use Rattle.mcs_explore_search.specs.Paths.{Path}
-use Rattle.mcs_explore_search.specs.Reaching.{AreAllLed, AreWithin, IsLed, is_marked}
+use Rattle.mcs_explore_search.specs.Reaching.{AreAllLed, AreWithin, IsLed, LeadsOut, is_marked}
 use Rattle.mcs_explore_search.specs.Search.{Entries, path_of, paths_below}
 use Rattle.mcs_explore_search.proofs.Marks.{mark-or, mark-stays}
 use Rattle.mcs_explore_equivalence.specs.Runs.{AreAlike}
@@ -27,7 +27,7 @@ use Rattle.mcs_explore_orders.proofs.Paths.{path-one}
 use Rattle.mcs_explore_script.specs.declared.lives.Live.{Live}
 use Rattle.mcs_explore_report.specs.declared.mail.Reached.{Reached}
 use Rattle.mcs_explore_report.specs.Found.{IsAt}
-use Rattle.mcs_explore_report.specs.Stuck.{AreDecided, AreNotedBy, AreNotedOn, IsFirstUnled, IsLive, IsNear, IsNotedBy, IsStuckFirst, Noted, answers, answers_last, first_marks, is_about, is_mailed, is_settled, is_waits, settled_by, with_made, with_mark, with_marks, with_sight}
+use Rattle.mcs_explore_report.specs.Stuck.{AreDecided, AreNotedBy, AreNotedOn, AreStuckUnled, IsFirstUnled, IsLive, IsNear, IsNotedBy, IsStuckFirst, Noted, answers, answers_last, first_marks, is_about, is_mailed, is_settled, is_waits, settled_by, with_made, with_mark, with_marks, with_sight}
 use Rattle.mcs_explore_report.specs.Mail.{brought}
 use Rattle.mcs_explore_report.proofs.HeldRuns.{answered-same, places-same, same, step, then_g, then_h, there}
 use Rattle.mcs_explore_report.proofs.Keeping.{at-paths, paths-long}
@@ -93,7 +93,7 @@ pub marks-done : (ps : List ℕ) (i : ℕ) (marks : List Bool) → length ps ≤
 marks-done ps i marks long = ap (λ (qs : List ℕ). with_marks qs marks) (sym (drop_all i ps long))
 
 -- so many places have so many marks
-first-marks-long : (states : ℕ) (n : Noted) → length (first_marks states n) ≡ states
+pub first-marks-long : (states : ℕ) (n : Noted) → length (first_marks states n) ≡ states
 first-marks-long states n =
     marks-long n.answered (take (min (length n.settled) states) n.settled ++ replicate (states - min (length n.settled) states) true)
     ∙ length-append (take (min (length n.settled) states) n.settled) (replicate (states - min (length n.settled) states) true)
@@ -208,48 +208,70 @@ module _ (numbered : Bool) (users : List User) (boot : Boot) (whole : IsFaultles
     ),
   )
 
--- where all states were expanded
-module _ {K : Type 0} (numbered : Bool) (users : List User) (apart : AreApart users) (boot : Boot) (whole : IsFaultless boot) (range : AreInRange users) (found : Entries K Turn) (done : ℕ) (all : length found ≤ done) (seen : AreAllSeen numbered users boot found)
-    (edges : List Edge) (graph : IsGraphOfRuns numbered users boot found edges) (shown : Shown) (are : AreShown users (beginning users boot) (paths_below found done) shown) (l : Live) (n : Noted) (noted : IsNotedBy users shown l n) where
+-- a number is less than another, or not
+less-or-not : (m n : ℕ) → (m < n) ⊎ (n ≤ m)
+less-or-not m zero = inr (omega arith)
+less-or-not zero (suc n) = inl (omega arith)
+less-or-not (suc m) (suc n) = go (less-or-not m n)
+  where
+    go : (m < n) ⊎ (n ≤ m) → (suc m < suc n) ⊎ (suc n ≤ suc m)
+    go (inl l) = inl (omega (arith, l))
+    go (inr l) = inr (omega (arith, l))
+
+-- what was found, of which the first states were expanded
+module _ {K : Type 0} (numbered : Bool) (users : List User) (apart : AreApart users) (boot : Boot) (whole : IsFaultless boot) (range : AreInRange users) (found : Entries K Turn) (done : ℕ)
+    (edges : List Edge) (graph : IsGraphOfRuns numbered users boot found done edges) (shown : Shown) (are : AreShown users (beginning users boot) (paths_below found done) shown) (l : Live) (n : Noted) (noted : IsNotedBy users shown l n) where
   abbrev marks : List Bool
   marks = first_marks (length found) n
 
+  abbrev known : List Bool
+  known = take (min (length n.settled) (length found)) n.settled
+
+  abbrev rest : List Bool
+  rest = replicate (length found - min (length n.settled) (length found)) true
+
   abbrev base : List Bool
-  base = take (min (length n.settled) (length found)) n.settled ++ replicate (length found - min (length n.settled) (length found)) true
+  base = known ++ rest
 
   settled-long : length n.settled ≡ done
   settled-long = ap length noted.settled ∙ length-map shown.states (λ (s : Sight). is_settled users l s.going) ∙ are.long ∙ paths-long found done
 
-  base-at : (i : ℕ) → i < length found → is_marked base i ≡ get_or n.settled i false
-  base-at i lt =
-      get_or_append_left (take (min (length n.settled) (length found)) n.settled) (replicate (length found - min (length n.settled) (length found)) true) false i (let long = length-take (min (length n.settled) (length found)) n.settled in let e = settled-long in omega (arith, lt, long, e, all))
-      ∙ get_or-take (min (length n.settled) (length found)) n.settled i false (let e = settled-long in omega (arith, lt, e, all))
+  base-at : (i : ℕ) → i < length found → i < done → is_marked base i ≡ get_or n.settled i false
+  base-at i lt below =
+      get_or_append_left known rest false i (let long = length-take (min (length n.settled) (length found)) n.settled in let e = settled-long in omega (arith, lt, long, e, below))
+      ∙ get_or-take (min (length n.settled) (length found)) n.settled i false (let e = settled-long in omega (arith, lt, e, below))
+
+  -- a place that was not expanded is marked
+  base-beyond : (i : ℕ) → i < length found → done ≤ i → is_marked base i ≡ true
+  base-beyond i lt beyond =
+      get_or-append_right known rest (length known) i false refl (let long = length-take (min (length n.settled) (length found)) n.settled in let e = settled-long in omega (arith, lt, long, e, beyond))
+      ∙ get_or-replicate (length found - min (length n.settled) (length found)) (i - length known) true false (let long = length-take (min (length n.settled) (length found)) n.settled in let e = settled-long in omega (arith, lt, long, e, beyond))
 
   base-long : length base ≡ length found
   base-long =
-      length-append (take (min (length n.settled) (length found)) n.settled) (replicate (length found - min (length n.settled) (length found)) true)
-      ∙ (let a = length-take (min (length n.settled) (length found)) n.settled in let b = length-replicate (length found - min (length n.settled) (length found)) true in let e = settled-long in omega (arith, a, b, e, all))
+      length-append known rest
+      ∙ (let a = length-take (min (length n.settled) (length found)) n.settled in let b = length-replicate (length found - min (length n.settled) (length found)) true in let e = settled-long in omega (arith, a, b, e))
 
   pub marks-as-long : length marks ≡ length found
   marks-as-long = marks-long n.answered base ∙ base-long
 
   -- the state in a place, as it was shown
-  state-at : (i : ℕ) (g : Going) → i < length found → IsAt users boot found i g → is_marked base i ≡ is_settled users l g
-  state-at i g lt at =
-      let s = within-at shown.states i (let long = are.long in let paths = paths-long found done in omega (arith, long, paths, lt, all)) in
+  state-at : (i : ℕ) (g : Going) → i < length found → i < done → IsAt users boot found i g → is_marked base i ≡ is_settled users l g
+  state-at i g lt below at =
+      let s = within-at shown.states i (let long = are.long in let paths = paths-long found done in omega (arith, long, paths, below)) in
       let is = are.states i s.0 s.1 in
-      let path : is.path ≡ path_of found i = some-same is.path (path_of found i) (sym is.at ∙ at-paths found done i (omega (arith, lt, all))) in
+      let path : is.path ≡ path_of found i = some-same is.path (path_of found i) (sym is.at ∙ at-paths found done i below) in
       let going : s.0.going ≡ g = path-one users apart (beginning users boot) (path_of found i) s.0.going g (subst (λ ls. Path (Leads users) (beginning users boot) ls s.0.going) path is.leads) at in
-      base-at i lt
+      base-at i lt below
       ∙ ap (λ (bs : List Bool). get_or bs i false) noted.settled
       ∙ get_or-map (λ (x : Sight). is_settled users l x.going) shown.states i s.0 false (at-within shown.states i s.0 s.1)
       ∙ ap (λ (x : Sight). is_settled users l x.going) (get_or_from_slice_get shown.states i s.0 s.0 s.1)
       ∙ ap (λ (x : Going). is_settled users l x) going
 
-  near-marked : (i : ℕ) (g : Going) → i < length found → IsAt users boot found i g → IsNear users l g → is_marked marks i ≡ true
-  near-marked i g lt at (inl settled) = old-marks n.answered base i (state-at i g lt at ∙ settled)
-  near-marked i g lt at (inr it) =
-      let m = are.all i (path_of found i) g it.1.0 it.0 (at-paths found done i (omega (arith, lt, all))) at it.1.1.0 in
+  near-below : (i : ℕ) (g : Going) → i < length found → i < done → IsAt users boot found i g → IsNear users l g → is_marked marks i ≡ true
+  near-below i g lt below at (inl settled) = old-marks n.answered base i (state-at i g lt below at ∙ settled)
+  near-below i g lt below at (inr it) =
+      let m = are.all i (path_of found i) g it.1.0 it.0 (at-paths found done i below) at it.1.1.0 in
       let made = are.turns m.number m.made m.at in
       let is : answers users l m.made.turn m.made.answer m.made.going ≡ true =
       ap (λ (x : Option Answer). elim x [ None ↦ false | Some a ↦ answers users l m.made.turn a m.made.going ]) (sym made.turn.answer)
@@ -257,10 +279,17 @@ module _ {K : Type 0} (numbered : Bool) (users : List User) (apart : AreApart us
       let j = flat-has (λ (x : Made). answers users l x.turn x.answer x.going) (λ (x : Made). x.place) shown.turns m.number m.made m.at is in
       has-mark n.answered base j.0 i (ap (λ (ps : List ℕ). slice_get ps j.0) noted.answered ∙ j.1 ∙ ap (λ (k : ℕ). Some k) m.place) (subst (λ k. i < k) (sym base-long) lt)
 
-  made-near : (i : ℕ) (g : Going) → i < length found → IsAt users boot found i g → IsPicked (λ (x : Made). answers users l x.turn x.answer x.going) (λ (x : Made). x.place) shown.turns i → IsNear users l g
-  made-near i g lt at m =
+  near-marked : (i : ℕ) (g : Going) → i < length found → IsAt users boot found i g → IsNear users l g → is_marked marks i ≡ true
+  near-marked i g lt at near = go (less-or-not i done)
+    where
+      go : (i < done) ⊎ (done ≤ i) → is_marked marks i ≡ true
+      go (inl below) = near-below i g lt below at near
+      go (inr beyond) = old-marks n.answered base i (base-beyond i lt beyond)
+
+  made-near : (i : ℕ) (g : Going) → i < done → IsAt users boot found i g → IsPicked (λ (x : Made). answers users l x.turn x.answer x.going) (λ (x : Made). x.place) shown.turns i → IsNear users l g
+  made-near i g below at m =
       let made = are.turns m.number m.one m.at in
-      let path : made.path ≡ path_of found i = some-same made.path (path_of found i) (sym made.at ∙ ap (λ (k : ℕ). slice_get (paths_below found done) k) m.place_is ∙ at-paths found done i (omega (arith, lt, all))) in
+      let path : made.path ≡ path_of found i = some-same made.path (path_of found i) (sym made.at ∙ ap (λ (k : ℕ). slice_get (paths_below found done) k) m.place_is ∙ at-paths found done i below) in
       let going : made.state ≡ g = path-one users apart (beginning users boot) (path_of found i) made.state g (subst (λ ls. Path (Leads users) (beginning users boot) ls made.state) path made.leads) at in
       inr (
         m.one.turn,
@@ -273,12 +302,12 @@ module _ {K : Type 0} (numbered : Bool) (users : List User) (apart : AreApart us
         ),
       )
 
-  marked-near : (i : ℕ) (g : Going) → i < length found → IsAt users boot found i g → is_marked marks i ≡ true → IsNear users l g
-  marked-near i g lt at h = go (marks-from n.answered base i h)
+  marked-near : (i : ℕ) (g : Going) → i < length found → i < done → IsAt users boot found i g → is_marked marks i ≡ true → IsNear users l g
+  marked-near i g lt below at h = go (marks-from n.answered base i h)
     where
       go : (is_marked base i ≡ true) ⊎ ((j : ℕ) × (slice_get n.answered j ≡ Some i)) → IsNear users l g
-      go (inl old) = inl (sym (state-at i g lt at) ∙ old)
-      go (inr it) = made-near i g lt at (flat-from (λ (x : Made). answers users l x.turn x.answer x.going) (λ (x : Made). x.place) shown.turns it.0 i (ap (λ (ps : List ℕ). slice_get ps it.0) (sym noted.answered) ∙ it.1))
+      go (inl old) = inl (sym (state-at i g lt below at) ∙ old)
+      go (inr it) = made-near i g below at (flat-from (λ (x : Made). answers users l x.turn x.answer x.going) (λ (x : Made). x.place) shown.turns it.0 i (ap (λ (ps : List ℕ). slice_get ps it.0) (sym noted.answered) ∙ it.1))
 
   -- the state of a place is that of its visit
   state-is : (i : ℕ) (g h : Going) → slice_get graph.states i ≡ Some g → IsAt users boot found i h → g ≡ h
@@ -291,17 +320,28 @@ module _ {K : Type 0} (numbered : Bool) (users : List User) (apart : AreApart us
   found-within i g at = subst (λ k. i < k) graph.long (at-within graph.states i g at)
 
   live-led : (i : ℕ) (g h : Going) → slice_get graph.states i ≡ Some g → AreAlike numbered users boot h g → IsLive users l h → IsLed edges marks i
-  live-led i g h at like live =
-      let a : IsAlongEdges numbered users boot graph.states edges i live.turns live.going = graph.along live.turns i g h live.going at like live.run in
-      record {
+  live-led i g h at like live = go (graph.along live.turns i g h live.going at like live.run)
+    where
+      go : IsAlongEdges numbered users boot graph.states edges i live.turns live.going ⊎ LeadsOut edges done (length found) i → IsLed edges marks i
+      go (inl a) = record {
         steps = live.turns;
         end = a.end;
         run = a.run;
         marked = near-marked a.end a.state (found-within a.end a.state a.there) (graph.each a.end a.state a.there).path (near-there numbered users boot whole range l live.going a.state a.like live.near);
       }
+      go (inr out) = record { steps = out.steps; end = out.end; run = out.run; marked = old-marks n.answered base out.end (base-beyond out.end out.within out.beyond) }
 
-  led-live : (i : ℕ) (g h : Going) → slice_get graph.states i ≡ Some g → AreAlike numbered users boot h g → IsLed edges marks i → IsLive users l h
-  led-live i g h at like led =
+  self : (i : ℕ) (g : Going) → slice_get graph.states i ≡ Some g → AreAlike numbered users boot g g
+  self i g at = alike-self numbered users boot whole range g (record { turns = _; run = (graph.each i g at).run })
+
+  -- edges lead on from where a run does
+  pub stuck-there : (place : ℕ) (g : Going) → place < length found → (IsLed edges marks place → ⊥) → IsAt users boot found place g → IsLive users l g → ⊥
+  stuck-there place g lt unled at live =
+      let s = state-of place lt in
+      unled (live-led place s.0 g s.1 (subst (λ (x : Going). AreAlike numbered users boot x s.0) (state-is place s.0 g s.1 at) (self place s.0 s.1)) live)
+
+  led-live : length found ≤ done → (i : ℕ) (g h : Going) → slice_get graph.states i ≡ Some g → AreAlike numbered users boot h g → IsLed edges marks i → IsLive users l h
+  led-live all i g h at like led =
       let lt : led.end < length found = subst (λ k. led.end < k) marks-as-long (marked-within marks led.end led.marked) in
       let s = state-of led.end lt in
       let r = graph.runs led.steps i led.end g h s.0 at s.1 like led.run in
@@ -309,7 +349,7 @@ module _ {K : Type 0} (numbered : Bool) (users : List User) (apart : AreApart us
         turns = led.steps;
         going = r.0;
         run = r.1.0;
-        near = near-there numbered users boot whole range l s.0 r.0 (alike-back numbered users boot r.0 s.0 r.1.1) (marked-near led.end s.0 lt (graph.each led.end s.0 s.1).path led.marked);
+        near = near-there numbered users boot whole range l s.0 r.0 (alike-back numbered users boot r.0 s.0 r.1.1) (marked-near led.end s.0 lt (omega (arith, lt, all)) (graph.each led.end s.0 s.1).path led.marked);
       }
     where
       marked-within : (ms : List Bool) (i : ℕ) → is_marked ms i ≡ true → i < length ms
@@ -317,28 +357,22 @@ module _ {K : Type 0} (numbered : Bool) (users : List User) (apart : AreApart us
       marked-within (m ∷ ms) zero h = omega arith
       marked-within (m ∷ ms) (suc i) h = let r = marked-within ms i h in omega (arith, r)
 
-  self : (i : ℕ) (g : Going) → slice_get graph.states i ≡ Some g → AreAlike numbered users boot g g
-  self i g at = alike-self numbered users boot whole range g (record { turns = _; run = (graph.each i g at).run })
-
-  here-live : (i : ℕ) (g : Going) → i < length found → IsAt users boot found i g → IsLed edges marks i → IsLive users l g
-  here-live i g lt at led =
+  here-live : length found ≤ done → (i : ℕ) (g : Going) → i < length found → IsAt users boot found i g → IsLed edges marks i → IsLive users l g
+  here-live all i g lt at led =
       let s = state-of i lt in
-      subst (λ (x : Going). IsLive users l x) (state-is i s.0 g s.1 at) (led-live i s.0 s.0 s.1 (self i s.0 s.1) led)
+      subst (λ (x : Going). IsLive users l x) (state-is i s.0 g s.1 at) (led-live all i s.0 s.0 s.1 (self i s.0 s.1) led)
 
-  pub stuck-first : (o : Option ℕ) → IsFirstUnled edges marks o → IsStuckFirst users boot l found o
-  stuck-first None led = λ m g run.
+  pub stuck-first : length found ≤ done → AreAllSeen numbered users boot found → (o : Option ℕ) → IsFirstUnled edges marks o → IsStuckFirst users boot l found o
+  stuck-first all seen None led = λ m g run.
       let s : IsSeen numbered users boot found m g = seen m g run in
       let t = state-of s.place s.within in
-      led-live s.place t.0 g t.1 (subst (λ (x : Going). AreAlike numbered users boot g x) (sym (state-is s.place t.0 s.going t.1 s.is.path)) s.like) (led s.place (subst (λ k. s.place < k) (sym marks-as-long) s.within))
-  stuck-first (Some place) first =
+      led-live all s.place t.0 g t.1 (subst (λ (x : Going). AreAlike numbered users boot g x) (sym (state-is s.place t.0 s.going t.1 s.is.path)) s.like) (led s.place (subst (λ k. s.place < k) (sym marks-as-long) s.within))
+  stuck-first all seen (Some place) first =
       let lt : place < length found = subst (λ k. place < k) marks-as-long first.0 in
       record {
         within = lt;
-        stuck = λ g at live.
-            let s = state-of place lt in
-            let same_state = state-is place s.0 g s.1 at in
-            first.1.0 (live-led place s.0 g s.1 (subst (λ (x : Going). AreAlike numbered users boot x s.0) same_state (self place s.0 s.1)) live);
-        before = λ i g below at. here-live i g (omega (arith, below, lt)) at (first.1.1 i below);
+        stuck = λ g at live. stuck-there place g lt first.1.0 at live;
+        before = λ i g below at. here-live all i g (omega (arith, below, lt)) at (first.1.1 i below);
       }
 
 -- what is noted of each question, where nothing was shown
@@ -388,10 +422,16 @@ noted-turn users lives place t a h shown old new = noted-on users lives (with_ma
     flat-last f (y ∷ xs) x = append_assoc (f y) (flat_map f xs) (f x) ∙ ap (λ (ys : List _). f y ++ ys) (flat-last f xs x)
 
 -- what is noted decides of each question where no run answers it
-pub decided : {K : Type 0} (numbered : Bool) (users : List User) → AreApart users → (boot : Boot) → IsFaultless boot → AreInRange users → (found : Entries K Turn) (done : ℕ) → length found ≤ done → AreAllSeen numbered users boot found
-    → (edges : List Edge) → IsGraphOfRuns numbered users boot found edges → (shown : Shown) → AreShown users (beginning users boot) (paths_below found done) shown → (lives : List Live) (notes : List Noted) → AreNotedBy users lives shown notes
-    → AreDecided users boot lives found edges notes
-decided numbered users apart boot whole range found done all seen edges graph shown are lives notes noted = record {
-  long = noted.long;
-  each = λ i l n o at there first. stuck-first numbered users apart boot whole range found done all seen edges graph shown are l n (noted.each i l n at there) o first;
-}
+module _ {K : Type 0} (numbered : Bool) (users : List User) (apart : AreApart users) (boot : Boot) (whole : IsFaultless boot) (range : AreInRange users) (found : Entries K Turn) (done : ℕ)
+    (edges : List Edge) (graph : IsGraphOfRuns numbered users boot found done edges) (shown : Shown) (are : AreShown users (beginning users boot) (paths_below found done) shown) (lives : List Live) (notes : List Noted) (noted : AreNotedBy users lives shown notes) where
+  pub decided : length found ≤ done → AreAllSeen numbered users boot found → AreDecided users boot lives found edges notes
+  decided all seen = record {
+    long = noted.long;
+    each = λ i l n o at there first. stuck-first numbered users apart boot whole range found done edges graph shown are l n (noted.each i l n at there) all seen o first;
+  }
+
+  pub unled-stuck : AreStuckUnled users boot lives found edges notes
+  unled-stuck = record {
+    long = noted.long;
+    each = λ i l n place g at there lt unled is live. stuck-there numbered users apart boot whole range found done edges graph shown are l n (noted.each i l n at there) place g lt unled is live;
+  }

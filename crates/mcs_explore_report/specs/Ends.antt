@@ -1,6 +1,7 @@
 -- The kinds of ends (own).
 use Rattle.std.specs.Prelude.{ℕ, ◌≡◌, ◌<◌, ◌+◌, ◌-◌, ◌^◌, ◌++◌, ◌⊎◌, Bool, true, false, min, List, [], ◌∷◌, Some, length, set, slice_get}
-use Rattle.mcs_turns.specs.Turns.{User}
+use Rattle.mcs_book.specs.Boots.{Boot}
+use Rattle.mcs_turns.specs.Turns.{User, Going, IsOver, IsRun}
 use Rattle.mcs_explore_report.specs.declared.ends.Standing.{Standing}
 use Rattle.mcs_explore_orders.specs.Shown.{Sight}
 use Rattle.mcs_explore_report.specs.Standings.{standings}
@@ -67,6 +68,18 @@ pub record AreAllEnds (ks ds ends : List Kind) : Type 0 where
   pub kept : (i : ℕ) (k : Kind) → slice_get ks i ≡ Some k → HasKind ends k.standing
   pub deep : (i : ℕ) (k : Kind) → slice_get ds i ≡ Some k → HasKind ends k.standing
   pub only : (standing : List Standing) → HasKind ends standing → HasKind ks standing ⊎ HasKind ds standing
+
+-- some run is over in which the users stand so
+pub record IsRunEnd (users : List User) (boot : Boot) (standing : List Standing) : Type 0 where
+  pub turns : ℕ
+  pub state : Going
+  pub run : IsRun users boot turns state
+  pub over : IsOver users state
+  pub is : standings users state ≡ standing
+
+-- of each of these kinds there is one
+abbrev pub AreRunEnds : List User → Boot → List Kind → Type 0
+AreRunEnds users boot kinds = (standing : List Standing) → HasKind kinds standing → IsRunEnd users boot standing
 
 -- the kind is that of a state that was shown and is over
 pub record IsEndOf (users : List User) (states : List Sight) (k : Kind) : Type 0 where

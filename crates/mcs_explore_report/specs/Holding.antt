@@ -22,16 +22,16 @@ use Rattle.mcs_explore_report.specs.Standings.{standings}
 use Rattle.mcs_explore_report.specs.Stuck.{IsLive}
 use Rattle.mcs_explore_report.specs.Verdicts.{is_said, lacks}
 
--- each answer of an entry, in each run, is one that the pattern matches
-abbrev pub AllAnswersMatch : List User → Boot → Event → List ℕ → Type 0
-AllAnswersMatch users boot e pattern = (user n : ℕ) (t : Turn) (g h : Going) (a : Answer) → user_of users e.thread ≡ Some user → IsRun users boot n g → Leads users t g h → IsGiven users t h user (e.number - 1) a → is_said pattern a ≡ true
+-- each answer of an entry, in each run, is one that the pattern matches, or not, as is wanted
+abbrev pub AllAnswersAre : List User → Boot → Event → List ℕ → Bool → Type 0
+AllAnswersAre users boot e pattern wanted = (user n : ℕ) (t : Turn) (g h : Going) (a : Answer) → user_of users e.thread ≡ Some user → IsRun users boot n g → Leads users t g h → IsGiven users t h user (e.number - 1) a → is_said pattern a ≡ wanted
 
 -- each run that is over has answered an entry for good
 abbrev pub EachEndIsAnswered : List User → Boot → Event → Type 0
 EachEndIsAnswered users boot e = (n : ℕ) (g : Going) → IsRun users boot n g → IsOver users g → lacks e (standings users g) ≡ false
 
--- some answer of an entry, in some run, is one that the pattern matches
-pub record SomeAnswerMatches (users : List User) (boot : Boot) (e : Event) (pattern : List ℕ) : Type 0 where
+-- some answer of an entry, in some run, is one that the pattern matches, or not, as is wanted
+pub record SomeAnswerIs (users : List User) (boot : Boot) (e : Event) (pattern : List ℕ) (wanted : Bool) : Type 0 where
   pub user : ℕ
   pub of : user_of users e.thread ≡ Some user
   pub turns : ℕ
@@ -42,16 +42,16 @@ pub record SomeAnswerMatches (users : List User) (boot : Boot) (e : Event) (patt
   pub leads : Leads users turn state going
   pub answer : Answer
   pub is : IsAnswered turn going user (e.number - 1) answer ⊎ IsMailed users going user (e.number - 1) turn answer
-  pub said : is_said pattern answer ≡ true
+  pub said : is_said pattern answer ≡ wanted
 
 -- a question holds in all runs; what `live` asks is among the lives of the script
 abbrev pub HoldsInRuns : List User → Boot → Asked → Type 0
 HoldsInRuns users boot (asked.Idle thread entries) = Unit {0}
 HoldsInRuns users boot (asked.Again event) = Unit {0}
 HoldsInRuns users boot (asked.Live thread number) = Unit {0}
-HoldsInRuns users boot (asked.Answer event pattern) = AllAnswersMatch users boot event pattern.items × EachEndIsAnswered users boot event
-HoldsInRuns users boot (asked.AnswerIf event pattern) = AllAnswersMatch users boot event pattern.items
-HoldsInRuns users boot (asked.Some event pattern) = SomeAnswerMatches users boot event pattern.items
+HoldsInRuns users boot (asked.Answer event pattern) = AllAnswersAre users boot event pattern.items true × EachEndIsAnswered users boot event
+HoldsInRuns users boot (asked.AnswerIf event pattern) = AllAnswersAre users boot event pattern.items true
+HoldsInRuns users boot (asked.Some event pattern) = SomeAnswerIs users boot event pattern.items true
 HoldsInRuns users boot q = IsHeldInRuns users boot q
 
 -- a script holds: in each run that is over each user is done, or waits where a question lets it

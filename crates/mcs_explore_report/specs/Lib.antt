@@ -14,5 +14,7 @@ pub mod Saying
 pub mod Verdicts
 pub mod Stuck
 pub mod Holding
+pub mod Failing
 pub mod Outcomes
 pub mod Scripts
+pub mod Origins

@@ -1,10 +1,10 @@
 -- What came of questions (own).
-use Rattle.std.specs.Prelude.{ℕ, ◌≡◌, ◌<◌, ◌++◌, ◌&&◌, ◌||◌, Bool, true, false, not, cond, is_none, List, [], ◌∷◌, Option, Some, length, slice_get}
-use Rattle.std.specs.List.{list_all, list_any}
+use Rattle.std.specs.Prelude.{ℕ, ◌≡◌, ◌<◌, ◌≤◌, ◌++◌, ◌⊎◌, ◌&&◌, ◌||◌, Bool, true, false, not, cond, is_none, is_some, List, [], ◌∷◌, Option, Some, None, length, slice_get, take}
+use Rattle.std.specs.List.{filter, list_all, list_any}
 use Rattle.mcs_turns.specs.Turns.{User}
 use Rattle.mcs_explore_search.specs.declared.search.Edge.{Edge}
 use Rattle.mcs_explore_questions.specs.declared.asking.Asked.{Asked}
-use Rattle.mcs_explore_questions.specs.Asking.{is_question}
+use Rattle.mcs_explore_questions.specs.Asking.{is_live, is_question}
 use Rattle.mcs_explore_script.specs.declared.questions.AskedLine.{AskedLine}
 use Rattle.mcs_explore_report.specs.declared.findings.Judged.{Judged}
 use Rattle.mcs_explore_report.specs.declared.judging.Sighting.{Sighting}
@@ -44,6 +44,34 @@ pub record IsHeld (users : List User) (kinds : List Kind) (tables : Tables) (f :
 abbrev pub AreHeldBelow : List User → List Kind → Tables → List (Option Sighting) → List AskedLine → ℕ → Type 0
 AreHeldBelow users kinds tables failed questions n = (i : ℕ) (q : AskedLine) → i < n → slice_get questions i ≡ Some q → is_question q.asked ≡ true → IsHeld users kinds tables (failed_at failed i) q.asked
 
+-- a verdict by which a question does not hold, and what shows it: something that was seen, or that
+-- all states were expanded; it is stuck only where not all users are live
+pub record IsMissed (users : List User) (kinds : List Kind) (tables : Tables) (f : Option Sighting) (live : Bool) (states done : ℕ) (q : Asked) : Type 0 where
+  pub stuck : Option Sighting
+  pub verdict : Verdict
+  pub is : IsVerdict users kinds tables f stuck q verdict
+  pub stuck_is : is_some stuck ≡ true → live ≡ false
+  pub fails : verdict.holds ≡ false
+  pub shown : (is_some verdict.seen ≡ true) ⊎ (states ≤ done)
+
+-- so it is with one of the questions
+pub record HasMissed (users : List User) (kinds : List Kind) (tables : Tables) (failed : List (Option Sighting)) (questions : List AskedLine) (live : Bool) (states done : ℕ) : Type 0 where
+  pub index : ℕ
+  pub line : AskedLine
+  pub at : slice_get questions index ≡ Some line
+  pub is : IsMissed users kinds tables (failed_at failed index) live states done line.asked
+
+-- how many of the first n lines ask that a user never gets stuck
+abbrev pub count_lives : List AskedLine → ℕ → ℕ
+count_lives questions n = length (filter (λ (q : AskedLine). is_live q.asked) (take n questions))
+
+-- where the user is stuck first of which the line with this number asks, by the first places of all
+abbrev pub stuck_of : List AskedLine → List (Option ℕ) → ℕ → Option Sighting
+stuck_of questions places n = elim (slice_get places (count_lives questions n)) [
+  | None ↦ None
+  | Some o ↦ elim o [ None ↦ None | Some place ↦ Some (record { place = place; turn = None }) ]
+]
+
 -- of each user that may not get stuck the first place from which no edges lead on to an answer
 pub record AreFirstPlaces (edges : List Edge) (states : ℕ) (notes : List Noted) (count : ℕ) (places : List (Option ℕ)) : Type 0 where
   pub long : length places ≡ count
@@ -70,12 +98,13 @@ abbrev pub has_failure : List Judged → List (Option ℕ) → List AskedLine �
 has_failure js places questions kinds = (any_fails js || not (are_live places)) || not (are_done questions kinds)
 
 -- a question more was judged, that of this line
-pub record AddsJudged (users : List User) (kinds : List Kind) (tables : Tables) (failed : List (Option Sighting)) (questions : List AskedLine) (number : ℕ) (old new : List Judged) : Type 0 where
+pub record AddsJudged (users : List User) (kinds : List Kind) (tables : Tables) (failed : List (Option Sighting)) (questions : List AskedLine) (live : Bool) (states done number : ℕ) (old new : List Judged) : Type 0 where
   pub judged : Judged
   pub added : new ≡ old ++ judged ∷ []
   pub held : (q : AskedLine) → slice_get questions number ≡ Some q → holds judged.outcome ≡ true → IsHeld users kinds tables (failed_at failed number) q.asked
+  pub missed : (q : AskedLine) → slice_get questions number ≡ Some q → fails judged.outcome ≡ true → IsMissed users kinds tables (failed_at failed number) live states done q.asked
 
 -- so is a line that asks something that holds or not; another is left out
-pub record IsJudgedMore (users : List User) (kinds : List Kind) (tables : Tables) (failed : List (Option Sighting)) (questions : List AskedLine) (number : ℕ) (old new : List Judged) : Type 0 where
-  pub asks : (q : AskedLine) → slice_get questions number ≡ Some q → is_question q.asked ≡ true → AddsJudged users kinds tables failed questions number old new
+pub record IsJudgedMore (users : List User) (kinds : List Kind) (tables : Tables) (failed : List (Option Sighting)) (questions : List AskedLine) (live : Bool) (states done number : ℕ) (old new : List Judged) : Type 0 where
+  pub asks : (q : AskedLine) → slice_get questions number ≡ Some q → is_question q.asked ≡ true → AddsJudged users kinds tables failed questions live states done number old new
   pub other : (q : AskedLine) → slice_get questions number ≡ Some q → is_question q.asked ≡ false → new ≡ old

@@ -135,3 +135,10 @@ IsStuckFirst users boot l found (Some place) = IsStuckAt users boot l found plac
 pub record AreDecided {K : Type 0} (users : List User) (boot : Boot) (lives : List Live) (found : Entries K Turn) (edges : List Edge) (notes : List Noted) : Type 0 where
   pub long : length notes ≡ length lives
   pub each : (i : ℕ) (l : Live) (n : Noted) (o : Option ℕ) → slice_get lives i ≡ Some l → slice_get notes i ≡ Some n → IsFirstUnled edges (first_marks (length found) n) o → IsStuckFirst users boot l found o
+
+-- from a place that was found, and from which edges do not lead on to what is noted, no run leads
+-- on to it, also where some states were not expanded
+pub record AreStuckUnled {K : Type 0} (users : List User) (boot : Boot) (lives : List Live) (found : Entries K Turn) (edges : List Edge) (notes : List Noted) : Type 0 where
+  pub long : length notes ≡ length lives
+  pub each : (i : ℕ) (l : Live) (n : Noted) (place : ℕ) (g : Going) → slice_get lives i ≡ Some l → slice_get notes i ≡ Some n → place < length found → (IsLed edges (first_marks (length found) n) place → ⊥) → IsAt users boot found place g
+      → IsLive users l g → ⊥

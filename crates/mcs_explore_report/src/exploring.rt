@@ -1,5 +1,5 @@
 //! The search, and what is kept of it.
-ghost use Rattle.std.specs.Prelude.{ℕ, ◌≡◌, ◌≤◌, ◌⊎◌, IfOk, Some, length, slice_get};
+ghost use Rattle.std.specs.Prelude.{ℕ, true, ◌≡◌, ◌≤◌, ◌⊎◌, Bool, IfOk, Some, length, slice_get};
 ghost use Rattle.mcs_types.specs.declared.entry.Entry.{Entry};
 ghost use Rattle.mcs_types.specs.Ranges.{InRange};
 ghost use Rattle.mcs_turns.specs.Turns.{AreInRange};
@@ -7,8 +7,9 @@ ghost use Rattle.mcs_explore_search.specs.Reaching.{AreWithin};
 ghost use Rattle.mcs_explore_search.specs.Search.{AreFoundLast, AreNear, AreSorted, IsSpent};
 ghost use Rattle.mcs_explore_orders.specs.Seen.{AreAllSeen, AreFoundRuns};
 ghost use Rattle.mcs_explore_report.specs.Found.{AreAnswersFound, AreAnswersInRuns, AreCountedFound, AreEndsFound, AreEndsInRuns, AreFirstFound, AreHeldInRuns, AreJudgedFound, AreShortest, IsMailFound};
-ghost use Rattle.mcs_explore_report.specs.Modes.{IsWholeSearch};
-ghost use Rattle.mcs_explore_report.specs.Stuck.{AreDecided};
+ghost use Rattle.mcs_explore_report.specs.declared.modes.Mode.TheVariants.{Proved};
+ghost use Rattle.mcs_explore_report.specs.Modes.{IsWholeSearch, mode_of};
+ghost use Rattle.mcs_explore_report.specs.Stuck.{AreDecided, AreStuckUnled};
 
 use crate::modes::mode_of;
 use crate::scripts::fault_of;
@@ -68,9 +69,10 @@ pub fn watched<'a, P: Progress>(
     ensures whole { IfOk result (λ o. (is : IsWholeSearch boot.now users.now asked.entry.now
         wanted.is_exact o.search.map.entries o.search.done)
         → AreAllSeen is.numbered users.now boot.now o.search.map.entries) }
-    // it ends where all were expanded, or by the budget alone
+    // it ends where all were expanded, by the budget, or as `progress` stops it
     ensures budget { IfOk result (λ o. (length o.search.map.entries ≤ o.search.done)
-        ⊎ IsSpent wanted.states wanted.depth o.search.done o.search.map.entries) }
+        ⊎ IsSpent wanted.states wanted.depth o.search.done o.search.map.entries
+        ⊎ (o.search.is_stopped ≡ true)) }
     // and it expands no state beyond the budget
     ensures near { IfOk result (λ o.
         AreNear wanted.depth o.search.done o.search.map.entries) }
@@ -124,6 +126,11 @@ pub fn watched<'a, P: Progress>(
     ensures decided { IfOk result (λ o. IsWholeSearch boot.now users.now asked.entry.now
         wanted.is_exact o.search.map.entries o.search.done
         → AreDecided users.now boot.now lives.entry.now o.search.map.entries
+        o.search.edges.items o.explorer.watch.lives.notes) }
+    // by proved keys: no run goes on from where a user is told to be stuck
+    ensures stuck { IfOk result (λ o. (numbered : Bool)
+        → mode_of boot.now users.now asked.entry.now wanted.is_exact ≡ Proved numbered
+        → AreStuckUnled users.now boot.now lives.entry.now o.search.map.entries
         o.search.edges.items o.explorer.watch.lives.notes) }
     // its edges lie between states that were found
     ensures within { IfOk result (λ o. AreWithin o.search.edges.items

@@ -1,10 +1,10 @@
 //! What is reported of a search, before it is written.
-ghost use Rattle.std.specs.Prelude.{ℕ, true, ◌≡◌, ◌<◌, IfOk, Some, length, slice_get};
+ghost use Rattle.std.specs.Prelude.{ℕ, true, false, ◌≡◌, ◌<◌, ◌≤◌, ◌⊎◌, IfOk, Some, is_some, length, slice_get};
 ghost use Rattle.mcs_explore_script.specs.declared.questions.AskedLine.{AskedLine};
 ghost use Rattle.mcs_explore_search.specs.Reaching.{AreWithin};
-ghost use Rattle.mcs_explore_report.specs.Ends.{AreAllEnds, HasKind, Kind};
-ghost use Rattle.mcs_explore_report.specs.Outcomes.{AreFirstPlaces, IsHeld, are_done, are_live, holds};
-ghost use Rattle.mcs_explore_report.specs.Verdicts.{failed_at};
+ghost use Rattle.mcs_explore_report.specs.Ends.{AreAllEnds, AreRunEnds, HasKind, Kind};
+ghost use Rattle.mcs_explore_report.specs.Outcomes.{AreFirstPlaces, IsHeld, IsMissed, are_done, are_live, fails, holds, stuck_of};
+ghost use Rattle.mcs_explore_report.specs.Verdicts.{IsVerdict, failed_at};
 
 use crate::answers::Told;
 use crate::endings::{Ending, are_idle, ending_of};
@@ -15,7 +15,7 @@ use crate::outcomes::{Outcome, Unseen, missed};
 use crate::saying::text_of;
 use crate::slots::{Origin, all_origins};
 use crate::stuck_users::{StuckUsers, first_stuck, stuck_of, stuck_users};
-use crate::verdicts::{Verdict, find_end, verdict_on};
+use crate::verdicts::{Grounds, Verdict, verdict_on};
 use crate::watching::{Progress, Watched};
 use mcs_explore_orders::{Orders, Users};
 use mcs_explore_questions::{Asked, Event, Span};
@@ -147,6 +147,10 @@ impl<'a, P: Progress> Findings<'a, P> {
         ensures ends { IfOk result (λ f. (i : ℕ) (k : Kind)
             → slice_get orders.entry.now.explorer.watch.ends i ≡ Some k
             → HasKind f.ends k.standing) }
+        // and each is that of a run, if those are that the search kept
+        ensures real { IfOk result (λ f. AreRunEnds script.entry.now.users script.entry.now.boot
+            orders.entry.now.explorer.watch.ends
+            → AreRunEnds script.entry.now.users script.entry.now.boot f.ends) }
         ensures places { IfOk result (λ f. AreFirstPlaces orders.entry.now.search.edges.items
             (length orders.entry.now.search.map.entries)
             orders.entry.now.explorer.watch.lives.notes
@@ -372,89 +376,82 @@ impl<'a, P: Progress> Findings<'a, P> {
         span.from == 0 || self.is_answered(event)
     }
 
-    /// Returns the verdict on the question with a number, from 0 on, by what the search kept.
-    /// Answers are spelled in this line.
+    /// Returns the verdict on the question with a number, from 0 on. Answers are spelled in this
+    /// line. OutOfMemory where memory was refused.
     fn verdict(
         &self,
         line: &mut Line,
         number: usize,
         question: &AskedLine,
     ) -> Result<Verdict, LabFault>
-        ensures { IfOk result (λ v. v.holds ≡ true → IsHeld self.now.script.now.users
-            self.now.orders.now.explorer.watch.ends self.now.orders.now.explorer.watch.answers
+        ensures { IfOk result (λ v. IsVerdict self.now.script.now.users self.now.ends
+            self.now.orders.now.explorer.watch.answers
             (failed_at self.now.orders.now.explorer.watch.failed.items number)
-            question.now.asked) }
+            (stuck_of self.now.script.now.asked.items self.now.places.items number)
+            question.now.asked v) }
     {
         let script = self.script;
-        let stuck = stuck_of(&script.asked, &self.places, number);
         let watched = self.orders.watch();
-        verdict_on(
-            self.alloc,
-            line,
-            &script.users,
-            watched,
-            number,
-            stuck,
-            question,
-        )
+        let grounds = Grounds {
+            users: &script.users,
+            ends: self.ends.kinds(),
+            answers: &watched.answers,
+            failed: &watched.failed,
+        };
+        let stuck = stuck_of(&script.asked, &self.places, number);
+        verdict_on(self.alloc, line, grounds, number, stuck, question)
     }
 
-    /// Returns the first end that comes without an answer that a question asks for in each run.
-    fn end_without(&self, asked: &Asked) -> Option<Sighting> {
-        match asked {
-            Asked::Answer { event, .. } => find_end(self.ends.kinds(), *event),
-            Asked::Idle { .. }
-            | Asked::Live { .. }
-            | Asked::AnswerIf { .. }
-            | Asked::Some { .. }
-            | Asked::Never { .. }
-            | Asked::Apart { .. }
-            | Asked::Before { .. }
-            | Asked::Again { .. } => None,
+    /// Returns what came of a question that holds.
+    fn held(&self, asked: &Asked) -> Result<Outcome, LabFault>
+        ensures { IfOk result (λ o. holds o ≡ true) }
+    {
+        match self.little(asked)? {
+            Some(why) => Ok(Outcome::HoldsSince(why)),
+            None => Ok(Outcome::Holds),
         }
     }
 
-    /// Returns what came of a question that holds by what the search kept, and where that is seen:
-    /// an end among the deepest states may come without an answer.
-    fn held(
-        &self,
-        asked: &Asked,
-        seen: Option<Sighting>,
-    ) -> Result<(Outcome, Option<Sighting>), LabFault> {
-        if let Some(end) = self.end_without(asked) {
-            return Ok((Outcome::Fails, Some(end)));
+    /// Returns what came of a question with this verdict.
+    fn outcome(&self, asked: &Asked, verdict: Verdict) -> Result<Outcome, LabFault>
+        ensures held { IfOk result (λ o. holds o ≡ true → verdict.holds ≡ true) }
+        ensures missed { IfOk result (λ o. fails o ≡ true → (verdict.holds ≡ false)
+            × ((is_some verdict.seen ≡ true)
+            ⊎ (length self.now.orders.now.search.map.entries
+            ≤ self.now.orders.now.search.done))) }
+    {
+        if verdict.holds {
+            self.held(asked)
+        } else {
+            Ok(missed(self.orders.is_whole(), verdict.seen))
         }
-        Ok(match self.little(asked)? {
-            Some(why) => (Outcome::HoldsSince(why), seen),
-            None => (Outcome::Holds, seen),
-        })
     }
 
     /// Returns what came of the question with a number, from 0 on, and where that is seen. Answers
-    /// are spelled in this line.
+    /// are spelled in this line. OutOfMemory where memory was refused.
     pub fn judged(&self, line: &mut Line, number: usize) -> Result<Judged<'a>, LabFault>
         requires { number < length self.now.script.now.asked.items }
-        ensures { IfOk result (λ j. (q : AskedLine)
+        ensures held { IfOk result (λ j. (q : AskedLine)
             → slice_get self.now.script.now.asked.items number ≡ Some q
-            → holds j.outcome ≡ true → IsHeld self.now.script.now.users
-            self.now.orders.now.explorer.watch.ends self.now.orders.now.explorer.watch.answers
+            → holds j.outcome ≡ true → IsHeld self.now.script.now.users self.now.ends
+            self.now.orders.now.explorer.watch.answers
             (failed_at self.now.orders.now.explorer.watch.failed.items number) q.asked) }
+        ensures missed { IfOk result (λ j. (q : AskedLine)
+            → slice_get self.now.script.now.asked.items number ≡ Some q
+            → fails j.outcome ≡ true → IsMissed self.now.script.now.users self.now.ends
+            self.now.orders.now.explorer.watch.answers
+            (failed_at self.now.orders.now.explorer.watch.failed.items number)
+            (are_live self.now.places.items)
+            (length self.now.orders.now.search.map.entries)
+            self.now.orders.now.search.done q.asked) }
     {
         let script: &'a UserScript = self.script;
         let question = &script.asked[number];
-        let Verdict { holds, seen } = self.verdict(line, number, question)?;
-        if !holds {
-            return Ok(Judged {
-                line: question,
-                outcome: missed(self.orders.is_whole(), seen),
-                seen,
-            });
-        }
-        let (outcome, seen) = self.held(&question.asked, seen)?;
+        let verdict = self.verdict(line, number, question)?;
         Ok(Judged {
             line: question,
-            outcome,
-            seen,
+            outcome: self.outcome(&question.asked, verdict)?,
+            seen: verdict.seen,
         })
     }
 }

@@ -1,5 +1,8 @@
 //! What was found, and not expanded: ends by the depth of a search, and entries that were
 //! given.
+ghost use Rattle.std.specs.Prelude.{IfOk, OnOk};
+ghost use Rattle.mcs_explore_report.specs.Ends.{AreRunEnds};
+
 use crate::ends::{End, Ends};
 use crate::scripts::fault_of;
 use mcs_explore_orders::{Orders, OrdersFault, Turn, Walk, Watch, retrace};
@@ -8,47 +11,69 @@ use mcs_lab_check::LabFault;
 use mcs_queues::PlainLines;
 use std::alloc::Global;
 
-/// Notes the end in a state that these turns lead to, if it is over.
+/// Notes the end in a state that these turns lead to, if it is over. BookFull and OutOfMemory as
+/// for a search.
 fn note_end(
     alloc: Global,
     script: &UserScript,
     place: usize,
     turns: &[Turn],
     ends: &mut Ends,
-) -> Result<(), OrdersFault> {
+) -> Result<(), OrdersFault>
+    ensures { OnOk result (AreRunEnds script.now.users script.now.boot ends.old
+        → AreRunEnds script.now.users script.now.boot ends.new) }
+{
     let users = &script.users;
     let walk: Walk<PlainLines> = retrace(alloc, &script.boot, users, turns)?;
     let picks = walk.picks(alloc, users)?;
     let next = walk.turns(alloc, users, &picks)?;
     let is_over = walk.is_over(users, &picks, &next);
-    ends.note_state(users, place, &walk, is_over)
+    ends.note_state(users, place, &walk, is_over)?;
+    Ok(())
 }
 
-/// The ends among the states that were found and not expanded, where these are as deep as a
-/// search goes.
+/// Notes the end in the state in a place, if it is over. BookFull and OutOfMemory as for a search.
+fn note_deep<W: Watch>(
+    alloc: Global,
+    script: &UserScript,
+    orders: &Orders<'_, W>,
+    place: usize,
+    ends: &mut Ends,
+) -> Result<(), LabFault>
+    ensures { OnOk result (AreRunEnds script.now.users script.now.boot ends.old
+        → AreRunEnds script.now.users script.now.boot ends.new) }
+{
+    let turns = match orders.path(place) {
+        Ok(turns) => turns,
+        Err(fault) => return Err(fault_of(fault)),
+    };
+    match note_end(alloc, script, place, &turns, ends) {
+        Ok(()) => Ok(()),
+        Err(fault) => Err(fault_of(fault)),
+    }
+}
+
+/// Returns the ends among the states that were found and not expanded, where these are as deep as a
+/// search goes. BookFull and OutOfMemory as for a search.
 pub fn deep_ends<W: Watch>(
     alloc: Global,
     script: &UserScript,
     orders: &Orders<'_, W>,
     depth: usize,
-) -> Result<Ends, LabFault> {
+) -> Result<Ends, LabFault>
+    ensures { IfOk result (λ ends. AreRunEnds script.now.users script.now.boot ends) }
+{
     let mut ends = Ends::new(alloc);
     if orders.is_whole() || orders.depth(orders.done()) < depth {
         return Ok(ends);
     }
     for place in orders.done()..orders.states() {
-        let noted = match orders.path(place) {
-            Ok(turns) => note_end(alloc, script, place, turns.as_slice(), &mut ends),
-            Err(fault) => Err(fault),
-        };
-        if let Err(fault) = noted {
-            return Err(fault_of(fault));
-        }
+        note_deep(alloc, script, orders, place, &mut ends)?;
     }
     Ok(ends)
 }
 
-/// How many ends there are of all kinds.
+/// Returns how many ends there are of all kinds, up to `usize::MAX`.
 pub fn count_of(kinds: &[End]) -> usize {
     let mut count: usize = 0;
     for kind in kinds {

@@ -58,7 +58,11 @@ fn put_mode(page: &mut Page, script: &UserScript, is_exact: bool) {
 pub fn put_head<P: Progress>(page: &mut Page, report: &Report<'_, P>) {
     let orders = report.findings.orders;
     if !orders.is_whole() {
-        page.put(b"stopped at ");
+        page.put(b"stopped ");
+        if orders.is_stopped() {
+            page.put(b"by the clock ");
+        }
+        page.put(b"at ");
     }
     page.count(orders.states());
     page.put(b" states, ");

@@ -36,10 +36,10 @@ mod watching;
 
 pub use exploring::{Wanted, watched};
 pub use live::{Lives, Notes, stuck_at};
+pub use mcs_explore_script::UserScript;
 pub use modes::{Mode, make_objects, mode_of};
 pub use naming::{names_later, names_message};
 pub use report::{Explored, Output, explore_all, explore_and_tell, explore_script};
-pub use saving::Saves;
+pub use saving::{MARK, Saves, is_script_name};
 pub use stuck_users::first_stuck;
-pub use verdicts::{Verdict, verdict_on};
 pub use watching::{Progress, Quiet, Watched};

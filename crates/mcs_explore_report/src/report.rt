@@ -1,8 +1,11 @@
 //! The report of a search.
-ghost use Rattle.std.specs.Prelude.{true, false, ◌≡◌, ◌<◌, ◌≤◌, IfOk, OnOk, length};
+ghost use Rattle.std.specs.Prelude.{true, false, ◌≡◌, ◌<◌, ◌≤◌, ◌++◌, IfOk, OnOk, length};
+ghost use Rattle.mcs_explore_search.specs.Search.{listed, path_of};
 ghost use Rattle.mcs_explore_report.specs.declared.report.Explored.TheVariants as Explored;
+ghost use Rattle.mcs_explore_report.specs.Failing.{HasReadFailing, IsProvedToFail};
 ghost use Rattle.mcs_explore_report.specs.Holding.{HasReadHolding, IsProvedToHold};
-ghost use Rattle.mcs_explore_report.specs.Outcomes.{AreHeldBelow, IsJudgedMore, all_hold, any_fails, has_failure};
+ghost use Rattle.mcs_explore_report.specs.Outcomes.{AreHeldBelow, HasMissed, IsJudgedMore, all_hold, any_fails, are_live, has_failure};
+ghost use Rattle.mcs_explore_report.specs.Scripts.{IsScriptBy};
 
 use crate::bounds::states_before;
 use crate::exploring::{Wanted, watched};
@@ -82,10 +85,12 @@ fn push_judged<'a, P: Progress>(
     number: usize,
 ) -> Result<(), LabFault>
     requires { number < length findings.now.script.now.asked.items }
-    ensures { OnOk result (IsJudgedMore findings.now.script.now.users
-        findings.now.orders.now.explorer.watch.ends findings.now.orders.now.explorer.watch.answers
+    ensures { OnOk result (IsJudgedMore findings.now.script.now.users findings.now.ends
+        findings.now.orders.now.explorer.watch.answers
         findings.now.orders.now.explorer.watch.failed.items
-        findings.now.script.now.asked.items number all.old.items all.new.items) }
+        findings.now.script.now.asked.items (are_live findings.now.places.items)
+        (length findings.now.orders.now.search.map.entries) findings.now.orders.now.search.done
+        number all.old.items all.new.items) }
 {
     if findings.script.asked[number].asked.is_question() {
         all.push(findings.judged(line, number)?)?;
@@ -98,11 +103,18 @@ fn all_judged<'a, P: Progress>(
     findings: &Findings<'a, P>,
     line: &mut Line,
 ) -> Result<Vec<Judged<'a>>, LabFault>
-    ensures { IfOk result (λ all. all_hold all.items ≡ true
-        → AreHeldBelow findings.now.script.now.users
-        findings.now.orders.now.explorer.watch.ends findings.now.orders.now.explorer.watch.answers
+    ensures held { IfOk result (λ all. all_hold all.items ≡ true
+        → AreHeldBelow findings.now.script.now.users findings.now.ends
+        findings.now.orders.now.explorer.watch.answers
         findings.now.orders.now.explorer.watch.failed.items
         findings.now.script.now.asked.items (length findings.now.script.now.asked.items)) }
+    ensures missed { IfOk result (λ all. any_fails all.items ≡ true
+        → HasMissed findings.now.script.now.users findings.now.ends
+        findings.now.orders.now.explorer.watch.answers
+        findings.now.orders.now.explorer.watch.failed.items
+        findings.now.script.now.asked.items (are_live findings.now.places.items)
+        (length findings.now.orders.now.search.map.entries)
+        findings.now.orders.now.search.done) }
 {
     let mut all = Vec::new(findings.alloc);
     for number in 0..findings.script.asked.len() {
@@ -116,11 +128,18 @@ impl<'a, P: Progress> Report<'a, P> {
     /// refused.
     fn new(findings: Findings<'a, P>, is_exact: bool) -> Result<Report<'a, P>, LabFault>
         ensures findings { IfOk result (λ r. r.findings ≡ findings.entry) }
-        ensures judged { IfOk result (λ r. all_hold r.judged.items ≡ true
-            → AreHeldBelow r.findings.script.now.users
-            r.findings.orders.now.explorer.watch.ends r.findings.orders.now.explorer.watch.answers
+        ensures held { IfOk result (λ r. all_hold r.judged.items ≡ true
+            → AreHeldBelow r.findings.script.now.users r.findings.ends
+            r.findings.orders.now.explorer.watch.answers
             r.findings.orders.now.explorer.watch.failed.items
             r.findings.script.now.asked.items (length r.findings.script.now.asked.items)) }
+        ensures missed { IfOk result (λ r. any_fails r.judged.items ≡ true
+            → HasMissed r.findings.script.now.users r.findings.ends
+            r.findings.orders.now.explorer.watch.answers
+            r.findings.orders.now.explorer.watch.failed.items
+            r.findings.script.now.asked.items (are_live r.findings.places.items)
+            (length r.findings.orders.now.search.map.entries)
+            r.findings.orders.now.search.done) }
     {
         let mut line = Box::new(findings.alloc, Line::new())?;
         let judged = all_judged(&findings, &mut line)?;
@@ -134,7 +153,12 @@ impl<'a, P: Progress> Report<'a, P> {
     }
 
     /// Returns the script of what is seen in a state, or by a turn from it, behind a comment.
-    pub fn script_of(&self, comment: &[u8], seen: Sighting) -> Result<Vec<u8>, LabFault> {
+    /// BookFull and OutOfMemory as for a search.
+    pub fn script_of(&self, comment: &[u8], seen: Sighting) -> Result<Vec<u8>, LabFault>
+        ensures { IfOk result (λ text. IsScriptBy self.now.findings.script.now
+            (path_of self.now.findings.orders.now.search.map.entries seen.place
+            ++ listed seen.turn) comment.now text.items) }
+    {
         let findings = &self.findings;
         let turns = turns_of(findings.orders, seen)?;
         script_by(findings.alloc, findings.script, comment, &turns)
@@ -177,6 +201,9 @@ impl<'a, P: Progress> Report<'a, P> {
         ensures fails { has_failure self.now.judged.items self.now.findings.places.items
             self.now.findings.script.now.asked.items self.now.findings.ends ≡ true
             → result ≡ Explored.Fails }
+        ensures shown { result ≡ Explored.Fails → has_failure self.now.judged.items
+            self.now.findings.places.items self.now.findings.script.now.asked.items
+            self.now.findings.ends ≡ true }
         ensures passes { has_failure self.now.judged.items self.now.findings.places.items
             self.now.findings.script.now.asked.items self.now.findings.ends ≡ false
             → length self.now.findings.orders.now.search.map.entries
@@ -215,10 +242,12 @@ pub fn explore_all<W: Write, S: Saves, P: Progress>(
     saves: &mut S,
     progress: P,
 ) -> Result<Explored, LabFault>
-    // where it holds, all that the script asks is so in each run of its users, if states were told
-    // apart by proved keys
-    ensures { IfOk result (λ e. e ≡ Explored.Holds
+    // by proved keys: where it holds, all that the script asks is so in each run of its users
+    ensures holds { IfOk result (λ e. e ≡ Explored.Holds
         → IsProvedToHold wanted.is_exact script.now) }
+    // and where it fails, some run shows it
+    ensures fails { IfOk result (λ e. e ≡ Explored.Fails
+        → IsProvedToFail wanted.is_exact script.now) }
 {
     let budget = Wanted {
         states: states_before(script, wanted.states),
@@ -235,12 +264,12 @@ pub fn explore_all<W: Write, S: Saves, P: Progress>(
     )?;
     let findings = Findings::new(alloc, script, &orders, wanted.depth)?;
     let report = Report::new(findings, wanted.is_exact)?;
-    save_all(&report, saves, output.with_answers)?;
     if output.is_json {
         write_json(to, &report)?;
     } else {
         write_text(to, &report)?;
     }
+    save_all(&report, saves, output.with_answers)?;
     Ok(report.explored())
 }
 
@@ -254,9 +283,12 @@ pub fn explore_script<R: Read, W: Write + Drop, S: Saves>(
     output: Output,
     saves: &mut S,
 ) -> Result<Explored, ExploreFault>
-    // where it holds, a script was read, and all that it asks is so in each run of its users, if
-    // states were told apart by proved keys
-    ensures { IfOk result (λ e. e ≡ Explored.Holds → HasReadHolding wanted.is_exact
+    // by proved keys: where it holds, a script was read, and all that it asks is so in each run of
+    // its users
+    ensures holds { IfOk result (λ e. e ≡ Explored.Holds → HasReadHolding wanted.is_exact
+        (R.remaining from.old.reader) (R.remaining from.new.reader)) }
+    // and where it fails, some run shows it
+    ensures fails { IfOk result (λ e. e ≡ Explored.Fails → HasReadFailing wanted.is_exact
         (R.remaining from.old.reader) (R.remaining from.new.reader)) }
 {
     explore_and_tell(alloc, from, to, wanted, output, saves, Quiet)
@@ -272,9 +304,12 @@ pub fn explore_and_tell<R: Read, W: Write + Drop, S: Saves, P: Progress>(
     saves: &mut S,
     progress: P,
 ) -> Result<Explored, ExploreFault>
-    // where it holds, a script was read, and all that it asks is so in each run of its users, if
-    // states were told apart by proved keys
-    ensures { IfOk result (λ e. e ≡ Explored.Holds → HasReadHolding wanted.is_exact
+    // by proved keys: where it holds, a script was read, and all that it asks is so in each run of
+    // its users
+    ensures holds { IfOk result (λ e. e ≡ Explored.Holds → HasReadHolding wanted.is_exact
+        (R.remaining from.old.reader) (R.remaining from.new.reader)) }
+    // and where it fails, some run shows it
+    ensures fails { IfOk result (λ e. e ≡ Explored.Fails → HasReadFailing wanted.is_exact
         (R.remaining from.old.reader) (R.remaining from.new.reader)) }
 {
     let mut to = to;

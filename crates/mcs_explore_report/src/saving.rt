@@ -1,21 +1,44 @@
 //! Scripts that are kept: of each kind of end, of stuck users, of questions and of answers.
+ghost use Rattle.mcs_explore_report.specs.Scripts.{IsRunScript};
+
 use crate::judging::Sighting;
 use crate::report::Report;
 use crate::stuck_users::seen_at;
 use crate::text::{put_answer, put_end, put_question, put_stuck};
 use crate::watching::Progress;
 use mcs_explore_questions::Event;
+use mcs_explore_script::UserScript;
 use mcs_lab_check::LabFault;
 use mcs_lab_inspect::Page;
 use std::alloc::{AllocError, Global};
+
+/// The first line of each script that is kept.
+pub const MARK: &[u8] = b"# by mcslab explore\n";
+
+/// How the names of scripts begin, and how they end.
+const BEGINNINGS: &[&str] = &["end", "stuck", "question", "answer-"];
+
+const ENDING: &str = ".mcs";
+
+/// Returns whether a file has a name that a script may be kept under.
+pub fn is_script_name(name: &str) -> bool {
+    name.ends_with(ENDING) && BEGINNINGS.iter().any(|start| name.starts_with(*start))
+}
 
 /// Where scripts are kept.
 pub trait Saves {
     /// Returns whether scripts are kept at all.
     fn wants(&self) -> bool;
 
-    /// Keeps a script under a name.
-    fn save(&mut self, alloc: Global, name: &str, text: &[u8]) -> Result<(), LabFault>;
+    /// Keeps the script of a run under a name: of the users of a script, from its boot on.
+    fn save(
+        &mut self,
+        alloc: Global,
+        script: &UserScript,
+        name: &str,
+        text: &[u8],
+    ) -> Result<(), LabFault>
+        requires { IsRunScript script.now text.now };
 }
 
 /// What a script shows, by which it is named.
@@ -47,6 +70,13 @@ impl ScriptName {
     }
 }
 
+/// Returns a comment with its first line alone. AllocError where memory was refused.
+fn new_comment(alloc: Global) -> Result<Page, AllocError> {
+    let mut comment = Page::new(alloc)?;
+    comment.put(MARK);
+    Ok(comment)
+}
+
 /// Keeps the script of what is seen, behind a comment.
 fn save<P: Progress, S: Saves>(
     report: &Report<'_, P>,
@@ -58,7 +88,7 @@ fn save<P: Progress, S: Saves>(
     let alloc = report.findings.alloc;
     let text = report.script_of(comment.text()?, seen)?;
     let name = name.file_name(alloc)?;
-    saves.save(alloc, name.as_str(), &text)
+    saves.save(alloc, report.findings.script, name.as_str(), &text)
 }
 
 /// Keeps the scripts of all kinds of ends.
@@ -68,7 +98,7 @@ fn save_ends<P: Progress, S: Saves>(report: &Report<'_, P>, saves: &mut S) -> Re
         let Some(kind) = findings.kind(index) else {
             break;
         };
-        let mut comment = Page::new(findings.alloc)?;
+        let mut comment = new_comment(findings.alloc)?;
         put_end(&mut comment, findings, "# ", &kind);
         let name = ScriptName::End(kind.number);
         let end = kind.end;
@@ -85,7 +115,7 @@ fn save_stuck<P: Progress, S: Saves>(
     let findings = &report.findings;
     for (index, stuck) in findings.stuck.iter().enumerate() {
         let number = index.saturating_add(1);
-        let mut comment = Page::new(findings.alloc)?;
+        let mut comment = new_comment(findings.alloc)?;
         put_stuck(&mut comment, findings, "# ", number, stuck);
         let name = ScriptName::Stuck(number);
         save(report, saves, name, &comment, seen_at(stuck.place))?;
@@ -101,7 +131,7 @@ fn save_questions<P: Progress, S: Saves>(
     let findings = &report.findings;
     for judged in report.judged.iter() {
         if let Some(seen) = judged.seen {
-            let mut comment = Page::new(findings.alloc)?;
+            let mut comment = new_comment(findings.alloc)?;
             put_question(&mut comment, findings, "# ", judged);
             let name = ScriptName::Question(judged.line.line);
             save(report, saves, name, &comment, seen)?;
@@ -120,7 +150,7 @@ fn save_answers<P: Progress, S: Saves>(
         let event = entry.event;
         for (index, answer) in entry.answers.iter().enumerate() {
             let number = index.saturating_add(1);
-            let mut comment = Page::new(findings.alloc)?;
+            let mut comment = new_comment(findings.alloc)?;
             put_answer(&mut comment, &findings.script.names, event, answer);
             let name = ScriptName::Answer { event, number };
             save(report, saves, name, &comment, answer.seen)?;

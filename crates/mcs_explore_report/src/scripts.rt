@@ -1,20 +1,24 @@
-//! Scripts of steps, which show what is reported.
+//! Scripts of steps, which show what is reported: of the runs to which turns lead.
 ghost use Rattle.std.specs.Prelude.{◌≡◌, ◌++◌, IfOk, OnOk};
 ghost use Rattle.mcs_turns.specs.Turns.{Going, beginning};
 ghost use Rattle.mcs_explore_search.specs.Paths.{Path};
 ghost use Rattle.mcs_explore_search.specs.Search.{listed, path_of};
 ghost use Rattle.mcs_explore_orders.specs.Trails.{Leads};
-ghost use Rattle.mcs_explore_report.specs.Scripts.{WritesRun};
+ghost use Rattle.mcs_explore_equivalence.specs.Runs.{IsReached};
+ghost use Rattle.mcs_explore_script.specs.Steps.{script_text};
+ghost use Rattle.mcs_lab_check.specs.Naming.{answered};
+ghost use Rattle.mcs_explore_report.specs.Scripts.{IsScriptBy, given_text, name_line, names_text};
 
 use crate::judging::Sighting;
+use mcs_book::Book;
 use mcs_explore_orders::{Orders, OrdersFault, Turn, Walk, Watch, retrace};
 use mcs_explore_script::{UserScript, write_steps};
 use mcs_lab_check::{LabFault, Names};
 use mcs_queues::PlainLines;
-use mcs_text::letter;
-use mcs_trace::Sink;
-use std::alloc::Global;
-use std::io::Write;
+use mcs_text::Token;
+use mcs_trace::{Line, Sink, spell};
+use mcs_types::ObjId;
+use std::alloc::{AllocError, Global};
 
 /// Returns the fault of the program where a search ended so.
 pub fn fault_of(fault: OrdersFault) -> LabFault {
@@ -48,20 +52,47 @@ fn push(turns: &mut Vec<Turn>, turn: Option<Turn>) -> Result<(), LabFault>
     Ok(())
 }
 
-/// Writes the lines that give the names.
-fn put_names<W: Write>(to: &mut W, names: &Names) -> Result<(), LabFault> {
+/// Adds the lines that give the names. OutOfMemory where memory was refused.
+fn push_names(alloc: Global, text: &mut Vec<u8>, names: &Names) -> Result<(), LabFault>
+    ensures { OnOk result (text.new.items ≡ text.old.items ++ names_text names.now) }
+{
+    let mut line = Box::new(alloc, Line::new())?;
     for number in 0..names.count() {
-        let Some((object, name)) = names.given(number) else {
-            continue;
-        };
-        let serial = object.serial;
-        to.write_all(b"#@ ")?;
-        to.write_all(&[letter(object.kind)])?;
-        write!(to, "{serial} ")?;
-        to.write_all(name)?;
-        to.write_all(b"\n")?;
+        push_given(text, &mut line, names.given(number))?;
     }
     Ok(())
+}
+
+/// Adds the line that gives a name, if one is given. The object is spelled in this line.
+fn push_given(
+    text: &mut Vec<u8>,
+    line: &mut Line,
+    given: Option<(ObjId, &[u8])>,
+) -> Result<(), AllocError>
+    ensures { OnOk result (text.new.items
+        ≡ text.old.items ++ given_text (answered given.entry)) }
+{
+    match given {
+        Some((object, name)) => push_name(text, line, object, name),
+        None => Ok(()),
+    }
+}
+
+/// Adds the line that gives an object its name. The object is spelled in this line.
+fn push_name(
+    text: &mut Vec<u8>,
+    line: &mut Line,
+    object: ObjId,
+    name: &[u8],
+) -> Result<(), AllocError>
+    ensures { OnOk result (text.new.items ≡ text.old.items ++ name_line object name.now) }
+{
+    spell(line, &Token::Name(object));
+    text.extend_from_slice(b"#@ ")?;
+    text.extend_from_slice(line.text())?;
+    text.extend_from_slice(b" ")?;
+    text.extend_from_slice(name)?;
+    text.extend_from_slice(b"\n")
 }
 
 /// Makes turns again from the boot of a script on, and returns where they lead. BookFull where the
@@ -71,7 +102,9 @@ pub fn walk_by(
     script: &UserScript,
     turns: &[Turn],
 ) -> Result<Walk<PlainLines>, LabFault>
-    ensures { IfOk result (λ walk. (g : Going)
+    ensures reached { IfOk result (λ walk.
+        IsReached script.now.users script.now.boot walk) }
+    ensures path { IfOk result (λ walk. (g : Going)
         → Path (Leads script.now.users) (beginning script.now.users script.now.boot) turns.now g
         → walk ≡ g) }
 {
@@ -81,34 +114,28 @@ pub fn walk_by(
     }
 }
 
-/// Writes the boot of a script and the steps of the run to which these turns lead, each with its
-/// answer.
-fn write_run<W: Write>(
-    alloc: Global,
-    sink: &mut Sink<W>,
-    script: &UserScript,
-    turns: &[Turn],
-) -> Result<(), LabFault>
-    ensures { OnOk result (WritesRun W.contents script.now.users script.now.boot turns.now
-        sink.old sink.new) }
+/// Returns a text with the boot and the steps of a book after it, each step with its answer.
+/// OutOfMemory where memory was refused.
+fn with_steps(alloc: Global, text: Vec<u8>, book: &Book) -> Result<Vec<u8>, LabFault>
+    ensures { IfOk result (λ v. v.items ≡ text.items ++ script_text book.now.book) }
 {
-    let walk = walk_by(alloc, script, turns)?;
-    write_steps(sink, walk.kernel().book())
+    let mut sink = Sink::new(alloc, text)?;
+    write_steps(&mut sink, book)?;
+    Ok(sink.into_writer())
 }
 
 /// Returns the script of these turns, which are made again from the boot, after a comment and the
-/// names.
+/// names. BookFull where the book has 1,000,000 lines, OutOfMemory where memory was refused.
 pub fn script_by(
     alloc: Global,
     script: &UserScript,
     comment: &[u8],
     turns: &[Turn],
-) -> Result<Vec<u8>, LabFault> {
+) -> Result<Vec<u8>, LabFault>
+    ensures { IfOk result (λ text. IsScriptBy script.now turns.now comment.now text.items) }
+{
+    let walk = walk_by(alloc, script, turns)?;
     let mut text = Vec::from_slice(alloc, comment)?;
-    put_names(&mut text, &script.names)?;
-    {
-        let mut sink = Sink::new(alloc, &mut text)?;
-        write_run(alloc, &mut sink, script, turns)?;
-    }
-    Ok(text)
+    push_names(alloc, &mut text, &script.names)?;
+    with_steps(alloc, text, walk.kernel().book())
 }

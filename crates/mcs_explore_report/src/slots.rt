@@ -1,5 +1,10 @@
 //! By what an end names objects: those that users made are named by slots, since states that differ
 //! in the numbers of such objects alone are merged.
+ghost use Rattle.std.specs.Prelude.{◌≡◌, is_none};
+ghost use Rattle.std.specs.List.{list_all};
+ghost use Rattle.mcs_book.specs.History.{log_of};
+ghost use Rattle.mcs_explore_report.specs.Origins.{IsSlotIn, has_cap, made_object, not_of_boot};
+
 use crate::ends::{End, Standing};
 use crate::scripts::{turns_of, walk_by};
 use crate::stuck_users::seen_at;
@@ -9,7 +14,7 @@ use mcs_kernel::{Boot, Kernel};
 use mcs_lab_check::LabFault;
 use mcs_queues::PlainLines;
 use mcs_types::{Kind, ObjId};
-use std::alloc::Global;
+use std::alloc::{AllocError, Global};
 
 /// A slot of a CNode.
 #[derive(Clone, Copy)]
@@ -29,20 +34,40 @@ pub enum Origin {
     NoSlot,
 }
 
+/// Returns an object, where the boot did not make it.
+fn not_of_boot(boot: &Boot, object: ObjId) -> Option<ObjId>
+    ensures { result ≡ not_of_boot boot.now object }
+{
+    if boot.made(object.kind) < object.serial {
+        Some(object)
+    } else {
+        None
+    }
+}
+
 /// Returns the object that a user waits for, where the boot did not make it.
-fn made_object(boot: &Boot, standing: &Standing) -> Option<ObjId> {
-    match standing.object() {
-        Some(object) if boot.made(object.kind) < object.serial => Some(object),
-        Some(_) | None => None,
+fn made_object(boot: &Boot, standing: &Standing) -> Option<ObjId>
+    ensures { result ≡ made_object boot.now standing.now }
+{
+    not_of_boot(boot, standing.object()?)
+}
+
+/// Returns whether a slot of a CNode has a capability to an object.
+fn has_cap(kernel: &Kernel<PlainLines>, cnode: ObjId, index: u8, object: ObjId) -> bool
+    ensures { result ≡ has_cap (log_of kernel.now) object cnode index }
+{
+    match kernel.capability(cnode, index) {
+        Some(cap) => cap.obj.is_same(object),
+        None => false,
     }
 }
 
 /// Returns the first slot of a CNode with a capability to an object.
-fn slot_in(kernel: &Kernel<PlainLines>, cnode: ObjId, object: ObjId) -> Option<Slot> {
+fn slot_in(kernel: &Kernel<PlainLines>, cnode: ObjId, object: ObjId) -> Option<Slot>
+    ensures { IsSlotIn (log_of kernel.now) object cnode result }
+{
     for index in 0..=u8::MAX {
-        if let Some(cap) = kernel.capability(cnode, index)
-            && cap.obj.is_same(object)
-        {
+        if has_cap(kernel, cnode, index, object) {
             return Some(Slot { cnode, index });
         }
     }
@@ -66,38 +91,51 @@ fn slot_of(boot: &Boot, kernel: &Kernel<PlainLines>, object: ObjId) -> Option<Sl
 
 /// Returns by what an end names the object that a user waits for in a state.
 fn origin_of(boot: &Boot, kernel: &Kernel<PlainLines>, standing: &Standing) -> Origin {
-    match made_object(boot, standing) {
-        Some(object) => match slot_of(boot, kernel, object) {
-            Some(slot) => Origin::Slot(slot),
-            None => Origin::NoSlot,
-        },
-        None => Origin::Boot,
+    let Some(object) = made_object(boot, standing) else {
+        return Origin::Boot;
+    };
+    match slot_of(boot, kernel, object) {
+        Some(slot) => Origin::Slot(slot),
+        None => Origin::NoSlot,
     }
 }
 
+/// Returns by what the objects are named that these users wait for in a state. OutOfMemory where
+/// memory was refused.
+fn origins_in(
+    alloc: Global,
+    boot: &Boot,
+    kernel: &Kernel<PlainLines>,
+    standing: &[Standing],
+) -> Result<Vec<Origin>, AllocError> {
+    let mut origins = Vec::new(alloc);
+    for place in 0..standing.len() {
+        origins.push(origin_of(boot, kernel, &standing[place]))?;
+    }
+    Ok(origins)
+}
+
+/// Returns whether the boot made all objects that these users wait for.
+fn are_of_boot(boot: &Boot, standing: &[Standing]) -> bool
+    ensures { result ≡ list_all (λ s. is_none (made_object boot.now s)) standing.now }
+{
+    standing.iter().all(|one| made_object(boot, one).is_none())
+}
+
 /// Returns by what a kind of end names the objects that its users wait for, in the first state that
-/// is one; nothing where the boot made all of them.
+/// is one; nothing where the boot made all of them. BookFull and OutOfMemory as for a search.
 fn origins_of<W: Watch>(
     alloc: Global,
     script: &UserScript,
     orders: &Orders<'_, W>,
     end: &End,
 ) -> Result<Vec<Origin>, LabFault> {
-    let mut origins = Vec::new(alloc);
-    let boot = &script.boot;
-    if end
-        .standing
-        .iter()
-        .all(|standing| made_object(boot, standing).is_none())
-    {
-        return Ok(origins);
+    if are_of_boot(&script.boot, &end.standing) {
+        return Ok(Vec::new(alloc));
     }
     let turns = turns_of(orders, seen_at(end.place))?;
     let walk = walk_by(alloc, script, &turns)?;
-    for standing in end.standing.iter() {
-        origins.push(origin_of(boot, walk.kernel(), standing))?;
-    }
-    Ok(origins)
+    Ok(origins_in(alloc, &script.boot, walk.kernel(), &end.standing)?)
 }
 
 /// Returns the same of all kinds of ends, in their order.
@@ -108,8 +146,8 @@ pub fn all_origins<W: Watch>(
     ends: &[End],
 ) -> Result<Vec<Vec<Origin>>, LabFault> {
     let mut all = Vec::new(alloc);
-    for end in ends {
-        all.push(origins_of(alloc, script, orders, end)?)?;
+    for number in 0..ends.len() {
+        all.push(origins_of(alloc, script, orders, &ends[number])?)?;
     }
     Ok(all)
 }

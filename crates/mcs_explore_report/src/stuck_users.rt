@@ -1,6 +1,7 @@
 //! Users that are stuck from some state on: no order answers an entry of them any more (own).
-ghost use Rattle.std.specs.Prelude.{◌≡◌, IfOk, Some, length, slice_get};
+ghost use Rattle.std.specs.Prelude.{◌≡◌, IfOk, Some, None, length, slice_get};
 ghost use Rattle.mcs_explore_search.specs.Reaching.{AreWithin};
+ghost use Rattle.mcs_explore_report.specs.Outcomes.{count_lives, stuck_of};
 ghost use Rattle.mcs_explore_report.specs.Stuck.{IsFirstUnled, Noted, first_marks};
 
 use crate::judging::Sighting;
@@ -19,7 +20,9 @@ pub struct StuckUsers {
 }
 
 /// Returns a state, by its place, as what is seen.
-pub fn seen_at(place: usize) -> Sighting {
+pub fn seen_at(place: usize) -> Sighting
+    ensures { result ≡ record { place = place; turn = None } }
+{
     Sighting { place, turn: None }
 }
 
@@ -43,20 +46,26 @@ pub fn first_stuck<P: Progress>(
 }
 
 /// Returns how many of the first lines ask that a user never gets stuck.
-fn count_lives(asked: &[AskedLine], lines: usize) -> usize {
-    let mut count: usize = 0;
-    for line in asked.iter().take(lines) {
-        count = count.saturating_add(usize::from(line.asked.is_live()));
+fn count_lives(asked: &[AskedLine], lines: usize) -> usize
+    ensures { result ≡ count_lives asked.now lines }
+{
+    let mut count = 0;
+    for number in 0..lines.min(asked.len()) {
+        if asked[number].asked.is_live() {
+            count += 1;
+        }
     }
     count
 }
 
 /// Returns where the user is stuck first of which a line asks, by the number of that line from 0
 /// on and the first places of all.
-pub fn stuck_of(asked: &[AskedLine], places: &[Option<usize>], number: usize) -> Option<Sighting> {
+pub fn stuck_of(asked: &[AskedLine], places: &[Option<usize>], number: usize) -> Option<Sighting>
+    ensures { result ≡ stuck_of asked.now places.now number }
+{
     match places.get(count_lives(asked, number)) {
         Some(Some(place)) => Some(seen_at(*place)),
-        _ => None,
+        Some(None) | None => None,
     }
 }
 

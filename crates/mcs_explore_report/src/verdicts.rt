@@ -6,7 +6,6 @@ use crate::answers::{Answers, Told};
 use crate::ends::{End, Standing};
 use crate::judging::Sighting;
 use crate::saying::text_of;
-use crate::watching::{Progress, Watched};
 use mcs_explore_orders::Users;
 use mcs_explore_questions::{Asked, Event, is_match};
 use mcs_explore_script::AskedLine;
@@ -71,8 +70,8 @@ fn lacks(standing: &[Standing], event: Event) -> bool
     standing.iter().any(|one| lacks_one(one, event))
 }
 
-/// The first end that comes without an answer of an entry.
-pub fn find_end(kinds: &[End], event: Event) -> Option<Sighting>
+/// Returns the first end that comes without an answer of an entry.
+fn find_end(kinds: &[End], event: Event) -> Option<Sighting>
     ensures { IsEndSearched kinds.now event result }
 {
     for index in 0..kinds.len() {
@@ -149,38 +148,50 @@ fn find_failure(
     }
 }
 
-/// Returns the verdict on a question with this number after a search. Answers are spelled in this
-/// line; the place is the first from which the question's user can't go on, if it asks that.
-pub fn verdict_on<P: Progress>(
+/// What questions are judged by.
+#[derive(Clone, Copy)]
+pub struct Grounds<'a> {
+    pub users: &'a Users,
+    /// All kinds of ends.
+    pub ends: &'a [End],
+    pub answers: &'a Answers,
+    /// Where each question failed first.
+    pub failed: &'a [Option<Sighting>],
+}
+
+/// Returns the verdict on a question with this number. Answers are spelled in this line; the place
+/// is the first from which the question's user can't go on, if it asks that. OutOfMemory where
+/// memory was refused.
+pub fn verdict_on(
     alloc: Global,
     line: &mut Line,
-    users: &Users,
-    watched: &Watched<'_, P>,
+    grounds: Grounds<'_>,
     number: usize,
     stuck: Option<Sighting>,
     question: &AskedLine,
 ) -> Result<Verdict, LabFault>
-    ensures { IfOk result (λ v. IsVerdict users.now watched.now.ends watched.now.answers
-        (failed_at watched.now.failed.items number) stuck question.now.asked v) }
+    ensures { IfOk result (λ v. IsVerdict grounds.entry.users.now grounds.entry.ends.now
+        grounds.entry.answers.now (failed_at grounds.entry.failed.now number) stuck
+        question.now.asked v) }
 {
     match &question.asked {
         Asked::Idle { .. } | Asked::Again { .. } => Ok(all_are(None)),
         Asked::Live { .. } => Ok(all_are(stuck)),
         Asked::Answer { event, pattern } => {
-            let told = answers_of(users, &watched.answers, *event);
-            let kinds = watched.ends.kinds();
-            Ok(all_are(find_failure(alloc, line, told, pattern, kinds, *event)?))
+            let told = answers_of(grounds.users, grounds.answers, *event);
+            let failure = find_failure(alloc, line, told, pattern, grounds.ends, *event)?;
+            Ok(all_are(failure))
         }
         Asked::AnswerIf { event, pattern } => {
-            let told = answers_of(users, &watched.answers, *event);
+            let told = answers_of(grounds.users, grounds.answers, *event);
             Ok(all_are(find_answer(alloc, line, told, pattern, false)?))
         }
         Asked::Some { event, pattern } => {
-            let told = answers_of(users, &watched.answers, *event);
+            let told = answers_of(grounds.users, grounds.answers, *event);
             Ok(some_is(find_answer(alloc, line, told, pattern, true)?))
         }
         Asked::Never { .. } | Asked::Apart { .. } | Asked::Before { .. } => {
-            Ok(all_are(failed_at(&watched.failed, number)))
+            Ok(all_are(failed_at(grounds.failed, number)))
         }
     }
 }

@@ -19,6 +19,11 @@ use std::alloc::Global;
 pub trait Progress: Drop {
     /// Hears that one more state is expanded: so many were before it, and so many turns lead to it.
     fn looked(&mut self, before: usize, depth: usize);
+
+    /// Returns whether the search goes on.
+    fn goes_on(&self) -> bool {
+        true
+    }
 }
 
 /// Nothing is reported.
@@ -141,5 +146,9 @@ impl<P: Progress> Watch for Watched<'_, P> {
         let all = brought(self.alloc, walk)?;
         note_mail(&mut self.answers, users, walk, &all, place, turn)?;
         self.lives.see_turn(users, place, turn, answer, walk, &all)
+    }
+
+    fn goes_on(&self) -> bool {
+        self.progress.goes_on()
     }
 }

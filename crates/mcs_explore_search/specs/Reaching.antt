@@ -23,6 +23,14 @@ pub record IsLed (edges : List Edge) (marks : List Bool) (i : ℕ) : Type 0 wher
   pub run : Run (IsLink edges) i steps end
   pub marked : is_marked marks end ≡ true
 
+-- edges lead from a place on to one of n places that is not below d
+pub record LeadsOut (edges : List Edge) (d n i : ℕ) : Type 0 where
+  pub steps : ℕ
+  pub end : ℕ
+  pub run : Run (IsLink edges) i steps end
+  pub beyond : d ≤ end
+  pub within : end < n
+
 -- each edge is between two of the first n places
 abbrev pub AreWithin : List Edge → ℕ → Type 0
 AreWithin edges n = (k : ℕ) (e : Edge) → slice_get edges k ≡ Some e → (e.from < n) × (e.to < n)

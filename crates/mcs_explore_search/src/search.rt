@@ -1,5 +1,5 @@
 //! The search, breadth first (own).
-ghost use Rattle.std.specs.Prelude.{◌≡◌, ◌+◌, ◌≤◌, ◌<◌, ◌^◌, ◌++◌, ◌∷◌, ◌↔◌, ◌⊎◌, [], List, Some, IsTrue, IfOk, OnOk, length};
+ghost use Rattle.std.specs.Prelude.{true, ◌≡◌, ◌+◌, ◌≤◌, ◌<◌, ◌^◌, ◌++◌, ◌∷◌, ◌↔◌, ◌⊎◌, [], List, Some, IsTrue, IfOk, OnOk, length};
 ghost use Rattle.mcs_explore_search.specs.Paths.{Path, Steps};
 ghost use Rattle.mcs_explore_search.specs.Closure.{IsLikeness};
 ghost use Rattle.mcs_explore_search.specs.Search.{AreAllFound, AreApart, AreFoundLast, AreLeast, AreNear, AreNexts, AreReached, AreSorted, HaveOneKey, IsClosedBelow, IsGraph, IsSpent, IsWhole, depth_at, label_at, listed, parent_at, path_of, paths_below};
@@ -63,6 +63,11 @@ pub trait System {
         ensures seen { OnOk result ((paths : List (List Self.Label)) → HasSeen self.old paths
             → length paths ≡ place → HasSeen self.new (paths ++ path.now ∷ [])) };
 
+    /// Returns whether the search goes on after a state was expanded.
+    fn goes_on(&self) -> bool {
+        true
+    }
+
     ghost same: { (m : Self) → Later m m };
 
     ghost further: { (m n o : Self) → Later m n → Later n o → Later m o };
@@ -117,12 +122,13 @@ pub struct Budget {
 }
 
 /// The states that were found, the nearest first, each by its key, how many of them were expanded,
-/// and the steps from these.
+/// the steps from these, and whether the system stopped the search.
 #[derive(Drop)]
 pub struct Search<K: Eq + Hash + Drop, L: Copy + Drop> {
     pub map: IndexMap<K, Found<L>>,
     pub done: usize,
     pub edges: Vec<Edge>,
+    pub is_stopped: bool,
 }
 
 /// Notes a key, if it is not there yet, and returns its place. An AllocError where memory was
@@ -225,16 +231,18 @@ impl<K: Eq + Hash + Drop, L: Copy + Drop> Search<K, L> {
         Ok(labels)
     }
 
-    /// Whether there is a state to expand, and no budget was reached.
+    /// Whether there is a state to expand, no budget was reached, and the system did not stop it.
     fn goes_on(&self, budget: Budget) -> bool
         ensures more { IsTrue result → self.now.done < length self.now.map.entries }
         ensures room { IsTrue result → self.now.done + 1 < 2 ^ 64 }
         ensures states { IsTrue result → length self.now.map.entries < budget.states }
         ensures depth { IsTrue result → depth_at self.now.map.entries self.now.done < budget.depth }
         ensures spent { IsTrue result ⊎ (length self.now.map.entries ≤ self.now.done)
-            ⊎ IsSpent budget.states budget.depth self.now.done self.now.map.entries }
+            ⊎ IsSpent budget.states budget.depth self.now.done self.now.map.entries
+            ⊎ (self.now.is_stopped ≡ true) }
     {
-        self.done < self.states()
+        !self.is_stopped
+            && self.done < self.states()
             && self.states() < budget.states
             && self.depth(self.done) < budget.depth
     }
@@ -317,6 +325,7 @@ fn begin<M: System>(alloc: Global, system: &mut M) -> Result<Search<M::Key, M::L
         map,
         done: 0,
         edges: Vec::new(alloc),
+        is_stopped: false,
     })
 }
 
@@ -374,7 +383,8 @@ fn look_behind<M: System>(
     Ok(())
 }
 
-/// Expands one state after another, the nearest first, until none is left or a budget is reached.
+/// Expands one state after another, the nearest first, until none is left, a budget is reached, or
+/// the system stops it.
 /// The errors are the faults of the system, and its fault of an AllocError where memory was refused
 /// or it would expand the state in place 2^32.
 pub fn explore<M: System>(
@@ -414,9 +424,9 @@ pub fn explore<M: System>(
         → HaveOneKey M.Key.eq (M.Like system.old) (M.IsKey system.new)
         → AreAllFound M.Key.eq (M.Leads system.old) (M.IsKey system.new)
         (M.start system.old) f.map.entries) }
-    // it ends there or by the budget alone
+    // it ends there, by the budget, or as the system stops it
     ensures budget { IfOk result (λ f. (length f.map.entries ≤ f.done)
-        ⊎ IsSpent budget.states budget.depth f.done f.map.entries) }
+        ⊎ IsSpent budget.states budget.depth f.done f.map.entries ⊎ (f.is_stopped ≡ true)) }
     // the system was asked for the steps from each state that was expanded, in their order
     ensures seen { IfOk result (λ f. M.HasSeen system.old []
         → M.HasSeen system.new (paths_below f.map.entries f.done)) }
@@ -424,6 +434,7 @@ pub fn explore<M: System>(
     let mut search = begin(alloc, system)?;
     while search.goes_on(budget) {
         look_behind(alloc, system, &mut search)?;
+        search.is_stopped = !system.goes_on();
     }
     Ok(search)
 }

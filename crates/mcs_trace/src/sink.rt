@@ -82,6 +82,13 @@ impl<W: Drop> Sink<W> {
             is_broken: false,
         })
     }
+
+    /// Returns the writer, and drops what was kept back for it.
+    pub fn into_writer(self) -> W
+        ensures { result ≡ self.writer }
+    {
+        self.writer
+    }
 }
 
 impl<W> Sink<W> {

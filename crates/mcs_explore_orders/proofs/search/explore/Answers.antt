@@ -20,7 +20,7 @@ returns-clause-whole g c = λ all.
     let e = c.in_ok-explorer.explorer.search in
     let is = c.in_ok-explorer.ensures in
     let found = c.in_ok-search.search.map.entries in
-    let told : IsTold e = record { exact = is.exact ∙ all.exact; boot = subst IsFaultless (sym is.boot) all.faultless; in_range = subst AreInRange (sym is.users) all.in_range } in
+    let told : IsTold e = record { exact = is.exact ∙ all.keys.exact; boot = subst IsFaultless (sym is.boot) all.keys.faultless; in_range = subst AreInRange (sym is.users) all.keys.in_range } in
     subst (λ n. AreAllSeen n c.args.users.now c.args.boot.now found) is.numbered (subst (λ us. AreAllSeen e.keys.numbered us c.args.boot.now found) is.users (subst (λ b. AreAllSeen e.keys.numbered e.users b found) is.boot
     (all-seen e _ found told (likeness e.keys.numbered e.users e.boot told.boot told.in_range) (c.in_ok-search.ensures.whole all.all))))
 
@@ -29,14 +29,15 @@ returns-clause-within g c =
     edges-within c.in_ok-explorer.explorer.search _ c.in_ok-search.search.map.entries c.in_ok-search.search.done c.in_ok-search.search.edges.items c.in_ok-search.ensures.graph
 
 pub returns-clause-graph : goal.returns-clause-graph
-returns-clause-graph g c = λ all.
+returns-clause-graph g c = λ keys.
     let e = c.in_ok-explorer.explorer.search in
     let is = c.in_ok-explorer.ensures in
     let found = c.in_ok-search.search.map.entries in
+    let done = c.in_ok-search.search.done in
     let edges = c.in_ok-search.search.edges.items in
-    let told : IsTold e = record { exact = is.exact ∙ all.exact; boot = subst IsFaultless (sym is.boot) all.faultless; in_range = subst AreInRange (sym is.users) all.in_range } in
-    subst (λ n. IsGraphOfRuns n c.args.users.now c.args.boot.now found edges) is.numbered (subst (λ us. IsGraphOfRuns e.keys.numbered us c.args.boot.now found edges) is.users (subst (λ b. IsGraphOfRuns e.keys.numbered e.users b found edges) is.boot
-    (graph-of e _ found c.in_ok-search.search.done edges told (likeness e.keys.numbered e.users e.boot told.boot told.in_range) all.all c.in_ok-search.ensures.graph)))
+    let told : IsTold e = record { exact = is.exact ∙ keys.exact; boot = subst IsFaultless (sym is.boot) keys.faultless; in_range = subst AreInRange (sym is.users) keys.in_range } in
+    subst (λ n. IsGraphOfRuns n c.args.users.now c.args.boot.now found done edges) is.numbered (subst (λ us. IsGraphOfRuns e.keys.numbered us c.args.boot.now found done edges) is.users (subst (λ b. IsGraphOfRuns e.keys.numbered e.users b found done edges) is.boot
+    (graph-of e _ found done edges told (likeness e.keys.numbered e.users e.boot told.boot told.in_range) c.in_ok-search.ensures.graph)))
 
 pub returns-clause-shown : goal.returns-clause-shown
 returns-clause-shown g c = λ has.

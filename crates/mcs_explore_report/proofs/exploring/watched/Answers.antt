@@ -5,8 +5,8 @@ use Rattle.mcs_explore_script.specs.declared.questions.AskedLine.{AskedLine}
 use Rattle.mcs_explore_script.specs.declared.lives.Live.{Live}
 use Rattle.mcs_explore_report.specs.Found.{AreFirstFound, AreJudgedFound}
 use Rattle.mcs_explore_report.specs.Kept.{Aims}
-use Rattle.mcs_explore_report.specs.Stuck.{AreDecided}
-use Rattle.mcs_explore_report.proofs.Stuck.{decided}
+use Rattle.mcs_explore_report.specs.Stuck.{AreDecided, AreStuckUnled}
+use Rattle.mcs_explore_report.proofs.Stuck.{decided, unled-stuck}
 use Rattle.mcs_explore_report.proofs.Keeping.{counted-found, kept-found}
 use Rattle.mcs_explore_report.proofs.Seeing.{begun}
 use Rattle.mcs_explore_report.proofs.HeldRuns.{all-held}
@@ -20,7 +20,7 @@ returns-clause-whole g c = λ is.
     let mode = c.mode_of-mode.ensures ∙ is.mode in
     let exact = c.is_proved.ensures ∙ mode-proved c.mode_of-mode.result is.numbered mode in
     let numbered = c.are_numbered.ensures ∙ mode-numbered c.mode_of-mode.result is.numbered mode in
-    let seen = subst (λ (b : Bool). AreAllSeen b c.args.users.now c.args.boot.now c.in-Ok.orders.search.map.entries) numbered (c.in-Ok.ensures.whole (record { exact = exact; faultless = c.is_faultless.ensures; in_range = c.are_in_range.ensures; all = is.all })) in
+    let seen = subst (λ (b : Bool). AreAllSeen b c.args.users.now c.args.boot.now c.in-Ok.orders.search.map.entries) numbered (c.in-Ok.ensures.whole (record { keys = record { exact = exact; faultless = c.is_faultless.ensures; in_range = c.are_in_range.ensures }; all = is.all })) in
     seen
 
 pub returns-clause-ends : goal.returns-clause-ends
@@ -52,7 +52,7 @@ returns-clause-run_ends g c = λ is.
     let mode = c.mode_of-mode.ensures ∙ is.mode in
     let exact = c.is_proved.ensures ∙ mode-proved c.mode_of-mode.result is.numbered mode in
     let numbered = c.are_numbered.ensures ∙ mode-numbered c.mode_of-mode.result is.numbered mode in
-    let seen = subst (λ (b : Bool). AreAllSeen b c.args.users.now c.args.boot.now c.in-Ok.orders.search.map.entries) numbered (c.in-Ok.ensures.whole (record { exact = exact; faultless = c.is_faultless.ensures; in_range = c.are_in_range.ensures; all = is.all })) in
+    let seen = subst (λ (b : Bool). AreAllSeen b c.args.users.now c.args.boot.now c.in-Ok.orders.search.map.entries) numbered (c.in-Ok.ensures.whole (record { keys = record { exact = exact; faultless = c.is_faultless.ensures; in_range = c.are_in_range.ensures }; all = is.all })) in
     let w = c.in_ok-watched.watched in
     let o = c.in-Ok.orders in
     let kept = begun c.args.users.now w.asked.now w.lives.lives w.ends w.answers w.failed.items w.lives.notes c.in_ok-watched.ensures.ends c.in_ok-watched.ensures.answers c.in_ok-watched.ensures.failed c.in_ok-watched.ensures.notes in
@@ -64,7 +64,7 @@ returns-clause-run_answers g c = λ is.
     let mode = c.mode_of-mode.ensures ∙ is.mode in
     let exact = c.is_proved.ensures ∙ mode-proved c.mode_of-mode.result is.numbered mode in
     let numbered = c.are_numbered.ensures ∙ mode-numbered c.mode_of-mode.result is.numbered mode in
-    let seen = subst (λ (b : Bool). AreAllSeen b c.args.users.now c.args.boot.now c.in-Ok.orders.search.map.entries) numbered (c.in-Ok.ensures.whole (record { exact = exact; faultless = c.is_faultless.ensures; in_range = c.are_in_range.ensures; all = is.all })) in
+    let seen = subst (λ (b : Bool). AreAllSeen b c.args.users.now c.args.boot.now c.in-Ok.orders.search.map.entries) numbered (c.in-Ok.ensures.whole (record { keys = record { exact = exact; faultless = c.is_faultless.ensures; in_range = c.are_in_range.ensures }; all = is.all })) in
     let w = c.in_ok-watched.watched in
     let o = c.in-Ok.orders in
     let kept = begun c.args.users.now w.asked.now w.lives.lives w.ends w.answers w.failed.items w.lives.notes c.in_ok-watched.ensures.ends c.in_ok-watched.ensures.answers c.in_ok-watched.ensures.failed c.in_ok-watched.ensures.notes in
@@ -85,7 +85,7 @@ returns-clause-held g c = λ is.
     let mode = c.mode_of-mode.ensures ∙ is.mode in
     let exact = c.is_proved.ensures ∙ mode-proved c.mode_of-mode.result is.numbered mode in
     let numbered = c.are_numbered.ensures ∙ mode-numbered c.mode_of-mode.result is.numbered mode in
-    let seen = subst (λ (b : Bool). AreAllSeen b c.args.users.now c.args.boot.now c.in-Ok.orders.search.map.entries) numbered (c.in-Ok.ensures.whole (record { exact = exact; faultless = c.is_faultless.ensures; in_range = c.are_in_range.ensures; all = is.all })) in
+    let seen = subst (λ (b : Bool). AreAllSeen b c.args.users.now c.args.boot.now c.in-Ok.orders.search.map.entries) numbered (c.in-Ok.ensures.whole (record { keys = record { exact = exact; faultless = c.is_faultless.ensures; in_range = c.are_in_range.ensures }; all = is.all })) in
     let w = c.in_ok-watched.watched in
     let o = c.in-Ok.orders in
     let kept = begun c.args.users.now w.asked.now w.lives.lives w.ends w.answers w.failed.items w.lives.notes c.in_ok-watched.ensures.ends c.in_ok-watched.ensures.answers c.in_ok-watched.ensures.failed c.in_ok-watched.ensures.notes in
@@ -116,7 +116,7 @@ returns-clause-shortest g c = λ is.
     let mode = c.mode_of-mode.ensures ∙ is.mode in
     let exact = c.is_proved.ensures ∙ mode-proved c.mode_of-mode.result is.numbered mode in
     let numbered = c.are_numbered.ensures ∙ mode-numbered c.mode_of-mode.result is.numbered mode in
-    let seen = subst (λ (b : Bool). AreAllSeen b c.args.users.now c.args.boot.now c.in-Ok.orders.search.map.entries) numbered (c.in-Ok.ensures.whole (record { exact = exact; faultless = c.is_faultless.ensures; in_range = c.are_in_range.ensures; all = is.all })) in
+    let seen = subst (λ (b : Bool). AreAllSeen b c.args.users.now c.args.boot.now c.in-Ok.orders.search.map.entries) numbered (c.in-Ok.ensures.whole (record { keys = record { exact = exact; faultless = c.is_faultless.ensures; in_range = c.are_in_range.ensures }; all = is.all })) in
     let w = c.in_ok-watched.watched in
     let o = c.in-Ok.orders in
     let kept = begun c.args.users.now w.asked.now w.lives.lives w.ends w.answers w.failed.items w.lives.notes c.in_ok-watched.ensures.ends c.in_ok-watched.ensures.answers c.in_ok-watched.ensures.failed c.in_ok-watched.ensures.notes in
@@ -133,10 +133,24 @@ returns-clause-decided g c = λ is.
     let numbered = c.are_numbered.ensures ∙ mode-numbered c.mode_of-mode.result is.numbered mode in
     let w = c.in_ok-watched.watched in
     let o = c.in-Ok.orders in
-    let seen = subst (λ (b : Bool). AreAllSeen b c.args.users.now c.args.boot.now o.search.map.entries) numbered (c.in-Ok.ensures.whole (record { exact = exact; faultless = c.is_faultless.ensures; in_range = c.are_in_range.ensures; all = is.all })) in
-    let graph = subst (λ (b : Bool). IsGraphOfRuns b c.args.users.now c.args.boot.now o.search.map.entries o.search.edges.items) numbered (c.in-Ok.ensures.graph (record { exact = exact; faultless = c.is_faultless.ensures; in_range = c.are_in_range.ensures; all = is.all })) in
+    let seen = subst (λ (b : Bool). AreAllSeen b c.args.users.now c.args.boot.now o.search.map.entries) numbered (c.in-Ok.ensures.whole (record { keys = record { exact = exact; faultless = c.is_faultless.ensures; in_range = c.are_in_range.ensures }; all = is.all })) in
+    let graph = subst (λ (b : Bool). IsGraphOfRuns b c.args.users.now c.args.boot.now o.search.map.entries o.search.done o.search.edges.items) numbered (c.in-Ok.ensures.graph (record { exact = exact; faultless = c.is_faultless.ensures; in_range = c.are_in_range.ensures })) in
     let kept = begun c.args.users.now w.asked.now w.lives.lives w.ends w.answers w.failed.items w.lives.notes c.in_ok-watched.ensures.ends c.in_ok-watched.ensures.answers c.in_ok-watched.ensures.failed c.in_ok-watched.ensures.notes in
     let shown = c.in-Ok.ensures.shown kept in
     let same = ap (λ (a : Aims). a.lives) c.in-Ok.ensures.aim ∙ c.in_ok-watched.ensures.lives in
     subst (λ (ls : List Live). AreDecided c.args.users.now c.args.boot.now ls o.search.map.entries o.search.edges.items o.explorer.watch.lives.notes) same
-    (decided is.numbered c.args.users.now c.are_apart.ensures c.args.boot.now c.is_faultless.ensures c.are_in_range.ensures o.search.map.entries o.search.done is.all seen o.search.edges.items graph shown.shown shown.are o.explorer.watch.lives.lives o.explorer.watch.lives.notes shown.has.has.noted)
+    (decided is.numbered c.args.users.now c.are_apart.ensures c.args.boot.now c.is_faultless.ensures c.are_in_range.ensures o.search.map.entries o.search.done o.search.edges.items graph shown.shown shown.are o.explorer.watch.lives.lives o.explorer.watch.lives.notes shown.has.has.noted is.all seen)
+
+pub returns-clause-stuck : goal.returns-clause-stuck
+returns-clause-stuck g c = λ number is.
+    let mode = c.mode_of-mode.ensures ∙ is in
+    let exact = c.is_proved.ensures ∙ mode-proved c.mode_of-mode.result number mode in
+    let numbered = c.are_numbered.ensures ∙ mode-numbered c.mode_of-mode.result number mode in
+    let w = c.in_ok-watched.watched in
+    let o = c.in-Ok.orders in
+    let graph = subst (λ (b : Bool). IsGraphOfRuns b c.args.users.now c.args.boot.now o.search.map.entries o.search.done o.search.edges.items) numbered (c.in-Ok.ensures.graph (record { exact = exact; faultless = c.is_faultless.ensures; in_range = c.are_in_range.ensures })) in
+    let kept = begun c.args.users.now w.asked.now w.lives.lives w.ends w.answers w.failed.items w.lives.notes c.in_ok-watched.ensures.ends c.in_ok-watched.ensures.answers c.in_ok-watched.ensures.failed c.in_ok-watched.ensures.notes in
+    let shown = c.in-Ok.ensures.shown kept in
+    let same = ap (λ (a : Aims). a.lives) c.in-Ok.ensures.aim ∙ c.in_ok-watched.ensures.lives in
+    subst (λ (ls : List Live). AreStuckUnled c.args.users.now c.args.boot.now ls o.search.map.entries o.search.edges.items o.explorer.watch.lives.notes) same
+    (unled-stuck number c.args.users.now c.are_apart.ensures c.args.boot.now c.is_faultless.ensures c.are_in_range.ensures o.search.map.entries o.search.done o.search.edges.items graph shown.shown shown.are o.explorer.watch.lives.lives o.explorer.watch.lives.notes shown.has.has.noted)

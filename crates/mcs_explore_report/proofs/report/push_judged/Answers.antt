@@ -7,7 +7,7 @@ use Rattle.mcs_explore_report.proofs.report.push_judged.Goals as goal
 
 pub returns-in_ok-push : goal.returns-in_ok-push
 returns-in_ok-push g c = record {
-  asks = λ q at yes. record { judged = c.in_ok-judged.field-0; added = c.in_ok-push.ensures.items; held = c.in_ok-judged.ensures };
+  asks = λ q at yes. record { judged = c.in_ok-judged.field-0; added = c.in_ok-push.ensures.items; held = c.in_ok-judged.ensures.held; missed = c.in_ok-judged.ensures.missed };
   other = λ q at not.
       let here = slice_get_read c.args.findings.now.script.now.asked.items _ c.args.number c.index.result.now refl c.requires c.index.ensures in
       let same = some-same c.index.result.now q (sym here ∙ at) in
