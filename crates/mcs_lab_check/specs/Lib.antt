@@ -1,6 +1,11 @@
 pub mod Names
+pub mod Naming
 pub mod Asking
 pub mod Seen
 pub mod Verdicts
 pub mod Lasts
 pub mod Checked
+pub mod Flaws
+pub mod Outcomes
+pub mod Faults
+pub mod Shown

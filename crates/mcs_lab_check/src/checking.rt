@@ -1,5 +1,5 @@
 //! Whether what follows each step of a script holds, written as TAP.
-use crate::fault::LabFault;
+use crate::fault::{LabFault, Reason};
 use crate::judging::Judge;
 use crate::last::{Last, Told};
 use crate::names::Names;
@@ -40,18 +40,51 @@ fn asked(line: &[u8]) -> &[u8] {
     }
 }
 
-impl<W: Write + Drop> Checker<W> {
-    /// Before the first line.
-    fn new(alloc: Global, to: W) -> Result<Checker<W>, LabFault> {
-        Ok(Checker {
+/// What needs memory before the first line is read.
+#[derive(Drop)]
+struct Parts {
+    judge: Judge,
+    spelled: Box<Line>,
+    verdict: Text,
+}
+
+impl Parts {
+    /// Returns the parts of a checker that has read nothing. OutOfMemory where memory was refused.
+    fn new(alloc: Global) -> Result<Parts, LabFault> {
+        Ok(Parts {
             judge: Judge::new(alloc)?,
-            names: Names::new(alloc),
             spelled: Box::new(alloc, Line::new())?,
             verdict: Text::new(alloc)?,
+        })
+    }
+}
+
+/// Writes why the verdicts end here. Writes nothing where that is because of a write.
+fn put_bail<W: Write>(to: &mut W, fault: LabFault) -> io::Result<()> {
+    if fault == LabFault::Write {
+        return Ok(());
+    }
+    let reason = Reason(fault);
+    writeln!(to, "Bail out! {reason}")
+}
+
+impl<W: Write + Drop> Checker<W> {
+    /// Before the first line.
+    fn new(alloc: Global, parts: Parts, to: W) -> Checker<W> {
+        let Parts {
+            judge,
+            spelled,
+            verdict,
+        } = parts;
+        Checker {
+            judge,
+            names: Names::new(alloc),
+            spelled,
+            verdict,
             told: 0,
             failed: 0,
             to,
-        })
+        }
     }
 
     /// Writes the first line of a verdict.
@@ -174,18 +207,6 @@ impl<W: Write + Drop> Checker<W> {
         self.put_plan()?;
         Ok(self.failed == 0)
     }
-
-    /// Tells that the script could not be read on.
-    fn bail(&mut self, fault: LabFault) -> io::Result<()> {
-        match fault {
-            LabFault::Script { line, why } => writeln!(self.to, "Bail out! line {line}: {why}"),
-            LabFault::Form { line } => writeln!(
-                self.to,
-                "Bail out! line {line}: no question and no name has this form"
-            ),
-            _ => Ok(()),
-        }
-    }
 }
 
 impl<W: Write + Drop> TakesLines for Checker<W> {
@@ -209,22 +230,35 @@ impl<W: Write + Drop> TakesLines for Checker<W> {
     fn taken(&self) -> u64 {
         self.judge.line()
     }
+
+    fn pause(&mut self) -> Result<(), LabFault> {
+        self.to.flush()?;
+        Ok(())
+    }
 }
 
-/// Checks a script, and writes a verdict for each line that says what is wanted, as TAP. True where
-/// all hold.
+/// Checks a script, and writes a verdict for each line that says what is wanted, as TAP: each
+/// before more of the input is waited for. True where all hold. Each fault but that of a write is
+/// the last line, `Bail out!`.
 pub fn check<R: Read, W: Write + Drop>(
     alloc: Global,
     from: &mut Source<R>,
-    to: W,
+    mut to: W,
 ) -> Result<bool, LabFault> {
-    let mut checker = Checker::new(alloc, to)?;
+    let parts = match Parts::new(alloc) {
+        Ok(parts) => parts,
+        Err(fault) => {
+            put_bail(&mut to, fault)?;
+            return Err(fault);
+        }
+    };
+    let mut checker = Checker::new(alloc, parts, to);
     let ended = match take_lines(alloc, from, &mut checker) {
         Ok(()) => checker.end(alloc),
         Err(fault) => Err(fault),
     };
     if let Err(fault) = ended {
-        checker.bail(fault)?;
+        put_bail(&mut checker.to, fault)?;
         return Err(fault);
     }
     ended

@@ -4,9 +4,11 @@
 mod asking;
 mod checking;
 mod fault;
+mod flaw;
 mod judging;
 mod last;
 mod names;
+mod outcome;
 mod reading;
 mod seeing;
 mod tap;
@@ -15,9 +17,11 @@ mod words;
 
 pub use checking::check;
 pub use fault::LabFault;
+pub use flaw::{Flaw, flaw_of};
 pub use judging::{Judge, entrant_of};
 pub use last::{Last, Told};
 pub use names::{Named, Names};
+pub use outcome::Outcome;
 pub use reading::{TakesLines, take_lines};
-pub use tap::bare;
+pub use tap::{bare, put_shown};
 pub use words::{object_of, queue_of};

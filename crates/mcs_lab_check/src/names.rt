@@ -1,18 +1,31 @@
 //! The names that a script gives to objects.
+ghost use Rattle.std.specs.Prelude.{◌≡◌, ◌++◌, ◌==◌, [], true, length, map, option_copied, bytes_eq, OnOk, OnErr};
+ghost use Rattle.std.specs.List.{list_all};
+ghost use Rattle.mcs_text.specs.Reading.{words_of};
+ghost use Rattle.mcs_lab_check.specs.Naming.{answered, gives, given_at, is_formed, is_name, is_of_name, is_this, line_names, name_of, name_text, naming_of, what_named, with_found};
+
 use crate::fault::LabFault;
-use crate::tap::bare;
 use crate::words::{object_of, queue_of};
 use mcs_plan_source::is_like_id;
 use mcs_text::{Words, letter};
 use mcs_types::{ObjId, Queue};
 use std::alloc::Global;
 use std::io::{self, Write};
+use std::marker::Model;
 
-/// An object and its name.
+/// An object and a name that it was given.
 #[derive(Drop)]
 struct Given {
     object: ObjId,
     name: Vec<u8>,
+}
+
+impl Model for Given {
+    ghost use Rattle.mcs_lab_check.specs.Naming.{Naming};
+
+    ghost Value = { Naming };
+
+    ghost view = { λ g. record { object = g.object; name = g.name.items } };
 }
 
 /// What a name names.
@@ -24,15 +37,125 @@ pub enum Named {
     Several,
 }
 
-/// The names that were given. The last for an object holds.
+/// The names that were given, of which the last for an object holds. Clauses see all that were
+/// given, in their order.
 #[derive(Drop)]
 pub struct Names {
     all: Vec<Given>,
 }
 
-/// Whether a name may have this byte: what is written is one word, and needs no quotes.
-fn is_of_name(byte: u8) -> bool {
+impl Model for Names {
+    ghost use Rattle.std.specs.Prelude.{List};
+    ghost use Rattle.mcs_lab_check.specs.Naming.{Naming};
+
+    ghost Value = { List Naming };
+
+    ghost view = { λ n. n.all.items };
+}
+
+/// Returns the text after `#@ ` of a line, which may end with a newline, without that; None where
+/// the line has another beginning.
+fn name_text(line: &[u8]) -> Option<&[u8]>
+    ensures { option_copied result ≡ name_text line.now }
+{
+    match line {
+        [b'#', b'@', b' ', text @ .., b'\n'] => Some(text),
+        [b'#', b'@', b' ', text @ ..] => Some(text),
+        _ => None,
+    }
+}
+
+/// Returns whether a name may have this byte: what is written is one word, and needs no quotes.
+fn is_of_name(byte: u8) -> bool
+    ensures { result ≡ is_of_name byte }
+{
     byte.is_ascii_alphanumeric() || byte == b'-' || byte == b'_' || byte == b'.'
+}
+
+/// Returns whether a name may have these bytes.
+fn are_of_name(word: &[u8]) -> bool
+    ensures { result ≡ list_all is_of_name word.now }
+{
+    word.iter().all(|byte| is_of_name(*byte))
+}
+
+/// Returns whether a word may be a name: it is not empty, and has not the shape of an object's id.
+fn is_name(word: &[u8]) -> bool
+    ensures { result ≡ is_name word.now }
+{
+    !word.is_empty() && are_of_name(word) && !is_like_id(word)
+}
+
+/// Returns what the text after `#@ ` says: an object, and its name. None where it has another form.
+fn naming_of(text: &[u8]) -> Option<(ObjId, &[u8])>
+    ensures { answered result ≡ naming_of (words_of text.now) }
+{
+    let mut words = Words::new(text);
+    let first = words.next_word()?;
+    let name = words.next_word()?;
+    if words.has_more() {
+        return None;
+    }
+    let object = object_of(first)?;
+    if is_name(name) {
+        Some((object, name))
+    } else {
+        None
+    }
+}
+
+/// Returns the name of an object among those that were given: the last one.
+fn last_name(all: &[Given], object: ObjId) -> Option<&[u8]>
+    ensures { option_copied result ≡ name_of all.now object }
+{
+    let mut last = None;
+    for given in all {
+        if given.object.is_same(object) {
+            last = Some(given.name.as_slice());
+        }
+    }
+    last
+}
+
+/// Returns whether an object has this name.
+fn has_name(all: &[Given], object: ObjId, name: &[u8]) -> bool
+    ensures { result ≡ is_this (name_of all.now object) name.now }
+{
+    match last_name(all, object) {
+        Some(last) => last == name,
+        None => false,
+    }
+}
+
+/// Returns whether an object was given this name, and has it still.
+fn gives(all: &[Given], given: &Given, name: &[u8]) -> bool
+    ensures { result ≡ gives all.now name.now given.now }
+{
+    given.name.as_slice() == name && has_name(all, given.object, name)
+}
+
+/// Returns what a name names, where it names one object more.
+fn with_found(found: Named, object: ObjId) -> Named
+    ensures { result ≡ with_found found object }
+{
+    match found {
+        Named::Nothing => Named::One(object),
+        Named::One(other) if other.is_same(object) => Named::One(other),
+        Named::One(_) | Named::Several => Named::Several,
+    }
+}
+
+/// Returns what a name names among those that were given.
+fn what_named(all: &[Given], name: &[u8]) -> Named
+    ensures { result ≡ what_named all.now name.now }
+{
+    let mut found = Named::Nothing;
+    for given in all {
+        if gives(all, given, name) {
+            found = with_found(found, given.object);
+        }
+    }
+    found
 }
 
 /// Returns the object of a queue, and the suffix that names the queue among the object's: `.send`,
@@ -46,8 +169,10 @@ fn queue_parts(queue: Queue) -> (ObjId, &'static str) {
 }
 
 impl Names {
-    /// No names.
-    pub fn new(alloc: Global) -> Names {
+    /// Returns no names.
+    pub fn new(alloc: Global) -> Names
+        ensures { result ≡ [] }
+    {
         Names {
             all: Vec::new(alloc),
         }
@@ -56,54 +181,34 @@ impl Names {
     /// Takes a line of a script, with its newline or without. Where it begins with `#@ ` it gives a
     /// name: an object, and one word of letters, digits, `-`, `_` and `.`, which has not the shape
     /// of an object's id. Fault Form where it has not this form.
-    pub fn hear(&mut self, alloc: Global, number: u64, line: &[u8]) -> Result<(), LabFault> {
-        let [b'#', b'@', b' ', text @ ..] = bare(line) else {
+    pub fn hear(&mut self, alloc: Global, number: u64, line: &[u8]) -> Result<(), LabFault>
+        ensures given { OnOk result (self.new ≡ self.old ++ line_names line.now) }
+        ensures formed { OnOk result (is_formed line.now ≡ true) }
+        ensures unchanged { OnErr result (self.new ≡ self.old) }
+    {
+        let Some(text) = name_text(line) else {
             return Ok(());
         };
-        let mut words = Words::new(text);
-        let fault = LabFault::Form { line: number };
-        let (Some(first), Some(name)) = (words.next_word(), words.next_word()) else {
-            return Err(fault);
+        let Some((object, word)) = naming_of(text) else {
+            return Err(LabFault::Form { line: number });
         };
-        let Some(object) = object_of(first) else {
-            return Err(fault);
-        };
-        if name.is_empty() || words.has_more() || !name.iter().all(|byte| is_of_name(*byte)) {
-            return Err(fault);
-        }
-        if is_like_id(name) {
-            return Err(fault);
-        }
-        let mut kept = Vec::new(alloc);
-        kept.extend_from_slice(name)?;
-        self.all.push(Given { object, name: kept })?;
+        let name = Vec::from_slice(alloc, word)?;
+        self.all.push(Given { object, name })?;
         Ok(())
     }
 
-    /// The name of an object.
-    pub fn of(&self, object: ObjId) -> Option<&[u8]> {
-        for named in self.all.iter().rev() {
-            if named.object.is_same(object) {
-                return Some(named.name.as_slice());
-            }
-        }
-        None
+    /// Returns the name of an object: the last that it was given.
+    pub fn of(&self, object: ObjId) -> Option<&[u8]>
+        ensures { option_copied result ≡ name_of self.now object }
+    {
+        last_name(&self.all, object)
     }
 
-    /// What a name names. An object has the name that it was given last.
-    pub fn find(&self, name: &[u8]) -> Named {
-        let mut found = Named::Nothing;
-        for given in self.all.iter() {
-            if given.name.as_slice() != name || self.of(given.object) != Some(name) {
-                continue;
-            }
-            found = match found {
-                Named::Nothing => Named::One(given.object),
-                Named::One(object) if object.is_same(given.object) => found,
-                Named::One(_) | Named::Several => Named::Several,
-            };
-        }
-        found
+    /// Returns what a name names. An object has the name that it was given last.
+    pub fn find(&self, name: &[u8]) -> Named
+        ensures { result ≡ what_named self.now name.now }
+    {
+        what_named(&self.all, name)
     }
 
     /// Writes the name of an object between parentheses, where it has one.
@@ -152,26 +257,31 @@ impl Names {
         }
     }
 
-    /// The objects that have a name, and the name that each was given last: the one of a number,
-    /// from 0, of all that were given. None where the object has another one, or there is no such
-    /// number.
-    pub fn given(&self, number: usize) -> Option<(ObjId, &[u8])> {
+    /// Returns an object and its name: those of a number, from 0, of all that were given. None
+    /// where the object has another name now, or there is no such number.
+    pub fn given(&self, number: usize) -> Option<(ObjId, &[u8])>
+        ensures { answered result ≡ given_at self.now number }
+    {
         let given = self.all.get(number)?;
         let name = given.name.as_slice();
-        if self.of(given.object)? == name {
+        if has_name(&self.all, given.object, name) {
             Some((given.object, name))
         } else {
             None
         }
     }
 
-    /// How many names were given.
-    pub fn count(&self) -> usize {
+    /// Returns how many names were given.
+    pub fn count(&self) -> usize
+        ensures { result ≡ length self.now }
+    {
         self.all.len()
     }
 
-    /// Whether no name was given.
-    pub fn is_empty(&self) -> bool {
+    /// Returns whether no name was given.
+    pub fn is_empty(&self) -> bool
+        ensures { result ≡ (length self.now == 0) }
+    {
         self.all.is_empty()
     }
 }

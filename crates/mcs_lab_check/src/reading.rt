@@ -15,6 +15,12 @@ pub trait TakesLines {
 
     /// How many lines were taken.
     fn taken(&self) -> u64;
+
+    /// Writes out what came of the lines so far, before more of the input is waited for. Does
+    /// nothing unless an impl says otherwise.
+    fn pause(&mut self) -> Result<(), LabFault> {
+        Ok(())
+    }
 }
 
 /// Keeps a part of a line. Fault LongLine (7) where the line has more than 4,096 bytes.
@@ -27,6 +33,14 @@ fn keep(left: &mut Vec<u8>, part: &[u8], taken: u64) -> Result<(), LabFault> {
     }
     left.extend_from_slice(part)?;
     Ok(())
+}
+
+/// Hands on a line. A fault of the line says which flaw it has.
+fn hand_on<T: TakesLines>(alloc: Global, line: &[u8], to: &mut T) -> Result<(), LabFault> {
+    match to.take_line(alloc, line) {
+        Ok(()) => Ok(()),
+        Err(fault) => Err(fault.in_line(line)),
+    }
 }
 
 /// Hands on the lines that a piece ends, and keeps what is left of it.
@@ -46,11 +60,11 @@ fn take_piece<T: TakesLines>(
             break;
         };
         if left.is_empty() {
-            to.take_line(alloc, line)?;
+            hand_on(alloc, line, to)?;
         } else {
             keep(left, bare(line), to.taken())?;
             left.push(b'\n')?;
-            to.take_line(alloc, left.as_slice())?;
+            hand_on(alloc, left.as_slice(), to)?;
             left.clear();
         }
         rest = behind;
@@ -74,10 +88,11 @@ pub fn take_lines<R: Read, T: TakesLines>(
             break;
         }
         take_piece(alloc, &mut left, &piece[..count], to)?;
+        to.pause()?;
     }
     if left.is_empty() {
         return Ok(());
     }
     left.push(b'\n')?;
-    to.take_line(alloc, left.as_slice())
+    hand_on(alloc, left.as_slice(), to)
 }

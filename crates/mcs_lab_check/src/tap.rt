@@ -1,4 +1,8 @@
 //! Verdicts as lines of TAP, with what was seen as YAML after those that do not hold.
+ghost use Rattle.std.specs.Prelude.{◌≡◌, ◌<◌, OnOk};
+ghost use Rattle.std.specs.Io.KnownBytes.{Appends};
+ghost use Rattle.mcs_lab_check.specs.Shown.{hex_digit, is_printable, shown_byte, shown};
+
 use crate::names::Names;
 use mcs_text::Words;
 use std::io::{self, Write};
@@ -11,16 +15,53 @@ pub fn bare(line: &[u8]) -> &[u8] {
     }
 }
 
-/// Writes the bytes of a word: of two kinds each follows another byte, and what is not printable is
-/// a `?`.
+/// Returns the hexadecimal digit of a number below 16, in lower case.
+fn hex_digit(number: u8) -> u8
+    requires { number < 16 }
+    ensures { result ≡ hex_digit number }
+{
+    if number < 10 {
+        b'0' + number
+    } else {
+        b'a' + (number - 10)
+    }
+}
+
+/// Returns whether a byte is printable ASCII, and so stands for itself in a message.
+pub fn is_printable(byte: u8) -> bool
+    ensures { result ≡ is_printable byte }
+{
+    byte >= b' ' && byte <= b'~'
+}
+
+/// Writes a byte as messages show it.
+fn put_byte<W: Write>(to: &mut W, byte: u8) -> io::Result<()>
+    ensures { OnOk result (Appends (W.contents to.old) (W.contents to.new) (shown_byte byte)) }
+{
+    if is_printable(byte) {
+        return to.write_all(&[byte]);
+    }
+    to.write_all(&[b'\\', b'x', hex_digit(byte / 16), hex_digit(byte % 16)])
+}
+
+/// Writes bytes of the input as messages show them: each that is no printable ASCII as `\x1b`, with
+/// two digits. The error is that of the writer.
+pub fn put_shown<W: Write>(to: &mut W, bytes: &[u8]) -> io::Result<()>
+    ensures { OnOk result (Appends (W.contents to.old) (W.contents to.new) (shown bytes.now)) }
+{
+    for byte in bytes {
+        put_byte(to, *byte)?;
+    }
+    Ok(())
+}
+
+/// Writes the bytes of a word as messages show them, but each of two kinds behind another byte.
 fn put_word<W: Write>(to: &mut W, word: &[u8], before: u8, kinds: [u8; 2]) -> io::Result<()> {
     for byte in word {
         if *byte == kinds[0] || *byte == kinds[1] {
             to.write_all(&[before, *byte])?;
-        } else if *byte >= b' ' && *byte <= b'~' {
-            to.write_all(&[*byte])?;
         } else {
-            to.write_all(b"?")?;
+            put_byte(to, *byte)?;
         }
     }
     Ok(())
@@ -28,7 +69,7 @@ fn put_word<W: Write>(to: &mut W, word: &[u8], before: u8, kinds: [u8; 2]) -> io
 
 /// Whether a text stands for itself in a description of TAP.
 pub fn is_plain(text: &[u8]) -> bool {
-    text.iter().all(|byte| { *byte >= b' ' && *byte <= b'~' && *byte != b'#' && *byte != b'\\' })
+    text.iter().all(|byte| is_printable(*byte) && *byte != b'#' && *byte != b'\\')
 }
 
 /// Writes a description of TAP, in which `#` and `\` follow a `\`.

@@ -68,7 +68,7 @@ fn put_word_hint(page: &mut Page, number: u64, word: &[u8]) -> bool {
 fn put_meant(page: &mut Page, number: u64, word: &[u8]) {
     put_number(page, number);
     page.put(b" \"");
-    page.put(word);
+    page.shown(word);
     match meant_by(word) {
         None => page.put(b"\" begins no entry and no line of the boot\n"),
         Some(key) => {
@@ -162,9 +162,6 @@ fn put_step_hints(page: &mut Page, words: &mut Words<'_>, most: usize) {
 
 /// Puts what may be wrong with a line that has no form, or a number out of its range.
 pub fn put_hints(page: &mut Page, line: &[u8]) {
-    if let [.., b'\r'] = line {
-        return page.put(b"  a carriage return stands at its end\n");
-    }
     let mut words = Words::new(line);
     let Some(first) = words.next_word() else {
         return;

@@ -13,9 +13,11 @@ mod state;
 mod stuck;
 mod tables;
 mod values;
+mod whole;
 mod why;
 
 pub use json::write_json;
 pub use page::Page;
 pub use state::{Wanted, show_state};
+pub use whole::{Whole, read_whole};
 pub use why::explain;

@@ -1,5 +1,5 @@
 //! A text to be written, put together in memory.
-use mcs_lab_check::{LabFault, Names};
+use mcs_lab_check::{LabFault, Names, put_shown};
 use mcs_text::Token;
 use mcs_trace::{Line, spell};
 use mcs_types::{ObjId, Queue};
@@ -38,6 +38,13 @@ impl Page {
     /// Puts bytes.
     pub fn put(&mut self, bytes: &[u8]) {
         if self.text.extend_from_slice(bytes).is_err() {
+            self.is_cut = true;
+        }
+    }
+
+    /// Puts bytes of the input as messages show them: each that is no printable ASCII as `\x1b`.
+    pub fn shown(&mut self, bytes: &[u8]) {
+        if put_shown(&mut self.text, bytes).is_err() {
             self.is_cut = true;
         }
     }

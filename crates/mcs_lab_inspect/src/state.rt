@@ -35,6 +35,16 @@ impl Reader {
             None => false,
         }
     }
+
+    /// Returns the fault that the wanted line is beyond the end, where it is.
+    fn missing(&self) -> Option<LabFault> {
+        let line = self.at?;
+        let count = self.judge.line();
+        if line <= count {
+            return None;
+        }
+        Some(LabFault::NoLine { line, count })
+    }
 }
 
 impl TakesLines for Reader {
@@ -81,6 +91,9 @@ fn read_state<R: Read>(
     wanted: Wanted,
 ) -> Result<bool, LabFault> {
     take_lines(alloc, from, reader)?;
+    if let Some(fault) = reader.missing() {
+        return Err(fault);
+    }
     reader.judge.end(alloc)?;
     let Some(kernel) = reader.judge.kernel() else {
         return Ok(true);
@@ -90,7 +103,8 @@ fn read_state<R: Read>(
 }
 
 /// Shows the state of each thread after a line of a script, or at its end, and what is stuck. False
-/// where only what is stuck is wanted, and something is.
+/// where only what is stuck is wanted, and something is. Fault NoLine where the line is beyond
+/// the end.
 pub fn show_state<R: Read, W: Write + Drop>(
     alloc: Global,
     from: &mut Source<R>,

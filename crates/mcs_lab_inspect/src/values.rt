@@ -171,10 +171,19 @@ impl<'a> Values<'a> {
         }
     }
 
-    /// Puts a context; `null` where it is not there.
+    /// Puts an object that was closed.
+    fn put_closed(&self, page: &mut Page, object: ObjId) {
+        page.put(b"{\"id\":");
+        page.quoted_word(&Token::Name(object));
+        page.name_member(self.names, object);
+        page.text_member("status", b"closed");
+        page.put(b"}");
+    }
+
+    /// Puts a context.
     fn put_context(&self, page: &mut Page, context: ObjId) {
         let Some(core) = self.kernel.core(context) else {
-            return page.put(b"null");
+            return self.put_closed(page, context);
         };
         page.put(b"{\"chain\":[");
         self.put_chain(page, context);
@@ -239,15 +248,26 @@ impl<'a> Values<'a> {
         page.put(b"]}");
     }
 
-    /// Puts an object of a kind.
+    /// Puts an endpoint: its queues are among those of all.
+    fn put_endpoint(&self, page: &mut Page, endpoint: ObjId) {
+        page.put(b"{\"id\":");
+        page.quoted_word(&Token::Name(endpoint));
+        page.name_member(self.names, endpoint);
+        page.put(b"}");
+    }
+
+    /// Puts an object of a kind. A thread has its members also where it was closed.
     fn put_object(&self, page: &mut Page, object: ObjId) {
+        if !self.kernel.is_there(object) && !object.kind.is_same(Kind::Thread) {
+            return self.put_closed(page, object);
+        }
         match object.kind {
             Kind::Thread => self.put_thread(page, object),
             Kind::Context => self.put_context(page, object),
             Kind::Reply => self.put_reply(page, object),
             Kind::Notification => self.put_notification(page, object),
             Kind::CNode => self.put_cnode(page, object),
-            Kind::Endpoint => page.put(b"null"),
+            Kind::Endpoint => self.put_endpoint(page, object),
         }
     }
 

@@ -4,7 +4,9 @@ use crate::page::Page;
 use crate::path::put_path;
 use crate::stuck::{Waits, taker_of};
 use mcs_kernel::{EnterFault, Kernel};
-use mcs_lab_check::{Judge, LabFault, Last, Names, TakesLines, Told, bare, entrant_of, take_lines};
+use mcs_lab_check::{
+    Judge, LabFault, Last, Names, TakesLines, Told, bare, entrant_of, flaw_of, take_lines,
+};
 use mcs_lab_forms::{Fields, LooksUp, form_of, number_of};
 use mcs_queues::LinkedLines;
 use mcs_sim::Source;
@@ -418,7 +420,7 @@ impl Teller {
         self.page.put(b"line ");
         self.page.number(number);
         self.page.put(b": ");
-        self.page.put(bare(step));
+        self.page.shown(bare(step));
         self.page.put(b": ");
     }
 
@@ -446,9 +448,13 @@ impl Teller {
         page.put(b": ");
         page.made(why.to_string(alloc));
         page.put(b": ");
-        page.put(bare(line));
+        page.shown(bare(line));
         page.put(b"\n");
-        if why == LineFault::Form || why == LineFault::Number {
+        if let Some(flaw) = flaw_of(line) {
+            page.put(b"  ");
+            page.made(flaw.to_string(alloc));
+            page.put(b"\n");
+        } else if why == LineFault::Form || why == LineFault::Number {
             put_hints(page, bare(line));
         }
     }
