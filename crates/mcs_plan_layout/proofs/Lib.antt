@@ -1,3 +1,4 @@
+pub mod Adding
 pub mod Addresses
 pub mod Limits
 pub mod MoreRows

@@ -55,12 +55,20 @@ impl Site {
     }
 }
 
+/// Adds a line.
+fn push(to: &mut Vec<BootLine>, line: BootLine) -> Result<(), AllocError>
+    ensures { OnOk result (to.new.items ≡ to.old.items ++ line ∷ []) }
+{
+    to.push(line)?;
+    Ok(())
+}
+
 /// Adds a line so many times.
 fn add_times(to: &mut Vec<BootLine>, line: &BootLine, times: u32) -> Result<(), AllocError>
     ensures { OnOk result (to.new.items ≡ to.old.items ++ replicate times line.now) }
 {
     for _ in 0..times {
-        to.push(*line)?;
+        push(to, *line)?;
     }
     Ok(())
 }
@@ -73,11 +81,12 @@ fn add_link(to: &mut Vec<BootLine>, site: Site, leaf: u32) -> Result<(), AllocEr
 {
     let next = cnode(site.before + leaf as usize);
     if let Some(cap) = bare(next, Guard { bits: 0, value: 0 }) {
-        to.push(BootLine::Slot {
+        let line = BootLine::Slot {
             cnode: cnode(site.place),
             index: leaf as u8,
             cap,
-        })?;
+        };
+        push(to, line)?;
     }
     Ok(())
 }
@@ -121,7 +130,7 @@ impl Laid {
             (to.new.items ≡ to.old.items ++ map root_line self.now.layouts.items) }
     {
         for layout in &self.layouts {
-            to.push(BootLine::CNode { radix: layout.root })?;
+            push(to, BootLine::CNode { radix: layout.root })?;
         }
         Ok(())
     }
@@ -146,7 +155,7 @@ impl Laid {
             (to.new.items ≡ to.old.items ++ map context_line self.now.plan.contexts.items) }
     {
         for core in &self.plan.contexts {
-            to.push(BootLine::Context { core: *core })?;
+            push(to, BootLine::Context { core: *core })?;
         }
         Ok(())
     }
@@ -182,7 +191,7 @@ impl Laid {
             to.old.items ++ map (thread_line self.now.layouts.items) self.now.plan.threads.items) }
     {
         for thread in &self.plan.threads {
-            to.push(self.thread_line(thread))?;
+            push(to, self.thread_line(thread))?;
         }
         Ok(())
     }
@@ -203,12 +212,12 @@ impl Laid {
         let Some(cap) = cap else {
             return Ok(());
         };
-        to.push(BootLine::Slot {
+        let line = BootLine::Slot {
             cnode: site.cnode(index),
             index: (index % 256) as u8,
             cap: self.guarded(site.place, &cap),
-        })?;
-        Ok(())
+        };
+        push(to, line)
     }
 
     /// Adds the lines that fill the slots of a space.
@@ -263,21 +272,21 @@ impl Laid {
             (to.new.items ≡ to.old.items ++ map tie_line self.now.plan.ties.items) }
     {
         for tie in &self.plan.ties {
-            to.push(BootLine::Tie {
+            let line = BootLine::Tie {
                 thread: tie.thread,
                 notification: tie.notification,
-            })?;
+            };
+            push(to, line)?;
         }
         Ok(())
     }
 
-    /// The lines of a boot that a machine may have, after that of its cores.
-    fn lines(&self, alloc: Global) -> Result<Vec<BootLine>, AllocError>
+    /// Adds the lines of a boot that a machine may have, after that of its cores.
+    fn add_lines(&self, to: &mut Vec<BootLine>) -> Result<(), AllocError>
         requires { Fits self.now.plan }
-        ensures { IfOk result (λ ls. ls.items ≡ boot_of self.now.plan self.now.layouts.items) }
+        ensures { OnOk result
+            (to.new.items ≡ to.old.items ++ boot_of self.now.plan self.now.layouts.items) }
     {
-        let mut lines = Vec::new(alloc);
-        let to = &mut lines;
         self.make_roots(to)?;
         add_times(to, &BootLine::CNode { radix: LEAF }, self.plan.leaves())?;
         self.make_objects(to, Kind::Endpoint, &BootLine::Endpoint)?;
@@ -286,7 +295,16 @@ impl Laid {
         self.make_contexts(to)?;
         self.make_threads(to)?;
         self.fill_all(to)?;
-        self.bind_all(to)?;
+        self.bind_all(to)
+    }
+
+    /// The lines of a boot that a machine may have, after that of its cores.
+    fn lines(&self, alloc: Global) -> Result<Vec<BootLine>, AllocError>
+        requires { Fits self.now.plan }
+        ensures { IfOk result (λ ls. ls.items ≡ boot_of self.now.plan self.now.layouts.items) }
+    {
+        let mut lines = Vec::new(alloc);
+        self.add_lines(&mut lines)?;
         Ok(lines)
     }
 

@@ -7,8 +7,10 @@ pub mod Lines
 pub mod Making
 pub mod Objects
 pub mod Order
+pub mod Parts
 pub mod Refusals
 pub mod Saying
+pub mod Showing
 pub mod SlotRefusals
 pub mod Slots
 pub mod ThreadLines

@@ -1,72 +1,125 @@
 //! Why a plan is refused.
+use crate::Shown;
 use mcs_types::{BootFault, OutOfMemory};
 use std::alloc::{AllocError, AllocFailed};
 use std::fmt;
-use thiserror::Error;
 
 /// Why a line of a plan is refused. The report names the word, and where a name is not there those
 /// that are.
-#[derive(Debug, Drop, Error)]
+#[derive(Debug, Drop)]
 pub enum Why {
-    #[error("its bytes are no text")]
     NotText,
-    #[error("\"{word}\" begins no line of a plan")]
     Unknown {
         word: String,
     },
-    #[error("{wanted} is missing at the end")]
     Missing {
         wanted: &'static str,
     },
-    #[error("\"{word}\" is one word too many")]
     TooMany {
         word: String,
     },
-    #[error("\"{word}\" is not {wanted}")]
     Not {
         word: String,
         wanted: &'static str,
     },
-    #[error("\"{word}\" is named twice")]
     Twice {
         word: String,
     },
-    #[error("\"{word}\" is not the name of {wanted}; there are: {there}")]
     NoName {
         word: String,
         wanted: &'static str,
         there: String,
     },
-    #[error("\"{holder}\" has no capability \"{word}\"; it has: {there}")]
     NoCapability {
         holder: String,
         word: String,
         there: String,
     },
-    #[error("more than {limit} {what}")]
     Limit {
         what: &'static str,
         limit: u32,
     },
-    #[error("\"cores\" stands behind a thread or a context")]
     LateCores,
-    #[error("\"{word}\" is bound already")]
     Bound {
         word: String,
     },
-    #[error("this line stands behind the first step")]
     Late,
-    #[error("no step stands before this line")]
     NoStep,
-    #[error("steps and lines of users do not go together")]
     Mixed,
-    #[error("a passive thread receives in a step, and these are lines of users")]
     PassiveUser,
-    #[error("the boot is refused: {0}")]
     Boot(BootFault),
-    #[error("out of memory")]
     OutOfMemory,
 }
+
+/// Writes a word, and what is said of it.
+fn say<W: fmt::Write>(f: &mut fmt::Formatter<W>, word: &String, what: &'static str) -> fmt::Result {
+    let shown = Shown {
+        text: word.as_str(),
+    };
+    write!(f, "{shown}{what}")
+}
+
+/// Writes that a word is no name of what is wanted, and those that are there.
+fn say_no_name<W: fmt::Write>(
+    f: &mut fmt::Formatter<W>,
+    word: &String,
+    wanted: &'static str,
+    there: &String,
+) -> fmt::Result {
+    say(f, word, " is not the name of ")?;
+    write!(f, "{wanted}; there are: {there}")
+}
+
+/// Writes that a thread or a space has no capability of a name, and those that it has.
+fn say_no_capability<W: fmt::Write>(
+    f: &mut fmt::Formatter<W>,
+    holder: &String,
+    word: &String,
+    there: &String,
+) -> fmt::Result {
+    say(f, holder, " has no capability ")?;
+    say(f, word, "; it has: ")?;
+    f.write_str(there.as_str())
+}
+
+impl fmt::Display for Why {
+    fn fmt<W: fmt::Write>(&self, f: &mut fmt::Formatter<W>) -> fmt::Result {
+        match self {
+            Why::NotText => f.write_str("its bytes are no text"),
+            Why::Unknown { word } => say(f, word, " begins no line of a plan"),
+            Why::Missing { wanted } => write!(f, "{wanted} is missing at the end"),
+            Why::TooMany { word } => say(f, word, " is one word too many"),
+            Why::Not { word, wanted } => {
+                say(f, word, " is not ")?;
+                f.write_str(wanted)
+            }
+            Why::Twice { word } => say(f, word, " is named twice"),
+            Why::NoName {
+                word,
+                wanted,
+                there,
+            } => say_no_name(f, word, wanted, there),
+            Why::NoCapability {
+                holder,
+                word,
+                there,
+            } => say_no_capability(f, holder, word, there),
+            Why::Limit { what, limit } => write!(f, "more than {limit} {what}"),
+            Why::LateCores => f.write_str("\"cores\" stands behind a thread or a context"),
+            Why::Bound { word } => say(f, word, " is bound already"),
+            Why::Late => f.write_str("this line stands behind the first step"),
+            Why::NoStep => f.write_str("no step stands before this line"),
+            Why::Mixed => f.write_str("steps and lines of users do not go together"),
+            Why::PassiveUser => {
+                f.write_str("a passive thread receives in a step, and these are lines of users")
+            }
+            Why::Boot(fault) => write!(f, "the boot is refused: {fault}"),
+            Why::OutOfMemory => f.write_str("out of memory"),
+        }
+    }
+}
+
+impl std::error::Error for Why {}
 
 impl From<AllocError> for Why {
     ghost use Rattle.std.specs.Prelude.{◌≡◌};

@@ -8,6 +8,7 @@ mod names;
 mod plan;
 mod reading;
 mod rights;
+mod shown;
 mod telling;
 mod words;
 
@@ -15,5 +16,6 @@ pub use fault::{PlanFault, Why};
 pub use names::{Names, add_word, limit_of, plural, singular};
 pub use plan::{Passive, Plan, STARTER, Slot, Space, Thread, Tie};
 pub use rights::rights_of;
+pub use shown::Shown;
 pub use telling::tell_names;
 pub use words::{Words, is_like_id, is_name, is_white, not, number, split_comment, split_words};

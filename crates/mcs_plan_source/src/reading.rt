@@ -6,6 +6,7 @@ ghost use Rattle.mcs_types.specs.Limits.{core_limit};
 ghost use Rattle.mcs_plan_source.specs.Naming.{next_of, texts};
 ghost use Rattle.mcs_plan_source.specs.Lines.{object_more, objects_line, held_by, says_as, has_slot, usual_name, given_name, slot_name, slot_added, slot_more, slot_kept, slots_more, has_line, tie_line, cores_line};
 ghost use Rattle.mcs_plan_source.specs.Order.{IsInOrder, IsWhole};
+ghost use Rattle.mcs_plan_source.specs.Parts.{with_last_space, in_then, passive_then, form_added};
 ghost use Rattle.mcs_plan_source.specs.Refusals.{Refuses, TellsOfLine};
 ghost use Rattle.mcs_plan_source.specs.Saying.{said, with_thread};
 ghost use Rattle.mcs_plan_source.specs.ThreadLines.{core_then, receiving_then, without_then, part_then, next_part, parts_then, plain_form, form_said, form_of, said_receiving, context_more, space_more, own_context, with_own_context, with_own_space, thread_more, with_passive, thread_said, thread_line, on_then, context_line, radix_then, cnode_line, line_begun, says_has, ReadsLine, RefusesLine};
@@ -113,6 +114,75 @@ fn read_without(alloc: Global, words: &mut Words<'_>) -> Result<bool, Why>
     Ok(false)
 }
 
+/// Returns what a thread's line says where no part says otherwise.
+fn new_form() -> ThreadForm
+    ensures { form_of result ≡ plain_form }
+{
+    ThreadForm {
+        priority: None,
+        maximum: 255,
+        core: 0,
+        runs: true,
+        has_context: true,
+        space: None,
+        passive: None,
+    }
+}
+
+/// Reads the words of `on EP with REPLY`. Returns the two names.
+fn receiving_words<'a>(alloc: Global, words: &mut Words<'a>) -> Result<(&'a str, &'a str), Why>
+    ensures said { IfOk result (λ r. receiving_then words.old
+        ≡ Ok (record { endpoint = r.0.now; reply = r.1.now }, words.new)) }
+    ensures told { IfErr result (Refuses (receiving_then words.old)) }
+{
+    words.expect(alloc, "on")?;
+    let endpoint = words.need("the name of a capability")?;
+    words.expect(alloc, "with")?;
+    let reply = words.need("the name of a capability")?;
+    Ok((endpoint, reply))
+}
+
+/// Returns copies of the names of two capabilities.
+fn receiving_of(alloc: Global, endpoint: &str, reply: &str) -> Result<Receiving, AllocError>
+    ensures { IfOk result (λ r.
+        said_receiving r ≡ record { endpoint = endpoint.now; reply = reply.now }) }
+{
+    Ok(Receiving {
+        endpoint: String::from_str(alloc, endpoint)?,
+        reply: String::from_str(alloc, reply)?,
+    })
+}
+
+/// Reads what a passive thread receives with: `on EP with REPLY`.
+fn read_receiving(alloc: Global, words: &mut Words<'_>) -> Result<Receiving, Why>
+    ensures said { IfOk result (λ r. receiving_then words.old ≡ Ok (said_receiving r, words.new)) }
+    ensures told { IfErr result (Refuses (receiving_then words.old)) }
+{
+    let (endpoint, reply) = receiving_words(alloc, words)?;
+    Ok(receiving_of(alloc, endpoint, reply)?)
+}
+
+/// Reads `passive on EP with REPLY`, after its first word.
+fn read_passive(alloc: Global, words: &mut Words<'_>, form: &mut ThreadForm) -> Result<(), Why>
+    ensures said { OnOk result
+        (passive_then words.old (form_of form.old) ≡ Ok (form_of form.new, words.new)) }
+    ensures told { IfErr result (Refuses (passive_then words.old (form_of form.old))) }
+{
+    form.passive = Some(read_receiving(alloc, words)?);
+    Ok(())
+}
+
+/// Reads `in SPACE`, after its first word.
+fn read_in(alloc: Global, words: &mut Words<'_>, form: &mut ThreadForm) -> Result<(), Why>
+    ensures said { OnOk result
+        (in_then words.old (form_of form.old) ≡ Ok (form_of form.new, words.new)) }
+    ensures told { IfErr result (Refuses (in_then words.old (form_of form.old))) }
+{
+    let space = words.need("the name of a space")?;
+    form.space = Some(String::from_str(alloc, space)?);
+    Ok(())
+}
+
 /// Whether the next word is `has`.
 fn says_has(words: &Words<'_>) -> bool
     ensures { result ≡ says_has words.now }
@@ -182,6 +252,14 @@ impl Plan {
         Ok(context)
     }
 
+    /// Adds a space without slots after the others.
+    fn push_space(&mut self, alloc: Global, radix: Option<u8>) -> Result<(), AllocError>
+        ensures added { OnOk result (said self.new ≡ with_last_space radix (said self.old)) }
+    {
+        self.spaces.push(Space::new(alloc, radix))?;
+        Ok(())
+    }
+
     /// Adds a space.
     fn add_space(&mut self, alloc: Global, name: &str, radix: Option<u8>) -> Result<usize, Why>
         ensures place { IfOk result (λ place. place ≡ length self.old.spaces.items) }
@@ -191,7 +269,7 @@ impl Plan {
     {
         self.names.add(alloc, Kind::CNode, name)?;
         let place = self.spaces.len();
-        self.spaces.push(Space::new(alloc, radix))?;
+        self.push_space(alloc, radix)?;
         self.keeps_limit(Kind::CNode)?;
         Ok(place)
     }
@@ -232,72 +310,43 @@ impl Plan {
         Ok(())
     }
 
-    /// Reads what a passive thread receives with: `on EP with REPLY`.
-    fn read_receiving(alloc: Global, words: &mut Words<'_>) -> Result<Receiving, Why>
-        ensures said { IfOk result (λ r.
-            receiving_then words.old ≡ Ok (said_receiving r, words.new)) }
-        ensures told { IfErr result (Refuses (receiving_then words.old)) }
-    {
-        words.expect(alloc, "on")?;
-        let endpoint = words.need("the name of a capability")?;
-        words.expect(alloc, "with")?;
-        let reply = words.need("the name of a capability")?;
-        Ok(Receiving {
-            endpoint: String::from_str(alloc, endpoint)?,
-            reply: String::from_str(alloc, reply)?,
-        })
-    }
-
     /// Reads a part of a thread's line.
     fn read_part(
         &self,
         alloc: Global,
         words: &mut Words<'_>,
         part: &str,
-        form: ThreadForm,
-    ) -> Result<ThreadForm, Why>
-        ensures said { IfOk result (λ f.
-            part_then self.now.cores part.now words.old (form_of form)
-            ≡ Ok (form_of f, words.new)) }
+        form: &mut ThreadForm,
+    ) -> Result<(), Why>
+        ensures said { OnOk result
+            (part_then self.now.cores part.now words.old (form_of form.old)
+            ≡ Ok (form_of form.new, words.new)) }
         ensures told { IfErr result
-            (Refuses (part_then self.now.cores part.now words.old (form_of form))) }
+            (Refuses (part_then self.now.cores part.now words.old (form_of form.old))) }
     {
         match part {
             "prio" => {
-                let priority = byte(alloc, words, "a priority, 0 to 255", 255)?;
-                Ok(ThreadForm {
-                    priority: Some(priority),
-                    ..form
-                })
+                form.priority = Some(byte(alloc, words, "a priority, 0 to 255", 255)?);
+                Ok(())
             }
             "max" => {
-                let maximum = byte(alloc, words, "a priority, 0 to 255", 255)?;
-                Ok(ThreadForm { maximum, ..form })
+                form.maximum = byte(alloc, words, "a priority, 0 to 255", 255)?;
+                Ok(())
             }
             "on" => {
-                let core = self.read_core(alloc, words)?;
-                Ok(ThreadForm { core, ..form })
+                form.core = self.read_core(alloc, words)?;
+                Ok(())
             }
-            "stopped" => Ok(ThreadForm {
-                runs: false,
-                ..form
-            }),
+            "stopped" => {
+                form.runs = false;
+                Ok(())
+            }
             "without" => {
-                let has_context = read_without(alloc, words)?;
-                Ok(ThreadForm {
-                    has_context,
-                    ..form
-                })
+                form.has_context = read_without(alloc, words)?;
+                Ok(())
             }
-            "in" => {
-                let space = words.need("the name of a space")?;
-                let space = Some(String::from_str(alloc, space)?);
-                Ok(ThreadForm { space, ..form })
-            }
-            "passive" => {
-                let passive = Some(Plan::read_receiving(alloc, words)?);
-                Ok(ThreadForm { passive, ..form })
-            }
+            "in" => read_in(alloc, words, form),
+            "passive" => read_passive(alloc, words, form),
             _ => {
                 let wanted = "prio, max, on, stopped, without, in or passive";
                 Err(not(alloc, part, wanted))
@@ -310,40 +359,38 @@ impl Plan {
         &self,
         alloc: Global,
         words: &mut Words<'_>,
-        form: ThreadForm,
-    ) -> Result<ThreadForm, Why>
-        ensures said { IfOk result (λ f.
-            next_part self.now.cores words.old (form_of form) ≡ Ok (form_of f, words.new)) }
+        form: &mut ThreadForm,
+    ) -> Result<(), Why>
+        ensures said { OnOk result
+            (next_part self.now.cores words.old (form_of form.old)
+            ≡ Ok (form_of form.new, words.new)) }
         ensures told { IfErr result
-            (Refuses (next_part self.now.cores words.old (form_of form))) }
+            (Refuses (next_part self.now.cores words.old (form_of form.old))) }
     {
         match words.next() {
             Some(part) => self.read_part(alloc, words, part, form),
-            None => Ok(form),
+            None => Ok(()),
         }
     }
 
     /// Reads the parts of a thread's line, as far as it goes.
     #[tactic(auto, using(crate::proofs::Turns::parts_turn, crate::proofs::Turns::parts_last))]
-    fn read_parts(&self, alloc: Global, words: &mut Words<'_>) -> Result<ThreadForm, Why>
-        ensures said { IfOk result (λ f.
-            parts_then (length words.old) self.now.cores words.old plain_form ≡ Ok (form_of f)) }
-        ensures told { IfErr result
-            (Refuses (parts_then (length words.old) self.now.cores words.old plain_form)) }
+    fn read_parts(
+        &self,
+        alloc: Global,
+        words: &mut Words<'_>,
+        form: &mut ThreadForm,
+    ) -> Result<(), Why>
+        ensures said { OnOk result
+            (parts_then (length words.old) self.now.cores words.old (form_of form.old)
+            ≡ Ok (form_of form.new)) }
+        ensures told { IfErr result (Refuses
+            (parts_then (length words.old) self.now.cores words.old (form_of form.old))) }
     {
-        let mut form = ThreadForm {
-            priority: None,
-            maximum: 255,
-            core: 0,
-            runs: true,
-            has_context: true,
-            space: None,
-            passive: None,
-        };
         for _ in 0..words.len() {
-            form = self.read_next(alloc, words, form)?;
+            self.read_next(alloc, words, form)?;
         }
-        Ok(form)
+        Ok(())
     }
 
     /// Reads what a thread's line says after its name.
@@ -351,7 +398,8 @@ impl Plan {
         ensures said { IfOk result (λ f. form_said self.now.cores words.old ≡ Ok (form_of f)) }
         ensures told { IfErr result (Refuses (form_said self.now.cores words.old)) }
     {
-        let form = self.read_parts(alloc, words)?;
+        let mut form = new_form();
+        self.read_parts(alloc, words, &mut form)?;
         if form.passive.is_some() && !form.has_context {
             return Err(not(alloc, "without", "a part of a passive thread"));
         }
@@ -459,6 +507,27 @@ impl Plan {
         Ok(())
     }
 
+    /// Adds a thread of this name, of which its line says this. Missing where it has no priority.
+    fn put_form(
+        &mut self,
+        alloc: Global,
+        line: u64,
+        name: &str,
+        form: &ThreadForm,
+    ) -> Result<(), Why>
+        ensures added { OnOk result
+            (form_added line name.now (form_of form.now) (said self.old) ≡ Ok (said self.new)) }
+        ensures told { IfErr result
+            (Refuses (form_added line name.now (form_of form.now) (said self.old))) }
+    {
+        let Some(priority) = form.priority else {
+            return Err(Why::Missing { wanted: "prio" });
+        };
+        let thread = self.add_thread(alloc, name, priority, form)?;
+        self.add_passive(line, thread, &form.passive)?;
+        Ok(())
+    }
+
     /// Adds a thread as its line says it.
     fn put_thread(&mut self, alloc: Global, line: u64, words: &mut Words<'_>) -> Result<(), Why>
         ensures added { OnOk result
@@ -467,12 +536,7 @@ impl Plan {
     {
         let name = words.need("a name")?;
         let form = self.read_form(alloc, words)?;
-        let Some(priority) = form.priority else {
-            return Err(Why::Missing { wanted: "prio" });
-        };
-        let thread = self.add_thread(alloc, name, priority, &form)?;
-        self.add_passive(line, thread, &form.passive)?;
-        Ok(())
+        self.put_form(alloc, line, name, &form)
     }
 
     /// Reads the line of a thread.

@@ -2,6 +2,23 @@
 use indexmap::IndexMap;
 use std::alloc::{AllocError, Global};
 
+/// Adds the name that a line `#@ OBJECT NAME` of a script gives.
+fn add_name<'a>(
+    alloc: Global,
+    names: &mut IndexMap<Vec<u8>, &'a [u8]>,
+    line: &'a [u8],
+) -> Result<(), AllocError> {
+    let [b'#', b'@', b' ', text @ ..] = line else {
+        return Ok(());
+    };
+    let mut words = text.split(|byte| *byte == b' ');
+    let (Some(object), Some(name)) = (words.next(), words.next()) else {
+        return Ok(());
+    };
+    names.insert(Vec::from_slice(alloc, object)?, name)?;
+    Ok(())
+}
+
 /// The names that the lines `#@ OBJECT NAME` of a script give; the last for an object holds.
 fn names_of<'a>(
     alloc: Global,
@@ -9,14 +26,7 @@ fn names_of<'a>(
 ) -> Result<IndexMap<Vec<u8>, &'a [u8]>, AllocError> {
     let mut names = IndexMap::new(alloc);
     for line in script.split(|byte| *byte == b'\n') {
-        let [b'#', b'@', b' ', text @ ..] = line else {
-            continue;
-        };
-        let mut words = text.split(|byte| *byte == b' ');
-        let (Some(object), Some(name)) = (words.next(), words.next()) else {
-            continue;
-        };
-        names.insert(Vec::from_slice(alloc, object)?, name)?;
+        add_name(alloc, &mut names, line)?;
     }
     Ok(names)
 }
@@ -40,29 +50,53 @@ fn add_told(
     Ok(())
 }
 
+/// Adds the words of a line by their names.
+fn add_words(
+    to: &mut Vec<u8>,
+    names: &IndexMap<Vec<u8>, &[u8]>,
+    line: &[u8],
+) -> Result<(), AllocError> {
+    let mut between: &[u8] = b"";
+    for word in line.split(|byte| *byte == b' ') {
+        to.extend_from_slice(between)?;
+        between = b" ";
+        add_told(to, names, word)?;
+    }
+    Ok(())
+}
+
+/// Adds a line by its names; as it is where it begins with `#`.
+fn add_line(
+    to: &mut Vec<u8>,
+    names: &IndexMap<Vec<u8>, &[u8]>,
+    line: &[u8],
+) -> Result<(), AllocError> {
+    if line.first() == Some(&b'#') {
+        return to.extend_from_slice(line);
+    }
+    add_words(to, names, line)
+}
+
+/// Adds the lines of a trace by their names.
+fn add_lines(
+    to: &mut Vec<u8>,
+    names: &IndexMap<Vec<u8>, &[u8]>,
+    trace: &[u8],
+) -> Result<(), AllocError> {
+    let mut between: &[u8] = b"";
+    for line in trace.split(|byte| *byte == b'\n') {
+        to.extend_from_slice(between)?;
+        between = b"\n";
+        add_line(to, names, line)?;
+    }
+    Ok(())
+}
+
 /// A trace, in which each object has the name that the script gives it. Lines that begin with `#`
 /// stay as they are.
 pub fn tell_names(alloc: Global, script: &[u8], trace: &[u8]) -> Result<Vec<u8>, AllocError> {
     let names = names_of(alloc, script)?;
     let mut to = Vec::new(alloc);
-    let mut is_first_line = true;
-    for line in trace.split(|byte| *byte == b'\n') {
-        if !is_first_line {
-            to.extend_from_slice(b"\n")?;
-        }
-        is_first_line = false;
-        if line.first() == Some(&b'#') {
-            to.extend_from_slice(line)?;
-            continue;
-        }
-        let mut is_first = true;
-        for word in line.split(|byte| *byte == b' ') {
-            if !is_first {
-                to.extend_from_slice(b" ")?;
-            }
-            is_first = false;
-            add_told(&mut to, &names, word)?;
-        }
-    }
+    add_lines(&mut to, &names, trace)?;
     Ok(to)
 }
