@@ -1,7 +1,8 @@
 #!/bin/sh
 # Draws each script of steps of the gallery and of examples/ with PROGRAM (a built mcslab): each SVG must be accepted by xmllint and
-# become a PNG, and each page is stepped through in Chromium. The pictures that are kept are written anew with --keep.
-# Packages: libxml2-utils, librsvg2-bin, chromium, nodejs.
+# become a PNG, each page is stepped through in Chromium, and two of them are looked at in several widths, light and dark (page.py).
+# The pictures that are kept are written anew with --keep.
+# Packages: libxml2-utils, librsvg2-bin, chromium, nodejs, python3.
 #
 #     tests/pictures.sh PROGRAM FOLDER [--keep]
 set -eu
@@ -19,6 +20,18 @@ for script in "$data"/*.mcs "$tests"/../examples/*.mcs; do
     "$program" draw --format html "$script" > "$folder/$name.html"
     node --experimental-websocket "$tests/step-through.mjs" "$folder/$name.html"
 done
+
+# a page with four lanes, and one with fourteen
+{
+    printf '# Fourteen threads signal, one after the other.\ncores 1\ncnode 4\nnotification\n'
+    seq 14 | sed 's/.*/context 0/'
+    seq -f 'thread 10 255 c1 60 0 run s%g' 14
+    printf 'slot c1 1 n1 w 1\n'
+    seq -f '0 t%g signal 1' 14
+} > "$folder/fourteen.mcs"
+"$program" draw --format html "$folder/fourteen.mcs" > "$folder/fourteen.html"
+python3 "$tests/page.py" "$folder/passive-server.html" "$folder/fourteen.html"
+
 if [ "$keep" = --keep ]; then
     for kept in "$data"/*.svg "$data"/*.mmd "$data"/*.html "$tests"/../examples/*.svg; do
         cp "$folder/$(basename "$kept")" "$kept"

@@ -4,3 +4,4 @@ pub mod Looks
 pub mod Picks
 pub mod Turned
 pub mod Drawn
+pub mod Dropped

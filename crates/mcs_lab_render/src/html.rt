@@ -1,61 +1,136 @@
-//! The picture as a page of its own, through which a reader steps by keys and by a slider.
+//! The picture as a page of its own, through which a reader steps by keys, by a slider, and by
+//! clicks on rows. The panel with the step is beside the picture, and below it in narrow windows;
+//! both scroll by themselves, so neither hides the other. The heads of the lanes stay in sight.
 use crate::naming::Names;
 use crate::svg::svg_of;
+use crate::texts::put_escaped;
 use mcs_lab_diagram::{Drawing, Window};
 use std::alloc::{AllocError, Global};
 use std::fmt::Write;
 
-/// What is before the picture.
-const BEFORE: &str = "<!DOCTYPE html>
+/// What is before the title.
+const HEAD: &str = "<!DOCTYPE html>
 <html lang=\"en\">
 <head>
 <meta charset=\"utf-8\">
+<meta name=\"viewport\" content=\"width=device-width\">
 <meta name=\"color-scheme\" content=\"light dark\">
-<title>A run of mcssim</title>
+<title>";
+
+/// What is between the title and the picture.
+const BEFORE: &str = "</title>
 <style>
-body{margin:0;font:13px system-ui,sans-serif}
-#side{position:fixed;right:0;top:0;bottom:0;width:26em;padding:1em;overflow:auto;box-sizing:border-box;background:Canvas;color:CanvasText;border-left:1px solid #8888}
+html,body{height:100%}
+body{margin:0;font:13px system-ui,sans-serif;background:#fff;color:#111}
+body.stepping{display:grid;grid-template:minmax(0,1fr)/minmax(0,1fr) 26em}
+main{overflow:auto}
+main>svg{display:block}
+#side{overflow:auto;padding:1em;box-sizing:border-box;border-left:1px solid #8888}
+#side h1{font-size:1.1em;margin:0 0 1em}
 #side input{width:100%}
+#step{min-height:3em}
 #states{padding-left:1.2em}
 #states li{margin:.3em 0}
-body.stepping main{margin-right:26em}
+:focus-visible{outline:3px solid #0072b2;outline-offset:-3px}
+#heads{position:sticky;top:0;box-shadow:0 1px #8888;pointer-events:none}
+.stepping g.row{cursor:pointer}
 g.row.here text{text-decoration:underline;font-weight:bold}
 g.bar.past,path.arrow.past{opacity:.25}
+.band{fill:#0072b2;fill-opacity:.1}
+@media (max-width:60em){
+body.stepping{grid-template:minmax(0,1fr) auto/minmax(0,1fr)}
+#side{max-height:40vh;border-left:0;border-top:1px solid #8888}
+#step{min-height:0}
+}
+@media (prefers-color-scheme:dark){
+body{background:#161616;color:#eee}
+:focus-visible{outline-color:#56b4e9}
+.band{fill:#56b4e9;fill-opacity:.15}
+}
+@media print{
+body.stepping{display:block}
+#side{display:none}
+}
 </style>
 </head>
 <body>
-<main>
+<main tabindex=\"0\" aria-label=\"The picture\">
 ";
 
-/// What follows the picture, before the numbers of the first line and the last.
+/// What follows the picture, before the title in the panel.
 const BETWEEN: &str = "</main>
 <aside id=\"side\" hidden>
-<p><label for=\"slider\">Behind line <output id=\"number\"></output></label> (keys: arrows, Home, End)</p>
+<h1>";
+
+/// What follows that title, before the numbers of the first line and the last.
+const PANEL: &str = "</h1>
+<p><label for=\"slider\">Behind line <output id=\"number\"></output></label> (keys: up, down, Home, End; or click a row)</p>
 <input id=\"slider\" type=\"range\" ";
 
 /// What follows those numbers.
 const BEHIND: &str = ">
-<p id=\"step\"></p>
+<p><button id=\"back\" type=\"button\">Back</button> <button id=\"next\" type=\"button\">Next</button></p>
+<p id=\"step\" aria-live=\"polite\"></p>
 <ul id=\"states\"></ul>
 </aside>
 <script>
 (() => {
-  const slider = document.getElementById('slider');
-  const side = document.getElementById('side');
-  const bars = [...document.querySelectorAll('g.bar')];
-  const arrows = [...document.querySelectorAll('path.arrow[data-line]')];
+  const find = id => document.getElementById(id);
+  const main = document.querySelector('main');
+  const picture = main.querySelector('svg');
+  const ground = picture.querySelector('rect.ground');
+  const slider = find('slider');
+  const rows = [...picture.querySelectorAll('g.row')];
+  const bars = [...picture.querySelectorAll('g.bar')];
+  const arrows = [...picture.querySelectorAll('path.arrow[data-line]')];
+  find('side').hidden = false;
+  document.body.classList.add('stepping');
+  // where rows begin, and where the last one ends
+  const edges = rows.map(row => row.getBBox().y - 4);
+  edges.push(picture.querySelector('text.strong').getBBox().y - 8);
+  // the heads of the lanes once more, over the picture
+  const lanes = picture.querySelector('g.heads');
+  const box = lanes.getBBox();
+  const above = box.width > 0 ? box.y + box.height + 6 : 0;
+  const heads = picture.cloneNode(false);
+  for (const name of ['role', 'viewBox']) heads.removeAttribute(name);
+  heads.id = 'heads';
+  heads.setAttribute('aria-hidden', 'true');
+  heads.setAttribute('height', above);
+  heads.style.marginBottom = -above + 'px';
+  heads.append(ground.cloneNode(), lanes.cloneNode(true));
+  main.prepend(heads);
+  // the title of the whole picture is no hint over each part of it
+  const title = picture.querySelector(':scope > title');
+  picture.setAttribute('aria-label', title.textContent);
+  title.remove();
+  const band = document.createElementNS(picture.namespaceURI, 'rect');
+  band.setAttribute('class', 'band');
+  band.setAttribute('width', '100%');
+  ground.after(band);
+  const mark = at => {
+    const row = rows[at];
+    const [top, bottom] = [edges[at], edges[at + 1]];
+    row.classList.add('here');
+    band.setAttribute('y', top);
+    band.setAttribute('height', Math.max(0, bottom - top));
+    const seen = main.clientHeight - above;
+    if (top - above < main.scrollTop || bottom > main.scrollTop + main.clientHeight)
+      main.scrollTop = top - above - Math.max(0, seen - (bottom - top)) / 3;
+    const texts = [...row.querySelectorAll('text:not(.number)')].map(text => text.textContent);
+    const number = row.querySelector('.number') ? 'Line ' + row.dataset.line + ': ' : '';
+    find('step').textContent = number + texts.join(' ');
+  };
   const show = () => {
     const line = Number(slider.value);
-    document.getElementById('number').textContent = line;
-    for (const row of document.querySelectorAll('g.row.here')) row.classList.remove('here');
-    const row = document.querySelector('g.row[data-line=\"' + line + '\"]');
-    if (row) {
-      row.classList.add('here');
-      row.scrollIntoView({ block: 'center', inline: 'nearest' });
-      document.getElementById('step').textContent =
-        [...row.querySelectorAll('text')].map(text => text.textContent).join(' ');
-    }
-    const states = document.getElementById('states');
+    find('number').textContent = line;
+    slider.setAttribute('aria-valuetext', 'line ' + line);
+    find('back').disabled = slider.value === slider.min;
+    find('next').disabled = slider.value === slider.max;
+    for (const row of rows) row.classList.remove('here');
+    const at = rows.findIndex(row => Number(row.dataset.line) === line);
+    if (at >= 0) mark(at);
+    const states = find('states');
     states.replaceChildren();
     for (const bar of bars) {
       const first = Number(bar.dataset.first), last = Number(bar.dataset.last);
@@ -70,20 +145,29 @@ const BEHIND: &str = ">
     for (const arrow of arrows) arrow.classList.toggle('past', Number(arrow.dataset.line) > line);
   };
   const go = line => { slider.value = line; show(); };
+  const move = by => go(Number(slider.value) + by);
   slider.addEventListener('input', show);
+  find('back').addEventListener('click', () => move(-1));
+  find('next').addEventListener('click', () => move(1));
+  main.addEventListener('click', event => {
+    if (String(getSelection()) || event.clientY < heads.getBoundingClientRect().bottom) return;
+    const at = event.clientY - picture.getBoundingClientRect().top;
+    const row = rows.findIndex((_, i) => edges[i] <= at && at < edges[i + 1]);
+    if (row >= 0) go(rows[row].dataset.line);
+  });
+  // the arrow keys to the left and to the right scroll
   document.addEventListener('keydown', event => {
-    const line = Number(slider.value);
+    if (event.altKey || event.ctrlKey || event.metaKey || event.shiftKey) return;
     switch (event.key) {
-      case 'ArrowDown': case 'ArrowRight': go(line + 1); break;
-      case 'ArrowUp': case 'ArrowLeft': go(line - 1); break;
+      case 'ArrowDown': move(1); break;
+      case 'ArrowUp': move(-1); break;
       case 'Home': go(slider.min); break;
       case 'End': go(slider.max); break;
       default: return;
     }
     event.preventDefault();
   });
-  side.hidden = false;
-  document.body.classList.add('stepping');
+  main.focus({ preventScroll: true });
   show();
 })();
 </script>
@@ -91,21 +175,28 @@ const BEHIND: &str = ">
 </html>
 ";
 
-/// The picture of a window of a drawing, as a page that needs no other.
+/// Returns the picture of a window of a drawing, as a page with this title that needs no other. It
+/// begins at the first line that is shown.
 pub fn html_of<N: Names>(
     alloc: Global,
     drawing: &Drawing,
     names: &N,
     window: Window,
+    title: &str,
 ) -> Result<String, AllocError> {
     let shown = drawing.shown(window);
-    let picture = svg_of(alloc, drawing, names, window)?;
+    let picture = svg_of(alloc, drawing, names, window, title)?;
     let mut page = String::new(alloc);
+    page.push_str(HEAD)?;
+    put_escaped(&mut page, title)?;
     page.push_str(BEFORE)?;
     page.push_str(picture.as_str())?;
     page.push_str(BETWEEN)?;
+    put_escaped(&mut page, title)?;
+    page.push_str(PANEL)?;
     let (first, last) = (shown.first.saturating_sub(1), shown.last);
-    write!(page, "min=\"{first}\" max=\"{last}\" value=\"{last}\"")?;
+    let value = shown.first.min(last);
+    write!(page, "min=\"{first}\" max=\"{last}\" value=\"{value}\"")?;
     page.push_str(BEHIND)?;
     Ok(page)
 }

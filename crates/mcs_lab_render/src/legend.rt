@@ -1,8 +1,9 @@
 //! What is below the lanes: what every thread does at the end, and what the colours and lines mean.
 use crate::bars::{put_coloured, put_state};
 use crate::naming::{Names, put_full_name};
-use crate::paper::{Area, put_area, put_text};
-use crate::plans::{COLUMN, Plan, SLOT};
+use crate::notes::is_ready;
+use crate::paper::{Area, put_area, put_lost_line, put_text};
+use crate::plans::{COLUMN, NoteKind, Plan, RowKind, SLOT};
 use crate::texts::columns;
 use mcs_lab_diagram::{Drawing, Look, Window};
 use mcs_types::{Kind, ObjId};
@@ -99,6 +100,53 @@ fn put_line(to: &mut String, class: &str, area: Area) -> Result<(), AllocError> 
     )
 }
 
+/// What of the legend is seen on a page: threads that are ready while another runs, threads that
+/// are ready without a context, and sends that reached nobody.
+#[derive(Clone, Copy)]
+struct Seen {
+    is_passed_over: bool,
+    is_bare: bool,
+    is_lost: bool,
+}
+
+impl Seen {
+    /// Sees how a thread looks.
+    fn see(&mut self, look: Look, is_picked: bool) {
+        if !is_ready(look.status) {
+            return;
+        }
+        if look.context.is_none() {
+            self.is_bare = true;
+        } else if !is_picked {
+            self.is_passed_over = true;
+        }
+    }
+}
+
+/// Returns what is seen on a page.
+fn seen_in(drawing: &Drawing, plan: &Plan) -> Seen {
+    let mut seen = Seen {
+        is_passed_over: false,
+        is_bare: false,
+        is_lost: false,
+    };
+    for row in plan.rows.iter() {
+        if row.kind == RowKind::Away {
+            continue;
+        }
+        for lane in 0..drawing.threads() {
+            let is_picked = drawing.is_picked(row.number, drawing.thread(lane));
+            seen.see(drawing.look(row.number, lane), is_picked);
+        }
+    }
+    for note in plan.notes.iter() {
+        if note.kind == NoteKind::Lost {
+            seen.is_lost = true;
+        }
+    }
+    seen
+}
+
 /// Adds the legend below this height, and gives the height below it.
 pub fn put_legend<N: Names>(
     alloc: Global,
@@ -129,19 +177,44 @@ pub fn put_legend<N: Names>(
         put_coloured(to, context, "run", area, "")?;
         put_meaning(to, area, BAR, text.as_str())?;
     }
-    put_kinds(to, &mut legend)?;
+    let seen = seen_in(drawing, plan);
+    put_bar_kinds(to, &mut legend, seen)?;
+    put_arrow_kinds(to, &mut legend, seen)?;
     Ok(legend.y)
 }
 
-/// Adds what bars and arrows without a colour of their own mean.
-fn put_kinds(to: &mut String, legend: &mut Legend) -> Result<(), AllocError> {
+/// Adds what bars of ready threads mean that do not run.
+fn put_ready_kinds(
+    to: &mut String,
+    legend: &mut Legend,
+    seen: Seen,
+    first: ObjId,
+) -> Result<(), AllocError> {
+    if seen.is_passed_over {
+        let area = legend.next(BAR, "ready, another runs");
+        put_coloured(to, first, "ready", area, "")?;
+        put_meaning(to, area, BAR, "ready, another runs")?;
+    }
+    if seen.is_bare {
+        let area = legend.next(BAR, "ready, no context");
+        let thin = Area {
+            x: area.x.saturating_add(5),
+            width: 2,
+            ..area
+        };
+        put_area(to, "bare", thin, "")?;
+        put_meaning(to, area, BAR, "ready, no context")?;
+    }
+    Ok(())
+}
+
+/// Adds what bars without a colour of their own mean.
+fn put_bar_kinds(to: &mut String, legend: &mut Legend, seen: Seen) -> Result<(), AllocError> {
     let first = ObjId {
         kind: Kind::Context,
         serial: 1,
     };
-    let area = legend.next(BAR, "ready, another runs");
-    put_coloured(to, first, "ready", area, "")?;
-    put_meaning(to, area, BAR, "ready, another runs")?;
+    put_ready_kinds(to, legend, seen, first)?;
     let area = legend.next(BAR, "waits");
     put_area(to, "wait", area, "")?;
     put_meaning(to, area, BAR, "waits")?;
@@ -151,7 +224,11 @@ fn put_kinds(to: &mut String, legend: &mut Legend) -> Result<(), AllocError> {
     put_meaning(to, area, BAR, "waits, holds a context")?;
     let area = legend.next(BAR, "inactive");
     put_area(to, "idle", area, "")?;
-    put_meaning(to, area, BAR, "inactive")?;
+    put_meaning(to, area, BAR, "inactive")
+}
+
+/// Adds what arrows mean.
+fn put_arrow_kinds(to: &mut String, legend: &mut Legend, seen: Seen) -> Result<(), AllocError> {
     for (class, text) in [
         ("message", "message"),
         ("answer", "answer"),
@@ -160,6 +237,11 @@ fn put_kinds(to: &mut String, legend: &mut Legend) -> Result<(), AllocError> {
         let area = legend.next(ARROW, text);
         put_line(to, class, area)?;
         put_meaning(to, area, ARROW, text)?;
+    }
+    if seen.is_lost {
+        let area = legend.next(ARROW, "dropped: reached nobody");
+        put_lost_line(to, "", area.x, area.y.saturating_add(7))?;
+        put_meaning(to, area, ARROW, "dropped: reached nobody")?;
     }
     Ok(())
 }

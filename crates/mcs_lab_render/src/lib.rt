@@ -14,6 +14,7 @@ mod script_names;
 mod scripts;
 mod svg;
 mod texts;
+mod titles;
 
 pub use html::html_of;
 pub use mcs_lab_diagram::Window;

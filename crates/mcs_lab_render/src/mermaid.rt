@@ -3,18 +3,71 @@ use crate::naming::{Names, put_full_name, put_id};
 use crate::plans::{Note, NoteKind, Plan, Row, RowKind, Stroke, plan_of};
 use mcs_lab_diagram::{Drawing, Shown, Window};
 use std::alloc::{AllocError, Global};
+use std::fmt::Write;
 
-/// Adds a text; what Mermaid takes for its own is written as it wants it.
-fn put_plain(to: &mut String, text: &str) -> Result<(), AllocError> {
-    for one in text.chars() {
-        match one {
-            ';' => to.push_str("#59;")?,
-            '#' => to.push_str("#35;")?,
-            '<' => to.push_str("#lt;")?,
-            '>' => to.push_str("#gt;")?,
-            _ => to.push(one)?,
+/// Words of Mermaid's own that a name may be.
+const OWN_WORDS: &[&str] = &["actor", "as", "end", "note", "participant"];
+
+/// Returns whether Mermaid takes a word for its own, in whatever case.
+fn is_own(word: &str) -> bool {
+    for own in OWN_WORDS {
+        if word.eq_ignore_ascii_case(own) {
+            return true;
         }
     }
+    false
+}
+
+/// Adds a letter by its number.
+fn put_number(to: &mut String, letter: char) -> Result<(), AllocError> {
+    let number = letter as u32;
+    write!(to, "#{number};")
+}
+
+/// Adds a word: one of Mermaid's own has its first letter by its number.
+fn put_word(to: &mut String, word: &str) -> Result<(), AllocError> {
+    if !is_own(word) {
+        return to.push_str(word);
+    }
+    let mut letters = word.chars();
+    if let Some(first) = letters.next() {
+        put_number(to, first)?;
+    }
+    to.push_str(letters.as_str())
+}
+
+/// Adds what is between words, behind this letter. What ends a statement or belongs to an arrow is
+/// written by its number or name.
+fn put_between(to: &mut String, before: char, one: char) -> Result<(), AllocError> {
+    match one {
+        ';' | '#' => put_number(to, one),
+        '-' if before == '-' => put_number(to, one),
+        '<' => to.push_str("#lt;"),
+        '>' => to.push_str("#gt;"),
+        _ => to.push(one),
+    }
+}
+
+/// Adds a text; what Mermaid takes for its own is written as it wants it.
+fn put_text(to: &mut String, text: &str) -> Result<(), AllocError> {
+    let mut word = String::new(*to.allocator());
+    let mut before = ' ';
+    for one in text.chars() {
+        if one.is_ascii_alphanumeric() || one == '_' {
+            word.push(one)?;
+        } else {
+            put_word(to, word.as_str())?;
+            word.clear();
+            put_between(to, before, one)?;
+        }
+        before = one;
+    }
+    put_word(to, word.as_str())
+}
+
+/// Adds a text, and ends the line.
+fn put_plain(to: &mut String, text: &str) -> Result<(), AllocError> {
+    put_text(to, text)?;
     to.push('\n')
 }
 
@@ -68,7 +121,7 @@ fn put_idle_step(to: &mut String, row: &Row) -> Result<(), AllocError> {
     to.push_str("    Note over ")?;
     put_id(to, thread)?;
     to.push_str(": ")?;
-    to.push_str(row.step.as_str())?;
+    put_text(to, row.step.as_str())?;
     to.push_str(" ")?;
     put_plain(to, row.told.as_str())
 }

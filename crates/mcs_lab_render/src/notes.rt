@@ -2,7 +2,7 @@
 use crate::naming::{Names, put_name, put_queue};
 use mcs_book::{Book, Line};
 use mcs_lab_diagram::{Arrow, Look, Point, Shown, Strokes};
-use mcs_types::{Ending, Kind, Message, ObjId, Rec, SendMode, Status};
+use mcs_types::{Ending, Entry, Kind, Message, ObjId, Rec, SendMode, Status};
 use std::alloc::{AllocError, Global};
 use std::fmt::Write;
 
@@ -89,6 +89,19 @@ pub fn put_label<N: Names>(
             put_name(to, names, notification)?;
             write!(to, " heard: {word}")
         }
+        _ => Ok(()),
+    }
+}
+
+/// Adds what an entry sent to nobody.
+pub fn put_lost(to: &mut String, entry: &Entry) -> Result<(), AllocError> {
+    to.push_str("to nobody")?;
+    match entry {
+        Entry::Send { message, .. }
+        | Entry::NbSend { message, .. }
+        | Entry::ReplyRecv { message, .. }
+        | Entry::NbSendRecv { message, .. }
+        | Entry::NbSendWait { message, .. } => put_message(to, message),
         _ => Ok(()),
     }
 }

@@ -45,8 +45,25 @@ pub fn put_area(to: &mut String, class: &str, area: Area, title: &str) -> Result
     to.push_str("</title></rect>\n")
 }
 
+/// How far a send that reached nobody goes, and how much farther off its lane its text is.
+const LOST: u64 = 16;
+
+pub const LOST_TEXT: u64 = 18;
+
+/// Adds the line of a send that reached nobody, from a place to the right: it ends in a cross.
+pub fn put_lost_line(to: &mut String, data: &str, x: u64, y: u64) -> Result<(), AllocError> {
+    let end = x.saturating_add(LOST);
+    let (left, right) = (end.saturating_sub(3), end.saturating_add(3));
+    let (up, down) = (y.saturating_sub(3), y.saturating_add(3));
+    write!(
+        to,
+        "<path class=\"arrow lost\"{data} d=\"M{left},{up}L{right},{down}M{left},{down}L{right},{up}M{x},{y}H{end}\"/>\n"
+    )
+}
+
 /// The page's styles: colours that most readers tell apart, by Okabe and Ito, on a light and on a
-/// dark ground.
+/// dark ground. The one that looks like an alarm comes last; a text has its hue where a step is
+/// refused.
 pub const STYLE: &str = "<style>
 text{font:11px 'DejaVu Sans Mono',Menlo,Consolas,monospace;fill:#111;paint-order:stroke;stroke:#fff;stroke-width:3px;stroke-linejoin:round}
 .ground{fill:#fff}
@@ -58,7 +75,8 @@ text{font:11px 'DejaVu Sans Mono',Menlo,Consolas,monospace;fill:#111;paint-order
 .refused{fill:#a63c00;font-weight:bold}
 .away{fill:#767676;font-style:italic}
 .note{fill:#444}
-.mark{fill:#a63c00}
+.mark{fill:#3b4a7a}
+text.lost{fill:#6b6b6b}
 .label{text-anchor:middle}
 .strong{font-weight:bold}
 .rule{stroke:#ddd}
@@ -67,14 +85,15 @@ text{font:11px 'DejaVu Sans Mono',Menlo,Consolas,monospace;fill:#111;paint-order
 .arrow{fill:none;stroke:#111;stroke-width:1.4}
 .answer{stroke-dasharray:7 3}
 .word{stroke-dasharray:2 3}
+path.lost{stroke:#8a8a8a}
 .tip{fill:#111}
 .k0{fill:#0072b2;stroke:#0072b2}
 .k1{fill:#e69f00;stroke:#e69f00}
 .k2{fill:#009e73;stroke:#009e73}
-.k3{fill:#d55e00;stroke:#d55e00}
+.k3{fill:#cc79a7;stroke:#cc79a7}
 .k4{fill:#56b4e9;stroke:#56b4e9}
-.k5{fill:#cc79a7;stroke:#cc79a7}
-.k6{fill:#f0e442;stroke:#b5a800}
+.k5{fill:#f0e442;stroke:#b5a800}
+.k6{fill:#d55e00;stroke:#d55e00}
 .run{stroke-width:1}
 .ready{fill-opacity:.3;stroke-width:1}
 .again{fill:#fff;fill-opacity:.8}
@@ -89,11 +108,14 @@ text{fill:#eee;stroke:#161616}
 .head{fill:#2a2a2a;stroke:#999}
 .number,.away{fill:#9a9a9a}
 .told{fill:#4fd1a5}
-.refused,.mark{fill:#ff9a5c}
+.refused{fill:#ff9a5c}
+.mark{fill:#b3c2f2}
+text.lost{fill:#9a9a9a}
 .note{fill:#bbb}
 .rule{stroke:#333}
 .dot,.tip{fill:#eee}
 .arrow{stroke:#eee}
+path.lost{stroke:#8a8a8a}
 .k0{fill:#3d9be0;stroke:#3d9be0}
 .bare{fill:#aaa}
 .hatch{fill:#2a2a2a}

@@ -3,11 +3,12 @@
 //! right. An arrow that waited runs down beside its lane, nearer than any text is, and crosses over
 //! within its slot. So no text is on another, on a lane, or on an arrow.
 use crate::naming::{Names, put_name};
-use crate::notes::{has_note, marked, put_label, put_look, put_mark};
+use crate::notes::{has_note, marked, put_label, put_look, put_lost, put_mark};
+use crate::paper::LOST_TEXT;
 use crate::texts::{columns, cut};
 use mcs_book::Line as BookLine;
 use mcs_kernel::EnterFault;
-use mcs_lab_diagram::{Arrow, Away, Drawing, Point, Window};
+use mcs_lab_diagram::{Arrow, Away, Drawing, Point, Window, is_dropped};
 use mcs_trace::{Line, spell_answer, spell_step};
 use mcs_types::{BootLine, CoreId, ObjId, Rec};
 use std::alloc::{AllocError, Global};
@@ -79,6 +80,8 @@ pub enum NoteKind {
     State,
     /// What else changes.
     Mark,
+    /// What was sent to nobody.
+    Lost,
 }
 
 /// A text beside a lane.
@@ -310,10 +313,39 @@ impl<'a, N: Names> Planner<'a, N> {
         Ok(())
     }
 
+    /// Adds what the entry of a line sent to nobody, beside the lane of its thread.
+    fn add_lost(
+        &mut self,
+        row: &mut Row,
+        line: &BookLine<'_>,
+        lane: usize,
+        used: &mut usize,
+    ) -> Result<(), AllocError> {
+        if !is_dropped(self.alloc, line)? {
+            return Ok(());
+        }
+        let Ok(step) = line.step(self.alloc) else {
+            return Err(AllocError);
+        };
+        let mut text = String::new(self.alloc);
+        put_lost(&mut text, &step.entry)?;
+        self.add_note(row, used, lane, NoteKind::Lost, text.as_str())
+    }
+
     /// Adds what is written beside a lane in the row of a line.
-    fn add_lane(&mut self, row: &mut Row, number: usize, lane: usize) -> Result<(), AllocError> {
+    fn add_lane(
+        &mut self,
+        row: &mut Row,
+        line: &BookLine<'_>,
+        here: Point,
+        lane: usize,
+    ) -> Result<(), AllocError> {
         let mut used = 0;
+        let number = here.row;
         self.add_labels(row, lane, &mut used)?;
+        if lane == lane_of(here.thread) {
+            self.add_lost(row, line, lane, &mut used)?;
+        }
         let before = self.drawing.look(number.saturating_sub(1), lane);
         let now = self.drawing.look(number, lane);
         if has_note(before, now) {
@@ -399,7 +431,7 @@ impl<'a, N: Names> Planner<'a, N> {
         let mut row = self.row_of(&line, here)?;
         self.add_records(&mut row, &line, here)?;
         for lane in 0..drawing.threads() {
-            self.add_lane(&mut row, number, lane)?;
+            self.add_lane(&mut row, &line, here, lane)?;
         }
         self.line_rows.push(self.plan.rows.len())?;
         self.plan.rows.push(row)?;
@@ -535,11 +567,16 @@ impl<'a, N: Names> Planner<'a, N> {
             gaps.push(heads.max(LANE_GAP))?;
         }
         for note in self.plan.notes.iter() {
-            widen(&mut gaps, note.lane, note.text.as_str());
+            let more = if note.kind == NoteKind::Lost {
+                LOST_TEXT
+            } else {
+                0
+            };
+            widen(&mut gaps, note.lane, note.text.as_str(), more);
         }
         for stroke in self.plan.strokes.iter() {
             if stroke.is_straight() {
-                widen(&mut gaps, gap_of(&stroke.arrow), stroke.label.as_str());
+                widen(&mut gaps, gap_of(&stroke.arrow), stroke.label.as_str(), 0);
             }
         }
         Ok(gaps)
@@ -584,11 +621,12 @@ pub fn gap_of(arrow: &Arrow) -> usize {
     }
 }
 
-/// Makes a gap wide enough for a text.
-fn widen(gaps: &mut Vec<u64>, gap: usize, text: &str) {
+/// Makes a gap wide enough for a text, and for so much more.
+fn widen(gaps: &mut Vec<u64>, gap: usize, text: &str, more: u64) {
     let needed = columns(text)
         .saturating_mul(COLUMN)
-        .saturating_add(2 * CLEAR + 10);
+        .saturating_add(2 * CLEAR + 10)
+        .saturating_add(more);
     if let Some(width) = gaps.get_mut(gap) {
         *width = needed.max(*width);
     }

@@ -1,5 +1,6 @@
 //! The picture of a script.
 use crate::script_names::ScriptNames;
+use crate::titles::title_of;
 use crate::{html_of, mermaid_of, svg_of};
 use mcs_book::Book;
 use mcs_kernel::Boot;
@@ -146,10 +147,11 @@ fn page_of(
     let boot = boot_of(alloc, kernel.book())?;
     let Drawn { drawing } = drawing_of(alloc, &boot, &script.text)?;
     let names = ScriptNames(&script.names);
+    let title = title_of(alloc, &script.text)?;
     let page = match format {
-        Format::Svg => svg_of(alloc, &drawing, &names, window)?,
+        Format::Svg => svg_of(alloc, &drawing, &names, window, title.as_str())?,
         Format::Mermaid => mermaid_of(alloc, &drawing, &names, window)?,
-        Format::Html => html_of(alloc, &drawing, &names, window)?,
+        Format::Html => html_of(alloc, &drawing, &names, window, title.as_str())?,
     };
     Ok(Some(page))
 }

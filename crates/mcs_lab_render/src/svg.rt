@@ -2,9 +2,9 @@
 use crate::bars::{event_of, put_bars};
 use crate::legend::{put_end, put_legend};
 use crate::naming::{Names, put_full_name};
-use crate::paper::{Area, STYLE, put_area, put_text};
+use crate::paper::{Area, LOST_TEXT, STYLE, put_area, put_lost_line, put_text};
 use crate::plans::{
-    ARROW_AT, BESIDE, CLEAR, HEAD, LABEL_AT, NUMBERS_AT, NoteKind, Plan, Row, RowKind, SLOT,
+    ARROW_AT, BESIDE, CLEAR, HEAD, LABEL_AT, NUMBERS_AT, Note, NoteKind, Plan, Row, RowKind, SLOT,
     STEPS_AT, Stroke, TEXT_AT, gap_of, lane_of, plan_of,
 };
 use crate::texts::{columns, put_escaped};
@@ -20,6 +20,9 @@ const TIP: u64 = 7;
 
 const TURN: u64 = 23;
 
+/// Within its slot, where the line of a send that reached nobody is.
+const LOST_AT: u64 = 8;
+
 /// The place of a lane.
 fn lane_at(plan: &Plan, lane: usize) -> u64 {
     plan.lanes.get(lane).copied().unwrap_or(0)
@@ -27,6 +30,7 @@ fn lane_at(plan: &Plan, lane: usize) -> u64 {
 
 /// Adds the heads of the lanes.
 fn put_heads(to: &mut String, plan: &Plan) -> Result<(), AllocError> {
+    to.push_str("<g class=\"heads\">\n")?;
     for (lane, head) in plan.heads.iter().enumerate() {
         let x = lane_at(plan, lane);
         let half = columns(head.as_str()).max(12).saturating_mul(7) / 2 + 6;
@@ -45,7 +49,7 @@ fn put_heads(to: &mut String, plan: &Plan) -> Result<(), AllocError> {
             )?;
         }
     }
-    Ok(())
+    to.push_str("</g>\n")
 }
 
 /// Adds the left margin of a row, and the line across it.
@@ -190,17 +194,42 @@ fn put_label(to: &mut String, plan: &Plan, stroke: &Stroke) -> Result<(), AllocE
     )
 }
 
+/// Adds what was sent to nobody, in grey.
+fn put_lost(to: &mut String, plan: &Plan, note: &Note) -> Result<(), AllocError> {
+    let (x, top) = (
+        lane_at(plan, note.lane),
+        slot_top(plan, note.row, note.slot),
+    );
+    let mut data = String::new(*to.allocator());
+    if let Some(row) = plan.rows.get(note.row) {
+        let number = row.number;
+        write!(data, " data-line=\"{number}\"")?;
+    }
+    put_lost_line(
+        to,
+        data.as_str(),
+        x.saturating_add(EDGE),
+        top.saturating_add(LOST_AT),
+    )?;
+    put_text(
+        to,
+        "lost",
+        x.saturating_add(CLEAR + LOST_TEXT),
+        top.saturating_add(TEXT_AT),
+        note.text.as_str(),
+    )
+}
+
 /// Adds what is written beside the lanes.
 fn put_notes(to: &mut String, plan: &Plan) -> Result<(), AllocError> {
     for note in plan.notes.iter() {
         let y = slot_top(plan, note.row, note.slot).saturating_add(TEXT_AT);
         let x = lane_at(plan, note.lane).saturating_add(CLEAR);
-        let class = if note.kind == NoteKind::Mark {
-            "mark"
-        } else {
-            "note"
-        };
-        put_text(to, class, x, y, note.text.as_str())?;
+        match note.kind {
+            NoteKind::Lost => put_lost(to, plan, note)?,
+            NoteKind::Mark => put_text(to, "mark", x, y, note.text.as_str())?,
+            NoteKind::Label | NoteKind::State => { put_text(to, "note", x, y, note.text.as_str())? }
+        }
     }
     Ok(())
 }
@@ -230,12 +259,89 @@ fn put_all<N: Names>(
     put_heads(to, plan)
 }
 
-/// The picture of a window of a drawing, as SVG.
+/// Adds a number of things, and what one of them is called.
+fn put_count(to: &mut String, count: usize, what: &str) -> Result<(), AllocError> {
+    write!(to, "{count} {what}")?;
+    if count == 1 {
+        return Ok(());
+    }
+    to.push_str("s")
+}
+
+/// Returns how many lines of the book a page shows.
+fn lines_in(plan: &Plan) -> usize {
+    let mut lines: usize = 0;
+    for row in plan.rows.iter() {
+        match row.kind {
+            RowKind::Line | RowKind::Refused => lines = lines.saturating_add(1),
+            RowKind::Start | RowKind::Away => {}
+        }
+    }
+    lines
+}
+
+/// How many arrows of each kind a page has.
+#[derive(Clone, Copy)]
+struct Counts {
+    messages: usize,
+    answers: usize,
+    words: usize,
+}
+
+impl Counts {
+    /// Counts what an arrow shows.
+    fn count(&mut self, shown: Shown) {
+        match shown {
+            Shown::Message(_) => self.messages = self.messages.saturating_add(1),
+            Shown::Answer(_) => self.answers = self.answers.saturating_add(1),
+            Shown::Word(_) => self.words = self.words.saturating_add(1),
+        }
+    }
+}
+
+/// Returns how many arrows of each kind a page has.
+fn counts_of(plan: &Plan) -> Counts {
+    let mut counts = Counts {
+        messages: 0,
+        answers: 0,
+        words: 0,
+    };
+    for stroke in plan.strokes.iter() {
+        counts.count(stroke.arrow.shown);
+    }
+    counts
+}
+
+/// Adds what is read aloud of the picture: its title, and how much it shows.
+fn put_title(
+    to: &mut String,
+    drawing: &Drawing,
+    plan: &Plan,
+    title: &str,
+) -> Result<(), AllocError> {
+    to.push_str("<title>")?;
+    put_escaped(to, title)?;
+    to.push_str("</title>\n<desc>")?;
+    let counts = counts_of(plan);
+    put_count(to, drawing.threads(), "thread")?;
+    to.push_str(", ")?;
+    put_count(to, lines_in(plan), "line")?;
+    to.push_str(", ")?;
+    put_count(to, counts.messages, "message")?;
+    to.push_str(", ")?;
+    put_count(to, counts.answers, "answer")?;
+    to.push_str(", ")?;
+    put_count(to, counts.words, "signal")?;
+    to.push_str("</desc>\n")
+}
+
+/// Returns the picture of a window of a drawing, as SVG with this title.
 pub fn svg_of<N: Names>(
     alloc: Global,
     drawing: &Drawing,
     names: &N,
     window: Window,
+    title: &str,
 ) -> Result<String, AllocError> {
     let window = drawing.shown(window);
     let plan = plan_of(alloc, drawing, names, window)?;
@@ -247,8 +353,9 @@ pub fn svg_of<N: Names>(
     let mut page = String::new(alloc);
     write!(
         page,
-        "<svg xmlns=\"http://www.w3.org/2000/svg\" width=\"{width}\" height=\"{height}\" viewBox=\"0 0 {width} {height}\">\n"
+        "<svg xmlns=\"http://www.w3.org/2000/svg\" role=\"img\" width=\"{width}\" height=\"{height}\" viewBox=\"0 0 {width} {height}\">\n"
     )?;
+    put_title(&mut page, drawing, &plan, title)?;
     page.push_str(STYLE)?;
     page.push_str("<rect class=\"ground\" width=\"100%\" height=\"100%\"/>\n")?;
     page.push_str(body.as_str())?;

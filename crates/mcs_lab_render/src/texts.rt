@@ -27,7 +27,7 @@ pub fn cut(alloc: Global, text: &str, most: u64) -> Result<String, AllocError> {
     Ok(kept)
 }
 
-/// Adds a text to a page of XML.
+/// Adds a text to a page of XML. What XML has no form for becomes a blank, or U+FFFD.
 pub fn put_escaped(to: &mut String, text: &str) -> Result<(), AllocError> {
     for one in text.chars() {
         match one {
@@ -36,6 +36,7 @@ pub fn put_escaped(to: &mut String, text: &str) -> Result<(), AllocError> {
             '>' => to.push_str("&gt;")?,
             '"' => to.push_str("&quot;")?,
             '\0'..=' ' => to.push(' ')?,
+            '\u{fffe}' | '\u{ffff}' => to.push('\u{fffd}')?,
             _ => to.push(one)?,
         }
     }
