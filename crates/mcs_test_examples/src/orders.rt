@@ -1,7 +1,7 @@
 //! All orders of the scripts of users in `examples/explore/`: what is reported of each, and how the
 //! scripts replay that show it.
 use mcs_explore_questions::ExploreFault;
-use mcs_explore_report::{Output, Saves, Wanted, explore_script};
+use mcs_explore_report::{Output, Saves, UserScript, Wanted, explore_script};
 use mcs_lab_check::{LabFault, check};
 use mcs_sim::{ReplayRun, Source};
 use std::alloc::Global;
@@ -133,7 +133,13 @@ impl Saves for Replayed {
         true
     }
 
-    fn save(&mut self, alloc: Global, _name: &str, text: &[u8]) -> Result<(), LabFault> {
+    fn save(
+        &mut self,
+        alloc: Global,
+        _script: &UserScript,
+        _name: &str,
+        text: &[u8],
+    ) -> Result<(), LabFault> {
         self.count = self.count.saturating_add(1);
         self.steps = self.steps.saturating_add(count_steps(text));
         if is_whole(alloc, text) {
@@ -235,7 +241,13 @@ impl Saves for Nowhere {
         false
     }
 
-    fn save(&mut self, _alloc: Global, _name: &str, _text: &[u8]) -> Result<(), LabFault> {
+    fn save(
+        &mut self,
+        _alloc: Global,
+        _script: &UserScript,
+        _name: &str,
+        _text: &[u8],
+    ) -> Result<(), LabFault> {
         Ok(())
     }
 }

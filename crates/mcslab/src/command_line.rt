@@ -2,7 +2,8 @@
 use crate::compiling::{self, Made};
 use crate::drawing::{self, Drawn};
 use crate::exploring::{self, Sought};
-use clap::{Arg, ArgAction, ArgMatches, Command as Words, Error, value_parser};
+use clap::builder::ValueParser;
+use clap::{Arg, ArgAction, ArgMatches, Command as Words, Error};
 use mcs_lab_forms::FORMS;
 use mcs_lab_inspect::Wanted;
 use std::alloc::Global;
@@ -38,7 +39,7 @@ pub struct Request<'a> {
     pub file: Option<&'a str>,
 }
 
-/// How a script says what is wanted, and the exit statuses.
+/// How a script says what is wanted, and the exit statuses of `Outcome`.
 const QUESTIONS: &str = "\
 Lines behind a step say what is wanted of it:
   = got 9 7 5          its answer
@@ -55,8 +56,17 @@ Lines behind a step say what is wanted of it:
 
 `mcslab COMMAND --help` shows the options of a command, and `mcslab json --help` the forms of all lines.
 
-Exit status: 0; 1 what is wanted does not hold, or a thread is stuck; 2 a fault of the script; 3 a read fault; 4 a write
-fault; 5 the book is full; 6 out of memory; 64 the command line.";
+Exit status:
+   0  it did what was asked, and all that was wanted holds
+   1  something that was wanted does not hold, an order ends with users that have not done all,
+      or a thread or a user is stuck
+   2  a line of the script or of the plan is refused
+   3  a budget ended the search, and nothing failed so far
+   4  a write failed
+   5  the book is full
+   6  memory was refused
+   8  a read failed
+  64  the command line: an option, a file that cannot be opened, or a line that is not there";
 
 /// The file of a script.
 fn file<'a>(alloc: Global) -> Arg<'a> {
@@ -68,13 +78,22 @@ fn plan<'a>(alloc: Global) -> Arg<'a> {
     Arg::new(alloc, "FILE").help("The plan [default: standard input]")
 }
 
+/// Returns an option for the number of a line, 1 or more.
+pub fn line<'a>(alloc: Global, name: &'a str, help: &'a str) -> Arg<'a> {
+    Arg::new(alloc, name)
+        .long(name)
+        .value_name("LINE")
+        .help(help)
+        .value_parser(ValueParser::unsigned(1, u64::MAX))
+}
+
 /// The option that says after which line.
 fn at<'a>(alloc: Global) -> Arg<'a> {
-    Arg::new(alloc, "at")
-        .long("at")
-        .value_name("LINE")
-        .help("Behind which line of the script [default: its end]")
-        .value_parser(value_parser!(u64))
+    line(
+        alloc,
+        "at",
+        "Behind which line of the script [default: its end]",
+    )
 }
 
 /// The option for what is stuck alone.

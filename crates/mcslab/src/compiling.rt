@@ -1,13 +1,13 @@
 //! Plans and names, as the command line asks for them.
 use crate::command_line::with;
 use clap::{Arg, ArgAction, ArgMatches, Command as Words, Error};
-use mcs_lab_check::LabFault;
+use mcs_lab_check::{LabFault, Outcome};
 use mcs_plan_compile::write_map;
 use mcs_plan_source::tell_names;
 use mcs_plan_validate::{CompileFault, Compiled, compile_text};
 use std::alloc::Global;
 use std::fs;
-use std::io::{self, Read, Write};
+use std::io::{self, ErrorKind, Read, Write};
 use std::process::ExitCode;
 
 /// What is made of a plan.
@@ -17,9 +17,6 @@ pub enum Made {
     /// The table of its names and addresses.
     Map,
 }
-
-/// The exit status for a file that cannot be opened.
-const USAGE: u8 = 64;
 
 /// The option for the table.
 fn map<'a>(alloc: Global) -> Arg<'a> {
@@ -72,25 +69,37 @@ fn read_input(rt: &HostRuntime) -> io::Result<Vec<u8>> {
     Ok(bytes)
 }
 
-/// The bytes of a file, or of the standard input; or the exit status, where they can't be read,
-/// which is reported.
-fn read_bytes(rt: &HostRuntime, file: Option<&str>) -> Result<Vec<u8>, u8> {
-    let read = match file {
-        Some(path) => match fs::read(rt, path) {
-            Ok(bytes) => return Ok(bytes),
-            Err(error) => {
-                let _ = eprintln!(rt; "mcslab: {path}: {error}");
-                return Err(USAGE);
-            }
-        },
-        None => read_input(rt),
+/// Reports that the standard input could not be read, and returns the exit status.
+fn tell_unread(rt: &HostRuntime, error: &io::Error) -> u8 {
+    let fault = match error.kind() {
+        ErrorKind::OutOfMemory => LabFault::OutOfMemory,
+        _ => LabFault::Read,
     };
-    match read {
-        Ok(bytes) => Ok(bytes),
-        Err(_) => {
-            let _ = rt.eprintln(LabFault::Read);
-            Err(LabFault::Read.status())
-        }
+    let _ = rt.eprintln(fault);
+    fault.status()
+}
+
+/// Reports that a file could not be read, and returns the exit status.
+fn tell_unopened(rt: &HostRuntime, path: &str, error: &io::Error) -> u8 {
+    if error.kind() == ErrorKind::OutOfMemory {
+        return tell_unread(rt, error);
+    }
+    let _ = eprintln!(rt; "mcslab: {path}: {error}");
+    Outcome::Call.status()
+}
+
+/// Returns the bytes of a file, or of the standard input; or the exit status, where they can't be
+/// read, which is reported.
+fn read_bytes(rt: &HostRuntime, file: Option<&str>) -> Result<Vec<u8>, u8> {
+    match file {
+        Some(path) => match fs::read(rt, path) {
+            Ok(bytes) => Ok(bytes),
+            Err(error) => Err(tell_unopened(rt, path, &error)),
+        },
+        None => match read_input(rt) {
+            Ok(bytes) => Ok(bytes),
+            Err(error) => Err(tell_unread(rt, &error)),
+        },
     }
 }
 

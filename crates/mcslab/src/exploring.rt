@@ -1,17 +1,18 @@
 //! The search through all orders, as the command line asks for it.
 ghost use Rattle.std.specs.Prelude.{◌≡◌, IfOk};
 ghost use Rattle.mcs_explore_report.specs.declared.report.Explored.TheVariants as Explored;
+ghost use Rattle.mcs_explore_report.specs.Failing.{HasReadFailing};
 ghost use Rattle.mcs_explore_report.specs.Holding.{HasReadHolding};
 
 use crate::command_line::with;
+use crate::folder::Folder;
 use clap::{Arg, ArgAction, ArgMatches, Command as Words, Error, value_parser};
 use mcs_explore_questions::ExploreFault;
-use mcs_explore_report::{Explored, Output, Progress, Saves, Wanted, explore_and_tell};
-use mcs_lab_check::LabFault;
+use mcs_explore_report::{Explored, Output, Progress, Wanted, explore_and_tell};
+use mcs_lab_check::Outcome;
 use mcs_sim::Source;
 use std::alloc::{AllocError, Global};
-use std::fs;
-use std::io::{self, IsTerminal, Read, Write};
+use std::io::{IsTerminal, Read, Write};
 use std::time::Instant;
 
 /// How many states are found at most, where nothing else is said.
@@ -26,9 +27,13 @@ pub struct Sought<'a> {
     pub wanted: Wanted,
     pub output: Output,
     pub scripts: Option<&'a str>,
+    /// Whether a script may overwrite a file.
+    pub is_forced: bool,
+    /// After how many seconds it stops, where that is asked for.
+    pub seconds: Option<u64>,
 }
 
-/// What a script may ask, and the exit statuses.
+/// What a script may ask.
 const QUESTIONS: &str = "\
 The script is one of `mcssim run`: a boot, and the entries of users. Lines that begin with `#! ` ask of all orders:
   #! idle t1                        t1 may wait for ever: that is no deadlock
@@ -45,8 +50,7 @@ The script is one of `mcssim run`: a boot, and the entries of users. Lines that 
   #! again t1 2                     behind its last entry t1 goes on with its second
 In a pattern `*` stands for a word and `**` for the rest. A name of a line `#@` stands for its object.
 
-Exit status: 0; 1 a question does not hold, an order ends with users that have not done all, or a user is stuck; 2 a fault of
-the script; 3 a budget ended the search, or a read fault; 4 a write fault; 5 the book is full; 6 out of memory; 64 the command line.";
+`mcslab --help` has the exit statuses.";
 
 /// Returns an option with a number.
 fn number<'a>(alloc: Global, name: &'a str, help: &'a str) -> Arg<'a> {
@@ -73,6 +77,23 @@ fn depth<'a>(alloc: Global) -> Arg<'a> {
         "depth",
         "From how many turns on no state is expanded",
     )
+}
+
+/// Returns the option for the time.
+fn seconds<'a>(alloc: Global) -> Arg<'a> {
+    number(
+        alloc,
+        "seconds",
+        "Stops after so many seconds, and reports what was found",
+    )
+}
+
+/// Returns the option for scripts that overwrite files.
+fn force<'a>(alloc: Global) -> Arg<'a> {
+    Arg::new(alloc, "force")
+        .long("force")
+        .help("Lets scripts overwrite files that mcslab did not write")
+        .action(ArgAction::SetTrue)
 }
 
 /// Returns the option for the folder of scripts.
@@ -118,7 +139,9 @@ fn words<'a>(alloc: Global) -> Words<'a> {
 pub fn command<'a>(alloc: Global, file: Arg<'a>) -> Result<Words<'a>, Error> {
     let words = with(Ok(words(alloc)), states(alloc));
     let words = with(words, depth(alloc));
+    let words = with(words, seconds(alloc));
     let words = with(words, scripts(alloc));
+    let words = with(words, force(alloc));
     let words = with(words, answers(alloc));
     let words = with(words, json(alloc));
     let words = with(words, exact(alloc));
@@ -140,63 +163,33 @@ pub fn asked<'a>(found: &ArgMatches<'a>) -> Sought<'a> {
             is_json: found.get_flag("json"),
         },
         scripts: found.get_str("scripts"),
+        is_forced: found.get_flag("force"),
+        seconds: found.get_one("seconds"),
     }
 }
 
-/// Returns the exit status of a search; `QUESTIONS` says the same in words, with those of faults.
+/// Returns the exit status of a search.
 fn status_of(explored: Explored) -> u8
-    ensures { result ≡ 0 → explored ≡ Explored.Holds }
+    ensures holds { result ≡ 0 → explored ≡ Explored.Holds }
+    ensures fails { result ≡ 1 → explored ≡ Explored.Fails }
 {
     match explored {
-        Explored::Holds => 0,
-        Explored::Fails => 1,
-        Explored::Stopped => 3,
+        Explored::Holds => Outcome::Done.status(),
+        Explored::Fails => Outcome::Unmet.status(),
+        Explored::Stopped => Outcome::Stopped.status(),
     }
 }
 
-/// A folder in which scripts are kept; None where none are wanted.
-#[derive(Drop)]
-struct Folder<'a> {
-    rt: &'a HostRuntime,
-    path: Option<&'a str>,
-}
-
-impl Saves for Folder<'_> {
-    fn wants(&self) -> bool {
-        self.path.is_some()
-    }
-
-    fn save(&mut self, alloc: Global, name: &str, text: &[u8]) -> Result<(), LabFault> {
-        let Some(folder) = self.path else {
-            return Ok(());
-        };
-        let path = format!(in alloc; "{folder}/{name}")?;
-        fs::write(self.rt, path.as_str(), text)?;
-        Ok(())
-    }
-}
-
-/// Makes the folder of scripts where it is not there, and tests that files can be written into it.
-/// The error is that of the folder or of the file.
-pub fn make_folder(rt: &HostRuntime, path: &str) -> Result<(), io::Error> {
-    if path.is_empty() {
-        return Err(io::Error::from(io::ErrorKind::NotFound));
-    }
-    fs::create_dir_all(rt, path)?;
-    let Ok(probe) = format!(in rt.alloc(); "{path}/.mcslab") else {
-        return Err(io::Error::from(io::ErrorKind::OutOfMemory));
-    };
-    fs::write(rt, probe.as_str(), b"")?;
-    fs::remove_file(rt, probe.as_str())
-}
-
-/// Reports once a second how far a search is.
+/// Reports once a second how far a search is, and stops it after a time.
 #[derive(Drop)]
 struct Meter<'a> {
     rt: &'a HostRuntime,
-    /// None where nobody looks at the standard error, or there is no clock.
+    /// None where there is no clock, or nobody needs it.
     start: Option<Instant>,
+    /// Whether somebody looks at the standard error.
+    is_seen: bool,
     seconds: u64,
+    most: Option<u64>,
 }
 
 /// Returns a number with a comma before each three digits.
@@ -215,9 +208,11 @@ fn grouped(alloc: Global, number: usize) -> Result<String, AllocError> {
 }
 
 impl<'a> Meter<'a> {
-    /// Returns one that reports from now on, if the standard error is a terminal.
-    fn new(rt: &'a HostRuntime) -> Meter<'a> {
-        let start = if rt.stderr().is_terminal() {
+    /// Returns one that reports from now on, if the standard error is a terminal, and stops a
+    /// search after so many seconds, or after one state where there is no clock.
+    fn new(rt: &'a HostRuntime, most: Option<u64>) -> Meter<'a> {
+        let is_seen = rt.stderr().is_terminal();
+        let start = if is_seen || most.is_some() {
             Instant::now(rt).ok()
         } else {
             None
@@ -225,7 +220,9 @@ impl<'a> Meter<'a> {
         Meter {
             rt,
             start,
+            is_seen,
             seconds: 0,
+            most,
         }
     }
 
@@ -252,8 +249,18 @@ impl Progress for Meter<'_> {
         if before % LOOKS != 0 {
             return;
         }
-        if let Some(seconds) = self.second() {
+        if let Some(seconds) = self.second()
+            && self.is_seen
+        {
             self.report(before, depth, seconds);
+        }
+    }
+
+    fn goes_on(&self) -> bool {
+        match (self.most, &self.start) {
+            (None, _) => true,
+            (Some(_), None) => false,
+            (Some(most), Some(_)) => self.seconds < most,
         }
     }
 }
@@ -265,15 +272,15 @@ pub fn explore<R: Read, W: Write + Drop>(
     to: W,
     sought: Sought<'_>,
 ) -> Result<u8, ExploreFault>
-    // status 0: a script was read, and all that it asks is so in each run of its users, if states
-    // were told apart by proved keys
-    ensures { IfOk result (λ status. status ≡ 0 → HasReadHolding sought.entry.wanted.is_exact
+    // by proved keys, status 0: a script was read, and all that it asks is so in each run of its
+    // users
+    ensures holds { IfOk result (λ status. status ≡ 0 → HasReadHolding sought.entry.wanted.is_exact
+        (R.remaining from.old.reader) (R.remaining from.new.reader)) }
+    // and status 1: some run shows why it fails
+    ensures fails { IfOk result (λ status. status ≡ 1 → HasReadFailing sought.entry.wanted.is_exact
         (R.remaining from.old.reader) (R.remaining from.new.reader)) }
 {
-    let mut folder = Folder {
-        rt,
-        path: sought.scripts,
-    };
+    let mut folder = Folder::new(rt, sought.scripts, sought.is_forced);
     let explored = explore_and_tell(
         rt.alloc(),
         from,
@@ -281,7 +288,7 @@ pub fn explore<R: Read, W: Write + Drop>(
         sought.wanted,
         sought.output,
         &mut folder,
-        Meter::new(rt),
+        Meter::new(rt, sought.seconds),
     )?;
     Ok(status_of(explored))
 }

@@ -6,26 +6,30 @@ mod command_line;
 mod compiling;
 mod drawing;
 mod exploring;
+mod folder;
 
 use clap::Error;
 use clap::error::ErrorKind;
 use command_line::{Command, Request, requested};
-use exploring::{Sought, explore, make_folder};
+use drawing::{Drawn, draw};
+use exploring::{Sought, explore};
+use folder::make_folder;
 use mcs_explore_questions::ExploreFault;
-use mcs_lab_check::{LabFault, check};
+use mcs_lab_check::{LabFault, Outcome, check};
 use mcs_lab_inspect::{explain, show_state, write_json};
-use mcs_lab_render::draw_script;
 use mcs_sim::{Source, arguments};
 use std::alloc::{AllocError, Global};
-use std::fs;
+use std::fs::{self, File};
 use std::io::{self, BufWriter, Read, Write};
 use std::process::ExitCode;
 
-/// The exit status for a command line that asks for nothing, and for a file that cannot be opened.
-const USAGE: u8 = 64;
+/// The system's number of the error that a file is a folder.
+const IS_A_FOLDER: i32 = 21;
 
-/// The exit status where something that is wanted does not hold, or a thread is stuck.
-const UNMET: u8 = 1;
+/// Returns the exit status of the program that ends so.
+fn ended(outcome: Outcome) -> ExitCode {
+    ExitCode::from(outcome.status())
+}
 
 /// Tells a fault, and gives its exit status.
 fn tell(rt: &HostRuntime, fault: &ExploreFault) -> ExitCode {
@@ -38,14 +42,18 @@ fn tell_answer(rt: &HostRuntime, answer: &Error) -> ExitCode {
     let _ = answer.print(rt);
     match answer.kind() {
         ErrorKind::DisplayHelp | ErrorKind::DisplayVersion => ExitCode::SUCCESS,
-        ErrorKind::OutOfMemory => ExitCode::from(LabFault::OutOfMemory.status()),
-        _ => ExitCode::from(USAGE),
+        ErrorKind::OutOfMemory => ended(Outcome::OutOfMemory),
+        _ => ended(Outcome::Call),
     }
 }
 
-/// The exit status where what is wanted holds, or does not.
+/// Returns the exit status where what is wanted holds, or does not.
 fn status_if(holds: bool) -> u8 {
-    if holds { 0 } else { UNMET }
+    if holds {
+        Outcome::Done.status()
+    } else {
+        Outcome::Unmet.status()
+    }
 }
 
 /// Does what is asked with a script that is read, and gives the exit status.
@@ -75,7 +83,7 @@ fn do_request<R: Read + Drop, W: Write + Drop>(
         Command::State(wanted) => show_state(alloc, source, to, wanted)?,
         Command::Json => write_json(alloc, source, to)?,
         Command::Draw(drawn) => {
-            draw_script(alloc, source, to, drawn.format, drawn.window)?;
+            draw(alloc, source, to, drawn)?;
             true
         }
         Command::Explore(sought) => return explore(rt, source, to, sought),
@@ -83,6 +91,26 @@ fn do_request<R: Read + Drop, W: Write + Drop>(
         Command::Compile(_) | Command::Names => true,
     };
     Ok(status_if(holds))
+}
+
+/// Opens a file to read it. The error is the system's; a folder is one.
+fn open(rt: &HostRuntime, path: &str) -> io::Result<File> {
+    let file = fs::open(rt, path)?;
+    if file.metadata()?.is_dir() {
+        return Err(io::Error::from_raw_os_error(IS_A_FOLDER));
+    }
+    Ok(file)
+}
+
+/// Returns whether a picture shows no line, since its first is behind its last, which is told.
+fn tells_no_line(rt: &HostRuntime, drawn: Drawn) -> bool {
+    match (drawn.from, drawn.to) {
+        (Some(from), Some(to)) if from > to => {
+            let _ = eprintln!(rt; "mcslab: --from {from} is behind --to {to}");
+            true
+        }
+        _ => false,
+    }
 }
 
 /// Does what is asked, with its file or the standard input.
@@ -98,18 +126,27 @@ fn carry_out(rt: &HostRuntime, request: &Request<'_>) -> ExitCode {
         ) => {
             if let Err(error) = make_folder(rt, path) {
                 let _ = eprintln!(rt; "mcslab: --scripts \"{path}\": {error}");
-                return ExitCode::from(USAGE);
+                return ended(Outcome::Call);
             }
         }
-        _ => {}
+        Command::Draw(drawn) => {
+            if tells_no_line(rt, drawn) {
+                return ended(Outcome::Call);
+            }
+        }
+        Command::Explore(Sought { scripts: None, .. })
+        | Command::Check
+        | Command::Why
+        | Command::State(_)
+        | Command::Json => {}
     }
     let done = match request.file {
         None => read_script(rt, request, rt.reader()),
-        Some(path) => match fs::open(rt, path) {
+        Some(path) => match open(rt, path) {
             Ok(file) => read_script(rt, request, file),
             Err(error) => {
                 let _ = eprintln!(rt; "mcslab: {path}: {error}");
-                return ExitCode::from(USAGE);
+                return ended(Outcome::Call);
             }
         },
     };
@@ -127,7 +164,7 @@ fn texts<'a>(alloc: Global, words: &'a [String]) -> Result<Vec<&'a str>, AllocEr
 fn main(rt: HostRuntime) -> ExitCode {
     let Ok(words) = arguments(&rt) else {
         let _ = rt.eprintln("mcslab: an argument is not UTF-8");
-        return ExitCode::from(USAGE);
+        return ended(Outcome::Call);
     };
     let Ok(texts) = texts(rt.alloc(), &words) else {
         return tell(&rt, &ExploreFault::Lab(LabFault::OutOfMemory));
