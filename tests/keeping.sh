@@ -33,7 +33,7 @@ holds() {
 }
 
 deadlock=$here/examples/explore/dining.mcs
-small=$here/examples/explore/mutex.mcs
+small=$here/examples/explore/dining-mended.mcs
 kept=$folder/kept
 
 wanted "a search that fails" 1 "$(status_of --scripts "$kept" "$deadlock")"
